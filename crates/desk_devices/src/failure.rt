@@ -1,0 +1,25 @@
+//! The one error of a device, and the count of failures.
+ghost use Rattle.std.specs.Prelude.{◌≡◌};
+ghost use Rattle.desk_devices.specs.Counts.{one_more};
+
+use std::error::Error;
+use std::fmt;
+
+/// A call of a reader or a writer failed. The device counts it.
+#[derive(Clone, Copy, Debug, PartialEq, Eq)]
+pub struct DeviceFailed;
+
+impl fmt::Display for DeviceFailed {
+    fn fmt<W: fmt::Write>(&self, f: &mut fmt::Formatter<W>) -> fmt::Result {
+        f.write_str("a device failed")
+    }
+}
+
+impl Error for DeviceFailed {}
+
+/// The count of failures after one more. It stays at `u64::MAX`.
+pub(crate) fn counted(failures: u64) -> u64
+    ensures { result ≡ one_more failures }
+{
+    failures.saturating_add(1)
+}

@@ -1,0 +1,55 @@
+//! Lists kept in the order of a key.
+ghost use Rattle.std.specs.Prelude.{◌≡◌, true, OnOk, OnErr, IsPermutation, IsSortedByKey, find};
+ghost use Rattle.std.specs.List.Sorted.{IsStableByKey};
+ghost use Rattle.std.specs.Option.{option_copied};
+ghost use Rattle.desk_lists.specs.Ordered.{ascends_by, differ_by, has_key, key_before, same_key};
+
+use std::alloc::AllocError;
+
+/// A value that stands in a list in the order of its key.
+pub trait Keyed {
+    /// What values are ordered by. It is made anew at each comparison, so a small `Copy` type.
+    type Key: Ord + Drop;
+
+    // The key, as contracts see it.
+    ghost key_of: { Self → Self.Key };
+
+    /// The key of the value.
+    fn key(&self) -> Self::Key
+        ensures { result ≡ key_of self.now };
+}
+
+/// Whether each value's key is less than the next one's: then the list is in order, and no two of
+/// its keys are equal.
+pub fn ascend<T: Keyed>(values: &[T]) -> bool
+    ensures { result ≡ ascends_by (key_before T.key_of T.Key.cmp) values.now }
+{
+    values.is_sorted_by(|first, second| first.key().cmp(&second.key()).is_lt())
+}
+
+/// Puts the values in the order of their keys, in about n log n comparisons. Values of equal keys
+/// keep the order that they have among themselves; where no two keys are equal the list ascends.
+/// With `AllocError`, where no memory is left to sort in, the list stays as it was.
+pub fn into_order<T: Keyed + Drop>(values: &mut Vec<T>) -> Result<(), AllocError>
+    ensures permutation { IsPermutation values.old.items values.new.items }
+    ensures sorted { OnOk result (IsSortedByKey T.key_of T.Key.cmp values.new.items) }
+    ensures stable { IsStableByKey T.key_of T.Key.cmp values.old.items values.new.items }
+    ensures ascending { OnOk result (
+        ascends_by (key_before T.key_of T.Key.cmp) values.new.items
+        ≡ differ_by (same_key T.key_of T.Key.cmp) values.old.items) }
+    ensures err { OnErr result (values.new.items ≡ values.old.items) }
+{
+    values.sort_by_key(|value| value.key())
+}
+
+/// The value that has the key, or `None` where no value has it, in about log n comparisons.
+/// Whether a list ascends, `ascend` tells.
+pub fn find_by_key<'a, T: Keyed>(values: &'a [T], key: &T::Key) -> Option<&'a T>
+    requires { ascends_by (key_before T.key_of T.Key.cmp) values.now ≡ true }
+    ensures { option_copied result ≡ find (has_key T.key_of T.Key.cmp key.now) values.now }
+{
+    match values.binary_search_by_key(key, |value| value.key()) {
+        Ok(place) => Some(&values[place]),
+        Err(_) => None,
+    }
+}

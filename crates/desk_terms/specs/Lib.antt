@@ -1,0 +1,5 @@
+pub mod Kinds
+pub mod Names
+pub mod Places
+pub mod Refusals
+pub mod Texts

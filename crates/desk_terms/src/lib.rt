@@ -1,0 +1,17 @@
+//! The terms of the desk: names, texts, kinds and their words, ranges of shares, refusals.
+#![tactic(auto)]
+
+mod kinds;
+pub mod laws;
+mod names;
+mod range;
+mod refusal;
+#[cfg(test)]
+mod tests;
+mod text;
+
+pub use kinds::{Capacity, Company, HolderKind, Instr, MeetingKind, ResKind, Way};
+pub use names::{MeetingId, Party, SecretKey, read_key, read_meeting, read_party};
+pub use range::Range;
+pub use refusal::Refusal;
+pub use text::{Text, TextFault};

@@ -1,0 +1,65 @@
+//! Ranges of places.
+ghost use Rattle.std.specs.Prelude.{◌≡◌, IsTrue};
+ghost use Rattle.desk_terms.specs.Places.{holds, is_range, range_of};
+
+use std::marker::Model;
+
+/// The highest place, which is also the most shares that a register may have.
+const MOST_PLACES: u64 = 1_000_000_000_000;
+
+/// Places of a member's shares, from the first to the last: `1 <= from <= to <= 10^12`. A range
+/// may reach past the holding; places past it are nothing.
+#[derive(Clone, Copy, Debug, PartialEq, Eq)]
+pub struct Range {
+    from: u64,
+    to: u64,
+}
+
+impl Model for Range {
+    ghost use Rattle.std.specs.Prelude.{IsTrue};
+    ghost use Rattle.desk_terms.specs.Places.{Places, is_range};
+
+    ghost Value = { Places };
+
+    ghost view = { λ r. record { from = r.from; to = r.to } };
+
+    ghost invariant = { λ r. IsTrue (is_range r.from r.to) };
+
+    ghost inverse = { λ p. record { from = p.from; to = p.to } };
+}
+
+impl Range {
+    /// The range with these ends, or none exactly where they are not those of a range.
+    pub fn new(from: u64, to: u64) -> Option<Range>
+        ensures { result ≡ range_of from to }
+    {
+        if 1 <= from && from <= to && to <= MOST_PLACES {
+            Some(Range { from, to })
+        } else {
+            None
+        }
+    }
+
+    /// The first place.
+    pub fn from(self) -> u64
+        ensures value { result ≡ self.from }
+        ensures kept { IsTrue (is_range self.from self.to) }
+    {
+        self.from
+    }
+
+    /// The last place.
+    pub fn to(self) -> u64
+        ensures value { result ≡ self.to }
+        ensures kept { IsTrue (is_range self.from self.to) }
+    {
+        self.to
+    }
+
+    /// Whether it holds a place.
+    pub fn has(self, place: u64) -> bool
+        ensures { result ≡ holds self place }
+    {
+        self.from <= place && place <= self.to
+    }
+}
