@@ -1,0 +1,61 @@
+-- Lines that are taken from the front of the unread bytes.
+use Rattle.std.proofs.Common.{◌≡◌, ℕ, ◌+◌, ◌<◌, ◌≤◌, List, [], ◌++◌, Option, Some, None, length, drop, refl, sym, ap, ◌∙◌, arith, append_assoc, IfSome}
+use Rattle.std.proofs.Math.Seq.{drop-append-add}
+use Rattle.std.proofs.lemmas.List.{drop-append-le}
+use Rattle.std.specs.Io.KnownBytes.{Keeps}
+use Rattle.desk_lines.specs.Lines.{feed_place, after_line}
+use Rattle.desk_lines.specs.Reading.{unread, SameWhole}
+use Rattle.desk_lines.specs.Front.{StaysInLine, LosesLine}
+use Rattle.desk_lines.proofs.Feeds.{feed_place-append_none, feed_place-append_some}
+
+pub after_line-append_none : (xs ys : List ℕ) → feed_place xs ≡ length xs → after_line (xs ++ ys) ≡ after_line ys
+after_line-append_none xs ys none =
+    let place : feed_place (xs ++ ys) + 1 ≡ length xs + (feed_place ys + 1) = omega (arith, feed_place-append_none xs ys none) in
+    ap (λ n. drop n (xs ++ ys)) place ∙ drop-append-add xs ys (feed_place ys + 1)
+
+pub after_line-append_some : (xs ys : List ℕ) → feed_place xs < length xs → after_line (xs ++ ys) ≡ after_line xs ++ ys
+after_line-append_some xs ys some =
+    let within : feed_place xs + 1 ≤ length xs = omega arith in
+    ap (λ n. drop (n + 1) (xs ++ ys)) (feed_place-append_some xs ys some) ∙ drop-append-le (feed_place xs + 1) xs ys within
+
+pub stays-dropped : (pending rest : List ℕ) (remaining : Option (List ℕ)) → feed_place pending ≡ length pending → rest ≡ [] → StaysInLine (unread pending remaining) (unread rest remaining)
+stays-dropped pending rest None none e = tt
+stays-dropped pending rest (Some xs) none e = rw e (pending, refl, sym (after_line-append_none pending xs none))
+
+pub stays-kept : (a b c : Option (List ℕ)) → StaysInLine a b → Keeps b c → StaysInLine a c
+stays-kept None b c p q = tt
+stays-kept (Some x) None c p q = absurd p
+stays-kept (Some x) (Some y) None p q = absurd q
+stays-kept (Some x) (Some y) (Some z) p q = (p.0, rw q p.1, rw q p.2)
+
+pub stays-chained : (a b c : Option (List ℕ)) → StaysInLine a b → StaysInLine b c → StaysInLine a c
+stays-chained None b c p q = tt
+stays-chained (Some x) None c p q = absurd p
+stays-chained (Some x) (Some y) None p q = absurd q
+stays-chained (Some x) (Some y) (Some z) p q = (p.0 ++ q.0, p.1 ∙ ap (λ w. p.0 ++ w) q.1 ∙ sym (append_assoc p.0 q.0 z), q.2 ∙ p.2)
+
+-- behind a line of which some was dropped, its line feed has come
+pub loses-line : (a : Option (List ℕ)) (pending rest : List ℕ) (remaining : Option (List ℕ)) (place : ℕ) → StaysInLine a (unread pending remaining) →
+    place ≡ feed_place pending → place < length pending → rest ≡ drop (place + 1) pending → LosesLine a (unread rest remaining)
+loses-line None pending rest remaining place p first inside e = tt
+loses-line (Some x) pending rest None place p first inside e = absurd p
+loses-line (Some x) pending rest (Some xs) place p first inside e =
+    let some : feed_place pending < length pending = omega arith in
+    let given : rest ≡ after_line pending = e ∙ ap (λ n. drop (n + 1) pending) first in
+    rw given (sym (after_line-append_some pending xs some) ∙ p.2)
+
+pub SameWhole-same : (m n : ℕ) (a : Option (List ℕ)) → n ≡ m → SameWhole m a n a
+SameWhole-same m n None e = tt
+SameWhole-same m n (Some xs) e = ap (λ k. k + length xs) e
+
+pub SameWhole-chained : (m n k j : ℕ) (a b c : Option (List ℕ)) → SameWhole m a n b → SameWhole n b k c → j ≡ k → SameWhole m a j c
+SameWhole-chained m n k j None b c p q e = tt
+SameWhole-chained m n k j (Some x) None c p q e = absurd p
+SameWhole-chained m n k j (Some x) (Some y) None p q e = absurd q
+SameWhole-chained m n k j (Some x) (Some y) (Some z) p q e = omega (arith, p, q, e)
+
+-- where more bytes were taken than a limit, the input is longer than that
+pub SameWhole-exceeds : (limit m n : ℕ) (a b : Option (List ℕ)) → SameWhole m a n b → limit < n → IfSome a (λ xs. limit < m + length xs)
+SameWhole-exceeds limit m n None b p h = tt
+SameWhole-exceeds limit m n (Some x) None p h = absurd p
+SameWhole-exceeds limit m n (Some x) (Some y) p h = omega (arith, p, h)

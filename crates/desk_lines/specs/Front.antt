@@ -1,0 +1,41 @@
+-- How the reading towards the end of a line ended.
+use Rattle.std.specs.Prelude.{◌≡◌, ℕ, ◌+◌, ◌<◌, ◌≤◌, List, [], ◌++◌, Option, None, Some, length, ⊤}
+use Rattle.std.specs.Io.KnownBytes.{Keeps, IsAtEnd}
+use Rattle.desk_lines.specs.Held.{Reading}
+use Rattle.desk_lines.specs.Lines.{feed_place, first_line, after_line}
+use Rattle.desk_lines.specs.Reading.{unread, longest_line, SameWhole}
+use Rattle.desk_lines.specs.declared.outcome.NextLine.{NextLine}
+use Rattle.desk_lines.specs.declared.outcome.NextLine.TheVariants.{Whole, TooLong, End}
+use Rattle.desk_lines.specs.declared.reader.Front.{Front}
+use Rattle.desk_lines.specs.declared.reader.Front.TheVariants.{Feed, Full, Ended}
+
+-- the pending bytes hold a line feed, or they fill the buffer without one, or they are the last ones
+abbrev pub IsFront : Front → List ℕ → Option (List ℕ) → Type 0
+IsFront (Feed place) pending remaining = (place ≡ feed_place pending) × (place < length pending)
+IsFront Full pending remaining = (feed_place pending ≡ length pending) × (length pending ≡ 65538)
+IsFront Ended pending remaining = (feed_place pending ≡ length pending) × (length pending < 65538) × IsAtEnd remaining
+
+-- the reader read on, and gave nothing
+pub record ReadsOn (old new : Reading) (remaining left : Option (List ℕ)) (passed passed' : ℕ) : Type 0 where
+  pub unread_kept : Keeps (unread old.pending remaining) (unread new.pending left)
+  pub counted : new.taken + passed ≡ old.taken + passed'
+  pub whole : SameWhole old.taken remaining new.taken left
+  pub none_given : new.taken + length old.pending ≡ old.taken + length new.pending
+
+-- the first line of the pending bytes was given, and they lost it
+abbrev pub GivesFirst : NextLine → List ℕ → List ℕ → List ℕ → Type 0
+GivesFirst Whole old new line = (length line ≤ longest_line) × (line ≡ first_line old) × (new ≡ after_line old)
+GivesFirst TooLong old new line = (line ≡ []) × (longest_line < length (first_line old)) × (new ≡ after_line old)
+GivesFirst End old new line = ⊥
+
+-- the known bytes lost some of the first line at their front, so that what stands after it is the same
+abbrev pub StaysInLine : Option (List ℕ) → Option (List ℕ) → Type 0
+StaysInLine None new = ⊤
+StaysInLine (Some bytes) None = ⊥
+StaysInLine (Some bytes) (Some rest) = (lost : List ℕ) × (bytes ≡ lost ++ rest) × (after_line rest ≡ after_line bytes)
+
+-- the known bytes lost their first line
+abbrev pub LosesLine : Option (List ℕ) → Option (List ℕ) → Type 0
+LosesLine None new = ⊤
+LosesLine (Some bytes) None = ⊥
+LosesLine (Some bytes) (Some rest) = rest ≡ after_line bytes

@@ -1,0 +1,5 @@
+pub mod Front
+pub mod Held
+pub mod Lines
+pub mod Reading
+pub mod Window

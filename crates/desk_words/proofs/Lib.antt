@@ -1,0 +1,3 @@
+pub mod KeyLimits
+pub mod RegisterLimits
+pub mod RowLemmas

@@ -1,0 +1,52 @@
+//! Callers, and the keys by which they are known.
+ghost use Rattle.std.specs.Prelude.{◌≡◌};
+ghost use Rattle.desk_words.specs.Callers.{caller_of, party_in};
+
+use desk_lists::Keyed;
+use desk_terms::{Party, SecretKey, read_party};
+
+/// Who calls: the office, or a party.
+#[derive(Clone, Copy, Debug, PartialEq, Eq)]
+pub enum Caller {
+    Office,
+    Party(Party),
+}
+
+impl Caller {
+    /// The party that calls, or none for the office.
+    pub fn party(self) -> Option<Party>
+        ensures { result ≡ party_in self }
+    {
+        match self {
+            Caller::Office => None,
+            Caller::Party(party) => Some(party),
+        }
+    }
+}
+
+/// The caller that the bytes name: `OFFICE`, or a party; none exactly where they name neither.
+pub fn read_caller(bytes: &[u8]) -> Option<Caller>
+    ensures { result ≡ caller_of bytes.now }
+{
+    if bytes == b"OFFICE".as_slice() {
+        return Some(Caller::Office);
+    }
+    Some(Caller::Party(read_party(bytes)?))
+}
+
+/// A caller's key.
+#[derive(Clone, Copy, Debug, PartialEq, Eq)]
+pub struct KeyRow {
+    pub caller: Caller,
+    pub secret: SecretKey,
+}
+
+impl Keyed for KeyRow {
+    type Key = Option<Party>;
+
+    ghost key_of = { λ row. party_in row.caller };
+
+    fn key(&self) -> Option<Party> {
+        self.caller.party()
+    }
+}

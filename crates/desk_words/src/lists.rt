@@ -1,0 +1,226 @@
+//! The lists of resolutions, keys and closed days.
+ghost use Rattle.std.specs.Prelude.{◌≡◌, ◌<◌, ◌↔◌, ℕ, IfOk, Err, Some, None, IsTrue, false, [], map, Contains, IsPermutation};
+ghost use Rattle.desk_lists.specs.Ordered.{differ_by};
+ghost use Rattle.desk_words.specs.Lists.{same_secret};
+ghost use Rattle.desk_words.specs.BySecret.{by_secret_of};
+ghost use Rattle.desk_words.specs.declared.lists.ListFault.TheVariants.{Limit, Memory};
+
+use crate::caller::KeyRow;
+use crate::records::Resolution;
+use desk_calendar::Day;
+use desk_lists::{Keyed, ascend, in_order_once, into_order};
+use desk_terms::SecretKey;
+use std::alloc::{AllocError, Global};
+use std::marker::Model;
+
+/// Why a list was not made.
+#[derive(Clone, Copy, Debug, PartialEq, Eq)]
+pub enum ListFault {
+    /// The list breaks the limits of its type.
+    Limit,
+    /// An allocation was refused.
+    Memory,
+}
+
+impl From<AllocError> for ListFault {
+    ghost from_gives = { λ _ e. e ≡ Memory };
+
+    fn from(_refused: AllocError) -> ListFault {
+        ListFault::Memory
+    }
+}
+
+/// The resolutions of a meeting, numbered from 1: 1 to 50 of them.
+#[derive(Clone, Debug, Drop)]
+pub struct Resolutions {
+    resolutions: Vec<Resolution>,
+}
+
+impl Model for Resolutions {
+    ghost use Rattle.std.specs.Prelude.{List, IsTrue};
+    ghost use Rattle.desk_words.specs.declared.records.Resolution.{Resolution};
+
+    ghost Value = { List Resolution };
+
+    ghost use Rattle.desk_words.specs.Lists.{are_resolutions};
+
+    ghost view = { λ a. a.resolutions.items };
+
+    ghost invariant = { λ a. IsTrue (are_resolutions a.resolutions.items) };
+}
+
+impl Resolutions {
+    ghost use Rattle.desk_words.specs.Lists.{are_resolutions};
+
+    /// The list of these resolutions. The fault is `Limit` exactly where they are not 1 to 50.
+    pub fn new(resolutions: Vec<Resolution>) -> Result<Resolutions, ListFault>
+        ensures value { IfOk result (λ r. r ≡ resolutions.items) }
+        ensures limit { (result ≡ Err Limit) ↔ (are_resolutions resolutions.items ≡ false) }
+        ensures no_memory { (result ≡ Err Memory) → ⊥ }
+    {
+        if resolutions.is_empty() || resolutions.len() > 50 {
+            return Err(ListFault::Limit);
+        }
+        Ok(Resolutions { resolutions })
+    }
+
+    /// The same resolutions again. The error is want of memory.
+    pub fn copy(&self) -> Result<Resolutions, AllocError>
+        ensures value { IfOk result (λ r. r ≡ self.now) }
+        ensures kept { IsTrue (are_resolutions self.now) }
+    {
+        let _ = &self.resolutions;
+        self.clone()
+    }
+
+    /// The resolutions, in the order of their numbers.
+    pub fn as_slice(&self) -> &[Resolution]
+        ensures value { result.now ≡ self.now }
+        ensures kept { IsTrue (are_resolutions self.now) }
+    {
+        self.resolutions.as_slice()
+    }
+}
+
+/// The keys of a desk, in the order of callers: at most 40,000, with no caller and no key twice.
+#[derive(Clone, Debug, Drop)]
+pub struct KeyRows {
+    rows: Vec<KeyRow>,
+}
+
+impl Model for KeyRows {
+    ghost use Rattle.std.specs.Prelude.{List, IsTrue};
+    ghost use Rattle.desk_words.specs.declared.caller.KeyRow.{KeyRow};
+
+    ghost Value = { List KeyRow };
+
+    ghost use Rattle.desk_words.specs.Lists.{is_key_list};
+
+    ghost view = { λ a. a.rows.items };
+
+    ghost invariant = { λ a. IsTrue (is_key_list a.rows.items) };
+}
+
+/// The closed days, in order, each once: at most 2,000 of them (section 1173).
+#[derive(Clone, Debug, Drop)]
+pub struct DayList {
+    days: Vec<Day>,
+}
+
+impl Model for DayList {
+    ghost use Rattle.std.specs.Prelude.{ℕ, List, IsTrue};
+
+    ghost Value = { List ℕ };
+
+    ghost use Rattle.desk_words.specs.Lists.{is_day_list};
+
+    ghost view = { λ a. a.days.items };
+
+    ghost invariant = { λ a. IsTrue (is_day_list a.days.items) };
+}
+
+impl DayList {
+    ghost use Rattle.desk_words.specs.Lists.{is_day_list, day_count};
+
+    /// The days, in order, each once. The fault is `Limit` exactly where there are more than
+    /// 2,000 different days.
+    pub fn new(days: Vec<Day>) -> Result<DayList, ListFault>
+        ensures days { IfOk result (λ r. (day : ℕ) → Contains r day ↔ Contains days.items day) }
+        ensures kept { IfOk result (λ r. IsTrue (is_day_list r)) }
+        ensures limit { (result ≡ Err Limit) ↔ (2000 < day_count days.items) }
+        ensures no_memory { (result ≡ Err Memory) → ⊥ }
+    {
+        let days = in_order_once(days);
+        if days.len() > 2_000 {
+            return Err(ListFault::Limit);
+        }
+        Ok(DayList { days })
+    }
+
+    /// No closed days.
+    pub fn empty(alloc: Global) -> DayList
+        ensures { result ≡ [] }
+    {
+        DayList {
+            days: Vec::new(alloc),
+        }
+    }
+
+    /// The days, in order.
+    pub fn as_slice(&self) -> &[Day]
+        ensures value { result.now ≡ self.now }
+        ensures kept { IsTrue (is_day_list self.now) }
+    {
+        self.days.as_slice()
+    }
+}
+
+/// A key row in a list that is in the order of keys.
+#[derive(Clone, Copy, Debug)]
+struct BySecret {
+    row: KeyRow,
+}
+
+impl Keyed for BySecret {
+    type Key = SecretKey;
+
+    ghost key_of = { λ by. by.row.secret };
+
+    fn key(&self) -> SecretKey {
+        self.row.secret
+    }
+}
+
+fn by_secret(alloc: Global, rows: &[KeyRow]) -> Result<Vec<BySecret>, AllocError>
+    ensures { IfOk result (λ by. by.items ≡ map by_secret_of rows.now) }
+{
+    rows.iter().map(|row| BySecret { row: *row }).collect(alloc)
+}
+
+fn secrets_differ(alloc: Global, rows: &[KeyRow]) -> Result<bool, AllocError>
+    ensures { IfOk result (λ r. r ≡ differ_by same_secret rows.now) }
+{
+    let mut rows = by_secret(alloc, rows)?;
+    into_order(&mut rows)?;
+    Ok(ascend(&rows))
+}
+
+impl KeyRows {
+    ghost use Rattle.desk_words.specs.Lists.{is_key_list, key_list_of};
+
+    /// The list of these keys. The fault is `Limit` only where there are more than 40,000, or a
+    /// caller or a key stands twice, and else `Memory`.
+    pub fn new(alloc: Global, rows: Vec<KeyRow>) -> Result<KeyRows, ListFault>
+        ensures value { IfOk result (λ r. key_list_of rows.items ≡ Some r) }
+        ensures rows { IfOk result (λ r. IsPermutation rows.items r) }
+        ensures kept { IfOk result (λ r. IsTrue (is_key_list r)) }
+        ensures limit { result ≡ Err Limit → key_list_of rows.items ≡ None }
+    {
+        if rows.len() > 40_000 || !secrets_differ(alloc, &rows)? {
+            return Err(ListFault::Limit);
+        }
+        let mut rows = rows;
+        into_order(&mut rows)?;
+        if !ascend(&rows) {
+            return Err(ListFault::Limit);
+        }
+        Ok(KeyRows { rows })
+    }
+
+    /// No keys.
+    pub fn empty(alloc: Global) -> KeyRows
+        ensures { result ≡ [] }
+    {
+        KeyRows {
+            rows: Vec::new(alloc),
+        }
+    }
+
+    /// The keys, in the order of callers.
+    pub fn as_slice(&self) -> &[KeyRow]
+        ensures value { result.now ≡ self.now }
+        ensures kept { IsTrue (is_key_list self.now) }
+    {
+        self.rows.as_slice()
+    }
+}

@@ -1,0 +1,29 @@
+//! The lists of an office.
+use crate::lists::{DayList, KeyRows};
+use crate::records::{
+    Appointment, Authority, CastMark, DemandMark, Ending, Meeting, Poll, PresenceMark, RegisterRow,
+};
+use desk_lists::Listing;
+
+/// A meeting and its lists: the register in the order of members, the polls in the order of
+/// resolutions, and the others in order of receipt.
+#[derive(Debug, Drop)]
+pub struct MeetingLists {
+    pub meeting: Meeting,
+    pub register: Listing<RegisterRow>,
+    pub appointments: Listing<Appointment>,
+    pub endings: Listing<Ending>,
+    pub authorities: Listing<Authority>,
+    pub presences: Listing<PresenceMark>,
+    pub demands: Listing<DemandMark>,
+    pub polls: Listing<Poll>,
+    pub casts: Listing<CastMark>,
+}
+
+/// All that an office holds.
+#[derive(Debug, Drop)]
+pub struct OfficeLists {
+    pub keys: KeyRows,
+    pub closed: DayList,
+    pub meetings: Listing<MeetingLists>,
+}

@@ -1,0 +1,179 @@
+//! The records of an office. Moments are seconds of the office's wall clock, shares are counts,
+//! and what is paid up is in pence on each share.
+ghost use Rattle.std.specs.Prelude.{◌≡◌};
+ghost use Rattle.desk_words.specs.Rows.{same_row};
+
+use crate::lists::Resolutions;
+use desk_calendar::{Day, Moment};
+use desk_lists::{Keyed, Listing};
+use desk_terms::{
+    Capacity, Company, HolderKind, Instr, MeetingId, MeetingKind, Party, Range, ResKind, Text, Way,
+};
+
+/// A resolution of which notice was given (section 283(6)).
+#[derive(Clone, Debug, Drop)]
+pub struct Resolution {
+    pub kind: ResKind,
+    pub text: Text,
+}
+
+/// A meeting as it is called (section 307), whether its register is loaded, and when it opened.
+#[derive(Clone, Debug, Drop)]
+pub struct Meeting {
+    pub id: MeetingId,
+    pub company: Company,
+    pub kind: MeetingKind,
+    /// The day on which notice is given.
+    pub given: Day,
+    /// The appointed time.
+    pub appointed: Moment,
+    /// The moment as of which the register is taken.
+    pub record_moment: Moment,
+    pub resolutions: Resolutions,
+    pub loaded: bool,
+    pub opened: Option<Moment>,
+}
+
+/// A holding in the register of members (section 113).
+#[derive(Clone, Debug, Drop)]
+pub struct RegisterRow {
+    pub member: Party,
+    pub kind: HolderKind,
+    pub name: Text,
+    /// How many shares the member holds, numbered from 1.
+    pub shares: u64,
+    /// The pence paid up on each of them.
+    pub paid: u64,
+}
+
+impl RegisterRow {
+    /// Whether both are the same row.
+    pub fn is(&self, other: &RegisterRow) -> bool
+        ensures { result ≡ same_row self.now other.now }
+    {
+        self.member.is(other.member)
+            && self.kind == other.kind
+            && self.name.is(&other.name)
+            && self.shares == other.shares
+            && self.paid == other.paid
+    }
+}
+
+impl Keyed for RegisterRow {
+    type Key = Party;
+
+    ghost key_of = { λ row. row.member };
+
+    fn key(&self) -> Party {
+        self.member
+    }
+}
+
+/// An appointment of a proxy over a block of the member's shares (section 324).
+#[derive(Clone, Debug, Drop)]
+pub struct Appointment {
+    pub member: Party,
+    /// The member's own count: 1, 2, .. in order of receipt.
+    pub number: u64,
+    pub proxy: Party,
+    pub range: Range,
+    /// One instruction for each resolution (section 324A).
+    pub instructions: Listing<Instr>,
+    /// When it was received.
+    pub moment: Moment,
+}
+
+/// The ending of an appointment (section 330).
+#[derive(Clone, Copy, Debug, PartialEq, Eq)]
+pub struct Ending {
+    pub member: Party,
+    /// The number of the member's appointment that it ends.
+    pub number: u64,
+    pub moment: Moment,
+}
+
+/// An authority to act as a corporation's representative (section 323).
+#[derive(Clone, Copy, Debug, PartialEq, Eq)]
+pub struct Authority {
+    pub corporation: Party,
+    pub person: Party,
+    pub moment: Moment,
+}
+
+/// A mark that a party is present.
+#[derive(Clone, Copy, Debug, PartialEq, Eq)]
+pub struct PresenceMark {
+    pub party: Party,
+    pub moment: Moment,
+}
+
+/// A party's demand of a poll on a resolution (sections 321 and 329).
+#[derive(Clone, Copy, Debug, PartialEq, Eq)]
+pub struct DemandMark {
+    /// The resolution's number, from 1.
+    pub resolution: u64,
+    pub party: Party,
+    pub moment: Moment,
+}
+
+/// A count of votes, in shares. `eligible` is the number of all shares that are not treasury
+/// shares.
+#[derive(Clone, Copy, Debug, PartialEq, Eq)]
+pub struct Tally {
+    pub votes_for: u64,
+    pub votes_against: u64,
+    pub withheld: u64,
+    pub eligible: u64,
+}
+
+/// A poll on a resolution (section 321).
+#[derive(Clone, Copy, Debug, PartialEq, Eq)]
+pub struct Poll {
+    /// The resolution's number, from 1.
+    pub resolution: u64,
+    /// When it was ordered.
+    pub ordered: Moment,
+    /// When it is to be taken.
+    pub take: Moment,
+    /// Whether the chair ordered it, without a demand.
+    pub chair: bool,
+    pub started: Option<Moment>,
+    pub closed: Option<Moment>,
+    pub declared: Option<Tally>,
+}
+
+impl Keyed for Poll {
+    type Key = u64;
+
+    ghost key_of = { λ poll. poll.resolution };
+
+    fn key(&self) -> u64 {
+        self.resolution
+    }
+}
+
+/// A vote on some of a member's shares, in one capacity and one way (section 322).
+#[derive(Clone, Copy, Debug, PartialEq, Eq)]
+pub struct Block {
+    pub capacity: Capacity,
+    pub member: Party,
+    pub range: Range,
+    pub way: Way,
+}
+
+/// What is cast: a vote on some shares, or, by a proxy, whatever it is instructed (section 324A).
+#[derive(Clone, Copy, Debug, PartialEq, Eq)]
+pub enum CastKind {
+    Block(Block),
+    AsInstructed,
+}
+
+/// A vote cast on a poll.
+#[derive(Clone, Copy, Debug, PartialEq, Eq)]
+pub struct CastMark {
+    /// The resolution's number, from 1.
+    pub resolution: u64,
+    pub voter: Party,
+    pub what: CastKind,
+    pub moment: Moment,
+}
