@@ -1,0 +1,105 @@
+-- What a party may see of an office.
+use Rattle.std.specs.Prelude.{ℕ, Bool, false, ◌&&◌, ◌==◌, List, [], map, filter, find, reverse, Option, Some, None, option_map, if◌then◌else◌}
+use Rattle.std.specs.List.{list_any}
+use Rattle.desk_words.specs.Names.{same_name}
+use Rattle.desk_words.specs.declared.office.OfficeLists.{OfficeLists}
+use Rattle.desk_words.specs.declared.office.MeetingLists.{MeetingLists}
+use Rattle.desk_words.specs.declared.records.RegisterRow.{RegisterRow}
+use Rattle.desk_words.specs.declared.records.Appointment.{Appointment}
+use Rattle.desk_words.specs.declared.records.Ending.{Ending}
+use Rattle.desk_words.specs.declared.records.Authority.{Authority}
+use Rattle.desk_words.specs.declared.records.PresenceMark.{PresenceMark}
+use Rattle.desk_words.specs.declared.records.DemandMark.{DemandMark}
+use Rattle.desk_words.specs.declared.records.Poll.{Poll}
+use Rattle.desk_words.specs.declared.records.CastMark.{CastMark}
+use Rattle.desk_words.specs.declared.request.Given.{Given}
+use Rattle.desk_words.specs.declared.request.Authorised.{Authorised}
+use Rattle.desk_terms.specs.declared.kinds.HolderKind.{HolderKind}
+use Rattle.desk_terms.specs.declared.kinds.HolderKind.TheVariants.{Individual, Corporation, Treasury}
+use Rattle.caller_view.specs.declared.views.PublicRecord.{PublicRecord}
+use Rattle.caller_view.specs.declared.views.OwnView.{OwnView}
+
+-- the lists of the meeting of a name
+abbrev pub meeting_named : List MeetingLists → List ℕ → Option MeetingLists
+meeting_named meetings id = find (λ m. same_name m.meeting.id id) meetings
+
+abbrev pub meeting_at : OfficeLists → List ℕ → Option MeetingLists
+meeting_at office id = meeting_named office.meetings id
+
+abbrev pub polls_in : Option MeetingLists → List Poll
+polls_in None = []
+polls_in (Some m) = m.polls
+
+-- the public record of a meeting
+abbrev pub public_of : OfficeLists → List ℕ → PublicRecord
+public_of office id = record {
+  closed = office.closed;
+  meeting = option_map (λ m. m.meeting) (meeting_at office id);
+  polls = polls_in (meeting_at office id);
+}
+
+-- a member's row in a register
+abbrev pub row_of : List RegisterRow → List ℕ → Option RegisterRow
+row_of rows party = find (λ row. same_name row.member party) rows
+
+abbrev pub shares_if : HolderKind → ℕ → ℕ
+shares_if Corporation shares = shares
+shares_if Individual shares = 0
+shares_if Treasury shares = 0
+
+-- the shares of a row, 0 where it is no corporation's
+abbrev pub shares_in : Option RegisterRow → ℕ
+shares_in None = 0
+shares_in (Some row) = shares_if row.kind row.shares
+
+-- an authority's corporation, with its shares in the register
+abbrev pub authorised_by : List RegisterRow → Authority → Authorised
+authorised_by rows a = record { corporation = a.corporation; shares = shares_in (row_of rows a.corporation) }
+
+-- the ending of a member's appointment, of which an office has one at most
+abbrev pub is_ending : List ℕ → ℕ → Ending → Bool
+is_ending member number e = same_name e.member member && e.number == number
+
+-- the moment of the ending of a member's appointment
+abbrev pub ended_at : List Ending → List ℕ → ℕ → Option ℕ
+ended_at endings member number = option_map (λ (e : Ending). e.moment) (find (is_ending member number) (reverse endings))
+
+-- an appointment, with its ending
+abbrev pub given_in : List Ending → Appointment → Given
+given_in endings a = record { appointment = a; ended = ended_at endings a.member a.number }
+
+-- the own things of a party where there is no meeting
+abbrev pub nothing_of : List ℕ → OwnView
+nothing_of party = record {
+  party = party;
+  row = None;
+  given = [];
+  persons = [];
+  received = [];
+  authorised = [];
+  present = false;
+  demands = [];
+  casts = [];
+}
+
+-- the own things of a party in a meeting
+abbrev pub own_in : MeetingLists → List ℕ → OwnView
+own_in m party = record {
+  party = party;
+  row = row_of m.register party;
+  given = map (given_in m.endings) (filter (λ (a : Appointment). same_name a.member party) m.appointments);
+  persons = filter (λ (a : Authority). same_name a.corporation party) m.authorities;
+  received = filter (λ (a : Appointment). same_name a.proxy party) m.appointments;
+  authorised = map (authorised_by m.register) (filter (λ (a : Authority). same_name a.person party) m.authorities);
+  present = list_any (λ (p : PresenceMark). same_name p.party party) m.presences;
+  demands = filter (λ (d : DemandMark). same_name d.party party) m.demands;
+  casts = filter (λ (c : CastMark). same_name c.voter party) m.casts;
+}
+
+abbrev pub own_in_some : Option MeetingLists → List ℕ → OwnView
+own_in_some None party = nothing_of party
+own_in_some (Some m) party = own_in m party
+
+-- the own things of a party in a meeting of an office, at a moment
+abbrev pub own_of : OfficeLists → List ℕ → List ℕ → ℕ → OwnView
+own_of office party id now = own_in_some (meeting_at office id) party

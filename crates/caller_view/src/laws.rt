@@ -1,0 +1,1 @@
+//! Laws of the answers to a party.

@@ -1,0 +1,9 @@
+//! A party's reply, from what it may see.
+#![tactic(auto)]
+
+mod answers;
+pub mod laws;
+mod views;
+
+pub use answers::{answer, refuse};
+pub use views::{Answer, OwnView, PublicRecord};

@@ -1,0 +1,42 @@
+//! What a party may see, and what it is answered.
+use desk_words::{
+    Appointment, Authorised, Authority, CastMark, Change, DayList, DemandMark, Given, Listing,
+    Meeting, Party, Poll, RegisterRow, Reply,
+};
+
+/// What everyone may know of a meeting: the closed days, and, where the meeting exists, its notice
+/// and resolutions, whether a register is loaded, the opening, and its polls with what is declared
+/// of them.
+#[derive(Debug, Drop)]
+pub struct PublicRecord {
+    pub closed: DayList,
+    pub meeting: Option<Meeting>,
+    /// In the order of resolutions.
+    pub polls: Listing<Poll>,
+}
+
+/// What a party may know of itself in a meeting. Lists are in order of receipt.
+#[derive(Debug, Drop)]
+pub struct OwnView {
+    pub party: Party,
+    /// Its row in the register.
+    pub row: Option<RegisterRow>,
+    /// The appointments that it gave, with their endings.
+    pub given: Listing<Given>,
+    /// The authorities that it gave.
+    pub persons: Listing<Authority>,
+    /// The appointments that name it.
+    pub received: Listing<Appointment>,
+    /// The corporations that authorised it, with their shares.
+    pub authorised: Listing<Authorised>,
+    pub present: bool,
+    pub demands: Listing<DemandMark>,
+    pub casts: Listing<CastMark>,
+}
+
+/// A reply, and at most one change.
+#[derive(Debug, Drop)]
+pub struct Answer {
+    pub reply: Reply,
+    pub change: Option<Change>,
+}

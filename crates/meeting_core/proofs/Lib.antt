@@ -1,0 +1,4 @@
+pub mod EndingLemmas
+pub mod OfficeFacts
+pub mod OfficeKept
+pub mod StepLaws

@@ -1,0 +1,17 @@
+use Rattle.std.proofs.Common.{◌≡◌, true, subst, ap, sym, ◌∙◌}
+use Rattle.desk_words.specs.declared.office.OfficeLists.{OfficeLists}
+use Rattle.desk_words.specs.Office.{is_office}
+use Rattle.caller_view.specs.declared.views.Answer.{Answer}
+use Rattle.meeting_core.specs.Office.{after_some, keeps_limits}
+use Rattle.meeting_core.proofs.OfficeKept.{step_kept}
+use Rattle.meeting_core.proofs.book.Book.decide.Goals as goal
+
+-- a decision keeps the lists of an office, by the law of the step
+pub returns-clause-kept : goal.returns-clause-kept
+returns-clause-kept c =
+    let office = c.args.self.now in
+    let call = c.args.call.now in
+    let kept : is_office office ≡ true = subst (λ (x : OfficeLists). is_office x ≡ true) c.self.view_is c.self.invariant in
+    let decision = c.in_ok-answer.ensures.answer in
+    ap (λ (a : Answer). is_office (after_some office a.change)) decision
+    ∙ step_kept office call.moment call.caller call.request kept (ap (λ (a : Answer). keeps_limits a.change) (sym decision) ∙ c.in_ok-answer.ensures.limits)

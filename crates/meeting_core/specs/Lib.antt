@@ -1,0 +1,6 @@
+pub mod Conditions
+pub mod Laws
+pub mod Names
+pub mod Office
+pub mod OfficeAnswers
+pub mod Step

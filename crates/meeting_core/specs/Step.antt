@@ -1,0 +1,52 @@
+-- One step of the office, and runs of steps.
+use Rattle.std.specs.Prelude.{ℕ, Bool, not, List, [], ◌∷◌, Option, Some, None}
+use Rattle.desk_words.specs.declared.office.OfficeLists.{OfficeLists}
+use Rattle.desk_words.specs.declared.caller.Caller.{Caller}
+use Rattle.desk_words.specs.declared.caller.Caller.TheVariants as caller
+use Rattle.desk_words.specs.declared.request.Call.{Call}
+use Rattle.desk_words.specs.declared.request.Reply.{Reply}
+use Rattle.desk_words.specs.declared.request.Request.{Request}
+use Rattle.desk_words.specs.declared.request.Request.TheVariants as asked
+use Rattle.caller_view.specs.declared.views.Answer.{Answer}
+use Rattle.caller_view.specs.Answers.{answer_of, is_for_office}
+use Rattle.caller_view.specs.Views.{public_of, own_of}
+use Rattle.meeting_core.specs.Office.{after_some}
+use Rattle.meeting_core.specs.OfficeAnswers.{office_answer}
+
+-- the meeting that a request names
+abbrev pub named_meeting : Request → List ℕ
+named_meeting (asked.CallMeeting new) = new.meeting
+named_meeting (asked.LoadRegister new) = new.meeting
+named_meeting (asked.Mine meeting) = meeting
+
+-- the answer to a party: that of its views of the meeting that the request names
+abbrev pub party_answer : OfficeLists → List ℕ → ℕ → Request → Answer
+party_answer office party now request =
+    let meeting = named_meeting request in answer_of (public_of office meeting) (own_of office party meeting now) now request
+
+abbrev pub answer_to : OfficeLists → ℕ → Caller → Request → Answer
+answer_to office now caller.Office request = office_answer office now request
+answer_to office now (caller.Party party) request = party_answer office party now request
+
+-- an office request of a party, or a party request of the office
+abbrev pub is_misplaced : Caller → Request → Bool
+is_misplaced caller.Office request = not (is_for_office request)
+is_misplaced (caller.Party party) request = is_for_office request
+
+-- the reply to a call, and its change
+abbrev pub decided : OfficeLists → Call → Answer
+decided office call = answer_to office call.moment call.caller call.request
+
+-- the office after a call
+abbrev pub stepped : OfficeLists → Call → OfficeLists
+stepped office call = after_some office (decided office call).change
+
+-- the office after a list of calls
+abbrev pub office_after : OfficeLists → List Call → OfficeLists
+office_after office [] = office
+office_after office (call ∷ calls) = office_after (stepped office call) calls
+
+-- the replies to a list of calls
+abbrev pub replies_to : OfficeLists → List Call → List Reply
+replies_to office [] = []
+replies_to office (call ∷ calls) = (decided office call).reply ∷ replies_to (stepped office call) calls

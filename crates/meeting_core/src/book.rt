@@ -1,0 +1,185 @@
+//! The book: all that an office holds, in memory.
+ghost use Rattle.std.specs.Prelude.{◌≡◌, true, false, IfOk, OnOk, OnErr, IsTrue, IsOk};
+ghost use Rattle.caller_view.specs.Views.{public_of, own_of};
+ghost use Rattle.caller_view.specs.Answers.{is_for_office};
+ghost use Rattle.desk_words.specs.Office.{is_office};
+ghost use Rattle.desk_words.specs.declared.caller.Caller.TheVariants as caller;
+ghost use Rattle.meeting_core.specs.Office.{after, after_some, empty_office, keeps_limits};
+ghost use Rattle.meeting_core.specs.OfficeAnswers.{office_answer};
+ghost use Rattle.meeting_core.specs.Step.{decided, is_misplaced, stepped, party_answer};
+
+use crate::changes::{new_lists, set_register};
+use crate::finding::find_meeting;
+use crate::office_answers::{call_meeting, load_register};
+use crate::own::{nothing_of, own_in};
+use caller_view::{Answer, OwnView, PublicRecord, answer, refuse};
+use desk_words::{
+    Call, Caller, Change, DayList, KeyRows, Listing, MeetingId, MeetingLists, Moment, Party,
+    Refusal, Reply, Request,
+};
+use std::alloc::{AllocError, Global};
+use std::marker::Model;
+
+/// All that an office holds. Contracts see it as the lists of the office, and it always holds the
+/// lists of an office.
+#[derive(Debug, Drop)]
+pub struct Book {
+    alloc: Global,
+    keys: KeyRows,
+    closed: DayList,
+    meetings: Vec<MeetingLists>,
+}
+
+impl Model for Book {
+    ghost use Rattle.std.specs.Prelude.{IsTrue};
+    ghost use Rattle.desk_words.specs.declared.office.OfficeLists.{OfficeLists};
+    ghost use Rattle.desk_words.specs.Office.{is_office};
+
+    ghost Value = { OfficeLists };
+
+    ghost view = { λ b. record { keys = b.keys; closed = b.closed; meetings = b.meetings.items } };
+
+    ghost invariant = { λ b. IsTrue (is_office (record { keys = b.keys; closed = b.closed; meetings = b.meetings.items })) };
+}
+
+impl Book {
+    /// The empty office.
+    pub fn new(alloc: Global) -> Book
+        ensures { result ≡ empty_office }
+    {
+        Book {
+            alloc,
+            keys: KeyRows::empty(alloc),
+            closed: DayList::empty(alloc),
+            meetings: Vec::new(alloc),
+        }
+    }
+
+    /// The public record of a meeting. The error is want of memory.
+    pub fn public_of(&self, meeting: MeetingId) -> Result<PublicRecord, AllocError>
+        ensures { IfOk result (λ r. r ≡ public_of self.now meeting) }
+    {
+        let closed = self.closed.clone()?;
+        let Some(lists) = find_meeting(&self.meetings, meeting) else {
+            return Ok(PublicRecord {
+                closed,
+                meeting: None,
+                polls: Listing::new(self.alloc),
+            });
+        };
+        Ok(PublicRecord {
+            closed,
+            meeting: Some(lists.meeting.clone()?),
+            polls: lists.polls.clone()?,
+        })
+    }
+
+    /// The own things of a party in a meeting at a moment. The error is want of memory.
+    pub fn own_of(
+        &self,
+        party: Party,
+        meeting: MeetingId,
+        now: Moment,
+    ) -> Result<OwnView, AllocError>
+        ensures { IfOk result (λ own. own ≡ own_of self.now party meeting now) }
+    {
+        let _ = now;
+        match find_meeting(&self.meetings, meeting) {
+            None => Ok(nothing_of(self.alloc, party)),
+            Some(lists) => own_in(self.alloc, lists, party),
+        }
+    }
+
+    fn answer_to_office(&self, now: Moment, request: &Request) -> Result<Answer, AllocError>
+        ensures answer { IfOk result (λ a. a ≡ office_answer self.now now request.now) }
+        ensures limits { IfOk result (λ a. IsTrue (keeps_limits a.change)) }
+        ensures sure { is_for_office request.now ≡ false → IsOk result }
+    {
+        match request {
+            Request::CallMeeting(new) => call_meeting(&self.meetings, new),
+            Request::LoadRegister(new) => match find_meeting(&self.meetings, new.meeting) {
+                None => Ok(refuse(Refusal::NoMeeting)),
+                Some(lists) => load_register(lists, now, new),
+            },
+            Request::Mine(_) => Ok(refuse(Refusal::PartyOnly)),
+        }
+    }
+
+    fn answer_to_party(
+        &self,
+        party: Party,
+        now: Moment,
+        request: &Request,
+    ) -> Result<Answer, AllocError>
+        ensures answer { IfOk result (λ a. a ≡ party_answer self.now party now request.now) }
+        ensures limits { IfOk result (λ a. IsTrue (keeps_limits a.change)) }
+        ensures sure { is_for_office request.now ≡ true → IsOk result }
+    {
+        match request {
+            Request::CallMeeting(_) | Request::LoadRegister(_) => Ok(refuse(Refusal::OfficeOnly)),
+            Request::Mine(meeting) => {
+                let public = self.public_of(*meeting)?;
+                let own = self.own_of(party, *meeting, now)?;
+                answer(&public, &own, now, request)
+            }
+        }
+    }
+
+    fn answer_to(&self, call: &Call) -> Result<Answer, AllocError>
+        ensures answer { IfOk result (λ a. a ≡ decided self.now call.now) }
+        ensures limits { IfOk result (λ a. IsTrue (keeps_limits a.change)) }
+        ensures sure { is_misplaced call.now.caller call.now.request ≡ true → IsOk result }
+    {
+        match call.caller {
+            Caller::Office => self.answer_to_office(call.moment, &call.request),
+            Caller::Party(party) => self.answer_to_party(party, call.moment, &call.request),
+        }
+    }
+
+    /// The reply to a call, and its change: to a party the answer of its public record and its own
+    /// things, to the office that of the whole office. The error is want of memory; an office
+    /// request of a party and a party request of the office, which are refused, need none.
+    pub fn decide(&self, call: &Call) -> Result<(Reply, Option<Change>), AllocError>
+        ensures reply { IfOk result (λ d. d.0 ≡ (decided self.now call.now).reply) }
+        ensures change { IfOk result (λ d. d.1 ≡ (decided self.now call.now).change) }
+        ensures kept { IfOk result (λ d. IsTrue (is_office (after_some self.now d.1))) }
+        ensures sure { is_misplaced call.now.caller call.now.request ≡ true → IsOk result }
+    {
+        let _ = &self.meetings;
+        let answer = self.answer_to(call)?;
+        Ok((answer.reply, answer.change))
+    }
+
+    /// Writes a change. The error is want of memory, and the book is then as it was.
+    pub fn apply(&mut self, change: Change) -> Result<(), AllocError>
+        requires { IsTrue (is_office (after self.old change)) }
+        ensures ok { OnOk result (self.new ≡ after self.old change) }
+        ensures err { OnErr result (self.new ≡ self.old) }
+    {
+        match change {
+            Change::AddMeeting(meeting) => {
+                let lists = new_lists(self.alloc, meeting);
+                self.meetings.push(lists)?;
+            }
+            Change::SetRegister(set) => {
+                set_register(&mut self.meetings, set.meeting, set.rows);
+            }
+        }
+        Ok(())
+    }
+
+    /// One step: the decision, and then its change. The error is want of memory. After it, and after
+    /// a refusal, the book is as it was.
+    pub fn step(&mut self, call: Call) -> Result<Reply, AllocError>
+        ensures reply { IfOk result (λ r. r ≡ (decided self.old call).reply) }
+        ensures ok { OnOk result (self.new ≡ stepped self.old call) }
+        ensures err { OnErr result (self.new ≡ self.old) }
+        ensures sure { is_misplaced call.caller call.request ≡ true → IsOk result }
+    {
+        let (reply, change) = self.decide(&call)?;
+        if let Some(change) = change {
+            self.apply(change)?;
+        }
+        Ok(reply)
+    }
+}

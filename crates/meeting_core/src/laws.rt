@@ -1,0 +1,24 @@
+//! Laws of the definitions by which the contracts speak.
+ghost use Rattle.meeting_core.specs.Conditions.{ConditionsStandInOrder, TheLowestRefusalIsAnswered};
+ghost use Rattle.meeting_core.specs.Laws.{PartiesLeaveThePublicRecord, RepliesAreTheCallersOwn};
+ghost use Rattle.meeting_core.specs.Names.{NamesAreTheCallersOwn};
+
+/// Two offices that agree on the public record of the meeting that a request names, and on a
+/// party's own things in it, give that party the same reply and the same change; and no call of a
+/// party changes a public record.
+pub fn two_worlds()
+    ensures same { RepliesAreTheCallersOwn }
+    ensures quiet { PartiesLeaveThePublicRecord }
+{}
+
+/// Every party named in a reply to a party is that party or stands in its own things. It follows
+/// from `two_worlds` and says less: a running total names nobody.
+pub fn names()
+    ensures { NamesAreTheCallersOwn }
+{}
+
+/// Of the conditions under which a call is refused, the lowest number that holds is answered.
+pub fn lowest_refusal()
+    ensures order { ConditionsStandInOrder }
+    ensures lowest { TheLowestRefusalIsAnswered }
+{}

@@ -1,0 +1,11 @@
+//! The whole office and its step.
+#![tactic(auto)]
+
+mod book;
+mod changes;
+mod finding;
+pub mod laws;
+mod office_answers;
+mod own;
+
+pub use book::Book;
