@@ -1,0 +1,3 @@
+mod BodyLemmas
+mod LawLemmas
+mod ReadUpTo

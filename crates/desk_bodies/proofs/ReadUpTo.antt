@@ -1,0 +1,15 @@
+use Rattle.std.proofs.Common.{◌≡◌, ℕ, List, ◌++◌, drop, Result, Ok, Err}
+use Rattle.serde_json.specs.Data.{Data}
+use Rattle.serde_json.specs.View.{items_view}
+use Rattle.serde_json.specs.declared.value.Value.{Value}
+use Rattle.desk_terms.specs.declared.refusal.Refusal.{Refusal}
+use Rattle.desk_bodies.specs.Places.{each}
+
+-- what was found, and then the rest
+abbrev pub onto : {A : Type 0} → List A → Result (List A) Refusal → Result (List A) Refusal
+onto found (Ok rest) = Ok (found ++ rest)
+onto found (Err refusal) = Err refusal
+
+-- of each of the values, those before an index are read
+pub record IsReadUpTo {A : Type 0} (reading : Data → Result A Refusal) (vs : List Value) (found : List A) (i : ℕ) : Type 0 where
+  pub so_far : each reading (items_view vs) ≡ onto found (each reading (items_view (drop i vs)))

@@ -1,0 +1,19 @@
+-- Bodies of requests, which are JSON.
+use Rattle.std.specs.Prelude.{ℕ, ◌==◌, List, length, Option, None, Result, codes, if◌then◌else◌}
+use Rattle.std.specs.Str.{is_utf8}
+use Rattle.serde_json.specs.Data.{Data}
+use Rattle.serde_json.specs.Read.{read}
+use Rattle.desk_terms.specs.declared.refusal.Refusal.{Refusal}
+use Rattle.desk_bodies.specs.Answers.{readable}
+
+-- an empty body stands for an object with no fields
+abbrev pub filled : List ℕ → List ℕ
+filled body = if length body == 0 then codes "{}" else body
+
+-- the value that bytes are, if they are UTF-8 and JSON
+unfoldable pub value_of : List ℕ → Option Data
+value_of bytes = if is_utf8 bytes then read bytes else None
+
+-- the value that a body is
+unfoldable pub body_of : List ℕ → Result Data Refusal
+body_of body = readable (value_of (filled body))

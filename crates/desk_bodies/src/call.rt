@@ -1,0 +1,83 @@
+//! The calling of a meeting.
+ghost use Rattle.serde_json.specs.View.{view, items_view};
+ghost use Rattle.desk_bodies.specs.Answers.{Gives, itself};
+ghost use Rattle.desk_bodies.specs.Places.{there, each};
+ghost use Rattle.desk_bodies.specs.Calls.{resolution_of, counted, resolutions_in, new_meeting_of};
+
+use crate::ask::{Ask, UNREADABLE};
+use crate::place::{
+    company_in, day_in, exactly_fields, exactly_items, items_in, meeting_kind_in, moment_in,
+    resolution_kind_in, text_in,
+};
+use desk_words::{ListFault, MeetingId, NewMeeting, Resolution, Resolutions};
+use serde_json::Value;
+use std::alloc::Global;
+
+/// A resolution is a pair of its kind and its text.
+#[tactic(auto, unfolding(crate::specs::Calls::resolution_of))]
+fn resolution(alloc: Global, value: &Value) -> Result<Resolution, Ask>
+    ensures { Gives itself result (resolution_of (view value.now)) }
+{
+    exactly_items(value, 2)?;
+    let kind = resolution_kind_in(value.get(0))?;
+    let text = text_in(alloc, value.get(1))?;
+    Ok(Resolution { kind, text })
+}
+
+fn resolutions_from(alloc: Global, items: &[Value]) -> Result<Vec<Resolution>, Ask>
+    ensures { Gives (λ v. v.items) result (each resolution_of (items_view items.now)) }
+{
+    let mut found = Vec::new(alloc);
+    for item in items {
+        found.push(resolution(alloc, item)?)?;
+    }
+    Ok(found)
+}
+
+fn counted(resolutions: Vec<Resolution>) -> Result<Resolutions, Ask>
+    ensures { Gives itself result (counted resolutions.items) }
+{
+    match Resolutions::new(resolutions) {
+        Ok(resolutions) => Ok(resolutions),
+        Err(ListFault::Limit) => Err(UNREADABLE),
+        Err(ListFault::Memory) => Err(Ask::Memory),
+    }
+}
+
+#[tactic(auto, unfolding(crate::specs::Calls::resolutions_in))]
+fn resolutions_in(alloc: Global, place: Option<&Value>) -> Result<Resolutions, Ask>
+    ensures { Gives itself result (resolutions_in (there place.entry)) }
+{
+    let items = items_in(place)?;
+    let resolutions = resolutions_from(alloc, items)?;
+    counted(resolutions)
+}
+
+/// The meeting that a value calls. It has the fields `company` (`private` or `public`), `kind`
+/// (`annual` or `general`), `given` (the day of the notice), `appointed` and `record` (moments),
+/// and `resolutions` (1 to 50 pairs of a kind, `ordinary` or `special`, and a text).
+#[tactic(auto, unfolding(crate::specs::Calls::new_meeting_of))]
+pub(crate) fn new_meeting(
+    alloc: Global,
+    meeting: MeetingId,
+    value: &Value,
+) -> Result<NewMeeting, Ask>
+    ensures { Gives itself result (new_meeting_of meeting (view value.now)) }
+{
+    exactly_fields(value, 6)?;
+    let company = company_in(value.get("company"))?;
+    let kind = meeting_kind_in(value.get("kind"))?;
+    let given = day_in(value.get("given"))?;
+    let appointed = moment_in(value.get("appointed"))?;
+    let record_moment = moment_in(value.get("record"))?;
+    let resolutions = resolutions_in(alloc, value.get("resolutions"))?;
+    Ok(NewMeeting {
+        meeting,
+        company,
+        kind,
+        given,
+        appointed,
+        record_moment,
+        resolutions,
+    })
+}

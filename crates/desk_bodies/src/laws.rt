@@ -1,0 +1,22 @@
+//! Laws of requests.
+ghost use Rattle.desk_bodies.specs.Laws.{WordsReadBack, RefusalsAreTwo, RouteComesFirst, RequestsKeepTheMeeting};
+
+/// Each word of a verb reads back as that verb.
+pub fn words_read_back()
+    ensures { WordsReadBack }
+{}
+
+/// Every refusal of a request is `Route` or `Unreadable`.
+pub fn refusals_are_two()
+    ensures { RefusalsAreTwo }
+{}
+
+/// What is refused as `Route` is so refused whatever its body.
+pub fn route_comes_first()
+    ensures { RouteComesFirst }
+{}
+
+/// A request that is read is of the meeting that was named.
+pub fn requests_keep_the_meeting()
+    ensures { RequestsKeepTheMeeting }
+{}

@@ -1,0 +1,23 @@
+//! Requests, read from a meeting, a verb and a body.
+//!
+//! The verb names the request, and the body is a JSON object with exactly the fields that it asks
+//! for. A missing or a further field, a field of another type, a word that is not listed, a name,
+//! a text, a day or a moment without its form, and a list or a number outside its limits make the
+//! body unreadable. Numbers are whole, with no sign, fraction or exponent, and below 2^64.
+#![tactic(auto)]
+
+mod ask;
+mod body;
+mod call;
+pub mod laws;
+mod place;
+mod register;
+mod request;
+mod verb;
+
+pub use ask::Ask;
+pub use request::request_of;
+pub use verb::Verb;
+
+#[cfg(test)]
+mod tests;

@@ -1,0 +1,4 @@
+pub mod MemoryLine
+pub mod Progress
+pub mod RunLaws
+pub mod TurnLemmas

@@ -1,0 +1,6 @@
+pub mod Commands
+pub mod PartsView
+pub mod ReplayLines
+pub mod ReplayRuns
+pub mod ReplaySteps
+pub mod Transcript

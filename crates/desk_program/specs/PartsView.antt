@@ -1,0 +1,11 @@
+-- The parts of a line, as contracts see them.
+use Rattle.std.specs.Prelude.{ℕ, List}
+use Rattle.std.specs.Borrow.{Bor}
+use Rattle.desk_program.specs.declared.line.Parts.{Parts as PartsOf}
+use Rattle.desk_program.specs.ReplayLines.{Parts}
+
+abbrev pub parts_view : PartsOf → Parts
+parts_view p = record { moment = p.moment.now; caller = p.caller.now; meeting = p.meeting.now; verb = p.verb.now; body = p.body.now }
+
+abbrev pub text_view : Bor (List ℕ) → List ℕ
+text_view text = text.now

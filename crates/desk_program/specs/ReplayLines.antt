@@ -1,0 +1,59 @@
+-- The lines of a replay, and what each of them asks.
+use Rattle.std.specs.Prelude.{ℕ, ◌==◌, List, [], length, nat_lt, Option, Some, None, Result, Ok, Err, ok_or, unwrap_or, if◌then◌else◌, Bool}
+use Rattle.std.specs.List.{position_or_len, before_first, after_first}
+use Rattle.std.specs.Str.{is_utf8}
+use Rattle.desk_calendar.specs.Texts.{moment_of}
+use Rattle.desk_terms.specs.declared.refusal.Refusal.{Refusal}
+use Rattle.desk_terms.specs.declared.refusal.Refusal.TheVariants.{Key, TooLarge, Unreadable}
+use Rattle.desk_words.specs.Callers.{caller_of}
+use Rattle.desk_words.specs.declared.request.Call.{Call}
+use Rattle.desk_lines.specs.Reading.{longest_line}
+use Rattle.desk_bodies.specs.Answers.{◌>>=◌, readable}
+use Rattle.desk_bodies.specs.Requests.{request_of}
+
+abbrev pub is_space : ℕ → Bool
+is_space byte = byte == 32
+
+-- what stands before the first space, and what stands after it
+abbrev pub parted : List ℕ → Option (List ℕ × List ℕ)
+parted bytes =
+    if nat_lt (position_or_len is_space bytes) (length bytes) then Some (before_first is_space bytes, after_first is_space bytes) else None
+
+-- the five parts of a line
+pub record Parts : Type 0 where
+  pub moment : List ℕ
+  pub caller : List ℕ
+  pub meeting : List ℕ
+  pub verb : List ℕ
+  pub body : List ℕ
+
+-- a line is parted at its first four spaces; with three alone its body is empty
+unfoldable pub parts_of : List ℕ → Result Parts Refusal
+parts_of line = do
+  a ← readable (parted line)
+  b ← readable (parted a.1)
+  c ← readable (parted b.1)
+  let d = unwrap_or (parted c.1) (c.1, [])
+  Ok (record { moment = a.0; caller = b.0; meeting = c.0; verb = d.0; body = d.1 })
+
+-- no known caller where there is none
+abbrev pub known : {A : Type 0} → Option A → Result A Refusal
+known found = ok_or found Key
+
+-- the text that bytes are
+abbrev pub text_in : List ℕ → Result (List ℕ) Refusal
+text_in bytes = if is_utf8 bytes then Ok bytes else Err Unreadable
+
+-- what a line asks: it must be UTF-8 and have its parts and a moment, then a known caller, then a request
+unfoldable pub spelled_call : List ℕ → Result Call Refusal
+spelled_call line = do
+  text ← text_in line
+  parts ← parts_of text
+  moment ← readable (moment_of parts.moment)
+  caller ← known (caller_of parts.caller)
+  request ← request_of parts.meeting parts.verb parts.body
+  Ok (record { moment = moment; caller = caller; request = request })
+
+-- the same, of a line of any length
+abbrev pub asked_by : List ℕ → Result Call Refusal
+asked_by line = if nat_lt longest_line (length line) then Err TooLarge else spelled_call line

@@ -1,0 +1,50 @@
+-- A replay is a run of the calls that its lines ask.
+use Rattle.std.specs.Prelude.{◌≡◌, ℕ, ◌==◌, List, [], ◌∷◌, ◌++◌, length, Bool, true, false, Result, Ok, Err, if◌then◌else◌}
+use Rattle.desk_terms.specs.declared.refusal.Refusal.{Refusal}
+use Rattle.desk_words.specs.declared.office.OfficeLists.{OfficeLists}
+use Rattle.desk_words.specs.declared.request.Call.{Call}
+use Rattle.desk_words.specs.declared.request.Failure.TheVariants.{Memory}
+use Rattle.desk_words.specs.declared.request.Reply.{Reply}
+use Rattle.desk_words.specs.declared.request.Reply.TheVariants.{Refused}
+use Rattle.desk_replies.specs.Replies.{reply_bytes, failure_bytes}
+use Rattle.meeting_core.specs.Step.{replies_to}
+use Rattle.desk_program.specs.ReplayLines.{asked_by}
+use Rattle.desk_program.specs.Transcript.{as_line, transcript}
+
+-- the call that was asked, before the calls that follow
+abbrev pub call_before : Result Call Refusal → List Call → List Call
+call_before (Ok call) calls = call ∷ calls
+call_before (Err refusal) calls = calls
+
+abbrev pub call_unless : Bool → List ℕ → List Call → List Call
+call_unless true line calls = calls
+call_unless false line calls = call_before (asked_by line) calls
+
+-- the calls that lines ask, without those of the lines that were refused memory
+abbrev pub calls_of : List (List ℕ) → List Bool → List Call
+calls_of [] refused = []
+calls_of (line ∷ lines) [] = []
+calls_of (line ∷ lines) (r ∷ refused) = if length line == 0 then calls_of lines refused else call_unless r line (calls_of lines refused)
+
+-- a call's answer is the next reply; what is no call is answered by its refusal
+abbrev pub answer_before : Result Call Refusal → List Reply → (List Reply → List ℕ) → List ℕ
+answer_before (Ok call) [] rest = []
+answer_before (Ok call) (reply ∷ replies) rest = as_line (reply_bytes reply) ++ rest replies
+answer_before (Err refusal) replies rest = as_line (reply_bytes (Refused refusal)) ++ rest replies
+
+abbrev pub answer_unless : Bool → List ℕ → List Reply → (List Reply → List ℕ) → List ℕ
+answer_unless true line replies rest = as_line (failure_bytes Memory) ++ rest replies
+answer_unless false line replies rest = answer_before (asked_by line) replies rest
+
+-- the texts of replies, one for each line that is a call, among the other lines' answers
+abbrev pub spread : List (List ℕ) → List Bool → List Reply → List ℕ
+spread [] refused replies = []
+spread (line ∷ lines) [] replies = []
+spread (line ∷ lines) (r ∷ refused) replies =
+    if length line == 0 then spread lines refused replies else answer_unless r line replies (spread lines refused)
+
+-- what is written for lines are the replies of the run of the calls that they ask
+abbrev pub RepliesAreThoseOfTheRun : Type 0
+RepliesAreThoseOfTheRun =
+    (office : OfficeLists) (lines : List (List ℕ)) (refused : List Bool)
+    → transcript office lines refused ≡ spread lines refused (replies_to office (calls_of lines refused))

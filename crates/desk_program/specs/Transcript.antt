@@ -1,0 +1,64 @@
+-- What a replay writes.
+use Rattle.std.specs.Prelude.{◌≡◌, ℕ, ◌==◌, List, [], ◌∷◌, ◌++◌, length, Bool, true, false, Option, Result, Ok, Err, if◌then◌else◌}
+use Rattle.std.specs.Io.KnownBytes.{Appends}
+use Rattle.std.specs.declared.alloc.AllocError.{AllocError}
+use Rattle.std.specs.declared.alloc.Global.{Global}
+use Rattle.std.specs.declared.vec.Vec.{Vec}
+use Rattle.desk_devices.specs.Written.{AppendsPrefix}
+use Rattle.desk_lines.specs.Lines.{lines_of}
+use Rattle.desk_terms.specs.declared.refusal.Refusal.{Refusal}
+use Rattle.desk_words.specs.declared.office.OfficeLists.{OfficeLists}
+use Rattle.desk_words.specs.declared.request.Call.{Call}
+use Rattle.desk_words.specs.declared.request.Failure.TheVariants.{Memory}
+use Rattle.desk_words.specs.declared.request.Reply.{Reply}
+use Rattle.desk_words.specs.declared.request.Reply.TheVariants.{Refused}
+use Rattle.desk_replies.specs.Replies.{reply_bytes, failure_bytes}
+use Rattle.meeting_core.specs.Office.{empty_office}
+use Rattle.meeting_core.specs.Step.{decided, stepped}
+use Rattle.desk_program.specs.ReplayLines.{asked_by}
+
+-- a text and a line feed
+abbrev pub as_line : List ℕ → List ℕ
+as_line text = text ++ 10 ∷ []
+
+-- what a line is answered, and the office after it
+pub record Answered : Type 0 where
+  pub text : List ℕ
+  pub office : OfficeLists
+
+-- to a call the reply of the office's step, and to what is no call its refusal
+abbrev pub replied : OfficeLists → Result Call Refusal → Answered
+replied office (Ok call) = record { text = as_line (reply_bytes (decided office call).reply); office = stepped office call }
+replied office (Err refusal) = record { text = as_line (reply_bytes (Refused refusal)); office = office }
+
+-- where memory was refused, the line says so, and the office is as it was
+abbrev pub unless_refused : Bool → OfficeLists → List ℕ → Answered
+unless_refused true office line = record { text = as_line (failure_bytes Memory); office = office }
+unless_refused false office line = replied office (asked_by line)
+
+-- an empty line is skipped
+abbrev pub answered : Bool → OfficeLists → List ℕ → Answered
+answered refused office line = if length line == 0 then record { text = []; office = office } else unless_refused refused office line
+
+-- what is written for lines, of which some were refused memory
+abbrev pub transcript : OfficeLists → List (List ℕ) → List Bool → List ℕ
+transcript office [] refused = []
+transcript office (line ∷ lines) [] = []
+transcript office (line ∷ lines) (r ∷ refused) = (answered r office line).text ++ transcript (answered r office line).office lines refused
+
+-- the answers to the lines of the input were written, in a run from the empty office; some lines may have been refused memory
+pub record IsReplayed (input : List ℕ) (old new : Option (List ℕ)) : Type 0 where
+  pub refused : List Bool
+  pub each : length refused ≡ length (lines_of input)
+  pub written : Appends old new (transcript empty_office (lines_of input) refused)
+
+-- some bytes from the front of that were written
+pub record IsPartlyReplayed (input : List ℕ) (old new : Option (List ℕ)) : Type 0 where
+  pub refused : List Bool
+  pub each : length refused ≡ length (lines_of input)
+  pub written : AppendsPrefix old new (transcript empty_office (lines_of input) refused)
+
+-- a text that was made, or the line that says that memory was refused
+abbrev pub text_or_failure : Result (Vec ℕ Global) AllocError → List ℕ
+text_or_failure (Ok text) = text.items
+text_or_failure (Err refused) = as_line (failure_bytes Memory)

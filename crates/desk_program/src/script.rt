@@ -1,0 +1,172 @@
+//! A replay: a script of requests, answered line by line on a book in memory.
+ghost use Rattle.std.specs.Prelude.{◌≡◌, ◌≤◌, ◌<◌, ◌+◌, ◌-◌, true, false, Ok, length, IfOk, IfErr, OnOk, OnErr, IfSome, Result};
+ghost use Rattle.std.specs.Io.KnownBytes.{Appends};
+ghost use Rattle.desk_devices.specs.Written.{AppendsPrefix};
+ghost use Rattle.desk_devices.specs.Counts.{one_more};
+ghost use Rattle.desk_lines.specs.Reading.{longest_input, longest_line, unread};
+ghost use Rattle.desk_replies.specs.Replies.{reply_bytes};
+ghost use Rattle.meeting_core.specs.Step.{decided, stepped};
+ghost use Rattle.desk_program.specs.Transcript.{as_line, text_or_failure, unless_refused, IsReplayed, IsPartlyReplayed};
+ghost use Rattle.desk_program.specs.ReplaySteps.{Turns, Stops, HasEndedFor};
+
+use crate::line::call_of;
+use desk_bodies::Ask;
+use desk_devices::{DeviceFailed, Sink, Source, write_all};
+use desk_lines::{LineReader, NextLine, ReadFault};
+use desk_replies::reply_text;
+use desk_words::{Call, Refusal, Reply};
+use meeting_core::Book;
+use std::alloc::{AllocError, Global};
+
+/// Why a replay ended before its input did.
+#[derive(Clone, Copy, Debug, PartialEq, Eq)]
+pub enum ReplayFault {
+    /// The reader failed, or gave more than 16,777,216 bytes.
+    Read,
+    /// The writer failed.
+    Write,
+}
+
+impl From<ReadFault> for ReplayFault {
+    ghost use Rattle.std.specs.Prelude.{◌≡◌};
+    ghost use Rattle.desk_program.specs.declared.script.ReplayFault.{ReplayFault};
+
+    ghost from_gives = { λ _ fault. fault ≡ ReplayFault.Read };
+
+    fn from(_: ReadFault) -> ReplayFault {
+        ReplayFault::Read
+    }
+}
+
+impl From<DeviceFailed> for ReplayFault {
+    ghost use Rattle.std.specs.Prelude.{◌≡◌};
+    ghost use Rattle.desk_program.specs.declared.script.ReplayFault.{ReplayFault};
+
+    ghost from_gives = { λ _ fault. fault ≡ ReplayFault.Write };
+
+    fn from(_: DeviceFailed) -> ReplayFault {
+        ReplayFault::Write
+    }
+}
+
+/// The line that gives a reply.
+fn reply_line(alloc: Global, reply: &Reply) -> Result<Vec<u8>, AllocError>
+    ensures { IfOk result (λ text. text.items ≡ as_line (reply_bytes reply.now)) }
+{
+    let mut text = reply_text(alloc, reply)?;
+    text.push(b'\n')?;
+    Ok(text)
+}
+
+/// Takes one step of the book, and returns the line that gives its reply. The text is made before
+/// the change is, so that a text which is refused memory changes nothing.
+fn perform(alloc: Global, book: &mut Book, call: Call) -> Result<Vec<u8>, AllocError>
+    ensures text { IfOk result (λ text. text.items ≡ as_line (reply_bytes (decided book.old call).reply)) }
+    ensures ok { OnOk result (book.new ≡ stepped book.old call) }
+    ensures err { OnErr result (book.new ≡ book.old) }
+{
+    let (reply, change) = book.decide(&call)?;
+    let text = reply_line(alloc, &reply)?;
+    if let Some(change) = change {
+        book.apply(change)?;
+    }
+    Ok(text)
+}
+
+/// Answers one line that is not too long.
+fn answer(alloc: Global, book: &mut Book, line: &[u8]) -> Result<Vec<u8>, AllocError>
+    requires { length line.now ≤ longest_line }
+    ensures text { IfOk result (λ text. text.items ≡ (unless_refused false book.old line.now).text) }
+    ensures ok { OnOk result (book.new ≡ (unless_refused false book.old line.now).office) }
+    ensures err { OnErr result (book.new ≡ book.old) }
+{
+    match call_of(alloc, line) {
+        Ok(call) => perform(alloc, book, call),
+        Err(Ask::Refused(refusal)) => reply_line(alloc, &Reply::Refused(refusal)),
+        Err(Ask::Memory) => Err(AllocError),
+    }
+}
+
+/// Writes the line that answers, or, where memory was refused, the line that says so.
+fn write_answer<W: Sink>(
+    writer: &mut W,
+    text: Result<Vec<u8>, AllocError>,
+) -> Result<(), DeviceFailed>
+    ensures written { OnOk result (Appends (W.contents writer.old) (W.contents writer.new) (text_or_failure text)) }
+    ensures partly { OnErr result (AppendsPrefix (W.contents writer.old) (W.contents writer.new) (text_or_failure text)) }
+    ensures works { OnOk result (W.failures writer.new ≡ W.failures writer.old) }
+    ensures failed { OnErr result (W.failures writer.new ≡ one_more (W.failures writer.old)) }
+{
+    match text {
+        Ok(text) => write_all(writer, &text),
+        Err(AllocError) => write_all(writer, b"{\"failed\":\"Memory\"}\n"),
+    }
+}
+
+/// Reads one line and writes its answer. `false` says that there was no line.
+fn turn<R: Source, W: Sink>(
+    alloc: Global,
+    book: &mut Book,
+    lines: &mut LineReader,
+    reader: &mut R,
+    writer: &mut W,
+) -> Result<bool, ReplayFault>
+    ensures turns { IfOk result (λ more. Turns more
+        (unread lines.old.pending (R.remaining reader.old)) (unread lines.new.pending (R.remaining reader.new))
+        book.old book.new (W.contents writer.old) (W.contents writer.new)) }
+    ensures stops { IfErr result (λ fault. Stops fault (unread lines.old.pending (R.remaining reader.old))
+        book.old (W.contents writer.old) (W.contents writer.new)) }
+    ensures cause { IfErr result (λ fault. HasEndedFor fault (R.failures reader.old) (R.failures reader.new)
+        lines.new.taken (W.failures writer.old) (W.failures writer.new)) }
+    ensures works { OnOk result ((R.failures reader.new ≡ R.failures reader.old)
+        × (W.failures writer.new ≡ W.failures writer.old)) }
+    ensures counted { lines.new.taken + R.passed reader.old ≡ lines.old.taken + R.passed reader.new }
+
+    // Each turn but the last gives some bytes of an input that has so many at most.
+    ensures moves { result ≡ Ok true
+        → lines.old.taken + length lines.new.pending < lines.new.taken + length lines.old.pending }
+    ensures bound { lines.new.taken ≤ longest_input + 1 }
+{
+    let text = match lines.next_line(reader)? {
+        NextLine::End => return Ok(false),
+        NextLine::TooLong => reply_line(alloc, &Reply::Refused(Refusal::TooLarge)),
+        NextLine::Whole => {
+            let line = lines.line();
+            if line.is_empty() {
+                return Ok(true);
+            }
+            answer(alloc, book, line)
+        }
+    };
+    write_answer(writer, text)?;
+    Ok(true)
+}
+
+/// Answers the lines of the reader, one by one, on a book that begins as the empty office: for each
+/// line that is not empty it writes one reply and a line feed. Each answer is written before more is
+/// read than its line needed.
+///
+/// A line is a moment, a caller, a meeting, a verb and a body, parted at its first four spaces. One
+/// whose reading, step or text was refused memory is answered by the failure's text and changes
+/// nothing. The fault is `Read` only where the reader failed in this call, or gave more than
+/// 16,777,216 bytes, and `Write` only where the writer failed; a part of the answers from their
+/// front is written then.
+pub fn replay<R: Source, W: Sink>(
+    alloc: Global,
+    reader: &mut R,
+    writer: &mut W,
+) -> Result<(), ReplayFault>
+    ensures replayed { OnOk result (IfSome (R.remaining reader.old)
+        (λ input. IsReplayed input (W.contents writer.old) (W.contents writer.new))) }
+    ensures partly { OnErr result (IfSome (R.remaining reader.old)
+        (λ input. IsPartlyReplayed input (W.contents writer.old) (W.contents writer.new))) }
+    ensures works { OnOk result ((R.failures reader.new ≡ R.failures reader.old)
+        × (W.failures writer.new ≡ W.failures writer.old)) }
+    ensures cause { IfErr result (λ fault. HasEndedFor fault (R.failures reader.old) (R.failures reader.new)
+        (R.passed reader.new - R.passed reader.old) (W.failures writer.old) (W.failures writer.new)) }
+{
+    let mut book = Book::new(alloc);
+    let mut lines = LineReader::new();
+    while turn(alloc, &mut book, &mut lines, reader, writer)? {}
+    Ok(())
+}

@@ -1,0 +1,4 @@
+pub mod Depths
+pub mod Moments
+pub mod Wholes
+pub mod FailureTexts

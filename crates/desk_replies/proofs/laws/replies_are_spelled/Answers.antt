@@ -1,0 +1,64 @@
+use Rattle.std.proofs.Common.{◌≡◌, ℕ, List, [], ◌∷◌, ◌++◌, codes, decimal, refl, append_assoc, ap, ◌∙◌}
+use Rattle.serde_json.specs.Data.{string}
+use Rattle.serde_json.specs.Written.{compact_text}
+use Rattle.serde_json.proofs.OnLiterals.{serde_json_on_literals}
+use Rattle.desk_terms.specs.Refusals.{number_of, name_of}
+use Rattle.desk_terms.specs.declared.refusal.Refusal.{Refusal}
+use Rattle.desk_terms.specs.declared.refusal.Refusal.TheVariants.{Key, Route, Method, TooLarge, Unreadable, OfficeOnly, PartyOnly, NoMeeting, Exists, ShortNotice, NoResolution, BadRange, SelfNamed, BadInstructions, TooMany, NoSuchNumber, AlreadyEnded, NoRegister, OtherRecord, Opened, NotOpened, Early, NoQuorum, NotPresent, NoRight, PollOrdered, NoPoll, DemandTooSmall, PollNotOpen, PollClosed, NotClosed, Declared, NotYours, AgainstInstruction}
+use Rattle.desk_words.specs.declared.request.Reply.TheVariants.{Refused}
+use Rattle.desk_replies.specs.Replies.{reply_bytes, whole, with_members}
+use Rattle.desk_replies.proofs.laws.replies_are_spelled.Goals as goal
+
+-- no letter of a refusal's name is escaped
+name_as_it_is : (r : Refusal) → compact_text (string (name_of r)) ≡ 34 ∷ (name_of r ++ 34 ∷ [])
+unfolding serde_json_on_literals
+name_as_it_is Key = refl
+name_as_it_is Route = refl
+name_as_it_is Method = refl
+name_as_it_is TooLarge = refl
+name_as_it_is Unreadable = refl
+name_as_it_is OfficeOnly = refl
+name_as_it_is PartyOnly = refl
+name_as_it_is NoMeeting = refl
+name_as_it_is Exists = refl
+name_as_it_is ShortNotice = refl
+name_as_it_is NoResolution = refl
+name_as_it_is BadRange = refl
+name_as_it_is SelfNamed = refl
+name_as_it_is BadInstructions = refl
+name_as_it_is TooMany = refl
+name_as_it_is NoSuchNumber = refl
+name_as_it_is AlreadyEnded = refl
+name_as_it_is NoRegister = refl
+name_as_it_is OtherRecord = refl
+name_as_it_is Opened = refl
+name_as_it_is NotOpened = refl
+name_as_it_is Early = refl
+name_as_it_is NoQuorum = refl
+name_as_it_is NotPresent = refl
+name_as_it_is NoRight = refl
+name_as_it_is PollOrdered = refl
+name_as_it_is NoPoll = refl
+name_as_it_is DemandTooSmall = refl
+name_as_it_is PollNotOpen = refl
+name_as_it_is PollClosed = refl
+name_as_it_is NotClosed = refl
+name_as_it_is Declared = refl
+name_as_it_is NotYours = refl
+name_as_it_is AgainstInstruction = refl
+
+-- the word's own text stands between the two members' names and the end
+parts : (n : ℕ) (word : List ℕ) → compact_text (with_members ((codes "code", whole n) ∷ (codes "refused", string word) ∷ []))
+    ≡ codes "{\"code\":" ++ (decimal n ++ (codes ",\"refused\":" ++ (compact_text (string word) ++ codes "}")))
+unfolding serde_json_on_literals
+parts n word = simp append_assoc
+
+refused_text : (r : Refusal) → reply_bytes (Refused r) ≡ codes "{\"code\":" ++ decimal (number_of r) ++ codes ",\"refused\":\"" ++ name_of r ++ codes "\"}"
+refused_text r =
+    parts (number_of r) (name_of r)
+    ∙ ap (λ text. codes "{\"code\":" ++ (decimal (number_of r) ++ (codes ",\"refused\":" ++ (text ++ codes "}")))) (name_as_it_is r)
+    ∙ simp append_assoc
+
+pub returns : goal.returns
+unfolding serde_json_on_literals
+returns c = record { called = refl; loaded = refl; same = refl; refused = refused_text; store = refl; memory = refl }

@@ -1,0 +1,155 @@
+-- Replies as JSON, over the words of `serde_json`. The members of an object stand in the order of the bytes of their keys.
+use Rattle.std.specs.Prelude.{ℕ, List, [], ◌∷◌, map, Option, Some, None, codes}
+use Rattle.serde_json.specs.Data.{Data, null, boolean, number, unsigned, string, array, object, no_items, Members, no_members, member}
+use Rattle.serde_json.specs.View.{items_of}
+use Rattle.serde_json.specs.Written.{compact_text}
+use Rattle.desk_calendar.specs.Texts.{moment_text}
+use Rattle.desk_terms.specs.Names.{letters_of}
+use Rattle.desk_terms.specs.Kinds.{holder_kind_word, capacity_word, way_word, instruction_word}
+use Rattle.desk_terms.specs.Refusals.{number_of, name_of}
+use Rattle.desk_terms.specs.declared.kinds.Instr.{Instr}
+use Rattle.desk_terms.specs.declared.refusal.Refusal.{Refusal}
+use Rattle.desk_words.specs.declared.records.RegisterRow.{RegisterRow}
+use Rattle.desk_words.specs.declared.records.Authority.{Authority}
+use Rattle.desk_words.specs.declared.records.DemandMark.{DemandMark}
+use Rattle.desk_words.specs.declared.records.CastKind.{CastKind}
+use Rattle.desk_words.specs.declared.records.CastKind.TheVariants as cast
+use Rattle.desk_words.specs.declared.records.CastMark.{CastMark}
+use Rattle.desk_words.specs.declared.request.Given.{Given}
+use Rattle.desk_words.specs.declared.request.Authorised.{Authorised}
+use Rattle.desk_words.specs.declared.request.Mine.{Mine}
+use Rattle.desk_words.specs.declared.request.Reply.{Reply}
+use Rattle.desk_words.specs.declared.request.Reply.TheVariants as reply
+use Rattle.desk_words.specs.declared.request.Failure.{Failure}
+use Rattle.desk_words.specs.declared.request.Failure.TheVariants as failure
+
+-- a number, in decimal
+abbrev pub whole : ℕ → Data
+whole n = number (unsigned n)
+
+-- a name, as its letters
+abbrev pub name_data : List ℕ → Data
+name_data name = string (letters_of name)
+
+-- a moment, as YYYY-MM-DDThh:mm:ss
+abbrev pub moment_data : ℕ → Data
+moment_data moment = string (moment_text moment)
+
+-- null where there is none
+abbrev pub or_null : {A : Type 0} → (A → Data) → Option A → Data
+or_null f None = null
+or_null f (Some x) = f x
+
+-- the values in their order
+abbrev pub listed : {A : Type 0} → (A → Data) → List A → Data
+listed f xs = array (items_of (map f xs))
+
+-- these names and values, in the order in which they stand
+abbrev pub members : List (List ℕ × Data) → Members
+members [] = no_members
+members (m ∷ ms) = member m.0 m.1 (members ms)
+
+-- an object with these members
+abbrev pub with_members : List (List ℕ × Data) → Data
+with_members ms = object (members ms)
+
+-- a word beside `ok`, and nothing else
+abbrev pub ok_data : List ℕ → Data
+ok_data word = with_members ((codes "ok", string word) ∷ [])
+
+-- a party's row in the register; `paid` is the pence paid up on each share
+abbrev pub row_data : RegisterRow → Data
+row_data row = with_members (
+    (codes "kind", string (holder_kind_word row.kind))
+    ∷ (codes "name", string row.name)
+    ∷ (codes "paid", whole row.paid)
+    ∷ (codes "shares", whole row.shares)
+    ∷ [])
+
+-- an instruction, as its word
+abbrev pub instruction_data : Instr → Data
+instruction_data instruction = string (instruction_word instruction)
+
+-- an appointment that the party gave; `received` is the moment of its receipt
+abbrev pub given_data : Given → Data
+given_data g = with_members (
+    (codes "ended", or_null moment_data g.ended)
+    ∷ (codes "from", whole g.appointment.range.from)
+    ∷ (codes "instructions", listed instruction_data g.appointment.instructions)
+    ∷ (codes "number", whole g.appointment.number)
+    ∷ (codes "proxy", name_data g.appointment.proxy)
+    ∷ (codes "received", moment_data g.appointment.moment)
+    ∷ (codes "to", whole g.appointment.range.to)
+    ∷ [])
+
+-- the person whom the party authorised
+abbrev pub person_data : Authority → Data
+person_data authority = name_data authority.person
+
+-- a corporation that authorised the party, and its shares
+abbrev pub authorised_data : Authorised → Data
+authorised_data a = with_members ((codes "corporation", name_data a.corporation) ∷ (codes "shares", whole a.shares) ∷ [])
+
+-- the number of the resolution on which a poll was demanded
+abbrev pub demand_data : DemandMark → Data
+demand_data demand = whole demand.resolution
+
+-- what is cast on a resolution
+abbrev pub cast_kind_data : ℕ → CastKind → Data
+cast_kind_data resolution (cast.Block b) = with_members (
+    (codes "as", string (capacity_word b.capacity))
+    ∷ (codes "from", whole b.range.from)
+    ∷ (codes "member", name_data b.member)
+    ∷ (codes "resolution", whole resolution)
+    ∷ (codes "to", whole b.range.to)
+    ∷ (codes "way", string (way_word b.way))
+    ∷ [])
+cast_kind_data resolution cast.AsInstructed = with_members ((codes "as", string (codes "instructed")) ∷ (codes "resolution", whole resolution) ∷ [])
+
+-- a vote cast on a poll
+abbrev pub cast_data : CastMark → Data
+cast_data mark = cast_kind_data mark.resolution mark.what
+
+-- a party's own things; `received` has no appointments yet
+abbrev pub mine_data : Mine → Data
+mine_data m = with_members (
+    (codes "authorised", listed authorised_data m.authorised)
+    ∷ (codes "casts", listed cast_data m.casts)
+    ∷ (codes "demands", listed demand_data m.demands)
+    ∷ (codes "given", listed given_data m.given)
+    ∷ (codes "meeting", name_data m.meeting)
+    ∷ (codes "ok", string (codes "mine"))
+    ∷ (codes "persons", listed person_data m.persons)
+    ∷ (codes "present", boolean m.present)
+    ∷ (codes "received", array no_items)
+    ∷ (codes "row", or_null row_data m.row)
+    ∷ [])
+
+-- the refusal's number and its name
+abbrev pub refusal_data : Refusal → Data
+refusal_data r = with_members ((codes "code", whole (number_of r)) ∷ (codes "refused", string (name_of r)) ∷ [])
+
+-- what a reply says
+abbrev pub reply_data : Reply → Data
+reply_data reply.Called = ok_data (codes "called")
+reply_data reply.Loaded = ok_data (codes "loaded")
+reply_data reply.Same = ok_data (codes "same")
+reply_data (reply.Mine m) = mine_data m
+reply_data (reply.Refused r) = refusal_data r
+
+-- the text of a reply, with no space between its tokens
+abbrev pub reply_bytes : Reply → List ℕ
+reply_bytes r = compact_text (reply_data r)
+
+-- a failure's name
+abbrev pub failure_word : Failure → List ℕ
+failure_word failure.Store = codes "Store"
+failure_word failure.Memory = codes "Memory"
+
+-- the word beside `failed`, and nothing else
+abbrev pub failure_data : Failure → Data
+failure_data f = with_members ((codes "failed", string (failure_word f)) ∷ [])
+
+-- the text of a failure, with no space between its tokens
+abbrev pub failure_bytes : Failure → List ℕ
+failure_bytes f = compact_text (failure_data f)

@@ -1,0 +1,15 @@
+//! The JSON texts of replies.
+#![tactic(auto)]
+
+mod failure;
+pub mod laws;
+mod mine;
+mod reply;
+mod shown;
+
+pub use desk_words::{Failure, Reply};
+pub use failure::failure_text;
+pub use reply::reply_text;
+
+#[cfg(test)]
+mod tests;

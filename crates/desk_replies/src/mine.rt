@@ -1,0 +1,142 @@
+//! A party's own things, as JSON.
+ghost use Rattle.std.specs.Prelude.{◌≡◌, IfOk};
+ghost use Rattle.serde_json.specs.View.{view, members_view};
+ghost use Rattle.desk_replies.specs.Replies.{moment_data, row_data, instruction_data, given_data, person_data, authorised_data, demand_data, cast_kind_data, cast_data, mine_data, members};
+ghost use Rattle.desk_replies.specs.Parts.{mine_lists};
+
+use crate::shown::{Shown, list_value, put_list, value_or_null};
+use desk_words::{
+    Authorised, Authority, Block, CastKind, CastMark, DemandMark, Given, Instr, Mine, Moment,
+    RegisterRow, write_moment,
+};
+use serde_json::{Map, Value, json, put};
+use std::alloc::{AllocError, Global};
+
+impl Shown for Moment {
+    ghost shown = { moment_data };
+
+    fn value(&self, alloc: Global) -> Result<Value, AllocError> {
+        let text = write_moment(*self);
+        Value::try_from_str(alloc, str::from_utf8(&text).unwrap())
+    }
+}
+
+impl Shown for RegisterRow {
+    ghost shown = { row_data };
+
+    fn value(&self, alloc: Global) -> Result<Value, AllocError> {
+        json!(in alloc; {
+            "kind": self.kind.word(),
+            "name": self.name.as_str(),
+            "paid": self.paid,
+            "shares": self.shares
+        })
+    }
+}
+
+impl Shown for Instr {
+    ghost shown = { instruction_data };
+
+    fn value(&self, alloc: Global) -> Result<Value, AllocError> {
+        Value::try_from_str(alloc, self.word())
+    }
+}
+
+impl Shown for Given {
+    ghost shown = { given_data };
+
+    fn value(&self, alloc: Global) -> Result<Value, AllocError> {
+        let appointment = &self.appointment;
+        let ended = value_or_null(alloc, &self.ended)?;
+        let instructions = list_value(alloc, appointment.instructions.as_slice())?;
+        let received = appointment.moment.value(alloc)?;
+        json!(in alloc; {
+            "ended": ended,
+            "from": appointment.range.from(),
+            "instructions": instructions,
+            "number": appointment.number,
+            "proxy": appointment.proxy.as_str(),
+            "received": received,
+            "to": appointment.range.to()
+        })
+    }
+}
+
+impl Shown for Authority {
+    ghost shown = { person_data };
+
+    fn value(&self, alloc: Global) -> Result<Value, AllocError> {
+        Value::try_from_str(alloc, self.person.as_str())
+    }
+}
+
+impl Shown for Authorised {
+    ghost shown = { authorised_data };
+
+    fn value(&self, alloc: Global) -> Result<Value, AllocError> {
+        json!(in alloc; {"corporation": self.corporation.as_str(), "shares": self.shares})
+    }
+}
+
+impl Shown for DemandMark {
+    ghost shown = { demand_data };
+
+    fn value(&self, _alloc: Global) -> Result<Value, AllocError> {
+        Ok(Value::from(self.resolution))
+    }
+}
+
+fn block_value(alloc: Global, resolution: u64, block: Block) -> Result<Value, AllocError>
+    ensures { IfOk result (λ v. view v ≡ cast_kind_data resolution (CastKind.Block block)) }
+{
+    json!(in alloc; {
+        "as": block.capacity.word(),
+        "from": block.range.from(),
+        "member": block.member.as_str(),
+        "resolution": resolution,
+        "to": block.range.to(),
+        "way": block.way.word()
+    })
+}
+
+impl Shown for CastMark {
+    ghost shown = { cast_data };
+
+    fn value(&self, alloc: Global) -> Result<Value, AllocError> {
+        match self.what {
+            CastKind::Block(block) => block_value(alloc, self.resolution, block),
+            CastKind::AsInstructed => {
+                json!(in alloc; {"as": "instructed", "resolution": self.resolution})
+            }
+        }
+    }
+}
+
+/// The members that are lists.
+fn mine_lists(alloc: Global, mine: &Mine) -> Result<Map<String, Value>, AllocError>
+    ensures { IfOk result (λ map. members_view map.entries ≡ members (mine_lists mine.now)) }
+{
+    let mut map = Map::new(alloc);
+    put_list(alloc, &mut map, "authorised", mine.authorised.as_slice())?;
+    put_list(alloc, &mut map, "casts", mine.casts.as_slice())?;
+    put_list(alloc, &mut map, "demands", mine.demands.as_slice())?;
+    put_list(alloc, &mut map, "given", mine.given.as_slice())?;
+    put_list(alloc, &mut map, "persons", mine.persons.as_slice())?;
+    put(&mut map, alloc, "received", Value::Array(Vec::new(alloc)))?;
+    Ok(map)
+}
+
+/// The object that answers a party that asks for its own things.
+pub(crate) fn mine_value(alloc: Global, mine: &Mine) -> Result<Value, AllocError>
+    ensures { IfOk result (λ v. view v ≡ mine_data mine.now) }
+{
+    let meeting = Value::try_from_str(alloc, mine.meeting.as_str())?;
+    let ok = Value::try_from_str(alloc, "mine")?;
+    let row = value_or_null(alloc, &mine.row)?;
+    let mut map = mine_lists(alloc, mine)?;
+    put(&mut map, alloc, "meeting", meeting)?;
+    put(&mut map, alloc, "ok", ok)?;
+    put(&mut map, alloc, "present", Value::Bool(mine.present))?;
+    put(&mut map, alloc, "row", row)?;
+    Ok(Value::Object(map))
+}

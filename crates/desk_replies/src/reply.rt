@@ -1,0 +1,44 @@
+//! The texts of replies.
+ghost use Rattle.std.specs.Prelude.{◌≡◌, Some, IfOk};
+ghost use Rattle.serde_json.specs.Read.{read};
+ghost use Rattle.serde_json.specs.View.{view};
+ghost use Rattle.desk_replies.specs.Replies.{ok_data, refusal_data, reply_data, reply_bytes};
+
+use crate::mine::mine_value;
+use desk_words::{Refusal, Reply};
+use serde_json::{Value, json};
+use std::alloc::{AllocError, Global};
+
+fn ok_value(alloc: Global, word: &str) -> Result<Value, AllocError>
+    ensures { IfOk result (λ v. view v ≡ ok_data word.now) }
+{
+    json!(in alloc; {"ok": word})
+}
+
+fn refusal_value(alloc: Global, refusal: Refusal) -> Result<Value, AllocError>
+    ensures { IfOk result (λ v. view v ≡ refusal_data refusal) }
+{
+    json!(in alloc; {"code": refusal.number(), "refused": refusal.name()})
+}
+
+fn reply_value(alloc: Global, reply: &Reply) -> Result<Value, AllocError>
+    ensures { IfOk result (λ v. view v ≡ reply_data reply.now) }
+{
+    match reply {
+        Reply::Called => ok_value(alloc, "called"),
+        Reply::Loaded => ok_value(alloc, "loaded"),
+        Reply::Same => ok_value(alloc, "same"),
+        Reply::Mine(mine) => mine_value(alloc, mine),
+        Reply::Refused(refusal) => refusal_value(alloc, *refusal),
+    }
+}
+
+/// The JSON text of a reply, with no space between its tokens, which reads back as the reply. The
+/// error is want of memory alone.
+pub fn reply_text(alloc: Global, reply: &Reply) -> Result<Vec<u8>, AllocError>
+    ensures text { IfOk result (λ text. text.items ≡ reply_bytes reply.now) }
+    ensures reads_back { IfOk result (λ text. read text.items ≡ Some (reply_data reply.now)) }
+{
+    let value = reply_value(alloc, reply)?;
+    value.to_vec(alloc)
+}
