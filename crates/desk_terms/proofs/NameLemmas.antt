@@ -1,14 +1,11 @@
 -- Letters and the places that hold them.
-use Rattle.std.proofs.Common.{◌≡◌, ℕ, zero, suc, ◌≤◌, ◌*◌, ◌+◌, ◌-◌, ◌<◌, Bool, true, false, not, ◌&&◌, ◌||◌, ◌==◌, cond, List, [], ◌∷◌, ◌++◌, length, take, get_or, refl, ap, sym, ◌∙◌, arith, add-one}
+use Rattle.std.proofs.Common.{◌≡◌, ℕ, zero, suc, ◌+◌, ◌-◌, ◌<◌, Bool, true, false, ◌&&◌, ◌==◌, cond, List, [], ◌∷◌, ◌++◌, length, take, get_or, refl, ap, sym, ◌∙◌, arith, add-one}
 use Rattle.std.specs.Result.{MatchResult}
-use Rattle.std.specs.Prelude.{Result, Ok, Err, IsOk, Option, Some, None, option_map, replicate, IsUtf8, IsTrue, nat_le}
+use Rattle.std.specs.Prelude.{Result, Ok, Err, IsOk, Option, Some, None, option_map, replicate, IsUtf8, nat_le}
 use Rattle.std.specs.List.{list_all, position_from}
 use Rattle.std.specs.Cmp.{first_so, second_so}
-use Rattle.std.specs.Str.{IsAscii}
 use Rattle.std.proofs.lemmas.Bool.Decides.{nat_tests}
 use Rattle.std.proofs.lemmas.Str.{IsUtf8-from_ascii}
-use Rattle.std.proofs.lemmas.List.Elements.{All-from_recursion}
-use Rattle.std.proofs.lemmas.List.Sums.{AllPass-from_list_all}
 use Rattle.desk_terms.specs.Names.{letters_of, in_places, Holds, is_name_letter, is_key_letter, is_name, is_party, is_key}
 
 -- the list up to a place, or all of it

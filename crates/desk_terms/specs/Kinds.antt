@@ -1,5 +1,5 @@
 -- Kinds and their words.
-use Rattle.std.specs.Prelude.{◌≡◌, ℕ, Bool, List, [], ◌∷◌, Option, Some, find, codes, bytes_eq}
+use Rattle.std.specs.Prelude.{◌≡◌, ℕ, List, [], ◌∷◌, Option, Some, find, codes, bytes_eq}
 use Rattle.desk_terms.specs.declared.kinds.Company.{Company}
 use Rattle.desk_terms.specs.declared.kinds.Company.TheVariants as company
 use Rattle.desk_terms.specs.declared.kinds.MeetingKind.{MeetingKind}

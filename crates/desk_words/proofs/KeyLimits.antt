@@ -1,12 +1,11 @@
 -- Keys in the order of callers, and in that of their letters.
-use Rattle.std.proofs.Common.{◌≡◌, ℕ, ◌≤◌, Bool, true, not, ◌&&◌, ◌||◌, List, [], ◌∷◌, length, map, refl, ap, ◌∙◌}
+use Rattle.std.proofs.Common.{◌≡◌, Bool, true, not, ◌&&◌, ◌||◌, List, [], ◌∷◌, length, map, refl, ap, ◌∙◌}
 use Rattle.std.specs.Prelude.{IsPermutation, nat_le}
 use Rattle.std.specs.List.{list_any}
 use Rattle.std.specs.Cmp.{first_so, second_so}
 use Rattle.std.specs.Cmp.Derive.{both_true}
 use Rattle.std.specs.Cmp.Lexicographic.{nat_list_cmp_total}
 use Rattle.std.proofs.lemmas.List.Sorted.{length_permutation}
-use Rattle.desk_terms.specs.Names.{name_cmp}
 use Rattle.desk_lists.specs.Ordered.{differ_by}
 use Rattle.desk_lists.proofs.Ascending.{differ_by_key-IsPermutation}
 use Rattle.desk_words.specs.declared.caller.KeyRow.{KeyRow}

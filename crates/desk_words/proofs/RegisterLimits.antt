@@ -1,6 +1,6 @@
 -- What the limits of a register give: no sum of its shares wraps.
 use Rattle.std.proofs.Common.{◌≡◌, ℕ, ◌+◌, ◌*◌, ◌<◌, ◌≤◌, true, List, length, get_or, take, ap, ◌∙◌, arith}
-use Rattle.std.specs.Prelude.{sum_by, IsPermutation, nat_le, ◌&&◌, Bool}
+use Rattle.std.specs.Prelude.{IsPermutation, nat_le, ◌&&◌}
 use Rattle.std.specs.Cmp.{first_so, second_so}
 use Rattle.std.proofs.lemmas.List.Sorted.{length_permutation, All-permutation, sum_by-IsPermutation}
 use Rattle.std.proofs.lemmas.List.Sums.{list_all-from_AllPass}

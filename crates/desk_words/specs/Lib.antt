@@ -1,5 +1,6 @@
 pub mod BySecret
 pub mod Callers
+pub mod Laws
 pub mod Lists
 pub mod Office
 pub mod Registers

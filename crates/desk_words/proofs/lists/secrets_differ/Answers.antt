@@ -1,4 +1,4 @@
-use Rattle.std.proofs.Common.{ap, sym, ◌∙◌}
+use Rattle.std.proofs.Common.{ap, ◌∙◌}
 use Rattle.desk_terms.specs.Names.{name_cmp}
 use Rattle.desk_lists.specs.Ordered.{ascends_by, differ_by, key_before, same_key}
 use Rattle.desk_words.specs.declared.lists.BySecret.{BySecret}

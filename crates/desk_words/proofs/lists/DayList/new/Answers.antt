@@ -1,9 +1,8 @@
-use Rattle.std.proofs.Common.{◌≡◌, ℕ, ◌<◌, ◌≤◌, Bool, nat_eq, length, ap, sym, ◌∙◌, arith}
+use Rattle.std.proofs.Common.{◌≡◌, nat_eq, ap, ◌∙◌, arith}
 use Rattle.std.specs.Ordering.{nat_cmp, eq_by_cmp}
 use Rattle.std.specs.Set.{distinct_count}
 use Rattle.std.specs.FinMap.{nat_cmp-IsAntisymmetric}
 use Rattle.desk_lists.proofs.Numbers.{is_eq-nat_cmp}
-use Rattle.desk_words.specs.Lists.{day_count}
 use Rattle.desk_words.proofs.lists.DayList.new.Goals as goal
 
 same_test : eq_by_cmp nat_cmp ≡ nat_eq

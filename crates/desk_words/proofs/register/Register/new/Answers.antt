@@ -4,9 +4,9 @@ use Rattle.std.specs.Cmp.Lexicographic.{nat_list_cmp_total}
 use Rattle.desk_lists.specs.Sorting.{sort_by}
 use Rattle.desk_lists.proofs.SortingLemmas.{sort_by-ascending}
 use Rattle.desk_words.specs.declared.records.RegisterRow.{RegisterRow}
-use Rattle.desk_lists.specs.Ordered.{ascends_by, differ_by}
+use Rattle.desk_lists.specs.Ordered.{ascends_by}
 use Rattle.std.specs.Cmp.Derive.{both_true}
-use Rattle.desk_words.specs.Registers.{keep_limits, member_before, same_member, is_register, are_holdings}
+use Rattle.desk_words.specs.Registers.{keep_limits, member_before, is_register, are_holdings}
 use Rattle.desk_words.proofs.RegisterLimits.{keep_limits-permutation}
 use Rattle.desk_words.proofs.register.Register.new.Goals as goal
 
