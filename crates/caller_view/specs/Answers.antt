@@ -52,6 +52,7 @@ mine_of meeting own = record {
   casts = own.casts;
 }
 
+-- a party is told its own things, or that there is no such meeting
 abbrev pub mine_answer : PublicRecord → OwnView → List ℕ → Answer
 mine_answer public own meeting = unless (mine_cases public) (replied (reply.Mine (mine_of meeting own)))
 

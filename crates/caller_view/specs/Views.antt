@@ -1,5 +1,5 @@
 -- What a party may see of an office.
-use Rattle.std.specs.Prelude.{ℕ, Bool, false, ◌&&◌, ◌==◌, List, [], map, filter, find, reverse, Option, Some, None, option_map, if◌then◌else◌}
+use Rattle.std.specs.Prelude.{ℕ, Bool, false, ◌&&◌, ◌==◌, List, [], map, filter, find, reverse, Option, Some, None, option_map}
 use Rattle.std.specs.List.{list_any}
 use Rattle.desk_words.specs.Names.{same_name}
 use Rattle.desk_words.specs.declared.office.OfficeLists.{OfficeLists}
@@ -23,9 +23,11 @@ use Rattle.caller_view.specs.declared.views.OwnView.{OwnView}
 abbrev pub meeting_named : List MeetingLists → List ℕ → Option MeetingLists
 meeting_named meetings id = find (λ m. same_name m.meeting.id id) meetings
 
+-- the lists of the meeting of a name in an office
 abbrev pub meeting_at : OfficeLists → List ℕ → Option MeetingLists
 meeting_at office id = meeting_named office.meetings id
 
+-- the polls of a meeting, and none where there is no meeting
 abbrev pub polls_in : Option MeetingLists → List Poll
 polls_in None = []
 polls_in (Some m) = m.polls
@@ -42,6 +44,7 @@ public_of office id = record {
 abbrev pub row_of : List RegisterRow → List ℕ → Option RegisterRow
 row_of rows party = find (λ row. same_name row.member party) rows
 
+-- the shares of a holding if a corporation holds them, and else 0
 abbrev pub shares_if : HolderKind → ℕ → ℕ
 shares_if Corporation shares = shares
 shares_if Individual shares = 0
@@ -96,6 +99,7 @@ own_in m party = record {
   casts = filter (λ (c : CastMark). same_name c.voter party) m.casts;
 }
 
+-- the own things of a party in a meeting, if there is one
 abbrev pub own_in_some : Option MeetingLists → List ℕ → OwnView
 own_in_some None party = nothing_of party
 own_in_some (Some m) party = own_in m party

@@ -3,6 +3,8 @@
 
 mod answers;
 pub mod laws;
+#[cfg(test)]
+mod tests;
 mod views;
 
 pub use answers::{answer, refuse};

@@ -4,9 +4,9 @@ use desk_words::{
     Meeting, Party, Poll, RegisterRow, Reply,
 };
 
-/// What everyone may know of a meeting: the closed days, and, where the meeting exists, its notice
-/// and resolutions, whether a register is loaded, the opening, and its polls with what is declared
-/// of them.
+/// What everyone may know of a meeting: the closed days (section 1173), and, where the meeting
+/// exists, its notice and resolutions, whether a register is loaded, the opening, and its polls
+/// with what is declared of them.
 #[derive(Debug, Drop)]
 pub struct PublicRecord {
     pub closed: DayList,
@@ -21,16 +21,19 @@ pub struct OwnView {
     pub party: Party,
     /// Its row in the register.
     pub row: Option<RegisterRow>,
-    /// The appointments that it gave, with their endings.
+    /// The appointments that it gave (section 324), with their endings (section 330).
     pub given: Listing<Given>,
-    /// The authorities that it gave.
+    /// The authorities that it gave (section 323).
     pub persons: Listing<Authority>,
     /// The appointments that name it.
     pub received: Listing<Appointment>,
     /// The corporations that authorised it, with their shares.
     pub authorised: Listing<Authorised>,
+    /// Whether it is marked present.
     pub present: bool,
+    /// The polls that it demanded (sections 321 and 329).
     pub demands: Listing<DemandMark>,
+    /// The votes that it cast.
     pub casts: Listing<CastMark>,
 }
 

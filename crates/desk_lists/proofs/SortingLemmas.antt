@@ -19,9 +19,10 @@ swap_first x y ys = IsPermutation-middle (x ∷ []) y ys
 IsPermutation-insert_by : {X : Type 0} (before : X → X → Bool) (x : X) (ys : List X) → IsPermutation (x ∷ ys) (insert_by before x ys)
 IsPermutation-insert_by before x [] = IsPermutation-refl (x ∷ [])
 IsPermutation-insert_by before x (y ∷ ys) =
-    elim (before x y) as (λ b. IsPermutation (x ∷ y ∷ ys) (cond b (x ∷ y ∷ ys) (y ∷ insert_by before x ys)))
-    [ true ↦ IsPermutation-refl (x ∷ y ∷ ys)
-    | false ↦ IsPermutation-trans _ _ _ (swap_first x y ys) (IsPermutation-cons y _ _ (IsPermutation-insert_by before x ys)) ]
+    elim (before x y) as (λ b. IsPermutation (x ∷ y ∷ ys) (cond b (x ∷ y ∷ ys) (y ∷ insert_by before x ys))) [
+      | true ↦ IsPermutation-refl (x ∷ y ∷ ys)
+      | false ↦ IsPermutation-trans _ _ _ (swap_first x y ys) (IsPermutation-cons y _ _ (IsPermutation-insert_by before x ys))
+    ]
 
 -- the list in order holds the same values
 pub IsPermutation-sort_by : {X : Type 0} (before : X → X → Bool) (xs : List X) → IsPermutation xs (sort_by before xs)
@@ -63,11 +64,12 @@ module _ {X K : Type 0} {cmp : K → K → Ordering} (total : IsTotalOrder cmp) 
       let unlike = neither_so (same_key key cmp x y) (list_any (same_key key cmp x) ys) apart in
       let parts : (first_after (key_before key cmp) y ys && ascends_by (key_before key cmp) ys) ≡ true = sym (ascends-cons (key_before key cmp) y ys) ∙ up in
       let later = ascends-insert_by x ys (second_so (first_after (key_before key cmp) y ys) (ascends_by (key_before key cmp) ys) parts) unlike.1 in
-      (elim (key_before key cmp x y) as (λ b. key_before key cmp x y ≡ b → ascends_by (key_before key cmp) (cond b (x ∷ y ∷ ys) (y ∷ insert_by (key_before key cmp) x ys)) ≡ true)
-      [ true ↦ λ h. both_true h up
-      | false ↦ λ h.
-          ascends-cons (key_before key cmp) y (insert_by (key_before key cmp) x ys)
-          ∙ both_true (first_after-insert_by (key_before key cmp) y x ys (before_otherwise x y h unlike.0) (first_so (first_after (key_before key cmp) y ys) (ascends_by (key_before key cmp) ys) parts)) later ]) refl
+      (elim (key_before key cmp x y) as (λ b. key_before key cmp x y ≡ b → ascends_by (key_before key cmp) (cond b (x ∷ y ∷ ys) (y ∷ insert_by (key_before key cmp) x ys)) ≡ true) [
+        | true ↦ λ h. both_true h up
+        | false ↦ λ h.
+            ascends-cons (key_before key cmp) y (insert_by (key_before key cmp) x ys)
+            ∙ both_true (first_after-insert_by (key_before key cmp) y x ys (before_otherwise x y h unlike.0) (first_so (first_after (key_before key cmp) y ys) (ascends_by (key_before key cmp) ys) parts)) later
+      ]) refl
 
   apart_in_order : (x : X) (xs ys : List X) → IsPermutation xs ys → differ_by (same_key key cmp) (x ∷ xs) ≡ true → not (list_any (same_key key cmp x) ys) ≡ true
   apart_in_order x xs ys moved h =

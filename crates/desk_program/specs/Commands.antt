@@ -18,6 +18,7 @@ pub record Ending : Type 0 where
   pub status : ℕ
   pub line : Option (List ℕ)
 
+-- how the program ends, as contracts see it
 abbrev pub ended_view : Ended → Ending
 ended_view ended = record { status = ended.status; line = option_map (λ (line : Bor (List ℕ)). line.now) ended.line }
 

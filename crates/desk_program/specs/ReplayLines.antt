@@ -11,6 +11,7 @@ use Rattle.desk_lines.specs.Reading.{longest_line}
 use Rattle.desk_bodies.specs.Answers.{◌>>=◌, readable}
 use Rattle.desk_bodies.specs.Requests.{request_of}
 
+-- a space is the byte 32
 abbrev pub is_space : ℕ → Bool
 is_space byte = byte == 32
 
@@ -36,7 +37,7 @@ parts_of line = do
   let d = unwrap_or (parted c.1) (c.1, [])
   Ok (record { moment = a.0; caller = b.0; meeting = c.0; verb = d.0; body = d.1 })
 
--- no known caller where there is none
+-- the caller that was found; where there is none, the key is refused
 abbrev pub known : {A : Type 0} → Option A → Result A Refusal
 known found = ok_or found Key
 
@@ -54,6 +55,6 @@ spelled_call line = do
   request ← request_of parts.meeting parts.verb parts.body
   Ok (record { moment = moment; caller = caller; request = request })
 
--- the same, of a line of any length
+-- what a line of any length asks: one that is too long is refused unread
 abbrev pub asked_by : List ℕ → Result Call Refusal
 asked_by line = if nat_lt longest_line (length line) then Err TooLarge else spelled_call line

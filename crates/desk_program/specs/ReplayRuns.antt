@@ -16,6 +16,7 @@ abbrev pub call_before : Result Call Refusal → List Call → List Call
 call_before (Ok call) calls = call ∷ calls
 call_before (Err refusal) calls = calls
 
+-- a line that was refused memory is no call
 abbrev pub call_unless : Bool → List ℕ → List Call → List Call
 call_unless true line calls = calls
 call_unless false line calls = call_before (asked_by line) calls
@@ -32,6 +33,7 @@ answer_before (Ok call) [] rest = []
 answer_before (Ok call) (reply ∷ replies) rest = as_line (reply_bytes reply) ++ rest replies
 answer_before (Err refusal) replies rest = as_line (reply_bytes (Refused refusal)) ++ rest replies
 
+-- a line that was refused memory is answered by the failure's text, and takes no reply
 abbrev pub answer_unless : Bool → List ℕ → List Reply → (List Reply → List ℕ) → List ℕ
 answer_unless true line replies rest = as_line (failure_bytes Memory) ++ rest replies
 answer_unless false line replies rest = answer_before (asked_by line) replies rest

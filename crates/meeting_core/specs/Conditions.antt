@@ -18,10 +18,12 @@ use Rattle.caller_view.specs.Views.{meeting_at}
 use Rattle.meeting_core.specs.OfficeAnswers.{call_cases, load_cases}
 use Rattle.meeting_core.specs.Step.{decided}
 
+-- whether a party calls
 abbrev pub is_party : Caller → Bool
 is_party caller.Office = false
 is_party (caller.Party party) = true
 
+-- both hold
 abbrev pub both : Bool → Bool → Bool
 both true b = b
 both false b = false

@@ -19,23 +19,29 @@ use Rattle.caller_view.specs.declared.views.OwnView.{OwnView}
 use Rattle.caller_view.specs.Views.{own_of}
 use Rattle.meeting_core.specs.Step.{named_meeting, party_answer}
 
+-- names of parties
 abbrev pub Names : Type 0
 Names = List (List ℕ)
 
+-- the party named in a row of the register
 abbrev pub in_row : Option RegisterRow → Names
 in_row None = []
 in_row (Some row) = row.member ∷ []
 
+-- the parties named in an appointment
 abbrev pub in_appointment : Appointment → Names
 in_appointment a = a.member ∷ a.proxy ∷ []
 
+-- the parties named in an authority
 abbrev pub in_authority : Authority → Names
 in_authority a = a.corporation ∷ a.person ∷ []
 
+-- the party whose shares are cast
 abbrev pub in_cast_kind : CastKind → Names
 in_cast_kind (Block b) = b.member ∷ []
 in_cast_kind AsInstructed = []
 
+-- the parties named in a vote
 abbrev pub in_cast : CastMark → Names
 in_cast c = c.voter ∷ in_cast_kind c.what
 

@@ -38,6 +38,7 @@ meeting_of new = record {
   opened = None;
 }
 
+-- the answer to a call of a meeting, which adds the meeting
 abbrev pub call_answer : List MeetingLists → NewMeeting → Answer
 call_answer meetings new = unless (call_cases meetings new) (record { reply = reply.Called; change = Some (change.AddMeeting (meeting_of new)) })
 
@@ -54,6 +55,7 @@ abbrev pub loads : Bool → NewRegister → Answer
 loads true new = replied reply.Same
 loads false new = record { reply = reply.Loaded; change = Some (change.SetRegister (record { meeting = new.meeting; rows = new.rows })) }
 
+-- the answer to a register of a meeting that exists
 abbrev pub load_answer : ℕ → NewRegister → MeetingLists → Answer
 load_answer now new m = unless (load_cases m.meeting now new) (loads (same_rows m.register new.rows) new)
 

@@ -24,6 +24,7 @@ abbrev pub party_answer : OfficeLists → List ℕ → ℕ → Request → Answe
 party_answer office party now request =
     let meeting = named_meeting request in answer_of (public_of office meeting) (own_of office party meeting now) now request
 
+-- the answer to a caller: the office is answered from all that it holds, a party from its own views
 abbrev pub answer_to : OfficeLists → ℕ → Caller → Request → Answer
 answer_to office now caller.Office request = office_answer office now request
 answer_to office now (caller.Party party) request = party_answer office party now request

@@ -55,7 +55,8 @@ impl Book {
         }
     }
 
-    /// The public record of a meeting. The error is want of memory.
+    /// The public record of a meeting; where there is none of that name, the closed days alone. The
+    /// error is want of memory.
     pub fn public_of(&self, meeting: MeetingId) -> Result<PublicRecord, AllocError>
         ensures { IfOk result (λ r. r ≡ public_of self.now meeting) }
     {
@@ -74,7 +75,8 @@ impl Book {
         })
     }
 
-    /// The own things of a party in a meeting at a moment. The error is want of memory.
+    /// The own things of a party in a meeting at a moment; where there is none of that name, its own
+    /// name alone. The error is want of memory.
     pub fn own_of(
         &self,
         party: Party,
@@ -150,7 +152,8 @@ impl Book {
         Ok((answer.reply, answer.change))
     }
 
-    /// Writes a change. The error is want of memory, and the book is then as it was.
+    /// Writes a change that leaves the lists of an office, as each change of `decide` does. The
+    /// error is want of memory, and the book is then as it was.
     pub fn apply(&mut self, change: Change) -> Result<(), AllocError>
         requires { IsTrue (is_office (after self.old change)) }
         ensures ok { OnOk result (self.new ≡ after self.old change) }

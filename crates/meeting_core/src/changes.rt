@@ -30,7 +30,7 @@ fn put_register(lists: &mut MeetingLists, rows: Register)
     lists.meeting.loaded = true;
 }
 
-/// Gives a meeting a register.
+/// Gives the meeting of that name a register. Where there is none, nothing changes.
 pub fn set_register(meetings: &mut [MeetingLists], meeting: MeetingId, rows: Register)
     ensures { meetings.new ≡ change_at (with_register rows) meeting meetings.old }
 {

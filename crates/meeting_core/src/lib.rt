@@ -7,5 +7,7 @@ mod finding;
 pub mod laws;
 mod office_answers;
 mod own;
+#[cfg(test)]
+mod tests;
 
 pub use book::Book;

@@ -42,7 +42,9 @@ fn new_meeting(new: &NewMeeting) -> Result<Meeting, AllocError>
     })
 }
 
-/// The answer to a call of a meeting.
+/// The answer to a call of a meeting (sections 302 and 307): `Exists` where a meeting has that
+/// name, `TooMany` where there are 100, and else `Called`, which adds the meeting. The error is
+/// want of memory.
 pub fn call_meeting(meetings: &[MeetingLists], new: &NewMeeting) -> Result<Answer, AllocError>
     ensures answer { IfOk result (λ a. a ≡ call_answer meetings.now new.now) }
     ensures limits { IfOk result (λ a. IsTrue (keeps_limits a.change)) }
@@ -90,7 +92,9 @@ fn loaded(same: bool, new: &NewRegister) -> Result<Answer, AllocError>
     })
 }
 
-/// The answer to a register.
+/// The answer to a register for a meeting: the first that holds of `OtherRecord`, `Opened` and
+/// `Early`, else `Same` where the rows are those that are held, and else `Loaded`, which sets the
+/// register. The error is want of memory.
 pub fn load_register(
     lists: &MeetingLists,
     now: Moment,

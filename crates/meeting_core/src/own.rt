@@ -170,7 +170,7 @@ fn row_in(rows: &[RegisterRow], party: Party) -> Result<Option<RegisterRow>, All
     }
 }
 
-/// The own things of a party in a meeting.
+/// The own things of a party in a meeting. The error is want of memory.
 pub fn own_in(alloc: Global, lists: &MeetingLists, party: Party) -> Result<OwnView, AllocError>
     requires { ascends_by member_before lists.now.register ≡ true }
     ensures { IfOk result (λ own. own ≡ own_in lists.now party) }
