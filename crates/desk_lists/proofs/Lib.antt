@@ -2,6 +2,7 @@ pub mod Ascending
 pub mod ChangeFirst
 pub mod Differing
 pub mod Finding
+pub mod Inserting
 pub mod Numbers
 pub mod Once
 pub mod Truth

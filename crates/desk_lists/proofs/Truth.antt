@@ -9,6 +9,10 @@ pub not_either : (a b : Bool) → (a || b) ≡ false → (a ≡ false) × (b ≡
 not_either true b h = absurd (cc)
 not_either false b h = (refl, h)
 
+pub either_second : (a b : Bool) → b ≡ true → (a || b) ≡ true
+either_second true b h = refl
+either_second false b h = h
+
 pub not_true : (a : Bool) → not a ≡ true → a ≡ false
 not_true true h = absurd (cc)
 not_true false h = refl

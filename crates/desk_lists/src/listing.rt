@@ -1,5 +1,6 @@
 //! A list that contracts see as a list.
-ghost use Rattle.std.specs.Prelude.{◌≡◌, ◌==◌, List, [], ◌∷◌, ◌++◌, length, OnOk, OnErr};
+ghost use Rattle.std.specs.List.{insert};
+ghost use Rattle.std.specs.Prelude.{◌≡◌, ◌<◌, ◌≤◌, ◌==◌, List, [], ◌∷◌, ◌++◌, length, slice_set, OnOk, OnErr};
 
 use std::alloc::{AllocError, Global};
 use std::marker::Model;
@@ -73,5 +74,23 @@ impl<T: Drop> Listing<T> {
     {
         self.items.push(value)?;
         Ok(())
+    }
+
+    /// Puts a value at a place, before the values from there on.
+    pub(crate) fn insert_at(&mut self, place: usize, value: T) -> Result<(), AllocError>
+        requires { place ≤ length self.old }
+        ensures ok { OnOk result (self.new ≡ insert self.old place value) }
+        ensures err { OnErr result (self.new ≡ self.old) }
+    {
+        self.items.insert(place, value)?;
+        Ok(())
+    }
+
+    /// Writes a value in the place of the one that stands there.
+    pub fn set(&mut self, place: usize, value: T)
+        requires { place < length self.old }
+        ensures { self.new ≡ slice_set self.old place value }
+    {
+        self.items[place] = value;
     }
 }

@@ -1,9 +1,12 @@
 //! Lists kept in the order of a key.
-ghost use Rattle.std.specs.Prelude.{◌≡◌, true, OnOk, OnErr, IsPermutation, IsSortedByKey, find};
+ghost use Rattle.std.specs.Prelude.{◌≡◌, ◌≤◌, true, length, OnOk, OnErr, IsPermutation, IsSortedByKey, find};
 ghost use Rattle.std.specs.List.Sorted.{IsStableByKey};
+ghost use Rattle.std.specs.List.{insert, position_from};
 ghost use Rattle.std.specs.Option.{option_copied};
+ghost use Rattle.desk_lists.specs.Sorting.{insert_by, place_by};
 ghost use Rattle.desk_lists.specs.Ordered.{ascends_by, differ_by, has_key, key_before, same_key};
 
+use crate::listing::Listing;
 use std::alloc::AllocError;
 
 /// A value that stands in a list in the order of its key.
@@ -51,5 +54,38 @@ pub fn find_by_key<'a, T: Keyed>(values: &'a [T], key: &T::Key) -> Option<&'a T>
     match values.binary_search_by_key(key, |value| value.key()) {
         Ok(place) => Some(&values[place]),
         Err(_) => None,
+    }
+}
+
+/// Where the first value stands whose key is greater.
+fn first_after<T: Keyed>(values: &[T], value: &T) -> Option<usize>
+    ensures { result ≡ position_from (key_before T.key_of T.Key.cmp value.now) 0 values.now }
+{
+    values
+        .iter()
+        .position(|held| value.key().cmp(&held.key()).is_lt())
+}
+
+/// Where a value goes among others: before the first whose key is greater.
+fn place_for<T: Keyed>(values: &[T], value: &T) -> usize
+    ensures place { result ≡ place_by (key_before T.key_of T.Key.cmp) value.now values.now }
+    ensures bound { result ≤ length values.now }
+{
+    match first_after(values, value) {
+        Some(place) => place,
+        None => values.len(),
+    }
+}
+
+impl<T: Keyed + Drop> Listing<T> {
+    /// Puts a value before the first one whose key is greater, so that a list in order stays in
+    /// order. With `AllocError`, where no memory is left for it, the list stays as it was and the
+    /// value is dropped.
+    pub fn insert_in_order(&mut self, value: T) -> Result<(), AllocError>
+        ensures ok { OnOk result (self.new ≡ insert_by (key_before T.key_of T.Key.cmp) value self.old) }
+        ensures err { OnErr result (self.new ≡ self.old) }
+    {
+        let place = place_for(self.as_slice(), &value);
+        self.insert_at(place, value)
     }
 }

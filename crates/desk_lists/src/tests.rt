@@ -206,3 +206,29 @@ fn days_are_counted_once(rt: HostRuntime) -> Result<(), Fail> {
     assert_eq!(rt; different_days(Vec::new(rt.alloc())).len(), 0);
     Ok(())
 }
+
+/// The numbers of four rows that are put into a list in order, one after another.
+fn numbers_in_order(alloc: Global) -> Result<[u64; 4], Fail> {
+    let mut rows = Listing::new(alloc);
+    for number in [5, 2, 9, 4] {
+        rows.insert_in_order(Row { number, seat: 0 })?;
+    }
+    match rows.as_slice() {
+        [a, b, c, d] => Ok([a.number, b.number, c.number, d.number]),
+        _ => Err("four rows".into()),
+    }
+}
+
+#[test]
+fn values_go_to_their_places(rt: HostRuntime) -> Result<(), Fail> {
+    assert_eq!(rt; numbers_in_order(rt.alloc())?, [2, 4, 5, 9]);
+    Ok(())
+}
+
+#[test]
+fn a_value_is_written_in_its_place(rt: HostRuntime) -> Result<(), Fail> {
+    let mut numbers = Listing::from_vec(vec![in rt.alloc(); 1u64, 2, 3]?);
+    numbers.set(1, 7);
+    assert_eq!(rt; numbers.as_slice(), [1, 7, 3].as_slice());
+    Ok(())
+}

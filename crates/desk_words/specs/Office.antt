@@ -119,7 +119,7 @@ same_ballot a b = a.resolution == b.resolution && same_name a.voter b.voter
 
 -- casts on started polls, at most 1,024 of a voter on one of them
 abbrev pub are_casts : List Poll → List CastMark → Bool
-are_casts polls casts = list_all (λ c. list_any (is_cast_on c) polls) casts && list_all (λ c. nat_le (count_by (same_ballot c) casts) 1024) casts
+are_casts polls casts = list_all (λ c. list_any (is_cast_on c) polls) casts && list_all (λ c. nat_le (count_by (λ d. same_ballot d c) casts) 1024) casts
 
 -- the lists of a meeting
 abbrev pub is_meeting : MeetingLists → Bool

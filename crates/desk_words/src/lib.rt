@@ -27,6 +27,7 @@ pub use records::{
 };
 pub use register::{MOST_SHARES, Register, same_rows};
 pub use request::{
-    Authorised, Call, Change, Failure, Given, Mine, NewMeeting, NewRegister, Reply, Request,
-    SetRegister,
+    AddCast, AddPoll, Authorised, Call, Change, Declaration, Failure, Given, Mine, NewCast,
+    NewMeeting, NewPoll, NewRegister, PollName, Reply, Request, SetOpened, SetPollMoment,
+    SetRegister, SetTally,
 };

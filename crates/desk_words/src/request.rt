@@ -1,11 +1,13 @@
 //! Requests, replies and changes.
 use crate::caller::Caller;
 use crate::lists::Resolutions;
-use crate::records::{Appointment, Authority, CastMark, DemandMark, Meeting, RegisterRow};
+use crate::records::{
+    Appointment, Authority, CastMark, DemandMark, Meeting, Poll, RegisterRow, Tally,
+};
 use crate::register::Register;
 use desk_calendar::{Day, Moment};
 use desk_lists::Listing;
-use desk_terms::{Company, MeetingId, MeetingKind, Party, Refusal};
+use desk_terms::{Company, MeetingId, MeetingKind, Party, Refusal, Way};
 
 /// A meeting that is to be called (sections 302 and 307).
 #[derive(Debug, Drop)]
@@ -31,6 +33,41 @@ pub struct NewRegister {
     pub rows: Register,
 }
 
+/// A poll that is to be ordered (section 321).
+#[derive(Clone, Copy, Debug, PartialEq, Eq)]
+pub struct NewPoll {
+    pub meeting: MeetingId,
+    /// The resolution's number, from 1.
+    pub resolution: u64,
+    /// When the poll is to be taken.
+    pub take: Moment,
+    /// Whether the chair orders it, without a demand.
+    pub chair: bool,
+}
+
+/// The poll on a resolution of a meeting.
+#[derive(Clone, Copy, Debug, PartialEq, Eq)]
+pub struct PollName {
+    pub meeting: MeetingId,
+    /// The resolution's number, from 1.
+    pub resolution: u64,
+}
+
+/// A vote that a member is to cast on some of its own shares (sections 284 and 322).
+#[derive(Clone, Copy, Debug, PartialEq, Eq)]
+pub struct NewCast {
+    pub meeting: MeetingId,
+    /// The resolution's number, from 1.
+    pub resolution: u64,
+    /// Whose shares they are.
+    pub member: Party,
+    /// The first of their places.
+    pub from: u64,
+    /// The last of their places.
+    pub to: u64,
+    pub way: Way,
+}
+
 /// What is asked.
 #[derive(Debug, Drop)]
 pub enum Request {
@@ -38,8 +75,20 @@ pub enum Request {
     CallMeeting(NewMeeting),
     /// The office loads the register of a meeting.
     LoadRegister(NewRegister),
+    /// The office opens a meeting.
+    OpenMeeting(MeetingId),
+    /// The office orders a poll.
+    Order(NewPoll),
+    /// The office starts a poll.
+    Start(PollName),
+    /// The office closes the voting on a poll.
+    Close(PollName),
+    /// The office declares the result of a poll.
+    Declare(PollName),
     /// A party asks for its own things in a meeting.
     Mine(MeetingId),
+    /// A member votes on some of its own shares.
+    Cast(NewCast),
 }
 
 /// One call: what is asked, by whom and when.
@@ -80,6 +129,14 @@ pub struct Mine {
     pub casts: Listing<CastMark>,
 }
 
+/// What is declared of a poll: its count, and whether the resolution is carried (sections 282 and
+/// 283).
+#[derive(Clone, Copy, Debug, PartialEq, Eq)]
+pub struct Declaration {
+    pub tally: Tally,
+    pub carried: bool,
+}
+
 /// What is answered.
 #[derive(Debug, Drop)]
 pub enum Reply {
@@ -87,7 +144,14 @@ pub enum Reply {
     Loaded,
     /// The rows are those that are held; nothing was changed.
     Same,
+    MeetingOpened,
+    Ordered,
+    Started,
+    VotingClosed,
+    Declared(Declaration),
     Mine(Mine),
+    /// A vote is recorded. Nothing is said of other votes.
+    Recorded,
     Refused(Refusal),
 }
 
@@ -107,9 +171,50 @@ pub struct SetRegister {
     pub rows: Register,
 }
 
-/// What a call changes.
+/// When a meeting is opened.
+#[derive(Clone, Copy, Debug, PartialEq, Eq)]
+pub struct SetOpened {
+    pub meeting: MeetingId,
+    pub moment: Moment,
+}
+
+/// A poll that a meeting gets.
+#[derive(Clone, Copy, Debug, PartialEq, Eq)]
+pub struct AddPoll {
+    pub meeting: MeetingId,
+    pub poll: Poll,
+}
+
+/// When a poll is started, or closed.
+#[derive(Clone, Copy, Debug, PartialEq, Eq)]
+pub struct SetPollMoment {
+    pub poll: PollName,
+    pub moment: Moment,
+}
+
+/// The count that is declared of a poll.
+#[derive(Clone, Copy, Debug, PartialEq, Eq)]
+pub struct SetTally {
+    pub poll: PollName,
+    pub tally: Tally,
+}
+
+/// A vote that is recorded in a meeting.
+#[derive(Clone, Copy, Debug, PartialEq, Eq)]
+pub struct AddCast {
+    pub meeting: MeetingId,
+    pub cast: CastMark,
+}
+
+/// What a call changes: a record that is added, or fields that are set.
 #[derive(Debug, Drop)]
 pub enum Change {
     AddMeeting(Meeting),
     SetRegister(SetRegister),
+    SetOpened(SetOpened),
+    AddPoll(AddPoll),
+    SetStarted(SetPollMoment),
+    SetClosed(SetPollMoment),
+    SetDeclared(SetTally),
+    AddCast(AddCast),
 }
