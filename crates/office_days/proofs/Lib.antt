@@ -1,0 +1,3 @@
+pub mod ClosedDays
+pub mod Counting
+pub mod WorkLemmas

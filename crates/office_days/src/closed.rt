@@ -1,0 +1,122 @@
+//! Closed days, and the working time between moments.
+ghost use Rattle.std.specs.Prelude.{◌≡◌, ◌*◌, ◌<◌, ◌≤◌, ◌↔◌, ℕ, IfOk, OnOk, OnErr, Err, IsTrue, Contains};
+ghost use Rattle.std.specs.Result.{result_ok};
+ghost use Rattle.desk_words.specs.Lists.{is_day_list, day_count};
+ghost use Rattle.office_days.specs.Days as office;
+ghost use Rattle.office_days.specs.Days.{IsBack};
+ghost use Rattle.office_days.specs.declared.closed.DaysFault.TheVariants.{TooMany, Memory};
+
+use crate::working;
+use desk_words::{Day, DayList, ListFault, Moment};
+use std::alloc::{AllocError, Global};
+use std::marker::Model;
+
+/// Why a set of closed days was not made.
+#[derive(Clone, Copy, Debug, PartialEq, Eq)]
+pub enum DaysFault {
+    /// There are more than 2,000 different days.
+    TooMany,
+    /// An allocation was refused.
+    Memory,
+}
+
+impl From<AllocError> for DaysFault {
+    ghost from_gives = { λ _ e. e ≡ Memory };
+
+    fn from(_refused: AllocError) -> DaysFault {
+        DaysFault::Memory
+    }
+}
+
+/// No moment of the years 1900 to 2999 lies far enough back.
+#[derive(Clone, Copy, Debug, PartialEq, Eq)]
+pub struct OutOfRange;
+
+/// The closed days: no working days, as Saturdays and Sundays are none, of which it may hold some
+/// (section 1173). At most 2,000, seen as the list of them, in order, each once.
+#[derive(Clone, Debug, Drop)]
+pub struct Closed {
+    days: DayList,
+}
+
+impl Model for Closed {
+    ghost use Rattle.std.specs.Prelude.{ℕ, List};
+
+    ghost Value = { List ℕ };
+
+    ghost view = { λ a. a.days };
+}
+
+impl Closed {
+    /// The set of these days. The fault is `TooMany` only where there are more than 2,000
+    /// different days, and `Memory` only where an allocation was refused.
+    pub fn from_days(alloc: Global, days: &[Day]) -> Result<Closed, DaysFault>
+        ensures days { IfOk result (λ closed. (day : ℕ) → Contains closed day ↔ Contains days.now day) }
+        ensures kept { IfOk result (λ closed. IsTrue (is_day_list closed)) }
+        ensures few { OnOk result (day_count days.now ≤ 2000) }
+        ensures too_many { result ≡ Err TooMany → 2000 < day_count days.now }
+    {
+        let days = Vec::from_slice(alloc, days)?;
+        match DayList::new(days) {
+            Ok(days) => Ok(Closed { days }),
+            Err(ListFault::Limit) => Err(DaysFault::TooMany),
+            Err(ListFault::Memory) => Err(DaysFault::Memory),
+        }
+    }
+
+    /// The set of the days of a list. It takes no memory.
+    pub fn from_list(days: DayList) -> Closed
+        ensures { result ≡ days }
+    {
+        Closed { days }
+    }
+
+    /// The days, in order, each once.
+    pub fn days(&self) -> &[Day]
+        ensures value { result.now ≡ self.now }
+        ensures kept { IsTrue (is_day_list self.now) }
+    {
+        self.days.as_slice()
+    }
+
+    /// Whether a day is a working day: no Saturday, no Sunday and not closed (section 1173).
+    pub fn is_working(&self, day: Day) -> bool
+        ensures { result ≡ office.is_working self.now day }
+    {
+        working::is_working(self.days(), day.number() as u64)
+    }
+
+    /// The working time from a moment up to and without another, in seconds: the seconds of
+    /// working days between them. 0 where the second is not after the first.
+    pub fn work_between(&self, from: Moment, to: Moment) -> u64
+        ensures { result ≡ office.work self.now from to }
+    {
+        working::work(self.days(), from.seconds(), to.seconds())
+    }
+
+    /// Whether a poll is late, by the moments at which it is ordered and taken: whether more than
+    /// 48 hours of working time lie between them (section 327(3)).
+    pub fn is_late(&self, ordered: Moment, take: Moment) -> bool
+        ensures { result ≡ office.is_late self.now ordered take }
+    {
+        self.work_between(ordered, take) > 48 * 3_600
+    }
+
+    /// The greatest moment, at or before another, that leaves at least so many hours of working
+    /// time before the other, counted as section 327(3) counts them. The error is that no moment
+    /// from 1900-01-01T00:00:00 on does.
+    pub fn back(&self, hours: u32, moment: Moment) -> Result<Moment, OutOfRange>
+        ensures found { IfOk result (λ start. IsBack self.now hours moment start) }
+        ensures none { OnErr result
+            ((start : ℕ) → start ≤ moment → office.work self.now start moment < 3600 * hours) }
+        ensures value { result_ok result ≡ office.back self.now hours moment }
+    {
+        let wanted = 3_600 * hours as u64;
+        let closed = self.days();
+        let end = moment.seconds();
+        if working::work(closed, 0, end) < wanted {
+            return Err(OutOfRange);
+        }
+        Moment::new(working::latest_that_leaves(closed, wanted, end)).ok_or(OutOfRange)
+    }
+}

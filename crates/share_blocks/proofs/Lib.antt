@@ -1,0 +1,5 @@
+pub mod Choices
+pub mod CutLemmas
+pub mod CoverLemmas
+pub mod MarkLemmas
+pub mod RangeLemmas

@@ -1,0 +1,4 @@
+pub mod Covers
+pub mod Cuts
+pub mod Pieces
+pub mod Tags
