@@ -1,0 +1,3 @@
+pub mod CastLemmas
+pub mod GroupLemmas
+pub mod ShareLemmas

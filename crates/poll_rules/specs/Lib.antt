@@ -1,0 +1,9 @@
+pub mod Casts
+pub mod Cutoffs
+pub mod Groups
+pub mod Laws
+pub mod Majority
+pub mod Shares
+pub mod Sums
+pub mod Tallies
+pub mod Votes

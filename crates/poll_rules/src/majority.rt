@@ -1,0 +1,20 @@
+//! The majority that carries a resolution.
+ghost use Rattle.std.specs.Prelude.{◌≡◌};
+ghost use Rattle.poll_rules.specs.Majority.{is_carried};
+
+use desk_words::ResKind;
+
+/// Whether a resolution of this kind is carried by so many votes for and against it, in shares: an
+/// ordinary one by a simple majority (section 282), a special one by not less than 75 per cent of
+/// the votes (section 283), of which there must be one at least. It answers for every pair.
+pub fn carried(kind: ResKind, votes_for: u64, votes_against: u64) -> bool
+    ensures { result ≡ is_carried kind votes_for votes_against }
+{
+    match kind {
+        ResKind::Ordinary => votes_for > votes_against,
+        ResKind::Special => {
+            let votes = u128::from(votes_for) + u128::from(votes_against);
+            votes > 0 && 4 * u128::from(votes_for) >= 3 * votes
+        }
+    }
+}

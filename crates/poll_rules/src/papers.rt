@@ -1,0 +1,20 @@
+//! What a poll is counted from.
+use desk_words::{CastMark, Moment, RegisterRow};
+
+/// One meeting's lists, without its polls. Where no register is loaded there are no rows.
+#[derive(Clone, Copy, Debug)]
+pub struct Papers<'a> {
+    /// The register of members, in the order of members (section 113).
+    pub register: &'a [RegisterRow],
+    /// The votes cast on all polls of the meeting, in order of receipt.
+    pub casts: &'a [CastMark],
+}
+
+/// Until when appointments and endings count.
+#[derive(Clone, Copy, Debug, PartialEq, Eq)]
+pub struct Cutoffs {
+    /// The last moment at which an appointment counts.
+    pub appointments: Moment,
+    /// The first moment at which an ending does not count.
+    pub endings: Moment,
+}
