@@ -1,13 +1,26 @@
 -- The answer to a party.
-use Rattle.std.specs.Prelude.{ℕ, Bool, true, false, List, [], ◌∷◌, Option, Some, None, is_none}
+use Rattle.std.specs.Prelude.{ℕ, Bool, true, false, not, ◌&&◌, nat_le, nat_lt, List, [], ◌∷◌, length, Option, Some, None, is_none}
+use Rattle.desk_words.specs.Names.{same_name}
+use Rattle.desk_words.specs.Office.{is_resolution}
+use Rattle.desk_words.specs.Places.{is_range}
 use Rattle.desk_words.specs.Refusals.{Case, first_refusal}
+use Rattle.desk_terms.specs.declared.kinds.Capacity.TheVariants.{Member}
 use Rattle.desk_terms.specs.declared.refusal.Refusal.{Refusal}
-use Rattle.desk_terms.specs.declared.refusal.Refusal.TheVariants.{OfficeOnly, NoMeeting}
+use Rattle.desk_terms.specs.declared.refusal.Refusal.TheVariants.{OfficeOnly, NoMeeting, NoResolution, BadRange, TooMany, NoRegister, NoRight, NoPoll, PollNotOpen, PollClosed, NotYours}
+use Rattle.desk_words.specs.declared.records.CastKind.TheVariants.{Block}
+use Rattle.desk_words.specs.declared.records.CastMark.{CastMark}
+use Rattle.desk_words.specs.declared.records.Meeting.{Meeting}
+use Rattle.desk_words.specs.declared.records.Poll.{Poll}
+use Rattle.desk_words.specs.declared.records.RegisterRow.{RegisterRow}
+use Rattle.desk_words.specs.declared.request.Change.TheVariants.{AddCast}
+use Rattle.desk_words.specs.declared.request.NewCast.{NewCast}
 use Rattle.desk_words.specs.declared.request.Request.{Request}
 use Rattle.desk_words.specs.declared.request.Request.TheVariants as asked
 use Rattle.desk_words.specs.declared.request.Mine.{Mine}
 use Rattle.desk_words.specs.declared.request.Reply.{Reply}
 use Rattle.desk_words.specs.declared.request.Reply.TheVariants as reply
+use Rattle.caller_view.specs.Polls.{poll_on, there_is, is_waiting, is_closed, casts_on}
+use Rattle.poll_rules.specs.Shares.{is_individual}
 use Rattle.caller_view.specs.declared.views.PublicRecord.{PublicRecord}
 use Rattle.caller_view.specs.declared.views.OwnView.{OwnView}
 use Rattle.caller_view.specs.declared.views.Answer.{Answer}
@@ -33,7 +46,13 @@ unless cases accepted = settled (first_refusal cases) accepted
 abbrev pub is_for_office : Request → Bool
 is_for_office (asked.CallMeeting new) = true
 is_for_office (asked.LoadRegister new) = true
+is_for_office (asked.OpenMeeting meeting) = true
+is_for_office (asked.Order new) = true
+is_for_office (asked.Start poll) = true
+is_for_office (asked.Close poll) = true
+is_for_office (asked.Declare poll) = true
 is_for_office (asked.Mine meeting) = false
+is_for_office (asked.Cast new) = false
 
 -- when a party is not told its own things
 abbrev pub mine_cases : PublicRecord → List Case
@@ -56,8 +75,65 @@ mine_of meeting own = record {
 abbrev pub mine_answer : PublicRecord → OwnView → List ℕ → Answer
 mine_answer public own meeting = unless (mine_cases public) (replied (reply.Mine (mine_of meeting own)))
 
+-- an answer in a meeting, or that there is none
+abbrev pub in_record : Option Meeting → (Meeting → Answer) → Answer
+in_record None f = refused NoMeeting
+in_record (Some meeting) f = f meeting
+
+-- the party holds shares as an individual
+abbrev pub holds_as_individual : Option RegisterRow → Bool
+holds_as_individual None = false
+holds_as_individual (Some row) = is_individual row.kind
+
+-- the member is the caller itself, which holds its shares as an individual
+abbrev pub may_vote_as : OwnView → List ℕ → Bool
+may_vote_as own member = same_name member own.party && holds_as_individual own.row
+
+-- a place is past the party's holding
+abbrev pub is_past : Option RegisterRow → ℕ → Bool
+is_past None place = false
+is_past (Some row) place = nat_lt row.shares place
+
+-- when a vote as a member is not recorded
+abbrev pub cast_cases : Meeting → Option Poll → OwnView → NewCast → List Case
+cast_cases meeting poll own new =
+    record { refusal = NoResolution; holds = not (is_resolution (length meeting.resolutions) new.resolution) }
+    ∷ record { refusal = BadRange; holds = not (is_range new.from new.to) }
+    ∷ record { refusal = TooMany; holds = nat_le 1024 (casts_on own.casts new.resolution) }
+    ∷ record { refusal = NoRegister; holds = not meeting.loaded }
+    ∷ record { refusal = NoRight; holds = not (may_vote_as own new.member) }
+    ∷ record { refusal = NoPoll; holds = is_none poll }
+    ∷ record { refusal = PollNotOpen; holds = there_is is_waiting poll }
+    ∷ record { refusal = PollClosed; holds = there_is is_closed poll }
+    ∷ record { refusal = NotYours; holds = is_past own.row new.to }
+    ∷ []
+
+-- the vote that is recorded
+abbrev pub cast_of : OwnView → ℕ → NewCast → CastMark
+cast_of own now new = record {
+  resolution = new.resolution;
+  voter = own.party;
+  what = Block (record { capacity = Member; member = new.member; range = record { from = new.from; to = new.to }; way = new.way });
+  moment = now;
+}
+
+-- a vote that is recorded, of which nothing more is said
+abbrev pub cast_recorded : OwnView → ℕ → NewCast → Answer
+cast_recorded own now new = record { reply = reply.Recorded; change = Some (AddCast (record { meeting = new.meeting; cast = cast_of own now new })) }
+
+-- a vote as a member is recorded, or refused by the public record and the party's own things alone
+abbrev pub cast_answer : PublicRecord → OwnView → ℕ → NewCast → Answer
+cast_answer public own now new =
+    in_record public.meeting (λ meeting. unless (cast_cases meeting (poll_on public.polls new.resolution) own new) (cast_recorded own now new))
+
 -- the answer to a party, from what it may see, the moment and the request
 abbrev pub answer_of : PublicRecord → OwnView → ℕ → Request → Answer
 answer_of public own now (asked.CallMeeting new) = refused OfficeOnly
 answer_of public own now (asked.LoadRegister new) = refused OfficeOnly
+answer_of public own now (asked.OpenMeeting meeting) = refused OfficeOnly
+answer_of public own now (asked.Order new) = refused OfficeOnly
+answer_of public own now (asked.Start poll) = refused OfficeOnly
+answer_of public own now (asked.Close poll) = refused OfficeOnly
+answer_of public own now (asked.Declare poll) = refused OfficeOnly
 answer_of public own now (asked.Mine meeting) = mine_answer public own meeting
+answer_of public own now (asked.Cast new) = cast_answer public own now new

@@ -2,6 +2,7 @@
 ghost use Rattle.std.specs.Prelude.{◌≡◌, IfOk, IsOk, IsTrue};
 ghost use Rattle.caller_view.specs.Answers.{answer_of, refused, mine_of, mine_answer, is_for_office};
 
+use crate::casts::cast;
 use crate::views::{Answer, OwnView, PublicRecord};
 use desk_words::{
     CastMark, Given, Listing, MeetingId, Mine, Moment, Refusal, RegisterRow, Reply, Request,
@@ -78,7 +79,14 @@ pub fn answer(
     ensures sure { IsTrue (is_for_office request.now) → IsOk result }
 {
     match request {
-        Request::CallMeeting(_) | Request::LoadRegister(_) => Ok(refuse(Refusal::OfficeOnly)),
+        Request::CallMeeting(_)
+        | Request::LoadRegister(_)
+        | Request::OpenMeeting(_)
+        | Request::Order(_)
+        | Request::Start(_)
+        | Request::Close(_)
+        | Request::Declare(_) => Ok(refuse(Refusal::OfficeOnly)),
         Request::Mine(meeting) => mine(public, own, *meeting),
+        Request::Cast(new) => Ok(cast(public, own, now, new)),
     }
 }

@@ -2,10 +2,12 @@
 #![tactic(auto)]
 
 mod answers;
-pub mod laws;
+mod casts;
+mod polls;
 #[cfg(test)]
 mod tests;
 mod views;
 
 pub use answers::{answer, refuse};
+pub use polls::find_poll;
 pub use views::{Answer, OwnView, PublicRecord};

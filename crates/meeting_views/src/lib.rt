@@ -1,0 +1,10 @@
+//! What stands in the lists of a meeting, and what of it is a party's own.
+#![tactic(auto)]
+
+mod finding;
+mod own;
+#[cfg(test)]
+mod tests;
+
+pub use finding::{find_meeting, find_row, place_of_meeting};
+pub use own::{nothing_of, own_in};
