@@ -1,4 +1,3 @@
-pub mod EndingLemmas
-pub mod OfficeFacts
+pub mod MeetingKept
 pub mod OfficeKept
 pub mod StepLaws

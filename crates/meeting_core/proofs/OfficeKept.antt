@@ -1,41 +1,52 @@
 -- Each step keeps the lists of an office.
-use Rattle.std.proofs.Common.{◌≡◌, ℕ, Bool, true, false, ◌&&◌, cond, List, [], ◌∷◌, ◌++◌, length, refl, ap, sym, ◌∙◌, arith, length-append}
-use Rattle.std.specs.Prelude.{Option, Some, None, is_some, nat_le}
+use Rattle.std.proofs.Common.{◌≡◌, ℕ, Bool, true, false, ◌&&◌, not, cond, List, [], ◌∷◌, ◌++◌, length, refl, ap, sym, ◌∙◌, arith, length-append}
+use Rattle.std.specs.Prelude.{Option, Some, None, option_map, filter, is_some, is_none, nat_le}
 use Rattle.std.specs.List.{list_all}
-use Rattle.std.specs.Cmp.{first_so, second_so}
 use Rattle.std.specs.Cmp.Derive.{both_true}
-use Rattle.std.proofs.lemmas.List.Folds.{list_all-append}
 use Rattle.std.proofs.lemmas.Bool.Decides.{nat_tests}
-use Rattle.desk_lists.proofs.Differing.{find_none, differ_snoc, differ_changed, all_changed, length-change_first}
+use Rattle.std.proofs.lemmas.List.Folds.{list_all-append}
+use Rattle.desk_lists.proofs.Differing.{find_none, differ_snoc, differ_changed, all_changed_found, length-change_first}
 use Rattle.desk_words.specs.Names.{same_name}
-use Rattle.desk_words.specs.Ordered.{differ_by}
+use Rattle.desk_words.specs.Places.{is_range}
 use Rattle.desk_words.specs.Refusals.{Case, first_refusal}
 use Rattle.desk_words.specs.Registers.{is_register}
 use Rattle.desk_words.specs.Lists.{are_resolutions}
-use Rattle.desk_words.specs.Office.{implies, no_rows, is_meeting, same_meeting, is_office}
+use Rattle.desk_words.specs.Rows.{same_rows}
+use Rattle.desk_words.specs.Office.{is_resolution, is_meeting, is_poll, same_meeting, is_office}
 use Rattle.desk_words.specs.declared.caller.Caller.{Caller}
 use Rattle.desk_words.specs.declared.caller.Caller.TheVariants as caller
 use Rattle.desk_words.specs.declared.office.OfficeLists.{OfficeLists}
 use Rattle.desk_words.specs.declared.office.MeetingLists.{MeetingLists}
-use Rattle.desk_words.specs.declared.records.RegisterRow.{RegisterRow}
+use Rattle.desk_words.specs.declared.records.CastMark.{CastMark}
 use Rattle.desk_words.specs.declared.records.Meeting.{Meeting}
-use Rattle.desk_words.specs.declared.request.Call.{Call}
+use Rattle.desk_words.specs.declared.records.Poll.{Poll}
+use Rattle.desk_words.specs.declared.records.RegisterRow.{RegisterRow}
+use Rattle.desk_words.specs.declared.request.NewCast.{NewCast}
 use Rattle.desk_words.specs.declared.request.NewMeeting.{NewMeeting}
+use Rattle.desk_words.specs.declared.request.NewPoll.{NewPoll}
 use Rattle.desk_words.specs.declared.request.NewRegister.{NewRegister}
-use Rattle.desk_words.specs.declared.request.Reply.TheVariants.{Called, Mine}
+use Rattle.desk_words.specs.declared.request.PollName.{PollName}
+use Rattle.desk_words.specs.declared.request.Reply.TheVariants as reply
 use Rattle.desk_words.specs.declared.request.Request.{Request}
 use Rattle.desk_words.specs.declared.request.Request.TheVariants as asked
-use Rattle.desk_words.specs.declared.request.Change.TheVariants.{AddMeeting}
+use Rattle.desk_words.specs.declared.request.Change.{Change}
+use Rattle.desk_words.specs.declared.request.Change.TheVariants as change
 use Rattle.desk_terms.specs.declared.refusal.Refusal.{Refusal}
-use Rattle.desk_terms.specs.declared.refusal.Refusal.TheVariants.{Exists, TooMany}
+use Rattle.desk_terms.specs.declared.refusal.Refusal.TheVariants as refusal
 use Rattle.caller_view.specs.declared.views.Answer.{Answer}
-use Rattle.caller_view.specs.Answers.{settled, unless, replied, mine_cases, mine_of}
-use Rattle.caller_view.specs.Views.{meeting_at, meeting_named, public_of, own_of}
-use Rattle.meeting_core.specs.Office.{after_some, change_at, keeps_limits, new_lists, with_register}
-use Rattle.meeting_core.specs.OfficeAnswers.{call_cases, call_answer, meeting_of, load_cases, loads, load_answer, in_meeting, office_answer}
-use Rattle.meeting_core.specs.Step.{answer_to, is_misplaced, party_answer}
-use Rattle.desk_words.specs.Rows.{same_rows}
-use Rattle.meeting_core.proofs.OfficeFacts.{OfficeFacts, office_facts, office_from_facts, MeetingFacts, meeting_facts, meeting_from_facts}
+use Rattle.caller_view.specs.declared.views.OwnView.{OwnView}
+use Rattle.caller_view.specs.declared.views.PublicRecord.{PublicRecord}
+use Rattle.caller_view.specs.Answers.{answer_of, settled, unless, replied, is_past, may_vote_as, mine_cases, mine_of, cast_cases, cast_answer, cast_of, cast_recorded}
+use Rattle.caller_view.specs.Polls.{poll_on, there_is, is_started, is_waiting, is_closed, is_unclosed, is_declared, is_taken_after, casts_on}
+use Rattle.caller_view.specs.Views.{meeting_at, meeting_named, own_in, own_in_some, own_of, polls_in, public_of}
+use Rattle.office_answers.specs.Answers.{office_answer}
+use Rattle.office_answers.specs.Calls.{call_cases, call_answer, meeting_of, load_cases, loads, load_answer, in_meeting}
+use Rattle.office_answers.specs.Limits.{keeps_limits}
+use Rattle.office_answers.specs.Polls.{no_resolution, open_cases, open_answer, order_cases, order_answer, poll_of, start_cases, start_answer, close_cases, close_answer, declare_cases, declare_answer, declaration_of}
+use Rattle.office_answers.proofs.OfficeFacts.{OfficeFacts, office_facts, office_from_facts, meeting_from_facts, find-passes}
+use Rattle.meeting_core.specs.Office.{after_some, change_meeting, sets_fields, new_lists, with_register, opened_at, with_poll, change_poll, started_at, closed_at, declared_as, with_cast}
+use Rattle.meeting_core.specs.Step.{answer_to, is_misplaced, needs_no_memory, party_answer}
+use Rattle.meeting_core.proofs.MeetingKept.{register_kept, opening_kept, poll_kept, start_kept, close_kept, declare_kept, vote_kept}
 
 -- where nothing is refused, the first condition fails, and the others refuse nothing
 none_head : (case : Case) (cases : List Case) → first_refusal (case ∷ cases) ≡ None → (case.holds ≡ false) × (first_refusal cases ≡ None)
@@ -43,9 +54,26 @@ none_head case cases =
     elim (case.holds) as (λ b. cond b (Some case.refusal) (first_refusal cases) ≡ None → (b ≡ false) × (first_refusal cases ≡ None))
     [ true ↦ λ h. absurd (cc) | false ↦ λ h. (refl, h) ]
 
+-- where nothing is refused, no condition holds
+abbrev Fail : List Case → Type 0
+Fail [] = Unit {0}
+Fail (case ∷ cases) = (case.holds ≡ false) × Fail cases
+
+all_fail : (cases : List Case) → first_refusal cases ≡ None → Fail cases
+all_fail [] h = tt
+all_fail (case ∷ cases) h = (let both = none_head case cases h in (both.0, all_fail cases both.1))
+
 not_some : {X : Type 0} (o : Option X) → is_some o ≡ false → o ≡ None
 not_some None h = refl
 not_some (Some x) h = absurd (cc)
+
+not_none : {X : Type 0} (o : Option X) → is_none o ≡ false → is_some o ≡ true
+not_none None h = absurd (cc)
+not_none (Some x) h = refl
+
+not_false : (b : Bool) → not b ≡ false → b ≡ true
+not_false true h = refl
+not_false false h = absurd (cc)
 
 -- an answer keeps the office if it does where nothing is refused
 by_refusal : (o : OfficeLists) (accepted : Answer) (r : Option Refusal) → is_office o ≡ true
@@ -53,6 +81,8 @@ by_refusal : (o : OfficeLists) (accepted : Answer) (r : Option Refusal) → is_o
     → keeps_limits (settled r accepted).change ≡ true → is_office (after_some o (settled r accepted).change) ≡ true
 by_refusal o accepted None h k limits = k refl limits
 by_refusal o accepted (Some r) h k limits = h
+
+-- ---- a meeting more
 
 -- a meeting without lists
 new_meeting_kept : (new : NewMeeting) → are_resolutions new.resolutions ≡ true → is_meeting (new_lists (meeting_of new)) ≡ true
@@ -83,80 +113,216 @@ added_kept o m f fresh room good =
 
 call_kept : (o : OfficeLists) (new : NewMeeting) → is_office o ≡ true → keeps_limits (call_answer o.meetings new).change ≡ true → is_office (after_some o (call_answer o.meetings new).change) ≡ true
 call_kept o new h =
-    by_refusal o (record { reply = Called; change = Some (AddMeeting (meeting_of new)) }) (first_refusal (call_cases o.meetings new)) h (λ none limits.
-    let room : Case = record { refusal = TooMany; holds = nat_le 100 (length o.meetings) } in
-    let first = none_head (record { refusal = Exists; holds = is_some (meeting_named o.meetings new.meeting) }) (room ∷ []) none in
-    let second = none_head room [] first.1 in
-    added_kept o (new_lists (meeting_of new)) (office_facts o h) (not_some (meeting_named o.meetings new.meeting) first.0) second.0 (new_meeting_kept new limits))
+    by_refusal o (record { reply = reply.Called; change = Some (change.AddMeeting (meeting_of new)) }) (first_refusal (call_cases o.meetings new)) h (λ none limits.
+    let fail = all_fail (call_cases o.meetings new) none in
+    added_kept o (new_lists (meeting_of new)) (office_facts o h) (not_some (meeting_named o.meetings new.meeting) fail.0) fail.1.0 (new_meeting_kept new limits))
 
-implies_true : (b : Bool) → implies b true ≡ true
-implies_true true = refl
-implies_true false = refl
+-- ---- a meeting changed
 
--- a meeting may be given a register
-loaded_kept : (rows : List RegisterRow) (m : MeetingLists) → is_register rows ≡ true → is_meeting m ≡ true → is_meeting (with_register rows m) ≡ true
-loaded_kept rows m good h =
-    let f = meeting_facts m h in
-    meeting_from_facts (with_register rows m) (record {
-      resolutions = f.resolutions;
-      loaded = both_true good (implies_true (is_some m.meeting.opened));
-      appointments = f.appointments;
-      endings = f.endings;
-      authorities = f.authorities;
-      presences = f.presences;
-      demands = f.demands;
-      polls = f.polls;
-      casts = f.casts;
+-- a meeting that is found in an office is such a meeting
+good_meeting : (o : OfficeLists) (id : List ℕ) (m : MeetingLists) → is_office o ≡ true → meeting_at o id ≡ Some m → is_meeting m ≡ true
+good_meeting o id m h found = find-passes (λ x. same_name x.meeting.id id) is_meeting o.meetings m (office_facts o h).each found
+
+-- a meeting may be changed to one of the same name that has the lists of a meeting
+meeting_kept : (o : OfficeLists) (id : List ℕ) (f : MeetingLists → MeetingLists) (m : MeetingLists) → ((x : MeetingLists) → (f x).meeting.id ≡ x.meeting.id)
+    → is_office o ≡ true → meeting_at o id ≡ Some m → is_meeting (f m) ≡ true → is_office (change_meeting f id o) ≡ true
+meeting_kept o id f m same h found good =
+    let facts = office_facts o h in
+    let test = λ (x : MeetingLists). same_name x.meeting.id id in
+    office_from_facts (change_meeting f id o) (record {
+      keys = facts.keys;
+      closed = facts.closed;
+      few = ap (λ n. nat_le n 100) (length-change_first test f o.meetings) ∙ facts.few;
+      apart = differ_changed same_meeting test f o.meetings (λ x y. ap (λ name. same_name name y.meeting.id) (same x)) (λ x y. ap (same_name x.meeting.id) (same y)) ∙ facts.apart;
+      each = all_changed_found is_meeting test f o.meetings m facts.each found good;
     })
 
-register_kept : (o : OfficeLists) (id : List ℕ) (rows : List RegisterRow) → is_office o ≡ true → is_register rows ≡ true
-    → is_office (record o { meetings = change_at (with_register rows) id o.meetings }) ≡ true
-register_kept o id rows h good =
-    let f = office_facts o h in
-    let p = λ (m : MeetingLists). same_name m.meeting.id id in
-    office_from_facts (record o { meetings = change_at (with_register rows) id o.meetings }) (record {
-      keys = f.keys;
-      closed = f.closed;
-      few = ap (λ n. nat_le n 100) (length-change_first p (with_register rows) o.meetings) ∙ f.few;
-      apart = differ_changed same_meeting p (with_register rows) o.meetings (λ x y. refl) (λ x y. refl) ∙ f.apart;
-      each = all_changed is_meeting p (with_register rows) o.meetings (λ m k. loaded_kept rows m good k) f.each;
-    })
+-- what an answer in a meeting leaves
+abbrev Kept : OfficeLists → Answer → Type 0
+Kept o answer = keeps_limits answer.change ≡ true → is_office (after_some o answer.change) ≡ true
 
-loads_kept : (o : OfficeLists) (same : Bool) (new : NewRegister) → is_office o ≡ true → keeps_limits (loads same new).change ≡ true → is_office (after_some o (loads same new).change) ≡ true
-loads_kept o true new h limits = h
-loads_kept o false new h limits = register_kept o new.meeting new.rows h limits
+-- an answer in a meeting keeps the office if it does in each meeting that is found
+in_found : (o : OfficeLists) (id : List ℕ) (f : MeetingLists → Answer) → is_office o ≡ true → ((m : MeetingLists) → meeting_at o id ≡ Some m → Kept o (f m))
+    → Kept o (in_meeting (meeting_at o id) f)
+in_found o id f h each =
+    (elim (meeting_at o id) as (λ found. meeting_at o id ≡ found → Kept o (in_meeting found f)) [
+      | None ↦ λ e _. h
+      | Some m ↦ λ e. each m e
+    ]) refl
 
-load_kept : (o : OfficeLists) (found : Option MeetingLists) (now : ℕ) (new : NewRegister) → is_office o ≡ true
-    → keeps_limits (in_meeting found (load_answer now new)).change ≡ true → is_office (after_some o (in_meeting found (load_answer now new)).change) ≡ true
-load_kept o None now new h limits = h
-load_kept o (Some m) now new h limits =
+loads_kept : (o : OfficeLists) (m : MeetingLists) (same : Bool) (new : NewRegister) → is_office o ≡ true → meeting_at o new.meeting ≡ Some m → Kept o (loads same new)
+loads_kept o m true new h found limits = h
+loads_kept o m false new h found limits =
+    meeting_kept o new.meeting (with_register new.rows) m (λ x. refl) h found (register_kept new.rows m limits (good_meeting o new.meeting m h found))
+
+load_kept : (o : OfficeLists) (now : ℕ) (new : NewRegister) → is_office o ≡ true → Kept o (in_meeting (meeting_at o new.meeting) (load_answer now new))
+load_kept o now new h = in_found o new.meeting (load_answer now new) h (λ m found.
     let same = same_rows m.register new.rows in
-    by_refusal o (loads same new) (first_refusal (load_cases m.meeting now new)) h (λ _ l. loads_kept o same new h l) limits
+    by_refusal o (loads same new) (first_refusal (load_cases m.meeting now new)) h (λ _. loads_kept o m same new h found))
 
-office_kept : (o : OfficeLists) (now : ℕ) (request : Request) → is_office o ≡ true → keeps_limits (office_answer o now request).change ≡ true → is_office (after_some o (office_answer o now request).change) ≡ true
-office_kept o now (asked.CallMeeting new) h limits = call_kept o new h limits
-office_kept o now (asked.LoadRegister new) h limits = load_kept o (meeting_at o new.meeting) now new h limits
-office_kept o now (asked.Mine id) h limits = h
+open_kept : (o : OfficeLists) (now : ℕ) (id : List ℕ) → is_office o ≡ true → Kept o (in_meeting (meeting_at o id) (open_answer now id))
+open_kept o now id h = in_found o id (open_answer now id) h (λ m found.
+    by_refusal o (record { reply = reply.MeetingOpened; change = Some (change.SetOpened (record { meeting = id; moment = now })) }) (first_refusal (open_cases m.meeting now)) h (λ none _.
+    let fail = all_fail (open_cases m.meeting now) none in
+    meeting_kept o id (opened_at now) m (λ x. refl) h found (opening_kept now m (good_meeting o id m h found) (not_false m.meeting.loaded fail.0))))
 
-no_change : (r : Option Refusal) (accepted : Answer) → accepted.change ≡ None → (settled r accepted).change ≡ None
-no_change None accepted h = h
-no_change (Some r) accepted h = refl
+order_kept : (o : OfficeLists) (now : ℕ) (new : NewPoll) → is_office o ≡ true → Kept o (in_meeting (meeting_at o new.meeting) (order_answer now new))
+order_kept o now new h = in_found o new.meeting (order_answer now new) h (λ m found.
+    let poll = poll_on m.polls new.resolution in
+    let n = length m.meeting.resolutions in
+    by_refusal o (record { reply = reply.Ordered; change = Some (change.AddPoll (record { meeting = new.meeting; poll = poll_of now new })) }) (first_refusal (order_cases m.meeting poll now new)) h (λ none _.
+    let fail = all_fail (order_cases m.meeting poll now new) none in
+    let number : is_resolution n new.resolution ≡ true = not_false (is_resolution n new.resolution) fail.0 in
+    let good : is_poll n (poll_of now new) ≡ true = both_true (both_true (both_true number refl) refl) refl in
+    meeting_kept o new.meeting (with_poll (poll_of now new)) m (λ x. refl) h found
+    (poll_kept (poll_of now new) m (good_meeting o new.meeting m h found) (not_none m.meeting.opened fail.1.0) good (not_some poll fail.1.1.1.0))))
 
--- no answer to a party changes anything yet
-pub party_changes_nothing : (o : OfficeLists) (party : List ℕ) (now : ℕ) (request : Request) → (party_answer o party now request).change ≡ None
-party_changes_nothing o party now (asked.CallMeeting new) = refl
-party_changes_nothing o party now (asked.LoadRegister new) = refl
-party_changes_nothing o party now (asked.Mine id) = no_change (first_refusal (mine_cases (public_of o id))) (replied (Mine (mine_of id (own_of o party id now)))) refl
+-- a poll that is there, where none is not the case
+some_poll : (poll : Option Poll) → is_none poll ≡ false → (p : Poll) × (poll ≡ Some p)
+some_poll None h = absurd (cc)
+some_poll (Some p) h = (p, refl)
+
+-- where no poll passes a test, the one that is there fails it
+fails : (test : Poll → Bool) (poll : Option Poll) (p : Poll) → poll ≡ Some p → there_is test poll ≡ false → test p ≡ false
+fails test poll p e h = ap (there_is test) (sym e) ∙ h
+
+start_changes : (o : OfficeLists) (now : ℕ) (name : PollName) → is_office o ≡ true → Kept o (in_meeting (meeting_at o name.meeting) (start_answer now name))
+start_changes o now name h = in_found o name.meeting (start_answer now name) h (λ m found.
+    let poll = poll_on m.polls name.resolution in
+    by_refusal o (record { reply = reply.Started; change = Some (change.SetStarted (record { poll = name; moment = now })) }) (first_refusal (start_cases m.meeting poll now name.resolution)) h (λ none _.
+    let fail = all_fail (start_cases m.meeting poll now name.resolution) none in
+    let p = some_poll poll fail.1.1.1.0 in
+    meeting_kept o name.meeting (change_poll (started_at now) name.resolution) m (λ x. refl) h found
+    (start_kept now name.resolution m p.0 (good_meeting o name.meeting m h found) p.1)))
+
+close_changes : (o : OfficeLists) (now : ℕ) (name : PollName) → is_office o ≡ true → Kept o (in_meeting (meeting_at o name.meeting) (close_answer now name))
+close_changes o now name h = in_found o name.meeting (close_answer now name) h (λ m found.
+    let poll = poll_on m.polls name.resolution in
+    by_refusal o (record { reply = reply.VotingClosed; change = Some (change.SetClosed (record { poll = name; moment = now })) }) (first_refusal (close_cases m.meeting poll name.resolution)) h (λ none _.
+    let fail = all_fail (close_cases m.meeting poll name.resolution) none in
+    let p = some_poll poll fail.1.0 in
+    meeting_kept o name.meeting (change_poll (closed_at now) name.resolution) m (λ x. refl) h found
+    (close_kept now name.resolution m p.0 (good_meeting o name.meeting m h found) p.1 (not_none p.0.started (fails is_waiting poll p.0 p.1 fail.1.1.0)))))
+
+declare_changes : (o : OfficeLists) (name : PollName) → is_office o ≡ true → Kept o (in_meeting (meeting_at o name.meeting) (declare_answer name))
+declare_changes o name h = in_found o name.meeting (declare_answer name) h (λ m found.
+    let poll = poll_on m.polls name.resolution in
+    let declared = declaration_of m name.resolution in
+    by_refusal o (record { reply = reply.Declared declared; change = Some (change.SetDeclared (record { poll = name; tally = declared.tally })) }) (first_refusal (declare_cases m.meeting poll name.resolution)) h (λ none limits.
+    let fail = all_fail (declare_cases m.meeting poll name.resolution) none in
+    let p = some_poll poll fail.1.0 in
+    meeting_kept o name.meeting (change_poll (declared_as declared.tally) name.resolution) m (λ x. refl) h found
+    (declare_kept declared.tally name.resolution m p.0 (good_meeting o name.meeting m h found) p.1 (not_none p.0.closed (fails is_unclosed poll p.0 p.1 fail.1.1.0)) limits)))
+
+office_kept : (o : OfficeLists) (now : ℕ) (request : Request) → is_office o ≡ true → Kept o (office_answer o.meetings now request)
+office_kept o now (asked.CallMeeting new) h = call_kept o new h
+office_kept o now (asked.LoadRegister new) h = load_kept o now new h
+office_kept o now (asked.OpenMeeting id) h = open_kept o now id h
+office_kept o now (asked.Order new) h = order_kept o now new h
+office_kept o now (asked.Start name) h = start_changes o now name h
+office_kept o now (asked.Close name) h = close_changes o now name h
+office_kept o now (asked.Declare name) h = declare_changes o name h
+office_kept o now (asked.Mine id) h = λ limits. h
+office_kept o now (asked.Cast new) h = λ limits. h
+
+-- ---- a vote
+
+-- the answer to a vote, where the meeting is found or not
+abbrev pub vote_in : Option MeetingLists → List ℕ → List ℕ → ℕ → NewCast → Answer
+vote_in found closed party now new =
+    cast_answer (record { closed = closed; meeting = option_map (λ (m : MeetingLists). m.meeting) found; polls = polls_in found }) (own_in_some found party) now new
+
+vote_changes : (o : OfficeLists) (party : List ℕ) (now : ℕ) (new : NewCast) → is_office o ≡ true → Kept o (vote_in (meeting_at o new.meeting) o.closed party now new)
+vote_changes o party now new h =
+    (elim (meeting_at o new.meeting) as (λ found. meeting_at o new.meeting ≡ found → Kept o (vote_in found o.closed party now new)) [
+      | None ↦ λ e _. h
+      | Some m ↦ λ found. (
+          let poll = poll_on m.polls new.resolution in
+          let own = own_in m party in
+          by_refusal o (cast_recorded own now new) (first_refusal (cast_cases m.meeting poll own new)) h (λ none _.
+          let fail = all_fail (cast_cases m.meeting poll own new) none in
+          let p = some_poll poll fail.1.1.1.1.1.0 in
+          meeting_kept o new.meeting (with_cast (cast_of own now new)) m (λ x. refl) h found
+          (vote_kept (cast_of own now new) m p.0 (good_meeting o new.meeting m h found) p.1 (not_none p.0.started (fails is_waiting poll p.0 p.1 fail.1.1.1.1.1.1.0)) fail.1.1.0)))
+    ]) refl
+
+party_kept : (o : OfficeLists) (party : List ℕ) (now : ℕ) (request : Request) → is_office o ≡ true → Kept o (party_answer o party now request)
+party_kept o party now (asked.CallMeeting new) h = λ _. h
+party_kept o party now (asked.LoadRegister new) h = λ _. h
+party_kept o party now (asked.OpenMeeting id) h = λ _. h
+party_kept o party now (asked.Order new) h = λ _. h
+party_kept o party now (asked.Start name) h = λ _. h
+party_kept o party now (asked.Close name) h = λ _. h
+party_kept o party now (asked.Declare name) h = λ _. h
+party_kept o party now (asked.Mine id) h =
+    by_refusal o (replied (reply.Mine (mine_of id (own_of o party id now)))) (first_refusal (mine_cases (public_of o id))) h (λ _ _. h)
+party_kept o party now (asked.Cast new) h = vote_changes o party now new h
 
 -- each step keeps the lists of an office
 pub step_kept : (o : OfficeLists) (now : ℕ) (who : Caller) (request : Request) → is_office o ≡ true → keeps_limits (answer_to o now who request).change ≡ true
     → is_office (after_some o (answer_to o now who request).change) ≡ true
-step_kept o now caller.Office request h limits = office_kept o now request h limits
-step_kept o now (caller.Party party) request h limits = ap (λ change. is_office (after_some o change)) (party_changes_nothing o party now request) ∙ h
+step_kept o now caller.Office request h = office_kept o now request h
+step_kept o now (caller.Party party) request h = party_kept o party now request h
 
--- what is asked by the wrong side changes nothing
-pub misplaced_changes_nothing : (o : OfficeLists) (now : ℕ) (who : Caller) (request : Request) → is_misplaced who request ≡ true → (answer_to o now who request).change ≡ None
-misplaced_changes_nothing o now caller.Office (asked.CallMeeting new) h = absurd (cc)
-misplaced_changes_nothing o now caller.Office (asked.LoadRegister new) h = absurd (cc)
-misplaced_changes_nothing o now caller.Office (asked.Mine id) h = refl
-misplaced_changes_nothing o now (caller.Party party) request h = party_changes_nothing o party now request
+-- ---- limits of what a party changes, and what sets fields alone
+
+limits_settled : (r : Option Refusal) (accepted : Answer) → keeps_limits accepted.change ≡ true → keeps_limits (settled r accepted).change ≡ true
+limits_settled None accepted h = h
+limits_settled (Some r) accepted h = refl
+
+limits_of_vote : (meeting : Option Meeting) (closed : List ℕ) (polls : List Poll) (own : OwnView) (now : ℕ) (new : NewCast)
+    → keeps_limits (cast_answer (record { closed = closed; meeting = meeting; polls = polls }) own now new).change ≡ true
+limits_of_vote None closed polls own now new = refl
+limits_of_vote (Some meeting) closed polls own now new = limits_settled (first_refusal (cast_cases meeting (poll_on polls new.resolution) own new)) (cast_recorded own now new) refl
+
+-- what a party adds has no limits of its own
+pub party_limits : (public : PublicRecord) (own : OwnView) (now : ℕ) (request : Request) → keeps_limits (answer_of public own now request).change ≡ true
+party_limits public own now (asked.CallMeeting new) = refl
+party_limits public own now (asked.LoadRegister new) = refl
+party_limits public own now (asked.OpenMeeting id) = refl
+party_limits public own now (asked.Order new) = refl
+party_limits public own now (asked.Start name) = refl
+party_limits public own now (asked.Close name) = refl
+party_limits public own now (asked.Declare name) = refl
+party_limits public own now (asked.Mine id) = limits_settled (first_refusal (mine_cases public)) (replied (reply.Mine (mine_of id own))) refl
+party_limits public own now (asked.Cast new) = limits_of_vote public.meeting public.closed public.polls own now new
+
+-- there is no change, or one that sets fields
+abbrev pub sets : Option Change → Bool
+sets None = true
+sets (Some change) = sets_fields change
+
+sets_settled : (r : Option Refusal) (accepted : Answer) → sets accepted.change ≡ true → sets (settled r accepted).change ≡ true
+sets_settled None accepted h = h
+sets_settled (Some r) accepted h = refl
+
+start_sets : (found : Option MeetingLists) (now : ℕ) (name : PollName) → sets (in_meeting found (start_answer now name)).change ≡ true
+start_sets None now name = refl
+start_sets (Some m) now name =
+    sets_settled (first_refusal (start_cases m.meeting (poll_on m.polls name.resolution) now name.resolution)) (record { reply = reply.Started; change = Some (change.SetStarted (record { poll = name; moment = now })) }) refl
+
+close_sets : (found : Option MeetingLists) (now : ℕ) (name : PollName) → sets (in_meeting found (close_answer now name)).change ≡ true
+close_sets None now name = refl
+close_sets (Some m) now name =
+    sets_settled (first_refusal (close_cases m.meeting (poll_on m.polls name.resolution) name.resolution)) (record { reply = reply.VotingClosed; change = Some (change.SetClosed (record { poll = name; moment = now })) }) refl
+
+-- what needs no memory sets fields alone
+pub sets_alone : (o : OfficeLists) (now : ℕ) (who : Caller) (request : Request) → needs_no_memory who request ≡ true → sets (answer_to o now who request).change ≡ true
+sets_alone o now caller.Office (asked.CallMeeting new) h = absurd (cc)
+sets_alone o now caller.Office (asked.LoadRegister new) h = absurd (cc)
+sets_alone o now caller.Office (asked.OpenMeeting id) h = absurd (cc)
+sets_alone o now caller.Office (asked.Order new) h = absurd (cc)
+sets_alone o now caller.Office (asked.Start name) h = start_sets (meeting_at o name.meeting) now name
+sets_alone o now caller.Office (asked.Close name) h = close_sets (meeting_at o name.meeting) now name
+sets_alone o now caller.Office (asked.Declare name) h = absurd (cc)
+sets_alone o now caller.Office (asked.Mine id) h = refl
+sets_alone o now caller.Office (asked.Cast new) h = refl
+sets_alone o now (caller.Party party) (asked.CallMeeting new) h = refl
+sets_alone o now (caller.Party party) (asked.LoadRegister new) h = refl
+sets_alone o now (caller.Party party) (asked.OpenMeeting id) h = refl
+sets_alone o now (caller.Party party) (asked.Order new) h = refl
+sets_alone o now (caller.Party party) (asked.Start name) h = refl
+sets_alone o now (caller.Party party) (asked.Close name) h = refl
+sets_alone o now (caller.Party party) (asked.Declare name) h = refl
+sets_alone o now (caller.Party party) (asked.Mine id) h = absurd (cc)
+sets_alone o now (caller.Party party) (asked.Cast new) h = absurd (cc)

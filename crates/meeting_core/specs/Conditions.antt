@@ -6,16 +6,18 @@ use Rattle.desk_words.specs.declared.office.MeetingLists.{MeetingLists}
 use Rattle.desk_words.specs.declared.caller.Caller.{Caller}
 use Rattle.desk_words.specs.declared.caller.Caller.TheVariants as caller
 use Rattle.desk_words.specs.declared.request.Call.{Call}
-use Rattle.desk_words.specs.declared.request.NewRegister.{NewRegister}
+use Rattle.desk_words.specs.declared.request.NewCast.{NewCast}
 use Rattle.desk_words.specs.declared.request.Reply.{Reply}
 use Rattle.desk_words.specs.declared.request.Reply.TheVariants as reply
 use Rattle.desk_words.specs.declared.request.Request.{Request}
 use Rattle.desk_words.specs.declared.request.Request.TheVariants as asked
 use Rattle.desk_terms.specs.declared.refusal.Refusal.{Refusal}
 use Rattle.desk_terms.specs.declared.refusal.Refusal.TheVariants.{OfficeOnly, PartyOnly, NoMeeting}
-use Rattle.caller_view.specs.Answers.{is_for_office}
-use Rattle.caller_view.specs.Views.{meeting_at}
-use Rattle.meeting_core.specs.OfficeAnswers.{call_cases, load_cases}
+use Rattle.caller_view.specs.Answers.{cast_cases, is_for_office}
+use Rattle.caller_view.specs.Polls.{poll_on}
+use Rattle.caller_view.specs.Views.{meeting_at, own_in}
+use Rattle.office_answers.specs.Calls.{call_cases, load_cases}
+use Rattle.office_answers.specs.Polls.{open_cases, order_cases, start_cases, close_cases, declare_cases}
 use Rattle.meeting_core.specs.Step.{decided}
 
 -- whether a party calls
@@ -40,26 +42,51 @@ abbrev pub no_meeting : Option MeetingLists → Case
 no_meeting found = record { refusal = NoMeeting; holds = is_none found }
 
 -- conditions about a meeting that does not exist are false
-abbrev pub load_cases_in : Option MeetingLists → ℕ → NewRegister → List Case
-load_cases_in None now new = []
-load_cases_in (Some m) now new = load_cases m.meeting now new
+abbrev pub cases_in : Option MeetingLists → (MeetingLists → List Case) → List Case
+cases_in None f = []
+cases_in (Some m) f = f m
+
+-- there is no such meeting; and the conditions in it
+abbrev pub meeting_cases : OfficeLists → List ℕ → (MeetingLists → List Case) → List Case
+meeting_cases o id f = no_meeting (meeting_at o id) ∷ cases_in (meeting_at o id) f
+
+-- the conditions of a vote are those of the party that casts it
+abbrev pub vote_cases : OfficeLists → Caller → NewCast → List Case
+vote_cases o caller.Office new = []
+vote_cases o (caller.Party party) new =
+    meeting_cases o new.meeting (λ (m : MeetingLists). cast_cases m.meeting (poll_on m.polls new.resolution) (own_in m party) new)
 
 -- the conditions of each request
-abbrev pub request_cases : OfficeLists → ℕ → Request → List Case
-request_cases o now (asked.CallMeeting new) = call_cases o.meetings new
-request_cases o now (asked.LoadRegister new) = no_meeting (meeting_at o new.meeting) ∷ load_cases_in (meeting_at o new.meeting) now new
-request_cases o now (asked.Mine meeting) = no_meeting (meeting_at o meeting) ∷ []
+abbrev pub request_cases : OfficeLists → ℕ → Caller → Request → List Case
+request_cases o now who (asked.CallMeeting new) = call_cases o.meetings new
+request_cases o now who (asked.LoadRegister new) = meeting_cases o new.meeting (λ (m : MeetingLists). load_cases m.meeting now new)
+request_cases o now who (asked.OpenMeeting id) = meeting_cases o id (λ (m : MeetingLists). open_cases m.meeting now)
+request_cases o now who (asked.Order new) = meeting_cases o new.meeting (λ (m : MeetingLists). order_cases m.meeting (poll_on m.polls new.resolution) now new)
+request_cases o now who (asked.Start name) =
+    meeting_cases o name.meeting (λ (m : MeetingLists). start_cases m.meeting (poll_on m.polls name.resolution) now name.resolution)
+request_cases o now who (asked.Close name) =
+    meeting_cases o name.meeting (λ (m : MeetingLists). close_cases m.meeting (poll_on m.polls name.resolution) name.resolution)
+request_cases o now who (asked.Declare name) =
+    meeting_cases o name.meeting (λ (m : MeetingLists). declare_cases m.meeting (poll_on m.polls name.resolution) name.resolution)
+request_cases o now who (asked.Mine id) = no_meeting (meeting_at o id) ∷ []
+request_cases o now who (asked.Cast new) = vote_cases o who new
 
 -- all the conditions under which a call is refused
 abbrev pub all_cases : OfficeLists → Call → List Case
-all_cases o call = side_cases call.caller call.request ++ request_cases o call.moment call.request
+all_cases o call = side_cases call.caller call.request ++ request_cases o call.moment call.caller call.request
 
 -- the refusal in a reply
 abbrev pub refusal_in : Reply → Option Refusal
 refusal_in reply.Called = None
 refusal_in reply.Loaded = None
 refusal_in reply.Same = None
+refusal_in reply.MeetingOpened = None
+refusal_in reply.Ordered = None
+refusal_in reply.Started = None
+refusal_in reply.VotingClosed = None
+refusal_in (reply.Declared declared) = None
 refusal_in (reply.Mine m) = None
+refusal_in reply.Recorded = None
 refusal_in (reply.Refused r) = Some r
 
 -- the conditions stand in the order of their numbers

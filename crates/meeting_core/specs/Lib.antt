@@ -2,5 +2,4 @@ pub mod Conditions
 pub mod Laws
 pub mod Names
 pub mod Office
-pub mod OfficeAnswers
 pub mod Step

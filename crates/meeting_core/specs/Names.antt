@@ -56,7 +56,13 @@ abbrev pub in_reply : Reply → Names
 in_reply reply.Called = []
 in_reply reply.Loaded = []
 in_reply reply.Same = []
+in_reply reply.MeetingOpened = []
+in_reply reply.Ordered = []
+in_reply reply.Started = []
+in_reply reply.VotingClosed = []
+in_reply (reply.Declared declared) = []
 in_reply (reply.Mine m) = in_mine m
+in_reply reply.Recorded = []
 in_reply (reply.Refused r) = []
 
 -- the parties that stand in a party's own things, its own name among them

@@ -1,5 +1,5 @@
 -- One step of the office, and runs of steps.
-use Rattle.std.specs.Prelude.{ℕ, Bool, not, List, [], ◌∷◌, Option, Some, None}
+use Rattle.std.specs.Prelude.{ℕ, Bool, true, false, ◌||◌, not, List, [], ◌∷◌, Option, Some, None}
 use Rattle.desk_words.specs.declared.office.OfficeLists.{OfficeLists}
 use Rattle.desk_words.specs.declared.caller.Caller.{Caller}
 use Rattle.desk_words.specs.declared.caller.Caller.TheVariants as caller
@@ -11,13 +11,19 @@ use Rattle.caller_view.specs.declared.views.Answer.{Answer}
 use Rattle.caller_view.specs.Answers.{answer_of, is_for_office}
 use Rattle.caller_view.specs.Views.{public_of, own_of}
 use Rattle.meeting_core.specs.Office.{after_some}
-use Rattle.meeting_core.specs.OfficeAnswers.{office_answer}
+use Rattle.office_answers.specs.Answers.{office_answer, takes_no_memory}
 
 -- the meeting that a request names
 abbrev pub named_meeting : Request → List ℕ
 named_meeting (asked.CallMeeting new) = new.meeting
 named_meeting (asked.LoadRegister new) = new.meeting
+named_meeting (asked.OpenMeeting meeting) = meeting
+named_meeting (asked.Order new) = new.meeting
+named_meeting (asked.Start poll) = poll.meeting
+named_meeting (asked.Close poll) = poll.meeting
+named_meeting (asked.Declare poll) = poll.meeting
 named_meeting (asked.Mine meeting) = meeting
+named_meeting (asked.Cast new) = new.meeting
 
 -- the answer to a party: that of its views of the meeting that the request names
 abbrev pub party_answer : OfficeLists → List ℕ → ℕ → Request → Answer
@@ -26,13 +32,34 @@ party_answer office party now request =
 
 -- the answer to a caller: the office is answered from all that it holds, a party from its own views
 abbrev pub answer_to : OfficeLists → ℕ → Caller → Request → Answer
-answer_to office now caller.Office request = office_answer office now request
+answer_to office now caller.Office request = office_answer office.meetings now request
 answer_to office now (caller.Party party) request = party_answer office party now request
 
 -- an office request of a party, or a party request of the office
 abbrev pub is_misplaced : Caller → Request → Bool
 is_misplaced caller.Office request = not (is_for_office request)
 is_misplaced (caller.Party party) request = is_for_office request
+
+-- the start and the close of a poll
+abbrev pub is_start_or_close : Request → Bool
+is_start_or_close (asked.CallMeeting new) = false
+is_start_or_close (asked.LoadRegister new) = false
+is_start_or_close (asked.OpenMeeting meeting) = false
+is_start_or_close (asked.Order new) = false
+is_start_or_close (asked.Start poll) = true
+is_start_or_close (asked.Close poll) = true
+is_start_or_close (asked.Declare poll) = false
+is_start_or_close (asked.Mine meeting) = false
+is_start_or_close (asked.Cast new) = false
+
+-- the office starts or closes a poll
+abbrev pub is_of_the_office : Caller → Request → Bool
+is_of_the_office caller.Office request = is_start_or_close request
+is_of_the_office (caller.Party party) request = false
+
+-- what is never answered by want of memory: what the wrong side asks, and a start or a close by the office
+abbrev pub needs_no_memory : Caller → Request → Bool
+needs_no_memory who request = is_misplaced who request || is_of_the_office who request
 
 -- the reply to a call, and its change
 abbrev pub decided : OfficeLists → Call → Answer

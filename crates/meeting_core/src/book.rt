@@ -1,22 +1,24 @@
 //! The book: all that an office holds, in memory.
 ghost use Rattle.std.specs.Prelude.{◌≡◌, true, false, IfOk, OnOk, OnErr, IsTrue, IsOk};
 ghost use Rattle.caller_view.specs.Views.{public_of, own_of};
-ghost use Rattle.caller_view.specs.Answers.{is_for_office};
+ghost use Rattle.caller_view.specs.Answers.{answer_of, is_for_office};
 ghost use Rattle.desk_words.specs.Office.{is_office};
 ghost use Rattle.desk_words.specs.declared.caller.Caller.TheVariants as caller;
-ghost use Rattle.meeting_core.specs.Office.{after, after_some, empty_office, keeps_limits};
-ghost use Rattle.meeting_core.specs.OfficeAnswers.{office_answer};
-ghost use Rattle.meeting_core.specs.Step.{decided, is_misplaced, stepped, party_answer};
+ghost use Rattle.office_answers.specs.Answers.{office_answer, takes_no_memory};
+ghost use Rattle.office_answers.specs.Limits.{keeps_limits};
+ghost use Rattle.meeting_core.specs.Office.{after, after_some, empty_office, sets_fields};
+ghost use Rattle.meeting_core.specs.Step.{decided, needs_no_memory, stepped, party_answer};
 
-use crate::changes::{new_lists, set_register};
-use crate::finding::find_meeting;
-use crate::office_answers::{call_meeting, load_register};
-use crate::own::{nothing_of, own_in};
+use crate::changes::{
+    add_cast, add_poll, new_lists, set_closed, set_declared, set_opened, set_register, set_started,
+};
 use caller_view::{Answer, OwnView, PublicRecord, answer, refuse};
 use desk_words::{
     Call, Caller, Change, DayList, KeyRows, Listing, MeetingId, MeetingLists, Moment, Party,
     Refusal, Reply, Request,
 };
+use meeting_views::{find_meeting, nothing_of, own_in};
+use office_answers::office_answer;
 use std::alloc::{AllocError, Global};
 use std::marker::Model;
 
@@ -93,18 +95,26 @@ impl Book {
     }
 
     fn answer_to_office(&self, now: Moment, request: &Request) -> Result<Answer, AllocError>
-        ensures answer { IfOk result (λ a. a ≡ office_answer self.now now request.now) }
+        ensures answer { IfOk result (λ a. a ≡ office_answer self.now.meetings now request.now) }
         ensures limits { IfOk result (λ a. IsTrue (keeps_limits a.change)) }
-        ensures sure { is_for_office request.now ≡ false → IsOk result }
+        ensures sure { takes_no_memory request.now ≡ true → IsOk result }
     {
-        match request {
-            Request::CallMeeting(new) => call_meeting(&self.meetings, new),
-            Request::LoadRegister(new) => match find_meeting(&self.meetings, new.meeting) {
-                None => Ok(refuse(Refusal::NoMeeting)),
-                Some(lists) => load_register(lists, now, new),
-            },
-            Request::Mine(_) => Ok(refuse(Refusal::PartyOnly)),
-        }
+        office_answer(self.alloc, &self.meetings, now, request)
+    }
+
+    fn answer_in(
+        &self,
+        party: Party,
+        meeting: MeetingId,
+        now: Moment,
+        request: &Request,
+    ) -> Result<Answer, AllocError>
+        ensures answer { IfOk result (λ a. a ≡ answer_of (public_of self.now meeting) (own_of self.now party meeting now) now request.now) }
+        ensures limits { IfOk result (λ a. IsTrue (keeps_limits a.change)) }
+    {
+        let public = self.public_of(meeting)?;
+        let own = self.own_of(party, meeting, now)?;
+        answer(&public, &own, now, request)
     }
 
     fn answer_to_party(
@@ -118,19 +128,22 @@ impl Book {
         ensures sure { is_for_office request.now ≡ true → IsOk result }
     {
         match request {
-            Request::CallMeeting(_) | Request::LoadRegister(_) => Ok(refuse(Refusal::OfficeOnly)),
-            Request::Mine(meeting) => {
-                let public = self.public_of(*meeting)?;
-                let own = self.own_of(party, *meeting, now)?;
-                answer(&public, &own, now, request)
-            }
+            Request::CallMeeting(_)
+            | Request::LoadRegister(_)
+            | Request::OpenMeeting(_)
+            | Request::Order(_)
+            | Request::Start(_)
+            | Request::Close(_)
+            | Request::Declare(_) => Ok(refuse(Refusal::OfficeOnly)),
+            Request::Mine(meeting) => self.answer_in(party, *meeting, now, request),
+            Request::Cast(new) => self.answer_in(party, new.meeting, now, request),
         }
     }
 
     fn answer_to(&self, call: &Call) -> Result<Answer, AllocError>
         ensures answer { IfOk result (λ a. a ≡ decided self.now call.now) }
         ensures limits { IfOk result (λ a. IsTrue (keeps_limits a.change)) }
-        ensures sure { is_misplaced call.now.caller call.now.request ≡ true → IsOk result }
+        ensures sure { needs_no_memory call.now.caller call.now.request ≡ true → IsOk result }
     {
         match call.caller {
             Caller::Office => self.answer_to_office(call.moment, &call.request),
@@ -139,13 +152,14 @@ impl Book {
     }
 
     /// The reply to a call, and its change: to a party the answer of its public record and its own
-    /// things, to the office that of the whole office. The error is want of memory; an office
-    /// request of a party and a party request of the office, which are refused, need none.
+    /// things, to the office that of the whole office. The error is want of memory; a start or a
+    /// close of a poll by the office needs none, nor does an office request of a party or a party
+    /// request of the office, which are refused.
     pub fn decide(&self, call: &Call) -> Result<(Reply, Option<Change>), AllocError>
         ensures reply { IfOk result (λ d. d.0 ≡ (decided self.now call.now).reply) }
         ensures change { IfOk result (λ d. d.1 ≡ (decided self.now call.now).change) }
         ensures kept { IfOk result (λ d. IsTrue (is_office (after_some self.now d.1))) }
-        ensures sure { is_misplaced call.now.caller call.now.request ≡ true → IsOk result }
+        ensures sure { needs_no_memory call.now.caller call.now.request ≡ true → IsOk result }
     {
         let _ = &self.meetings;
         let answer = self.answer_to(call)?;
@@ -153,31 +167,37 @@ impl Book {
     }
 
     /// Writes a change that leaves the lists of an office, as each change of `decide` does. The
-    /// error is want of memory, and the book is then as it was.
+    /// error is want of memory, and the book is then as it was; a change that sets fields needs
+    /// none.
     pub fn apply(&mut self, change: Change) -> Result<(), AllocError>
         requires { IsTrue (is_office (after self.old change)) }
         ensures ok { OnOk result (self.new ≡ after self.old change) }
         ensures err { OnErr result (self.new ≡ self.old) }
+        ensures sure { sets_fields change ≡ true → IsOk result }
     {
         match change {
             Change::AddMeeting(meeting) => {
                 let lists = new_lists(self.alloc, meeting);
                 self.meetings.push(lists)?;
             }
-            Change::SetRegister(set) => {
-                set_register(&mut self.meetings, set.meeting, set.rows);
-            }
+            Change::SetRegister(set) => set_register(&mut self.meetings, set.meeting, set.rows),
+            Change::SetOpened(set) => set_opened(&mut self.meetings, set),
+            Change::AddPoll(added) => add_poll(&mut self.meetings, added)?,
+            Change::SetStarted(set) => set_started(&mut self.meetings, set),
+            Change::SetClosed(set) => set_closed(&mut self.meetings, set),
+            Change::SetDeclared(set) => set_declared(&mut self.meetings, set),
+            Change::AddCast(added) => add_cast(&mut self.meetings, added)?,
         }
         Ok(())
     }
 
-    /// One step: the decision, and then its change. The error is want of memory. After it, and after
-    /// a refusal, the book is as it was.
+    /// One step: the decision, and then its change. The error is want of memory, which is never
+    /// answered where `decide` needs none. After it, and after a refusal, the book is as it was.
     pub fn step(&mut self, call: Call) -> Result<Reply, AllocError>
         ensures reply { IfOk result (λ r. r ≡ (decided self.old call).reply) }
         ensures ok { OnOk result (self.new ≡ stepped self.old call) }
         ensures err { OnErr result (self.new ≡ self.old) }
-        ensures sure { is_misplaced call.caller call.request ≡ true → IsOk result }
+        ensures sure { needs_no_memory call.caller call.request ≡ true → IsOk result }
     {
         let (reply, change) = self.decide(&call)?;
         if let Some(change) = change {

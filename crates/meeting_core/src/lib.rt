@@ -3,10 +3,7 @@
 
 mod book;
 mod changes;
-mod finding;
 pub mod laws;
-mod office_answers;
-mod own;
 #[cfg(test)]
 mod tests;
 

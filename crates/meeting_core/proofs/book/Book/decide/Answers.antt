@@ -2,7 +2,8 @@ use Rattle.std.proofs.Common.{◌≡◌, true, subst, ap, sym, ◌∙◌}
 use Rattle.desk_words.specs.declared.office.OfficeLists.{OfficeLists}
 use Rattle.desk_words.specs.Office.{is_office}
 use Rattle.caller_view.specs.declared.views.Answer.{Answer}
-use Rattle.meeting_core.specs.Office.{after_some, keeps_limits}
+use Rattle.meeting_core.specs.Office.{after_some}
+use Rattle.office_answers.specs.Limits.{keeps_limits}
 use Rattle.meeting_core.proofs.OfficeKept.{step_kept}
 use Rattle.meeting_core.proofs.book.Book.decide.Goals as goal
 

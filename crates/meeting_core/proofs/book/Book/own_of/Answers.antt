@@ -1,6 +1,6 @@
 use Rattle.std.proofs.Common.{◌≡◌, true, ap, sym, ◌∙◌}
 use Rattle.caller_view.specs.Views.{meeting_named}
-use Rattle.meeting_core.proofs.OfficeFacts.{found_facts, register_ascends}
+use Rattle.office_answers.proofs.OfficeFacts.{found_facts, register_ascends}
 use Rattle.meeting_core.proofs.book.Book.own_of.Goals as goal
 
 pub own_in-requires : goal.own_in-requires

@@ -1,12 +1,14 @@
-use Rattle.std.proofs.Common.{◌≡◌, sym, ◌∙◌}
-use Rattle.std.specs.Prelude.{Some, None}
-use Rattle.meeting_core.proofs.OfficeKept.{misplaced_changes_nothing}
+use Rattle.std.proofs.Common.{◌≡◌, true, false, ap, sym, ◌∙◌}
+use Rattle.std.specs.Prelude.{Some}
+use Rattle.meeting_core.proofs.OfficeKept.{sets, sets_alone}
+use Rattle.meeting_core.specs.Office.{sets_fields}
 use Rattle.meeting_core.proofs.book.Book.step.Goals as goal
 
--- what is asked by the wrong side has no change that memory could be refused to
+-- what needs no memory has no change that memory could be refused to
 pub returns-in_err-apply-clause-sure : goal.returns-in_err-apply-clause-sure
-returns-in_err-apply-clause-sure c = λ misplaced.
+returns-in_err-apply-clause-sure c = λ needless.
     let call = c.args.call in
-    let nothing = misplaced_changes_nothing c.args.self.now call.moment call.caller call.request misplaced in
-    let none : Some c.in-Some.change ≡ None = sym c.in-Some.is ∙ c.in_ok-reply.ensures.change ∙ nothing in
+    let fields : sets_fields c.in-Some.change ≡ true =
+    ap sets (sym c.in-Some.is ∙ c.in_ok-reply.ensures.change) ∙ sets_alone c.args.self.now call.moment call.caller call.request needless in
+    let never : false ≡ true = c.in_err-apply.ensures.sure fields in
     absurd (cc)

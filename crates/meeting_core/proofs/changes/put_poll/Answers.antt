@@ -1,0 +1,14 @@
+use Rattle.std.proofs.Common.{◌≡◌, Bool, ap, ◌∙◌}
+use Rattle.std.proofs.lemmas.Result.{on_ok_weaker}
+use Rattle.desk_lists.specs.Sorting.{insert_by}
+use Rattle.desk_lists.proofs.Numbers.{is_lt-nat_cmp}
+use Rattle.desk_words.specs.declared.office.MeetingLists.{MeetingLists}
+use Rattle.desk_words.specs.declared.records.Poll.{Poll}
+use Rattle.meeting_core.proofs.changes.put_poll.Goals as goal
+
+pub returns-clause-ok : goal.returns-clause-ok
+returns-clause-ok c =
+    let m = c.args.lists.now in
+    on_ok_weaker c.insert_in_order.result (λ ok.
+    ap (λ polls. record m { polls = polls }) (ok ∙ ap (λ (before : Poll → Poll → Bool). insert_by before c.args.poll m.polls) (λ i a b. is_lt-nat_cmp a.resolution b.resolution i)))
+    c.insert_in_order.ensures.ok

@@ -1,0 +1,12 @@
+use Rattle.std.proofs.Common.{◌≡◌, true, subst, sym}
+use Rattle.std.specs.Prelude.{Option, IfSome}
+use Rattle.desk_words.specs.declared.office.MeetingLists.{MeetingLists}
+use Rattle.poll_rules.specs.Shares.{are_rows}
+use Rattle.office_answers.proofs.OfficeFacts.{found_rows}
+use Rattle.office_answers.proofs.answer.office_answer.Goals as goal
+
+-- the rows of a meeting that is found are a register, or none
+pub declare_poll-requires : goal.declare_poll-requires
+declare_poll-requires c =
+    subst (λ (found : Option MeetingLists). IfSome found (λ m. are_rows m.register ≡ true)) (sym c.find_meeting-in-Declare.ensures)
+    (found_rows c.args.meetings.now c.in-Declare.poll.meeting c.requires)

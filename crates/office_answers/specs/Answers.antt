@@ -1,0 +1,35 @@
+-- The answer to the office.
+use Rattle.std.specs.Prelude.{ℕ, List, Bool, true, false}
+use Rattle.desk_words.specs.declared.office.MeetingLists.{MeetingLists}
+use Rattle.desk_words.specs.declared.request.Request.{Request}
+use Rattle.desk_words.specs.declared.request.Request.TheVariants as asked
+use Rattle.desk_terms.specs.declared.refusal.Refusal.TheVariants.{PartyOnly}
+use Rattle.caller_view.specs.declared.views.Answer.{Answer}
+use Rattle.caller_view.specs.Answers.{refused}
+use Rattle.caller_view.specs.Views.{meeting_named}
+use Rattle.office_answers.specs.Calls.{call_answer, load_answer, in_meeting}
+use Rattle.office_answers.specs.Polls.{open_answer, order_answer, start_answer, close_answer, declare_answer}
+
+-- the answer to the office, from all its meetings
+abbrev pub office_answer : List MeetingLists → ℕ → Request → Answer
+office_answer meetings now (asked.CallMeeting new) = call_answer meetings new
+office_answer meetings now (asked.LoadRegister new) = in_meeting (meeting_named meetings new.meeting) (load_answer now new)
+office_answer meetings now (asked.OpenMeeting meeting) = in_meeting (meeting_named meetings meeting) (open_answer now meeting)
+office_answer meetings now (asked.Order new) = in_meeting (meeting_named meetings new.meeting) (order_answer now new)
+office_answer meetings now (asked.Start poll) = in_meeting (meeting_named meetings poll.meeting) (start_answer now poll)
+office_answer meetings now (asked.Close poll) = in_meeting (meeting_named meetings poll.meeting) (close_answer now poll)
+office_answer meetings now (asked.Declare poll) = in_meeting (meeting_named meetings poll.meeting) (declare_answer poll)
+office_answer meetings now (asked.Mine meeting) = refused PartyOnly
+office_answer meetings now (asked.Cast new) = refused PartyOnly
+
+-- what is asked and answered without memory: a start or a close, and what only a party may ask
+abbrev pub takes_no_memory : Request → Bool
+takes_no_memory (asked.CallMeeting new) = false
+takes_no_memory (asked.LoadRegister new) = false
+takes_no_memory (asked.OpenMeeting meeting) = true
+takes_no_memory (asked.Order new) = true
+takes_no_memory (asked.Start poll) = true
+takes_no_memory (asked.Close poll) = true
+takes_no_memory (asked.Declare poll) = false
+takes_no_memory (asked.Mine meeting) = true
+takes_no_memory (asked.Cast new) = true

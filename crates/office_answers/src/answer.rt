@@ -1,0 +1,40 @@
+//! The answer to the office.
+ghost use Rattle.std.specs.Prelude.{◌≡◌, true, IfOk, IsTrue, IsOk};
+ghost use Rattle.std.specs.List.{list_all};
+ghost use Rattle.desk_words.specs.Office.{is_meeting};
+ghost use Rattle.office_answers.specs.Answers.{office_answer, takes_no_memory};
+ghost use Rattle.office_answers.specs.Limits.{keeps_limits};
+
+use crate::calls::{call_meeting, load_register};
+use crate::polls::{close_poll, declare_poll, open_meeting, order_poll, start_poll};
+use caller_view::{Answer, refuse};
+use desk_words::{MeetingLists, Moment, Refusal, Request};
+use meeting_views::find_meeting;
+use std::alloc::{AllocError, Global};
+
+/// The answer to the office, from all its meetings. The error is want of memory; what
+/// `takes_no_memory` names, a start and a close among it, needs none.
+pub fn office_answer(
+    alloc: Global,
+    meetings: &[MeetingLists],
+    now: Moment,
+    request: &Request,
+) -> Result<Answer, AllocError>
+    requires { list_all is_meeting meetings.now ≡ true }
+    ensures answer { IfOk result (λ a. a ≡ office_answer meetings.now now request.now) }
+    ensures limits { IfOk result (λ a. IsTrue (keeps_limits a.change)) }
+    ensures sure { takes_no_memory request.now ≡ true → IsOk result }
+{
+    match request {
+        Request::CallMeeting(new) => call_meeting(meetings, new),
+        Request::LoadRegister(new) => {
+            load_register(find_meeting(meetings, new.meeting), now, new)
+        }
+        Request::OpenMeeting(id) => Ok(open_meeting(find_meeting(meetings, *id), now, *id)),
+        Request::Order(new) => Ok(order_poll(find_meeting(meetings, new.meeting), now, new)),
+        Request::Start(poll) => Ok(start_poll(find_meeting(meetings, poll.meeting), now, *poll)),
+        Request::Close(poll) => Ok(close_poll(find_meeting(meetings, poll.meeting), now, *poll)),
+        Request::Declare(poll) => declare_poll(alloc, find_meeting(meetings, poll.meeting), *poll),
+        Request::Mine(_) | Request::Cast(_) => Ok(refuse(Refusal::PartyOnly)),
+    }
+}

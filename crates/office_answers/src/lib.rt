@@ -1,0 +1,10 @@
+//! The answer to the office: a reply, and at most one change.
+#![tactic(auto)]
+
+mod answer;
+mod calls;
+mod polls;
+#[cfg(test)]
+mod tests;
+
+pub use answer::office_answer;

@@ -1,0 +1,285 @@
+//! The opening of a meeting, and the way of a poll: ordered, started, closed, declared.
+ghost use Rattle.std.specs.Prelude.{◌≡◌, ◌≤◌, ◌-◌, true, length, IfSome, IfOk, IsTrue};
+ghost use Rattle.std.specs.List.{slice_get};
+ghost use Rattle.std.specs.Option.{option_copied};
+ghost use Rattle.desk_words.specs.Office.{is_resolution, is_tally};
+ghost use Rattle.desk_words.specs.Refusals.{first_refusal};
+ghost use Rattle.caller_view.specs.Polls.{there_is, is_started};
+ghost use Rattle.poll_rules.specs.Shares.{are_rows};
+ghost use Rattle.office_answers.specs.Limits.{keeps_limits};
+ghost use Rattle.office_answers.specs.Calls.{in_meeting};
+ghost use Rattle.office_answers.specs.Polls.{open_cases, open_answer, order_cases, order_answer, poll_of, start_cases, start_answer, close_cases, close_answer, declare_cases, declare_answer, carries, declaration_of};
+
+use caller_view::{Answer, find_poll, refuse};
+use desk_words::{
+    AddPoll, Change, Declaration, Meeting, MeetingId, MeetingLists, Moment, NewPoll, Poll,
+    PollName, Refusal, Reply, SetOpened, SetPollMoment, SetTally, Tally,
+};
+use poll_rules::{Papers, carried, tally};
+use std::alloc::{AllocError, Global};
+
+fn open_refusal(meeting: &Meeting, now: Moment) -> Option<Refusal>
+    ensures { result ≡ first_refusal (open_cases meeting.now now) }
+{
+    if !meeting.loaded {
+        return Some(Refusal::NoRegister);
+    }
+    if meeting.opened.is_some() {
+        return Some(Refusal::Opened);
+    }
+    if now < meeting.appointed {
+        return Some(Refusal::Early);
+    }
+    None
+}
+
+/// The answer to the opening of a meeting: the first that holds of `NoMeeting`, `NoRegister`, `Opened`, and
+/// `Early` before the appointed time; and else `MeetingOpened`, which sets the moment.
+pub fn open_meeting(found: Option<&MeetingLists>, now: Moment, id: MeetingId) -> Answer
+    ensures answer { result ≡ in_meeting (option_copied found.entry) (open_answer now id) }
+    ensures limits { IsTrue (keeps_limits result.change) }
+{
+    let Some(lists) = found else {
+        return refuse(Refusal::NoMeeting);
+    };
+    if let Some(refusal) = open_refusal(&lists.meeting, now) {
+        return refuse(refusal);
+    }
+    Answer {
+        reply: Reply::MeetingOpened,
+        change: Some(Change::SetOpened(SetOpened {
+            meeting: id,
+            moment: now,
+        })),
+    }
+}
+
+fn has_resolution(meeting: &Meeting, number: u64) -> bool
+    ensures { result ≡ is_resolution (length meeting.now.resolutions) number }
+{
+    1 <= number && number <= meeting.resolutions.as_slice().len() as u64
+}
+
+fn order_refusal(
+    meeting: &Meeting,
+    poll: Option<Poll>,
+    now: Moment,
+    new: &NewPoll,
+) -> Option<Refusal>
+    ensures { result ≡ first_refusal (order_cases meeting.now poll now new.now) }
+{
+    if !has_resolution(meeting, new.resolution) {
+        return Some(Refusal::NoResolution);
+    }
+    if meeting.opened.is_none() {
+        return Some(Refusal::NotOpened);
+    }
+    if new.take < now {
+        return Some(Refusal::Early);
+    }
+    if poll.is_some() {
+        return Some(Refusal::PollOrdered);
+    }
+    if !new.chair {
+        return Some(Refusal::DemandTooSmall);
+    }
+    None
+}
+
+/// The answer to the order of a poll (section 321): the first that holds of `NoMeeting`, `NoResolution`,
+/// `NotOpened`, `Early` where the poll were taken before now, `PollOrdered`, and `DemandTooSmall`
+/// where the chair does not order it, since no demand can be made yet; and else `Ordered`, which
+/// adds the poll.
+pub fn order_poll(found: Option<&MeetingLists>, now: Moment, new: &NewPoll) -> Answer
+    ensures answer { result ≡ in_meeting (option_copied found.entry) (order_answer now new.now) }
+    ensures limits { IsTrue (keeps_limits result.change) }
+{
+    let Some(lists) = found else {
+        return refuse(Refusal::NoMeeting);
+    };
+    let poll = find_poll(lists.polls.as_slice(), new.resolution);
+    if let Some(refusal) = order_refusal(&lists.meeting, poll, now, new) {
+        return refuse(refusal);
+    }
+    Answer {
+        reply: Reply::Ordered,
+        change: Some(Change::AddPoll(AddPoll {
+            meeting: new.meeting,
+            poll: Poll {
+                resolution: new.resolution,
+                ordered: now,
+                take: new.take,
+                chair: new.chair,
+                started: None,
+                closed: None,
+                declared: None,
+            },
+        })),
+    }
+}
+
+fn has_started(poll: &Option<Poll>) -> bool
+    ensures { result ≡ there_is is_started poll.now }
+{
+    match poll {
+        None => false,
+        Some(poll) => poll.started.is_some(),
+    }
+}
+
+fn start_refusal(meeting: &Meeting, poll: Option<Poll>, now: Moment, number: u64) -> Option<Refusal>
+    ensures { result ≡ first_refusal (start_cases meeting.now poll now number) }
+{
+    if has_started(&poll) {
+        return Some(Refusal::Exists);
+    }
+    if !has_resolution(meeting, number) {
+        return Some(Refusal::NoResolution);
+    }
+    let Some(poll) = poll else {
+        return Some(Refusal::NoPoll);
+    };
+    if now < poll.take {
+        return Some(Refusal::Early);
+    }
+    None
+}
+
+/// The answer to the start of a poll: the first that holds of `Exists` where it is started already,
+/// `NoResolution`, `Early` before it is to be taken, and `NoPoll`; and else `Started`, which sets
+/// the moment. It takes no memory.
+pub fn start_poll(found: Option<&MeetingLists>, now: Moment, name: PollName) -> Answer
+    ensures answer { result ≡ in_meeting (option_copied found.entry) (start_answer now name) }
+    ensures limits { IsTrue (keeps_limits result.change) }
+{
+    let Some(lists) = found else {
+        return refuse(Refusal::NoMeeting);
+    };
+    let poll = find_poll(lists.polls.as_slice(), name.resolution);
+    if let Some(refusal) = start_refusal(&lists.meeting, poll, now, name.resolution) {
+        return refuse(refusal);
+    }
+    Answer {
+        reply: Reply::Started,
+        change: Some(Change::SetStarted(SetPollMoment {
+            poll: name,
+            moment: now,
+        })),
+    }
+}
+
+fn close_refusal(meeting: &Meeting, poll: Option<Poll>, number: u64) -> Option<Refusal>
+    ensures { result ≡ first_refusal (close_cases meeting.now poll number) }
+{
+    if !has_resolution(meeting, number) {
+        return Some(Refusal::NoResolution);
+    }
+    let Some(poll) = poll else {
+        return Some(Refusal::NoPoll);
+    };
+    if poll.started.is_none() {
+        return Some(Refusal::PollNotOpen);
+    }
+    if poll.closed.is_some() {
+        return Some(Refusal::PollClosed);
+    }
+    None
+}
+
+/// The answer to the close of a poll: the first that holds of `NoMeeting`, `NoResolution`, `NoPoll`,
+/// `PollNotOpen` and `PollClosed`; and else `VotingClosed`, which sets the moment. How many have
+/// voted makes no difference. It takes no memory.
+pub fn close_poll(found: Option<&MeetingLists>, now: Moment, name: PollName) -> Answer
+    ensures answer { result ≡ in_meeting (option_copied found.entry) (close_answer now name) }
+    ensures limits { IsTrue (keeps_limits result.change) }
+{
+    let Some(lists) = found else {
+        return refuse(Refusal::NoMeeting);
+    };
+    let poll = find_poll(lists.polls.as_slice(), name.resolution);
+    if let Some(refusal) = close_refusal(&lists.meeting, poll, name.resolution) {
+        return refuse(refusal);
+    }
+    Answer {
+        reply: Reply::VotingClosed,
+        change: Some(Change::SetClosed(SetPollMoment {
+            poll: name,
+            moment: now,
+        })),
+    }
+}
+
+fn declare_refusal(meeting: &Meeting, poll: Option<Poll>, number: u64) -> Option<Refusal>
+    ensures { result ≡ first_refusal (declare_cases meeting.now poll number) }
+{
+    if !has_resolution(meeting, number) {
+        return Some(Refusal::NoResolution);
+    }
+    let Some(poll) = poll else {
+        return Some(Refusal::NoPoll);
+    };
+    if poll.closed.is_none() {
+        return Some(Refusal::NotClosed);
+    }
+    if poll.declared.is_some() {
+        return Some(Refusal::Declared);
+    }
+    None
+}
+
+fn carries(meeting: &Meeting, number: u64, tally: Tally) -> bool
+    requires { 1 ≤ number }
+    ensures { result ≡ carries (slice_get meeting.now.resolutions (number - 1)) tally }
+{
+    match meeting.resolutions.as_slice().get((number - 1) as usize) {
+        None => false,
+        Some(resolution) => carried(resolution.kind, tally.votes_for, tally.votes_against),
+    }
+}
+
+fn declaration(alloc: Global, lists: &MeetingLists, number: u64) -> Result<Declaration, AllocError>
+    requires number { 1 ≤ number }
+    requires rows { are_rows lists.now.register ≡ true }
+    ensures value { IfOk result (λ d. d ≡ declaration_of lists.now number) }
+    ensures limits { IfOk result (λ d. IsTrue (is_tally d.tally)) }
+{
+    let papers = Papers {
+        register: lists.register.as_slice(),
+        casts: lists.casts.as_slice(),
+    };
+    let tally = tally(alloc, &papers, number)?;
+    Ok(Declaration {
+        tally,
+        carried: carries(&lists.meeting, number, tally),
+    })
+}
+
+/// The answer to the declaration of a poll: the first that holds of `NoMeeting`, `NoResolution`, `NoPoll`,
+/// `NotClosed` and `Declared`; and else `Declared`, with the count of the votes and whether the
+/// resolution is carried (sections 282 to 284), which sets the count. The error is want of memory.
+/// Its cost is that of `poll_rules::tally`.
+pub fn declare_poll(
+    alloc: Global,
+    found: Option<&MeetingLists>,
+    name: PollName,
+) -> Result<Answer, AllocError>
+    requires { IfSome (option_copied found) (λ m. are_rows m.register ≡ true) }
+    ensures answer { IfOk result (λ a. a ≡ in_meeting (option_copied found.entry) (declare_answer name)) }
+    ensures limits { IfOk result (λ a. IsTrue (keeps_limits a.change)) }
+{
+    let Some(lists) = found else {
+        return Ok(refuse(Refusal::NoMeeting));
+    };
+    let poll = find_poll(lists.polls.as_slice(), name.resolution);
+    if let Some(refusal) = declare_refusal(&lists.meeting, poll, name.resolution) {
+        return Ok(refuse(refusal));
+    }
+    let declaration = declaration(alloc, lists, name.resolution)?;
+    Ok(Answer {
+        reply: Reply::Declared(declaration),
+        change: Some(Change::SetDeclared(SetTally {
+            poll: name,
+            tally: declaration.tally,
+        })),
+    })
+}
