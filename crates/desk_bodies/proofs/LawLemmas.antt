@@ -1,26 +1,30 @@
-use Rattle.std.proofs.Common.{◌≡◌, ℕ, List, Bool, true, false, Option, Some, None, Result, Ok, Err, refl, ap, subst, ◌⊎◌, inl, inr}
+use Rattle.std.proofs.Common.{◌≡◌, ℕ, List, codes, Bool, true, false, Option, Some, None, Result, Ok, Err, refl, ap, subst, ◌∙◌, ◌⊎◌, inl, inr}
 use Rattle.serde_json.specs.Data.{Data, Items, no_items, item}
-use Rattle.serde_json.specs.Find.{at}
+use Rattle.serde_json.specs.Find.{at, get}
 use Rattle.desk_calendar.specs.Texts.{day_of, moment_of}
 use Rattle.desk_terms.specs.declared.refusal.Refusal.{Refusal}
 use Rattle.desk_terms.specs.declared.refusal.Refusal.TheVariants.{Route, Unreadable}
-use Rattle.desk_terms.specs.Kinds.{company_of, meeting_kind_of, resolution_kind_of, holder_kind_of}
+use Rattle.desk_terms.specs.Kinds.{company_of, meeting_kind_of, resolution_kind_of, holder_kind_of, way_of}
 use Rattle.desk_terms.specs.Names.{meeting_of, party_of}
 use Rattle.desk_words.specs.Lists.{are_resolutions}
 use Rattle.desk_words.specs.Registers.{register_of}
 use Rattle.desk_words.specs.declared.records.Resolution.{Resolution}
 use Rattle.desk_words.specs.declared.request.Request.{Request}
-use Rattle.desk_words.specs.declared.request.Request.TheVariants.{CallMeeting, LoadRegister}
+use Rattle.desk_words.specs.declared.request.Request.TheVariants as request
 use Rattle.desk_words.specs.declared.request.NewMeeting.{NewMeeting}
 use Rattle.desk_words.specs.declared.request.NewRegister.{NewRegister}
+use Rattle.desk_words.specs.declared.request.NewPoll.{NewPoll}
+use Rattle.desk_words.specs.declared.request.PollName.{PollName}
+use Rattle.desk_words.specs.declared.request.NewCast.{NewCast}
 use Rattle.desk_bodies.specs.declared.verb.Verb.{Verb}
-use Rattle.desk_bodies.specs.declared.verb.Verb.TheVariants.{Call, Register, Mine}
+use Rattle.desk_bodies.specs.declared.verb.Verb.TheVariants.{Call, Register, Open, Order, Start, Close, Declare, Mine, Cast}
 use Rattle.desk_bodies.specs.Answers.{◌>>=◌, readable, only}
-use Rattle.desk_bodies.specs.Places.{has_fields, has_items, string_in, number_in, items_in, spelled, text_of, each}
+use Rattle.desk_bodies.specs.Places.{has_fields, has_items, string_in, number_in, flag_in, items_in, spelled, just, text_of, each}
 use Rattle.desk_bodies.specs.Bodies.{body_of, value_of, filled}
 use Rattle.desk_bodies.specs.Calls.{resolution_of, counted, resolutions_in, new_meeting_of}
+use Rattle.desk_bodies.specs.Polls.{new_poll_of, poll_name_of, new_cast_of}
 use Rattle.desk_bodies.specs.Registers.{row_of, register_in, new_register_of}
-use Rattle.desk_bodies.specs.Requests.{routed, call_of, load_of, asked, request_of}
+use Rattle.desk_bodies.specs.Requests.{routed, call_of, load_of, open_of, order_of, named_poll_of, start_of, close_of, declare_of, cast_of, asked, request_of}
 use Rattle.desk_bodies.specs.Verbs.{verb_of}
 use Rattle.desk_bodies.specs.Laws.{meeting_in}
 
@@ -56,6 +60,13 @@ of_spelled reading place = of_next (string_in place) _ (of_readable _) (λ strin
 
 of_number : (place : Option Data) → OnlyUnreadable (number_in place)
 of_number place = of_readable _
+
+of_flag : (place : Option Data) → OnlyUnreadable (flag_in place)
+of_flag place = of_readable _
+
+of_just : (word : List ℕ) (place : Option Data) → OnlyUnreadable (just word place)
+unfolding just
+of_just word place = of_next (string_in place) _ (of_readable _) (λ string. of_only _)
 
 of_each : {A : Type 0} (reading : Data → Result A Refusal) → ((d : Data) → OnlyUnreadable (reading d)) → (ds : Items) → OnlyUnreadable (each reading ds)
 of_each reading one no_items = of_ok _
@@ -112,17 +123,55 @@ of_new_register meeting d =
     of_next (spelled moment_of _) _ (of_spelled _ _) (λ record_moment.
     of_next (register_in _) _ (of_register _) (λ rows. of_ok _)))
 
+of_new_poll : (meeting : List ℕ) (d : Data) → OnlyUnreadable (new_poll_of meeting d)
+unfolding new_poll_of
+of_new_poll meeting d =
+    of_next (only (has_fields 3 d)) _ (of_only _) (λ exactly.
+    of_next (number_in _) _ (of_number _) (λ resolution.
+    of_next (spelled moment_of _) _ (of_spelled _ _) (λ moment.
+    of_next (flag_in _) _ (of_flag _) (λ chair. of_ok _))))
+
+of_poll_name : (meeting : List ℕ) (d : Data) → OnlyUnreadable (poll_name_of meeting d)
+unfolding poll_name_of
+of_poll_name meeting d =
+    of_next (only (has_fields 1 d)) _ (of_only _) (λ exactly.
+    of_next (number_in _) _ (of_number _) (λ resolution. of_ok _))
+
+of_new_cast : (meeting : List ℕ) (d : Data) → OnlyUnreadable (new_cast_of meeting d)
+unfolding new_cast_of
+of_new_cast meeting d =
+    of_next (only (has_fields 6 d)) _ (of_only _) (λ exactly.
+    of_next (number_in (get (codes "resolution") d)) _ (of_number _) (λ resolution.
+    of_next (just _ _) _ (of_just _ _) (λ capacity.
+    of_next (spelled party_of _) _ (of_spelled _ _) (λ member.
+    of_next (number_in (get (codes "from") d)) _ (of_number _) (λ from.
+    of_next (number_in (get (codes "to") d)) _ (of_number _) (λ to.
+    of_next (spelled way_of _) _ (of_spelled _ _) (λ way. of_ok _)))))))
+
 of_body : (body : List ℕ) → OnlyUnreadable (body_of body)
 unfolding body_of
 of_body body = of_readable (value_of (filled body))
 
+of_named_poll : (meeting body : List ℕ) → OnlyUnreadable (named_poll_of meeting body)
+unfolding named_poll_of
+of_named_poll meeting body = of_next (body_of body) _ (of_body body) (of_poll_name meeting)
+
 of_asked : (verb : Verb) (meeting body : List ℕ) → OnlyUnreadable (asked verb meeting body)
-unfolding call_of load_of
+unfolding call_of load_of open_of order_of start_of close_of declare_of cast_of
 of_asked Call meeting body =
     of_next (body_of body) _ (of_body body) (λ d. of_next (new_meeting_of meeting d) _ (of_new_meeting meeting d) (λ called. of_ok _))
 of_asked Register meeting body =
     of_next (body_of body) _ (of_body body) (λ d. of_next (new_register_of meeting d) _ (of_new_register meeting d) (λ loaded. of_ok _))
+of_asked Open meeting body =
+    of_next (body_of body) _ (of_body body) (λ d. of_next (only (has_fields 0 d)) _ (of_only _) (λ nothing. of_ok _))
+of_asked Order meeting body =
+    of_next (body_of body) _ (of_body body) (λ d. of_next (new_poll_of meeting d) _ (of_new_poll meeting d) (λ ordered. of_ok _))
+of_asked Start meeting body = of_next (named_poll_of meeting body) _ (of_named_poll meeting body) (λ poll. of_ok _)
+of_asked Close meeting body = of_next (named_poll_of meeting body) _ (of_named_poll meeting body) (λ poll. of_ok _)
+of_asked Declare meeting body = of_next (named_poll_of meeting body) _ (of_named_poll meeting body) (λ poll. of_ok _)
 of_asked Mine meeting body = of_ok _
+of_asked Cast meeting body =
+    of_next (body_of body) _ (of_body body) (λ d. of_next (new_cast_of meeting d) _ (of_new_cast meeting d) (λ cast. of_ok _))
 
 -- ---- the meeting is kept
 
@@ -165,19 +214,72 @@ new_register_keeps meeting d =
     keeps_next kept (spelled moment_of _) _ (λ record_moment.
     keeps_next kept (register_in _) _ (λ rows. keeps_ok kept _ refl)))
 
+new_poll_keeps : (meeting : List ℕ) (d : Data) → Keeps (λ (ordered : NewPoll). meeting ≡ ordered.meeting) (new_poll_of meeting d)
+unfolding new_poll_of
+new_poll_keeps meeting d =
+    let kept : NewPoll → Type 0 = λ ordered. meeting ≡ ordered.meeting in
+    keeps_next kept (only (has_fields 3 d)) _ (λ exactly.
+    keeps_next kept (number_in _) _ (λ resolution.
+    keeps_next kept (spelled moment_of _) _ (λ moment.
+    keeps_next kept (flag_in _) _ (λ chair. keeps_ok kept _ refl))))
+
+named_poll_keeps : (meeting body : List ℕ) → Keeps (λ (poll : PollName). meeting ≡ poll.meeting) (named_poll_of meeting body)
+unfolding named_poll_of poll_name_of
+named_poll_keeps meeting body =
+    let kept : PollName → Type 0 = λ poll. meeting ≡ poll.meeting in
+    keeps_next kept (body_of body) _ (λ d.
+    keeps_next kept (only (has_fields 1 d)) _ (λ exactly.
+    keeps_next kept (number_in _) _ (λ resolution. keeps_ok kept _ refl)))
+
+new_cast_keeps : (meeting : List ℕ) (d : Data) → Keeps (λ (cast : NewCast). meeting ≡ cast.meeting) (new_cast_of meeting d)
+unfolding new_cast_of
+new_cast_keeps meeting d =
+    let kept : NewCast → Type 0 = λ cast. meeting ≡ cast.meeting in
+    keeps_next kept (only (has_fields 6 d)) _ (λ exactly.
+    keeps_next kept (number_in (get (codes "resolution") d)) _ (λ resolution.
+    keeps_next kept (just _ _) _ (λ capacity.
+    keeps_next kept (spelled party_of _) _ (λ member.
+    keeps_next kept (number_in (get (codes "from") d)) _ (λ from.
+    keeps_next kept (number_in (get (codes "to") d)) _ (λ to.
+    keeps_next kept (spelled way_of _) _ (λ way. keeps_ok kept _ refl)))))))
+
+-- a request on the poll that the body names
+on_poll_keeps : (asking : PollName → Request) (meeting body : List ℕ) → ((poll : PollName) → poll.meeting ≡ meeting_in (asking poll))
+    → Keeps (λ request. meeting ≡ meeting_in request) (named_poll_of meeting body >>= λ poll. Ok (asking poll))
+on_poll_keeps asking meeting body same =
+    let kept : Request → Type 0 = λ request. meeting ≡ meeting_in request in
+    keeps_then (λ (poll : PollName). meeting ≡ poll.meeting) kept (named_poll_of meeting body) _ (named_poll_keeps meeting body) (λ poll h.
+    keeps_ok kept (asking poll) (h ∙ same poll))
+
 asked_keeps : (verb : Verb) (meeting body : List ℕ) → Keeps (λ request. meeting ≡ meeting_in request) (asked verb meeting body)
-unfolding call_of load_of
+unfolding call_of load_of open_of order_of start_of close_of declare_of cast_of
 asked_keeps Call meeting body =
     let kept : Request → Type 0 = λ request. meeting ≡ meeting_in request in
     keeps_next kept (body_of body) _ (λ d.
     keeps_then (λ (called : NewMeeting). meeting ≡ called.meeting) kept (new_meeting_of meeting d) _ (new_meeting_keeps meeting d) (λ called h.
-    keeps_ok kept (CallMeeting called) h))
+    keeps_ok kept (request.CallMeeting called) h))
 asked_keeps Register meeting body =
     let kept : Request → Type 0 = λ request. meeting ≡ meeting_in request in
     keeps_next kept (body_of body) _ (λ d.
     keeps_then (λ (loaded : NewRegister). meeting ≡ loaded.meeting) kept (new_register_of meeting d) _ (new_register_keeps meeting d) (λ loaded h.
-    keeps_ok kept (LoadRegister loaded) h))
+    keeps_ok kept (request.LoadRegister loaded) h))
+asked_keeps Open meeting body =
+    let kept : Request → Type 0 = λ request. meeting ≡ meeting_in request in
+    keeps_next kept (body_of body) _ (λ d. keeps_next kept (only (has_fields 0 d)) _ (λ nothing. keeps_ok kept _ refl))
+asked_keeps Order meeting body =
+    let kept : Request → Type 0 = λ request. meeting ≡ meeting_in request in
+    keeps_next kept (body_of body) _ (λ d.
+    keeps_then (λ (ordered : NewPoll). meeting ≡ ordered.meeting) kept (new_poll_of meeting d) _ (new_poll_keeps meeting d) (λ ordered h.
+    keeps_ok kept (request.Order ordered) h))
+asked_keeps Start meeting body = on_poll_keeps (λ poll. request.Start poll) meeting body (λ poll. refl)
+asked_keeps Close meeting body = on_poll_keeps (λ poll. request.Close poll) meeting body (λ poll. refl)
+asked_keeps Declare meeting body = on_poll_keeps (λ poll. request.Declare poll) meeting body (λ poll. refl)
 asked_keeps Mine meeting body = keeps_ok (λ request. meeting ≡ meeting_in request) _ refl
+asked_keeps Cast meeting body =
+    let kept : Request → Type 0 = λ request. meeting ≡ meeting_in request in
+    keeps_next kept (body_of body) _ (λ d.
+    keeps_then (λ (cast : NewCast). meeting ≡ cast.meeting) kept (new_cast_of meeting d) _ (new_cast_keeps meeting d) (λ cast h.
+    keeps_ok kept (request.Cast cast) h))
 
 -- ---- the laws, of a verb and a meeting that were read or not
 

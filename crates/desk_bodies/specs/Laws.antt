@@ -4,7 +4,7 @@ use Rattle.desk_terms.specs.declared.refusal.Refusal.{Refusal}
 use Rattle.desk_terms.specs.declared.refusal.Refusal.TheVariants.{Route, Unreadable}
 use Rattle.desk_terms.specs.Names.{meeting_of}
 use Rattle.desk_words.specs.declared.request.Request.{Request}
-use Rattle.desk_words.specs.declared.request.Request.TheVariants.{CallMeeting, LoadRegister, Mine}
+use Rattle.desk_words.specs.declared.request.Request.TheVariants.{CallMeeting, LoadRegister, OpenMeeting, Order, Start, Close, Declare, Mine, Cast}
 use Rattle.desk_bodies.specs.declared.verb.Verb.{Verb}
 use Rattle.desk_bodies.specs.Requests.{request_of}
 use Rattle.desk_bodies.specs.Verbs.{verb_word, verb_of}
@@ -26,7 +26,13 @@ RouteComesFirst = (meeting verb body other : List ℕ) → request_of meeting ve
 abbrev pub meeting_in : Request → List ℕ
 meeting_in (CallMeeting called) = called.meeting
 meeting_in (LoadRegister loaded) = loaded.meeting
+meeting_in (OpenMeeting meeting) = meeting
+meeting_in (Order ordered) = ordered.meeting
+meeting_in (Start poll) = poll.meeting
+meeting_in (Close poll) = poll.meeting
+meeting_in (Declare poll) = poll.meeting
 meeting_in (Mine meeting) = meeting
+meeting_in (Cast cast) = cast.meeting
 
 -- a request is of the meeting that was named
 abbrev pub RequestsKeepTheMeeting : Type 0

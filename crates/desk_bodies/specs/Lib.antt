@@ -3,6 +3,7 @@ pub mod Bodies
 pub mod Calls
 pub mod Laws
 pub mod Places
+pub mod Polls
 pub mod Registers
 pub mod Requests
 pub mod Verbs

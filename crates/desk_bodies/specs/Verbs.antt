@@ -1,14 +1,20 @@
 -- Verbs, which name requests.
 use Rattle.std.specs.Prelude.{ℕ, List, [], ◌∷◌, Option, codes, bytes_eq, find}
 use Rattle.desk_bodies.specs.declared.verb.Verb.{Verb}
-use Rattle.desk_bodies.specs.declared.verb.Verb.TheVariants.{Call, Register, Mine}
+use Rattle.desk_bodies.specs.declared.verb.Verb.TheVariants.{Call, Register, Open, Order, Start, Close, Declare, Mine, Cast}
 
 -- the word for a verb
 abbrev pub verb_word : Verb → List ℕ
 verb_word Call = codes "call"
 verb_word Register = codes "register"
+verb_word Open = codes "open"
+verb_word Order = codes "order"
+verb_word Start = codes "start"
+verb_word Close = codes "close"
+verb_word Declare = codes "declare"
 verb_word Mine = codes "mine"
+verb_word Cast = codes "cast"
 
 -- the one whose word it is
 abbrev pub verb_of : List ℕ → Option Verb
-verb_of word = find (λ verb. bytes_eq word (verb_word verb)) (Call ∷ Register ∷ Mine ∷ [])
+verb_of word = find (λ verb. bytes_eq word (verb_word verb)) (Call ∷ Register ∷ Open ∷ Order ∷ Start ∷ Close ∷ Declare ∷ Mine ∷ Cast ∷ [])

@@ -11,6 +11,7 @@ mod body;
 mod call;
 pub mod laws;
 mod place;
+mod poll;
 mod register;
 mod request;
 mod verb;

@@ -2,14 +2,14 @@
 ghost use Rattle.std.specs.Prelude.{◌≡◌};
 ghost use Rattle.serde_json.specs.View.{view, items_view};
 ghost use Rattle.desk_calendar.specs.Texts.{day_of, moment_of};
-ghost use Rattle.desk_terms.specs.Kinds.{company_of, meeting_kind_of, resolution_kind_of, holder_kind_of};
+ghost use Rattle.desk_terms.specs.Kinds.{company_of, meeting_kind_of, resolution_kind_of, holder_kind_of, way_of};
 ghost use Rattle.desk_terms.specs.Names.{party_of};
 ghost use Rattle.desk_bodies.specs.Answers.{Gives, itself, readable, only};
-ghost use Rattle.desk_bodies.specs.Places.{there, has_fields, has_items, string_in, number_in, items_in, spelled, text_of};
+ghost use Rattle.desk_bodies.specs.Places.{there, has_fields, has_items, string_in, number_in, flag_in, items_in, spelled, just, text_of};
 
 use crate::ask::{Ask, UNREADABLE};
 use desk_words::{
-    Company, Day, HolderKind, MeetingKind, Moment, Party, ResKind, Text, TextFault, read_day,
+    Company, Day, HolderKind, MeetingKind, Moment, Party, ResKind, Text, TextFault, Way, read_day,
     read_moment, read_party,
 };
 use serde_json::Value;
@@ -69,6 +69,13 @@ pub(crate) fn number_in(place: Option<&Value>) -> Result<u64, Ask>
     place.and_then(Value::as_u64).ok_or(UNREADABLE)
 }
 
+/// Whether `true` or `false` stands at a place.
+pub(crate) fn flag_in(place: Option<&Value>) -> Result<bool, Ask>
+    ensures { Gives itself result (flag_in (there place.entry)) }
+{
+    place.and_then(Value::as_bool).ok_or(UNREADABLE)
+}
+
 /// The items of the array at a place.
 pub(crate) fn items_in(place: Option<&Value>) -> Result<&[Value], Ask>
     ensures { Gives (λ vs. items_view vs.now) result (items_in (there place.entry)) }
@@ -108,6 +115,13 @@ pub(crate) fn holder_kind_in(place: Option<&Value>) -> Result<HolderKind, Ask>
 }
 
 #[tactic(auto, unfolding(crate::specs::Places::spelled))]
+pub(crate) fn way_in(place: Option<&Value>) -> Result<Way, Ask>
+    ensures { Gives itself result (spelled way_of (there place.entry)) }
+{
+    Way::of_word(string_in(place)?).ok_or(UNREADABLE)
+}
+
+#[tactic(auto, unfolding(crate::specs::Places::spelled))]
 pub(crate) fn day_in(place: Option<&Value>) -> Result<Day, Ask>
     ensures { Gives itself result (spelled day_of (there place.entry)) }
 {
@@ -126,6 +140,18 @@ pub(crate) fn party_in(place: Option<&Value>) -> Result<Party, Ask>
     ensures { Gives itself result (spelled party_of (there place.entry)) }
 {
     read_party(string_in(place)?.as_bytes()).ok_or(UNREADABLE)
+}
+
+/// Refuses what is no string of that word.
+#[tactic(auto, unfolding(crate::specs::Places::just))]
+pub(crate) fn exactly_word(place: Option<&Value>, word: &str) -> Result<(), Ask>
+    ensures { Gives itself result (just word.now (there place.entry)) }
+{
+    if string_in(place)? == word {
+        Ok(())
+    } else {
+        Err(UNREADABLE)
+    }
 }
 
 fn text_of(alloc: Global, string: &str) -> Result<Text, Ask>

@@ -1,13 +1,15 @@
 //! Requests, as a meeting, a verb and a body ask them.
 ghost use Rattle.desk_bodies.specs.Answers.{Gives, itself};
-ghost use Rattle.desk_bodies.specs.Requests.{call_of, load_of, request_of};
+ghost use Rattle.desk_bodies.specs.Requests.{call_of, load_of, open_of, order_of, named_poll_of, start_of, close_of, declare_of, cast_of, request_of};
 
 use crate::ask::Ask;
 use crate::body::read_body;
 use crate::call::new_meeting;
+use crate::place::exactly_fields;
+use crate::poll::{new_cast, new_poll, poll_name};
 use crate::register::new_register;
 use crate::verb::Verb;
-use desk_words::{MeetingId, Refusal, Request, read_meeting};
+use desk_words::{MeetingId, PollName, Refusal, Request, read_meeting};
 use std::alloc::Global;
 
 const ROUTE: Ask = Ask::Refused(Refusal::Route);
@@ -30,6 +32,65 @@ fn load(alloc: Global, meeting: MeetingId, body: &[u8]) -> Result<Request, Ask>
     Ok(Request::LoadRegister(loaded))
 }
 
+#[tactic(auto, unfolding(crate::specs::Requests::open_of))]
+fn open(alloc: Global, meeting: MeetingId, body: &[u8]) -> Result<Request, Ask>
+    ensures { Gives itself result (open_of meeting body.now) }
+{
+    let body = read_body(alloc, body)?;
+    exactly_fields(&body, 0)?;
+    Ok(Request::OpenMeeting(meeting))
+}
+
+#[tactic(auto, unfolding(crate::specs::Requests::order_of))]
+fn order(alloc: Global, meeting: MeetingId, body: &[u8]) -> Result<Request, Ask>
+    ensures { Gives itself result (order_of meeting body.now) }
+{
+    let body = read_body(alloc, body)?;
+    let ordered = new_poll(meeting, &body)?;
+    Ok(Request::Order(ordered))
+}
+
+#[tactic(auto, unfolding(crate::specs::Requests::named_poll_of))]
+fn named_poll(alloc: Global, meeting: MeetingId, body: &[u8]) -> Result<PollName, Ask>
+    ensures { Gives itself result (named_poll_of meeting body.now) }
+{
+    let body = read_body(alloc, body)?;
+    poll_name(meeting, &body)
+}
+
+#[tactic(auto, unfolding(crate::specs::Requests::start_of))]
+fn start(alloc: Global, meeting: MeetingId, body: &[u8]) -> Result<Request, Ask>
+    ensures { Gives itself result (start_of meeting body.now) }
+{
+    let poll = named_poll(alloc, meeting, body)?;
+    Ok(Request::Start(poll))
+}
+
+#[tactic(auto, unfolding(crate::specs::Requests::close_of))]
+fn close(alloc: Global, meeting: MeetingId, body: &[u8]) -> Result<Request, Ask>
+    ensures { Gives itself result (close_of meeting body.now) }
+{
+    let poll = named_poll(alloc, meeting, body)?;
+    Ok(Request::Close(poll))
+}
+
+#[tactic(auto, unfolding(crate::specs::Requests::declare_of))]
+fn declare(alloc: Global, meeting: MeetingId, body: &[u8]) -> Result<Request, Ask>
+    ensures { Gives itself result (declare_of meeting body.now) }
+{
+    let poll = named_poll(alloc, meeting, body)?;
+    Ok(Request::Declare(poll))
+}
+
+#[tactic(auto, unfolding(crate::specs::Requests::cast_of))]
+fn cast(alloc: Global, meeting: MeetingId, body: &[u8]) -> Result<Request, Ask>
+    ensures { Gives itself result (cast_of meeting body.now) }
+{
+    let body = read_body(alloc, body)?;
+    let cast = new_cast(meeting, &body)?;
+    Ok(Request::Cast(cast))
+}
+
 /// The request that a verb asks of a meeting, with what the body says of it.
 ///
 /// It is refused as `Route` where no such verb is listed or no meeting can have that name, and
@@ -45,6 +106,12 @@ pub fn request_of(alloc: Global, meeting: &[u8], verb: &[u8], body: &[u8]) -> Re
     match verb {
         Verb::Call => call(alloc, meeting, body),
         Verb::Register => load(alloc, meeting, body),
+        Verb::Open => open(alloc, meeting, body),
+        Verb::Order => order(alloc, meeting, body),
+        Verb::Start => start(alloc, meeting, body),
+        Verb::Close => close(alloc, meeting, body),
+        Verb::Declare => declare(alloc, meeting, body),
         Verb::Mine => Ok(Request::Mine(meeting)),
+        Verb::Cast => cast(alloc, meeting, body),
     }
 }

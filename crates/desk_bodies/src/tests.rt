@@ -1,5 +1,5 @@
-use crate::{Ask, request_of};
-use desk_words::{Company, HolderKind, MeetingKind, Refusal, Request, ResKind};
+use crate::{Ask, Verb, request_of};
+use desk_words::{Company, HolderKind, MeetingKind, Refusal, Request, ResKind, Way};
 use std::alloc::{AllocError, Global};
 use std::test::Fail;
 
@@ -12,6 +12,27 @@ const CALL: &str =
 
 const REGISTER: &str =
     "{\"record\":\"2026-06-16T18:00:00\",\"rows\":[[\"M1\",\"individual\",\"Ada\",100,100]]}";
+
+const ORDER: &str = r#"{"resolution":7,"take":"2026-06-18T10:05:00","chair":true}"#;
+
+const POLL: &str = r#"{"resolution":2}"#;
+
+const CAST: &str =
+    r#"{"resolution":3,"as":"member","member":"M1","from":61,"to":100,"way":"against"}"#;
+
+/// What stands for no number of a request.
+const NO_NUMBERS: [&str; 10] = [
+    "-1",
+    "-0",
+    "1.5",
+    "1.0",
+    "1e0",
+    "18446744073709551616",
+    "\"1\"",
+    "true",
+    "null",
+    "[1]",
+];
 
 /// Why a request of the meeting G1 is not read.
 fn refusal(alloc: Global, verb: &str, body: &str) -> Option<Ask> {
@@ -212,5 +233,316 @@ fn refusal_of_text(alloc: Global, bytes: u8) -> Result<Option<Ask>, AllocError> 
 fn lengths_of_texts(rt: HostRuntime) -> Result<(), Fail> {
     assert_eq!(rt; refusal_of_text(rt.alloc(), 200)?, None);
     assert_eq!(rt; refusal_of_text(rt.alloc(), 201)?, UNREADABLE);
+    Ok(())
+}
+
+#[test]
+fn words_of_verbs(rt: HostRuntime) {
+    let words = [
+        (Verb::Call, "call"),
+        (Verb::Register, "register"),
+        (Verb::Open, "open"),
+        (Verb::Order, "order"),
+        (Verb::Start, "start"),
+        (Verb::Close, "close"),
+        (Verb::Declare, "declare"),
+        (Verb::Mine, "mine"),
+        (Verb::Cast, "cast"),
+    ];
+    for (verb, word) in words {
+        assert_eq!(rt; verb.word(), word);
+        assert_eq!(rt; Verb::of_word(word.as_bytes()), Some(verb));
+    }
+    for word in ["", "fly", "Open", "ope", "opened", "open ", "closed"] {
+        assert_eq!(rt; Verb::of_word(word.as_bytes()), None, "{word}");
+    }
+}
+
+/// The first of these that, in place of a part of a body, leaves it readable.
+fn first_read(
+    alloc: Global,
+    verb: &str,
+    body: &str,
+    part: &str,
+    others: &[&'static str],
+) -> Result<Option<&'static str>, AllocError> {
+    for other in others {
+        let changed = body.replace(alloc, part, other)?;
+        if refusal(alloc, verb, changed.as_str()) != UNREADABLE {
+            return Ok(Some(*other));
+        }
+    }
+    Ok(None)
+}
+
+#[test]
+fn an_opening_is_read(rt: HostRuntime) -> Result<(), Fail> {
+    for body in ["", "{}"] {
+        let request = request_of(rt.alloc(), b"G1", b"open", body.as_bytes())?;
+        let Request::OpenMeeting(meeting) = request else {
+            panic!(rt; "another request");
+        };
+        assert_eq!(rt; meeting.as_str(), "G1");
+    }
+    for body in ["{", " ", "[]", "null", r#"{"x":1}"#] {
+        assert_eq!(rt; refusal(rt.alloc(), "open", body), UNREADABLE, "{body}");
+    }
+    Ok(())
+}
+
+#[test]
+fn an_order_is_read(rt: HostRuntime) -> Result<(), Fail> {
+    let request = request_of(rt.alloc(), b"G1", b"order", ORDER.as_bytes())?;
+    let Request::Order(ordered) = request else {
+        panic!(rt; "another request");
+    };
+    assert_eq!(rt; ordered.meeting.as_str(), "G1");
+    assert_eq!(rt; ordered.resolution, 7);
+    assert_eq!(rt; ordered.take.seconds(), 3_990_765_900);
+    assert!(rt; ordered.chair);
+    Ok(())
+}
+
+#[test]
+fn an_order_on_a_demand_is_read(rt: HostRuntime) -> Result<(), Fail> {
+    let body = r#"{"chair":false,"take":"2026-06-18T10:00:00","resolution":0}"#;
+    let request = request_of(rt.alloc(), b"OFFICE", b"order", body.as_bytes())?;
+    let Request::Order(ordered) = request else {
+        panic!(rt; "another request");
+    };
+    assert_eq!(rt; ordered.meeting.as_str(), "OFFICE");
+    assert_eq!(rt; ordered.resolution, 0);
+    assert_eq!(rt; ordered.take.seconds(), 3_990_765_600);
+    assert!(rt; !ordered.chair);
+    Ok(())
+}
+
+/// The first of these that, in place of a part of the order, leaves it readable.
+fn order_read(
+    alloc: Global,
+    part: &str,
+    others: &[&'static str],
+) -> Result<Option<&'static str>, AllocError> {
+    first_read(alloc, "order", ORDER, part, others)
+}
+
+#[test]
+fn fields_of_orders(rt: HostRuntime) -> Result<(), Fail> {
+    let alloc = rt.alloc();
+    assert_eq!(rt; order_read(alloc, ORDER, &["", "{}", "{", "[]"])?, None);
+    let more = [r#","more":1}"#, r#","number":7}"#];
+    assert_eq!(rt; order_read(alloc, "}", &more)?, None);
+    let number = ["", r#""number":7,"#];
+    assert_eq!(rt; order_read(alloc, r#""resolution":7,"#, &number)?, None);
+    assert_eq!(rt;
+        order_read(alloc, r#""take":"2026-06-18T10:05:00","#, &[""])?,
+        None
+    );
+    assert_eq!(rt;
+        order_read(alloc, r#","chair":true"#, &["", r#","chairman":true"#])?,
+        None
+    );
+    Ok(())
+}
+
+#[test]
+fn values_of_orders(rt: HostRuntime) -> Result<(), Fail> {
+    let alloc = rt.alloc();
+    assert_eq!(rt; order_read(alloc, "7", &NO_NUMBERS)?, None);
+    let flags = ["1", "0", r#""true""#, "null", "[true]"];
+    assert_eq!(rt; order_read(alloc, "true", &flags)?, None);
+    let takes = [
+        r#""2026-06-18""#,
+        r#""2026-06-18 10:05:00""#,
+        r#""2026-06-31T10:05:00""#,
+        r#""2026-06-18T24:00:00""#,
+        r#""3000-01-01T00:00:00""#,
+        "3990765900",
+        "null",
+    ];
+    assert_eq!(rt;
+        order_read(alloc, r#""2026-06-18T10:05:00""#, &takes)?,
+        None
+    );
+    Ok(())
+}
+
+#[test]
+fn a_start_is_read(rt: HostRuntime) -> Result<(), Fail> {
+    let request = request_of(rt.alloc(), b"G1", b"start", POLL.as_bytes())?;
+    let Request::Start(poll) = request else {
+        panic!(rt; "another request");
+    };
+    assert_eq!(rt; poll.meeting.as_str(), "G1");
+    assert_eq!(rt; poll.resolution, 2);
+    Ok(())
+}
+
+#[test]
+fn a_close_is_read(rt: HostRuntime) -> Result<(), Fail> {
+    let body = r#"{"resolution":0}"#;
+    let request = request_of(rt.alloc(), b"G2", b"close", body.as_bytes())?;
+    let Request::Close(poll) = request else {
+        panic!(rt; "another request");
+    };
+    assert_eq!(rt; poll.meeting.as_str(), "G2");
+    assert_eq!(rt; poll.resolution, 0);
+    Ok(())
+}
+
+#[test]
+fn a_declaration_is_read(rt: HostRuntime) -> Result<(), Fail> {
+    let body = r#"{"resolution":18446744073709551615}"#;
+    let request = request_of(rt.alloc(), b"G3", b"declare", body.as_bytes())?;
+    let Request::Declare(poll) = request else {
+        panic!(rt; "another request");
+    };
+    assert_eq!(rt; poll.meeting.as_str(), "G3");
+    assert_eq!(rt; poll.resolution, u64::MAX);
+    Ok(())
+}
+
+/// The first body that is read though it names no poll as this verb asks.
+fn poll_read(alloc: Global, verb: &str) -> Result<Option<&'static str>, AllocError> {
+    let bodies = ["", "{}", "{", "[2]", "2", r#"{"number":2}"#];
+    if let Some(body) = first_read(alloc, verb, POLL, POLL, &bodies)? {
+        return Ok(Some(body));
+    }
+    if let Some(more) = first_read(alloc, verb, POLL, "}", &[r#","more":1}"#])? {
+        return Ok(Some(more));
+    }
+    first_read(alloc, verb, POLL, "2", &NO_NUMBERS)
+}
+
+#[test]
+fn forms_of_polls(rt: HostRuntime) -> Result<(), Fail> {
+    for verb in ["start", "close", "declare"] {
+        assert_eq!(rt; poll_read(rt.alloc(), verb)?, None, "{verb}");
+    }
+    Ok(())
+}
+
+#[test]
+fn a_vote_is_read(rt: HostRuntime) -> Result<(), Fail> {
+    let request = request_of(rt.alloc(), b"G1", b"cast", CAST.as_bytes())?;
+    let Request::Cast(cast) = request else {
+        panic!(rt; "another request");
+    };
+    assert_eq!(rt; cast.meeting.as_str(), "G1");
+    assert_eq!(rt; cast.resolution, 3);
+    assert_eq!(rt; cast.member.as_str(), "M1");
+    assert_eq!(rt; cast.from, 61);
+    assert_eq!(rt; cast.to, 100);
+    assert_eq!(rt; cast.way, Way::Against);
+    Ok(())
+}
+
+#[test]
+fn votes_of_any_number_are_read(rt: HostRuntime) -> Result<(), Fail> {
+    let body =
+        r#"{"as":"member","from":18446744073709551615,"member":"ABCDEFGHIJKLMN01","resolution":18446744073709551615,"to":0,"way":"for"}"#;
+    let request = request_of(rt.alloc(), b"G1", b"cast", body.as_bytes())?;
+    let Request::Cast(cast) = request else {
+        panic!(rt; "another request");
+    };
+    assert_eq!(rt; cast.resolution, u64::MAX);
+    assert_eq!(rt; cast.member.as_str(), "ABCDEFGHIJKLMN01");
+    assert_eq!(rt; cast.from, u64::MAX);
+    assert_eq!(rt; cast.to, 0);
+    assert_eq!(rt; cast.way, Way::For);
+    Ok(())
+}
+
+#[test]
+fn a_withheld_vote_is_read(rt: HostRuntime) -> Result<(), Fail> {
+    let body = r#"{"resolution":0,"as":"member","member":"M2","from":0,"to":50,"way":"withheld"}"#;
+    let request = request_of(rt.alloc(), b"G1", b"cast", body.as_bytes())?;
+    let Request::Cast(cast) = request else {
+        panic!(rt; "another request");
+    };
+    assert_eq!(rt; cast.resolution, 0);
+    assert_eq!(rt; cast.member.as_str(), "M2");
+    assert_eq!(rt; cast.from, 0);
+    assert_eq!(rt; cast.to, 50);
+    assert_eq!(rt; cast.way, Way::Withheld);
+    Ok(())
+}
+
+/// The first of these that, in place of a part of the vote, leaves it readable.
+fn vote_read(
+    alloc: Global,
+    part: &str,
+    others: &[&'static str],
+) -> Result<Option<&'static str>, AllocError> {
+    first_read(alloc, "cast", CAST, part, others)
+}
+
+#[test]
+fn fields_of_votes(rt: HostRuntime) -> Result<(), Fail> {
+    assert_eq!(rt; vote_read(rt.alloc(), CAST, &["", "{}", "{", "[]"])?, None);
+    let more = [r#","more":1}"#, r#","number":3}"#];
+    assert_eq!(rt; vote_read(rt.alloc(), "}", &more)?, None);
+    let fields = [
+        r#""resolution":3,"#,
+        r#""as":"member","#,
+        r#""member":"M1","#,
+        r#""from":61,"#,
+        r#""to":100,"#,
+        r#","way":"against""#,
+    ];
+    for field in fields {
+        assert_eq!(rt; vote_read(rt.alloc(), field, &[""])?, None, "{field}");
+    }
+    Ok(())
+}
+
+#[test]
+fn numbers_of_votes(rt: HostRuntime) -> Result<(), Fail> {
+    for number in ["3", "61", "100"] {
+        assert_eq!(rt;
+            vote_read(rt.alloc(), number, &NO_NUMBERS)?,
+            None,
+            "{number}"
+        );
+    }
+    Ok(())
+}
+
+#[test]
+fn capacities_of_votes(rt: HostRuntime) -> Result<(), Fail> {
+    let others = [
+        r#""as":"rep""#,
+        r#""as":"proxy""#,
+        r#""as":"instructed""#,
+        r#""as":"Member""#,
+        r#""as":"membe""#,
+        r#""as":"members""#,
+        r#""as":"""#,
+        r#""as":1"#,
+        r#""as":true"#,
+        r#""as":null"#,
+    ];
+    assert_eq!(rt; vote_read(rt.alloc(), r#""as":"member""#, &others)?, None);
+    Ok(())
+}
+
+#[test]
+fn words_of_votes(rt: HostRuntime) -> Result<(), Fail> {
+    let ways = [r#""free""#, r#""For""#, r#""""#, "1", "true", "null"];
+    assert_eq!(rt; vote_read(rt.alloc(), r#""against""#, &ways)?, None);
+    let withheld = r#""withheld""#;
+    assert_eq!(rt;
+        vote_read(rt.alloc(), r#""against""#, &[withheld])?,
+        Some(withheld)
+    );
+    let members = [
+        r#""OFFICE""#,
+        r#""m1""#,
+        r#""""#,
+        r#""ABCDEFGHIJKLMN012""#,
+        "1",
+        "null",
+    ];
+    assert_eq!(rt; vote_read(rt.alloc(), r#""M1""#, &members)?, None);
     Ok(())
 }

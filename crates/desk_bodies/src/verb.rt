@@ -9,13 +9,35 @@ pub enum Verb {
     Call,
     /// The office loads the register of a meeting.
     Register,
+    /// The office opens a meeting.
+    Open,
+    /// The office orders a poll.
+    Order,
+    /// The office starts a poll.
+    Start,
+    /// The office closes the voting on a poll.
+    Close,
+    /// The office declares the result of a poll.
+    Declare,
     /// A party asks for its own things in a meeting.
     Mine,
+    /// A member votes on some of its own shares.
+    Cast,
 }
 
 impl Verb {
     /// Every verb.
-    const ALL: [Verb; 3] = [Verb::Call, Verb::Register, Verb::Mine];
+    const ALL: [Verb; 9] = [
+        Verb::Call,
+        Verb::Register,
+        Verb::Open,
+        Verb::Order,
+        Verb::Start,
+        Verb::Close,
+        Verb::Declare,
+        Verb::Mine,
+        Verb::Cast,
+    ];
 
     /// The word for it.
     pub fn word(self) -> &'static str
@@ -24,7 +46,13 @@ impl Verb {
         match self {
             Verb::Call => "call",
             Verb::Register => "register",
+            Verb::Open => "open",
+            Verb::Order => "order",
+            Verb::Start => "start",
+            Verb::Close => "close",
+            Verb::Declare => "declare",
             Verb::Mine => "mine",
+            Verb::Cast => "cast",
         }
     }
 

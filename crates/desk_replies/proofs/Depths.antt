@@ -49,5 +49,11 @@ pub reply_below : (r : Reply) → depth (reply_data r) ≤ 127
 reply_below reply.Called = omega arith
 reply_below reply.Loaded = omega arith
 reply_below reply.Same = omega arith
+reply_below reply.MeetingOpened = omega arith
+reply_below reply.Ordered = omega arith
+reply_below reply.Started = omega arith
+reply_below reply.VotingClosed = omega arith
+reply_below (reply.Declared d) = omega arith
+reply_below reply.Recorded = omega arith
 reply_below (reply.Mine m) = omega (arith, mine_below m)
 reply_below (reply.Refused r) = omega arith

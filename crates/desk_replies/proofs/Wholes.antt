@@ -45,5 +45,11 @@ pub reply_whole : (r : Reply) → has_float (reply_data r) ≡ false
 reply_whole reply.Called = refl
 reply_whole reply.Loaded = refl
 reply_whole reply.Same = refl
+reply_whole reply.MeetingOpened = refl
+reply_whole reply.Ordered = refl
+reply_whole reply.Started = refl
+reply_whole reply.VotingClosed = refl
+reply_whole (reply.Declared d) = refl
+reply_whole reply.Recorded = refl
 reply_whole (reply.Mine m) = mine_whole m
 reply_whole (reply.Refused r) = refl

@@ -15,6 +15,7 @@ use Rattle.desk_words.specs.declared.records.DemandMark.{DemandMark}
 use Rattle.desk_words.specs.declared.records.CastKind.{CastKind}
 use Rattle.desk_words.specs.declared.records.CastKind.TheVariants as cast
 use Rattle.desk_words.specs.declared.records.CastMark.{CastMark}
+use Rattle.desk_words.specs.declared.request.Declaration.{Declaration}
 use Rattle.desk_words.specs.declared.request.Given.{Given}
 use Rattle.desk_words.specs.declared.request.Authorised.{Authorised}
 use Rattle.desk_words.specs.declared.request.Mine.{Mine}
@@ -125,6 +126,17 @@ mine_data m = with_members (
     ∷ (codes "row", or_null row_data m.row)
     ∷ [])
 
+-- what is declared of a poll: its count, and whether the resolution is carried (sections 282 and 283)
+abbrev pub declaration_data : Declaration → Data
+declaration_data d = with_members (
+    (codes "against", whole d.tally.votes_against)
+    ∷ (codes "carried", boolean d.carried)
+    ∷ (codes "eligible", whole d.tally.eligible)
+    ∷ (codes "for", whole d.tally.votes_for)
+    ∷ (codes "ok", string (codes "declared"))
+    ∷ (codes "withheld", whole d.tally.withheld)
+    ∷ [])
+
 -- the refusal's number and its name
 abbrev pub refusal_data : Refusal → Data
 refusal_data r = with_members ((codes "code", whole (number_of r)) ∷ (codes "refused", string (name_of r)) ∷ [])
@@ -134,7 +146,13 @@ abbrev pub reply_data : Reply → Data
 reply_data reply.Called = ok_data (codes "called")
 reply_data reply.Loaded = ok_data (codes "loaded")
 reply_data reply.Same = ok_data (codes "same")
+reply_data reply.MeetingOpened = ok_data (codes "opened")
+reply_data reply.Ordered = ok_data (codes "ordered")
+reply_data reply.Started = ok_data (codes "started")
+reply_data reply.VotingClosed = ok_data (codes "closed")
+reply_data (reply.Declared d) = declaration_data d
 reply_data (reply.Mine m) = mine_data m
+reply_data reply.Recorded = ok_data (codes "recorded")
 reply_data (reply.Refused r) = refusal_data r
 
 -- the text of a reply, with no space between its tokens

@@ -2,10 +2,10 @@
 ghost use Rattle.std.specs.Prelude.{◌≡◌, Some, IfOk};
 ghost use Rattle.serde_json.specs.Read.{read};
 ghost use Rattle.serde_json.specs.View.{view};
-ghost use Rattle.desk_replies.specs.Replies.{ok_data, refusal_data, reply_data, reply_bytes};
+ghost use Rattle.desk_replies.specs.Replies.{ok_data, declaration_data, refusal_data, reply_data, reply_bytes};
 
 use crate::mine::mine_value;
-use desk_words::{Refusal, Reply};
+use desk_words::{Declaration, Refusal, Reply};
 use serde_json::{Value, json};
 use std::alloc::{AllocError, Global};
 
@@ -13,6 +13,19 @@ fn ok_value(alloc: Global, word: &str) -> Result<Value, AllocError>
     ensures { IfOk result (λ v. view v ≡ ok_data word.now) }
 {
     json!(in alloc; {"ok": word})
+}
+
+fn declaration_value(alloc: Global, declared: Declaration) -> Result<Value, AllocError>
+    ensures { IfOk result (λ v. view v ≡ declaration_data declared) }
+{
+    json!(in alloc; {
+        "against": declared.tally.votes_against,
+        "carried": declared.carried,
+        "eligible": declared.tally.eligible,
+        "for": declared.tally.votes_for,
+        "ok": "declared",
+        "withheld": declared.tally.withheld
+    })
 }
 
 fn refusal_value(alloc: Global, refusal: Refusal) -> Result<Value, AllocError>
@@ -28,7 +41,13 @@ fn reply_value(alloc: Global, reply: &Reply) -> Result<Value, AllocError>
         Reply::Called => ok_value(alloc, "called"),
         Reply::Loaded => ok_value(alloc, "loaded"),
         Reply::Same => ok_value(alloc, "same"),
+        Reply::MeetingOpened => ok_value(alloc, "opened"),
+        Reply::Ordered => ok_value(alloc, "ordered"),
+        Reply::Started => ok_value(alloc, "started"),
+        Reply::VotingClosed => ok_value(alloc, "closed"),
+        Reply::Declared(declared) => declaration_value(alloc, *declared),
         Reply::Mine(mine) => mine_value(alloc, mine),
+        Reply::Recorded => ok_value(alloc, "recorded"),
         Reply::Refused(refusal) => refusal_value(alloc, *refusal),
     }
 }

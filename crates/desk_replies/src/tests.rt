@@ -1,8 +1,8 @@
 use crate::{failure_text, reply_text};
 use desk_words::{
-    Appointment, Authorised, Authority, Block, Capacity, CastKind, CastMark, DemandMark, Failure,
-    Given, HolderKind, Instr, Listing, MeetingId, Mine, Moment, Party, Range, Refusal, RegisterRow,
-    Reply, Text, Way, read_meeting, read_moment, read_party,
+    Appointment, Authorised, Authority, Block, Capacity, CastKind, CastMark, Declaration,
+    DemandMark, Failure, Given, HolderKind, Instr, Listing, MeetingId, Mine, Moment, Party, Range,
+    Refusal, RegisterRow, Reply, Tally, Text, Way, read_meeting, read_moment, read_party,
 };
 use std::alloc::Global;
 use std::process::Abort;
@@ -44,6 +44,48 @@ fn short_replies(rt: HostRuntime) -> Result<(), Fail> {
     assert!(rt; called.as_slice() == b"{\"ok\":\"called\"}".as_slice());
     let refused = reply_text(alloc, &Reply::Refused(Refusal::NotYours))?;
     assert!(rt; refused.as_slice() == b"{\"code\":33,\"refused\":\"NotYours\"}".as_slice());
+    Ok(())
+}
+
+#[test]
+fn replies_on_polls(rt: HostRuntime) -> Result<(), Fail> {
+    let alloc = rt.alloc();
+    let opened = reply_text(alloc, &Reply::MeetingOpened)?;
+    assert!(rt; opened.as_slice() == br#"{"ok":"opened"}"#.as_slice());
+    let ordered = reply_text(alloc, &Reply::Ordered)?;
+    assert!(rt; ordered.as_slice() == br#"{"ok":"ordered"}"#.as_slice());
+    let started = reply_text(alloc, &Reply::Started)?;
+    assert!(rt; started.as_slice() == br#"{"ok":"started"}"#.as_slice());
+    let closed = reply_text(alloc, &Reply::VotingClosed)?;
+    assert!(rt; closed.as_slice() == br#"{"ok":"closed"}"#.as_slice());
+    let recorded = reply_text(alloc, &Reply::Recorded)?;
+    assert!(rt; recorded.as_slice() == br#"{"ok":"recorded"}"#.as_slice());
+    Ok(())
+}
+
+/// A declaration of a count of so many for, against, withheld and eligible.
+fn declared(counts: [u64; 4], carried: bool) -> Reply {
+    let [votes_for, votes_against, withheld, eligible] = counts;
+    let tally = Tally {
+        votes_for,
+        votes_against,
+        withheld,
+        eligible,
+    };
+    Reply::Declared(Declaration { tally, carried })
+}
+
+#[test]
+fn declarations(rt: HostRuntime) -> Result<(), Fail> {
+    let alloc = rt.alloc();
+    let carried = reply_text(alloc, &declared([59, 41, 50, 150], true))?;
+    let wanted =
+        r#"{"against":41,"carried":true,"eligible":150,"for":59,"ok":"declared","withheld":50}"#;
+    assert!(rt; carried.as_slice() == wanted.as_bytes());
+    let lost = reply_text(alloc, &declared([0, 0, 0, 1_000_000_000_000], false))?;
+    let wanted =
+        r#"{"against":0,"carried":false,"eligible":1000000000000,"for":0,"ok":"declared","withheld":0}"#;
+    assert!(rt; lost.as_slice() == wanted.as_bytes());
     Ok(())
 }
 

@@ -1,11 +1,13 @@
-use Rattle.std.proofs.Common.{◌≡◌, ℕ, List, [], ◌∷◌, ◌++◌, codes, decimal, refl, append_assoc, ap, ◌∙◌}
-use Rattle.serde_json.specs.Data.{string}
+use Rattle.std.proofs.Common.{◌≡◌, ℕ, Bool, true, false, List, [], ◌∷◌, ◌++◌, codes, decimal, refl, append_assoc, ap, ◌∙◌}
+use Rattle.serde_json.specs.Data.{boolean, string}
 use Rattle.serde_json.specs.Written.{compact_text}
 use Rattle.serde_json.proofs.OnLiterals.{serde_json_on_literals}
 use Rattle.desk_terms.specs.Refusals.{number_of, name_of}
 use Rattle.desk_terms.specs.declared.refusal.Refusal.{Refusal}
 use Rattle.desk_terms.specs.declared.refusal.Refusal.TheVariants.{Key, Route, Method, TooLarge, Unreadable, OfficeOnly, PartyOnly, NoMeeting, Exists, ShortNotice, NoResolution, BadRange, SelfNamed, BadInstructions, TooMany, NoSuchNumber, AlreadyEnded, NoRegister, OtherRecord, Opened, NotOpened, Early, NoQuorum, NotPresent, NoRight, PollOrdered, NoPoll, DemandTooSmall, PollNotOpen, PollClosed, NotClosed, Declared, NotYours, AgainstInstruction}
-use Rattle.desk_words.specs.declared.request.Reply.TheVariants.{Refused}
+use Rattle.desk_words.specs.declared.request.Reply.TheVariants as reply
+use Rattle.desk_words.specs.declared.request.Declaration.{Declaration}
+use Rattle.desk_replies.specs.Letters.{truth, declaration_text}
 use Rattle.desk_replies.specs.Replies.{reply_bytes, whole, with_members}
 use Rattle.desk_replies.proofs.laws.replies_are_spelled.Goals as goal
 
@@ -53,12 +55,25 @@ parts : (n : ℕ) (word : List ℕ) → compact_text (with_members ((codes "code
 unfolding serde_json_on_literals
 parts n word = simp append_assoc
 
-refused_text : (r : Refusal) → reply_bytes (Refused r) ≡ codes "{\"code\":" ++ decimal (number_of r) ++ codes ",\"refused\":\"" ++ name_of r ++ codes "\"}"
+refused_text : (r : Refusal) → reply_bytes (reply.Refused r) ≡ codes "{\"code\":" ++ decimal (number_of r) ++ codes ",\"refused\":\"" ++ name_of r ++ codes "\"}"
 refused_text r =
     parts (number_of r) (name_of r)
     ∙ ap (λ text. codes "{\"code\":" ++ (decimal (number_of r) ++ (codes ",\"refused\":" ++ (text ++ codes "}")))) (name_as_it_is r)
     ∙ simp append_assoc
 
+-- each number's own text stands after its member's name
+declaration_parts : (against eligible votes_for withheld : ℕ) (carried : Bool) → compact_text (with_members (
+    (codes "against", whole against) ∷ (codes "carried", boolean carried) ∷ (codes "eligible", whole eligible) ∷ (codes "for", whole votes_for)
+    ∷ (codes "ok", string (codes "declared")) ∷ (codes "withheld", whole withheld) ∷ []))
+    ≡ codes "{\"against\":" ++ decimal against ++ codes ",\"carried\":" ++ truth carried ++ codes ",\"eligible\":" ++ decimal eligible
+    ++ codes ",\"for\":" ++ decimal votes_for ++ codes ",\"ok\":\"declared\",\"withheld\":" ++ decimal withheld ++ codes "}"
+unfolding serde_json_on_literals
+declaration_parts against eligible votes_for withheld true = simp append_assoc
+declaration_parts against eligible votes_for withheld false = simp append_assoc
+
+declaration_spelled : (d : Declaration) → reply_bytes (reply.Declared d) ≡ declaration_text d
+declaration_spelled d = declaration_parts d.tally.votes_against d.tally.eligible d.tally.votes_for d.tally.withheld d.carried
+
 pub returns : goal.returns
 unfolding serde_json_on_literals
-returns c = record { called = refl; loaded = refl; same = refl; refused = refused_text; store = refl; memory = refl }
+returns c = record { called = refl; loaded = refl; same = refl; opened = refl; ordered = refl; started = refl; closed = refl; recorded = refl; declared = declaration_spelled; refused = refused_text; store = refl; memory = refl }
