@@ -7,6 +7,8 @@ mod devices;
 #[cfg(test)]
 mod lines;
 #[cfg(test)]
+mod polls;
+#[cfg(test)]
 mod replies;
 #[cfg(test)]
 mod script;
