@@ -1,5 +1,5 @@
 -- The answer to a party.
-use Rattle.std.specs.Prelude.{ℕ, Bool, true, false, not, ◌&&◌, nat_le, nat_lt, List, [], ◌∷◌, length, Option, Some, None, is_none}
+use Rattle.std.specs.Prelude.{ℕ, Bool, true, false, not, ◌&&◌, nat_le, nat_lt, List, [], ◌∷◌, map, length, Option, Some, None, is_none}
 use Rattle.desk_words.specs.Names.{same_name}
 use Rattle.desk_words.specs.Office.{is_resolution}
 use Rattle.desk_words.specs.Places.{is_range}
@@ -12,13 +12,18 @@ use Rattle.desk_words.specs.declared.records.CastMark.{CastMark}
 use Rattle.desk_words.specs.declared.records.Meeting.{Meeting}
 use Rattle.desk_words.specs.declared.records.Poll.{Poll}
 use Rattle.desk_words.specs.declared.records.RegisterRow.{RegisterRow}
-use Rattle.desk_words.specs.declared.request.Change.TheVariants.{AddCast}
+use Rattle.desk_words.specs.declared.request.Change.TheVariants.{AddAppointment, AddEnding, AddCast}
+use Rattle.desk_words.specs.declared.request.NewAppointment.{NewAppointment}
 use Rattle.desk_words.specs.declared.request.NewCast.{NewCast}
+use Rattle.desk_words.specs.declared.request.NewEnding.{NewEnding}
 use Rattle.desk_words.specs.declared.request.Request.{Request}
 use Rattle.desk_words.specs.declared.request.Request.TheVariants as asked
 use Rattle.desk_words.specs.declared.request.Mine.{Mine}
 use Rattle.desk_words.specs.declared.request.Reply.{Reply}
 use Rattle.desk_words.specs.declared.request.Reply.TheVariants as reply
+use Rattle.poll_rules.specs.Cutoffs.{meeting_cutoffs}
+use Rattle.caller_view.specs.Appointments.{appoint_cases, appointment_of, end_cases, ending_of, given_use, receipt_of}
+use Rattle.caller_view.specs.Notices.{notice_of}
 use Rattle.caller_view.specs.Polls.{poll_on, there_is, is_waiting, is_closed, casts_on}
 use Rattle.poll_rules.specs.Shares.{is_individual}
 use Rattle.caller_view.specs.declared.views.PublicRecord.{PublicRecord}
@@ -51,34 +56,66 @@ is_for_office (asked.Order new) = true
 is_for_office (asked.Start poll) = true
 is_for_office (asked.Close poll) = true
 is_for_office (asked.Declare poll) = true
+is_for_office (asked.ClosedDays days) = true
+is_for_office (asked.Notice meeting) = false
 is_for_office (asked.Mine meeting) = false
+is_for_office (asked.Appoint new) = false
+is_for_office (asked.End new) = false
 is_for_office (asked.Cast new) = false
 
--- when a party is not told its own things
-abbrev pub mine_cases : PublicRecord → List Case
-mine_cases public = record { refusal = NoMeeting; holds = is_none public.meeting } ∷ []
-
--- what a party is told of its own things
-abbrev pub mine_of : List ℕ → OwnView → Mine
-mine_of meeting own = record {
+-- what a party is told of its own things, where the meeting has that cutoff
+abbrev pub mine_of : List ℕ → ℕ → OwnView → Mine
+mine_of meeting cutoff own = record {
   meeting = meeting;
   row = own.row;
-  given = own.given;
+  given = map (given_use cutoff) own.given;
   persons = own.persons;
+  received = own.received;
   authorised = own.authorised;
   present = own.present;
   demands = own.demands;
   casts = own.casts;
 }
 
--- a party is told its own things, or that there is no such meeting
-abbrev pub mine_answer : PublicRecord → OwnView → List ℕ → Answer
-mine_answer public own meeting = unless (mine_cases public) (replied (reply.Mine (mine_of meeting own)))
-
 -- an answer in a meeting, or that there is none
 abbrev pub in_record : Option Meeting → (Meeting → Answer) → Answer
 in_record None f = refused NoMeeting
 in_record (Some meeting) f = f meeting
+
+-- the last moment at which an appointment counts for the meeting, by the closed days as they stand
+abbrev pub cutoff_in : PublicRecord → ℕ → Meeting → ℕ
+cutoff_in public now meeting = (meeting_cutoffs meeting public.closed now).appointments
+
+-- a party is told its own things
+abbrev pub mine_answer : PublicRecord → OwnView → ℕ → List ℕ → Answer
+mine_answer public own now id = in_record public.meeting (λ meeting. replied (reply.Mine (mine_of id (cutoff_in public now meeting) own)))
+
+-- the notice of a meeting is public
+abbrev pub notice_answer : PublicRecord → ℕ → Answer
+notice_answer public now = in_record public.meeting (λ meeting. replied (reply.Notice (notice_of meeting public.polls public.closed now)))
+
+-- an appointment that is recorded, with its number and what it counts for
+abbrev pub appointed : ℕ → OwnView → ℕ → NewAppointment → Answer
+appointed cutoff own now new = record {
+  reply = reply.Appointed (receipt_of cutoff own now);
+  change = Some (AddAppointment (record { meeting = new.meeting; appointment = appointment_of own now new }));
+}
+
+-- an appointment is recorded, or refused by the public record and the party's own things alone; the register is not looked at
+abbrev pub appoint_answer : PublicRecord → OwnView → ℕ → NewAppointment → Answer
+appoint_answer public own now new =
+    in_record public.meeting (λ meeting. unless (appoint_cases meeting own new) (appointed (cutoff_in public now meeting) own now new))
+
+-- an ending that is recorded
+abbrev pub ended : OwnView → ℕ → NewEnding → Answer
+ended own now new = record {
+  reply = reply.Ended new.number;
+  change = Some (AddEnding (record { meeting = new.meeting; ending = ending_of own now new }));
+}
+
+-- an ending is recorded, or refused by the party's own things
+abbrev pub end_answer : PublicRecord → OwnView → ℕ → NewEnding → Answer
+end_answer public own now new = in_record public.meeting (λ meeting. unless (end_cases own new) (ended own now new))
 
 -- the party holds shares as an individual
 abbrev pub holds_as_individual : Option RegisterRow → Bool
@@ -135,5 +172,9 @@ answer_of public own now (asked.Order new) = refused OfficeOnly
 answer_of public own now (asked.Start poll) = refused OfficeOnly
 answer_of public own now (asked.Close poll) = refused OfficeOnly
 answer_of public own now (asked.Declare poll) = refused OfficeOnly
-answer_of public own now (asked.Mine meeting) = mine_answer public own meeting
+answer_of public own now (asked.ClosedDays days) = refused OfficeOnly
+answer_of public own now (asked.Notice meeting) = notice_answer public now
+answer_of public own now (asked.Mine meeting) = mine_answer public own now meeting
+answer_of public own now (asked.Appoint new) = appoint_answer public own now new
+answer_of public own now (asked.End new) = end_answer public own now new
 answer_of public own now (asked.Cast new) = cast_answer public own now new

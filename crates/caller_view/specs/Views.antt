@@ -2,6 +2,7 @@
 use Rattle.std.specs.Prelude.{ℕ, Bool, false, ◌&&◌, ◌==◌, List, [], map, filter, find, reverse, Option, Some, None, option_map}
 use Rattle.std.specs.List.{list_any}
 use Rattle.desk_words.specs.Names.{same_name}
+use Rattle.desk_words.specs.Places.{Places}
 use Rattle.desk_words.specs.declared.office.OfficeLists.{OfficeLists}
 use Rattle.desk_words.specs.declared.office.MeetingLists.{MeetingLists}
 use Rattle.desk_words.specs.declared.records.RegisterRow.{RegisterRow}
@@ -13,9 +14,14 @@ use Rattle.desk_words.specs.declared.records.DemandMark.{DemandMark}
 use Rattle.desk_words.specs.declared.records.Poll.{Poll}
 use Rattle.desk_words.specs.declared.records.CastMark.{CastMark}
 use Rattle.desk_words.specs.declared.request.Given.{Given}
+use Rattle.desk_words.specs.declared.request.PollGoverned.{PollGoverned}
+use Rattle.desk_words.specs.declared.request.Received.{Received}
 use Rattle.desk_words.specs.declared.request.Authorised.{Authorised}
 use Rattle.desk_terms.specs.declared.kinds.HolderKind.{HolderKind}
 use Rattle.desk_terms.specs.declared.kinds.HolderKind.TheVariants.{Individual, Corporation, Treasury}
+use Rattle.poll_rules.specs.Cutoffs.{is_late_poll, late_cutoffs, meeting_cutoffs}
+use Rattle.poll_rules.specs.Governing.{governed_of}
+use Rattle.poll_rules.specs.declared.papers.Cutoffs.{Cutoffs}
 use Rattle.caller_view.specs.declared.views.PublicRecord.{PublicRecord}
 use Rattle.caller_view.specs.declared.views.OwnView.{OwnView}
 
@@ -85,14 +91,30 @@ nothing_of party = record {
   casts = [];
 }
 
--- the own things of a party in a meeting
-abbrev pub own_in : MeetingLists → List ℕ → OwnView
-own_in m party = record {
+-- the places that an appointment governs, by the meeting's register, appointments and endings
+abbrev pub governed_by : MeetingLists → Cutoffs → Appointment → List Places
+governed_by m cutoffs a = governed_of cutoffs m.register m.appointments m.endings a.member a.number
+
+-- what an appointment governs for a late poll
+abbrev pub poll_governed : MeetingLists → List ℕ → Appointment → Poll → PollGoverned
+poll_governed m closed a poll = record { resolution = poll.resolution; governs = governed_by m (late_cutoffs poll closed) a }
+
+-- an appointment, with what it governs for the meeting and for each late poll, by the closed days as they stand
+abbrev pub received_in : MeetingLists → List ℕ → ℕ → Appointment → Received
+received_in m closed now a = record {
+  appointment = a;
+  governs = governed_by m (meeting_cutoffs m.meeting closed now) a;
+  polls = map (poll_governed m closed a) (filter (is_late_poll closed) m.polls);
+}
+
+-- the own things of a party in a meeting, by the closed days as they stand, at a moment
+abbrev pub own_in : MeetingLists → List ℕ → List ℕ → ℕ → OwnView
+own_in m closed party now = record {
   party = party;
   row = row_of m.register party;
   given = map (given_in m.endings) (filter (λ (a : Appointment). same_name a.member party) m.appointments);
   persons = filter (λ (a : Authority). same_name a.corporation party) m.authorities;
-  received = filter (λ (a : Appointment). same_name a.proxy party) m.appointments;
+  received = map (received_in m closed now) (filter (λ (a : Appointment). same_name a.proxy party) m.appointments);
   authorised = map (authorised_by m.register) (filter (λ (a : Authority). same_name a.person party) m.authorities);
   present = list_any (λ (p : PresenceMark). same_name p.party party) m.presences;
   demands = filter (λ (d : DemandMark). same_name d.party party) m.demands;
@@ -100,10 +122,10 @@ own_in m party = record {
 }
 
 -- the own things of a party in a meeting, if there is one
-abbrev pub own_in_some : Option MeetingLists → List ℕ → OwnView
-own_in_some None party = nothing_of party
-own_in_some (Some m) party = own_in m party
+abbrev pub own_in_some : Option MeetingLists → List ℕ → List ℕ → ℕ → OwnView
+own_in_some None closed party now = nothing_of party
+own_in_some (Some m) closed party now = own_in m closed party now
 
 -- the own things of a party in a meeting of an office, at a moment
 abbrev pub own_of : OfficeLists → List ℕ → List ℕ → ℕ → OwnView
-own_of office party id now = own_in_some (meeting_at office id) party
+own_of office party id now = own_in_some (meeting_at office id) office.closed party now

@@ -1,13 +1,18 @@
 //! The answer to a party.
-ghost use Rattle.std.specs.Prelude.{◌≡◌, IfOk, IsOk, IsTrue};
+ghost use Rattle.std.specs.Prelude.{◌≡◌, IfOk, IsOk, IsTrue, map};
 ghost use Rattle.caller_view.specs.Answers.{answer_of, refused, mine_of, mine_answer, is_for_office};
+ghost use Rattle.caller_view.specs.Appointments.{given_use};
 
+use crate::appointments::{appoint, end, use_by};
 use crate::casts::cast;
+use crate::notices::notice;
 use crate::views::{Answer, OwnView, PublicRecord};
 use desk_words::{
-    CastMark, Given, Listing, MeetingId, Mine, Moment, Refusal, RegisterRow, Reply, Request,
+    CastMark, Given, GivenUse, Listing, MeetingId, Mine, Moment, Received, Refusal, RegisterRow,
+    Reply, Request,
 };
-use std::alloc::AllocError;
+use poll_rules::cutoffs;
+use std::alloc::{AllocError, Global};
 
 /// The answer that refuses, and changes nothing.
 pub fn refuse(refusal: Refusal) -> Answer
@@ -28,10 +33,29 @@ fn copy_row(row: &Option<RegisterRow>) -> Result<Option<RegisterRow>, AllocError
     }
 }
 
-fn copy_given(given: &Listing<Given>) -> Result<Listing<Given>, AllocError>
-    ensures { IfOk result (λ l. l ≡ given.now) }
+fn used(given: &Given, cutoff: Moment) -> Result<GivenUse, AllocError>
+    ensures { IfOk result (λ u. u ≡ given_use cutoff given.now) }
 {
-    given.clone()
+    Ok(GivenUse {
+        given: given.clone()?,
+        used: use_by(cutoff, given.appointment.moment),
+    })
+}
+
+fn given_uses(alloc: Global, given: &[Given], cutoff: Moment) -> Result<Vec<GivenUse>, AllocError>
+    ensures { IfOk result (λ v. v.items ≡ map (given_use cutoff) given.now) }
+{
+    let mut uses = Vec::new(alloc);
+    for one in given {
+        uses.push(used(one, cutoff)?)?;
+    }
+    Ok(uses)
+}
+
+fn copy_received(received: &Listing<Received>) -> Result<Listing<Received>, AllocError>
+    ensures { IfOk result (λ l. l ≡ received.now) }
+{
+    received.clone()
 }
 
 fn copy_casts(casts: &Listing<CastMark>) -> Result<Listing<CastMark>, AllocError>
@@ -40,14 +64,20 @@ fn copy_casts(casts: &Listing<CastMark>) -> Result<Listing<CastMark>, AllocError
     casts.clone()
 }
 
-fn own_things(meeting: MeetingId, own: &OwnView) -> Result<Mine, AllocError>
-    ensures { IfOk result (λ m. m ≡ mine_of meeting own.now) }
+fn own_things(
+    alloc: Global,
+    meeting: MeetingId,
+    cutoff: Moment,
+    own: &OwnView,
+) -> Result<Mine, AllocError>
+    ensures { IfOk result (λ m. m ≡ mine_of meeting cutoff own.now) }
 {
     Ok(Mine {
         meeting,
         row: copy_row(&own.row)?,
-        given: copy_given(&own.given)?,
+        given: Listing::from_vec(given_uses(alloc, own.given.as_slice(), cutoff)?),
         persons: own.persons.clone()?,
+        received: copy_received(&own.received)?,
         authorised: own.authorised.clone()?,
         present: own.present,
         demands: own.demands.clone()?,
@@ -55,21 +85,31 @@ fn own_things(meeting: MeetingId, own: &OwnView) -> Result<Mine, AllocError>
     })
 }
 
-fn mine(public: &PublicRecord, own: &OwnView, meeting: MeetingId) -> Result<Answer, AllocError>
-    ensures { IfOk result (λ a. a ≡ mine_answer public.now own.now meeting) }
+fn mine(
+    alloc: Global,
+    public: &PublicRecord,
+    own: &OwnView,
+    now: Moment,
+    id: MeetingId,
+) -> Result<Answer, AllocError>
+    ensures { IfOk result (λ a. a ≡ mine_answer public.now own.now now id) }
 {
-    if public.meeting.is_none() {
-        return Ok(refuse(Refusal::NoMeeting));
+    match &public.meeting {
+        None => Ok(refuse(Refusal::NoMeeting)),
+        Some(meeting) => {
+            let cutoff = cutoffs(meeting, None, &public.closed, now).appointments;
+            Ok(Answer {
+                reply: Reply::Mine(own_things(alloc, id, cutoff, own)?),
+                change: None,
+            })
+        }
     }
-    Ok(Answer {
-        reply: Reply::Mine(own_things(meeting, own)?),
-        change: None,
-    })
 }
 
 /// The answer to a party: a function of what it may see, the moment and the request. The error is
 /// want of memory; an office request, which is refused, needs none.
 pub fn answer(
+    alloc: Global,
     public: &PublicRecord,
     own: &OwnView,
     now: Moment,
@@ -85,8 +125,12 @@ pub fn answer(
         | Request::Order(_)
         | Request::Start(_)
         | Request::Close(_)
-        | Request::Declare(_) => Ok(refuse(Refusal::OfficeOnly)),
-        Request::Mine(meeting) => mine(public, own, *meeting),
+        | Request::Declare(_)
+        | Request::ClosedDays(_) => Ok(refuse(Refusal::OfficeOnly)),
+        Request::Notice(_) => notice(alloc, public, now),
+        Request::Mine(meeting) => mine(alloc, public, own, now, *meeting),
+        Request::Appoint(new) => appoint(public, own, now, new),
+        Request::End(new) => Ok(end(public, own, now, new)),
         Request::Cast(new) => Ok(cast(public, own, now, new)),
     }
 }

@@ -2,10 +2,10 @@
 #![tactic(auto)]
 
 mod answers;
+mod appointments;
 mod casts;
+mod notices;
 mod polls;
-#[cfg(test)]
-mod tests;
 mod views;
 
 pub use answers::{answer, refuse};

@@ -1,15 +1,16 @@
 //! What a party may see, and what it is answered.
 use desk_words::{
-    Appointment, Authorised, Authority, CastMark, Change, DayList, DemandMark, Given, Listing,
-    Meeting, Party, Poll, RegisterRow, Reply,
+    Authorised, Authority, CastMark, Change, DemandMark, Given, Listing, Meeting, Party, Poll,
+    Received, RegisterRow, Reply,
 };
+use office_days::Closed;
 
 /// What everyone may know of a meeting: the closed days (section 1173), and, where the meeting
 /// exists, its notice and resolutions, whether a register is loaded, the opening, and its polls
 /// with what is declared of them.
 #[derive(Debug, Drop)]
 pub struct PublicRecord {
-    pub closed: DayList,
+    pub closed: Closed,
     pub meeting: Option<Meeting>,
     /// In the order of resolutions.
     pub polls: Listing<Poll>,
@@ -25,8 +26,8 @@ pub struct OwnView {
     pub given: Listing<Given>,
     /// The authorities that it gave (section 323).
     pub persons: Listing<Authority>,
-    /// The appointments that name it.
-    pub received: Listing<Appointment>,
+    /// The appointments that name it, with the places that each governs.
+    pub received: Listing<Received>,
     /// The corporations that authorised it, with their shares.
     pub authorised: Listing<Authorised>,
     /// Whether it is marked present.

@@ -1,10 +1,13 @@
-use Rattle.std.proofs.Common.{◌≡◌, ℕ, List, codes, Bool, true, false, Option, Some, None, Result, Ok, Err, refl, ap, subst, ◌∙◌, ◌⊎◌, inl, inr}
+use Rattle.std.proofs.Common.{◌≡◌, ℕ, List, codes, Bool, true, false, cond, Option, Some, None, Result, Ok, Err, refl, ap, subst, ◌∙◌, ◌⊎◌, inl, inr}
+use Rattle.std.specs.Prelude.{bytes_eq, nat_le}
+use Rattle.std.proofs.lemmas.Slice.Eq.{bytes_eq-Decides}
 use Rattle.serde_json.specs.Data.{Data, Items, no_items, item}
+use Rattle.serde_json.specs.Events.{items_len}
 use Rattle.serde_json.specs.Find.{at, get}
 use Rattle.desk_calendar.specs.Texts.{day_of, moment_of}
 use Rattle.desk_terms.specs.declared.refusal.Refusal.{Refusal}
 use Rattle.desk_terms.specs.declared.refusal.Refusal.TheVariants.{Route, Unreadable}
-use Rattle.desk_terms.specs.Kinds.{company_of, meeting_kind_of, resolution_kind_of, holder_kind_of, way_of}
+use Rattle.desk_terms.specs.Kinds.{company_of, meeting_kind_of, resolution_kind_of, holder_kind_of, way_of, instruction_of}
 use Rattle.desk_terms.specs.Names.{meeting_of, party_of}
 use Rattle.desk_words.specs.Lists.{are_resolutions}
 use Rattle.desk_words.specs.Registers.{register_of}
@@ -15,16 +18,20 @@ use Rattle.desk_words.specs.declared.request.NewMeeting.{NewMeeting}
 use Rattle.desk_words.specs.declared.request.NewRegister.{NewRegister}
 use Rattle.desk_words.specs.declared.request.NewPoll.{NewPoll}
 use Rattle.desk_words.specs.declared.request.PollName.{PollName}
+use Rattle.desk_words.specs.declared.request.NewAppointment.{NewAppointment}
+use Rattle.desk_words.specs.declared.request.NewEnding.{NewEnding}
 use Rattle.desk_words.specs.declared.request.NewCast.{NewCast}
 use Rattle.desk_bodies.specs.declared.verb.Verb.{Verb}
-use Rattle.desk_bodies.specs.declared.verb.Verb.TheVariants.{Call, Register, Open, Order, Start, Close, Declare, Mine, Cast}
+use Rattle.desk_bodies.specs.declared.verb.Verb.TheVariants.{Call, Register, Open, Order, Start, Close, Declare, Closed, Notice, Mine, Appoint, End, Cast}
 use Rattle.desk_bodies.specs.Answers.{◌>>=◌, readable, only}
 use Rattle.desk_bodies.specs.Places.{has_fields, has_items, string_in, number_in, flag_in, items_in, spelled, just, text_of, each}
+use Rattle.desk_bodies.specs.Appointments.{most_instructions, instruction_at, instructions_in, new_appointment_of, new_ending_of}
 use Rattle.desk_bodies.specs.Bodies.{body_of, value_of, filled}
 use Rattle.desk_bodies.specs.Calls.{resolution_of, counted, resolutions_in, new_meeting_of}
+use Rattle.desk_bodies.specs.Days.{day_at, day_list_of, days_in, closed_days_of}
 use Rattle.desk_bodies.specs.Polls.{new_poll_of, poll_name_of, new_cast_of}
 use Rattle.desk_bodies.specs.Registers.{row_of, register_in, new_register_of}
-use Rattle.desk_bodies.specs.Requests.{routed, call_of, load_of, open_of, order_of, named_poll_of, start_of, close_of, declare_of, cast_of, asked, request_of}
+use Rattle.desk_bodies.specs.Requests.{routed, call_of, load_of, open_of, order_of, named_poll_of, start_of, close_of, declare_of, closed_of, appoint_of, end_of, cast_of, unnamed, asked, request_of}
 use Rattle.desk_bodies.specs.Verbs.{verb_of}
 use Rattle.desk_bodies.specs.Laws.{meeting_in}
 
@@ -89,6 +96,10 @@ of_resolutions place =
     of_next (items_in place) _ (of_readable _) (λ items.
     of_next (each resolution_of items) _ (of_each resolution_of of_resolution items) (λ resolutions. of_counted resolutions _ refl))
 
+of_day : (d : Data) → OnlyUnreadable (day_at d)
+unfolding day_at
+of_day d = of_spelled day_of (Some d)
+
 of_new_meeting : (meeting : List ℕ) (d : Data) → OnlyUnreadable (new_meeting_of meeting d)
 unfolding new_meeting_of
 of_new_meeting meeting d =
@@ -148,6 +159,31 @@ of_new_cast meeting d =
     of_next (number_in (get (codes "to") d)) _ (of_number _) (λ to.
     of_next (spelled way_of _) _ (of_spelled _ _) (λ way. of_ok _)))))))
 
+of_instruction : (d : Data) → OnlyUnreadable (instruction_at d)
+unfolding instruction_at
+of_instruction d = of_spelled instruction_of (Some d)
+
+of_instructions : (place : Option Data) → OnlyUnreadable (instructions_in place)
+unfolding instructions_in
+of_instructions place =
+    of_next (items_in place) _ (of_readable _) (λ items.
+    of_next (only (nat_le (items_len items) most_instructions)) _ (of_only _) (λ few. of_each instruction_at of_instruction items))
+
+of_new_appointment : (meeting : List ℕ) (d : Data) → OnlyUnreadable (new_appointment_of meeting d)
+unfolding new_appointment_of
+of_new_appointment meeting d =
+    of_next (only (has_fields 4 d)) _ (of_only _) (λ exactly.
+    of_next (spelled party_of _) _ (of_spelled _ _) (λ proxy.
+    of_next (number_in (get (codes "from") d)) _ (of_number _) (λ from.
+    of_next (number_in (get (codes "to") d)) _ (of_number _) (λ to.
+    of_next (instructions_in _) _ (of_instructions _) (λ instructions. of_ok _)))))
+
+of_new_ending : (meeting : List ℕ) (d : Data) → OnlyUnreadable (new_ending_of meeting d)
+unfolding new_ending_of
+of_new_ending meeting d =
+    of_next (only (has_fields 1 d)) _ (of_only _) (λ exactly.
+    of_next (number_in _) _ (of_number _) (λ number. of_ok _))
+
 of_body : (body : List ℕ) → OnlyUnreadable (body_of body)
 unfolding body_of
 of_body body = of_readable (value_of (filled body))
@@ -156,22 +192,100 @@ of_named_poll : (meeting body : List ℕ) → OnlyUnreadable (named_poll_of meet
 unfolding named_poll_of
 of_named_poll meeting body = of_next (body_of body) _ (of_body body) (of_poll_name meeting)
 
-of_asked : (verb : Verb) (meeting body : List ℕ) → OnlyUnreadable (asked verb meeting body)
-unfolding call_of load_of open_of order_of start_of close_of declare_of cast_of
-of_asked Call meeting body =
+of_days : (place : Option Data) → OnlyUnreadable (days_in place)
+unfolding days_in
+of_days place =
+    of_next (items_in place) _ (of_readable _) (λ items.
+    of_next (each day_at items) _ (of_each day_at of_day items) (λ days. of_readable (day_list_of days)))
+
+of_closed_days : (d : Data) → OnlyUnreadable (closed_days_of d)
+unfolding closed_days_of
+of_closed_days d = of_next (only (has_fields 1 d)) _ (of_only _) (λ exactly. of_days _)
+
+of_call : (meeting body : List ℕ) → OnlyUnreadable (call_of meeting body)
+unfolding call_of
+of_call meeting body =
     of_next (body_of body) _ (of_body body) (λ d. of_next (new_meeting_of meeting d) _ (of_new_meeting meeting d) (λ called. of_ok _))
-of_asked Register meeting body =
+
+of_load : (meeting body : List ℕ) → OnlyUnreadable (load_of meeting body)
+unfolding load_of
+of_load meeting body =
     of_next (body_of body) _ (of_body body) (λ d. of_next (new_register_of meeting d) _ (of_new_register meeting d) (λ loaded. of_ok _))
-of_asked Open meeting body =
+
+of_open : (meeting body : List ℕ) → OnlyUnreadable (open_of meeting body)
+unfolding open_of
+of_open meeting body =
     of_next (body_of body) _ (of_body body) (λ d. of_next (only (has_fields 0 d)) _ (of_only _) (λ nothing. of_ok _))
-of_asked Order meeting body =
+
+of_order : (meeting body : List ℕ) → OnlyUnreadable (order_of meeting body)
+unfolding order_of
+of_order meeting body =
     of_next (body_of body) _ (of_body body) (λ d. of_next (new_poll_of meeting d) _ (of_new_poll meeting d) (λ ordered. of_ok _))
-of_asked Start meeting body = of_next (named_poll_of meeting body) _ (of_named_poll meeting body) (λ poll. of_ok _)
-of_asked Close meeting body = of_next (named_poll_of meeting body) _ (of_named_poll meeting body) (λ poll. of_ok _)
-of_asked Declare meeting body = of_next (named_poll_of meeting body) _ (of_named_poll meeting body) (λ poll. of_ok _)
-of_asked Mine meeting body = of_ok _
-of_asked Cast meeting body =
+
+of_start : (meeting body : List ℕ) → OnlyUnreadable (start_of meeting body)
+unfolding start_of
+of_start meeting body = of_next (named_poll_of meeting body) _ (of_named_poll meeting body) (λ poll. of_ok _)
+
+of_close : (meeting body : List ℕ) → OnlyUnreadable (close_of meeting body)
+unfolding close_of
+of_close meeting body = of_next (named_poll_of meeting body) _ (of_named_poll meeting body) (λ poll. of_ok _)
+
+of_declare : (meeting body : List ℕ) → OnlyUnreadable (declare_of meeting body)
+unfolding declare_of
+of_declare meeting body = of_next (named_poll_of meeting body) _ (of_named_poll meeting body) (λ poll. of_ok _)
+
+of_closed : (body : List ℕ) → OnlyUnreadable (closed_of body)
+unfolding closed_of
+of_closed body =
+    of_next (body_of body) _ (of_body body) (λ d. of_next (closed_days_of d) _ (of_closed_days d) (λ days. of_ok _))
+
+of_appoint : (meeting body : List ℕ) → OnlyUnreadable (appoint_of meeting body)
+unfolding appoint_of
+of_appoint meeting body =
+    of_next (body_of body) _ (of_body body) (λ d. of_next (new_appointment_of meeting d) _ (of_new_appointment meeting d) (λ appointed. of_ok _))
+
+of_end : (meeting body : List ℕ) → OnlyUnreadable (end_of meeting body)
+unfolding end_of
+of_end meeting body =
+    of_next (body_of body) _ (of_body body) (λ d. of_next (new_ending_of meeting d) _ (of_new_ending meeting d) (λ ended. of_ok _))
+
+of_cast : (meeting body : List ℕ) → OnlyUnreadable (cast_of meeting body)
+unfolding cast_of
+of_cast meeting body =
     of_next (body_of body) _ (of_body body) (λ d. of_next (new_cast_of meeting d) _ (of_new_cast meeting d) (λ cast. of_ok _))
+
+-- ---- the route comes before the body
+
+-- what is asked is refused as Route with any body, or else only as Unreadable
+record IsRoutedFirst (asking : List ℕ → Result Request Refusal) : Type 0 where
+  two : (body : List ℕ) (refusal : Refusal) → asking body ≡ Err refusal → (refusal ≡ Route) ⊎ (refusal ≡ Unreadable)
+  first : (body other : List ℕ) → asking body ≡ Err Route → asking other ≡ Err Route
+
+-- so is what comes after a route, where its body is only unreadable
+after_route : {A : Type 0} (found : Option A) (asking : A → List ℕ → Result Request Refusal)
+    → ((x : A) (body : List ℕ) → OnlyUnreadable (asking x body)) → IsRoutedFirst (λ body. routed found >>= λ x. asking x body)
+after_route None asking h =
+    record { two = λ body refusal e. let same : refusal ≡ Route = cc in inl same; first = λ body other e. refl }
+after_route (Some x) asking h =
+    record {
+      two = λ body refusal e. inr ((h x body).refused refusal e);
+      first = λ body other e. let same : Route ≡ Unreadable = (h x body).refused Route e in cc;
+    }
+
+asked_routed : (verb : Verb) (meeting : List ℕ) → IsRoutedFirst (λ body. asked verb meeting body)
+asked_routed Call meeting = after_route (meeting_of meeting) call_of of_call
+asked_routed Register meeting = after_route (meeting_of meeting) load_of of_load
+asked_routed Open meeting = after_route (meeting_of meeting) open_of of_open
+asked_routed Order meeting = after_route (meeting_of meeting) order_of of_order
+asked_routed Start meeting = after_route (meeting_of meeting) start_of of_start
+asked_routed Close meeting = after_route (meeting_of meeting) close_of of_close
+asked_routed Declare meeting = after_route (meeting_of meeting) declare_of of_declare
+asked_routed Closed meeting = after_route (unnamed meeting) (λ nothing. closed_of) (λ nothing. of_closed)
+asked_routed Notice meeting = after_route (meeting_of meeting) (λ m body. Ok (request.Notice m)) (λ m body. of_ok _)
+asked_routed Mine meeting = after_route (meeting_of meeting) (λ m body. Ok (request.Mine m)) (λ m body. of_ok _)
+asked_routed Appoint meeting = after_route (meeting_of meeting) appoint_of of_appoint
+asked_routed End meeting = after_route (meeting_of meeting) end_of of_end
+asked_routed Cast meeting = after_route (meeting_of meeting) cast_of of_cast
 
 -- ---- the meeting is kept
 
@@ -231,6 +345,23 @@ named_poll_keeps meeting body =
     keeps_next kept (only (has_fields 1 d)) _ (λ exactly.
     keeps_next kept (number_in _) _ (λ resolution. keeps_ok kept _ refl)))
 
+new_appointment_keeps : (meeting : List ℕ) (d : Data) → Keeps (λ (appointed : NewAppointment). meeting ≡ appointed.meeting) (new_appointment_of meeting d)
+unfolding new_appointment_of
+new_appointment_keeps meeting d =
+    let kept : NewAppointment → Type 0 = λ appointed. meeting ≡ appointed.meeting in
+    keeps_next kept (only (has_fields 4 d)) _ (λ exactly.
+    keeps_next kept (spelled party_of _) _ (λ proxy.
+    keeps_next kept (number_in (get (codes "from") d)) _ (λ from.
+    keeps_next kept (number_in (get (codes "to") d)) _ (λ to.
+    keeps_next kept (instructions_in _) _ (λ instructions. keeps_ok kept _ refl)))))
+
+new_ending_keeps : (meeting : List ℕ) (d : Data) → Keeps (λ (ended : NewEnding). meeting ≡ ended.meeting) (new_ending_of meeting d)
+unfolding new_ending_of
+new_ending_keeps meeting d =
+    let kept : NewEnding → Type 0 = λ ended. meeting ≡ ended.meeting in
+    keeps_next kept (only (has_fields 1 d)) _ (λ exactly.
+    keeps_next kept (number_in _) _ (λ number. keeps_ok kept _ refl))
+
 new_cast_keeps : (meeting : List ℕ) (d : Data) → Keeps (λ (cast : NewCast). meeting ≡ cast.meeting) (new_cast_of meeting d)
 unfolding new_cast_of
 new_cast_keeps meeting d =
@@ -243,73 +374,137 @@ new_cast_keeps meeting d =
     keeps_next kept (number_in (get (codes "to") d)) _ (λ to.
     keeps_next kept (spelled way_of _) _ (λ way. keeps_ok kept _ refl)))))))
 
+-- a request is of the meeting
+abbrev IsOf : List ℕ → Request → Type 0
+IsOf meeting asking = Some meeting ≡ meeting_in asking
+
 -- a request on the poll that the body names
-on_poll_keeps : (asking : PollName → Request) (meeting body : List ℕ) → ((poll : PollName) → poll.meeting ≡ meeting_in (asking poll))
-    → Keeps (λ request. meeting ≡ meeting_in request) (named_poll_of meeting body >>= λ poll. Ok (asking poll))
+on_poll_keeps : (asking : PollName → Request) (meeting body : List ℕ) → ((poll : PollName) → Some poll.meeting ≡ meeting_in (asking poll))
+    → Keeps (IsOf meeting) (named_poll_of meeting body >>= λ poll. Ok (asking poll))
 on_poll_keeps asking meeting body same =
-    let kept : Request → Type 0 = λ request. meeting ≡ meeting_in request in
-    keeps_then (λ (poll : PollName). meeting ≡ poll.meeting) kept (named_poll_of meeting body) _ (named_poll_keeps meeting body) (λ poll h.
-    keeps_ok kept (asking poll) (h ∙ same poll))
+    keeps_then (λ (poll : PollName). meeting ≡ poll.meeting) (IsOf meeting) (named_poll_of meeting body) _ (named_poll_keeps meeting body) (λ poll h.
+    keeps_ok (IsOf meeting) (asking poll) (ap (λ m. Some m) h ∙ same poll))
 
-asked_keeps : (verb : Verb) (meeting body : List ℕ) → Keeps (λ request. meeting ≡ meeting_in request) (asked verb meeting body)
-unfolding call_of load_of open_of order_of start_of close_of declare_of cast_of
-asked_keeps Call meeting body =
-    let kept : Request → Type 0 = λ request. meeting ≡ meeting_in request in
-    keeps_next kept (body_of body) _ (λ d.
-    keeps_then (λ (called : NewMeeting). meeting ≡ called.meeting) kept (new_meeting_of meeting d) _ (new_meeting_keeps meeting d) (λ called h.
-    keeps_ok kept (request.CallMeeting called) h))
-asked_keeps Register meeting body =
-    let kept : Request → Type 0 = λ request. meeting ≡ meeting_in request in
-    keeps_next kept (body_of body) _ (λ d.
-    keeps_then (λ (loaded : NewRegister). meeting ≡ loaded.meeting) kept (new_register_of meeting d) _ (new_register_keeps meeting d) (λ loaded h.
-    keeps_ok kept (request.LoadRegister loaded) h))
-asked_keeps Open meeting body =
-    let kept : Request → Type 0 = λ request. meeting ≡ meeting_in request in
-    keeps_next kept (body_of body) _ (λ d. keeps_next kept (only (has_fields 0 d)) _ (λ nothing. keeps_ok kept _ refl))
-asked_keeps Order meeting body =
-    let kept : Request → Type 0 = λ request. meeting ≡ meeting_in request in
-    keeps_next kept (body_of body) _ (λ d.
-    keeps_then (λ (ordered : NewPoll). meeting ≡ ordered.meeting) kept (new_poll_of meeting d) _ (new_poll_keeps meeting d) (λ ordered h.
-    keeps_ok kept (request.Order ordered) h))
-asked_keeps Start meeting body = on_poll_keeps (λ poll. request.Start poll) meeting body (λ poll. refl)
-asked_keeps Close meeting body = on_poll_keeps (λ poll. request.Close poll) meeting body (λ poll. refl)
-asked_keeps Declare meeting body = on_poll_keeps (λ poll. request.Declare poll) meeting body (λ poll. refl)
-asked_keeps Mine meeting body = keeps_ok (λ request. meeting ≡ meeting_in request) _ refl
-asked_keeps Cast meeting body =
-    let kept : Request → Type 0 = λ request. meeting ≡ meeting_in request in
-    keeps_next kept (body_of body) _ (λ d.
-    keeps_then (λ (cast : NewCast). meeting ≡ cast.meeting) kept (new_cast_of meeting d) _ (new_cast_keeps meeting d) (λ cast h.
-    keeps_ok kept (request.Cast cast) h))
+call_keeps : (meeting body : List ℕ) → Keeps (IsOf meeting) (call_of meeting body)
+unfolding call_of
+call_keeps meeting body =
+    keeps_next (IsOf meeting) (body_of body) _ (λ d.
+    keeps_then (λ (called : NewMeeting). meeting ≡ called.meeting) (IsOf meeting) (new_meeting_of meeting d) _ (new_meeting_keeps meeting d) (λ called h.
+    keeps_ok (IsOf meeting) (request.CallMeeting called) (ap (λ m. Some m) h)))
 
--- ---- the laws, of a verb and a meeting that were read or not
+load_keeps : (meeting body : List ℕ) → Keeps (IsOf meeting) (load_of meeting body)
+unfolding load_of
+load_keeps meeting body =
+    keeps_next (IsOf meeting) (body_of body) _ (λ d.
+    keeps_then (λ (loaded : NewRegister). meeting ≡ loaded.meeting) (IsOf meeting) (new_register_of meeting d) _ (new_register_keeps meeting d) (λ loaded h.
+    keeps_ok (IsOf meeting) (request.LoadRegister loaded) (ap (λ m. Some m) h)))
 
-two : (listed : Option Verb) (named : Option (List ℕ)) (body : List ℕ) (refusal : Refusal)
-    → routed listed >>= (λ verb. routed named >>= λ meeting. asked verb meeting body) ≡ Err refusal → (refusal ≡ Route) ⊎ (refusal ≡ Unreadable)
-two None named body refusal e = let same : refusal ≡ Route = cc in inl same
-two (Some verb) None body refusal e = let same : refusal ≡ Route = cc in inl same
-two (Some verb) (Some meeting) body refusal e = inr ((of_asked verb meeting body).refused refusal e)
+open_keeps : (meeting body : List ℕ) → Keeps (IsOf meeting) (open_of meeting body)
+unfolding open_of
+open_keeps meeting body =
+    keeps_next (IsOf meeting) (body_of body) _ (λ d. keeps_next (IsOf meeting) (only (has_fields 0 d)) _ (λ nothing. keeps_ok (IsOf meeting) _ refl))
+
+order_keeps : (meeting body : List ℕ) → Keeps (IsOf meeting) (order_of meeting body)
+unfolding order_of
+order_keeps meeting body =
+    keeps_next (IsOf meeting) (body_of body) _ (λ d.
+    keeps_then (λ (ordered : NewPoll). meeting ≡ ordered.meeting) (IsOf meeting) (new_poll_of meeting d) _ (new_poll_keeps meeting d) (λ ordered h.
+    keeps_ok (IsOf meeting) (request.Order ordered) (ap (λ m. Some m) h)))
+
+start_keeps : (meeting body : List ℕ) → Keeps (IsOf meeting) (start_of meeting body)
+unfolding start_of
+start_keeps meeting body = on_poll_keeps (λ poll. request.Start poll) meeting body (λ poll. refl)
+
+close_keeps : (meeting body : List ℕ) → Keeps (IsOf meeting) (close_of meeting body)
+unfolding close_of
+close_keeps meeting body = on_poll_keeps (λ poll. request.Close poll) meeting body (λ poll. refl)
+
+declare_keeps : (meeting body : List ℕ) → Keeps (IsOf meeting) (declare_of meeting body)
+unfolding declare_of
+declare_keeps meeting body = on_poll_keeps (λ poll. request.Declare poll) meeting body (λ poll. refl)
+
+appoint_keeps : (meeting body : List ℕ) → Keeps (IsOf meeting) (appoint_of meeting body)
+unfolding appoint_of
+appoint_keeps meeting body =
+    keeps_next (IsOf meeting) (body_of body) _ (λ d.
+    keeps_then (λ (appointed : NewAppointment). meeting ≡ appointed.meeting) (IsOf meeting) (new_appointment_of meeting d) _ (new_appointment_keeps meeting d) (λ appointed h.
+    keeps_ok (IsOf meeting) (request.Appoint appointed) (ap (λ m. Some m) h)))
+
+end_keeps : (meeting body : List ℕ) → Keeps (IsOf meeting) (end_of meeting body)
+unfolding end_of
+end_keeps meeting body =
+    keeps_next (IsOf meeting) (body_of body) _ (λ d.
+    keeps_then (λ (ended : NewEnding). meeting ≡ ended.meeting) (IsOf meeting) (new_ending_of meeting d) _ (new_ending_keeps meeting d) (λ ended h.
+    keeps_ok (IsOf meeting) (request.End ended) (ap (λ m. Some m) h)))
+
+cast_keeps : (meeting body : List ℕ) → Keeps (IsOf meeting) (cast_of meeting body)
+unfolding cast_of
+cast_keeps meeting body =
+    keeps_next (IsOf meeting) (body_of body) _ (λ d.
+    keeps_then (λ (cast : NewCast). meeting ≡ cast.meeting) (IsOf meeting) (new_cast_of meeting d) _ (new_cast_keeps meeting d) (λ cast h.
+    keeps_ok (IsOf meeting) (request.Cast cast) (ap (λ m. Some m) h)))
+
+-- closed days are of no meeting
+closed_keeps : (body : List ℕ) → Keeps (λ asking. None ≡ meeting_in asking) (closed_of body)
+unfolding closed_of
+closed_keeps body =
+    let none : Request → Type 0 = λ asking. None ≡ meeting_in asking in
+    keeps_next none (body_of body) _ (λ d. keeps_next none (closed_days_of d) _ (λ days. keeps_ok none (request.ClosedDays days) refl))
+
+-- what is asked of the meeting that was named, if one was
+of_found : (found : Option (List ℕ)) (asking : List ℕ → Result Request Refusal) → ((meeting : List ℕ) → Keeps (IsOf meeting) (asking meeting))
+    → Keeps (λ request. found ≡ meeting_in request) (routed found >>= asking)
+of_found None asking h = record { ok = λ request e. cc }
+of_found (Some meeting) asking h = h meeting
+
+-- no meeting has the name `-`
+no_meeting_named : (meeting : List ℕ) → bytes_eq meeting (codes "-") ≡ true → meeting_of meeting ≡ None
+no_meeting_named meeting is = ap meeting_of ((bytes_eq-Decides meeting (codes "-")).0 is)
+
+of_unnamed : (meeting : List ℕ) (b : Bool) → bytes_eq meeting (codes "-") ≡ b → (asking : Result Request Refusal) → Keeps (λ request. None ≡ meeting_in request) asking
+    → Keeps (λ request. meeting_of meeting ≡ meeting_in request) (routed (cond {0} b (Some (tt {0})) None) >>= λ nothing. asking)
+of_unnamed meeting true is asking h = record { ok = λ request e. no_meeting_named meeting is ∙ h.ok request e }
+of_unnamed meeting false is asking h = record { ok = λ request e. cc }
+
+asked_keeps : (verb : Verb) (meeting body : List ℕ) → Keeps (λ request. meeting_of meeting ≡ meeting_in request) (asked verb meeting body)
+asked_keeps Call meeting body = of_found (meeting_of meeting) (λ m. call_of m body) (λ m. call_keeps m body)
+asked_keeps Register meeting body = of_found (meeting_of meeting) (λ m. load_of m body) (λ m. load_keeps m body)
+asked_keeps Open meeting body = of_found (meeting_of meeting) (λ m. open_of m body) (λ m. open_keeps m body)
+asked_keeps Order meeting body = of_found (meeting_of meeting) (λ m. order_of m body) (λ m. order_keeps m body)
+asked_keeps Start meeting body = of_found (meeting_of meeting) (λ m. start_of m body) (λ m. start_keeps m body)
+asked_keeps Close meeting body = of_found (meeting_of meeting) (λ m. close_of m body) (λ m. close_keeps m body)
+asked_keeps Declare meeting body = of_found (meeting_of meeting) (λ m. declare_of m body) (λ m. declare_keeps m body)
+asked_keeps Closed meeting body = of_unnamed meeting (bytes_eq meeting (codes "-")) refl (closed_of body) (closed_keeps body)
+asked_keeps Notice meeting body = of_found (meeting_of meeting) (λ m. Ok (request.Notice m)) (λ m. keeps_ok (IsOf m) (request.Notice m) refl)
+asked_keeps Mine meeting body = of_found (meeting_of meeting) (λ m. Ok (request.Mine m)) (λ m. keeps_ok (IsOf m) (request.Mine m) refl)
+asked_keeps Appoint meeting body = of_found (meeting_of meeting) (λ m. appoint_of m body) (λ m. appoint_keeps m body)
+asked_keeps End meeting body = of_found (meeting_of meeting) (λ m. end_of m body) (λ m. end_keeps m body)
+asked_keeps Cast meeting body = of_found (meeting_of meeting) (λ m. cast_of m body) (λ m. cast_keeps m body)
+
+-- ---- the laws, of a verb that was read or not
+
+two : (listed : Option Verb) (meeting body : List ℕ) (refusal : Refusal) → routed listed >>= (λ verb. asked verb meeting body) ≡ Err refusal → (refusal ≡ Route) ⊎ (refusal ≡ Unreadable)
+two None meeting body refusal e = let same : refusal ≡ Route = cc in inl same
+two (Some verb) meeting body refusal e = (asked_routed verb meeting).two body refusal e
 
 pub refusals_are_two_lem : (meeting verb body : List ℕ) (refusal : Refusal) → request_of meeting verb body ≡ Err refusal → (refusal ≡ Route) ⊎ (refusal ≡ Unreadable)
 unfolding request_of
-refusals_are_two_lem meeting verb body refusal e = two (verb_of verb) (meeting_of meeting) body refusal e
+refusals_are_two_lem meeting verb body refusal e = two (verb_of verb) meeting body refusal e
 
-route : (listed : Option Verb) (named : Option (List ℕ)) (body other : List ℕ)
-    → routed listed >>= (λ verb. routed named >>= λ meeting. asked verb meeting body) ≡ Err Route
-    → routed listed >>= (λ verb. routed named >>= λ meeting. asked verb meeting other) ≡ Err Route
-route None named body other e = refl
-route (Some verb) None body other e = refl
-route (Some verb) (Some meeting) body other e = let same : Route ≡ Unreadable = (of_asked verb meeting body).refused Route e in cc
+route : (listed : Option Verb) (meeting body other : List ℕ)
+    → routed listed >>= (λ verb. asked verb meeting body) ≡ Err Route
+    → routed listed >>= (λ verb. asked verb meeting other) ≡ Err Route
+route None meeting body other e = refl
+route (Some verb) meeting body other e = (asked_routed verb meeting).first body other e
 
 pub route_comes_first_lem : (meeting verb body other : List ℕ) → request_of meeting verb body ≡ Err Route → request_of meeting verb other ≡ Err Route
 unfolding request_of
-route_comes_first_lem meeting verb body other e = route (verb_of verb) (meeting_of meeting) body other e
+route_comes_first_lem meeting verb body other e = route (verb_of verb) meeting body other e
 
-kept : (listed : Option Verb) (named : Option (List ℕ)) (body : List ℕ) (request : Request)
-    → routed listed >>= (λ verb. routed named >>= λ meeting. asked verb meeting body) ≡ Ok request → named ≡ Some (meeting_in request)
-kept None named body request e = cc
-kept (Some verb) None body request e = cc
-kept (Some verb) (Some meeting) body request e = ap (λ m. Some m) ((asked_keeps verb meeting body).ok request e)
+kept : (listed : Option Verb) (meeting body : List ℕ) (request : Request) → routed listed >>= (λ verb. asked verb meeting body) ≡ Ok request → meeting_of meeting ≡ meeting_in request
+kept None meeting body request e = cc
+kept (Some verb) meeting body request e = (asked_keeps verb meeting body).ok request e
 
-pub requests_keep_the_meeting_lem : (meeting verb body : List ℕ) (request : Request) → request_of meeting verb body ≡ Ok request → meeting_of meeting ≡ Some (meeting_in request)
+pub requests_keep_the_meeting_lem : (meeting verb body : List ℕ) (request : Request) → request_of meeting verb body ≡ Ok request → meeting_of meeting ≡ meeting_in request
 unfolding request_of
-requests_keep_the_meeting_lem meeting verb body request e = kept (verb_of verb) (meeting_of meeting) body request e
+requests_keep_the_meeting_lem meeting verb body request e = kept (verb_of verb) meeting body request e

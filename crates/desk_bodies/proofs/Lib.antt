@@ -1,3 +1,5 @@
 mod BodyLemmas
+mod DayLemmas
+mod ItemLemmas
 mod LawLemmas
 mod ReadUpTo

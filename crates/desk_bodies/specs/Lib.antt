@@ -1,6 +1,8 @@
 pub mod Answers
+pub mod Appointments
 pub mod Bodies
 pub mod Calls
+pub mod Days
 pub mod Laws
 pub mod Places
 pub mod Polls

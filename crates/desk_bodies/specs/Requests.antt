@@ -1,5 +1,5 @@
 -- Requests, as a meeting, a verb and a body ask them.
-use Rattle.std.specs.Prelude.{ℕ, List, Option, Result, Ok, ok_or}
+use Rattle.std.specs.Prelude.{ℕ, List, Option, Some, None, Result, Ok, ok_or, codes, bytes_eq, if◌then◌else◌}
 use Rattle.desk_terms.specs.declared.refusal.Refusal.{Refusal}
 use Rattle.desk_terms.specs.declared.refusal.Refusal.TheVariants.{Route}
 use Rattle.desk_terms.specs.Names.{meeting_of}
@@ -7,10 +7,12 @@ use Rattle.desk_words.specs.declared.request.PollName.{PollName}
 use Rattle.desk_words.specs.declared.request.Request.{Request}
 use Rattle.desk_words.specs.declared.request.Request.TheVariants as request
 use Rattle.desk_bodies.specs.declared.verb.Verb.{Verb}
-use Rattle.desk_bodies.specs.declared.verb.Verb.TheVariants.{Call, Register, Open, Order, Start, Close, Declare, Mine, Cast}
+use Rattle.desk_bodies.specs.declared.verb.Verb.TheVariants.{Call, Register, Open, Order, Start, Close, Declare, Closed, Notice, Mine, Appoint, End, Cast}
 use Rattle.desk_bodies.specs.Answers.{only, ◌>>=◌}
+use Rattle.desk_bodies.specs.Appointments.{new_appointment_of, new_ending_of}
 use Rattle.desk_bodies.specs.Bodies.{body_of}
 use Rattle.desk_bodies.specs.Calls.{new_meeting_of}
+use Rattle.desk_bodies.specs.Days.{closed_days_of}
 use Rattle.desk_bodies.specs.Places.{has_fields}
 use Rattle.desk_bodies.specs.Polls.{new_poll_of, poll_name_of, new_cast_of}
 use Rattle.desk_bodies.specs.Registers.{new_register_of}
@@ -72,6 +74,27 @@ declare_of meeting body = do
   poll ← named_poll_of meeting body
   Ok (request.Declare poll)
 
+-- the loading of the closed days, which the body lists
+unfoldable pub closed_of : List ℕ → Result Request Refusal
+closed_of body = do
+  d ← body_of body
+  days ← closed_days_of d
+  Ok (request.ClosedDays days)
+
+-- an appointment that a party gives, which the body describes
+unfoldable pub appoint_of : List ℕ → List ℕ → Result Request Refusal
+appoint_of meeting body = do
+  d ← body_of body
+  appointed ← new_appointment_of meeting d
+  Ok (request.Appoint appointed)
+
+-- the ending of an appointment, which the body names
+unfoldable pub end_of : List ℕ → List ℕ → Result Request Refusal
+end_of meeting body = do
+  d ← body_of body
+  ended ← new_ending_of meeting d
+  Ok (request.End ended)
+
 -- a member's vote, which the body describes
 unfoldable pub cast_of : List ℕ → List ℕ → Result Request Refusal
 cast_of meeting body = do
@@ -79,21 +102,36 @@ cast_of meeting body = do
   cast ← new_cast_of meeting d
   Ok (request.Cast cast)
 
--- what a verb asks of a meeting; for `mine` no body is looked at
+-- `-` stands where no meeting is named
+abbrev pub unnamed : List ℕ → Option (Unit {0})
+unnamed meeting = if bytes_eq meeting (codes "-") then Some tt else None
+
+-- what is asked of the meeting that is named
+abbrev pub in_named : List ℕ → (List ℕ → Result Request Refusal) → Result Request Refusal
+in_named meeting asking = routed (meeting_of meeting) >>= asking
+
+-- what is asked where no meeting is named
+abbrev pub in_no_meeting : List ℕ → Result Request Refusal → Result Request Refusal
+in_no_meeting meeting asking = routed (unnamed meeting) >>= λ nothing. asking
+
+-- what a verb asks, and where; for `notice` and `mine` no body is looked at
 abbrev pub asked : Verb → List ℕ → List ℕ → Result Request Refusal
-asked Call meeting body = call_of meeting body
-asked Register meeting body = load_of meeting body
-asked Open meeting body = open_of meeting body
-asked Order meeting body = order_of meeting body
-asked Start meeting body = start_of meeting body
-asked Close meeting body = close_of meeting body
-asked Declare meeting body = declare_of meeting body
-asked Mine meeting body = Ok (request.Mine meeting)
-asked Cast meeting body = cast_of meeting body
+asked Call meeting body = in_named meeting (λ m. call_of m body)
+asked Register meeting body = in_named meeting (λ m. load_of m body)
+asked Open meeting body = in_named meeting (λ m. open_of m body)
+asked Order meeting body = in_named meeting (λ m. order_of m body)
+asked Start meeting body = in_named meeting (λ m. start_of m body)
+asked Close meeting body = in_named meeting (λ m. close_of m body)
+asked Declare meeting body = in_named meeting (λ m. declare_of m body)
+asked Closed meeting body = in_no_meeting meeting (closed_of body)
+asked Notice meeting body = in_named meeting (λ m. Ok (request.Notice m))
+asked Mine meeting body = in_named meeting (λ m. Ok (request.Mine m))
+asked Appoint meeting body = in_named meeting (λ m. appoint_of m body)
+asked End meeting body = in_named meeting (λ m. end_of m body)
+asked Cast meeting body = in_named meeting (λ m. cast_of m body)
 
 -- what the bytes ask: of a verb that is listed and a meeting's name, and only then of the body
 unfoldable pub request_of : List ℕ → List ℕ → List ℕ → Result Request Refusal
 request_of meeting verb body = do
   listed ← routed (verb_of verb)
-  named ← routed (meeting_of meeting)
-  asked listed named body
+  asked listed meeting body

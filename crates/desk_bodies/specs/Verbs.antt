@@ -1,7 +1,7 @@
 -- Verbs, which name requests.
 use Rattle.std.specs.Prelude.{ℕ, List, [], ◌∷◌, Option, codes, bytes_eq, find}
 use Rattle.desk_bodies.specs.declared.verb.Verb.{Verb}
-use Rattle.desk_bodies.specs.declared.verb.Verb.TheVariants.{Call, Register, Open, Order, Start, Close, Declare, Mine, Cast}
+use Rattle.desk_bodies.specs.declared.verb.Verb.TheVariants.{Call, Register, Open, Order, Start, Close, Declare, Closed, Notice, Mine, Appoint, End, Cast}
 
 -- the word for a verb
 abbrev pub verb_word : Verb → List ℕ
@@ -12,9 +12,13 @@ verb_word Order = codes "order"
 verb_word Start = codes "start"
 verb_word Close = codes "close"
 verb_word Declare = codes "declare"
+verb_word Closed = codes "closed"
+verb_word Notice = codes "notice"
 verb_word Mine = codes "mine"
+verb_word Appoint = codes "appoint"
+verb_word End = codes "end"
 verb_word Cast = codes "cast"
 
 -- the one whose word it is
 abbrev pub verb_of : List ℕ → Option Verb
-verb_of word = find (λ verb. bytes_eq word (verb_word verb)) (Call ∷ Register ∷ Open ∷ Order ∷ Start ∷ Close ∷ Declare ∷ Mine ∷ Cast ∷ [])
+verb_of word = find (λ verb. bytes_eq word (verb_word verb)) (Call ∷ Register ∷ Open ∷ Order ∷ Start ∷ Close ∷ Declare ∷ Closed ∷ Notice ∷ Mine ∷ Appoint ∷ End ∷ Cast ∷ [])

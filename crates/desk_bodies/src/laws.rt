@@ -16,7 +16,7 @@ pub fn route_comes_first()
     ensures { RouteComesFirst }
 {}
 
-/// A request that is read is of the meeting that was named.
+/// A request that is read is of the meeting that was named, and one of the whole desk of none.
 pub fn requests_keep_the_meeting()
     ensures { RequestsKeepTheMeeting }
 {}

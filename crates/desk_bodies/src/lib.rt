@@ -6,9 +6,11 @@
 //! body unreadable. Numbers are whole, with no sign, fraction or exponent, and below 2^64.
 #![tactic(auto)]
 
+mod appointment;
 mod ask;
 mod body;
 mod call;
+mod closed;
 pub mod laws;
 mod place;
 mod poll;
@@ -20,5 +22,7 @@ pub use ask::Ask;
 pub use request::request_of;
 pub use verb::Verb;
 
+#[cfg(test)]
+mod appointment_tests;
 #[cfg(test)]
 mod tests;

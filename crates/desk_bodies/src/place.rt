@@ -2,15 +2,15 @@
 ghost use Rattle.std.specs.Prelude.{◌≡◌};
 ghost use Rattle.serde_json.specs.View.{view, items_view};
 ghost use Rattle.desk_calendar.specs.Texts.{day_of, moment_of};
-ghost use Rattle.desk_terms.specs.Kinds.{company_of, meeting_kind_of, resolution_kind_of, holder_kind_of, way_of};
+ghost use Rattle.desk_terms.specs.Kinds.{company_of, meeting_kind_of, resolution_kind_of, holder_kind_of, way_of, instruction_of};
 ghost use Rattle.desk_terms.specs.Names.{party_of};
 ghost use Rattle.desk_bodies.specs.Answers.{Gives, itself, readable, only};
 ghost use Rattle.desk_bodies.specs.Places.{there, has_fields, has_items, string_in, number_in, flag_in, items_in, spelled, just, text_of};
 
 use crate::ask::{Ask, UNREADABLE};
 use desk_words::{
-    Company, Day, HolderKind, MeetingKind, Moment, Party, ResKind, Text, TextFault, Way, read_day,
-    read_moment, read_party,
+    Company, Day, HolderKind, Instr, MeetingKind, Moment, Party, ResKind, Text, TextFault, Way,
+    read_day, read_moment, read_party,
 };
 use serde_json::Value;
 use std::alloc::Global;
@@ -119,6 +119,13 @@ pub(crate) fn way_in(place: Option<&Value>) -> Result<Way, Ask>
     ensures { Gives itself result (spelled way_of (there place.entry)) }
 {
     Way::of_word(string_in(place)?).ok_or(UNREADABLE)
+}
+
+#[tactic(auto, unfolding(crate::specs::Places::spelled))]
+pub(crate) fn instruction_in(place: Option<&Value>) -> Result<Instr, Ask>
+    ensures { Gives itself result (spelled instruction_of (there place.entry)) }
+{
+    Instr::of_word(string_in(place)?).ok_or(UNREADABLE)
 }
 
 #[tactic(auto, unfolding(crate::specs::Places::spelled))]

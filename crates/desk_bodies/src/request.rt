@@ -1,10 +1,13 @@
 //! Requests, as a meeting, a verb and a body ask them.
+ghost use Rattle.desk_terms.specs.Names.{meeting_of};
 ghost use Rattle.desk_bodies.specs.Answers.{Gives, itself};
-ghost use Rattle.desk_bodies.specs.Requests.{call_of, load_of, open_of, order_of, named_poll_of, start_of, close_of, declare_of, cast_of, request_of};
+ghost use Rattle.desk_bodies.specs.Requests.{call_of, load_of, open_of, order_of, named_poll_of, start_of, close_of, declare_of, closed_of, appoint_of, end_of, cast_of, routed, unnamed, request_of};
 
+use crate::appointment::{new_appointment, new_ending};
 use crate::ask::Ask;
 use crate::body::read_body;
 use crate::call::new_meeting;
+use crate::closed::closed_days;
 use crate::place::exactly_fields;
 use crate::poll::{new_cast, new_poll, poll_name};
 use crate::register::new_register;
@@ -82,6 +85,33 @@ fn declare(alloc: Global, meeting: MeetingId, body: &[u8]) -> Result<Request, As
     Ok(Request::Declare(poll))
 }
 
+#[tactic(auto, unfolding(crate::specs::Requests::closed_of))]
+fn closed(alloc: Global, body: &[u8]) -> Result<Request, Ask>
+    ensures { Gives itself result (closed_of body.now) }
+{
+    let body = read_body(alloc, body)?;
+    let days = closed_days(alloc, &body)?;
+    Ok(Request::ClosedDays(days))
+}
+
+#[tactic(auto, unfolding(crate::specs::Requests::appoint_of))]
+fn appoint(alloc: Global, meeting: MeetingId, body: &[u8]) -> Result<Request, Ask>
+    ensures { Gives itself result (appoint_of meeting body.now) }
+{
+    let body = read_body(alloc, body)?;
+    let appointed = new_appointment(alloc, meeting, &body)?;
+    Ok(Request::Appoint(appointed))
+}
+
+#[tactic(auto, unfolding(crate::specs::Requests::end_of))]
+fn end(alloc: Global, meeting: MeetingId, body: &[u8]) -> Result<Request, Ask>
+    ensures { Gives itself result (end_of meeting body.now) }
+{
+    let body = read_body(alloc, body)?;
+    let ended = new_ending(meeting, &body)?;
+    Ok(Request::End(ended))
+}
+
 #[tactic(auto, unfolding(crate::specs::Requests::cast_of))]
 fn cast(alloc: Global, meeting: MeetingId, body: &[u8]) -> Result<Request, Ask>
     ensures { Gives itself result (cast_of meeting body.now) }
@@ -91,27 +121,52 @@ fn cast(alloc: Global, meeting: MeetingId, body: &[u8]) -> Result<Request, Ask>
     Ok(Request::Cast(cast))
 }
 
-/// The request that a verb asks of a meeting, with what the body says of it.
+/// The meeting that is named.
+fn named(meeting: &[u8]) -> Result<MeetingId, Ask>
+    ensures { Gives itself result (routed (meeting_of meeting.now)) }
+{
+    read_meeting(meeting).ok_or(ROUTE)
+}
+
+/// Refuses whatever is no `-`, which stands where no meeting is named.
+fn no_meeting(meeting: &[u8]) -> Result<(), Ask>
+    ensures { Gives itself result (routed (unnamed meeting.now)) }
+{
+    if meeting == "-".as_bytes() {
+        Ok(())
+    } else {
+        Err(ROUTE)
+    }
+}
+
+/// The request that a verb asks, with what the body says of it: of a meeting, or for `closed` of
+/// the whole desk, where `-` stands in place of a meeting.
 ///
-/// It is refused as `Route` where no such verb is listed or no meeting can have that name, and
-/// only else, as `Unreadable`, where the body does not say what the verb asks. For `mine` the body
-/// is not looked at. Of a field that is repeated the last value counts, and an empty body stands
-/// for an object with no fields. The error is `Memory` only where an allocation was refused.
+/// It is refused as `Route` where no such verb is listed, no meeting can have that name, or
+/// anything but `-` stands before `closed`, and only else, as `Unreadable`, where the body does not
+/// say what the verb asks. For `notice` and `mine` the body is not looked at. Of a field that is
+/// repeated the last value counts, and an empty body stands for an object with no fields. The error
+/// is `Memory` only where an allocation was refused.
 #[tactic(auto, unfolding(crate::specs::Requests::request_of))]
 pub fn request_of(alloc: Global, meeting: &[u8], verb: &[u8], body: &[u8]) -> Result<Request, Ask>
     ensures { Gives itself result (request_of meeting.now verb.now body.now) }
 {
-    let verb = Verb::of_word(verb).ok_or(ROUTE)?;
-    let meeting = read_meeting(meeting).ok_or(ROUTE)?;
-    match verb {
-        Verb::Call => call(alloc, meeting, body),
-        Verb::Register => load(alloc, meeting, body),
-        Verb::Open => open(alloc, meeting, body),
-        Verb::Order => order(alloc, meeting, body),
-        Verb::Start => start(alloc, meeting, body),
-        Verb::Close => close(alloc, meeting, body),
-        Verb::Declare => declare(alloc, meeting, body),
-        Verb::Mine => Ok(Request::Mine(meeting)),
-        Verb::Cast => cast(alloc, meeting, body),
+    match Verb::of_word(verb).ok_or(ROUTE)? {
+        Verb::Call => call(alloc, named(meeting)?, body),
+        Verb::Register => load(alloc, named(meeting)?, body),
+        Verb::Open => open(alloc, named(meeting)?, body),
+        Verb::Order => order(alloc, named(meeting)?, body),
+        Verb::Start => start(alloc, named(meeting)?, body),
+        Verb::Close => close(alloc, named(meeting)?, body),
+        Verb::Declare => declare(alloc, named(meeting)?, body),
+        Verb::Closed => {
+            no_meeting(meeting)?;
+            closed(alloc, body)
+        }
+        Verb::Notice => Ok(Request::Notice(named(meeting)?)),
+        Verb::Mine => Ok(Request::Mine(named(meeting)?)),
+        Verb::Appoint => appoint(alloc, named(meeting)?, body),
+        Verb::End => end(alloc, named(meeting)?, body),
+        Verb::Cast => cast(alloc, named(meeting)?, body),
     }
 }

@@ -3,9 +3,9 @@ use desk_words::{Company, HolderKind, MeetingKind, Refusal, Request, ResKind, Wa
 use std::alloc::{AllocError, Global};
 use std::test::Fail;
 
-const ROUTE: Option<Ask> = Some(Ask::Refused(Refusal::Route));
+pub(crate) const ROUTE: Option<Ask> = Some(Ask::Refused(Refusal::Route));
 
-const UNREADABLE: Option<Ask> = Some(Ask::Refused(Refusal::Unreadable));
+pub(crate) const UNREADABLE: Option<Ask> = Some(Ask::Refused(Refusal::Unreadable));
 
 const CALL: &str =
     "{\"company\":\"private\",\"kind\":\"general\",\"given\":\"2026-06-01\",\"appointed\":\"2026-06-18T10:00:00\",\"record\":\"2026-06-16T18:00:00\",\"resolutions\":[[\"ordinary\",\"Accounts\"],[\"special\",\"New articles\"]]}";
@@ -21,7 +21,7 @@ const CAST: &str =
     r#"{"resolution":3,"as":"member","member":"M1","from":61,"to":100,"way":"against"}"#;
 
 /// What stands for no number of a request.
-const NO_NUMBERS: [&str; 10] = [
+pub(crate) const NO_NUMBERS: [&str; 10] = [
     "-1",
     "-0",
     "1.5",
@@ -35,7 +35,7 @@ const NO_NUMBERS: [&str; 10] = [
 ];
 
 /// Why a request of the meeting G1 is not read.
-fn refusal(alloc: Global, verb: &str, body: &str) -> Option<Ask> {
+pub(crate) fn refusal(alloc: Global, verb: &str, body: &str) -> Option<Ask> {
     request_of(alloc, b"G1", verb.as_bytes(), body.as_bytes()).err()
 }
 
@@ -59,7 +59,7 @@ fn register_with(alloc: Global, rows: &str) -> Result<String, AllocError> {
 }
 
 /// A text as often as that, with a comma between each two.
-fn listed(alloc: Global, text: &str, count: u8) -> Result<String, AllocError> {
+pub(crate) fn listed(alloc: Global, text: &str, count: u8) -> Result<String, AllocError> {
     let mut list = String::new(alloc);
     for i in 0..count {
         if i > 0 {
@@ -122,11 +122,29 @@ fn mine_takes_any_body(rt: HostRuntime) -> Result<(), Fail> {
 }
 
 #[test]
+fn a_notice_takes_any_body(rt: HostRuntime) -> Result<(), Fail> {
+    for body in ["", "{}", "{", r#"{"more":1}"#].iter() {
+        let request = request_of(rt.alloc(), b"G1", b"notice", body.as_bytes())?;
+        let Request::Notice(meeting) = request else {
+            panic!(rt; "another request");
+        };
+        assert_eq!(rt; meeting.as_str(), "G1");
+    }
+    Ok(())
+}
+
+#[test]
 fn the_route_comes_first(rt: HostRuntime) {
     assert_eq!(rt; refusal(rt.alloc(), "fly", "{"), ROUTE);
     assert_eq!(rt; refusal(rt.alloc(), "Call", CALL), ROUTE);
     assert_eq!(rt; request_of(rt.alloc(), b"g1", b"call", b"{").err(), ROUTE);
     assert_eq!(rt; request_of(rt.alloc(), b"", b"mine", b"").err(), ROUTE);
+    assert_eq!(rt;
+        request_of(rt.alloc(), b"-", b"call", CALL.as_bytes()).err(),
+        ROUTE
+    );
+    assert_eq!(rt; request_of(rt.alloc(), b"-", b"notice", b"").err(), ROUTE);
+    assert_eq!(rt; request_of(rt.alloc(), b"-", b"mine", b"").err(), ROUTE);
 }
 
 #[test]
@@ -246,20 +264,35 @@ fn words_of_verbs(rt: HostRuntime) {
         (Verb::Start, "start"),
         (Verb::Close, "close"),
         (Verb::Declare, "declare"),
+        (Verb::Closed, "closed"),
+        (Verb::Notice, "notice"),
         (Verb::Mine, "mine"),
+        (Verb::Appoint, "appoint"),
+        (Verb::End, "end"),
         (Verb::Cast, "cast"),
     ];
     for (verb, word) in words {
         assert_eq!(rt; verb.word(), word);
         assert_eq!(rt; Verb::of_word(word.as_bytes()), Some(verb));
     }
-    for word in ["", "fly", "Open", "ope", "opened", "open ", "closed"] {
+    for word in [
+        "",
+        "fly",
+        "Open",
+        "ope",
+        "opened",
+        "open ",
+        "closes",
+        "notices",
+        "appointed",
+        "ended",
+    ] {
         assert_eq!(rt; Verb::of_word(word.as_bytes()), None, "{word}");
     }
 }
 
 /// The first of these that, in place of a part of a body, leaves it readable.
-fn first_read(
+pub(crate) fn first_read(
     alloc: Global,
     verb: &str,
     body: &str,
@@ -544,5 +577,123 @@ fn words_of_votes(rt: HostRuntime) -> Result<(), Fail> {
         "null",
     ];
     assert_eq!(rt; vote_read(rt.alloc(), r#""M1""#, &members)?, None);
+    Ok(())
+}
+
+/// Whether a body loads just the closed days of these numbers, in this order.
+fn closes(alloc: Global, body: &str, numbers: &[u32]) -> bool {
+    let Ok(request) = request_of(alloc, b"-", b"closed", body.as_bytes()) else {
+        return false;
+    };
+    let Request::ClosedDays(days) = &request else {
+        return false;
+    };
+    let days = days.as_slice();
+    days.len() == numbers.len()
+        && days
+            .iter()
+            .zip(numbers)
+            .all(|(day, number)| day.number() == *number)
+}
+
+#[test]
+fn closed_days_are_read(rt: HostRuntime) {
+    let two = r#"{"days":["2026-04-06","2026-04-03"]}"#;
+    assert!(rt; closes(rt.alloc(), two, &[46_113, 46_116]));
+    let repeated = r#"{"days":["2026-04-06","2026-04-03","2026-04-06","2026-04-03"]}"#;
+    assert!(rt; closes(rt.alloc(), repeated, &[46_113, 46_116]));
+    let ends = r#"{"days":["1900-01-01","2999-12-31"]}"#;
+    assert!(rt; closes(rt.alloc(), ends, &[0, 401_766]));
+    assert!(rt; closes(rt.alloc(), r#"{"days":[]}"#, &[]));
+    let last = r#"{"days":1,"days":["2026-04-06"]}"#;
+    assert!(rt; closes(rt.alloc(), last, &[46_116]));
+}
+
+/// Why closed days are not read, where this stands in place of a meeting.
+fn closing_refusal(alloc: Global, meeting: &str, body: &str) -> Option<Ask> {
+    request_of(alloc, meeting.as_bytes(), b"closed", body.as_bytes()).err()
+}
+
+#[test]
+fn forms_of_closed_days(rt: HostRuntime) {
+    let unread = [
+        "",
+        "{",
+        "{}",
+        "[]",
+        r#"["2026-04-03"]"#,
+        r#"{"day":["2026-04-03"]}"#,
+        r#"{"days":["2026-04-03"],"more":1}"#,
+        r#"{"days":"2026-04-03"}"#,
+        r#"{"days":{}}"#,
+        r#"{"days":null}"#,
+        r#"{"days":[46113]}"#,
+        r#"{"days":["2026-04-03",46116]}"#,
+        r#"{"days":["2026-04-03",["2026-04-06"]]}"#,
+        r#"{"days":["2026-04-03",null]}"#,
+        r#"{"days":["2026-04-31"]}"#,
+        r#"{"days":["2026-02-29","2026-04-03"]}"#,
+        r#"{"days":["2026-4-3"]}"#,
+        r#"{"days":["2026-04-03T00:00:00"]}"#,
+        r#"{"days":["3000-01-01"]}"#,
+        r#"{"days":[""]}"#,
+    ];
+    for body in unread {
+        assert_eq!(rt;
+            closing_refusal(rt.alloc(), "-", body),
+            UNREADABLE,
+            "{body}"
+        );
+    }
+}
+
+#[test]
+fn closed_days_are_of_no_meeting(rt: HostRuntime) {
+    for meeting in ["G1", "", "--", "-1", "OFFICE", "g1"] {
+        for body in [r#"{"days":["2026-04-03"]}"#, "", "{"] {
+            assert_eq!(rt;
+                closing_refusal(rt.alloc(), meeting, body),
+                ROUTE,
+                "{meeting}"
+            );
+        }
+    }
+}
+
+/// The body that closes that many different days, 336 of each year, and one of them twice.
+fn closing(alloc: Global, count: u32) -> Result<String, AllocError> {
+    let mut body = String::from_str(alloc, r#"{"days":["2000-01-01""#)?;
+    for i in 0..count {
+        let (year, month, day) = (2_000 + i / 336, 1 + i / 28 % 12, 1 + i % 28);
+        let next = format!(in alloc; r#","{year}-{month:02}-{day:02}""#)?;
+        body.push_str(next.as_str())?;
+    }
+    body.push_str("]}")?;
+    Ok(body)
+}
+
+/// How many closed days such a body loads, or none where it is not read.
+fn number_closed(alloc: Global, count: u32) -> Result<Option<usize>, AllocError> {
+    let body = closing(alloc, count)?;
+    let Ok(request) = request_of(alloc, b"-", b"closed", body.as_bytes()) else {
+        return Ok(None);
+    };
+    let Request::ClosedDays(days) = &request else {
+        return Ok(None);
+    };
+    Ok(Some(days.as_slice().len()))
+}
+
+#[test]
+fn at_most_2_000_days_are_closed(rt: HostRuntime) -> Result<(), Fail> {
+    assert_eq!(rt; number_closed(rt.alloc(), 2_000)?, Some(2_000));
+    assert_eq!(rt; number_closed(rt.alloc(), 2_001)?, None);
+    Ok(())
+}
+
+#[test]
+fn too_many_closed_days_are_unreadable(rt: HostRuntime) -> Result<(), Fail> {
+    let body = closing(rt.alloc(), 2_001)?;
+    assert_eq!(rt; closing_refusal(rt.alloc(), "-", body.as_str()), UNREADABLE);
     Ok(())
 }

@@ -19,15 +19,23 @@ pub enum Verb {
     Close,
     /// The office declares the result of a poll.
     Declare,
+    /// The office loads the closed days.
+    Closed,
+    /// A party asks for the notice of a meeting.
+    Notice,
     /// A party asks for its own things in a meeting.
     Mine,
+    /// A party appoints a proxy over some of its own shares.
+    Appoint,
+    /// A party ends an appointment that it gave.
+    End,
     /// A member votes on some of its own shares.
     Cast,
 }
 
 impl Verb {
     /// Every verb.
-    const ALL: [Verb; 9] = [
+    const ALL: [Verb; 13] = [
         Verb::Call,
         Verb::Register,
         Verb::Open,
@@ -35,7 +43,11 @@ impl Verb {
         Verb::Start,
         Verb::Close,
         Verb::Declare,
+        Verb::Closed,
+        Verb::Notice,
         Verb::Mine,
+        Verb::Appoint,
+        Verb::End,
         Verb::Cast,
     ];
 
@@ -51,7 +63,11 @@ impl Verb {
             Verb::Start => "start",
             Verb::Close => "close",
             Verb::Declare => "declare",
+            Verb::Closed => "closed",
+            Verb::Notice => "notice",
             Verb::Mine => "mine",
+            Verb::Appoint => "appoint",
+            Verb::End => "end",
             Verb::Cast => "cast",
         }
     }

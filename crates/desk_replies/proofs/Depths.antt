@@ -1,15 +1,24 @@
 -- No reply nests deep, so its text reads back.
-use Rattle.std.proofs.Common.{ℕ, ◌≤◌, max, List, [], ◌∷◌, map, Option, Some, None, arith}
+use Rattle.std.proofs.Common.{ℕ, ◌≤◌, max, List, [], ◌∷◌, map, Option, Some, None, Bool, arith}
 use Rattle.serde_json.specs.Data.{Data, depth, items_depth}
 use Rattle.serde_json.specs.View.{items_of}
+use Rattle.desk_words.specs.declared.records.Tally.{Tally}
 use Rattle.desk_words.specs.declared.records.CastMark.{CastMark}
 use Rattle.desk_words.specs.declared.records.CastKind.{CastKind}
 use Rattle.desk_words.specs.declared.records.CastKind.TheVariants as cast
-use Rattle.desk_words.specs.declared.request.Given.{Given}
+use Rattle.desk_words.specs.declared.request.GivenUse.{GivenUse}
 use Rattle.desk_words.specs.declared.request.Mine.{Mine}
+use Rattle.desk_words.specs.declared.request.PollGoverned.{PollGoverned}
+use Rattle.desk_words.specs.declared.request.Received.{Received}
+use Rattle.desk_words.specs.declared.request.NoticedPoll.{NoticedPoll}
+use Rattle.desk_words.specs.declared.request.NoticedResolution.{NoticedResolution}
+use Rattle.desk_words.specs.declared.request.Notice.{Notice}
 use Rattle.desk_words.specs.declared.request.Reply.{Reply}
 use Rattle.desk_words.specs.declared.request.Reply.TheVariants as reply
-use Rattle.desk_replies.specs.Replies.{or_null, moment_data, row_data, instruction_data, given_data, person_data, authorised_data, demand_data, cast_kind_data, cast_data, mine_data, reply_data}
+use Rattle.desk_replies.specs.Appointments.{instruction_data, run_data, given_data, poll_governed_data, received_data}
+use Rattle.desk_replies.specs.Forms.{or_null, moment_data}
+use Rattle.desk_replies.specs.Notices.{result_data, noticed_poll_data, noticed_resolution_data, notice_data}
+use Rattle.desk_replies.specs.Replies.{row_data, person_data, authorised_data, demand_data, cast_kind_data, cast_data, mine_data, reply_data}
 
 max_below : (a b k : ℕ) → a ≤ k → b ≤ k → max a b ≤ k
 max_below a b k h i = omega arith
@@ -29,20 +38,56 @@ cast_kind_below n cast.AsInstructed = omega arith
 cast_below : (c : CastMark) → depth (cast_data c) ≤ 1
 cast_below c = cast_kind_below c.resolution c.what
 
-given_below : (g : Given) → depth (given_data g) ≤ 2
+given_below : (g : GivenUse) → depth (given_data g) ≤ 2
 given_below g =
-    let ended : depth (or_null moment_data g.ended) ≤ 0 = or_null_below moment_data 0 (λ _. omega arith) g.ended in
-    let instructions : items_depth (items_of (map instruction_data g.appointment.instructions)) ≤ 0 = items_below instruction_data 0 (λ _. omega arith) g.appointment.instructions in
+    let ended : depth (or_null moment_data g.given.ended) ≤ 0 = or_null_below moment_data 0 (λ _. omega arith) g.given.ended in
+    let instructions : items_depth (items_of (map instruction_data g.given.appointment.instructions)) ≤ 0 = items_below instruction_data 0 (λ _. omega arith) g.given.appointment.instructions in
     omega arith
 
-mine_below : (m : Mine) → depth (mine_data m) ≤ 4
+poll_governed_below : (p : PollGoverned) → depth (poll_governed_data p) ≤ 3
+poll_governed_below p =
+    let governs : items_depth (items_of (map run_data p.governs)) ≤ 1 = items_below run_data 1 (λ _. omega arith) p.governs in
+    omega arith
+
+received_below : (r : Received) → depth (received_data r) ≤ 5
+received_below r =
+    let governs : items_depth (items_of (map run_data r.governs)) ≤ 1 = items_below run_data 1 (λ _. omega arith) r.governs in
+    let instructions : items_depth (items_of (map instruction_data r.appointment.instructions)) ≤ 0 = items_below instruction_data 0 (λ _. omega arith) r.appointment.instructions in
+    let polls : items_depth (items_of (map poll_governed_data r.polls)) ≤ 3 = items_below poll_governed_data 3 poll_governed_below r.polls in
+    omega arith
+
+mine_below : (m : Mine) → depth (mine_data m) ≤ 7
 mine_below m =
     let authorised : items_depth (items_of (map authorised_data m.authorised)) ≤ 1 = items_below authorised_data 1 (λ _. omega arith) m.authorised in
     let casts : items_depth (items_of (map cast_data m.casts)) ≤ 1 = items_below cast_data 1 cast_below m.casts in
     let demands : items_depth (items_of (map demand_data m.demands)) ≤ 0 = items_below demand_data 0 (λ _. omega arith) m.demands in
     let given : items_depth (items_of (map given_data m.given)) ≤ 2 = items_below given_data 2 given_below m.given in
     let persons : items_depth (items_of (map person_data m.persons)) ≤ 0 = items_below person_data 0 (λ _. omega arith) m.persons in
+    let received : items_depth (items_of (map received_data m.received)) ≤ 5 = items_below received_data 5 received_below m.received in
     let row : depth (or_null row_data m.row) ≤ 1 = or_null_below row_data 1 (λ _. omega arith) m.row in
+    omega arith
+
+result_below : (declared : Option Tally) (carried : Option Bool) → depth (result_data declared carried) ≤ 1
+result_below None carried = omega arith
+result_below (Some tally) None = omega arith
+result_below (Some tally) (Some carried) = omega arith
+
+noticed_poll_below : (p : NoticedPoll) → depth (noticed_poll_data p) ≤ 2
+noticed_poll_below p =
+    let closed : depth (or_null moment_data p.poll.closed) ≤ 0 = or_null_below moment_data 0 (λ _. omega arith) p.poll.closed in
+    let result : depth (result_data p.poll.declared p.carried) ≤ 1 = result_below p.poll.declared p.carried in
+    let started : depth (or_null moment_data p.poll.started) ≤ 0 = or_null_below moment_data 0 (λ _. omega arith) p.poll.started in
+    omega arith
+
+noticed_resolution_below : (r : NoticedResolution) → depth (noticed_resolution_data r) ≤ 3
+noticed_resolution_below r =
+    let poll : depth (or_null noticed_poll_data r.poll) ≤ 2 = or_null_below noticed_poll_data 2 noticed_poll_below r.poll in
+    omega arith
+
+notice_below : (n : Notice) → depth (notice_data n) ≤ 5
+notice_below n =
+    let opened : depth (or_null moment_data n.opened) ≤ 0 = or_null_below moment_data 0 (λ _. omega arith) n.opened in
+    let resolutions : items_depth (items_of (map noticed_resolution_data n.resolutions)) ≤ 3 = items_below noticed_resolution_data 3 noticed_resolution_below n.resolutions in
     omega arith
 
 pub reply_below : (r : Reply) → depth (reply_data r) ≤ 127
@@ -54,6 +99,9 @@ reply_below reply.Ordered = omega arith
 reply_below reply.Started = omega arith
 reply_below reply.VotingClosed = omega arith
 reply_below (reply.Declared d) = omega arith
+reply_below (reply.Appointed r) = omega arith
+reply_below (reply.Ended n) = omega arith
 reply_below reply.Recorded = omega arith
+reply_below (reply.Notice n) = omega (arith, notice_below n)
 reply_below (reply.Mine m) = omega (arith, mine_below m)
 reply_below (reply.Refused r) = omega arith

@@ -1,4 +1,4 @@
--- The text of a moment is ASCII.
+-- The text of a day and that of a moment are ASCII.
 use Rattle.std.proofs.Common.{◌≡◌, ℕ, zero, suc, ◌<◌, ◌==◌, Bool, true, false, cond, List, [], ◌∷◌, length, get_or, Option, Some, None, refl, arith}
 use Rattle.std.specs.Prelude.{IsUtf8, nat_lt}
 use Rattle.std.specs.List.{list_all, zip}
@@ -7,7 +7,7 @@ use Rattle.std.proofs.lemmas.Bool.Decides.{nat_tests}
 use Rattle.std.proofs.lemmas.Str.{IsUtf8-from_ascii}
 use Rattle.std.specs.Result.{MatchResult}
 use Rattle.std.specs.Prelude.{Result, Ok, Err, IsOk}
-use Rattle.desk_calendar.specs.Texts.{fits, has_form, moment_form, moment_of}
+use Rattle.desk_calendar.specs.Texts.{fits, has_form, day_form, day_of, moment_form, moment_of}
 
 fits_small : (sign byte : ℕ) → nat_lt sign 128 ≡ true → fits sign byte ≡ true → byte < 128
 fits_small sign byte small fit = grind (arith, nat_tests)
@@ -24,6 +24,13 @@ all_small (sign ∷ form) (b ∷ bs) small same fit (suc i) =
 formed : (b : Bool) (o : Option ℕ) (m : ℕ) → cond b o None ≡ Some m → b ≡ true
 formed true o m e = refl
 formed false o m e = absurd (cc)
+
+-- what spells a day is a text
+pub day_is_text : (s : List ℕ) (n : ℕ) → day_of s ≡ Some n → IsUtf8 s
+unfolding day_of
+day_is_text s n e =
+    let form : has_form day_form s ≡ true = formed (has_form day_form s) _ n e in
+    IsUtf8-from_ascii s (all_small day_form s refl (first_so (length day_form == length s) _ form) (second_so (length day_form == length s) _ form))
 
 -- what spells a moment is a text
 pub moment_is_text : (s : List ℕ) (m : ℕ) → moment_of s ≡ Some m → IsUtf8 s

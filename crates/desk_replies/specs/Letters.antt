@@ -2,8 +2,9 @@
 use Rattle.std.specs.Prelude.{◌≡◌, ◌++◌, ℕ, Bool, true, false, List, codes, decimal}
 use Rattle.desk_terms.specs.Refusals.{number_of, name_of}
 use Rattle.desk_terms.specs.declared.refusal.Refusal.{Refusal}
+use Rattle.desk_words.specs.declared.request.AppointmentUse.TheVariants.{Meeting, LaterPolls}
 use Rattle.desk_words.specs.declared.request.Declaration.{Declaration}
-use Rattle.desk_words.specs.declared.request.Reply.TheVariants.{Called, Loaded, Same, MeetingOpened, Ordered, Started, VotingClosed, Declared, Recorded, Refused}
+use Rattle.desk_words.specs.declared.request.Reply.TheVariants.{Called, Loaded, Same, MeetingOpened, Ordered, Started, VotingClosed, Declared, Appointed, Ended, Recorded, Refused}
 use Rattle.desk_words.specs.declared.request.Failure.TheVariants.{Store, Memory}
 use Rattle.desk_replies.specs.Replies.{reply_bytes, failure_bytes}
 
@@ -22,7 +23,7 @@ declaration_text d =
     ++ codes ",\"ok\":\"declared\",\"withheld\":" ++ decimal d.tally.withheld
     ++ codes "}"
 
--- each text, with the number of a refusal in decimal and its name as it is
+-- each text, with numbers in decimal and the name of a refusal as it is
 pub record RepliesAreSpelled : Type 0 where
   pub called : reply_bytes Called ≡ codes "{\"ok\":\"called\"}"
   pub loaded : reply_bytes Loaded ≡ codes "{\"ok\":\"loaded\"}"
@@ -33,6 +34,9 @@ pub record RepliesAreSpelled : Type 0 where
   pub closed : reply_bytes VotingClosed ≡ codes "{\"ok\":\"closed\"}"
   pub recorded : reply_bytes Recorded ≡ codes "{\"ok\":\"recorded\"}"
   pub declared : (d : Declaration) → reply_bytes (Declared d) ≡ declaration_text d
+  pub appointed : (n : ℕ) → reply_bytes (Appointed (record { number = n; used = Meeting })) ≡ codes "{\"number\":" ++ decimal n ++ codes ",\"ok\":\"appointed\",\"use\":\"meeting\"}"
+  pub appointed_late : (n : ℕ) → reply_bytes (Appointed (record { number = n; used = LaterPolls })) ≡ codes "{\"number\":" ++ decimal n ++ codes ",\"ok\":\"appointed\",\"use\":\"later polls only\"}"
+  pub ended : (n : ℕ) → reply_bytes (Ended n) ≡ codes "{\"number\":" ++ decimal n ++ codes ",\"ok\":\"ended\"}"
   pub refused : (r : Refusal) → reply_bytes (Refused r) ≡ codes "{\"code\":" ++ decimal (number_of r) ++ codes ",\"refused\":\"" ++ name_of r ++ codes "\"}"
   pub store : failure_bytes Store ≡ codes "{\"failed\":\"Store\"}"
   pub memory : failure_bytes Memory ≡ codes "{\"failed\":\"Memory\"}"

@@ -1,3 +1,6 @@
+pub mod Appointments
+pub mod Forms
 pub mod Letters
+pub mod Notices
 pub mod Parts
 pub mod Replies

@@ -1,13 +1,9 @@
 -- Replies as JSON, over the words of `serde_json`. The members of an object stand in the order of the bytes of their keys.
-use Rattle.std.specs.Prelude.{ℕ, List, [], ◌∷◌, map, Option, Some, None, codes}
-use Rattle.serde_json.specs.Data.{Data, null, boolean, number, unsigned, string, array, object, no_items, Members, no_members, member}
-use Rattle.serde_json.specs.View.{items_of}
+use Rattle.std.specs.Prelude.{ℕ, List, [], ◌∷◌, codes}
+use Rattle.serde_json.specs.Data.{Data, boolean, string}
 use Rattle.serde_json.specs.Written.{compact_text}
-use Rattle.desk_calendar.specs.Texts.{moment_text}
-use Rattle.desk_terms.specs.Names.{letters_of}
-use Rattle.desk_terms.specs.Kinds.{holder_kind_word, capacity_word, way_word, instruction_word}
+use Rattle.desk_terms.specs.Kinds.{holder_kind_word, capacity_word, way_word}
 use Rattle.desk_terms.specs.Refusals.{number_of, name_of}
-use Rattle.desk_terms.specs.declared.kinds.Instr.{Instr}
 use Rattle.desk_terms.specs.declared.refusal.Refusal.{Refusal}
 use Rattle.desk_words.specs.declared.records.RegisterRow.{RegisterRow}
 use Rattle.desk_words.specs.declared.records.Authority.{Authority}
@@ -16,43 +12,15 @@ use Rattle.desk_words.specs.declared.records.CastKind.{CastKind}
 use Rattle.desk_words.specs.declared.records.CastKind.TheVariants as cast
 use Rattle.desk_words.specs.declared.records.CastMark.{CastMark}
 use Rattle.desk_words.specs.declared.request.Declaration.{Declaration}
-use Rattle.desk_words.specs.declared.request.Given.{Given}
 use Rattle.desk_words.specs.declared.request.Authorised.{Authorised}
 use Rattle.desk_words.specs.declared.request.Mine.{Mine}
 use Rattle.desk_words.specs.declared.request.Reply.{Reply}
 use Rattle.desk_words.specs.declared.request.Reply.TheVariants as reply
 use Rattle.desk_words.specs.declared.request.Failure.{Failure}
 use Rattle.desk_words.specs.declared.request.Failure.TheVariants as failure
-
--- a number, in decimal
-abbrev pub whole : ℕ → Data
-whole n = number (unsigned n)
-
--- a name, as its letters
-abbrev pub name_data : List ℕ → Data
-name_data name = string (letters_of name)
-
--- a moment, as YYYY-MM-DDThh:mm:ss
-abbrev pub moment_data : ℕ → Data
-moment_data moment = string (moment_text moment)
-
--- null where there is none
-abbrev pub or_null : {A : Type 0} → (A → Data) → Option A → Data
-or_null f None = null
-or_null f (Some x) = f x
-
--- the values in their order
-abbrev pub listed : {A : Type 0} → (A → Data) → List A → Data
-listed f xs = array (items_of (map f xs))
-
--- these names and values, in the order in which they stand
-abbrev pub members : List (List ℕ × Data) → Members
-members [] = no_members
-members (m ∷ ms) = member m.0 m.1 (members ms)
-
--- an object with these members
-abbrev pub with_members : List (List ℕ × Data) → Data
-with_members ms = object (members ms)
+use Rattle.desk_replies.specs.Appointments.{given_data, received_data, appointed_data, ended_data}
+use Rattle.desk_replies.specs.Forms.{whole, name_data, or_null, listed, with_members}
+use Rattle.desk_replies.specs.Notices.{notice_data}
 
 -- a word beside `ok`, and nothing else
 abbrev pub ok_data : List ℕ → Data
@@ -65,22 +33,6 @@ row_data row = with_members (
     ∷ (codes "name", string row.name)
     ∷ (codes "paid", whole row.paid)
     ∷ (codes "shares", whole row.shares)
-    ∷ [])
-
--- an instruction, as its word
-abbrev pub instruction_data : Instr → Data
-instruction_data instruction = string (instruction_word instruction)
-
--- an appointment that the party gave; `received` is the moment of its receipt
-abbrev pub given_data : Given → Data
-given_data g = with_members (
-    (codes "ended", or_null moment_data g.ended)
-    ∷ (codes "from", whole g.appointment.range.from)
-    ∷ (codes "instructions", listed instruction_data g.appointment.instructions)
-    ∷ (codes "number", whole g.appointment.number)
-    ∷ (codes "proxy", name_data g.appointment.proxy)
-    ∷ (codes "received", moment_data g.appointment.moment)
-    ∷ (codes "to", whole g.appointment.range.to)
     ∷ [])
 
 -- the person whom the party authorised
@@ -111,7 +63,7 @@ cast_kind_data resolution cast.AsInstructed = with_members ((codes "as", string 
 abbrev pub cast_data : CastMark → Data
 cast_data mark = cast_kind_data mark.resolution mark.what
 
--- a party's own things; `received` has no appointments yet
+-- a party's own things
 abbrev pub mine_data : Mine → Data
 mine_data m = with_members (
     (codes "authorised", listed authorised_data m.authorised)
@@ -122,7 +74,7 @@ mine_data m = with_members (
     ∷ (codes "ok", string (codes "mine"))
     ∷ (codes "persons", listed person_data m.persons)
     ∷ (codes "present", boolean m.present)
-    ∷ (codes "received", array no_items)
+    ∷ (codes "received", listed received_data m.received)
     ∷ (codes "row", or_null row_data m.row)
     ∷ [])
 
@@ -151,7 +103,10 @@ reply_data reply.Ordered = ok_data (codes "ordered")
 reply_data reply.Started = ok_data (codes "started")
 reply_data reply.VotingClosed = ok_data (codes "closed")
 reply_data (reply.Declared d) = declaration_data d
+reply_data (reply.Notice n) = notice_data n
 reply_data (reply.Mine m) = mine_data m
+reply_data (reply.Appointed r) = appointed_data r
+reply_data (reply.Ended number) = ended_data number
 reply_data reply.Recorded = ok_data (codes "recorded")
 reply_data (reply.Refused r) = refusal_data r
 

@@ -1,9 +1,12 @@
 //! The JSON texts of replies.
 #![tactic(auto)]
 
+mod appointment;
 mod failure;
 pub mod laws;
 mod mine;
+mod notice;
+mod received;
 mod reply;
 mod shown;
 

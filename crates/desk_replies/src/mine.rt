@@ -1,13 +1,14 @@
 //! A party's own things, as JSON.
 ghost use Rattle.std.specs.Prelude.{◌≡◌, IfOk};
 ghost use Rattle.serde_json.specs.View.{view, members_view};
-ghost use Rattle.desk_replies.specs.Replies.{moment_data, row_data, instruction_data, given_data, person_data, authorised_data, demand_data, cast_kind_data, cast_data, mine_data, members};
+ghost use Rattle.desk_replies.specs.Forms.{moment_data, members};
+ghost use Rattle.desk_replies.specs.Replies.{row_data, person_data, authorised_data, demand_data, cast_kind_data, cast_data, mine_data};
 ghost use Rattle.desk_replies.specs.Parts.{mine_lists};
 
-use crate::shown::{Shown, list_value, put_list, value_or_null};
+use crate::shown::{Shown, put_list, value_or_null};
 use desk_words::{
-    Authorised, Authority, Block, CastKind, CastMark, DemandMark, Given, Instr, Mine, Moment,
-    RegisterRow, write_moment,
+    Authorised, Authority, Block, CastKind, CastMark, DemandMark, Mine, Moment, RegisterRow,
+    write_moment,
 };
 use serde_json::{Map, Value, json, put};
 use std::alloc::{AllocError, Global};
@@ -30,34 +31,6 @@ impl Shown for RegisterRow {
             "name": self.name.as_str(),
             "paid": self.paid,
             "shares": self.shares
-        })
-    }
-}
-
-impl Shown for Instr {
-    ghost shown = { instruction_data };
-
-    fn value(&self, alloc: Global) -> Result<Value, AllocError> {
-        Value::try_from_str(alloc, self.word())
-    }
-}
-
-impl Shown for Given {
-    ghost shown = { given_data };
-
-    fn value(&self, alloc: Global) -> Result<Value, AllocError> {
-        let appointment = &self.appointment;
-        let ended = value_or_null(alloc, &self.ended)?;
-        let instructions = list_value(alloc, appointment.instructions.as_slice())?;
-        let received = appointment.moment.value(alloc)?;
-        json!(in alloc; {
-            "ended": ended,
-            "from": appointment.range.from(),
-            "instructions": instructions,
-            "number": appointment.number,
-            "proxy": appointment.proxy.as_str(),
-            "received": received,
-            "to": appointment.range.to()
         })
     }
 }
@@ -122,7 +95,7 @@ fn mine_lists(alloc: Global, mine: &Mine) -> Result<Map<String, Value>, AllocErr
     put_list(alloc, &mut map, "demands", mine.demands.as_slice())?;
     put_list(alloc, &mut map, "given", mine.given.as_slice())?;
     put_list(alloc, &mut map, "persons", mine.persons.as_slice())?;
-    put(&mut map, alloc, "received", Value::Array(Vec::new(alloc)))?;
+    put_list(alloc, &mut map, "received", mine.received.as_slice())?;
     Ok(map)
 }
 

@@ -4,7 +4,9 @@ ghost use Rattle.serde_json.specs.Read.{read};
 ghost use Rattle.serde_json.specs.View.{view};
 ghost use Rattle.desk_replies.specs.Replies.{ok_data, declaration_data, refusal_data, reply_data, reply_bytes};
 
+use crate::appointment::{appointed_value, ended_value};
 use crate::mine::mine_value;
+use crate::notice::notice_value;
 use desk_words::{Declaration, Refusal, Reply};
 use serde_json::{Value, json};
 use std::alloc::{AllocError, Global};
@@ -46,7 +48,10 @@ fn reply_value(alloc: Global, reply: &Reply) -> Result<Value, AllocError>
         Reply::Started => ok_value(alloc, "started"),
         Reply::VotingClosed => ok_value(alloc, "closed"),
         Reply::Declared(declared) => declaration_value(alloc, *declared),
+        Reply::Notice(notice) => notice_value(alloc, notice),
         Reply::Mine(mine) => mine_value(alloc, mine),
+        Reply::Appointed(receipt) => appointed_value(alloc, *receipt),
+        Reply::Ended(number) => ended_value(alloc, *number),
         Reply::Recorded => ok_value(alloc, "recorded"),
         Reply::Refused(refusal) => refusal_value(alloc, *refusal),
     }

@@ -2,7 +2,7 @@
 ghost use Rattle.std.specs.Prelude.{◌≡◌, IfOk, OnOk, OnErr};
 ghost use Rattle.serde_json.specs.View.{view, members_view};
 ghost use Rattle.serde_json.specs.Data.{put as with_member};
-ghost use Rattle.desk_replies.specs.Replies.{listed, or_null};
+ghost use Rattle.desk_replies.specs.Forms.{listed, or_null};
 
 use serde_json::{Map, Value, put};
 use std::alloc::{AllocError, Global};

@@ -3,11 +3,15 @@
 #![tactic(auto)]
 
 #[cfg(test)]
+mod days;
+#[cfg(test)]
 mod devices;
 #[cfg(test)]
 mod lines;
 #[cfg(test)]
 mod polls;
+#[cfg(test)]
+mod proxies;
 #[cfg(test)]
 mod replies;
 #[cfg(test)]

@@ -235,3 +235,79 @@ fn a_thousand_and_twenty_four_votes(rt: HostRuntime) -> Result<(), Fail> {
     )?;
     script.gets_its_replies(&rt, rt.alloc())
 }
+
+const BAD_RANGE: &str = r#"{"code":12,"refused":"BadRange"}"#;
+
+#[test]
+fn a_vote_is_on_own_shares(rt: HostRuntime) -> Result<(), Fail> {
+    let alloc = rt.alloc();
+    let table = [
+        (CALLING, CALL, CALLED),
+        (LOADING, ADA_AND_BO, LOADED),
+        (OPEN, "{}", OPENED),
+        (ORDER, FIRST, ORDERED),
+        (START, ONE, STARTED),
+    ];
+    let mut script = Script::of_table(alloc, &table)?;
+    for (resolution, from, to, reply) in [
+        (1u64, 1u64, 100u64, RECORDED),
+        (1, 100, 100, RECORDED),
+        (1, 61, 101, NOT_YOURS),
+        (1, 0, 60, BAD_RANGE),
+        (1, 60, 59, BAD_RANGE),
+        (1, 1, 1_000_000_000_000, NOT_YOURS),
+        (1, 1, 1_000_000_000_001, BAD_RANGE),
+        (2, 1, 100, NO_POLL),
+        (3, 1, 100, NO_RESOLUTION),
+        (0, 1, 100, NO_RESOLUTION),
+    ] {
+        let vote = format!(in alloc;
+            "{{\"resolution\":{resolution},\"as\":\"member\",\"member\":\"M1\",\"from\":{from},\"to\":{to},\"way\":\"for\"}}"
+        )?;
+        script.ask(ADA_CASTS, &vote, reply)?;
+    }
+    script.gets_its_replies(&rt, alloc)
+}
+
+const SECOND: &str = r#"{"resolution":2,"take":"2026-06-18T10:05:00","chair":true}"#;
+
+const TWO: &str = r#"{"resolution":2}"#;
+
+#[test]
+fn what_is_declared_stays(rt: HostRuntime) -> Result<(), Fail> {
+    let table = [
+        (CALLING, CALL, CALLED),
+        (LOADING, ADA_AND_BO, LOADED),
+        (OPEN, "{}", OPENED),
+        (ORDER, FIRST, ORDERED),
+        (ORDER, SECOND, ORDERED),
+        (START, ONE, STARTED),
+        (START, TWO, STARTED),
+        (ADA_CASTS, ADA_FOR, RECORDED),
+        (ADA_CASTS, ADA_AGAINST, RECORDED),
+        (ADA_CASTS, ADA_AGAIN, RECORDED),
+        (BO_CASTS, BO_WITHHOLDS, RECORDED),
+        (CLOSE, ONE, CLOSED),
+        (DECLARE, ONE, DECLARED),
+        (DECLARE, ONE, DECLARED_TWICE),
+        (START, ONE, EXISTS),
+        (ADA_CASTS, ADA_FOR, POLL_CLOSED),
+        (
+            BO_CASTS,
+            r#"{"resolution":2,"as":"member","member":"M2","from":50,"to":50,"way":"against"}"#,
+            RECORDED,
+        ),
+        (CLOSE, TWO, CLOSED),
+        (
+            DECLARE,
+            TWO,
+            r#"{"against":1,"carried":false,"eligible":150,"for":0,"ok":"declared","withheld":0}"#,
+        ),
+        (
+            "2026-06-18T10:10:00 Z G1 notice",
+            "",
+            r#"{"appointed":"2026-06-18T10:00:00","company":"private","cutoff":"2026-06-16T10:00:00","given":"2026-06-01","kind":"general","meeting":"G1","ok":"notice","opened":"2026-06-18T10:00:00","record":"2026-06-16T18:00:00","register":true,"resolutions":[{"kind":"ordinary","number":1,"poll":{"chair":true,"closed":"2026-06-18T10:08:00","cutoff":"2026-06-16T10:00:00","late":false,"ordered":"2026-06-18T10:05:00","result":{"against":41,"carried":true,"eligible":150,"for":59,"withheld":50},"started":"2026-06-18T10:05:00","take":"2026-06-18T10:05:00"},"text":"Accounts"},{"kind":"special","number":2,"poll":{"chair":true,"closed":"2026-06-18T10:08:00","cutoff":"2026-06-16T10:00:00","late":false,"ordered":"2026-06-18T10:05:00","result":{"against":1,"carried":false,"eligible":150,"for":0,"withheld":0},"started":"2026-06-18T10:05:00","take":"2026-06-18T10:05:00"},"text":"New articles"}]}"#,
+        ),
+    ];
+    Script::of_table(rt.alloc(), &table)?.gets_its_replies(&rt, rt.alloc())
+}

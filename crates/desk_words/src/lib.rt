@@ -27,7 +27,8 @@ pub use records::{
 };
 pub use register::{MOST_SHARES, Register, same_rows};
 pub use request::{
-    AddCast, AddPoll, Authorised, Call, Change, Declaration, Failure, Given, Mine, NewCast,
-    NewMeeting, NewPoll, NewRegister, PollName, Reply, Request, SetOpened, SetPollMoment,
-    SetRegister, SetTally,
+    AddAppointment, AddCast, AddEnding, AddPoll, AppointmentReceipt, AppointmentUse, Authorised,
+    Call, Change, Declaration, Failure, Given, GivenUse, Mine, NewAppointment, NewCast, NewEnding,
+    NewMeeting, NewPoll, NewRegister, Notice, NoticedPoll, NoticedResolution, PollGoverned,
+    PollName, Received, Reply, Request, SetOpened, SetPollMoment, SetRegister, SetTally,
 };

@@ -146,6 +146,15 @@ impl DayList {
         }
     }
 
+    /// The same days again. The error is want of memory.
+    pub fn copy(&self) -> Result<DayList, AllocError>
+        ensures value { IfOk result (λ r. r ≡ self.now) }
+        ensures kept { IsTrue (is_day_list self.now) }
+    {
+        let days = self.days.clone()?;
+        Ok(DayList { days })
+    }
+
     /// The days, in order.
     pub fn as_slice(&self) -> &[Day]
         ensures value { result.now ≡ self.now }

@@ -1,13 +1,15 @@
 //! Requests, replies and changes.
 use crate::caller::Caller;
-use crate::lists::Resolutions;
+use crate::lists::{DayList, Resolutions};
 use crate::records::{
-    Appointment, Authority, CastMark, DemandMark, Meeting, Poll, RegisterRow, Tally,
+    Appointment, Authority, CastMark, DemandMark, Ending, Meeting, Poll, RegisterRow, Tally,
 };
 use crate::register::Register;
 use desk_calendar::{Day, Moment};
 use desk_lists::Listing;
-use desk_terms::{Company, MeetingId, MeetingKind, Party, Refusal, Way};
+use desk_terms::{
+    Company, Instr, MeetingId, MeetingKind, Party, Range, Refusal, ResKind, Text, Way,
+};
 
 /// A meeting that is to be called (sections 302 and 307).
 #[derive(Debug, Drop)]
@@ -53,6 +55,27 @@ pub struct PollName {
     pub resolution: u64,
 }
 
+/// An appointment of a proxy that a party is to give over some of its own shares (section 324).
+#[derive(Debug, Drop)]
+pub struct NewAppointment {
+    pub meeting: MeetingId,
+    pub proxy: Party,
+    /// The first of the places.
+    pub from: u64,
+    /// The last of the places.
+    pub to: u64,
+    /// One instruction for each resolution (section 324A).
+    pub instructions: Listing<Instr>,
+}
+
+/// An appointment that a party is to end (section 330).
+#[derive(Clone, Copy, Debug, PartialEq, Eq)]
+pub struct NewEnding {
+    pub meeting: MeetingId,
+    /// The party's own number of the appointment, from 1.
+    pub number: u64,
+}
+
 /// A vote that a member is to cast on some of its own shares (sections 284 and 322).
 #[derive(Clone, Copy, Debug, PartialEq, Eq)]
 pub struct NewCast {
@@ -85,8 +108,16 @@ pub enum Request {
     Close(PollName),
     /// The office declares the result of a poll.
     Declare(PollName),
+    /// The office loads the closed days.
+    ClosedDays(DayList),
+    /// A party asks for the notice of a meeting.
+    Notice(MeetingId),
     /// A party asks for its own things in a meeting.
     Mine(MeetingId),
+    /// A party appoints a proxy over some of its own shares.
+    Appoint(NewAppointment),
+    /// A party ends an appointment that it gave.
+    End(NewEnding),
     /// A member votes on some of its own shares.
     Cast(NewCast),
 }
@@ -106,6 +137,48 @@ pub struct Given {
     pub ended: Option<Moment>,
 }
 
+/// What an appointment counts for, by the cutoff of the meeting as it stands (section 327).
+#[derive(Clone, Copy, Debug, PartialEq, Eq)]
+pub enum AppointmentUse {
+    /// It counts for the meeting, and for each poll that is not late.
+    Meeting,
+    /// It came too late for the meeting, and counts for late polls at most.
+    LaterPolls,
+}
+
+/// An appointment that a party gave, and what it counts for.
+#[derive(Clone, Debug, Drop)]
+pub struct GivenUse {
+    pub given: Given,
+    pub used: AppointmentUse,
+}
+
+/// The places that an appointment governs for a late poll, in runs in order.
+#[derive(Clone, Debug, Drop)]
+pub struct PollGoverned {
+    /// The number of the poll's resolution, from 1.
+    pub resolution: u64,
+    pub governs: Listing<Range>,
+}
+
+/// An appointment that names a party, with the places of its member's shares that it governs, in
+/// runs in order.
+#[derive(Clone, Debug, Drop)]
+pub struct Received {
+    pub appointment: Appointment,
+    /// What it governs for the meeting, and for each poll that is not late.
+    pub governs: Listing<Range>,
+    /// What it governs for each late poll, in the order of resolutions.
+    pub polls: Listing<PollGoverned>,
+}
+
+/// The member's own number of an appointment that it gives, and what the appointment counts for.
+#[derive(Clone, Copy, Debug, PartialEq, Eq)]
+pub struct AppointmentReceipt {
+    pub number: u64,
+    pub used: AppointmentUse,
+}
+
 /// A corporation that authorised a party, with its shares: 0 unless the register has it as a
 /// corporation.
 #[derive(Clone, Copy, Debug, PartialEq, Eq)]
@@ -120,9 +193,12 @@ pub struct Mine {
     pub meeting: MeetingId,
     /// The party's row in the register.
     pub row: Option<RegisterRow>,
-    pub given: Listing<Given>,
+    /// The appointments that the party gave.
+    pub given: Listing<GivenUse>,
     /// The authorities that the party gave.
     pub persons: Listing<Authority>,
+    /// The appointments that name the party.
+    pub received: Listing<Received>,
     pub authorised: Listing<Authorised>,
     pub present: bool,
     pub demands: Listing<DemandMark>,
@@ -137,6 +213,50 @@ pub struct Declaration {
     pub carried: bool,
 }
 
+/// A poll as a notice shows it.
+#[derive(Clone, Copy, Debug, PartialEq, Eq)]
+pub struct NoticedPoll {
+    pub poll: Poll,
+    /// Whether it is taken more than 48 hours of working time after its order (section 327).
+    pub late: bool,
+    /// The last moment at which an appointment for it counts.
+    pub cutoff: Moment,
+    /// Whether the resolution is carried, once the poll is declared.
+    pub carried: Option<bool>,
+}
+
+/// A resolution as a notice shows it.
+#[derive(Clone, Debug, Drop)]
+pub struct NoticedResolution {
+    /// Its number, from 1.
+    pub number: u64,
+    pub kind: ResKind,
+    pub text: Text,
+    /// The poll on it, if one is ordered.
+    pub poll: Option<NoticedPoll>,
+}
+
+/// The notice of a meeting (section 307), and what is public of it since.
+#[derive(Clone, Debug, Drop)]
+pub struct Notice {
+    pub meeting: MeetingId,
+    pub company: Company,
+    pub kind: MeetingKind,
+    /// The day on which notice is given.
+    pub given: Day,
+    /// The appointed time.
+    pub appointed: Moment,
+    /// The last moment at which an appointment for the meeting counts (section 327).
+    pub cutoff: Moment,
+    /// The moment as of which the register is taken.
+    pub record_moment: Moment,
+    /// Whether a register is loaded.
+    pub loaded: bool,
+    pub opened: Option<Moment>,
+    /// In the order of their numbers.
+    pub resolutions: Listing<NoticedResolution>,
+}
+
 /// What is answered.
 #[derive(Debug, Drop)]
 pub enum Reply {
@@ -149,7 +269,11 @@ pub enum Reply {
     Started,
     VotingClosed,
     Declared(Declaration),
+    Notice(Notice),
     Mine(Mine),
+    Appointed(AppointmentReceipt),
+    /// The appointment of that number is ended.
+    Ended(u64),
     /// A vote is recorded. Nothing is said of other votes.
     Recorded,
     Refused(Refusal),
@@ -199,6 +323,20 @@ pub struct SetTally {
     pub tally: Tally,
 }
 
+/// An appointment that is recorded in a meeting.
+#[derive(Debug, Drop)]
+pub struct AddAppointment {
+    pub meeting: MeetingId,
+    pub appointment: Appointment,
+}
+
+/// An ending that is recorded in a meeting.
+#[derive(Clone, Copy, Debug, PartialEq, Eq)]
+pub struct AddEnding {
+    pub meeting: MeetingId,
+    pub ending: Ending,
+}
+
 /// A vote that is recorded in a meeting.
 #[derive(Clone, Copy, Debug, PartialEq, Eq)]
 pub struct AddCast {
@@ -216,5 +354,8 @@ pub enum Change {
     SetStarted(SetPollMoment),
     SetClosed(SetPollMoment),
     SetDeclared(SetTally),
+    SetClosedDays(DayList),
+    AddAppointment(AddAppointment),
+    AddEnding(AddEnding),
     AddCast(AddCast),
 }

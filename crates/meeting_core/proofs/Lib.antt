@@ -1,3 +1,4 @@
+pub mod AppointmentsKept
 pub mod MeetingKept
 pub mod OfficeKept
 pub mod StepLaws

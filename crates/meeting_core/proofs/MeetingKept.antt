@@ -1,6 +1,6 @@
 -- Each change of a meeting keeps the lists of a meeting.
 use Rattle.std.proofs.Common.{◌≡◌, ℕ, ◌+◌, Bool, true, false, ◌&&◌, ◌||◌, ◌==◌, cond, List, [], ◌∷◌, ◌++◌, length, refl, ap, sym, ◌∙◌, arith, add-zero}
-use Rattle.std.specs.Prelude.{Option, Some, None, find, filter, is_some, nat_le, nat_lt, count_by}
+use Rattle.std.specs.Prelude.{Some, None, find, filter, is_some, nat_le, nat_lt, count_by}
 use Rattle.std.specs.List.{list_all, list_any}
 use Rattle.std.specs.Cmp.{first_so, second_so}
 use Rattle.std.specs.Cmp.Derive.{both_true}
@@ -11,7 +11,6 @@ use Rattle.desk_lists.proofs.Ascending.{ascends_by-change_first}
 use Rattle.desk_lists.proofs.Differing.{all_changed_found, all_weaker, any_kept, count_filter, count_snoc}
 use Rattle.desk_lists.proofs.Inserting.{all-insert, any-insert, ascends-insert}
 use Rattle.desk_words.proofs.RowLemmas.{same_name-true}
-use Rattle.desk_words.specs.Edits.{change_first}
 use Rattle.desk_words.specs.Names.{same_name}
 use Rattle.desk_words.specs.Ordered.{ascends_by}
 use Rattle.desk_words.specs.Registers.{is_register}
@@ -22,7 +21,7 @@ use Rattle.desk_words.specs.declared.records.CastMark.{CastMark}
 use Rattle.desk_words.specs.declared.records.Poll.{Poll}
 use Rattle.desk_words.specs.declared.records.Tally.{Tally}
 use Rattle.caller_view.specs.Polls.{poll_on, casts_on}
-use Rattle.office_answers.proofs.OfficeFacts.{MeetingFacts, meeting_facts, meeting_from_facts, find-passes}
+use Rattle.office_answers.proofs.OfficeFacts.{meeting_facts, meeting_from_facts, find-passes}
 use Rattle.meeting_core.specs.Office.{with_register, opened_at, with_poll, change_poll, started_at, closed_at, declared_as, with_cast}
 
 pub implies_true : (b : Bool) → implies b true ≡ true

@@ -1,15 +1,12 @@
 -- Each step keeps the lists of an office.
-use Rattle.std.proofs.Common.{◌≡◌, ℕ, Bool, true, false, ◌&&◌, not, cond, List, [], ◌∷◌, ◌++◌, length, refl, ap, sym, ◌∙◌, arith, length-append}
-use Rattle.std.specs.Prelude.{Option, Some, None, option_map, filter, is_some, is_none, nat_le}
-use Rattle.std.specs.List.{list_all}
+use Rattle.std.proofs.Common.{◌≡◌, ℕ, suc, Bool, true, false, ◌&&◌, ◌==◌, not, cond, List, [], ◌∷◌, ◌++◌, length, refl, ap, sym, ◌∙◌, arith, length-append}
+use Rattle.std.specs.Prelude.{Option, Some, None, option_map, is_some, is_none, nat_le}
 use Rattle.std.specs.Cmp.Derive.{both_true}
 use Rattle.std.proofs.lemmas.Bool.Decides.{nat_tests}
 use Rattle.std.proofs.lemmas.List.Folds.{list_all-append}
 use Rattle.desk_lists.proofs.Differing.{find_none, differ_snoc, differ_changed, all_changed_found, length-change_first}
 use Rattle.desk_words.specs.Names.{same_name}
-use Rattle.desk_words.specs.Places.{is_range}
 use Rattle.desk_words.specs.Refusals.{Case, first_refusal}
-use Rattle.desk_words.specs.Registers.{is_register}
 use Rattle.desk_words.specs.Lists.{are_resolutions}
 use Rattle.desk_words.specs.Rows.{same_rows}
 use Rattle.desk_words.specs.Office.{is_resolution, is_meeting, is_poll, same_meeting, is_office}
@@ -17,11 +14,11 @@ use Rattle.desk_words.specs.declared.caller.Caller.{Caller}
 use Rattle.desk_words.specs.declared.caller.Caller.TheVariants as caller
 use Rattle.desk_words.specs.declared.office.OfficeLists.{OfficeLists}
 use Rattle.desk_words.specs.declared.office.MeetingLists.{MeetingLists}
-use Rattle.desk_words.specs.declared.records.CastMark.{CastMark}
 use Rattle.desk_words.specs.declared.records.Meeting.{Meeting}
 use Rattle.desk_words.specs.declared.records.Poll.{Poll}
-use Rattle.desk_words.specs.declared.records.RegisterRow.{RegisterRow}
+use Rattle.desk_words.specs.declared.request.NewAppointment.{NewAppointment}
 use Rattle.desk_words.specs.declared.request.NewCast.{NewCast}
+use Rattle.desk_words.specs.declared.request.NewEnding.{NewEnding}
 use Rattle.desk_words.specs.declared.request.NewMeeting.{NewMeeting}
 use Rattle.desk_words.specs.declared.request.NewPoll.{NewPoll}
 use Rattle.desk_words.specs.declared.request.NewRegister.{NewRegister}
@@ -32,20 +29,22 @@ use Rattle.desk_words.specs.declared.request.Request.TheVariants as asked
 use Rattle.desk_words.specs.declared.request.Change.{Change}
 use Rattle.desk_words.specs.declared.request.Change.TheVariants as change
 use Rattle.desk_terms.specs.declared.refusal.Refusal.{Refusal}
-use Rattle.desk_terms.specs.declared.refusal.Refusal.TheVariants as refusal
 use Rattle.caller_view.specs.declared.views.Answer.{Answer}
 use Rattle.caller_view.specs.declared.views.OwnView.{OwnView}
 use Rattle.caller_view.specs.declared.views.PublicRecord.{PublicRecord}
-use Rattle.caller_view.specs.Answers.{answer_of, settled, unless, replied, is_past, may_vote_as, mine_cases, mine_of, cast_cases, cast_answer, cast_of, cast_recorded}
-use Rattle.caller_view.specs.Polls.{poll_on, there_is, is_started, is_waiting, is_closed, is_unclosed, is_declared, is_taken_after, casts_on}
+use Rattle.caller_view.specs.Answers.{answer_of, settled, mine_answer, notice_answer, appoint_answer, appointed, cutoff_in, end_answer, ended, cast_cases, cast_answer, cast_of, cast_recorded}
+use Rattle.caller_view.specs.Appointments.{appoint_cases, appointment_of, end_cases, ending_of}
+use Rattle.caller_view.specs.Polls.{poll_on, there_is, is_waiting, is_unclosed}
 use Rattle.caller_view.specs.Views.{meeting_at, meeting_named, own_in, own_in_some, own_of, polls_in, public_of}
 use Rattle.office_answers.specs.Answers.{office_answer}
 use Rattle.office_answers.specs.Calls.{call_cases, call_answer, meeting_of, load_cases, loads, load_answer, in_meeting}
+use Rattle.office_answers.specs.Closed.{same_days, loads_days}
 use Rattle.office_answers.specs.Limits.{keeps_limits}
-use Rattle.office_answers.specs.Polls.{no_resolution, open_cases, open_answer, order_cases, order_answer, poll_of, start_cases, start_answer, close_cases, close_answer, declare_cases, declare_answer, declaration_of}
+use Rattle.office_answers.specs.Polls.{open_cases, open_answer, order_cases, order_answer, poll_of, start_cases, start_answer, close_cases, close_answer, declare_cases, declare_answer, declaration_of}
 use Rattle.office_answers.proofs.OfficeFacts.{OfficeFacts, office_facts, office_from_facts, meeting_from_facts, find-passes}
-use Rattle.meeting_core.specs.Office.{after_some, change_meeting, sets_fields, new_lists, with_register, opened_at, with_poll, change_poll, started_at, closed_at, declared_as, with_cast}
-use Rattle.meeting_core.specs.Step.{answer_to, is_misplaced, needs_no_memory, party_answer}
+use Rattle.meeting_core.specs.Office.{after_some, change_meeting, sets_fields, new_lists, with_register, opened_at, with_poll, change_poll, started_at, closed_at, declared_as, with_appointment, with_ending, with_cast}
+use Rattle.meeting_core.specs.Step.{answer_to, needs_no_memory, party_answer}
+use Rattle.meeting_core.proofs.AppointmentsKept.{appointment_kept, ending_kept, given_count, numbered_given, unended_none}
 use Rattle.meeting_core.proofs.MeetingKept.{register_kept, opening_kept, poll_kept, start_kept, close_kept, declare_kept, vote_kept}
 
 -- where nothing is refused, the first condition fails, and the others refuse nothing
@@ -115,7 +114,7 @@ call_kept : (o : OfficeLists) (new : NewMeeting) → is_office o ≡ true → ke
 call_kept o new h =
     by_refusal o (record { reply = reply.Called; change = Some (change.AddMeeting (meeting_of new)) }) (first_refusal (call_cases o.meetings new)) h (λ none limits.
     let fail = all_fail (call_cases o.meetings new) none in
-    added_kept o (new_lists (meeting_of new)) (office_facts o h) (not_some (meeting_named o.meetings new.meeting) fail.0) fail.1.0 (new_meeting_kept new limits))
+    added_kept o (new_lists (meeting_of new)) (office_facts o h) (not_some (meeting_named o.meetings new.meeting) fail.0) fail.1.1.0 (new_meeting_kept new limits))
 
 -- ---- a meeting changed
 
@@ -214,7 +213,14 @@ declare_changes o name h = in_found o name.meeting (declare_answer name) h (λ m
     meeting_kept o name.meeting (change_poll (declared_as declared.tally) name.resolution) m (λ x. refl) h found
     (declare_kept declared.tally name.resolution m p.0 (good_meeting o name.meeting m h found) p.1 (not_none p.0.closed (fails is_unclosed poll p.0 p.1 fail.1.1.0)) limits)))
 
-office_kept : (o : OfficeLists) (now : ℕ) (request : Request) → is_office o ≡ true → Kept o (office_answer o.meetings now request)
+-- the closed days may be replaced
+days_loaded : (o : OfficeLists) (same : Bool) (days : List ℕ) → is_office o ≡ true → Kept o (loads_days same days)
+days_loaded o true days h = λ limits. h
+days_loaded o false days h = λ limits.
+    let f = office_facts o h in
+    office_from_facts (record o { closed = days }) (record { keys = f.keys; closed = limits; few = f.few; apart = f.apart; each = f.each })
+
+office_kept : (o : OfficeLists) (now : ℕ) (request : Request) → is_office o ≡ true → Kept o (office_answer o.closed o.meetings now request)
 office_kept o now (asked.CallMeeting new) h = call_kept o new h
 office_kept o now (asked.LoadRegister new) h = load_kept o now new h
 office_kept o now (asked.OpenMeeting id) h = open_kept o now id h
@@ -222,15 +228,22 @@ office_kept o now (asked.Order new) h = order_kept o now new h
 office_kept o now (asked.Start name) h = start_changes o now name h
 office_kept o now (asked.Close name) h = close_changes o now name h
 office_kept o now (asked.Declare name) h = declare_changes o name h
+office_kept o now (asked.ClosedDays days) h = days_loaded o (same_days o.closed days) days h
+office_kept o now (asked.Notice id) h = λ limits. h
 office_kept o now (asked.Mine id) h = λ limits. h
+office_kept o now (asked.Appoint new) h = λ limits. h
+office_kept o now (asked.End new) h = λ limits. h
 office_kept o now (asked.Cast new) h = λ limits. h
 
 -- ---- a vote
 
+-- the public record of a meeting, where it is found or not
+abbrev pub record_of : Option MeetingLists → List ℕ → PublicRecord
+record_of found closed = record { closed = closed; meeting = option_map (λ (m : MeetingLists). m.meeting) found; polls = polls_in found }
+
 -- the answer to a vote, where the meeting is found or not
 abbrev pub vote_in : Option MeetingLists → List ℕ → List ℕ → ℕ → NewCast → Answer
-vote_in found closed party now new =
-    cast_answer (record { closed = closed; meeting = option_map (λ (m : MeetingLists). m.meeting) found; polls = polls_in found }) (own_in_some found party) now new
+vote_in found closed party now new = cast_answer (record_of found closed) (own_in_some found closed party now) now new
 
 vote_changes : (o : OfficeLists) (party : List ℕ) (now : ℕ) (new : NewCast) → is_office o ≡ true → Kept o (vote_in (meeting_at o new.meeting) o.closed party now new)
 vote_changes o party now new h =
@@ -238,13 +251,68 @@ vote_changes o party now new h =
       | None ↦ λ e _. h
       | Some m ↦ λ found. (
           let poll = poll_on m.polls new.resolution in
-          let own = own_in m party in
+          let own = own_in m o.closed party now in
           by_refusal o (cast_recorded own now new) (first_refusal (cast_cases m.meeting poll own new)) h (λ none _.
           let fail = all_fail (cast_cases m.meeting poll own new) none in
           let p = some_poll poll fail.1.1.1.1.1.0 in
           meeting_kept o new.meeting (with_cast (cast_of own now new)) m (λ x. refl) h found
           (vote_kept (cast_of own now new) m p.0 (good_meeting o new.meeting m h found) p.1 (not_none p.0.started (fails is_waiting poll p.0 p.1 fail.1.1.1.1.1.1.0)) fail.1.1.0)))
     ]) refl
+
+-- ---- an appointment, and an ending
+
+-- the answer to an appointment, where the meeting is found or not
+abbrev pub appoint_in : Option MeetingLists → List ℕ → List ℕ → ℕ → NewAppointment → Answer
+appoint_in found closed party now new = appoint_answer (record_of found closed) (own_in_some found closed party now) now new
+
+appoint_changes : (o : OfficeLists) (party : List ℕ) (now : ℕ) (new : NewAppointment) → is_office o ≡ true → Kept o (appoint_in (meeting_at o new.meeting) o.closed party now new)
+appoint_changes o party now new h =
+    (elim (meeting_at o new.meeting) as (λ found. meeting_at o new.meeting ≡ found → Kept o (appoint_in found o.closed party now new)) [
+      | None ↦ λ e _. h
+      | Some m ↦ λ found. (
+          let own = own_in m o.closed party now in
+          let a = appointment_of own now new in
+          let count = given_count m.endings party m.appointments in
+          by_refusal o (appointed (cutoff_in (record_of (Some m) o.closed) now m.meeting) own now new) (first_refusal (appoint_cases m.meeting own new)) h (λ none _.
+          let fail = all_fail (appoint_cases m.meeting own new) none in
+          meeting_kept o new.meeting (with_appointment a) m (λ x. refl) h found
+          (appointment_kept a m (good_meeting o new.meeting m h found) (ap suc count) (ap (nat_le 256) (sym count) ∙ fail.1.1.1.0)
+          (not_false (length new.instructions == length m.meeting.resolutions) fail.1.1.0))))
+    ]) refl
+
+-- the answer to an ending, where the meeting is found or not
+abbrev pub end_in : Option MeetingLists → List ℕ → List ℕ → ℕ → NewEnding → Answer
+end_in found closed party now new = end_answer (record_of found closed) (own_in_some found closed party now) now new
+
+end_changes : (o : OfficeLists) (party : List ℕ) (now : ℕ) (new : NewEnding) → is_office o ≡ true → Kept o (end_in (meeting_at o new.meeting) o.closed party now new)
+end_changes o party now new h =
+    (elim (meeting_at o new.meeting) as (λ found. meeting_at o new.meeting ≡ found → Kept o (end_in found o.closed party now new)) [
+      | None ↦ λ e _. h
+      | Some m ↦ λ found. (
+          let own = own_in m o.closed party now in
+          let e = ending_of own now new in
+          by_refusal o (ended own now new) (first_refusal (end_cases own new)) h (λ none _.
+          let fail = all_fail (end_cases own new) none in
+          meeting_kept o new.meeting (with_ending e) m (λ x. refl) h found
+          (ending_kept e m (good_meeting o new.meeting m h found) (numbered_given m.endings party new.number m.appointments fail.0)
+          (unended_none m.endings party new.number m.appointments fail.0 fail.1.0))))
+    ]) refl
+
+notice_in : (o : OfficeLists) (meeting : Option Meeting) (closed : List ℕ) (polls : List Poll) (now : ℕ) → is_office o ≡ true
+    → Kept o (notice_answer (record { closed = closed; meeting = meeting; polls = polls }) now)
+notice_in o None closed polls now h = λ _. h
+notice_in o (Some meeting) closed polls now h = λ _. h
+
+notice_kept : (o : OfficeLists) (public : PublicRecord) (now : ℕ) → is_office o ≡ true → Kept o (notice_answer public now)
+notice_kept o public now h = notice_in o public.meeting public.closed public.polls now h
+
+mine_in : (o : OfficeLists) (meeting : Option Meeting) (closed : List ℕ) (polls : List Poll) (own : OwnView) (now : ℕ) (id : List ℕ) → is_office o ≡ true
+    → Kept o (mine_answer (record { closed = closed; meeting = meeting; polls = polls }) own now id)
+mine_in o None closed polls own now id h = λ _. h
+mine_in o (Some meeting) closed polls own now id h = λ _. h
+
+mine_kept : (o : OfficeLists) (public : PublicRecord) (own : OwnView) (now : ℕ) (id : List ℕ) → is_office o ≡ true → Kept o (mine_answer public own now id)
+mine_kept o public own now id h = mine_in o public.meeting public.closed public.polls own now id h
 
 party_kept : (o : OfficeLists) (party : List ℕ) (now : ℕ) (request : Request) → is_office o ≡ true → Kept o (party_answer o party now request)
 party_kept o party now (asked.CallMeeting new) h = λ _. h
@@ -254,8 +322,11 @@ party_kept o party now (asked.Order new) h = λ _. h
 party_kept o party now (asked.Start name) h = λ _. h
 party_kept o party now (asked.Close name) h = λ _. h
 party_kept o party now (asked.Declare name) h = λ _. h
-party_kept o party now (asked.Mine id) h =
-    by_refusal o (replied (reply.Mine (mine_of id (own_of o party id now)))) (first_refusal (mine_cases (public_of o id))) h (λ _ _. h)
+party_kept o party now (asked.ClosedDays days) h = λ _. h
+party_kept o party now (asked.Notice id) h = notice_kept o (public_of o id) now h
+party_kept o party now (asked.Mine id) h = mine_kept o (public_of o id) (own_of o party id now) now id h
+party_kept o party now (asked.Appoint new) h = appoint_changes o party now new h
+party_kept o party now (asked.End new) h = end_changes o party now new h
 party_kept o party now (asked.Cast new) h = vote_changes o party now new h
 
 -- each step keeps the lists of an office
@@ -275,6 +346,27 @@ limits_of_vote : (meeting : Option Meeting) (closed : List ℕ) (polls : List Po
 limits_of_vote None closed polls own now new = refl
 limits_of_vote (Some meeting) closed polls own now new = limits_settled (first_refusal (cast_cases meeting (poll_on polls new.resolution) own new)) (cast_recorded own now new) refl
 
+limits_of_notice : (meeting : Option Meeting) (closed : List ℕ) (polls : List Poll) (now : ℕ)
+    → keeps_limits (notice_answer (record { closed = closed; meeting = meeting; polls = polls }) now).change ≡ true
+limits_of_notice None closed polls now = refl
+limits_of_notice (Some meeting) closed polls now = refl
+
+limits_of_mine : (meeting : Option Meeting) (closed : List ℕ) (polls : List Poll) (own : OwnView) (now : ℕ) (id : List ℕ)
+    → keeps_limits (mine_answer (record { closed = closed; meeting = meeting; polls = polls }) own now id).change ≡ true
+limits_of_mine None closed polls own now id = refl
+limits_of_mine (Some meeting) closed polls own now id = refl
+
+limits_of_appointment : (meeting : Option Meeting) (closed : List ℕ) (polls : List Poll) (own : OwnView) (now : ℕ) (new : NewAppointment)
+    → keeps_limits (appoint_answer (record { closed = closed; meeting = meeting; polls = polls }) own now new).change ≡ true
+limits_of_appointment None closed polls own now new = refl
+limits_of_appointment (Some meeting) closed polls own now new =
+    limits_settled (first_refusal (appoint_cases meeting own new)) (appointed (cutoff_in (record { closed = closed; meeting = Some meeting; polls = polls }) now meeting) own now new) refl
+
+limits_of_ending : (meeting : Option Meeting) (closed : List ℕ) (polls : List Poll) (own : OwnView) (now : ℕ) (new : NewEnding)
+    → keeps_limits (end_answer (record { closed = closed; meeting = meeting; polls = polls }) own now new).change ≡ true
+limits_of_ending None closed polls own now new = refl
+limits_of_ending (Some meeting) closed polls own now new = limits_settled (first_refusal (end_cases own new)) (ended own now new) refl
+
 -- what a party adds has no limits of its own
 pub party_limits : (public : PublicRecord) (own : OwnView) (now : ℕ) (request : Request) → keeps_limits (answer_of public own now request).change ≡ true
 party_limits public own now (asked.CallMeeting new) = refl
@@ -284,7 +376,11 @@ party_limits public own now (asked.Order new) = refl
 party_limits public own now (asked.Start name) = refl
 party_limits public own now (asked.Close name) = refl
 party_limits public own now (asked.Declare name) = refl
-party_limits public own now (asked.Mine id) = limits_settled (first_refusal (mine_cases public)) (replied (reply.Mine (mine_of id own))) refl
+party_limits public own now (asked.ClosedDays days) = refl
+party_limits public own now (asked.Notice id) = limits_of_notice public.meeting public.closed public.polls now
+party_limits public own now (asked.Mine id) = limits_of_mine public.meeting public.closed public.polls own now id
+party_limits public own now (asked.Appoint new) = limits_of_appointment public.meeting public.closed public.polls own now new
+party_limits public own now (asked.End new) = limits_of_ending public.meeting public.closed public.polls own now new
 party_limits public own now (asked.Cast new) = limits_of_vote public.meeting public.closed public.polls own now new
 
 -- there is no change, or one that sets fields
@@ -315,7 +411,11 @@ sets_alone o now caller.Office (asked.Order new) h = absurd (cc)
 sets_alone o now caller.Office (asked.Start name) h = start_sets (meeting_at o name.meeting) now name
 sets_alone o now caller.Office (asked.Close name) h = close_sets (meeting_at o name.meeting) now name
 sets_alone o now caller.Office (asked.Declare name) h = absurd (cc)
+sets_alone o now caller.Office (asked.ClosedDays days) h = absurd (cc)
+sets_alone o now caller.Office (asked.Notice id) h = refl
 sets_alone o now caller.Office (asked.Mine id) h = refl
+sets_alone o now caller.Office (asked.Appoint new) h = refl
+sets_alone o now caller.Office (asked.End new) h = refl
 sets_alone o now caller.Office (asked.Cast new) h = refl
 sets_alone o now (caller.Party party) (asked.CallMeeting new) h = refl
 sets_alone o now (caller.Party party) (asked.LoadRegister new) h = refl
@@ -324,5 +424,9 @@ sets_alone o now (caller.Party party) (asked.Order new) h = refl
 sets_alone o now (caller.Party party) (asked.Start name) h = refl
 sets_alone o now (caller.Party party) (asked.Close name) h = refl
 sets_alone o now (caller.Party party) (asked.Declare name) h = refl
+sets_alone o now (caller.Party party) (asked.ClosedDays days) h = refl
+sets_alone o now (caller.Party party) (asked.Notice id) h = absurd (cc)
 sets_alone o now (caller.Party party) (asked.Mine id) h = absurd (cc)
+sets_alone o now (caller.Party party) (asked.Appoint new) h = absurd (cc)
+sets_alone o now (caller.Party party) (asked.End new) h = absurd (cc)
 sets_alone o now (caller.Party party) (asked.Cast new) h = absurd (cc)

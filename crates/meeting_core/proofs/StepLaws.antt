@@ -1,6 +1,9 @@
 -- The laws of the step.
-use Rattle.std.proofs.Common.{◌≡◌, ℕ, ◌+◌, ◌<◌, Bool, true, false, cond, List, [], ◌∷◌, ◌++◌, length, get_or, refl, ap, sym, ◌∙◌, arith, add-one}
-use Rattle.std.specs.Prelude.{Option, Some, None, option_map, All, Contains, find}
+use Rattle.std.proofs.Common.{◌≡◌, ℕ, ◌+◌, Bool, true, false, cond, List, [], ◌∷◌, ◌++◌, get_or, refl, ap, sym, subst, ◌∙◌, arith, add-one}
+use Rattle.std.specs.Prelude.{Option, Some, None, option_map, All, Contains, find, map}
+use Rattle.std.specs.List.{flat_map}
+use Rattle.std.proofs.lemmas.List.{append-nil}
+use Rattle.std.proofs.lemmas.List.Folds.{flat_map-map}
 use Rattle.std.proofs.lemmas.List.Elements.{Contains-append_left, All-contains_itself}
 use Rattle.desk_words.specs.Edits.{change_first}
 use Rattle.desk_words.specs.Names.{same_name}
@@ -10,28 +13,39 @@ use Rattle.desk_words.specs.declared.caller.Caller.{Caller}
 use Rattle.desk_words.specs.declared.caller.Caller.TheVariants as caller
 use Rattle.desk_words.specs.declared.office.OfficeLists.{OfficeLists}
 use Rattle.desk_words.specs.declared.office.MeetingLists.{MeetingLists}
+use Rattle.desk_words.specs.declared.request.AddAppointment.{AddAppointment}
 use Rattle.desk_words.specs.declared.request.AddCast.{AddCast}
+use Rattle.desk_words.specs.declared.request.AddEnding.{AddEnding}
 use Rattle.desk_words.specs.declared.request.Change.TheVariants as change
+use Rattle.desk_words.specs.declared.records.DemandMark.{DemandMark}
+use Rattle.desk_words.specs.declared.records.Meeting.{Meeting}
+use Rattle.desk_words.specs.declared.request.Authorised.{Authorised}
+use Rattle.desk_words.specs.declared.request.Given.{Given}
+use Rattle.desk_words.specs.declared.request.GivenUse.{GivenUse}
+use Rattle.desk_words.specs.declared.request.NewAppointment.{NewAppointment}
 use Rattle.desk_words.specs.declared.request.NewCast.{NewCast}
+use Rattle.desk_words.specs.declared.request.NewEnding.{NewEnding}
 use Rattle.desk_words.specs.declared.request.NewRegister.{NewRegister}
+use Rattle.desk_words.specs.declared.request.Received.{Received}
 use Rattle.desk_words.specs.declared.request.Reply.TheVariants as reply
 use Rattle.desk_words.specs.declared.request.Request.{Request}
 use Rattle.desk_words.specs.declared.request.Request.TheVariants as asked
 use Rattle.desk_terms.specs.declared.refusal.Refusal.{Refusal}
 use Rattle.caller_view.specs.declared.views.Answer.{Answer}
 use Rattle.caller_view.specs.declared.views.OwnView.{OwnView}
-use Rattle.caller_view.specs.Answers.{answer_of, cast_cases, cast_of, cast_recorded, settled, unless, replied, mine_cases, mine_of}
+use Rattle.caller_view.specs.Answers.{answer_of, appointed, cast_cases, cast_of, cast_recorded, cutoff_in, ended, settled, unless, mine_answer, mine_of, notice_answer}
+use Rattle.caller_view.specs.Appointments.{appoint_cases, appointment_of, end_cases, ending_of, given_use}
 use Rattle.caller_view.specs.Polls.{poll_on}
 use Rattle.caller_view.specs.Views.{meeting_at, own_in, own_in_some, own_of, polls_in, public_of}
-use Rattle.office_answers.specs.Answers.{office_answer}
 use Rattle.office_answers.specs.Calls.{call_cases, in_meeting, load_cases, loads, meeting_of}
+use Rattle.office_answers.specs.Closed.{same_days, loads_days}
 use Rattle.office_answers.specs.Polls.{open_cases, order_cases, start_cases, close_cases, declare_cases, declaration_of, poll_of}
-use Rattle.meeting_core.specs.Conditions.{ConditionsStandInOrder, TheLowestRefusalIsAnswered, all_cases, cases_in, meeting_cases, no_meeting, refusal_in, request_cases, side_cases}
-use Rattle.meeting_core.specs.Laws.{Agree, PartiesLeaveThePublicRecord, RepliesAreTheCallersOwn}
-use Rattle.meeting_core.specs.Names.{Names, NamesAreTheCallersOwn, in_reply, in_view}
-use Rattle.meeting_core.specs.Office.{after_some, change_at, with_cast}
-use Rattle.meeting_core.specs.Step.{answer_to, decided, named_meeting, party_answer}
-use Rattle.meeting_core.proofs.OfficeKept.{vote_in}
+use Rattle.meeting_core.specs.Conditions.{ConditionsStandInOrder, TheLowestRefusalIsAnswered, cases_in, no_meeting, refusal_in, request_cases, side_cases}
+use Rattle.meeting_core.specs.Laws.{PartiesLeaveThePublicRecord, RepliesAreTheCallersOwn}
+use Rattle.meeting_core.specs.Names.{Names, NamesAreTheCallersOwn, in_appointment, in_authority, in_cast, in_mine, in_reply, in_row, in_view}
+use Rattle.meeting_core.specs.Office.{after_some, change_at, with_appointment, with_cast, with_ending}
+use Rattle.meeting_core.specs.Step.{answer_to, party_answer}
+use Rattle.meeting_core.proofs.OfficeKept.{appoint_in, end_in, record_of, vote_in}
 
 pub replies_own : RepliesAreTheCallersOwn
 replies_own o p party now request agree = λ i. answer_of (agree.public i) (agree.own i) now request
@@ -50,16 +64,29 @@ seen_alike view wanted test f (x ∷ xs) same found =
           [ true ↦ refl | false ↦ seen_alike view wanted test f xs same found ]
     ]
 
+-- what leaves a meeting's notice and polls as they are changes no public record
+unseen_at : (o : OfficeLists) (f : MeetingLists → MeetingLists) (at id : List ℕ) → ((m : MeetingLists) → (f m).meeting ≡ m.meeting) → ((m : MeetingLists) → (f m).polls ≡ m.polls)
+    → public_of (record o { meetings = change_at f at o.meetings }) id ≡ public_of o id
+unseen_at o f at id meeting polls =
+    let test = λ (m : MeetingLists). same_name m.meeting.id at in
+    let wanted = λ (m : MeetingLists). same_name m.meeting.id id in
+    let named = λ (m : MeetingLists). ap (λ (x : Meeting). same_name x.id id) (meeting m) in
+    let meetings = seen_alike (λ found. option_map (λ (m : MeetingLists). m.meeting) found) wanted test f o.meetings (λ m. ap (λ (x : Meeting). Some x) (meeting m)) named in
+    let all = seen_alike polls_in wanted test f o.meetings polls named in
+    λ i. record { closed = o.closed; meeting = meetings i; polls = all i }
+
 -- a vote changes no public record
 vote_unseen : (o : OfficeLists) (added : AddCast) (id : List ℕ) → public_of (after_some o (Some (change.AddCast added))) id ≡ public_of o id
-vote_unseen o added id =
-    let test = λ (m : MeetingLists). same_name m.meeting.id added.meeting in
-    let wanted = λ (m : MeetingLists). same_name m.meeting.id id in
-    let meetings = seen_alike (λ found. option_map (λ (m : MeetingLists). m.meeting) found) wanted test (with_cast added.cast) o.meetings (λ m. refl) (λ m. refl) in
-    let polls = seen_alike polls_in wanted test (with_cast added.cast) o.meetings (λ m. refl) (λ m. refl) in
-    λ i. record { closed = o.closed; meeting = meetings i; polls = polls i }
+vote_unseen o added id = unseen_at o (with_cast added.cast) added.meeting id (λ m. refl) (λ m. refl)
 
--- an answer that changes nothing but votes
+-- nor does an appointment, or an ending
+appointment_unseen : (o : OfficeLists) (added : AddAppointment) (id : List ℕ) → public_of (after_some o (Some (change.AddAppointment added))) id ≡ public_of o id
+appointment_unseen o added id = unseen_at o (with_appointment added.appointment) added.meeting id (λ m. refl) (λ m. refl)
+
+ending_unseen : (o : OfficeLists) (added : AddEnding) (id : List ℕ) → public_of (after_some o (Some (change.AddEnding added))) id ≡ public_of o id
+ending_unseen o added id = unseen_at o (with_ending added.ending) added.meeting id (λ m. refl) (λ m. refl)
+
+-- an answer that changes nothing that is public
 abbrev IsUnseen : OfficeLists → Answer → Type 0
 IsUnseen o answer = (id : List ℕ) → public_of (after_some o answer.change) id ≡ public_of o id
 
@@ -70,8 +97,38 @@ unseen_settled o (Some r) accepted h = λ id. refl
 vote_leaves : (o : OfficeLists) (found : Option MeetingLists) (party : List ℕ) (now : ℕ) (new : NewCast) → IsUnseen o (vote_in found o.closed party now new)
 vote_leaves o None party now new = λ id. refl
 vote_leaves o (Some m) party now new =
-    unseen_settled o (first_refusal (cast_cases m.meeting (poll_on m.polls new.resolution) (own_in m party) new)) (cast_recorded (own_in m party) now new)
-    (vote_unseen o (record { meeting = new.meeting; cast = cast_of (own_in m party) now new }))
+    let own = own_in m o.closed party now in
+    unseen_settled o (first_refusal (cast_cases m.meeting (poll_on m.polls new.resolution) own new)) (cast_recorded own now new)
+    (vote_unseen o (record { meeting = new.meeting; cast = cast_of own now new }))
+
+appointment_leaves : (o : OfficeLists) (found : Option MeetingLists) (party : List ℕ) (now : ℕ) (new : NewAppointment) → IsUnseen o (appoint_in found o.closed party now new)
+appointment_leaves o None party now new = λ id. refl
+appointment_leaves o (Some m) party now new =
+    let own = own_in m o.closed party now in
+    unseen_settled o (first_refusal (appoint_cases m.meeting own new)) (appointed (cutoff_in (record_of (Some m) o.closed) now m.meeting) own now new)
+    (appointment_unseen o (record { meeting = new.meeting; appointment = appointment_of own now new }))
+
+ending_leaves : (o : OfficeLists) (found : Option MeetingLists) (party : List ℕ) (now : ℕ) (new : NewEnding) → IsUnseen o (end_in found o.closed party now new)
+ending_leaves o None party now new = λ id. refl
+ending_leaves o (Some m) party now new =
+    let own = own_in m o.closed party now in
+    unseen_settled o (first_refusal (end_cases own new)) (ended own now new) (ending_unseen o (record { meeting = new.meeting; ending = ending_of own now new }))
+
+-- the answer to a party that asks for the notice, where the meeting is found or not
+abbrev notice_to : Option MeetingLists → List ℕ → ℕ → Answer
+notice_to found closed now = notice_answer (record_of found closed) now
+
+notice_leaves : (o : OfficeLists) (found : Option MeetingLists) (now : ℕ) → IsUnseen o (notice_to found o.closed now)
+notice_leaves o None now = λ id. refl
+notice_leaves o (Some m) now = λ id. refl
+
+-- the answer to a party that asks for its own things, where the meeting is found or not
+abbrev mine_to : Option MeetingLists → List ℕ → List ℕ → ℕ → List ℕ → Answer
+mine_to found closed party now id = mine_answer (record_of found closed) (own_in_some found closed party now) now id
+
+mine_leaves : (o : OfficeLists) (found : Option MeetingLists) (party : List ℕ) (now : ℕ) (id : List ℕ) → IsUnseen o (mine_to found o.closed party now id)
+mine_leaves o None party now id = λ _. refl
+mine_leaves o (Some m) party now id = λ _. refl
 
 pub public_stays : PartiesLeaveThePublicRecord
 public_stays o party now (asked.CallMeeting new) = λ id. refl
@@ -81,8 +138,11 @@ public_stays o party now (asked.Order new) = λ id. refl
 public_stays o party now (asked.Start name) = λ id. refl
 public_stays o party now (asked.Close name) = λ id. refl
 public_stays o party now (asked.Declare name) = λ id. refl
-public_stays o party now (asked.Mine meeting) =
-    unseen_settled o (first_refusal (mine_cases (public_of o meeting))) (replied (reply.Mine (mine_of meeting (own_of o party meeting now)))) (λ id. refl)
+public_stays o party now (asked.ClosedDays days) = λ id. refl
+public_stays o party now (asked.Notice meeting) = notice_leaves o (meeting_at o meeting) now
+public_stays o party now (asked.Mine meeting) = mine_leaves o (meeting_at o meeting) party now meeting
+public_stays o party now (asked.Appoint new) = appointment_leaves o (meeting_at o new.meeting) party now new
+public_stays o party now (asked.End new) = ending_leaves o (meeting_at o new.meeting) party now new
 public_stays o party now (asked.Cast new) = vote_leaves o (meeting_at o new.meeting) party now new
 
 -- ---- names
@@ -92,9 +152,26 @@ contains_front x xs ys = λ k d h.
     let here = Contains-append_left xs ys (get_or xs k d) (All-contains_itself xs k d h) in
     (here.0 + 1, omega (arith, here.1), rw add-one here.2)
 
-names_by_refusal : (id : List ℕ) (own : OwnView) (r : Option Refusal) → All (Contains (in_view own)) (in_reply (settled r (replied (reply.Mine (mine_of id own)))).reply)
-names_by_refusal id own None = contains_front _ _ _
-names_by_refusal id own (Some r) = λ k d h. absurd (omega arith)
+-- what an appointment counts for names nobody
+names_of_uses : (cutoff : ℕ) (given : List Given) → flat_map (λ (g : GivenUse). in_appointment g.given.appointment) (map (given_use cutoff) given) ≡ flat_map (λ (g : Given). in_appointment g.appointment) given
+names_of_uses cutoff given = flat_map-map (λ (g : GivenUse). in_appointment g.given.appointment) (given_use cutoff) given
+
+-- what a party is told of its own things names those that stand in them
+mine_named : (id : List ℕ) (cutoff : ℕ) (own : OwnView) → in_view own ≡ own.party ∷ in_mine (mine_of id cutoff own)
+mine_named id cutoff own =
+    λ i. own.party ∷ (in_row own.row ++ sym (names_of_uses cutoff own.given) i ++ flat_map in_authority own.persons
+    ++ map (λ (a : Authorised). a.corporation) own.authorised ++ map (λ (d : DemandMark). d.party) own.demands ++ flat_map in_cast own.casts
+    ++ flat_map (λ (r : Received). in_appointment r.appointment) own.received)
+
+names_told : (id : List ℕ) (cutoff : ℕ) (own : OwnView) → All (Contains (in_view own)) (in_mine (mine_of id cutoff own))
+names_told id cutoff own =
+    let names = in_mine (mine_of id cutoff own) in
+    let same : own.party ∷ (names ++ []) ≡ in_view own = ap (λ xs. own.party ∷ xs) (append-nil names) ∙ sym (mine_named id cutoff own) in
+    subst (λ (view : Names). All (Contains view) names) same (contains_front own.party names [])
+
+mine_names : (found : Option MeetingLists) (closed party : List ℕ) (now : ℕ) (id : List ℕ) → All (Contains (in_view (own_in_some found closed party now))) (in_reply (mine_to found closed party now id).reply)
+mine_names None closed party now id = λ k d h. absurd (omega arith)
+mine_names (Some m) closed party now id = names_told id (cutoff_in (record_of (Some m) closed) now m.meeting) (own_in m closed party now)
 
 -- a reply to a vote names nobody
 nobody_settled : (r : Option Refusal) (accepted : Answer) → in_reply accepted.reply ≡ [] → in_reply (settled r accepted).reply ≡ []
@@ -104,7 +181,24 @@ nobody_settled (Some r) accepted h = refl
 vote_names : (found : Option MeetingLists) (closed party : List ℕ) (now : ℕ) (new : NewCast) → in_reply (vote_in found closed party now new).reply ≡ []
 vote_names None closed party now new = refl
 vote_names (Some m) closed party now new =
-    nobody_settled (first_refusal (cast_cases m.meeting (poll_on m.polls new.resolution) (own_in m party) new)) (cast_recorded (own_in m party) now new) refl
+    nobody_settled (first_refusal (cast_cases m.meeting (poll_on m.polls new.resolution) (own_in m closed party now) new)) (cast_recorded (own_in m closed party now) now new) refl
+
+-- nor does a reply to an appointment, or to an ending
+appointment_names : (found : Option MeetingLists) (closed party : List ℕ) (now : ℕ) (new : NewAppointment) → in_reply (appoint_in found closed party now new).reply ≡ []
+appointment_names None closed party now new = refl
+appointment_names (Some m) closed party now new =
+    let own = own_in m closed party now in
+    nobody_settled (first_refusal (appoint_cases m.meeting own new)) (appointed (cutoff_in (record_of (Some m) closed) now m.meeting) own now new) refl
+
+ending_names : (found : Option MeetingLists) (closed party : List ℕ) (now : ℕ) (new : NewEnding) → in_reply (end_in found closed party now new).reply ≡ []
+ending_names None closed party now new = refl
+ending_names (Some m) closed party now new =
+    let own = own_in m closed party now in
+    nobody_settled (first_refusal (end_cases own new)) (ended own now new) refl
+
+notice_names : (found : Option MeetingLists) (closed : List ℕ) (now : ℕ) → in_reply (notice_to found closed now).reply ≡ []
+notice_names None closed now = refl
+notice_names (Some m) closed now = refl
 
 none_named : (view names : Names) → names ≡ [] → All (Contains view) names
 none_named view [] h = λ k d h. absurd (omega arith)
@@ -118,7 +212,14 @@ names_own o party now (asked.Order new) = λ k d h. absurd (omega arith)
 names_own o party now (asked.Start name) = λ k d h. absurd (omega arith)
 names_own o party now (asked.Close name) = λ k d h. absurd (omega arith)
 names_own o party now (asked.Declare name) = λ k d h. absurd (omega arith)
-names_own o party now (asked.Mine id) = names_by_refusal id (own_of o party id now) (first_refusal (mine_cases (public_of o id)))
+names_own o party now (asked.ClosedDays days) = λ k d h. absurd (omega arith)
+names_own o party now (asked.Notice id) =
+    none_named (in_view (own_of o party id now)) (in_reply (party_answer o party now (asked.Notice id)).reply) (notice_names (meeting_at o id) o.closed now)
+names_own o party now (asked.Mine id) = mine_names (meeting_at o id) o.closed party now id
+names_own o party now (asked.Appoint new) =
+    none_named (in_view (own_of o party new.meeting now)) (in_reply (party_answer o party now (asked.Appoint new)).reply) (appointment_names (meeting_at o new.meeting) o.closed party now new)
+names_own o party now (asked.End new) =
+    none_named (in_view (own_of o party new.meeting now)) (in_reply (party_answer o party now (asked.End new)).reply) (ending_names (meeting_at o new.meeting) o.closed party now new)
 names_own o party now (asked.Cast new) =
     none_named (in_view (own_of o party new.meeting now)) (in_reply (party_answer o party now (asked.Cast new)).reply) (vote_names (meeting_at o new.meeting) o.closed party now new)
 
@@ -138,18 +239,41 @@ in_lowest : (found : Option MeetingLists) (cases : MeetingLists → List Case) (
 in_lowest None cases accepted h = refl
 in_lowest (Some m) cases accepted h = refusal_settled (first_refusal (cases m)) (accepted m) (h m)
 
-mine_lowest : (found : Option MeetingLists) (closed : List ℕ) (party id : List ℕ) (now : ℕ)
-    → refusal_in (answer_of (record { closed = closed; meeting = option_map (λ (m : MeetingLists). m.meeting) found; polls = polls_in found }) (own_in_some found party) now (asked.Mine id)).reply
-    ≡ first_refusal (no_meeting found ∷ [])
-mine_lowest None closed party id now = refl
-mine_lowest (Some m) closed party id now = refl
+mine_lowest : (found : Option MeetingLists) (closed party : List ℕ) (now : ℕ) (id : List ℕ) → refusal_in (mine_to found closed party now id).reply ≡ first_refusal (no_meeting found ∷ [])
+mine_lowest None closed party now id = refl
+mine_lowest (Some m) closed party now id = refl
+
+days_accepted : (same : Bool) (days : List ℕ) → refusal_in (loads_days same days).reply ≡ None
+days_accepted true days = refl
+days_accepted false days = refl
+
+notice_lowest : (found : Option MeetingLists) (closed : List ℕ) (now : ℕ) → refusal_in (notice_to found closed now).reply ≡ first_refusal (no_meeting found ∷ [])
+notice_lowest None closed now = refl
+notice_lowest (Some m) closed now = refl
 
 vote_lowest : (found : Option MeetingLists) (closed party : List ℕ) (now : ℕ) (new : NewCast)
     → refusal_in (vote_in found closed party now new).reply
-    ≡ first_refusal (no_meeting found ∷ cases_in found (λ (m : MeetingLists). cast_cases m.meeting (poll_on m.polls new.resolution) (own_in m party) new))
+    ≡ first_refusal (no_meeting found ∷ cases_in found (λ (m : MeetingLists). cast_cases m.meeting (poll_on m.polls new.resolution) (own_in m closed party now) new))
 vote_lowest None closed party now new = refl
 vote_lowest (Some m) closed party now new =
-    refusal_settled (first_refusal (cast_cases m.meeting (poll_on m.polls new.resolution) (own_in m party) new)) (cast_recorded (own_in m party) now new) refl
+    let own = own_in m closed party now in
+    refusal_settled (first_refusal (cast_cases m.meeting (poll_on m.polls new.resolution) own new)) (cast_recorded own now new) refl
+
+appointment_lowest : (found : Option MeetingLists) (closed party : List ℕ) (now : ℕ) (new : NewAppointment)
+    → refusal_in (appoint_in found closed party now new).reply
+    ≡ first_refusal (no_meeting found ∷ cases_in found (λ (m : MeetingLists). appoint_cases m.meeting (own_in m closed party now) new))
+appointment_lowest None closed party now new = refl
+appointment_lowest (Some m) closed party now new =
+    let own = own_in m closed party now in
+    refusal_settled (first_refusal (appoint_cases m.meeting own new)) (appointed (cutoff_in (record_of (Some m) closed) now m.meeting) own now new) refl
+
+ending_lowest : (found : Option MeetingLists) (closed party : List ℕ) (now : ℕ) (new : NewEnding)
+    → refusal_in (end_in found closed party now new).reply
+    ≡ first_refusal (no_meeting found ∷ cases_in found (λ (m : MeetingLists). end_cases (own_in m closed party now) new))
+ending_lowest None closed party now new = refl
+ending_lowest (Some m) closed party now new =
+    let own = own_in m closed party now in
+    refusal_settled (first_refusal (end_cases own new)) (ended own now new) refl
 
 lowest_to : (o : OfficeLists) (now : ℕ) (who : Caller) (request : Request)
     → refusal_in (answer_to o now who request).reply ≡ first_refusal (side_cases who request ++ request_cases o now who request)
@@ -171,7 +295,11 @@ lowest_to o now caller.Office (asked.Close name) =
 lowest_to o now caller.Office (asked.Declare name) =
     in_lowest (meeting_at o name.meeting) (λ m. declare_cases m.meeting (poll_on m.polls name.resolution) name.resolution)
     (λ m. record { reply = reply.Declared (declaration_of m name.resolution); change = Some (change.SetDeclared (record { poll = name; tally = (declaration_of m name.resolution).tally })) }) (λ m. refl)
+lowest_to o now caller.Office (asked.ClosedDays days) = days_accepted (same_days o.closed days) days
+lowest_to o now caller.Office (asked.Notice id) = refl
 lowest_to o now caller.Office (asked.Mine id) = refl
+lowest_to o now caller.Office (asked.Appoint new) = refl
+lowest_to o now caller.Office (asked.End new) = refl
 lowest_to o now caller.Office (asked.Cast new) = refl
 lowest_to o now (caller.Party party) (asked.CallMeeting new) = refl
 lowest_to o now (caller.Party party) (asked.LoadRegister new) = refl
@@ -180,7 +308,11 @@ lowest_to o now (caller.Party party) (asked.Order new) = refl
 lowest_to o now (caller.Party party) (asked.Start name) = refl
 lowest_to o now (caller.Party party) (asked.Close name) = refl
 lowest_to o now (caller.Party party) (asked.Declare name) = refl
-lowest_to o now (caller.Party party) (asked.Mine id) = mine_lowest (meeting_at o id) o.closed party id now
+lowest_to o now (caller.Party party) (asked.ClosedDays days) = refl
+lowest_to o now (caller.Party party) (asked.Notice id) = notice_lowest (meeting_at o id) o.closed now
+lowest_to o now (caller.Party party) (asked.Mine id) = mine_lowest (meeting_at o id) o.closed party now id
+lowest_to o now (caller.Party party) (asked.Appoint new) = appointment_lowest (meeting_at o new.meeting) o.closed party now new
+lowest_to o now (caller.Party party) (asked.End new) = ending_lowest (meeting_at o new.meeting) o.closed party now new
 lowest_to o now (caller.Party party) (asked.Cast new) = vote_lowest (meeting_at o new.meeting) o.closed party now new
 
 pub lowest : TheLowestRefusalIsAnswered
@@ -198,10 +330,17 @@ order_of o now who (asked.Order new) = order_in (meeting_at o new.meeting) (λ m
 order_of o now who (asked.Start name) = order_in (meeting_at o name.meeting) (λ m. start_cases m.meeting (poll_on m.polls name.resolution) now name.resolution) (λ m. refl)
 order_of o now who (asked.Close name) = order_in (meeting_at o name.meeting) (λ m. close_cases m.meeting (poll_on m.polls name.resolution) name.resolution) (λ m. refl)
 order_of o now who (asked.Declare name) = order_in (meeting_at o name.meeting) (λ m. declare_cases m.meeting (poll_on m.polls name.resolution) name.resolution) (λ m. refl)
+order_of o now who (asked.ClosedDays days) = refl
+order_of o now who (asked.Notice id) = refl
 order_of o now who (asked.Mine id) = refl
+order_of o now caller.Office (asked.Appoint new) = refl
+order_of o now (caller.Party party) (asked.Appoint new) =
+    order_in (meeting_at o new.meeting) (λ m. appoint_cases m.meeting (own_in m o.closed party now) new) (λ m. refl)
+order_of o now caller.Office (asked.End new) = refl
+order_of o now (caller.Party party) (asked.End new) = order_in (meeting_at o new.meeting) (λ m. end_cases (own_in m o.closed party now) new) (λ m. refl)
 order_of o now caller.Office (asked.Cast new) = refl
 order_of o now (caller.Party party) (asked.Cast new) =
-    order_in (meeting_at o new.meeting) (λ m. cast_cases m.meeting (poll_on m.polls new.resolution) (own_in m party) new) (λ m. refl)
+    order_in (meeting_at o new.meeting) (λ m. cast_cases m.meeting (poll_on m.polls new.resolution) (own_in m o.closed party now) new) (λ m. refl)
 
 pub in_order : ConditionsStandInOrder
 in_order o call = order_of o call.moment call.caller call.request

@@ -6,7 +6,6 @@ use Rattle.desk_words.specs.declared.office.MeetingLists.{MeetingLists}
 use Rattle.desk_words.specs.declared.caller.Caller.{Caller}
 use Rattle.desk_words.specs.declared.caller.Caller.TheVariants as caller
 use Rattle.desk_words.specs.declared.request.Call.{Call}
-use Rattle.desk_words.specs.declared.request.NewCast.{NewCast}
 use Rattle.desk_words.specs.declared.request.Reply.{Reply}
 use Rattle.desk_words.specs.declared.request.Reply.TheVariants as reply
 use Rattle.desk_words.specs.declared.request.Request.{Request}
@@ -14,6 +13,8 @@ use Rattle.desk_words.specs.declared.request.Request.TheVariants as asked
 use Rattle.desk_terms.specs.declared.refusal.Refusal.{Refusal}
 use Rattle.desk_terms.specs.declared.refusal.Refusal.TheVariants.{OfficeOnly, PartyOnly, NoMeeting}
 use Rattle.caller_view.specs.Answers.{cast_cases, is_for_office}
+use Rattle.caller_view.specs.Appointments.{appoint_cases, end_cases}
+use Rattle.caller_view.specs.declared.views.OwnView.{OwnView}
 use Rattle.caller_view.specs.Polls.{poll_on}
 use Rattle.caller_view.specs.Views.{meeting_at, own_in}
 use Rattle.office_answers.specs.Calls.{call_cases, load_cases}
@@ -50,11 +51,10 @@ cases_in (Some m) f = f m
 abbrev pub meeting_cases : OfficeLists → List ℕ → (MeetingLists → List Case) → List Case
 meeting_cases o id f = no_meeting (meeting_at o id) ∷ cases_in (meeting_at o id) f
 
--- the conditions of a vote are those of the party that casts it
-abbrev pub vote_cases : OfficeLists → Caller → NewCast → List Case
-vote_cases o caller.Office new = []
-vote_cases o (caller.Party party) new =
-    meeting_cases o new.meeting (λ (m : MeetingLists). cast_cases m.meeting (poll_on m.polls new.resolution) (own_in m party) new)
+-- the conditions of what a party asks in a meeting, and none for the office
+abbrev pub own_cases : OfficeLists → Caller → ℕ → List ℕ → (MeetingLists → OwnView → List Case) → List Case
+own_cases o caller.Office now id f = []
+own_cases o (caller.Party party) now id f = meeting_cases o id (λ (m : MeetingLists). f m (own_in m o.closed party now))
 
 -- the conditions of each request
 abbrev pub request_cases : OfficeLists → ℕ → Caller → Request → List Case
@@ -68,8 +68,12 @@ request_cases o now who (asked.Close name) =
     meeting_cases o name.meeting (λ (m : MeetingLists). close_cases m.meeting (poll_on m.polls name.resolution) name.resolution)
 request_cases o now who (asked.Declare name) =
     meeting_cases o name.meeting (λ (m : MeetingLists). declare_cases m.meeting (poll_on m.polls name.resolution) name.resolution)
+request_cases o now who (asked.ClosedDays days) = []
+request_cases o now who (asked.Notice id) = no_meeting (meeting_at o id) ∷ []
 request_cases o now who (asked.Mine id) = no_meeting (meeting_at o id) ∷ []
-request_cases o now who (asked.Cast new) = vote_cases o who new
+request_cases o now who (asked.Appoint new) = own_cases o who now new.meeting (λ m own. appoint_cases m.meeting own new)
+request_cases o now who (asked.End new) = own_cases o who now new.meeting (λ m own. end_cases own new)
+request_cases o now who (asked.Cast new) = own_cases o who now new.meeting (λ m own. cast_cases m.meeting (poll_on m.polls new.resolution) own new)
 
 -- all the conditions under which a call is refused
 abbrev pub all_cases : OfficeLists → Call → List Case
@@ -85,7 +89,10 @@ refusal_in reply.Ordered = None
 refusal_in reply.Started = None
 refusal_in reply.VotingClosed = None
 refusal_in (reply.Declared declared) = None
+refusal_in (reply.Notice n) = None
 refusal_in (reply.Mine m) = None
+refusal_in (reply.Appointed receipt) = None
+refusal_in (reply.Ended number) = None
 refusal_in reply.Recorded = None
 refusal_in (reply.Refused r) = Some r
 

@@ -1,5 +1,5 @@
 -- Laws of the step.
-use Rattle.std.specs.Prelude.{◌≡◌, ℕ, List, Option, Some, None}
+use Rattle.std.specs.Prelude.{◌≡◌, ℕ, List}
 use Rattle.desk_words.specs.declared.office.OfficeLists.{OfficeLists}
 use Rattle.desk_words.specs.declared.request.Request.{Request}
 use Rattle.caller_view.specs.Views.{public_of, own_of}

@@ -11,7 +11,9 @@ use Rattle.desk_words.specs.declared.records.DemandMark.{DemandMark}
 use Rattle.desk_words.specs.declared.records.RegisterRow.{RegisterRow}
 use Rattle.desk_words.specs.declared.request.Authorised.{Authorised}
 use Rattle.desk_words.specs.declared.request.Given.{Given}
+use Rattle.desk_words.specs.declared.request.GivenUse.{GivenUse}
 use Rattle.desk_words.specs.declared.request.Mine.{Mine}
+use Rattle.desk_words.specs.declared.request.Received.{Received}
 use Rattle.desk_words.specs.declared.request.Reply.{Reply}
 use Rattle.desk_words.specs.declared.request.Reply.TheVariants as reply
 use Rattle.desk_words.specs.declared.request.Request.{Request}
@@ -48,8 +50,9 @@ in_cast c = c.voter ∷ in_cast_kind c.what
 -- the parties named in what a party is told of its own things
 abbrev pub in_mine : Mine → Names
 in_mine m =
-    in_row m.row ++ flat_map (λ (g : Given). in_appointment g.appointment) m.given ++ flat_map in_authority m.persons
+    in_row m.row ++ flat_map (λ (g : GivenUse). in_appointment g.given.appointment) m.given ++ flat_map in_authority m.persons
     ++ map (λ (a : Authorised). a.corporation) m.authorised ++ map (λ (d : DemandMark). d.party) m.demands ++ flat_map in_cast m.casts
+    ++ flat_map (λ (r : Received). in_appointment r.appointment) m.received
 
 -- the parties named in a reply
 abbrev pub in_reply : Reply → Names
@@ -61,7 +64,10 @@ in_reply reply.Ordered = []
 in_reply reply.Started = []
 in_reply reply.VotingClosed = []
 in_reply (reply.Declared declared) = []
+in_reply (reply.Notice n) = []
 in_reply (reply.Mine m) = in_mine m
+in_reply (reply.Appointed receipt) = []
+in_reply (reply.Ended number) = []
 in_reply reply.Recorded = []
 in_reply (reply.Refused r) = []
 
@@ -71,7 +77,7 @@ in_view own =
     own.party
     ∷ (in_row own.row ++ flat_map (λ (g : Given). in_appointment g.appointment) own.given ++ flat_map in_authority own.persons
     ++ map (λ (a : Authorised). a.corporation) own.authorised ++ map (λ (d : DemandMark). d.party) own.demands ++ flat_map in_cast own.casts
-    ++ flat_map in_appointment own.received)
+    ++ flat_map (λ (r : Received). in_appointment r.appointment) own.received)
 
 -- every party named in a reply to a party is that party, or stands in its own things
 abbrev pub NamesAreTheCallersOwn : Type 0

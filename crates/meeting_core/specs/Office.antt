@@ -6,6 +6,8 @@ use Rattle.desk_words.specs.Names.{same_name}
 use Rattle.desk_words.specs.Office.{poll_before}
 use Rattle.desk_words.specs.declared.office.OfficeLists.{OfficeLists}
 use Rattle.desk_words.specs.declared.office.MeetingLists.{MeetingLists}
+use Rattle.desk_words.specs.declared.records.Appointment.{Appointment}
+use Rattle.desk_words.specs.declared.records.Ending.{Ending}
 use Rattle.desk_words.specs.declared.records.RegisterRow.{RegisterRow}
 use Rattle.desk_words.specs.declared.records.Meeting.{Meeting}
 use Rattle.desk_words.specs.declared.records.CastMark.{CastMark}
@@ -65,6 +67,14 @@ closed_at moment p = record p { closed = Some moment }
 abbrev pub declared_as : Tally → Poll → Poll
 declared_as tally p = record p { declared = Some tally }
 
+-- a meeting with one appointment more
+abbrev pub with_appointment : Appointment → MeetingLists → MeetingLists
+with_appointment appointment m = record m { appointments = m.appointments ++ appointment ∷ [] }
+
+-- a meeting with one ending more
+abbrev pub with_ending : Ending → MeetingLists → MeetingLists
+with_ending ending m = record m { endings = m.endings ++ ending ∷ [] }
+
 -- a meeting with one vote more
 abbrev pub with_cast : CastMark → MeetingLists → MeetingLists
 with_cast cast m = record m { casts = m.casts ++ cast ∷ [] }
@@ -86,6 +96,9 @@ after office (change.AddPoll added) = change_meeting (with_poll added.poll) adde
 after office (change.SetStarted set) = change_named (started_at set.moment) set.poll office
 after office (change.SetClosed set) = change_named (closed_at set.moment) set.poll office
 after office (change.SetDeclared set) = change_named (declared_as set.tally) set.poll office
+after office (change.SetClosedDays days) = record office { closed = days }
+after office (change.AddAppointment added) = change_meeting (with_appointment added.appointment) added.meeting office
+after office (change.AddEnding added) = change_meeting (with_ending added.ending) added.meeting office
 after office (change.AddCast added) = change_meeting (with_cast added.cast) added.meeting office
 
 -- the office after a change, if there is one
@@ -102,4 +115,7 @@ sets_fields (change.AddPoll added) = false
 sets_fields (change.SetStarted set) = true
 sets_fields (change.SetClosed set) = true
 sets_fields (change.SetDeclared set) = true
+sets_fields (change.SetClosedDays days) = true
+sets_fields (change.AddAppointment added) = false
+sets_fields (change.AddEnding added) = false
 sets_fields (change.AddCast added) = false

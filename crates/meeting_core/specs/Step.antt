@@ -1,5 +1,5 @@
 -- One step of the office, and runs of steps.
-use Rattle.std.specs.Prelude.{ℕ, Bool, true, false, ◌||◌, not, List, [], ◌∷◌, Option, Some, None}
+use Rattle.std.specs.Prelude.{ℕ, Bool, true, false, ◌||◌, not, List, [], ◌∷◌}
 use Rattle.desk_words.specs.declared.office.OfficeLists.{OfficeLists}
 use Rattle.desk_words.specs.declared.caller.Caller.{Caller}
 use Rattle.desk_words.specs.declared.caller.Caller.TheVariants as caller
@@ -11,9 +11,9 @@ use Rattle.caller_view.specs.declared.views.Answer.{Answer}
 use Rattle.caller_view.specs.Answers.{answer_of, is_for_office}
 use Rattle.caller_view.specs.Views.{public_of, own_of}
 use Rattle.meeting_core.specs.Office.{after_some}
-use Rattle.office_answers.specs.Answers.{office_answer, takes_no_memory}
+use Rattle.office_answers.specs.Answers.{office_answer}
 
--- the meeting that a request names
+-- the meeting that a request names, and no name where it names none
 abbrev pub named_meeting : Request → List ℕ
 named_meeting (asked.CallMeeting new) = new.meeting
 named_meeting (asked.LoadRegister new) = new.meeting
@@ -22,7 +22,11 @@ named_meeting (asked.Order new) = new.meeting
 named_meeting (asked.Start poll) = poll.meeting
 named_meeting (asked.Close poll) = poll.meeting
 named_meeting (asked.Declare poll) = poll.meeting
+named_meeting (asked.ClosedDays days) = []
+named_meeting (asked.Notice meeting) = meeting
 named_meeting (asked.Mine meeting) = meeting
+named_meeting (asked.Appoint new) = new.meeting
+named_meeting (asked.End new) = new.meeting
 named_meeting (asked.Cast new) = new.meeting
 
 -- the answer to a party: that of its views of the meeting that the request names
@@ -32,7 +36,7 @@ party_answer office party now request =
 
 -- the answer to a caller: the office is answered from all that it holds, a party from its own views
 abbrev pub answer_to : OfficeLists → ℕ → Caller → Request → Answer
-answer_to office now caller.Office request = office_answer office.meetings now request
+answer_to office now caller.Office request = office_answer office.closed office.meetings now request
 answer_to office now (caller.Party party) request = party_answer office party now request
 
 -- an office request of a party, or a party request of the office
@@ -49,7 +53,11 @@ is_start_or_close (asked.Order new) = false
 is_start_or_close (asked.Start poll) = true
 is_start_or_close (asked.Close poll) = true
 is_start_or_close (asked.Declare poll) = false
+is_start_or_close (asked.ClosedDays days) = false
+is_start_or_close (asked.Notice meeting) = false
 is_start_or_close (asked.Mine meeting) = false
+is_start_or_close (asked.Appoint new) = false
+is_start_or_close (asked.End new) = false
 is_start_or_close (asked.Cast new) = false
 
 -- the office starts or closes a poll

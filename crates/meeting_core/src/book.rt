@@ -10,7 +10,8 @@ ghost use Rattle.meeting_core.specs.Office.{after, after_some, empty_office, set
 ghost use Rattle.meeting_core.specs.Step.{decided, needs_no_memory, stepped, party_answer};
 
 use crate::changes::{
-    add_cast, add_poll, new_lists, set_closed, set_declared, set_opened, set_register, set_started,
+    add_appointment, add_cast, add_ending, add_poll, new_lists, set_closed, set_declared,
+    set_opened, set_register, set_started,
 };
 use caller_view::{Answer, OwnView, PublicRecord, answer, refuse};
 use desk_words::{
@@ -19,6 +20,7 @@ use desk_words::{
 };
 use meeting_views::{find_meeting, nothing_of, own_in};
 use office_answers::office_answer;
+use office_days::Closed;
 use std::alloc::{AllocError, Global};
 use std::marker::Model;
 
@@ -28,7 +30,7 @@ use std::marker::Model;
 pub struct Book {
     alloc: Global,
     keys: KeyRows,
-    closed: DayList,
+    closed: Closed,
     meetings: Vec<MeetingLists>,
 }
 
@@ -52,7 +54,7 @@ impl Book {
         Book {
             alloc,
             keys: KeyRows::empty(alloc),
-            closed: DayList::empty(alloc),
+            closed: Closed::from_list(DayList::empty(alloc)),
             meetings: Vec::new(alloc),
         }
     }
@@ -87,19 +89,18 @@ impl Book {
     ) -> Result<OwnView, AllocError>
         ensures { IfOk result (λ own. own ≡ own_of self.now party meeting now) }
     {
-        let _ = now;
         match find_meeting(&self.meetings, meeting) {
             None => Ok(nothing_of(self.alloc, party)),
-            Some(lists) => own_in(self.alloc, lists, party),
+            Some(lists) => own_in(self.alloc, &self.closed, lists, party, now),
         }
     }
 
     fn answer_to_office(&self, now: Moment, request: &Request) -> Result<Answer, AllocError>
-        ensures answer { IfOk result (λ a. a ≡ office_answer self.now.meetings now request.now) }
+        ensures answer { IfOk result (λ a. a ≡ office_answer self.now.closed self.now.meetings now request.now) }
         ensures limits { IfOk result (λ a. IsTrue (keeps_limits a.change)) }
         ensures sure { takes_no_memory request.now ≡ true → IsOk result }
     {
-        office_answer(self.alloc, &self.meetings, now, request)
+        office_answer(self.alloc, &self.closed, &self.meetings, now, request)
     }
 
     fn answer_in(
@@ -114,7 +115,7 @@ impl Book {
     {
         let public = self.public_of(meeting)?;
         let own = self.own_of(party, meeting, now)?;
-        answer(&public, &own, now, request)
+        answer(self.alloc, &public, &own, now, request)
     }
 
     fn answer_to_party(
@@ -134,8 +135,12 @@ impl Book {
             | Request::Order(_)
             | Request::Start(_)
             | Request::Close(_)
-            | Request::Declare(_) => Ok(refuse(Refusal::OfficeOnly)),
+            | Request::Declare(_)
+            | Request::ClosedDays(_) => Ok(refuse(Refusal::OfficeOnly)),
+            Request::Notice(meeting) => self.answer_in(party, *meeting, now, request),
             Request::Mine(meeting) => self.answer_in(party, *meeting, now, request),
+            Request::Appoint(new) => self.answer_in(party, new.meeting, now, request),
+            Request::End(new) => self.answer_in(party, new.meeting, now, request),
             Request::Cast(new) => self.answer_in(party, new.meeting, now, request),
         }
     }
@@ -186,6 +191,9 @@ impl Book {
             Change::SetStarted(set) => set_started(&mut self.meetings, set),
             Change::SetClosed(set) => set_closed(&mut self.meetings, set),
             Change::SetDeclared(set) => set_declared(&mut self.meetings, set),
+            Change::SetClosedDays(days) => self.closed = Closed::from_list(days),
+            Change::AddAppointment(added) => add_appointment(&mut self.meetings, added)?,
+            Change::AddEnding(added) => add_ending(&mut self.meetings, added)?,
             Change::AddCast(added) => add_cast(&mut self.meetings, added)?,
         }
         Ok(())

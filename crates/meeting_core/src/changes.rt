@@ -3,12 +3,13 @@ ghost use Rattle.std.specs.Prelude.{◌≡◌, ◌==◌, ◌<◌, IfSome, OnOk, 
 ghost use Rattle.std.specs.List.{position_from};
 ghost use Rattle.desk_words.specs.Edits.{change_first};
 ghost use Rattle.desk_words.specs.declared.records.Poll.{Poll};
-ghost use Rattle.meeting_core.specs.Office.{change_at, change_poll, closed_at, declared_as, new_lists, opened_at, started_at, with_cast, with_poll, with_register};
+ghost use Rattle.meeting_core.specs.Office.{change_at, change_poll, closed_at, declared_as, new_lists, opened_at, started_at, with_appointment, with_cast, with_ending, with_poll, with_register};
 
 use caller_view::find_poll;
 use desk_words::{
-    AddCast, AddPoll, CastKind, CastMark, Listing, Meeting, MeetingId, MeetingLists, Moment, Poll,
-    Register, SetOpened, SetPollMoment, SetTally, Tally,
+    AddAppointment, AddCast, AddEnding, AddPoll, Appointment, CastKind, CastMark, Ending, Listing,
+    Meeting, MeetingId, MeetingLists, Moment, Poll, Register, SetOpened, SetPollMoment, SetTally,
+    Tally,
 };
 use meeting_views::place_of_meeting;
 use std::alloc::{AllocError, Global};
@@ -52,6 +53,20 @@ fn put_poll(lists: &mut MeetingLists, poll: Poll) -> Result<(), AllocError>
     lists.polls.insert_in_order(Poll { started, ..poll })
 }
 
+fn put_appointment(lists: &mut MeetingLists, appointment: Appointment) -> Result<(), AllocError>
+    ensures ok { OnOk result (lists.new ≡ with_appointment appointment lists.old) }
+    ensures err { OnErr result (lists.new ≡ lists.old) }
+{
+    lists.appointments.push(appointment)
+}
+
+fn put_ending(lists: &mut MeetingLists, ending: Ending) -> Result<(), AllocError>
+    ensures ok { OnOk result (lists.new ≡ with_ending ending lists.old) }
+    ensures err { OnErr result (lists.new ≡ lists.old) }
+{
+    lists.endings.push(ending)
+}
+
 fn put_cast(lists: &mut MeetingLists, cast: CastMark) -> Result<(), AllocError>
     ensures ok { OnOk result (lists.new ≡ with_cast cast lists.old) }
     ensures err { OnErr result (lists.new ≡ lists.old) }
@@ -87,6 +102,33 @@ pub fn add_poll(meetings: &mut [MeetingLists], added: AddPoll) -> Result<(), All
 {
     match place_of_meeting(meetings, added.meeting) {
         Some(i) => put_poll(&mut meetings[i], added.poll),
+        None => Ok(()),
+    }
+}
+
+/// Gives the meeting of that name an appointment. Where there is none, nothing changes. The error is
+/// want of memory, and nothing changes then.
+pub fn add_appointment(
+    meetings: &mut [MeetingLists],
+    added: AddAppointment,
+) -> Result<(), AllocError>
+    ensures ok { OnOk result (meetings.new ≡ change_at (with_appointment added.appointment) added.meeting meetings.old) }
+    ensures err { OnErr result (meetings.new ≡ meetings.old) }
+{
+    match place_of_meeting(meetings, added.meeting) {
+        Some(i) => put_appointment(&mut meetings[i], added.appointment),
+        None => Ok(()),
+    }
+}
+
+/// Gives the meeting of that name an ending. Where there is none, nothing changes. The error is want
+/// of memory, and nothing changes then.
+pub fn add_ending(meetings: &mut [MeetingLists], added: AddEnding) -> Result<(), AllocError>
+    ensures ok { OnOk result (meetings.new ≡ change_at (with_ending added.ending) added.meeting meetings.old) }
+    ensures err { OnErr result (meetings.new ≡ meetings.old) }
+{
+    match place_of_meeting(meetings, added.meeting) {
+        Some(i) => put_ending(&mut meetings[i], added.ending),
         None => Ok(()),
     }
 }

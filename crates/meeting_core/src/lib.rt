@@ -4,7 +4,5 @@
 mod book;
 mod changes;
 pub mod laws;
-#[cfg(test)]
-mod tests;
 
 pub use book::Book;

@@ -1,1 +1,4 @@
-pub mod EndingLemmas
+pub mod GovernedLemmas
+pub mod MeetingLemmas
+pub mod NamedLemmas
+pub mod NextLemmas

@@ -1,10 +1,13 @@
 //! What stands in the lists of a meeting, and what of it is a party's own.
 #![tactic(auto)]
 
+mod authorities;
 mod finding;
+mod governed;
 mod own;
 #[cfg(test)]
 mod tests;
+mod walks;
 
 pub use finding::{find_meeting, find_row, place_of_meeting};
 pub use own::{nothing_of, own_in};

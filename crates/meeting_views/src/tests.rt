@@ -1,17 +1,19 @@
 //! Each function called once, on one meeting with three holdings.
-ghost use Rattle.std.specs.Prelude.{◌≡◌};
-ghost use Rattle.desk_words.specs.Ordered.{ascends_by};
-ghost use Rattle.desk_words.specs.Registers.{member_before};
+ghost use Rattle.std.specs.Prelude.{◌≡◌, ◌&&◌, ◌==◌, suc, true, IfOk, OnOk, count_by, length};
+ghost use Rattle.desk_words.specs.Names.{same_name};
+ghost use Rattle.desk_words.specs.Office.{are_appointments, is_appointment};
+ghost use Rattle.desk_words.specs.declared.records.Appointment.{Appointment as Given};
+ghost use Rattle.poll_rules.specs.Shares.{are_rows};
 
 use crate::{find_meeting, find_row, nothing_of, own_in, place_of_meeting};
 use caller_view::OwnView;
-use desk_lists::ascend;
 use desk_words::{
-    Appointment, Authority, Block, Capacity, CastKind, CastMark, Company, DemandMark, Ending,
-    HolderKind, Instr, Listing, Meeting, MeetingId, MeetingKind, MeetingLists, Moment, Party,
-    PresenceMark, Range, Register, RegisterRow, ResKind, Resolution, Resolutions, Text, Way,
+    Appointment, Authority, Block, Capacity, CastKind, CastMark, Company, DayList, DemandMark,
+    Ending, HolderKind, Instr, Listing, Meeting, MeetingId, MeetingKind, MeetingLists, Moment,
+    Party, PresenceMark, Range, Register, RegisterRow, ResKind, Resolution, Resolutions, Text, Way,
     read_day, read_meeting, read_moment, read_party,
 };
+use office_days::Closed;
 use std::alloc::Global;
 use std::test::Fail;
 
@@ -34,13 +36,17 @@ fn resolution(alloc: Global, kind: ResKind, text: &str) -> Result<Resolution, Fa
     })
 }
 
-fn resolutions(alloc: Global) -> Result<Resolutions, Fail> {
+fn resolutions(alloc: Global) -> Result<Resolutions, Fail>
+    ensures { IfOk result (λ r. length r ≡ 2) }
+{
     let accounts = resolution(alloc, ResKind::Ordinary, "Accounts")?;
     let articles = resolution(alloc, ResKind::Special, "New articles")?;
     Ok(Resolutions::new(vec![in alloc; accounts, articles]?)?)
 }
 
-fn meeting_of_june(alloc: Global, name: &str) -> Result<Meeting, Fail> {
+fn meeting_of_june(alloc: Global, name: &str) -> Result<Meeting, Fail>
+    ensures { IfOk result (λ m. length m.resolutions ≡ 2) }
+{
     Ok(Meeting {
         id: meeting(name)?,
         company: Company::Private,
@@ -54,12 +60,22 @@ fn meeting_of_june(alloc: Global, name: &str) -> Result<Meeting, Fail> {
     })
 }
 
-/// A meeting whose lists are empty.
-fn empty_lists(alloc: Global, name: &str) -> Result<MeetingLists, Fail> {
+/// A meeting with these rows and appointments, whose other lists are empty.
+fn lists_with(
+    alloc: Global,
+    name: &str,
+    register: Listing<RegisterRow>,
+    appointments: Listing<Appointment>,
+) -> Result<MeetingLists, Fail>
+    requires rows { are_rows register ≡ true }
+    requires appointments { are_appointments 2 appointments ≡ true }
+    ensures rows { IfOk result (λ m. are_rows m.register ≡ true) }
+    ensures appointments { IfOk result (λ m. are_appointments (length m.meeting.resolutions) m.appointments ≡ true) }
+{
     Ok(MeetingLists {
         meeting: meeting_of_june(alloc, name)?,
-        register: Listing::new(alloc),
-        appointments: Listing::new(alloc),
+        register,
+        appointments,
         endings: Listing::new(alloc),
         authorities: Listing::new(alloc),
         presences: Listing::new(alloc),
@@ -67,6 +83,11 @@ fn empty_lists(alloc: Global, name: &str) -> Result<MeetingLists, Fail> {
         polls: Listing::new(alloc),
         casts: Listing::new(alloc),
     })
+}
+
+/// A meeting whose lists are empty.
+fn empty_lists(alloc: Global, name: &str) -> Result<MeetingLists, Fail> {
+    lists_with(alloc, name, Listing::new(alloc), Listing::new(alloc))
 }
 
 fn holding(
@@ -85,12 +106,21 @@ fn holding(
     })
 }
 
+/// The rows of a register.
+fn register(rows: Vec<RegisterRow>) -> Result<Listing<RegisterRow>, Fail>
+    ensures { IfOk result (λ rows. are_rows rows ≡ true) }
+{
+    Ok(Register::new(rows)?.into_listing())
+}
+
 /// Ada holds 100 shares, Bo 50, and the corporation X 70.
-fn rows(alloc: Global) -> Result<Listing<RegisterRow>, Fail> {
+fn rows(alloc: Global) -> Result<Listing<RegisterRow>, Fail>
+    ensures { IfOk result (λ rows. are_rows rows ≡ true) }
+{
     let ada = holding(alloc, "M1", HolderKind::Individual, "Ada", 100)?;
     let bo = holding(alloc, "M2", HolderKind::Individual, "Bo", 50)?;
     let works = holding(alloc, "X", HolderKind::Corporation, "Works", 70)?;
-    Ok(Register::new(vec![in alloc; ada, bo, works]?)?.into_listing())
+    register(vec![in alloc; ada, bo, works]?)
 }
 
 /// A member's appointment of a proxy over some places, free on both resolutions.
@@ -98,6 +128,7 @@ fn appointment(
     alloc: Global,
     (member, number, proxy): (&str, u64, &str),
     (from, to): (u64, u64),
+    at: &str,
 ) -> Result<Appointment, Fail> {
     Ok(Appointment {
         member: party(member)?,
@@ -105,16 +136,55 @@ fn appointment(
         proxy: party(proxy)?,
         range: Range::new(from, to).ok_or("range")?,
         instructions: Listing::from_vec(vec![in alloc; Instr::Free, Instr::Free]?),
-        moment: moment("2026-06-17T09:00:00")?,
+        moment: moment(at)?,
     })
 }
 
+/// Whether an appointment has its member's next number, and an instruction for both resolutions.
+fn is_next(given: &[Appointment], next: &Appointment) -> bool
+    ensures { result ≡ (next.now.number == suc (count_by (λ (a : Given). same_name a.member next.now.member) given.now) && is_appointment 2 next.now) }
+{
+    let mut number = 1;
+    for appointment in given {
+        if appointment.member.is(next.member) {
+            number += 1;
+        }
+    }
+    next.number == number && next.number <= 256 && next.instructions.len() == 2
+}
+
+/// Puts an appointment behind the others.
+fn give(given: &mut Listing<Appointment>, next: Appointment) -> Result<(), Fail>
+    requires { are_appointments 2 given.old ≡ true }
+    ensures { OnOk result (are_appointments 2 given.new ≡ true) }
+{
+    if !is_next(given.as_slice(), &next) {
+        return Err("no next appointment".into());
+    }
+    given.push(next)?;
+    Ok(())
+}
+
+const LATE: &str = "2026-06-17T09:00:00";
+
 /// M1 appoints M2 twice, and M2 appoints M1 once.
-fn appointments(alloc: Global) -> Result<Listing<Appointment>, Fail> {
-    let first = appointment(alloc, ("M1", 1, "M2"), (1, 40))?;
-    let other = appointment(alloc, ("M2", 1, "M1"), (1, 50))?;
-    let second = appointment(alloc, ("M1", 2, "M2"), (41, 60))?;
-    Ok(Listing::from_vec(vec![in alloc; first, other, second]?))
+fn appointments(alloc: Global) -> Result<Listing<Appointment>, Fail>
+    ensures { IfOk result (λ given. are_appointments 2 given ≡ true) }
+{
+    let mut given = Listing::new(alloc);
+    give(
+        &mut given,
+        appointment(alloc, ("M1", 1, "M2"), (1, 40), LATE)?,
+    )?;
+    give(
+        &mut given,
+        appointment(alloc, ("M2", 1, "M1"), (1, 50), LATE)?,
+    )?;
+    give(
+        &mut given,
+        appointment(alloc, ("M1", 2, "M2"), (41, 60), LATE)?,
+    )?;
+    Ok(given)
 }
 
 fn ending(member: &str, number: u64, at: &str) -> Result<Ending, Fail> {
@@ -198,10 +268,11 @@ fn casts(alloc: Global) -> Result<Listing<CastMark>, Fail> {
 }
 
 /// The lists of the meeting of June.
-fn lists(alloc: Global) -> Result<MeetingLists, Fail> {
-    let mut lists = empty_lists(alloc, "G1")?;
-    lists.register = rows(alloc)?;
-    lists.appointments = appointments(alloc)?;
+fn lists(alloc: Global) -> Result<MeetingLists, Fail>
+    ensures rows { IfOk result (λ m. are_rows m.register ≡ true) }
+    ensures appointments { IfOk result (λ m. are_appointments (length m.meeting.resolutions) m.appointments ≡ true) }
+{
+    let mut lists = lists_with(alloc, "G1", rows(alloc)?, appointments(alloc)?)?;
     lists.endings = endings(alloc)?;
     lists.authorities = authorities(alloc)?;
     lists.presences.push(presence("M1")?)?;
@@ -210,20 +281,20 @@ fn lists(alloc: Global) -> Result<MeetingLists, Fail> {
     Ok(lists)
 }
 
-fn is_in_order(rows: &Listing<RegisterRow>) -> bool
-    ensures { result ≡ ascends_by member_before rows.now }
+/// The own things of a party in a meeting, at the appointed time and without closed days.
+fn own_in_lists(alloc: Global, lists: &MeetingLists, name: &str) -> Result<OwnView, Fail>
+    requires rows { are_rows lists.now.register ≡ true }
+    requires appointments { are_appointments (length lists.now.meeting.resolutions) lists.now.appointments ≡ true }
 {
-    ascend(rows.as_slice())
+    let closed = Closed::from_list(DayList::empty(alloc));
+    let now = moment("2026-06-18T10:00:00")?;
+    Ok(own_in(alloc, &closed, lists, party(name)?, now)?)
 }
 
 /// The own things of a party in the meeting of June.
 fn own_of(alloc: Global, name: &str) -> Result<OwnView, Fail> {
     let lists = lists(alloc)?;
-    if is_in_order(&lists.register) {
-        Ok(own_in(alloc, &lists, party(name)?)?)
-    } else {
-        Err("the register is not in order".into())
-    }
+    own_in_lists(alloc, &lists, name)
 }
 
 fn is_row(row: Option<&RegisterRow>, member: &str, name: &str, shares: u64) -> bool {
@@ -235,11 +306,7 @@ fn is_row(row: Option<&RegisterRow>, member: &str, name: &str, shares: u64) -> b
 /// The shares of the row that is found in the register, or none.
 fn shares_of(alloc: Global, name: &str) -> Result<Option<u64>, Fail> {
     let rows = rows(alloc)?;
-    if ascend(rows.as_slice()) {
-        Ok(find_row(rows.as_slice(), party(name)?).map(|row| row.shares))
-    } else {
-        Err("the register is not in order".into())
-    }
+    Ok(find_row(rows.as_slice(), party(name)?).map(|row| row.shares))
 }
 
 /// Three meetings, G1 to G3.
@@ -303,7 +370,10 @@ fn a_party_has_its_own_appointments(rt: HostRuntime) -> Result<(), Fail> {
     assert!(rt; given[0].appointment.number == 1 && given[0].ended.is_none());
     assert!(rt; given[1].appointment.number == 2 && given[1].ended == Some(noon));
     assert_eq!(rt; own.received.len(), 1);
-    assert_eq!(rt; own.received.as_slice()[0].member.as_str(), "M2");
+    assert_eq!(rt;
+        own.received.as_slice()[0].appointment.member.as_str(),
+        "M2"
+    );
     Ok(())
 }
 

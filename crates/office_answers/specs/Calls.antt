@@ -1,5 +1,5 @@
 -- The calling of a meeting, and the loading of its register.
-use Rattle.std.specs.Prelude.{ℕ, Bool, true, false, ◌==◌, not, nat_lt, nat_le, List, [], ◌∷◌, length, Option, Some, None, is_some}
+use Rattle.std.specs.Prelude.{ℕ, Bool, true, false, ◌==◌, not, ◌/◌, nat_lt, nat_le, List, [], ◌∷◌, length, Option, Some, None, is_some}
 use Rattle.desk_words.specs.Refusals.{Case}
 use Rattle.desk_words.specs.Rows.{same_rows}
 use Rattle.desk_words.specs.declared.office.MeetingLists.{MeetingLists}
@@ -9,15 +9,21 @@ use Rattle.desk_words.specs.declared.request.NewRegister.{NewRegister}
 use Rattle.desk_words.specs.declared.request.Reply.TheVariants as reply
 use Rattle.desk_words.specs.declared.request.SetRegister.{SetRegister}
 use Rattle.desk_words.specs.declared.request.Change.TheVariants as change
-use Rattle.desk_terms.specs.declared.refusal.Refusal.TheVariants.{NoMeeting, Exists, TooMany, OtherRecord, Opened, Early}
+use Rattle.desk_terms.specs.declared.refusal.Refusal.TheVariants.{NoMeeting, Exists, ShortNotice, TooMany, OtherRecord, Opened, Early}
 use Rattle.caller_view.specs.declared.views.Answer.{Answer}
 use Rattle.caller_view.specs.Answers.{unless, refused, replied}
+use Rattle.office_days.specs.Notice.{is_enough_notice}
 use Rattle.caller_view.specs.Views.{meeting_named}
 
--- when a meeting is not called
+-- the day of a moment
+abbrev pub day_of : ℕ → ℕ
+day_of moment = moment / 86400
+
+-- when a meeting is not called; enough notice is at least so many clear days (sections 307 and 360)
 abbrev pub call_cases : List MeetingLists → NewMeeting → List Case
 call_cases meetings new =
     record { refusal = Exists; holds = is_some (meeting_named meetings new.meeting) }
+    ∷ record { refusal = ShortNotice; holds = not (is_enough_notice new.company new.kind new.given (day_of new.appointed)) }
     ∷ record { refusal = TooMany; holds = nat_le 100 (length meetings) }
     ∷ []
 

@@ -6,22 +6,25 @@ ghost use Rattle.office_answers.specs.Answers.{office_answer, takes_no_memory};
 ghost use Rattle.office_answers.specs.Limits.{keeps_limits};
 
 use crate::calls::{call_meeting, load_register};
+use crate::closed::load_days;
 use crate::polls::{close_poll, declare_poll, open_meeting, order_poll, start_poll};
 use caller_view::{Answer, refuse};
 use desk_words::{MeetingLists, Moment, Refusal, Request};
 use meeting_views::find_meeting;
+use office_days::Closed;
 use std::alloc::{AllocError, Global};
 
-/// The answer to the office, from all its meetings. The error is want of memory; what
+/// The answer to the office, from the closed days and all its meetings. The error is want of memory; what
 /// `takes_no_memory` names, a start and a close among it, needs none.
 pub fn office_answer(
     alloc: Global,
+    closed: &Closed,
     meetings: &[MeetingLists],
     now: Moment,
     request: &Request,
 ) -> Result<Answer, AllocError>
     requires { list_all is_meeting meetings.now ≡ true }
-    ensures answer { IfOk result (λ a. a ≡ office_answer meetings.now now request.now) }
+    ensures answer { IfOk result (λ a. a ≡ office_answer closed.now meetings.now now request.now) }
     ensures limits { IfOk result (λ a. IsTrue (keeps_limits a.change)) }
     ensures sure { takes_no_memory request.now ≡ true → IsOk result }
 {
@@ -35,6 +38,11 @@ pub fn office_answer(
         Request::Start(poll) => Ok(start_poll(find_meeting(meetings, poll.meeting), now, *poll)),
         Request::Close(poll) => Ok(close_poll(find_meeting(meetings, poll.meeting), now, *poll)),
         Request::Declare(poll) => declare_poll(alloc, find_meeting(meetings, poll.meeting), *poll),
-        Request::Mine(_) | Request::Cast(_) => Ok(refuse(Refusal::PartyOnly)),
+        Request::ClosedDays(days) => load_days(closed, days),
+        Request::Notice(_)
+        | Request::Mine(_)
+        | Request::Appoint(_)
+        | Request::End(_)
+        | Request::Cast(_) => Ok(refuse(Refusal::PartyOnly)),
     }
 }

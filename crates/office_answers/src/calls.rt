@@ -12,6 +12,7 @@ use desk_words::{
     same_rows,
 };
 use meeting_views::find_meeting;
+use office_days::enough_notice;
 use std::alloc::AllocError;
 
 fn call_refusal(meetings: &[MeetingLists], new: &NewMeeting) -> Option<Refusal>
@@ -19,6 +20,9 @@ fn call_refusal(meetings: &[MeetingLists], new: &NewMeeting) -> Option<Refusal>
 {
     if find_meeting(meetings, new.meeting).is_some() {
         return Some(Refusal::Exists);
+    }
+    if !enough_notice(new.company, new.kind, new.given, new.appointed.day()) {
+        return Some(Refusal::ShortNotice);
     }
     if meetings.len() >= 100 {
         return Some(Refusal::TooMany);
@@ -44,7 +48,8 @@ fn new_meeting(new: &NewMeeting) -> Result<Meeting, AllocError>
 }
 
 /// The answer to a call of a meeting (sections 302 and 307): `Exists` where a meeting has that
-/// name, `TooMany` where there are 100, and else `Called`, which adds the meeting. The error is
+/// name, `ShortNotice` where the clear days between the notice and the appointed day are too few,
+/// `TooMany` where there are 100, and else `Called`, which adds the meeting. The error is
 /// want of memory.
 pub fn call_meeting(meetings: &[MeetingLists], new: &NewMeeting) -> Result<Answer, AllocError>
     ensures answer { IfOk result (λ a. a ≡ call_answer meetings.now new.now) }

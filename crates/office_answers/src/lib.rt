@@ -3,8 +3,7 @@
 
 mod answer;
 mod calls;
+mod closed;
 mod polls;
-#[cfg(test)]
-mod tests;
 
 pub use answer::office_answer;

@@ -245,6 +245,8 @@ fn declaration(alloc: Global, lists: &MeetingLists, number: u64) -> Result<Decla
 {
     let papers = Papers {
         register: lists.register.as_slice(),
+        appointments: lists.appointments.as_slice(),
+        endings: lists.endings.as_slice(),
         casts: lists.casts.as_slice(),
     };
     let tally = tally(alloc, &papers, number)?;

@@ -24,7 +24,7 @@ reverse-cons_option : {X : Type 0} (o : Option X) (xs : List X) → reverse (con
 reverse-cons_option None xs = sym (append-nil (reverse xs))
 reverse-cons_option (Some x) xs = reverse-append (x ∷ []) xs
 
-filter_map-reverse : {X Y : Type 0} (h : X → Option Y) (xs : List X) → reverse (filter_map h xs) ≡ filter_map h (reverse xs)
+pub filter_map-reverse : {X Y : Type 0} (h : X → Option Y) (xs : List X) → reverse (filter_map h xs) ≡ filter_map h (reverse xs)
 filter_map-reverse h [] = refl
 filter_map-reverse h (x ∷ xs) =
     reverse-cons_option (h x) (filter_map h xs)

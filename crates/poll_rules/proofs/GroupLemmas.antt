@@ -2,9 +2,10 @@
 use Rattle.std.proofs.Common.{◌≡◌, ℕ, true, false, cond, List, [], ◌∷◌, ◌++◌, Vec, Global, refl, sym, ap, ◌∙◌}
 use Rattle.std.specs.Prelude.{Option, Some, None, vec_len}
 use Rattle.std.specs.Cmp.Lexicographic.{texts_ties}
-use Rattle.std.specs.Option.{option_map_or, UnwrapsOrElse}
+use Rattle.std.specs.Option.{option_map_or, unwrap_or, UnwrapsOrElse}
 use Rattle.std.specs.Ordering.{is_eq}
 use Rattle.desk_terms.specs.Names.{same_name, name_cmp}
+use Rattle.desk_terms.specs.Places.{Places}
 use Rattle.desk_words.proofs.RowLemmas.{same_name-true}
 use Rattle.desk_words.specs.declared.records.Block.{Block}
 
@@ -28,3 +29,12 @@ blocks_in-added found after member other block blocks put added =
       | true ↦ λ e. added ∙ ap (λ name. blocks_in (found name) ++ block ∷ []) (same_name-true member other e)
       | false ↦ λ e. refl
     ]) refl)
+
+-- the runs that are found, and none where nothing is
+abbrev pub runs_in : Option (Vec Places Global) → List Places
+runs_in found = option_map_or (λ (runs : Vec Places Global). runs.items) found []
+
+-- a list that stands for nothing holds nothing
+pub runs_in-or : (found : Option (Vec Places Global)) (new : Vec Places Global) → new.items ≡ [] → (unwrap_or found new).items ≡ runs_in found
+runs_in-or None new none = none
+runs_in-or (Some runs) new none = refl

@@ -1,12 +1,14 @@
 -- Counts of shares.
 use Rattle.std.proofs.Common.{◌≡◌, ℕ, zero, suc, ◌+◌, ◌<◌, ◌≤◌, Bool, true, false, cond, List, [], ◌∷◌, length, get_or, take, refl, sym, ap, ◌∙◌, arith, add-one}
-use Rattle.std.specs.Prelude.{◌&&◌, Option, Some, None, nat_le, sum_by}
+use Rattle.std.specs.Prelude.{◌&&◌, Option, Some, None, find, nat_le, sum_by}
 use Rattle.std.specs.Cmp.{first_so, second_so}
 use Rattle.std.specs.Cmp.Derive.{both_true}
 use Rattle.std.specs.List.{list_all}
+use Rattle.std.specs.Option.{option_map_or}
 use Rattle.std.proofs.lemmas.Bool.Decides.{nat_tests}
 use Rattle.std.proofs.lemmas.List.Sums.{sum_by-cons, sum_by_more, sum_by_more_le_part, sum_by-le-sum_by}
 use Rattle.desk_lists.specs.Ordered.{ascends_by}
+use Rattle.desk_terms.specs.Names.{same_name}
 use Rattle.desk_terms.specs.Places.{places_that}
 use Rattle.desk_terms.specs.declared.kinds.HolderKind.{HolderKind}
 use Rattle.desk_terms.specs.declared.kinds.HolderKind.TheVariants.{Individual, Corporation, Treasury}
@@ -16,6 +18,7 @@ use Rattle.desk_words.specs.declared.records.RegisterRow.{RegisterRow}
 use Rattle.desk_words.specs.declared.register.TheConstants.{MOST_SHARES}
 use Rattle.desk_words.specs.Office.{is_tally}
 use Rattle.desk_words.specs.Registers.{is_holding, all_shares, keep_limits, member_before}
+use Rattle.poll_rules.specs.Governing.{shares_by}
 use Rattle.poll_rules.specs.Shares.{are_rows, shares_held, shares_of}
 use Rattle.poll_rules.specs.Sums.{FitsBoth, tally_to, joined}
 use Rattle.poll_rules.specs.Tallies.{is_vote, votes_to, votes, tally_by}
@@ -122,3 +125,17 @@ pub is_tally-tally_by : (vote : RegisterRow → ℕ → Option Way) (rows : List
 is_tally-tally_by vote rows h =
     let few : sum_by shares_of rows ≤ 1000000000000 = omega (arith, shares-le rows, all_shares-le rows h) in
     both_true (nat_le-true (votes vote For rows + votes vote Against rows + votes vote Withheld rows) (sum_by shares_of rows) (votes-le vote rows)) (nat_le-true (sum_by shares_of rows) 1000000000000 few)
+
+-- no member has more shares than there are
+member-le : (rows : List RegisterRow) (member : List ℕ) → shares_by rows member ≤ all_shares rows
+member-le [] member = omega arith
+member-le (row ∷ rows) member =
+    let all = sum_by-cons (λ (r : RegisterRow). r.shares) row rows in
+    elim (same_name row.member member) as (λ b. option_map_or shares_of (cond b (Some row) (find (λ (r : RegisterRow). same_name r.member member) rows)) 0 ≤ all_shares (row ∷ rows)) [
+      | true ↦ omega (arith, all, shares_of-le row)
+      | false ↦ omega (arith, all, member-le rows member)
+    ]
+
+-- a member's shares are few
+pub shares_by-le : (rows : List RegisterRow) (member : List ℕ) → are_rows rows ≡ true → shares_by rows member ≤ 1000000000000
+shares_by-le rows member h = omega (arith, all_shares-le rows h, member-le rows member)

@@ -1,8 +1,12 @@
 pub mod Casts
+pub mod Covering
 pub mod Cutoffs
+pub mod Governing
 pub mod Groups
+pub mod Holdings
 pub mod Laws
 pub mod Majority
+pub mod Runs
 pub mod Shares
 pub mod Sums
 pub mod Tallies

@@ -88,7 +88,7 @@ fn vote(blocks: &[Block], kind: HolderKind, place: u64) -> Option<Way>
 }
 
 /// How many shares a row has. Treasury shares are none.
-fn shares(row: &RegisterRow) -> u64
+pub(crate) fn shares(row: &RegisterRow) -> u64
     ensures { result ≡ shares_of row.now }
 {
     match row.kind {

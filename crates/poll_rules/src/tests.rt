@@ -9,7 +9,7 @@ use office_days::Closed;
 use std::alloc::Global;
 use std::test::Fail;
 
-fn party(name: &str) -> Result<Party, Fail> {
+pub(crate) fn party(name: &str) -> Result<Party, Fail> {
     Ok(read_party(name.as_bytes()).ok_or("a party")?)
 }
 
@@ -55,7 +55,10 @@ fn own(member: &str, places: (u64, u64), way: Way) -> Result<CastMark, Fail> {
     cast(1, member, block(Capacity::Member, member, places, way)?)
 }
 
-fn register(alloc: Global, holdings: &[(&str, HolderKind, u64)]) -> Result<Register, Fail> {
+pub(crate) fn register(
+    alloc: Global,
+    holdings: &[(&str, HolderKind, u64)],
+) -> Result<Register, Fail> {
     let mut rows = Vec::new(alloc);
     for (member, kind, shares) in holdings {
         rows.push(row(alloc, member, *kind, *shares)?)?;
@@ -72,6 +75,8 @@ fn count(
     let register = register(alloc, holdings)?;
     let papers = Papers {
         register: register.rows(),
+        appointments: &[],
+        endings: &[],
         casts,
     };
     Ok(tally(alloc, &papers, 1)?)
@@ -230,6 +235,8 @@ fn without_a_register_there_are_no_shares(rt: HostRuntime) -> Result<(), Fail> {
     let casts = [own("M1", (1, 100), Way::For)?];
     let papers = Papers {
         register: &[],
+        appointments: &[],
+        endings: &[],
         casts: &casts,
     };
     let tally = tally(rt.alloc(), &papers, 1)?;
@@ -237,7 +244,7 @@ fn without_a_register_there_are_no_shares(rt: HostRuntime) -> Result<(), Fail> {
     Ok(())
 }
 
-fn at(text: &str) -> Result<Moment, Fail> {
+pub(crate) fn at(text: &str) -> Result<Moment, Fail> {
     Ok(read_moment(text.as_bytes()).ok_or("a moment")?)
 }
 

@@ -1,13 +1,14 @@
 -- Marks of numbers as a set.
-use Rattle.std.proofs.Common.{◌≡◌, ℕ, zero, suc, ◌+◌, ◌<◌, Bool, true, false, ◌||◌, List, [], ◌∷◌, length, set, get_or, refl, ap, sym, ◌∙◌, arith}
-use Rattle.std.specs.Prelude.{◌==◌}
+use Rattle.std.proofs.Common.{◌≡◌, ℕ, zero, suc, ◌+◌, ◌-◌, ◌<◌, Bool, true, false, ◌||◌, List, [], ◌∷◌, length, replicate, set, get_or, refl, ap, sym, ◌∙◌, arith}
+use Rattle.std.specs.Prelude.{◌==◌, nat_le}
 use Rattle.std.specs.FinSet.{FinSet, contains, insert, from_list, contains-from_list_nat, contains-insert, same_set, nat_cmp-IsAntisymmetric}
 use Rattle.std.specs.List.{list_any}
 use Rattle.std.specs.Ordering.{nat_cmp, eq_by_cmp}
 use Rattle.std.proofs.lemmas.Bool.Decides.{nat_tests}
 use Rattle.std.proofs.lemmas.Cmp.{nat_cmp_total}
-use Rattle.share_blocks.specs.Tags.{marked_from}
-use Rattle.share_blocks.proofs.Choices.{same_true, same_false, same_false_above}
+use Rattle.std.proofs.lemmas.List.{get_or-replicate}
+use Rattle.share_blocks.specs.Tags.{is_tag, marked_from, most_tags}
+use Rattle.share_blocks.proofs.Choices.{first_of, second_of, le_is, same_true, same_false, same_false_above}
 
 -- whether a number is marked
 abbrev is_marked : ℕ → List Bool → ℕ → Bool
@@ -72,3 +73,10 @@ marked_set-set marks k t within is =
     ∙ ap (λ b. b || is_marked 1 marks q) (tied_same q t)
     ∙ ap (λ b. eq_by_cmp nat_cmp q t || b) (sym (contains-from_list_nat (marked_from 1 marks) q))
     ∙ sym (contains-insert nat_cmp_total (marked_set marks) t q))
+
+-- where all are marked, the set holds each tag
+pub contains-all_marked : (n t : ℕ) → n ≡ most_tags → is_tag t ≡ true → contains (marked_set (replicate n true)) t ≡ true
+contains-all_marked n t all tag =
+    let low = le_is 1 t (first_of (nat_le 1 t) (nat_le t most_tags) tag) in
+    let high = le_is t most_tags (second_of (nat_le 1 t) (nat_le t most_tags) tag) in
+    contains-marked_set (replicate n true) (t - 1) t (omega (arith, low)) ∙ get_or-replicate n (t - 1) true false (omega (arith, all, low, high))

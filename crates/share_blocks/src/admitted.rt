@@ -1,6 +1,7 @@
 //! Sets of tags.
-ghost use Rattle.std.specs.Prelude.{◌≡◌, ◌+◌, ◌<◌};
+ghost use Rattle.std.specs.Prelude.{◌≡◌, ◌+◌, ◌<◌, ℕ, true, IsTrue};
 ghost use Rattle.std.specs.FinSet as set;
+ghost use Rattle.share_blocks.specs.Tags.{is_tag};
 
 use crate::tag::{MOST_TAGS, Tag};
 use std::marker::Model;
@@ -31,6 +32,15 @@ impl Admitted {
     {
         Self {
             marks: [false; MOST_TAGS],
+        }
+    }
+
+    /// The set that holds every tag. It takes no memory.
+    pub fn all() -> Self
+        ensures { (tag : ℕ) → IsTrue (is_tag tag) → set.contains result tag ≡ true }
+    {
+        Self {
+            marks: [true; MOST_TAGS],
         }
     }
 

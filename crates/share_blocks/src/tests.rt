@@ -127,6 +127,14 @@ fn what_is_admitted_is_had(rt: HostRuntime) -> Result<(), Fail> {
 }
 
 #[test]
+fn every_tag_is_had_by_all(rt: HostRuntime) -> Result<(), Fail> {
+    let admitted = Admitted::all();
+    assert!(rt; admitted.has(Tag::new(1).ok_or("no tag")?));
+    assert!(rt; admitted.has(Tag::new(256).ok_or("no tag")?));
+    Ok(())
+}
+
+#[test]
 fn nothing_is_covered_at_first(rt: HostRuntime) -> Result<(), Fail> {
     let ranges = pieces_of(&[], rt.alloc())?;
     assert_eq!(rt; ranges.len(), 1);

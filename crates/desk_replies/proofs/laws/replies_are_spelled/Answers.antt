@@ -5,10 +5,12 @@ use Rattle.serde_json.proofs.OnLiterals.{serde_json_on_literals}
 use Rattle.desk_terms.specs.Refusals.{number_of, name_of}
 use Rattle.desk_terms.specs.declared.refusal.Refusal.{Refusal}
 use Rattle.desk_terms.specs.declared.refusal.Refusal.TheVariants.{Key, Route, Method, TooLarge, Unreadable, OfficeOnly, PartyOnly, NoMeeting, Exists, ShortNotice, NoResolution, BadRange, SelfNamed, BadInstructions, TooMany, NoSuchNumber, AlreadyEnded, NoRegister, OtherRecord, Opened, NotOpened, Early, NoQuorum, NotPresent, NoRight, PollOrdered, NoPoll, DemandTooSmall, PollNotOpen, PollClosed, NotClosed, Declared, NotYours, AgainstInstruction}
+use Rattle.desk_words.specs.declared.request.AppointmentUse.TheVariants as counted
 use Rattle.desk_words.specs.declared.request.Reply.TheVariants as reply
 use Rattle.desk_words.specs.declared.request.Declaration.{Declaration}
 use Rattle.desk_replies.specs.Letters.{truth, declaration_text}
-use Rattle.desk_replies.specs.Replies.{reply_bytes, whole, with_members}
+use Rattle.desk_replies.specs.Forms.{whole, with_members}
+use Rattle.desk_replies.specs.Replies.{reply_bytes}
 use Rattle.desk_replies.proofs.laws.replies_are_spelled.Goals as goal
 
 -- no letter of a refusal's name is escaped
@@ -74,6 +76,18 @@ declaration_parts against eligible votes_for withheld false = simp append_assoc
 declaration_spelled : (d : Declaration) → reply_bytes (reply.Declared d) ≡ declaration_text d
 declaration_spelled d = declaration_parts d.tally.votes_against d.tally.eligible d.tally.votes_for d.tally.withheld d.carried
 
+appointed_spelled : (n : ℕ) → reply_bytes (reply.Appointed (record { number = n; used = counted.Meeting })) ≡ codes "{\"number\":" ++ decimal n ++ codes ",\"ok\":\"appointed\",\"use\":\"meeting\"}"
+unfolding serde_json_on_literals
+appointed_spelled n = simp append_assoc
+
+appointed_late_spelled : (n : ℕ) → reply_bytes (reply.Appointed (record { number = n; used = counted.LaterPolls })) ≡ codes "{\"number\":" ++ decimal n ++ codes ",\"ok\":\"appointed\",\"use\":\"later polls only\"}"
+unfolding serde_json_on_literals
+appointed_late_spelled n = simp append_assoc
+
+ended_spelled : (n : ℕ) → reply_bytes (reply.Ended n) ≡ codes "{\"number\":" ++ decimal n ++ codes ",\"ok\":\"ended\"}"
+unfolding serde_json_on_literals
+ended_spelled n = simp append_assoc
+
 pub returns : goal.returns
 unfolding serde_json_on_literals
-returns c = record { called = refl; loaded = refl; same = refl; opened = refl; ordered = refl; started = refl; closed = refl; recorded = refl; declared = declaration_spelled; refused = refused_text; store = refl; memory = refl }
+returns c = record { called = refl; loaded = refl; same = refl; opened = refl; ordered = refl; started = refl; closed = refl; recorded = refl; declared = declaration_spelled; appointed = appointed_spelled; appointed_late = appointed_late_spelled; ended = ended_spelled; refused = refused_text; store = refl; memory = refl }

@@ -1,4 +1,4 @@
-use Rattle.std.proofs.Common.{◌≡◌, ◌==◌, sym, ◌∙◌, ap}
+use Rattle.std.proofs.Common.{◌==◌, sym, ◌∙◌, ap}
 use Rattle.desk_lists.proofs.ChangeFirst.{change_first-found, change_first-absent}
 use Rattle.desk_words.specs.declared.records.Poll.{Poll}
 use Rattle.caller_view.specs.Polls.{poll_on}

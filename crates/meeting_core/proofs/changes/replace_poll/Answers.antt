@@ -1,4 +1,4 @@
-use Rattle.std.proofs.Common.{◌≡◌, ◌==◌, List, sym, ◌∙◌, ap}
+use Rattle.std.proofs.Common.{◌==◌, sym, ◌∙◌, ap}
 use Rattle.std.specs.List.{position_from}
 use Rattle.desk_lists.proofs.ChangeFirst.{change_first-some, change_first-none}
 use Rattle.desk_words.specs.declared.records.Poll.{Poll}

@@ -1,21 +1,14 @@
-use Rattle.std.proofs.Common.{◌≡◌, ℕ, List, ap, ◌∙◌}
-use Rattle.std.specs.Prelude.{map, filter}
+use Rattle.std.proofs.Common.{◌≡◌, ℕ, List, map, filter, ap, ◌∙◌}
 use Rattle.std.specs.List.{list_any}
 use Rattle.desk_words.specs.Names.{same_name}
-use Rattle.desk_words.specs.declared.records.Appointment.{Appointment}
 use Rattle.desk_words.specs.declared.records.Authority.{Authority}
 use Rattle.desk_words.specs.declared.records.CastMark.{CastMark}
 use Rattle.desk_words.specs.declared.records.DemandMark.{DemandMark}
-use Rattle.desk_words.specs.declared.records.Ending.{Ending}
 use Rattle.desk_words.specs.declared.records.PresenceMark.{PresenceMark}
 use Rattle.desk_words.specs.declared.records.RegisterRow.{RegisterRow}
 use Rattle.desk_words.specs.declared.request.Authorised.{Authorised}
-use Rattle.desk_words.specs.declared.request.Given.{Given}
-use Rattle.caller_view.specs.Views.{row_of, given_in, authorised_by}
+use Rattle.caller_view.specs.Views.{row_of, authorised_by}
 use Rattle.meeting_views.proofs.own.own_in.Goals as goal
-
-abbrev given : List Ending → List Appointment → List ℕ → List Given
-given endings appointments party = map (given_in endings) (filter (λ (a : Appointment). same_name a.member party) appointments)
 
 abbrev authorised : List RegisterRow → List Authority → List ℕ → List Authorised
 authorised rows authorities party = map (authorised_by rows) (filter (λ (a : Authority). same_name a.person party) authorities)
@@ -24,15 +17,15 @@ pub returns : goal.returns
 returns c =
     let party = c.args.party in
     let row = c.in_ok-row_in.ensures ∙ ap (λ rows. row_of rows party) c.as_slice-rows.ensures in
-    let gave = c.from_vec.ensures ∙ c.in_ok-given_by.ensures ∙ ap (λ appointments. given c.as_slice.result.now appointments party) c.as_slice-appointments.ensures
-    ∙ ap (λ endings. given endings c.args.lists.now.appointments party) c.as_slice.ensures in
-    let persons = c.from_vec-2.ensures ∙ c.in_ok-persons_of.ensures ∙ ap (filter (λ (a : Authority). same_name a.corporation party)) c.as_slice-authorities.ensures in
-    let received = c.from_vec-3.ensures ∙ c.in_ok-received_by.ensures ∙ ap (filter (λ (a : Appointment). same_name a.proxy party)) c.as_slice-appointments.ensures in
-    let trusted = c.from_vec-4.ensures ∙ c.in_ok-authorised_by.ensures ∙ ap (λ authorities. authorised c.as_slice-rows.result.now authorities party) c.as_slice-authorities.ensures
+    let gave = c.in_ok-proxies.ensures.given in
+    let received = c.in_ok-proxies.ensures.received in
+    let persons = c.in_ok-authorities.ensures.persons ∙ ap (filter (λ (a : Authority). same_name a.corporation party)) c.as_slice.ensures in
+    let trusted = c.in_ok-authorities.ensures.authorised
+    ∙ ap (λ authorities. authorised c.as_slice-rows.result.now authorities party) c.as_slice.ensures
     ∙ ap (λ rows. authorised rows c.args.lists.now.authorities party) c.as_slice-rows.ensures in
     let present = c.is_present.ensures ∙ ap (list_any (λ (p : PresenceMark). same_name p.party party)) c.as_slice-2.ensures in
-    let demands = c.from_vec-5.ensures ∙ c.in_ok-demands_of.ensures ∙ ap (filter (λ (d : DemandMark). same_name d.party party)) c.as_slice-3.ensures in
-    let casts = c.from_vec-6.ensures ∙ c.in_ok-casts_of.ensures ∙ ap (filter (λ (x : CastMark). same_name x.voter party)) c.as_slice-4.ensures in
+    let demands = c.from_vec.ensures ∙ c.in_ok-demands_of.ensures ∙ ap (filter (λ (d : DemandMark). same_name d.party party)) c.as_slice-3.ensures in
+    let casts = c.from_vec-2.ensures ∙ c.in_ok-casts_of.ensures ∙ ap (filter (λ (x : CastMark). same_name x.voter party)) c.as_slice-4.ensures in
     λ i. record {
       party = party;
       row = row i;

@@ -11,13 +11,13 @@ use Rattle.office_answers.proofs.polls.declaration.Goals as goal
 pub returns-clause-value : goal.returns-clause-value
 returns-clause-value c =
     let m = c.args.lists.now in
-    let tally = c.in_ok-tally.ensures ∙ ap (λ rows. tally_of rows c.as_slice-2.result.now c.args.number) c.as_slice.ensures ∙ ap (λ casts. tally_of m.register casts c.args.number) c.as_slice-2.ensures in
+    let tally = c.in_ok-tally.ensures ∙ ap (λ rows. tally_of rows c.as_slice-4.result.now c.args.number) c.as_slice.ensures ∙ ap (λ casts. tally_of m.register casts c.args.number) c.as_slice-4.ensures in
     let carried = c.carries.ensures ∙ ap (carries (slice_get m.meeting.resolutions (c.args.number - 1))) tally in
     λ i. record { tally = tally i; carried = carried i }
 
 pub returns-clause-limits : goal.returns-clause-limits
 returns-clause-limits c =
     let rows = c.as_slice.result.now in
-    let casts = c.as_slice-2.result.now in
+    let casts = c.as_slice-4.result.now in
     let good : are_rows rows ≡ true = ap are_rows c.as_slice.ensures ∙ c.requires.rows in
     ap is_tally c.in_ok-tally.ensures ∙ is_tally-tally_by (valid_vote casts c.args.number) rows good

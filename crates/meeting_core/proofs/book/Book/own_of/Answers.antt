@@ -1,10 +1,18 @@
-use Rattle.std.proofs.Common.{◌≡◌, true, ap, sym, ◌∙◌}
+use Rattle.std.proofs.Common.{ap, sym, ◌∙◌}
+use Rattle.desk_words.specs.declared.office.OfficeLists.{OfficeLists}
 use Rattle.caller_view.specs.Views.{meeting_named}
-use Rattle.office_answers.proofs.OfficeFacts.{found_facts, register_ascends}
+use Rattle.office_answers.proofs.OfficeFacts.{found_facts, meeting_from_facts, meeting_rows}
 use Rattle.meeting_core.proofs.book.Book.own_of.Goals as goal
 
-pub own_in-requires : goal.own_in-requires
-own_in-requires c =
-    register_ascends c.in-Some.lists.now
-    (found_facts (record { keys = c.self.inside.keys; closed = c.self.inside.closed; meetings = c.self.inside.meetings.items }) c.args.meeting c.in-Some.lists.now c.self.invariant
-    (ap (λ meetings. meeting_named meetings c.args.meeting) (sym c.deref.ensures.value) ∙ sym c.in-Some.ensures))
+pub own_in-requires-clause-rows : goal.own_in-requires-clause-rows
+own_in-requires-clause-rows c =
+    let o : OfficeLists = record { keys = c.self.inside.keys; closed = c.self.inside.closed; meetings = c.self.inside.meetings.items } in
+    let m = c.in-Some.lists.now in
+    meeting_rows m (meeting_from_facts m (found_facts o c.args.meeting m c.self.invariant
+    (ap (λ meetings. meeting_named meetings c.args.meeting) (sym c.deref.ensures.value) ∙ sym c.in-Some.ensures)))
+
+pub own_in-requires-clause-appointments : goal.own_in-requires-clause-appointments
+own_in-requires-clause-appointments c =
+    let o : OfficeLists = record { keys = c.self.inside.keys; closed = c.self.inside.closed; meetings = c.self.inside.meetings.items } in
+    (found_facts o c.args.meeting c.in-Some.lists.now c.self.invariant
+    (ap (λ meetings. meeting_named meetings c.args.meeting) (sym c.deref.ensures.value) ∙ sym c.in-Some.ensures)).appointments

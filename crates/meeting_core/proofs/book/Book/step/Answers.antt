@@ -1,5 +1,4 @@
 use Rattle.std.proofs.Common.{◌≡◌, true, false, ap, sym, ◌∙◌}
-use Rattle.std.specs.Prelude.{Some}
 use Rattle.meeting_core.proofs.OfficeKept.{sets, sets_alone}
 use Rattle.meeting_core.specs.Office.{sets_fields}
 use Rattle.meeting_core.proofs.book.Book.step.Goals as goal

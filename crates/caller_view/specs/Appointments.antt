@@ -1,0 +1,69 @@
+-- Appointments that a party gives and ends, and what it is told of them.
+use Rattle.std.specs.Prelude.{ℕ, suc, Bool, false, not, ◌==◌, nat_le, List, [], ◌∷◌, length, find, Option, Some, None, is_none, is_some, if◌then◌else◌}
+use Rattle.desk_words.specs.Names.{same_name}
+use Rattle.desk_words.specs.Places.{is_range}
+use Rattle.desk_words.specs.Refusals.{Case}
+use Rattle.desk_terms.specs.declared.refusal.Refusal.TheVariants.{BadRange, SelfNamed, BadInstructions, TooMany, NoSuchNumber, AlreadyEnded}
+use Rattle.desk_words.specs.declared.records.Appointment.{Appointment}
+use Rattle.desk_words.specs.declared.records.Ending.{Ending}
+use Rattle.desk_words.specs.declared.records.Meeting.{Meeting}
+use Rattle.desk_words.specs.declared.request.AppointmentReceipt.{AppointmentReceipt}
+use Rattle.desk_words.specs.declared.request.AppointmentUse.{AppointmentUse}
+use Rattle.desk_words.specs.declared.request.AppointmentUse.TheVariants.{Meeting as ForTheMeeting, LaterPolls}
+use Rattle.desk_words.specs.declared.request.Given.{Given}
+use Rattle.desk_words.specs.declared.request.GivenUse.{GivenUse}
+use Rattle.desk_words.specs.declared.request.NewAppointment.{NewAppointment}
+use Rattle.desk_words.specs.declared.request.NewEnding.{NewEnding}
+use Rattle.caller_view.specs.declared.views.OwnView.{OwnView}
+
+-- what an appointment of a moment counts for, where the meeting has that cutoff (section 327)
+abbrev pub use_by : ℕ → ℕ → AppointmentUse
+use_by cutoff moment = if nat_le moment cutoff then ForTheMeeting else LaterPolls
+
+-- an appointment that the party gave, and what it counts for
+abbrev pub given_use : ℕ → Given → GivenUse
+given_use cutoff given = record { given = given; used = use_by cutoff given.appointment.moment }
+
+-- when an appointment is not recorded: its places are no range, it names the party itself, it has not one instruction for each resolution (section 324A), or the party gave 256 already
+abbrev pub appoint_cases : Meeting → OwnView → NewAppointment → List Case
+appoint_cases meeting own new =
+    record { refusal = BadRange; holds = not (is_range new.from new.to) }
+    ∷ record { refusal = SelfNamed; holds = same_name new.proxy own.party }
+    ∷ record { refusal = BadInstructions; holds = not (length new.instructions == length meeting.resolutions) }
+    ∷ record { refusal = TooMany; holds = nat_le 256 (length own.given) }
+    ∷ []
+
+-- the appointment that is recorded, with the party's next number
+abbrev pub appointment_of : OwnView → ℕ → NewAppointment → Appointment
+appointment_of own now new = record {
+  member = own.party;
+  number = suc (length own.given);
+  proxy = new.proxy;
+  range = record { from = new.from; to = new.to };
+  instructions = new.instructions;
+  moment = now;
+}
+
+-- what is answered to it
+abbrev pub receipt_of : ℕ → OwnView → ℕ → AppointmentReceipt
+receipt_of cutoff own now = record { number = suc (length own.given); used = use_by cutoff now }
+
+-- the party's own appointment of a number
+abbrev pub given_numbered : List Given → ℕ → Option Given
+given_numbered given number = find (λ (g : Given). g.appointment.number == number) given
+
+-- there is one, and it is ended
+abbrev pub is_ended : Option Given → Bool
+is_ended None = false
+is_ended (Some given) = is_some given.ended
+
+-- when an ending is not recorded: the party gave no appointment of that number, or ended it already
+abbrev pub end_cases : OwnView → NewEnding → List Case
+end_cases own new =
+    record { refusal = NoSuchNumber; holds = is_none (given_numbered own.given new.number) }
+    ∷ record { refusal = AlreadyEnded; holds = is_ended (given_numbered own.given new.number) }
+    ∷ []
+
+-- the ending that is recorded
+abbrev pub ending_of : OwnView → ℕ → NewEnding → Ending
+ending_of own now new = record { member = own.party; number = new.number; moment = now }

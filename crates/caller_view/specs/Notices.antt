@@ -1,0 +1,55 @@
+-- What the notice of a meeting shows.
+use Rattle.std.specs.Prelude.{ℕ, suc, Bool, List, [], ◌∷◌, Some, option_map}
+use Rattle.desk_terms.specs.declared.kinds.ResKind.{ResKind}
+use Rattle.desk_words.specs.declared.records.Meeting.{Meeting}
+use Rattle.desk_words.specs.declared.records.Poll.{Poll}
+use Rattle.desk_words.specs.declared.records.Resolution.{Resolution}
+use Rattle.desk_words.specs.declared.records.Tally.{Tally}
+use Rattle.desk_words.specs.declared.request.Notice.{Notice}
+use Rattle.desk_words.specs.declared.request.NoticedPoll.{NoticedPoll}
+use Rattle.desk_words.specs.declared.request.NoticedResolution.{NoticedResolution}
+use Rattle.poll_rules.specs.Cutoffs.{cutoffs_of, meeting_cutoffs, is_late_poll}
+use Rattle.poll_rules.specs.Majority.{is_carried}
+use Rattle.caller_view.specs.Polls.{poll_on}
+
+-- whether a count carries a resolution of a kind
+abbrev pub carries : ResKind → Tally → Bool
+carries kind tally = is_carried kind tally.votes_for tally.votes_against
+
+-- a poll, with its lateness and its cutoff by the closed days as they stand, and its result once it is declared
+abbrev pub noticed_poll : Meeting → List ℕ → ℕ → ResKind → Poll → NoticedPoll
+noticed_poll meeting closed now kind poll = record {
+  poll = poll;
+  late = is_late_poll closed poll;
+  cutoff = (cutoffs_of meeting (Some poll) closed now).appointments;
+  carried = option_map (carries kind) poll.declared;
+}
+
+-- a resolution, with the poll on it if one is ordered
+abbrev pub noticed_resolution : Meeting → List Poll → List ℕ → ℕ → ℕ → Resolution → NoticedResolution
+noticed_resolution meeting polls closed now number resolution = record {
+  number = number;
+  kind = resolution.kind;
+  text = resolution.text;
+  poll = option_map (noticed_poll meeting closed now resolution.kind) (poll_on polls number);
+}
+
+-- each value with its number, counted on from the first
+abbrev pub numbered : {X Y : Type 0} → (ℕ → X → Y) → ℕ → List X → List Y
+numbered f n [] = []
+numbered f n (x ∷ xs) = f n x ∷ numbered f (suc n) xs
+
+-- the notice of a meeting, and what is public of it since
+abbrev pub notice_of : Meeting → List Poll → List ℕ → ℕ → Notice
+notice_of meeting polls closed now = record {
+  meeting = meeting.id;
+  company = meeting.company;
+  kind = meeting.kind;
+  given = meeting.given;
+  appointed = meeting.appointed;
+  cutoff = (meeting_cutoffs meeting closed now).appointments;
+  record_moment = meeting.record_moment;
+  loaded = meeting.loaded;
+  opened = meeting.opened;
+  resolutions = numbered (noticed_resolution meeting polls closed now) 1 meeting.resolutions;
+}

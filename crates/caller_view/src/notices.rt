@@ -1,0 +1,126 @@
+//! The notice of a meeting.
+ghost use Rattle.std.specs.Prelude.{◌≡◌, IfOk};
+ghost use Rattle.caller_view.specs.Answers.{notice_answer};
+ghost use Rattle.caller_view.specs.Notices.{carries, noticed_poll, noticed_resolution, numbered, notice_of};
+ghost use Rattle.caller_view.specs.Polls.{poll_on};
+ghost use Rattle.std.specs.Prelude.{option_map};
+
+use crate::answers::refuse;
+use crate::polls::find_poll;
+use crate::views::{Answer, PublicRecord};
+use desk_words::{
+    Listing, Meeting, Moment, Notice, NoticedPoll, NoticedResolution, Poll, Refusal, Reply,
+    ResKind, Resolution, Tally,
+};
+use office_days::Closed;
+use poll_rules::{carried, cutoffs, is_late_poll};
+use std::alloc::{AllocError, Global};
+
+fn carries(kind: ResKind, declared: &Option<Tally>) -> Option<bool>
+    ensures { result ≡ option_map (carries kind) declared.now }
+{
+    match declared {
+        None => None,
+        Some(tally) => Some(carried(kind, tally.votes_for, tally.votes_against)),
+    }
+}
+
+fn noticed_poll(
+    meeting: &Meeting,
+    closed: &Closed,
+    now: Moment,
+    kind: ResKind,
+    poll: Poll,
+) -> NoticedPoll
+    ensures { result ≡ noticed_poll meeting.now closed.now now kind poll }
+{
+    NoticedPoll {
+        poll,
+        late: is_late_poll(closed, &poll),
+        cutoff: cutoffs(meeting, Some(&poll), closed, now).appointments,
+        carried: carries(kind, &poll.declared),
+    }
+}
+
+fn poll_in(
+    public: &PublicRecord,
+    meeting: &Meeting,
+    now: Moment,
+    number: u64,
+    kind: ResKind,
+) -> Option<NoticedPoll>
+    ensures { result ≡ option_map (noticed_poll meeting.now public.now.closed now kind) (poll_on public.now.polls number) }
+{
+    let poll = find_poll(public.polls.as_slice(), number)?;
+    Some(noticed_poll(meeting, &public.closed, now, kind, poll))
+}
+
+fn noticed_resolution(
+    public: &PublicRecord,
+    meeting: &Meeting,
+    now: Moment,
+    number: u64,
+    resolution: &Resolution,
+) -> Result<NoticedResolution, AllocError>
+    ensures { IfOk result (λ r. r ≡ noticed_resolution meeting.now public.now.polls public.now.closed now number resolution.now) }
+{
+    Ok(NoticedResolution {
+        number,
+        kind: resolution.kind,
+        text: resolution.text.clone()?,
+        poll: poll_in(public, meeting, now, number, resolution.kind),
+    })
+}
+
+fn noticed_resolutions(
+    alloc: Global,
+    public: &PublicRecord,
+    meeting: &Meeting,
+    now: Moment,
+) -> Result<Vec<NoticedResolution>, AllocError>
+    ensures { IfOk result (λ v. v.items ≡ numbered (noticed_resolution meeting.now public.now.polls public.now.closed now) 1 meeting.now.resolutions) }
+{
+    let mut noticed = Vec::new(alloc);
+    for resolution in meeting.resolutions.as_slice() {
+        let number = noticed.as_slice().len() as u64 + 1;
+        noticed.push(noticed_resolution(public, meeting, now, number, resolution)?)?;
+    }
+    Ok(noticed)
+}
+
+fn notice_in(
+    alloc: Global,
+    public: &PublicRecord,
+    meeting: &Meeting,
+    now: Moment,
+) -> Result<Notice, AllocError>
+    ensures { IfOk result (λ n. n ≡ notice_of meeting.now public.now.polls public.now.closed now) }
+{
+    Ok(Notice {
+        meeting: meeting.id,
+        company: meeting.company,
+        kind: meeting.kind,
+        given: meeting.given,
+        appointed: meeting.appointed,
+        cutoff: cutoffs(meeting, None, &public.closed, now).appointments,
+        record_moment: meeting.record_moment,
+        loaded: meeting.loaded,
+        opened: meeting.opened,
+        resolutions: Listing::from_vec(noticed_resolutions(alloc, public, meeting, now)?),
+    })
+}
+
+/// The answer to a party that asks for the notice of a meeting: `NoMeeting`, or the notice, with its
+/// polls and cutoffs by the closed days as they stand (sections 307 and 327). The error is want of
+/// memory.
+pub fn notice(alloc: Global, public: &PublicRecord, now: Moment) -> Result<Answer, AllocError>
+    ensures { IfOk result (λ a. a ≡ notice_answer public.now now) }
+{
+    match &public.meeting {
+        None => Ok(refuse(Refusal::NoMeeting)),
+        Some(meeting) => Ok(Answer {
+            reply: Reply::Notice(notice_in(alloc, public, meeting, now)?),
+            change: None,
+        }),
+    }
+}

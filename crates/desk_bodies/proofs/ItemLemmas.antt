@@ -1,0 +1,9 @@
+use Rattle.std.proofs.Common.{◌≡◌, List, length}
+use Rattle.serde_json.specs.Events.{items_len}
+use Rattle.serde_json.specs.View.{items_view}
+use Rattle.serde_json.specs.declared.value.Value.{Value}
+use Rattle.serde_json.proofs.Views.{items_len-items_view}
+
+-- as many items are seen as there are values
+pub items_seen : (vs : List Value) → items_len (items_view vs) ≡ length vs
+items_seen vs = items_len-items_view vs

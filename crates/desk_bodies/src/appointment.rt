@@ -1,0 +1,89 @@
+//! Appointments of proxies, and their endings.
+ghost use Rattle.std.specs.Prelude.{nat_le};
+ghost use Rattle.serde_json.specs.Events.{items_len};
+ghost use Rattle.serde_json.specs.View.{view, items_view};
+ghost use Rattle.desk_bodies.specs.Answers.{Gives, itself, only};
+ghost use Rattle.desk_bodies.specs.Appointments.{most_instructions, instruction_at, instructions_in, new_appointment_of, new_ending_of};
+ghost use Rattle.desk_bodies.specs.Places.{there, each};
+
+use crate::ask::{Ask, UNREADABLE};
+use crate::place::{exactly_fields, instruction_in, items_in, number_in, party_in};
+use desk_words::{Instr, Listing, MeetingId, NewAppointment, NewEnding};
+use serde_json::Value;
+use std::alloc::Global;
+
+/// The most instructions of an appointment, which are as many as the most resolutions of a meeting.
+const MOST_INSTRUCTIONS: usize = 50;
+
+#[tactic(auto, unfolding(crate::specs::Appointments::instruction_at))]
+fn instruction(value: &Value) -> Result<Instr, Ask>
+    ensures { Gives itself result (instruction_at (view value.now)) }
+{
+    instruction_in(Some(value))
+}
+
+/// Refuses more items than an appointment may have instructions.
+#[tactic(auto, using(crate::proofs::ItemLemmas::items_seen))]
+fn few(items: &[Value]) -> Result<(), Ask>
+    ensures { Gives itself result (only (nat_le (items_len (items_view items.now)) most_instructions)) }
+{
+    if items.len() <= MOST_INSTRUCTIONS {
+        Ok(())
+    } else {
+        Err(UNREADABLE)
+    }
+}
+
+fn instructions_from(alloc: Global, items: &[Value]) -> Result<Vec<Instr>, Ask>
+    ensures { Gives (λ v. v.items) result (each instruction_at (items_view items.now)) }
+{
+    let mut found = Vec::new(alloc);
+    for item in items {
+        found.push(instruction(item)?)?;
+    }
+    Ok(found)
+}
+
+#[tactic(auto, unfolding(crate::specs::Appointments::instructions_in))]
+fn instructions_in(alloc: Global, place: Option<&Value>) -> Result<Listing<Instr>, Ask>
+    ensures { Gives itself result (instructions_in (there place.entry)) }
+{
+    let items = items_in(place)?;
+    few(items)?;
+    let instructions = instructions_from(alloc, items)?;
+    Ok(Listing::from_vec(instructions))
+}
+
+/// The appointment that a value gives. It has the fields `proxy` (a party), `from` and `to`
+/// (numbers), and `instructions` (0 to 50 of the words `for`, `against`, `withheld` and `free`).
+#[tactic(auto, unfolding(crate::specs::Appointments::new_appointment_of))]
+pub(crate) fn new_appointment(
+    alloc: Global,
+    meeting: MeetingId,
+    value: &Value,
+) -> Result<NewAppointment, Ask>
+    ensures { Gives itself result (new_appointment_of meeting (view value.now)) }
+{
+    exactly_fields(value, 4)?;
+    let proxy = party_in(value.get("proxy"))?;
+    let from = number_in(value.get("from"))?;
+    let to = number_in(value.get("to"))?;
+    let instructions = instructions_in(alloc, value.get("instructions"))?;
+    Ok(NewAppointment {
+        meeting,
+        proxy,
+        from,
+        to,
+        instructions,
+    })
+}
+
+/// The ending that a value gives. It has the field `number` (the number of an appointment).
+#[tactic(auto, unfolding(crate::specs::Appointments::new_ending_of))]
+pub(crate) fn new_ending(meeting: MeetingId, value: &Value) -> Result<NewEnding, Ask>
+    ensures { Gives itself result (new_ending_of meeting (view value.now)) }
+{
+    exactly_fields(value, 1)?;
+    let number = number_in(value.get("number"))?;
+    Ok(NewEnding { meeting, number })
+}

@@ -1,0 +1,71 @@
+-- Appointments of proxies as JSON. The members of an object stand in the order of the bytes of their keys.
+use Rattle.std.specs.Prelude.{ℕ, List, [], ◌∷◌, codes}
+use Rattle.serde_json.specs.Data.{Data, string, array}
+use Rattle.serde_json.specs.View.{items_of}
+use Rattle.desk_terms.specs.Kinds.{instruction_word}
+use Rattle.desk_terms.specs.Places.{Places}
+use Rattle.desk_terms.specs.declared.kinds.Instr.{Instr}
+use Rattle.desk_words.specs.declared.request.AppointmentReceipt.{AppointmentReceipt}
+use Rattle.desk_words.specs.declared.request.AppointmentUse.{AppointmentUse}
+use Rattle.desk_words.specs.declared.request.AppointmentUse.TheVariants.{Meeting, LaterPolls}
+use Rattle.desk_words.specs.declared.request.GivenUse.{GivenUse}
+use Rattle.desk_words.specs.declared.request.PollGoverned.{PollGoverned}
+use Rattle.desk_words.specs.declared.request.Received.{Received}
+use Rattle.desk_replies.specs.Forms.{whole, name_data, moment_data, or_null, listed, with_members}
+
+-- an instruction, as its word
+abbrev pub instruction_data : Instr → Data
+instruction_data instruction = string (instruction_word instruction)
+
+-- the words for what an appointment counts for
+abbrev pub use_word : AppointmentUse → List ℕ
+use_word Meeting = codes "meeting"
+use_word LaterPolls = codes "later polls only"
+
+-- places in a run, as the first and the last of them
+abbrev pub run_data : Places → Data
+run_data run = array (items_of (whole run.from ∷ whole run.to ∷ []))
+
+-- an appointment that the party gave; `received` is the moment of its receipt, and `use` what it counts for
+abbrev pub given_data : GivenUse → Data
+given_data g = with_members (
+    (codes "ended", or_null moment_data g.given.ended)
+    ∷ (codes "from", whole g.given.appointment.range.from)
+    ∷ (codes "instructions", listed instruction_data g.given.appointment.instructions)
+    ∷ (codes "number", whole g.given.appointment.number)
+    ∷ (codes "proxy", name_data g.given.appointment.proxy)
+    ∷ (codes "received", moment_data g.given.appointment.moment)
+    ∷ (codes "to", whole g.given.appointment.range.to)
+    ∷ (codes "use", string (use_word g.used))
+    ∷ [])
+
+-- what an appointment governs for a late poll, in runs in order
+abbrev pub poll_governed_data : PollGoverned → Data
+poll_governed_data p = with_members (
+    (codes "governs", listed run_data p.governs)
+    ∷ (codes "resolution", whole p.resolution)
+    ∷ [])
+
+-- an appointment that names the party; `received` is the moment of its receipt, `governs` has the places that it governs for the meeting, in runs in order, and `polls` those for each late poll
+abbrev pub received_data : Received → Data
+received_data r = with_members (
+    (codes "from", whole r.appointment.range.from)
+    ∷ (codes "governs", listed run_data r.governs)
+    ∷ (codes "instructions", listed instruction_data r.appointment.instructions)
+    ∷ (codes "member", name_data r.appointment.member)
+    ∷ (codes "polls", listed poll_governed_data r.polls)
+    ∷ (codes "received", moment_data r.appointment.moment)
+    ∷ (codes "to", whole r.appointment.range.to)
+    ∷ [])
+
+-- the number of an appointment that is recorded, and what it counts for
+abbrev pub appointed_data : AppointmentReceipt → Data
+appointed_data r = with_members (
+    (codes "number", whole r.number)
+    ∷ (codes "ok", string (codes "appointed"))
+    ∷ (codes "use", string (use_word r.used))
+    ∷ [])
+
+-- the number of the appointment that is ended
+abbrev pub ended_data : ℕ → Data
+ended_data number = with_members ((codes "number", whole number) ∷ (codes "ok", string (codes "ended")) ∷ [])

@@ -1,0 +1,40 @@
+-- The forms that replies share, over the words of `serde_json`.
+use Rattle.std.specs.Prelude.{ℕ, List, [], ◌∷◌, map, Option, Some, None}
+use Rattle.serde_json.specs.Data.{Data, null, number, unsigned, string, array, object, Members, no_members, member}
+use Rattle.serde_json.specs.View.{items_of}
+use Rattle.desk_calendar.specs.Texts.{day_text, moment_text}
+use Rattle.desk_terms.specs.Names.{letters_of}
+
+-- a number, in decimal
+abbrev pub whole : ℕ → Data
+whole n = number (unsigned n)
+
+-- a name, as its letters
+abbrev pub name_data : List ℕ → Data
+name_data name = string (letters_of name)
+
+-- a day, as YYYY-MM-DD
+abbrev pub day_data : ℕ → Data
+day_data day = string (day_text day)
+
+-- a moment, as YYYY-MM-DDThh:mm:ss
+abbrev pub moment_data : ℕ → Data
+moment_data moment = string (moment_text moment)
+
+-- null where there is none
+abbrev pub or_null : {A : Type 0} → (A → Data) → Option A → Data
+or_null f None = null
+or_null f (Some x) = f x
+
+-- the values in their order
+abbrev pub listed : {A : Type 0} → (A → Data) → List A → Data
+listed f xs = array (items_of (map f xs))
+
+-- these names and values, in the order in which they stand
+abbrev pub members : List (List ℕ × Data) → Members
+members [] = no_members
+members (m ∷ ms) = member m.0 m.1 (members ms)
+
+-- an object with these members
+abbrev pub with_members : List (List ℕ × Data) → Data
+with_members ms = object (members ms)

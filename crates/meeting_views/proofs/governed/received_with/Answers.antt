@@ -1,0 +1,22 @@
+use Rattle.std.proofs.Common.{◌≡◌, List, map, ap, sym, ◌∙◌}
+use Rattle.desk_words.specs.declared.records.Appointment.{Appointment}
+use Rattle.poll_rules.specs.declared.papers.Cutoffs.{Cutoffs}
+use Rattle.meeting_views.specs.Governed.{governed_at, is_among, received_due, received_kept}
+use Rattle.meeting_views.specs.declared.governed.PollRuns.{PollRuns}
+use Rattle.meeting_views.proofs.GovernedLemmas.{map-among}
+use Rattle.meeting_views.proofs.governed.received_with.Goals as goal
+
+pub returns : goal.returns
+returns c =
+    let received = c.args.received in
+    let named = c.args.named.now in
+    let runs = c.in_ok-runs.runs in
+    let late = c.in_ok-late.late.items in
+    c.from_vec.ensures ∙ c.in_ok-with_runs.ensures
+    ∙ ap (λ (l : List PollRuns). map (received_kept runs l) received) c.as_slice-3.ensures.value
+    ∙ map-among (received_kept runs late) (received_due c.args.lists.now c.args.closed.now c.args.now named) received
+    (λ a h.
+    let governs = c.in_ok-runs.ensures a.member a.number (ap (is_among a.member) c.as_slice.ensures ∙ h)
+    ∙ ap (λ (cutoffs : Cutoffs). governed_at cutoffs named a.member a.number) c.cutoffs-meeting.ensures in
+    let polls = c.in_ok-late.ensures a.member a.number (ap (is_among a.member) c.as_slice-2.ensures ∙ h) in
+    λ i. record { appointment = a; governs = governs i; polls = polls i })

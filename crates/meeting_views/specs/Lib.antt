@@ -1,0 +1,2 @@
+pub mod Governed
+pub mod Named
