@@ -90,39 +90,39 @@ cutoff_in public now meeting = (meeting_cutoffs meeting public.closed now).appoi
 abbrev pub mine_answer : PublicRecord → OwnView → ℕ → List ℕ → Answer
 mine_answer public own now id = in_record public.meeting (λ meeting. replied (reply.Mine (mine_of id (cutoff_in public now meeting) own)))
 
--- the notice of a meeting is public
+-- the notice of a meeting is public (section 307)
 abbrev pub notice_answer : PublicRecord → ℕ → Answer
 notice_answer public now = in_record public.meeting (λ meeting. replied (reply.Notice (notice_of meeting public.polls public.closed now)))
 
--- an appointment that is recorded, with its number and what it counts for
+-- an appointment that is recorded, with its number and what it counts for (section 324)
 abbrev pub appointed : ℕ → OwnView → ℕ → NewAppointment → Answer
 appointed cutoff own now new = record {
   reply = reply.Appointed (receipt_of cutoff own now);
   change = Some (AddAppointment (record { meeting = new.meeting; appointment = appointment_of own now new }));
 }
 
--- an appointment is recorded, or refused by the public record and the party's own things alone; the register is not looked at
+-- an appointment is recorded, or refused by the public record and the party's own things alone; the register is not looked at (section 324)
 abbrev pub appoint_answer : PublicRecord → OwnView → ℕ → NewAppointment → Answer
 appoint_answer public own now new =
     in_record public.meeting (λ meeting. unless (appoint_cases meeting own new) (appointed (cutoff_in public now meeting) own now new))
 
--- an ending that is recorded
+-- an ending that is recorded (section 330)
 abbrev pub ended : OwnView → ℕ → NewEnding → Answer
 ended own now new = record {
   reply = reply.Ended new.number;
   change = Some (AddEnding (record { meeting = new.meeting; ending = ending_of own now new }));
 }
 
--- an ending is recorded, or refused by the party's own things
+-- an ending is recorded, or refused by the party's own things (section 330)
 abbrev pub end_answer : PublicRecord → OwnView → ℕ → NewEnding → Answer
 end_answer public own now new = in_record public.meeting (λ meeting. unless (end_cases own new) (ended own now new))
 
--- the party holds shares as an individual
+-- the party holds shares as an individual (section 284)
 abbrev pub holds_as_individual : Option RegisterRow → Bool
 holds_as_individual None = false
 holds_as_individual (Some row) = is_individual row.kind
 
--- the member is the caller itself, which holds its shares as an individual
+-- the member is the caller itself, which holds its shares as an individual (section 284)
 abbrev pub may_vote_as : OwnView → List ℕ → Bool
 may_vote_as own member = same_name member own.party && holds_as_individual own.row
 
@@ -131,7 +131,7 @@ abbrev pub is_past : Option RegisterRow → ℕ → Bool
 is_past None place = false
 is_past (Some row) place = nat_lt row.shares place
 
--- when a vote as a member is not recorded
+-- when a vote as a member is not recorded (section 284)
 abbrev pub cast_cases : Meeting → Option Poll → OwnView → NewCast → List Case
 cast_cases meeting poll own new =
     record { refusal = NoResolution; holds = not (is_resolution (length meeting.resolutions) new.resolution) }
@@ -145,7 +145,7 @@ cast_cases meeting poll own new =
     ∷ record { refusal = NotYours; holds = is_past own.row new.to }
     ∷ []
 
--- the vote that is recorded
+-- the vote that is recorded (section 322)
 abbrev pub cast_of : OwnView → ℕ → NewCast → CastMark
 cast_of own now new = record {
   resolution = new.resolution;
@@ -158,7 +158,7 @@ cast_of own now new = record {
 abbrev pub cast_recorded : OwnView → ℕ → NewCast → Answer
 cast_recorded own now new = record { reply = reply.Recorded; change = Some (AddCast (record { meeting = new.meeting; cast = cast_of own now new })) }
 
--- a vote as a member is recorded, or refused by the public record and the party's own things alone
+-- a vote as a member is recorded, or refused by the public record and the party's own things alone (section 284)
 abbrev pub cast_answer : PublicRecord → OwnView → ℕ → NewCast → Answer
 cast_answer public own now new =
     in_record public.meeting (λ meeting. unless (cast_cases meeting (poll_on public.polls new.resolution) own new) (cast_recorded own now new))

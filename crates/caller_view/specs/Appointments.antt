@@ -33,7 +33,7 @@ appoint_cases meeting own new =
     ∷ record { refusal = TooMany; holds = nat_le 256 (length own.given) }
     ∷ []
 
--- the appointment that is recorded, with the party's next number
+-- the appointment that is recorded, with the party's next number (section 324)
 abbrev pub appointment_of : OwnView → ℕ → NewAppointment → Appointment
 appointment_of own now new = record {
   member = own.party;
@@ -57,13 +57,13 @@ abbrev pub is_ended : Option Given → Bool
 is_ended None = false
 is_ended (Some given) = is_some given.ended
 
--- when an ending is not recorded: the party gave no appointment of that number, or ended it already
+-- when an ending is not recorded: the party gave no appointment of that number, or ended it already (section 330)
 abbrev pub end_cases : OwnView → NewEnding → List Case
 end_cases own new =
     record { refusal = NoSuchNumber; holds = is_none (given_numbered own.given new.number) }
     ∷ record { refusal = AlreadyEnded; holds = is_ended (given_numbered own.given new.number) }
     ∷ []
 
--- the ending that is recorded
+-- the ending that is recorded (section 330)
 abbrev pub ending_of : OwnView → ℕ → NewEnding → Ending
 ending_of own now new = record { member = own.party; number = new.number; moment = now }

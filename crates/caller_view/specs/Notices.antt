@@ -12,11 +12,11 @@ use Rattle.poll_rules.specs.Cutoffs.{cutoffs_of, meeting_cutoffs, is_late_poll}
 use Rattle.poll_rules.specs.Majority.{is_carried}
 use Rattle.caller_view.specs.Polls.{poll_on}
 
--- whether a count carries a resolution of a kind
+-- whether a count carries a resolution of a kind (sections 282 and 283)
 abbrev pub carries : ResKind → Tally → Bool
 carries kind tally = is_carried kind tally.votes_for tally.votes_against
 
--- a poll, with its lateness and its cutoff by the closed days as they stand, and its result once it is declared
+-- a poll, with its lateness and its cutoff by the closed days as they stand, and its result once it is declared (section 327)
 abbrev pub noticed_poll : Meeting → List ℕ → ℕ → ResKind → Poll → NoticedPoll
 noticed_poll meeting closed now kind poll = record {
   poll = poll;
@@ -39,7 +39,7 @@ abbrev pub numbered : {X Y : Type 0} → (ℕ → X → Y) → ℕ → List X �
 numbered f n [] = []
 numbered f n (x ∷ xs) = f n x ∷ numbered f (suc n) xs
 
--- the notice of a meeting, and what is public of it since
+-- the notice of a meeting, and what is public of it since (section 307)
 abbrev pub notice_of : Meeting → List Poll → List ℕ → ℕ → Notice
 notice_of meeting polls closed now = record {
   meeting = meeting.id;

@@ -3,7 +3,7 @@ use Rattle.std.specs.Prelude.{ℕ, Bool, false, ◌==◌, nat_lt, List, find, co
 use Rattle.desk_words.specs.declared.records.Poll.{Poll}
 use Rattle.desk_words.specs.declared.records.CastMark.{CastMark}
 
--- the poll on a resolution, if one is ordered
+-- the poll on a resolution, if one is ordered (section 321)
 abbrev pub poll_on : List Poll → ℕ → Option Poll
 poll_on polls resolution = find (λ (p : Poll). p.resolution == resolution) polls
 

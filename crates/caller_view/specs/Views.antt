@@ -46,7 +46,7 @@ public_of office id = record {
   polls = polls_in (meeting_at office id);
 }
 
--- a member's row in a register
+-- a member's row in a register (section 113)
 abbrev pub row_of : List RegisterRow → List ℕ → Option RegisterRow
 row_of rows party = find (λ row. same_name row.member party) rows
 
@@ -61,7 +61,7 @@ abbrev pub shares_in : Option RegisterRow → ℕ
 shares_in None = 0
 shares_in (Some row) = shares_if row.kind row.shares
 
--- an authority's corporation, with its shares in the register
+-- an authority's corporation, with its shares in the register (section 323)
 abbrev pub authorised_by : List RegisterRow → Authority → Authorised
 authorised_by rows a = record { corporation = a.corporation; shares = shares_in (row_of rows a.corporation) }
 
@@ -69,11 +69,11 @@ authorised_by rows a = record { corporation = a.corporation; shares = shares_in 
 abbrev pub is_ending : List ℕ → ℕ → Ending → Bool
 is_ending member number e = same_name e.member member && e.number == number
 
--- the moment of the ending of a member's appointment
+-- the moment of the ending of a member's appointment (section 330)
 abbrev pub ended_at : List Ending → List ℕ → ℕ → Option ℕ
 ended_at endings member number = option_map (λ (e : Ending). e.moment) (find (is_ending member number) (reverse endings))
 
--- an appointment, with its ending
+-- an appointment, with its ending (section 330)
 abbrev pub given_in : List Ending → Appointment → Given
 given_in endings a = record { appointment = a; ended = ended_at endings a.member a.number }
 
@@ -91,15 +91,15 @@ nothing_of party = record {
   casts = [];
 }
 
--- the places that an appointment governs, by the meeting's register, appointments and endings
+-- the places that an appointment governs, by the meeting's register, appointments and endings (section 324)
 abbrev pub governed_by : MeetingLists → Cutoffs → Appointment → List Places
 governed_by m cutoffs a = governed_of cutoffs m.register m.appointments m.endings a.member a.number
 
--- what an appointment governs for a late poll
+-- what an appointment governs for a late poll (section 327)
 abbrev pub poll_governed : MeetingLists → List ℕ → Appointment → Poll → PollGoverned
 poll_governed m closed a poll = record { resolution = poll.resolution; governs = governed_by m (late_cutoffs poll closed) a }
 
--- an appointment, with what it governs for the meeting and for each late poll, by the closed days as they stand
+-- an appointment, with what it governs for the meeting and for each late poll, by the closed days as they stand (section 324)
 abbrev pub received_in : MeetingLists → List ℕ → ℕ → Appointment → Received
 received_in m closed now a = record {
   appointment = a;

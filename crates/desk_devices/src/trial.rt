@@ -126,6 +126,7 @@ pub struct ShortReads<S> {
 }
 
 impl<S> ShortReads<S> {
+    /// A source that gives at most `most` bytes a read, which are one at least.
     pub fn new(inner: S, most: usize) -> ShortReads<S>
         requires { 0 < most }
         ensures inner { result.inner ≡ inner }

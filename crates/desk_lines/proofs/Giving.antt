@@ -4,7 +4,7 @@ use Rattle.std.proofs.lemmas.List.{take-append-le}
 use Rattle.std.proofs.lemmas.Bool.Decides.{nat_tests}
 use Rattle.std.specs.Io.KnownBytes.{Keeps}
 use Rattle.desk_lines.specs.Lines.{feed_place, first_line, after_line, without_return}
-use Rattle.desk_lines.specs.Reading.{unread, Gives, LosesFront, TakesLine, longest_line}
+use Rattle.desk_lines.specs.Reading.{unread, Gives, TakesLine, longest_line}
 use Rattle.desk_lines.specs.declared.outcome.NextLine.{NextLine}
 use Rattle.desk_lines.specs.declared.outcome.NextLine.TheVariants.{Whole, TooLong, End}
 use Rattle.desk_lines.specs.Front.{GivesFirst, StaysInLine, LosesLine}
@@ -75,16 +75,16 @@ gives-skipped (Some bytes) mid line (Some rest) (Some left) same none full lost 
       ),
     )
 
-pub loses-none : (a b : Option (List ℕ)) → Keeps a b → LosesFront a b
-loses-none None b p = ([], tt)
-loses-none (Some x) None p = absurd p
-loses-none (Some x) (Some y) p = ([], sym p)
+pub stays-none : (a b : Option (List ℕ)) → Keeps a b → StaysInLine a b
+stays-none None b p = tt
+stays-none (Some x) None p = absurd p
+stays-none (Some x) (Some y) p = ([], sym p, ap after_line p)
 
-pub loses-front : (a b c : Option (List ℕ)) → Keeps a b → StaysInLine b c → LosesFront a c
-loses-front None b c p q = ([], tt)
-loses-front (Some x) None c p q = absurd p
-loses-front (Some x) (Some y) None p q = absurd q
-loses-front (Some x) (Some y) (Some z) p q = (q.0, sym p ∙ q.1)
+pub stays-front : (a b c : Option (List ℕ)) → Keeps a b → StaysInLine b c → StaysInLine a c
+stays-front None b c p q = tt
+stays-front (Some x) None c p q = absurd p
+stays-front (Some x) (Some y) None p q = absurd q
+stays-front (Some x) (Some y) (Some z) p q = (q.0, sym p ∙ q.1, q.2 ∙ ap after_line p)
 
 pub Keeps-same : (a : Option (List ℕ)) → Keeps a a
 Keeps-same None = tt

@@ -1,6 +1,6 @@
 -- What the line reader holds, and what one call of it does.
 use Rattle.std.specs.Prelude.{◌≡◌, ℕ, ◌+◌, ◌^◌, ◌<◌, ◌≤◌, List, [], Option, None, Some, length, ⊤}
-use Rattle.std.specs.Io.KnownBytes.{prepend_known, Consumes, IsAtEnd}
+use Rattle.std.specs.Io.KnownBytes.{prepend_known, IsAtEnd}
 use Rattle.desk_devices.specs.Counts.{one_more}
 use Rattle.desk_lines.specs.declared.outcome.NextLine.{NextLine}
 use Rattle.desk_lines.specs.declared.outcome.NextLine.TheVariants.{Whole, TooLong, End}
@@ -32,10 +32,6 @@ abbrev pub Gives : NextLine → Option (List ℕ) → Option (List ℕ) → List
 Gives Whole old new line = (length line ≤ longest_line) × TakesLine old new (λ first. line ≡ first)
 Gives TooLong old new line = (line ≡ []) × TakesLine old new (λ first. longest_line < length first)
 Gives End old new line = (line ≡ []) × IsAtEnd old × IsAtEnd new
-
--- the known bytes lost some bytes at their front
-abbrev pub LosesFront : Option (List ℕ) → Option (List ℕ) → Type 0
-LosesFront old new = (lost : List ℕ) × Consumes old new lost
 
 -- why a call failed: the source failed once in it, or more bytes came than an input has
 abbrev pub HasCause : ReadFault → ℕ → ℕ → ℕ → Type 0

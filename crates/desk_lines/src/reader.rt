@@ -1,9 +1,9 @@
 //! The reader of lines.
-ghost use Rattle.std.specs.Prelude.{◌≡◌, ◌≢◌, ℕ, ◌+◌, ◌<◌, ◌≤◌, [], length, drop, take, Err, IfSome, IfOk, IfErr, IsOk, OnOk, OnErr, MatchOption, IsTrue, ◌↔◌};
+ghost use Rattle.std.specs.Prelude.{◌≡◌, ◌≢◌, ℕ, ◌+◌, ◌<◌, ◌≤◌, [], length, drop, take, Ok, Err, IfSome, IfOk, IfErr, IsOk, OnOk, OnErr, MatchOption, IsTrue, ◌↔◌};
 ghost use Rattle.std.specs.Io.KnownBytes.{Consumes, Keeps, IsAtEnd};
 ghost use Rattle.desk_devices.specs.Counts.{one_more};
 ghost use Rattle.desk_lines.specs.Lines.{feed_place, HasFeed};
-ghost use Rattle.desk_lines.specs.Reading.{Gives, HasCause, LosesFront, MovesOn, SameWhole, unread, longest_line, longest_input};
+ghost use Rattle.desk_lines.specs.Reading.{Gives, HasCause, MovesOn, SameWhole, unread, longest_line, longest_input};
 
 use crate::outcome::{NextLine, ReadFault};
 use crate::scan;
@@ -82,8 +82,8 @@ impl LineReader {
     ///
     /// A line that is too long is passed over. An input that is too long is a fault once no
     /// whole line is left of its first 16,777,217 bytes. Where the end of a line was read ahead,
-    /// the source is not touched. After an error some bytes of the line may be lost; a later call
-    /// goes on with those that are left.
+    /// the source is not touched. After an error some bytes of that line may be lost, and none behind
+    /// it; a later call goes on with those that are left.
     pub fn next_line<S: Source>(&mut self, source: &mut S) -> Result<NextLine, ReadFault>
         ensures given { IfOk result (λ next. Gives next
             (unread self.old.pending (S.remaining source.old))
@@ -93,7 +93,7 @@ impl LineReader {
         // Why it fails, and what is left then: no end of a line is pending.
         ensures fault { IfErr result
             (λ e. HasCause e (S.failures source.old) (S.failures source.new) self.new.taken) }
-        ensures lost { OnErr result (LosesFront
+        ensures lost { OnErr result (StaysInLine
             (unread self.old.pending (S.remaining source.old))
             (unread self.new.pending (S.remaining source.new))) }
         ensures err { OnErr result (feed_place self.new.pending ≡ length self.new.pending) }
@@ -108,6 +108,7 @@ impl LineReader {
             self.new.taken (S.remaining source.new) }
 
         ensures bound { self.new.taken ≤ longest_input + 1 }
+        ensures end { result ≡ Ok NextLine.End → self.new.taken ≤ longest_input }
 
         // Each line comes nearer to the end: more bytes than before were read and are not pending.
         ensures moves { IfOk result (λ next. next ≢ NextLine.End → MovesOn self.old self.new) }
@@ -143,6 +144,7 @@ impl LineReader {
         ensures reads { ReadsOn self.old self.new (S.remaining source.old) (S.remaining source.new)
             (S.passed source.old) (S.passed source.new) }
         ensures end { IfOk result (λ n. n ≡ 0 → IsAtEnd (S.remaining source.new)) }
+        ensures few { OnOk result (self.old.taken ≤ longest_input) }
         ensures none { IfOk result (λ n. n ≡ 0 → self.new.pending ≡ self.old.pending) }
         ensures count { IfOk result (λ n. self.new.taken ≡ self.old.taken + n) }
         ensures more { IfOk result (λ n. length self.new.pending ≡ length self.old.pending + n) }
@@ -181,6 +183,7 @@ impl LineReader {
         ensures fault { IfErr result
             (λ e. HasCause e (S.failures source.old) (S.failures source.new) self.new.taken) }
         ensures bound { self.new.taken ≤ longest_input + 1 }
+        ensures end { result ≡ Ok Front.Ended → self.new.taken ≤ longest_input }
         ensures err { OnErr result (feed_place self.new.pending ≡ length self.new.pending) }
     {
         while !self.is_full() {
@@ -293,7 +296,7 @@ impl LineReader {
         ensures given { IfOk result (λ next. Gives next
             (unread self.old.pending (S.remaining source.old))
             (unread self.new.pending (S.remaining source.new)) self.new.line) }
-        ensures lost { OnErr result (LosesFront
+        ensures lost { OnErr result (StaysInLine
             (unread self.old.pending (S.remaining source.old))
             (unread self.new.pending (S.remaining source.new))) }
         ensures counted { self.new.taken + S.passed source.old ≡ self.old.taken + S.passed source.new }
@@ -303,6 +306,7 @@ impl LineReader {
         ensures fault { IfErr result
             (λ e. HasCause e (S.failures source.old) (S.failures source.new) self.new.taken) }
         ensures bound { self.new.taken ≤ longest_input + 1 }
+        ensures end { result ≡ Ok NextLine.End → self.new.taken ≤ longest_input }
         ensures moves { IfOk result (λ next. next ≢ NextLine.End → MovesOn self.old self.new) }
         ensures err { OnErr result (feed_place self.new.pending ≡ length self.new.pending) }
     {

@@ -1,13 +1,14 @@
 -- What one turn of a replay answers.
-use Rattle.std.proofs.Common.{◌≡◌, ℕ, ◌<◌, ◌==◌, Bool, true, false, cond, List, [], length, refl, ap, subst, sym, ◌∙◌, arith}
+use Rattle.std.proofs.Common.{◌≡◌, ℕ, ◌<◌, ◌==◌, Bool, true, false, cond, List, [], ◌∷◌, length, length-append, refl, ap, subst, sym, ◌∙◌, arith}
 use Rattle.std.specs.Prelude.{Option, Some, None, Result, Ok, Err, IfOk, nat_lt, codes}
 use Rattle.std.specs.declared.alloc.AllocError.{AllocError}
 use Rattle.std.specs.declared.alloc.Global.{Global}
 use Rattle.std.specs.declared.vec.Vec.{Vec}
 use Rattle.std.proofs.lemmas.Bool.Decides.{nat_tests}
+use Rattle.std.specs.Io.KnownBytes.{IsAtEnd}
 use Rattle.desk_devices.specs.Written.{AppendsPrefix}
 use Rattle.desk_lines.specs.Lines.{first_line}
-use Rattle.desk_lines.specs.Reading.{Gives, longest_line}
+use Rattle.desk_lines.specs.Reading.{Gives, longest_line, unread}
 use Rattle.desk_lines.specs.declared.outcome.NextLine.TheVariants.{Whole, TooLong}
 use Rattle.desk_terms.specs.declared.refusal.Refusal.TheVariants.{TooLarge}
 use Rattle.desk_words.specs.declared.office.OfficeLists.{OfficeLists}
@@ -71,3 +72,14 @@ stops-whole (Some bytes) (Some rest) line office text old new given some is part
 
 pub positive : (n : ℕ) → (n == 0) ≡ false → 0 < n
 positive n h = grind (arith, nat_tests)
+
+-- ---- the end of the input
+
+none-left : (xs : List ℕ) → length xs ≡ 0 → xs ≡ []
+none-left [] e = refl
+none-left (x ∷ xs) e = absurd (omega (arith, e))
+
+-- where nothing is unread, the source has nothing left
+pub at_end-rest : (pending : List ℕ) (left : Option (List ℕ)) → IsAtEnd (unread pending left) → IsAtEnd left
+at_end-rest pending None e = tt
+at_end-rest pending (Some xs) e = none-left xs (omega (arith, ap length e, length-append pending xs))

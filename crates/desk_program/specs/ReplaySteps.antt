@@ -37,7 +37,8 @@ Stops Read unread office old new = Keeps old new
 Stops Write None office old new = ⊤
 Stops Write (Some bytes) office old new = AnswersInPart bytes office old new
 
--- why a replay ended early: the reader or the writer failed in the call, or more bytes came than an input has
+-- why a replay ended early: the reader failed once in the call, or more bytes came than an input has, or the writer failed once; nothing else failed
 abbrev pub HasEndedFor : ReplayFault → ℕ → ℕ → ℕ → ℕ → ℕ → Type 0
-HasEndedFor Read failures failures' passed written written' = (failures' ≡ one_more failures) ⊎ (longest_input < passed)
-HasEndedFor Write failures failures' passed written written' = written' ≡ one_more written
+HasEndedFor Read failures failures' passed written written' =
+    ((failures' ≡ one_more failures) ⊎ ((failures' ≡ failures) × (longest_input < passed))) × (written' ≡ written)
+HasEndedFor Write failures failures' passed written written' = (written' ≡ one_more written) × (failures' ≡ failures)

@@ -1,5 +1,7 @@
 //! The words of the program, and how it ends.
-ghost use Rattle.std.specs.Prelude.{◌≡◌, ◌-◌, map, string_bytes, Some, None, OnOk, OnErr, IfErr, IfSome, Result};
+ghost use Rattle.std.specs.Prelude.{◌≡◌, ◌≤◌, ◌+◌, ◌-◌, map, string_bytes, Some, None, OnOk, OnErr, IfErr, IfSome, Result};
+ghost use Rattle.std.specs.Io.KnownBytes.{IsAtEnd};
+ghost use Rattle.desk_lines.specs.Reading.{longest_input};
 ghost use Rattle.desk_program.specs.Commands.{ended_by, ended_view, no_memory, plan_of, wrong_words};
 ghost use Rattle.desk_program.specs.ReplaySteps.{HasEndedFor};
 ghost use Rattle.desk_program.specs.Transcript.{IsReplayed, IsPartlyReplayed};
@@ -88,8 +90,12 @@ pub fn run<R: Source, W: Sink>(
         → (outcome : Result (Unit {0}) Fault) × (ended_view result ≡ ended_by outcome)
         × OnOk outcome (IfSome (R.remaining reader.old) (λ input. IsReplayed input (W.contents writer.old) (W.contents writer.new)))
         × OnErr outcome (IfSome (R.remaining reader.old) (λ input. IsPartlyReplayed input (W.contents writer.old) (W.contents writer.new)))
+        × OnOk outcome ((R.failures reader.new ≡ R.failures reader.old) × (W.failures writer.new ≡ W.failures writer.old))
         × IfErr outcome (λ fault. HasEndedFor fault (R.failures reader.old) (R.failures reader.new)
-        (R.passed reader.new - R.passed reader.old) (W.failures writer.old) (W.failures writer.new)) }
+        (R.passed reader.new - R.passed reader.old) (W.failures writer.old) (W.failures writer.new))
+        × OnOk outcome (IsAtEnd (R.remaining reader.new))
+        × OnOk outcome (R.passed reader.new - R.passed reader.old ≤ longest_input)
+        × (R.passed reader.new - R.passed reader.old ≤ longest_input + 1) }
 {
     match read_words(words) {
         Some(Plan::Replay) => ended_by(replay(alloc, reader, writer)),

@@ -1,6 +1,6 @@
 //! A replay: a script of requests, answered line by line on a book in memory.
 ghost use Rattle.std.specs.Prelude.{◌≡◌, ◌≤◌, ◌<◌, ◌+◌, ◌-◌, true, false, Ok, length, IfOk, IfErr, OnOk, OnErr, IfSome, Result};
-ghost use Rattle.std.specs.Io.KnownBytes.{Appends};
+ghost use Rattle.std.specs.Io.KnownBytes.{Appends, IsAtEnd};
 ghost use Rattle.desk_devices.specs.Written.{AppendsPrefix};
 ghost use Rattle.desk_devices.specs.Counts.{one_more};
 ghost use Rattle.desk_lines.specs.Reading.{longest_input, longest_line, unread};
@@ -126,6 +126,7 @@ fn turn<R: Source, W: Sink>(
     ensures moves { result ≡ Ok true
         → lines.old.taken + length lines.new.pending < lines.new.taken + length lines.old.pending }
     ensures bound { lines.new.taken ≤ longest_input + 1 }
+    ensures end { result ≡ Ok false → IsAtEnd (R.remaining reader.new) × (lines.new.taken ≤ longest_input) }
 {
     let text = match lines.next_line(reader)? {
         NextLine::End => return Ok(false),
@@ -148,9 +149,10 @@ fn turn<R: Source, W: Sink>(
 ///
 /// A line is a moment, a caller, a meeting, a verb and a body, parted at its first four spaces. One
 /// whose reading, step or text was refused memory is answered by the failure's text and changes
-/// nothing. The fault is `Read` only where the reader failed in this call, or gave more than
-/// 16,777,216 bytes, and `Write` only where the writer failed; a part of the answers from their
-/// front is written then.
+/// nothing. Where all goes well the reader is at its end, and gave at most 16,777,216 bytes; it is never
+/// asked for more than one byte above that. The fault is `Read` only where the reader failed in this
+/// call, or gave more bytes than that, and `Write` only where the writer failed; a part of the answers
+/// from their front is written then.
 pub fn replay<R: Source, W: Sink>(
     alloc: Global,
     reader: &mut R,
@@ -164,6 +166,9 @@ pub fn replay<R: Source, W: Sink>(
         × (W.failures writer.new ≡ W.failures writer.old)) }
     ensures cause { IfErr result (λ fault. HasEndedFor fault (R.failures reader.old) (R.failures reader.new)
         (R.passed reader.new - R.passed reader.old) (W.failures writer.old) (W.failures writer.new)) }
+    ensures end { OnOk result (IsAtEnd (R.remaining reader.new)) }
+    ensures whole { OnOk result (R.passed reader.new - R.passed reader.old ≤ longest_input) }
+    ensures bound { R.passed reader.new - R.passed reader.old ≤ longest_input + 1 }
 {
     let mut book = Book::new(alloc);
     let mut lines = LineReader::new();

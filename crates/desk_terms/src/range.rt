@@ -4,7 +4,7 @@ ghost use Rattle.desk_terms.specs.Places.{holds, is_range, range_of};
 
 use std::marker::Model;
 
-/// The highest place, which is also the most shares that a register may have.
+/// The highest place.
 const MOST_PLACES: u64 = 1_000_000_000_000;
 
 /// Places of a member's shares, from the first to the last: `1 <= from <= to <= 10^12`. A range

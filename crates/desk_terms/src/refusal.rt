@@ -13,7 +13,7 @@ pub enum Refusal {
     Method = 3,
     /// A limit on head, header, body or line is passed.
     TooLarge = 4,
-    /// The head or the body is not read.
+    /// The head, the body or the line is not read.
     Unreadable = 5,
     /// A party sends an office request.
     OfficeOnly = 6,
@@ -47,7 +47,8 @@ pub enum Refusal {
     Opened = 20,
     /// The meeting is not opened.
     NotOpened = 21,
-    /// The moment of the call is too early.
+    /// A register before the record moment, an opening before the appointed time, a taking before the
+    /// call, or a start before the taking.
     Early = 22,
     /// No quorum is present (section 318).
     NoQuorum = 23,

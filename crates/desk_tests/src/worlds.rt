@@ -7,7 +7,7 @@ use std::alloc::Global;
 use std::test::Fail;
 
 /// The text of the reply of a book to a line.
-fn answered(alloc: Global, book: &mut Book, line: &str) -> Result<Vec<u8>, Fail> {
+pub(crate) fn answered(alloc: Global, book: &mut Book, line: &str) -> Result<Vec<u8>, Fail> {
     let call = call_of(alloc, line.as_bytes())?;
     let reply = book.step(call)?;
     Ok(reply_text(alloc, &reply)?)
@@ -77,7 +77,7 @@ fn all_answered(alloc: Global, book: &mut Book, lines: &[&str]) -> Result<Vec<u8
 }
 
 /// A book in which the poll is open, and Bo has voted so.
-fn voted(alloc: Global, votes: &[&str]) -> Result<Book, Fail> {
+pub(crate) fn voted(alloc: Global, votes: &[&str]) -> Result<Book, Fail> {
     let mut book = Book::new(alloc);
     let _opened = all_answered(alloc, &mut book, &OPEN_POLL)?;
     for vote in votes {

@@ -50,6 +50,6 @@ day_count days = distinct_count nat_eq days
 abbrev pub day_before : ℕ → ℕ → Bool
 day_before = key_before (λ (day : ℕ). day) nat_cmp
 
--- at most 2,000 days in order, each once
+-- at most 2,000 days in order, each once (section 1173)
 abbrev pub is_day_list : List ℕ → Bool
 is_day_list days = nat_le (length days) 2000 && ascends_by day_before days

@@ -43,7 +43,7 @@ are_numbered_after earlier [] = true
 are_numbered_after earlier (a ∷ rest) =
     a.number == suc (count_by (λ (b : Appointment). same_name b.member a.member) earlier) && are_numbered_after (earlier ++ a ∷ []) rest
 
--- at most 256 of a member, with one instruction for each resolution
+-- at most 256 of a member, with one instruction for each resolution (sections 324 and 324A)
 abbrev pub is_appointment : ℕ → Appointment → Bool
 is_appointment resolutions a = nat_le a.number 256 && length a.instructions == resolutions
 
@@ -51,7 +51,7 @@ is_appointment resolutions a = nat_le a.number 256 && length a.instructions == r
 abbrev pub are_appointments : ℕ → List Appointment → Bool
 are_appointments resolutions given = are_numbered_after [] given && list_all (is_appointment resolutions) given
 
--- the ending names the appointment
+-- the ending names the appointment (section 330)
 abbrev pub is_ending_of : Ending → Appointment → Bool
 is_ending_of e a = same_name a.member e.member && a.number == e.number
 
@@ -59,15 +59,15 @@ is_ending_of e a = same_name a.member e.member && a.number == e.number
 abbrev pub same_ending : Ending → Ending → Bool
 same_ending d e = same_name d.member e.member && d.number == e.number
 
--- each names an appointment of its member, and none is named twice
+-- each names an appointment of its member, and none is named twice (section 330)
 abbrev pub are_endings : List Appointment → List Ending → Bool
 are_endings given ended = list_all (λ e. list_any (is_ending_of e) given) ended && differ_by same_ending ended
 
--- both authorise one person to act for one corporation
+-- both authorise one person to act for one corporation (section 323)
 abbrev pub same_authority : Authority → Authority → Bool
 same_authority a b = same_name a.corporation b.corporation && same_name a.person b.person
 
--- at most 64 of a party, none of them twice
+-- at most 64 of a party, none of them twice (section 323)
 abbrev pub are_authorities : List Authority → Bool
 are_authorities given =
     list_all (λ (a : Authority). nat_le (count_by (λ (b : Authority). same_name b.corporation a.corporation) given) 64) given
@@ -77,15 +77,15 @@ are_authorities given =
 abbrev pub same_presence : PresenceMark → PresenceMark → Bool
 same_presence a b = same_name a.party b.party
 
--- both are one party's demands on one resolution
+-- both are one party's demands on one resolution (sections 321 and 329)
 abbrev pub same_demand : DemandMark → DemandMark → Bool
 same_demand a b = a.resolution == b.resolution && same_name a.party b.party
 
--- demands of resolutions of the meeting, none of them twice
+-- demands of resolutions of the meeting, none of them twice (sections 321 and 329)
 abbrev pub are_demands : ℕ → List DemandMark → Bool
 are_demands resolutions demands = list_all (λ (d : DemandMark). is_resolution resolutions d.resolution) demands && differ_by same_demand demands
 
--- the votes are those of some shares, and the shares are at most 10^12
+-- the votes are those of some shares, and the shares are at most 10^12 (section 284)
 abbrev pub is_tally : Tally → Bool
 is_tally t = nat_le (t.votes_for + t.votes_against + t.withheld) t.eligible && nat_le t.eligible 1000000000000
 
@@ -94,7 +94,7 @@ abbrev pub is_declared_right : Option Tally → Bool
 is_declared_right None = true
 is_declared_right (Some t) = is_tally t
 
--- on a resolution of the meeting; closed only if started, declared only if closed
+-- on a resolution of the meeting; closed only if started, declared only if closed (section 321)
 abbrev pub is_poll : ℕ → Poll → Bool
 is_poll resolutions p =
     is_resolution resolutions p.resolution && implies (is_some p.closed) (is_some p.started)
@@ -104,7 +104,7 @@ is_poll resolutions p =
 abbrev pub poll_before : Poll → Poll → Bool
 poll_before a b = nat_lt a.resolution b.resolution
 
--- polls of an opened meeting, at most one on a resolution, in the order of resolutions
+-- polls of an opened meeting, at most one on a resolution, in the order of resolutions (section 321)
 abbrev pub are_polls : Bool → ℕ → List Poll → Bool
 are_polls opened resolutions [] = true
 are_polls opened resolutions (p ∷ ps) = opened && list_all (is_poll resolutions) (p ∷ ps) && ascends_by poll_before (p ∷ ps)
@@ -117,7 +117,7 @@ is_cast_on c p = p.resolution == c.resolution && is_some p.started
 abbrev pub same_ballot : CastMark → CastMark → Bool
 same_ballot a b = a.resolution == b.resolution && same_name a.voter b.voter
 
--- casts on started polls, at most 1,024 of a voter on one of them
+-- casts on started polls, at most 1,024 of a voter on one of them (sections 284 and 322)
 abbrev pub are_casts : List Poll → List CastMark → Bool
 are_casts polls casts = list_all (λ c. list_any (is_cast_on c) polls) casts && list_all (λ c. nat_le (count_by (λ d. same_ballot d c) casts) 1024) casts
 

@@ -7,7 +7,7 @@ use Rattle.desk_lists.specs.Sorting.{sort_by}
 use Rattle.desk_words.specs.declared.records.RegisterRow.{RegisterRow}
 use Rattle.desk_words.specs.declared.register.TheConstants.{MOST_SHARES}
 
--- a holding within its limits: 1 to 10^12 shares, and at most 1,000,000 pence paid up on each
+-- a holding within its limits: 1 to 10^12 shares, and at most 1,000,000 pence paid up on each (section 113)
 abbrev pub is_holding : RegisterRow → Bool
 is_holding row = nat_le 1 row.shares && nat_le row.shares 1000000000000 && nat_le row.paid 1000000
 
@@ -32,10 +32,10 @@ keep_limits rows =
 abbrev pub are_holdings : List RegisterRow → Bool
 are_holdings rows = keep_limits rows && differ_by same_member rows
 
--- such holdings in the order of members, which a set of rows has just once
+-- such holdings in the order of members, which a set of rows has just once (section 113)
 abbrev pub is_register : List RegisterRow → Bool
 is_register rows = keep_limits rows && ascends_by member_before rows
 
--- the register of these rows, if they are such holdings
+-- the register of these rows, if they are such holdings (section 113)
 abbrev pub register_of : List RegisterRow → Option (List RegisterRow)
 register_of rows = if are_holdings rows then Some (sort_by member_before rows) else None

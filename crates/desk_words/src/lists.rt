@@ -69,6 +69,7 @@ impl Resolutions {
         ensures value { IfOk result (λ r. r ≡ self.now) }
         ensures kept { IsTrue (are_resolutions self.now) }
     {
+        // This opens the value, so that what its type keeps is known.
         let _ = &self.resolutions;
         self.clone()
     }

@@ -102,6 +102,7 @@ impl Register {
         ensures value { IfOk result (λ r. r ≡ self.now) }
         ensures kept { IsTrue (is_register self.now) }
     {
+        // This opens the value, so that what its type keeps is known.
         let _ = &self.rows;
         self.clone()
     }

@@ -205,6 +205,7 @@ fn closed_days_stand_once(rt: HostRuntime) -> Result<(), Fail> {
     let friday = read_day(b"2026-04-03").ok_or("a day")?;
     let days = DayList::new(vec![in rt.alloc(); monday, friday, monday]?)?;
     assert!(rt; days.as_slice() == [friday, monday].as_slice());
+    assert!(rt; days.copy()?.as_slice() == days.as_slice());
     let none = DayList::new(Vec::new(rt.alloc()))?;
     assert!(rt; none.as_slice().is_empty() && DayList::empty(rt.alloc()).as_slice().is_empty());
     Ok(())

@@ -7,18 +7,18 @@ use Rattle.meeting_core.specs.Office.{after_some}
 use Rattle.meeting_core.specs.Step.{named_meeting, party_answer}
 
 -- two offices agree on the public record and on a party's own things in a meeting
-pub record Agree (o p : OfficeLists) (party meeting : List ℕ) (now : ℕ) : Type 0 where
-  pub public : public_of o meeting ≡ public_of p meeting
-  pub own : own_of o party meeting now ≡ own_of p party meeting now
+pub record Agree (one other : OfficeLists) (party meeting : List ℕ) (now : ℕ) : Type 0 where
+  pub public : public_of one meeting ≡ public_of other meeting
+  pub own : own_of one party meeting now ≡ own_of other party meeting now
 
 -- two offices that agree in the meeting that a request names give the party the same reply and the same change
 abbrev pub RepliesAreTheCallersOwn : Type 0
 RepliesAreTheCallersOwn =
-    (o p : OfficeLists) (party : List ℕ) (now : ℕ) (request : Request) → Agree o p party (named_meeting request) now
-    → party_answer o party now request ≡ party_answer p party now request
+    (one other : OfficeLists) (party : List ℕ) (now : ℕ) (request : Request) → Agree one other party (named_meeting request) now
+    → party_answer one party now request ≡ party_answer other party now request
 
 -- no call of a party changes the public record of any meeting
 abbrev pub PartiesLeaveThePublicRecord : Type 0
 PartiesLeaveThePublicRecord =
-    (o : OfficeLists) (party : List ℕ) (now : ℕ) (request : Request) (meeting : List ℕ)
-    → public_of (after_some o (party_answer o party now request).change) meeting ≡ public_of o meeting
+    (office : OfficeLists) (party : List ℕ) (now : ℕ) (request : Request) (meeting : List ℕ)
+    → public_of (after_some office (party_answer office party now request).change) meeting ≡ public_of office meeting

@@ -1,5 +1,5 @@
 -- The parties that are named in a reply, and in a party's own things.
-use Rattle.std.specs.Prelude.{ℕ, List, [], ◌∷◌, ◌++◌, map, Option, Some, None, All, Contains}
+use Rattle.std.specs.Prelude.{◌≡◌, ℕ, List, [], ◌∷◌, ◌++◌, map, Option, Some, None, All, Contains}
 use Rattle.std.specs.List.{flat_map}
 use Rattle.desk_words.specs.declared.office.OfficeLists.{OfficeLists}
 use Rattle.desk_words.specs.declared.records.Appointment.{Appointment}
@@ -10,6 +10,7 @@ use Rattle.desk_words.specs.declared.records.CastMark.{CastMark}
 use Rattle.desk_words.specs.declared.records.DemandMark.{DemandMark}
 use Rattle.desk_words.specs.declared.records.RegisterRow.{RegisterRow}
 use Rattle.desk_words.specs.declared.request.Authorised.{Authorised}
+use Rattle.desk_words.specs.declared.request.Declaration.{Declaration}
 use Rattle.desk_words.specs.declared.request.Given.{Given}
 use Rattle.desk_words.specs.declared.request.GivenUse.{GivenUse}
 use Rattle.desk_words.specs.declared.request.Mine.{Mine}
@@ -82,5 +83,9 @@ in_view own =
 -- every party named in a reply to a party is that party, or stands in its own things
 abbrev pub NamesAreTheCallersOwn : Type 0
 NamesAreTheCallersOwn =
-    (o : OfficeLists) (party : List ℕ) (now : ℕ) (request : Request)
-    → All (Contains (in_view (own_of o party (named_meeting request) now))) (in_reply (party_answer o party now request).reply)
+    (office : OfficeLists) (party : List ℕ) (now : ℕ) (request : Request)
+    → All (Contains (in_view (own_of office party (named_meeting request) now))) (in_reply (party_answer office party now request).reply)
+
+-- a count names nobody: the names in a reply do not show whether it tells a count
+abbrev pub CountsNameNobody : Type 0
+CountsNameNobody = (declared : Declaration) → in_reply (reply.Declared declared) ≡ []

@@ -77,11 +77,6 @@ decided office call = answer_to office call.moment call.caller call.request
 abbrev pub stepped : OfficeLists → Call → OfficeLists
 stepped office call = after_some office (decided office call).change
 
--- the office after a list of calls
-abbrev pub office_after : OfficeLists → List Call → OfficeLists
-office_after office [] = office
-office_after office (call ∷ calls) = office_after (stepped office call) calls
-
 -- the replies to a list of calls
 abbrev pub replies_to : OfficeLists → List Call → List Reply
 replies_to office [] = []

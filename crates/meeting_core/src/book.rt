@@ -1,6 +1,6 @@
 //! The book: all that an office holds, in memory.
 ghost use Rattle.std.specs.Prelude.{◌≡◌, true, false, IfOk, OnOk, OnErr, IsTrue, IsOk};
-ghost use Rattle.caller_view.specs.Views.{public_of, own_of};
+ghost use Rattle.caller_view.specs.Views.{nothing_of, own_of, public_of};
 ghost use Rattle.caller_view.specs.Answers.{answer_of, is_for_office};
 ghost use Rattle.desk_words.specs.Office.{is_office};
 ghost use Rattle.desk_words.specs.declared.caller.Caller.TheVariants as caller;
@@ -118,6 +118,22 @@ impl Book {
         answer(self.alloc, &public, &own, now, request)
     }
 
+    /// An answer that reads nothing of the party's own.
+    fn answer_in_public(
+        &self,
+        party: Party,
+        meeting: MeetingId,
+        now: Moment,
+        request: &Request,
+    ) -> Result<Answer, AllocError>
+        ensures answer { IfOk result (λ a. a ≡ answer_of (public_of self.now meeting) (nothing_of party) now request.now) }
+        ensures limits { IfOk result (λ a. IsTrue (keeps_limits a.change)) }
+    {
+        let record = self.public_of(meeting)?;
+        let own = nothing_of(self.alloc, party);
+        answer(self.alloc, &record, &own, now, request)
+    }
+
     fn answer_to_party(
         &self,
         party: Party,
@@ -137,7 +153,7 @@ impl Book {
             | Request::Close(_)
             | Request::Declare(_)
             | Request::ClosedDays(_) => Ok(refuse(Refusal::OfficeOnly)),
-            Request::Notice(meeting) => self.answer_in(party, *meeting, now, request),
+            Request::Notice(meeting) => self.answer_in_public(party, *meeting, now, request),
             Request::Mine(meeting) => self.answer_in(party, *meeting, now, request),
             Request::Appoint(new) => self.answer_in(party, new.meeting, now, request),
             Request::End(new) => self.answer_in(party, new.meeting, now, request),
@@ -166,6 +182,7 @@ impl Book {
         ensures kept { IfOk result (λ d. IsTrue (is_office (after_some self.now d.1))) }
         ensures sure { needs_no_memory call.now.caller call.now.request ≡ true → IsOk result }
     {
+        // This opens the value, so that what its type keeps is known.
         let _ = &self.meetings;
         let answer = self.answer_to(call)?;
         Ok((answer.reply, answer.change))

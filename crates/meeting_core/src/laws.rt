@@ -1,7 +1,7 @@
 //! Laws of the definitions by which the contracts speak.
 ghost use Rattle.meeting_core.specs.Conditions.{ConditionsStandInOrder, TheLowestRefusalIsAnswered};
 ghost use Rattle.meeting_core.specs.Laws.{PartiesLeaveThePublicRecord, RepliesAreTheCallersOwn};
-ghost use Rattle.meeting_core.specs.Names.{NamesAreTheCallersOwn};
+ghost use Rattle.meeting_core.specs.Names.{CountsNameNobody, NamesAreTheCallersOwn};
 
 /// Two offices that agree on the public record of the meeting that a request names, and on a
 /// party's own things in it, give that party the same reply and the same change; and no call of a
@@ -12,9 +12,11 @@ pub fn two_worlds()
 {}
 
 /// Every party named in a reply to a party is that party or stands in its own things. It follows
-/// from `two_worlds` and says less: a running total names nobody.
+/// from `two_worlds` and says less: a count names nobody, so that a reply which told how the votes
+/// stand would keep this law, and breaks only `two_worlds`.
 pub fn names()
-    ensures { NamesAreTheCallersOwn }
+    ensures names { NamesAreTheCallersOwn }
+    ensures counts { CountsNameNobody }
 {}
 
 /// Of the conditions under which a call is refused, the lowest number that holds is answered.

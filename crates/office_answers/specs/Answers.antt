@@ -27,7 +27,7 @@ office_answer closed meetings now (asked.Appoint new) = refused PartyOnly
 office_answer closed meetings now (asked.End new) = refused PartyOnly
 office_answer closed meetings now (asked.Cast new) = refused PartyOnly
 
--- what is asked and answered without memory: a start or a close, and what only a party may ask
+-- what is asked and answered without memory: an opening, an order, a start or a close, and what only a party may ask
 abbrev pub takes_no_memory : Request → Bool
 takes_no_memory (asked.CallMeeting new) = false
 takes_no_memory (asked.LoadRegister new) = false

@@ -19,7 +19,7 @@ use Rattle.caller_view.specs.Views.{meeting_named}
 abbrev pub day_of : ℕ → ℕ
 day_of moment = moment / 86400
 
--- when a meeting is not called; enough notice is at least so many clear days (sections 307 and 360)
+-- when a meeting is not called: one has that name, the notice is too short (sections 307 and 360), or there are 100
 abbrev pub call_cases : List MeetingLists → NewMeeting → List Case
 call_cases meetings new =
     record { refusal = Exists; holds = is_some (meeting_named meetings new.meeting) }
@@ -27,7 +27,7 @@ call_cases meetings new =
     ∷ record { refusal = TooMany; holds = nat_le 100 (length meetings) }
     ∷ []
 
--- the meeting that is called
+-- the meeting that is called (sections 302 and 307)
 abbrev pub meeting_of : NewMeeting → Meeting
 meeting_of new = record {
   id = new.meeting;
@@ -45,7 +45,7 @@ meeting_of new = record {
 abbrev pub call_answer : List MeetingLists → NewMeeting → Answer
 call_answer meetings new = unless (call_cases meetings new) (record { reply = reply.Called; change = Some (change.AddMeeting (meeting_of new)) })
 
--- when a register is not loaded
+-- when a register is not loaded (section 113)
 abbrev pub load_cases : Meeting → ℕ → NewRegister → List Case
 load_cases meeting now new =
     record { refusal = OtherRecord; holds = not (meeting.record_moment == new.record_moment) }

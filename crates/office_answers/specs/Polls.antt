@@ -36,7 +36,7 @@ open_answer now id m = unless (open_cases m.meeting now) (record { reply = reply
 abbrev pub no_resolution : Meeting → ℕ → Case
 no_resolution meeting number = record { refusal = NoResolution; holds = not (is_resolution (length meeting.resolutions) number) }
 
--- when a poll is not ordered; a demand is not reached while nobody can demand a poll
+-- when a poll is not ordered; a demand is not reached while nobody can demand a poll (section 321)
 abbrev pub order_cases : Meeting → Option Poll → ℕ → NewPoll → List Case
 order_cases meeting poll now new =
     no_resolution meeting new.resolution
@@ -46,7 +46,7 @@ order_cases meeting poll now new =
     ∷ record { refusal = DemandTooSmall; holds = not new.chair }
     ∷ []
 
--- the poll that is ordered at a moment
+-- the poll that is ordered at a moment (section 321)
 abbrev pub poll_of : ℕ → NewPoll → Poll
 poll_of now new = record {
   resolution = new.resolution;
@@ -58,7 +58,7 @@ poll_of now new = record {
   declared = None;
 }
 
--- the answer to the order of a poll in a meeting that exists
+-- the answer to the order of a poll in a meeting that exists (section 321)
 abbrev pub order_answer : ℕ → NewPoll → MeetingLists → Answer
 order_answer now new m =
     unless (order_cases m.meeting (poll_on m.polls new.resolution) now new)
@@ -103,12 +103,12 @@ declare_cases meeting poll number =
     ∷ record { refusal = Declared; holds = there_is is_declared poll }
     ∷ []
 
--- whether a resolution of the notice is carried by a count
+-- whether a resolution of the notice is carried by a count (sections 282 and 283)
 abbrev pub carries : Option Resolution → Tally → Bool
 carries None tally = false
 carries (Some resolution) tally = is_carried resolution.kind tally.votes_for tally.votes_against
 
--- the count of the votes on a resolution, and whether it is carried
+-- the count of the votes on a resolution, and whether it is carried (sections 282 to 284)
 abbrev pub declaration_of : MeetingLists → ℕ → Declaration
 declaration_of m number =
     let tally = tally_of m.register m.casts number in

@@ -15,7 +15,7 @@ use office_days::Closed;
 use std::alloc::{AllocError, Global};
 
 /// The answer to the office, from the closed days and all its meetings. The error is want of memory; what
-/// `takes_no_memory` names, a start and a close among it, needs none.
+/// `takes_no_memory` names, an opening, an order, a start and a close among it, needs none.
 pub fn office_answer(
     alloc: Global,
     closed: &Closed,

@@ -98,9 +98,10 @@ fn loaded(same: bool, new: &NewRegister) -> Result<Answer, AllocError>
     })
 }
 
-/// The answer to a register for a meeting: the first that holds of `NoMeeting`, `OtherRecord`, `Opened` and
-/// `Early`, else `Same` where the rows are those that are held, and else `Loaded`, which sets the
-/// register. The error is want of memory.
+/// The answer to a register for a meeting (section 113): the first that holds of `NoMeeting`,
+/// `OtherRecord` where it is of another moment than the meeting's record moment, `Opened`, and `Early`
+/// before that moment; else `Same` where the rows are those that are held, and else `Loaded`, which sets
+/// the register. The error is want of memory.
 pub fn load_register(
     found: Option<&MeetingLists>,
     now: Moment,

@@ -34,7 +34,8 @@ fn open_refusal(meeting: &Meeting, now: Moment) -> Option<Refusal>
 }
 
 /// The answer to the opening of a meeting: the first that holds of `NoMeeting`, `NoRegister`, `Opened`, and
-/// `Early` before the appointed time; and else `MeetingOpened`, which sets the moment.
+/// `Early` before the appointed time; and else `MeetingOpened`, which sets the moment. It takes no
+/// memory.
 pub fn open_meeting(found: Option<&MeetingLists>, now: Moment, id: MeetingId) -> Answer
     ensures answer { result ≡ in_meeting (option_copied found.entry) (open_answer now id) }
     ensures limits { IsTrue (keeps_limits result.change) }
@@ -89,7 +90,7 @@ fn order_refusal(
 /// The answer to the order of a poll (section 321): the first that holds of `NoMeeting`, `NoResolution`,
 /// `NotOpened`, `Early` where the poll were taken before now, `PollOrdered`, and `DemandTooSmall`
 /// where the chair does not order it, since no demand can be made yet; and else `Ordered`, which
-/// adds the poll.
+/// adds the poll. It takes no memory.
 pub fn order_poll(found: Option<&MeetingLists>, now: Moment, new: &NewPoll) -> Answer
     ensures answer { result ≡ in_meeting (option_copied found.entry) (order_answer now new.now) }
     ensures limits { IsTrue (keeps_limits result.change) }
@@ -145,9 +146,9 @@ fn start_refusal(meeting: &Meeting, poll: Option<Poll>, now: Moment, number: u64
     None
 }
 
-/// The answer to the start of a poll: the first that holds of `Exists` where it is started already,
-/// `NoResolution`, `Early` before it is to be taken, and `NoPoll`; and else `Started`, which sets
-/// the moment. It takes no memory.
+/// The answer to the start of a poll: the first that holds of `NoMeeting`, `Exists` where it is started
+/// already, `NoResolution`, `Early` before it is to be taken, and `NoPoll`; and else `Started`, which
+/// sets the moment. It takes no memory.
 pub fn start_poll(found: Option<&MeetingLists>, now: Moment, name: PollName) -> Answer
     ensures answer { result ≡ in_meeting (option_copied found.entry) (start_answer now name) }
     ensures limits { IsTrue (keeps_limits result.change) }
@@ -257,8 +258,9 @@ fn declaration(alloc: Global, lists: &MeetingLists, number: u64) -> Result<Decla
 }
 
 /// The answer to the declaration of a poll: the first that holds of `NoMeeting`, `NoResolution`, `NoPoll`,
-/// `NotClosed` and `Declared`; and else `Declared`, with the count of the votes and whether the
-/// resolution is carried (sections 282 to 284), which sets the count. The error is want of memory.
+/// `NotClosed`, and the refusal `Declared` where it is declared already; and else the reply `Declared`,
+/// with the count of the votes and whether the resolution is carried (sections 282 to 284), which sets
+/// the count. The error is want of memory.
 /// Its cost is that of `poll_rules::tally`.
 pub fn declare_poll(
     alloc: Global,

@@ -33,19 +33,19 @@ is_working_second closed second = is_working closed (second / 86400)
 abbrev pub working_days : List ℕ → ℕ → ℕ → ℕ
 working_days closed from to = numbers_that (is_working closed) from to
 
--- working time: the number of working seconds from a moment up to and without another
+-- working time: the number of working seconds from a moment up to and without another (section 327(3))
 abbrev pub work : List ℕ → ℕ → ℕ → ℕ
 work closed from to = numbers_that (is_working_second closed) from to
 
--- a poll is late if more than 48 hours of working time lie between its order and its taking (section 327(3))
+-- a poll is late if more than 48 hours of working time lie between its order and its taking (sections 327 and 330; counted as in 327(3))
 abbrev pub is_late : List ℕ → ℕ → ℕ → Bool
 is_late closed ordered take = nat_lt (48 * 3600) (work closed ordered take)
 
--- that many hours of working time lie between this moment and a later one
+-- that many hours of working time lie between this moment and a later one (section 327(3))
 abbrev pub leaves_hours : List ℕ → ℕ → ℕ → ℕ → Bool
 leaves_hours closed hours moment start = nat_le (3600 * hours) (work closed start moment)
 
--- the greatest moment, up to another, from which on that many hours of working time are left before the other
+-- the greatest moment, up to another, from which on that many hours of working time are left before the other (section 327(3))
 abbrev pub back : List ℕ → ℕ → ℕ → Option ℕ
 back closed hours moment = greatest_that (leaves_hours closed hours moment) moment
 

@@ -32,8 +32,8 @@ impl From<AllocError> for DaysFault {
 #[derive(Clone, Copy, Debug, PartialEq, Eq)]
 pub struct OutOfRange;
 
-/// The closed days: no working days, as Saturdays and Sundays are none, of which it may hold some
-/// (section 1173). At most 2,000, seen as the list of them, in order, each once.
+/// The days that the office has closed, at most 2,000, seen in order, each once. A closed day is no
+/// working day (section 1173); it may fall on a Saturday or a Sunday.
 #[derive(Clone, Debug, Drop)]
 pub struct Closed {
     days: DayList,

@@ -15,7 +15,7 @@ is_member Member = true
 is_member Rep = false
 is_member Proxy = false
 
--- what covers a share as its member: a block cast in that capacity that names the member and holds the place; what is cast as instructed is a proxy's
+-- what covers a share as its member: a block cast in that capacity that names the member and holds the place; what is cast as instructed is a proxy's (section 284)
 abbrev pub covers_as_member : List ℕ → ℕ → CastKind → Bool
 covers_as_member member place (cast.Block block) = is_member block.capacity && same_name block.member member && holds block.range place
 covers_as_member member place cast.AsInstructed = false
@@ -33,7 +33,7 @@ abbrev pub way_cast : CastKind → Option Way
 way_cast (cast.Block block) = Some block.way
 way_cast cast.AsInstructed = None
 
--- the way of a member's own cast on a share
+-- the way of a member's own cast on a share (sections 284 and 322)
 abbrev pub own_cast : List CastMark → ℕ → List ℕ → ℕ → Option Way
 own_cast casts resolution member place =
     option_and_then (λ (mark : CastMark). way_cast mark.what) (last_cast (covers_as_member member place) casts resolution member)

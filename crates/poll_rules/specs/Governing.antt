@@ -12,23 +12,23 @@ use Rattle.poll_rules.specs.declared.papers.Cutoffs.{Cutoffs}
 use Rattle.poll_rules.specs.Runs.{runs_that}
 use Rattle.poll_rules.specs.Shares.{shares_of}
 
--- given by the member, received in time to count, and holding the place
+-- given by the member, received in time to count, and holding the place (sections 324 and 327)
 abbrev pub is_for : Cutoffs → List ℕ → ℕ → Appointment → Bool
 is_for cutoffs member place a = same_name a.member member && nat_le a.moment cutoffs.appointments && holds a.range place
 
--- the last received of the member's appointments that count and hold the place
+-- the last received of the member's appointments that count and hold the place (section 324)
 abbrev pub last_for : Cutoffs → List Appointment → List ℕ → ℕ → Option Appointment
 last_for cutoffs given member place = find (is_for cutoffs member place) (reverse given)
 
--- the ending names the appointment, in time to count
+-- the ending names the appointment, in time to count (section 330)
 abbrev pub ends : Cutoffs → Appointment → Ending → Bool
 ends cutoffs a e = is_ending_of e a && nat_lt e.moment cutoffs.endings
 
--- the appointment, unless a counted ending names it
+-- the appointment, unless a counted ending names it (section 330)
 abbrev pub unended : Cutoffs → List Ending → Appointment → Option Appointment
 unended cutoffs ended a = if list_any (ends cutoffs a) ended then None else Some a
 
--- the appointment for a place of the member's: the last of those that count, and none where that one is ended; what it replaced is not revived (section 330)
+-- the appointment for a place of the member's: the last of those that count, and none where that one is ended; what it replaced is not revived (own, after section 330)
 abbrev pub appointment_for : Cutoffs → List Appointment → List Ending → List ℕ → ℕ → Option Appointment
 appointment_for cutoffs given ended member place = option_and_then (unended cutoffs ended) (last_for cutoffs given member place)
 
@@ -40,16 +40,16 @@ shares_by register member = option_map_or shares_of (find (λ (row : RegisterRow
 abbrev pub is_share : List RegisterRow → List ℕ → ℕ → Bool
 is_share register member place = nat_le 1 place && nat_le place (shares_by register member)
 
--- the number of the appointment that governs a share
+-- the number of the appointment that governs a share (section 324)
 abbrev pub governing_of : Cutoffs → List RegisterRow → List Appointment → List Ending → List ℕ → ℕ → Option ℕ
 governing_of cutoffs register given ended member place =
     if is_share register member place then option_map (λ (a : Appointment). a.number) (appointment_for cutoffs given ended member place) else None
 
--- the member's appointment of that number is the one for the place
+-- the member's appointment of that number is the one for the place (section 324)
 abbrev pub governs : Cutoffs → List Appointment → List Ending → List ℕ → ℕ → ℕ → Bool
 governs cutoffs given ended member number place =
     option_map_or (λ (a : Appointment). a.number == number) (appointment_for cutoffs given ended member place) false
 
--- the shares that the member's appointment of that number governs, in runs in order, with gaps between them
+-- the shares that the member's appointment of that number governs, in runs in order, with gaps between them (section 324)
 abbrev pub governed_of : Cutoffs → List RegisterRow → List Appointment → List Ending → List ℕ → ℕ → List Places
 governed_of cutoffs register given ended member number = runs_that (governs cutoffs given ended member number) (shares_by register member)

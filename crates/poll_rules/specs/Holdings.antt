@@ -42,20 +42,20 @@ is_over cutoffs place a = nat_le a.moment cutoffs.appointments && holds a.range 
 abbrev pub last_over : Cutoffs → Holding → ℕ → Option ℕ
 last_over cutoffs holding place = option_map (λ (a : Appointed). a.number) (find (is_over cutoffs place) (reverse holding.appointed))
 
--- an ending of the appointment of that number, in time to count
+-- an ending of the appointment of that number, in time to count (section 330)
 abbrev pub is_end_of : Cutoffs → ℕ → Ending → Bool
 is_end_of cutoffs number e = e.number == number && nat_lt e.moment cutoffs.endings
 
--- the appointment of that number is ended
+-- the appointment of that number is ended (section 330)
 abbrev pub is_ended_by : Cutoffs → List Ending → ℕ → Bool
 is_ended_by cutoffs ended number = list_any (is_end_of cutoffs number) ended
 
--- the last appointment over the place has that number, and no counted ending names it
+-- the last appointment over the place has that number, and no counted ending names it (sections 324 and 330)
 abbrev pub governs_in : Cutoffs → Holding → ℕ → ℕ → Bool
 governs_in cutoffs holding number place =
     option_map_or (λ last. last == number) (last_over cutoffs holding place) false && not (is_ended_by cutoffs holding.ended number)
 
--- the shares of the holding that the appointment of that number governs
+-- the shares of the holding that the appointment of that number governs (section 324)
 abbrev pub governed_in : Cutoffs → Holding → ℕ → List Places
 governed_in cutoffs holding number = runs_that (governs_in cutoffs holding number) holding.shares
 

@@ -33,7 +33,7 @@ TalliesReadTheirOwnCasts =
     (register : List RegisterRow) (casts others : List CastMark) (resolution : ℕ) → casts_on resolution casts ≡ casts_on resolution others
     → tally_of register casts resolution ≡ tally_of register others resolution
 
--- whatever is carried has more votes for it than against it
+-- whatever is carried has more votes for it than against it (sections 282 and 283)
 abbrev pub CarriedByMoreThanHalf : Type 0
 CarriedByMoreThanHalf =
     (kind : ResKind) (votes_for votes_against : ℕ) → is_carried kind votes_for votes_against ≡ true → votes_against < votes_for

@@ -29,7 +29,7 @@ votes_to vote way n = places_that (λ place. is_vote way (vote place)) n
 abbrev pub votes : (RegisterRow → ℕ → Option Way) → Way → List RegisterRow → ℕ
 votes vote way rows = sum_by (λ row. votes_to (vote row) way (shares_of row)) rows
 
--- for each way the number of shares whose vote it is, and the number of all shares
+-- for each way the number of shares whose vote it is, and the number of all shares (sections 284 and 322)
 abbrev pub tally_by : (RegisterRow → ℕ → Option Way) → List RegisterRow → Tally
 tally_by vote rows = record {
   votes_for = votes vote For rows;
@@ -38,6 +38,6 @@ tally_by vote rows = record {
   eligible = sum_by shares_of rows;
 }
 
--- the tally of a poll on a resolution, by the valid vote of each share
+-- the tally of a poll on a resolution, by the valid vote of each share (sections 284, 322 and 726)
 abbrev pub tally_of : List RegisterRow → List CastMark → ℕ → Tally
 tally_of register casts resolution = tally_by (valid_vote casts resolution) register

@@ -27,8 +27,8 @@ pub fn runs_are_parted()
     ensures { RunsAreParted }
 {}
 
-/// An ending more revives nothing: what governs a place with it governed that place without it
-/// (section 330).
+/// An ending more revives nothing: what governs a place with it governed that place without it (own,
+/// after section 330).
 pub fn endings_revive_nothing()
     ensures { EndingsReviveNothing }
 {}

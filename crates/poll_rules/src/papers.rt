@@ -1,7 +1,8 @@
 //! What a poll is counted from.
 use desk_words::{Appointment, CastMark, Ending, Moment, RegisterRow};
 
-/// One meeting's lists, without its polls. Where no register is loaded there are no rows.
+/// The lists of a meeting by which its shares are governed and its polls counted. Where no register is
+/// loaded there are no rows.
 #[derive(Clone, Copy, Debug)]
 pub struct Papers<'a> {
     /// The register of members, in the order of members (section 113).

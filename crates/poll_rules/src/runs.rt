@@ -149,11 +149,11 @@ fn ended_numbers(cutoffs: &Cutoffs, ended: &[Ending]) -> Admitted
 }
 
 /// The shares of a holding that each of its appointments governs, by the appointment's number: its
-/// runs of places in order, with a gap between each and the next, and no key where it governs none
-/// (sections 324 and 330). The numbers are from 1 to 256. The error is want of memory.
+/// runs of places in order, with a gap between each and the next (sections 324 and 330). The numbers are
+/// from 1 to 256. The error is want of memory.
 ///
-/// It goes over the pieces that the appointments part the places into, so its cost depends on how
-/// many appointments and endings there are, and not on the shares.
+/// It goes over the pieces that the appointments part the places into, and asks each which appointment
+/// is over it: its cost grows with the square of the number of appointments, and not with the shares.
 pub fn runs_by_number(
     alloc: Global,
     cutoffs: &Cutoffs,

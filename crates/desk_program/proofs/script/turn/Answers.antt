@@ -1,5 +1,5 @@
-use Rattle.std.proofs.Common.{◌≡◌, ℕ, ◌<◌, false, List, length, sym, subst, ◌∙◌}
-use Rattle.std.specs.Prelude.{Result, IfOk}
+use Rattle.std.proofs.Common.{◌≡◌, ℕ, ◌<◌, false, List, length, ap, sym, subst, ◌∙◌}
+use Rattle.std.specs.Prelude.{Result, Ok, IfOk}
 use Rattle.std.specs.declared.alloc.AllocError.{AllocError}
 use Rattle.std.specs.declared.alloc.Global.{Global}
 use Rattle.std.specs.declared.vec.Vec.{Vec}
@@ -10,7 +10,7 @@ use Rattle.desk_terms.specs.declared.refusal.Refusal.TheVariants.{TooLarge}
 use Rattle.desk_words.specs.declared.request.Reply.TheVariants.{Refused}
 use Rattle.desk_replies.specs.Replies.{reply_bytes}
 use Rattle.desk_program.specs.Transcript.{as_line, unless_refused}
-use Rattle.desk_program.proofs.TurnLemmas.{positive, stops-too_long, stops-whole}
+use Rattle.desk_program.proofs.TurnLemmas.{at_end-rest, positive, stops-too_long, stops-whole}
 use Rattle.desk_program.proofs.script.turn.Goals as goal
 use Rattle.desk_program.proofs.script.turn.Goals.{in-TooLong, in-Whole+else-is_empty}
 
@@ -36,3 +36,8 @@ returns-in_err-write_answer-clause-stops g c =
           (subst (λ (s : List ℕ). IfOk w.answer-text.result (λ v. v.items ≡ (unless_refused false office s).text)) w.line-line.ensures w.answer-text.ensures.text))
           c.in_err-write_answer.ensures.partly
     ])
+
+pub returns-in-End-clause-end : goal.returns-in-End-clause-end
+returns-in-End-clause-end g c = λ _.
+    let given = rw c.in-End.is at c.in_ok-next_line.ensures.given in
+    (at_end-rest c.next_line.new.self.pending (g.R.Source.remaining c.next_line.new.source) given.2, c.in_ok-next_line.ensures.end (ap Ok c.in-End.is))
