@@ -1,5 +1,5 @@
 -- The answer to a party.
-use Rattle.std.specs.Prelude.{ℕ, Bool, true, false, not, ◌&&◌, nat_le, nat_lt, List, [], ◌∷◌, map, length, Option, Some, None, is_none}
+use Rattle.std.specs.Prelude.{ℕ, Bool, true, false, not, ◌&&◌, nat_le, nat_lt, List, [], ◌∷◌, map, length, Option, Some, None, is_none, if◌then◌else◌}
 use Rattle.desk_words.specs.Names.{same_name}
 use Rattle.desk_words.specs.Office.{is_resolution}
 use Rattle.desk_words.specs.Places.{is_range}
@@ -12,20 +12,23 @@ use Rattle.desk_words.specs.declared.records.CastMark.{CastMark}
 use Rattle.desk_words.specs.declared.records.Meeting.{Meeting}
 use Rattle.desk_words.specs.declared.records.Poll.{Poll}
 use Rattle.desk_words.specs.declared.records.RegisterRow.{RegisterRow}
-use Rattle.desk_words.specs.declared.request.Change.TheVariants.{AddAppointment, AddEnding, AddCast}
+use Rattle.desk_words.specs.declared.request.Change.TheVariants.{AddAppointment, AddEnding, AddAuthority, AddPresence, AddDemand, AddCast}
+use Rattle.desk_words.specs.declared.request.Change.{Change}
 use Rattle.desk_words.specs.declared.request.NewAppointment.{NewAppointment}
+use Rattle.desk_words.specs.declared.request.NewAuthority.{NewAuthority}
 use Rattle.desk_words.specs.declared.request.NewCast.{NewCast}
 use Rattle.desk_words.specs.declared.request.NewEnding.{NewEnding}
+use Rattle.desk_words.specs.declared.request.PollName.{PollName}
 use Rattle.desk_words.specs.declared.request.Request.{Request}
 use Rattle.desk_words.specs.declared.request.Request.TheVariants as asked
 use Rattle.desk_words.specs.declared.request.Mine.{Mine}
 use Rattle.desk_words.specs.declared.request.Reply.{Reply}
 use Rattle.desk_words.specs.declared.request.Reply.TheVariants as reply
-use Rattle.poll_rules.specs.Cutoffs.{meeting_cutoffs}
+use Rattle.proxy_rules.specs.Cutoffs.{meeting_cutoffs}
 use Rattle.caller_view.specs.Appointments.{appoint_cases, appointment_of, end_cases, ending_of, given_use, receipt_of}
+use Rattle.caller_view.specs.Attendance.{authorise_cases, authority_of, demand_cases, demand_of, gave_authority, has_demanded, presence_of}
 use Rattle.caller_view.specs.Notices.{notice_of}
-use Rattle.caller_view.specs.Polls.{poll_on, there_is, is_waiting, is_closed, casts_on}
-use Rattle.poll_rules.specs.Shares.{is_individual}
+use Rattle.caller_view.specs.Polls.{poll_on, there_is, is_waiting, is_closed, casts_on, holds_as_individual}
 use Rattle.caller_view.specs.declared.views.PublicRecord.{PublicRecord}
 use Rattle.caller_view.specs.declared.views.OwnView.{OwnView}
 use Rattle.caller_view.specs.declared.views.Answer.{Answer}
@@ -51,6 +54,7 @@ unless cases accepted = settled (first_refusal cases) accepted
 abbrev pub is_for_office : Request → Bool
 is_for_office (asked.CallMeeting new) = true
 is_for_office (asked.LoadRegister new) = true
+is_for_office (asked.Presence new) = true
 is_for_office (asked.OpenMeeting meeting) = true
 is_for_office (asked.Order new) = true
 is_for_office (asked.Start poll) = true
@@ -61,6 +65,9 @@ is_for_office (asked.Notice meeting) = false
 is_for_office (asked.Mine meeting) = false
 is_for_office (asked.Appoint new) = false
 is_for_office (asked.End new) = false
+is_for_office (asked.Authorise new) = false
+is_for_office (asked.Attend meeting) = false
+is_for_office (asked.Demand poll) = false
 is_for_office (asked.Cast new) = false
 
 -- what a party is told of its own things, where the meeting has that cutoff
@@ -117,10 +124,26 @@ ended own now new = record {
 abbrev pub end_answer : PublicRecord → OwnView → ℕ → NewEnding → Answer
 end_answer public own now new = in_record public.meeting (λ meeting. unless (end_cases own new) (ended own now new))
 
--- the party holds shares as an individual (section 284)
-abbrev pub holds_as_individual : Option RegisterRow → Bool
-holds_as_individual None = false
-holds_as_individual (Some row) = is_individual row.kind
+-- a record that is noted: it is added unless it stands already, and nothing is said of which
+abbrev pub noted : Bool → Change → Answer
+noted stands change = record { reply = reply.Noted; change = if stands then None else Some change }
+
+-- an authority is noted, or refused by the party's own things; the register is not looked at (section 323)
+abbrev pub authorise_answer : PublicRecord → OwnView → ℕ → NewAuthority → Answer
+authorise_answer public own now new =
+    in_record public.meeting (λ meeting. unless (authorise_cases own new)
+    (noted (gave_authority own new.person) (AddAuthority (record { meeting = new.meeting; authority = authority_of own now new }))))
+
+-- a presence is noted (section 318)
+abbrev pub attend_answer : PublicRecord → OwnView → ℕ → List ℕ → Answer
+attend_answer public own now id =
+    in_record public.meeting (λ meeting. noted own.present (AddPresence (record { meeting = id; presence = presence_of own now })))
+
+-- a demand is noted, or refused by the public record and the party's own things; whether the demands are enough is not said (section 321)
+abbrev pub demand_answer : PublicRecord → OwnView → ℕ → PollName → Answer
+demand_answer public own now name =
+    in_record public.meeting (λ meeting. unless (demand_cases meeting (poll_on public.polls name.resolution) own name.resolution)
+    (noted (has_demanded own name.resolution) (AddDemand (record { meeting = name.meeting; demand = demand_of own now name.resolution }))))
 
 -- the member is the caller itself, which holds its shares as an individual (section 284)
 abbrev pub may_vote_as : OwnView → List ℕ → Bool
@@ -167,6 +190,7 @@ cast_answer public own now new =
 abbrev pub answer_of : PublicRecord → OwnView → ℕ → Request → Answer
 answer_of public own now (asked.CallMeeting new) = refused OfficeOnly
 answer_of public own now (asked.LoadRegister new) = refused OfficeOnly
+answer_of public own now (asked.Presence new) = refused OfficeOnly
 answer_of public own now (asked.OpenMeeting meeting) = refused OfficeOnly
 answer_of public own now (asked.Order new) = refused OfficeOnly
 answer_of public own now (asked.Start poll) = refused OfficeOnly
@@ -177,4 +201,7 @@ answer_of public own now (asked.Notice meeting) = notice_answer public now
 answer_of public own now (asked.Mine meeting) = mine_answer public own now meeting
 answer_of public own now (asked.Appoint new) = appoint_answer public own now new
 answer_of public own now (asked.End new) = end_answer public own now new
+answer_of public own now (asked.Authorise new) = authorise_answer public own now new
+answer_of public own now (asked.Attend meeting) = attend_answer public own now meeting
+answer_of public own now (asked.Demand poll) = demand_answer public own now poll
 answer_of public own now (asked.Cast new) = cast_answer public own now new

@@ -8,7 +8,7 @@ use Rattle.desk_words.specs.declared.records.Tally.{Tally}
 use Rattle.desk_words.specs.declared.request.Notice.{Notice}
 use Rattle.desk_words.specs.declared.request.NoticedPoll.{NoticedPoll}
 use Rattle.desk_words.specs.declared.request.NoticedResolution.{NoticedResolution}
-use Rattle.poll_rules.specs.Cutoffs.{cutoffs_of, meeting_cutoffs, is_late_poll}
+use Rattle.proxy_rules.specs.Cutoffs.{cutoffs_of, meeting_cutoffs, is_late_poll}
 use Rattle.poll_rules.specs.Majority.{is_carried}
 use Rattle.caller_view.specs.Polls.{poll_on}
 

@@ -2,6 +2,8 @@
 use Rattle.std.specs.Prelude.{ℕ, Bool, false, ◌==◌, nat_lt, List, find, count_by, Option, Some, None, is_some, is_none}
 use Rattle.desk_words.specs.declared.records.Poll.{Poll}
 use Rattle.desk_words.specs.declared.records.CastMark.{CastMark}
+use Rattle.desk_words.specs.declared.records.RegisterRow.{RegisterRow}
+use Rattle.proxy_rules.specs.Shares.{is_individual}
 
 -- the poll on a resolution, if one is ordered (section 321)
 abbrev pub poll_on : List Poll → ℕ → Option Poll
@@ -39,3 +41,8 @@ is_taken_after now p = nat_lt now p.take
 -- how many of these votes are on a resolution
 abbrev pub casts_on : List CastMark → ℕ → ℕ
 casts_on casts resolution = count_by (λ (c : CastMark). c.resolution == resolution) casts
+
+-- the party holds shares as an individual
+abbrev pub holds_as_individual : Option RegisterRow → Bool
+holds_as_individual None = false
+holds_as_individual (Some row) = is_individual row.kind

@@ -19,9 +19,9 @@ use Rattle.desk_words.specs.declared.request.Received.{Received}
 use Rattle.desk_words.specs.declared.request.Authorised.{Authorised}
 use Rattle.desk_terms.specs.declared.kinds.HolderKind.{HolderKind}
 use Rattle.desk_terms.specs.declared.kinds.HolderKind.TheVariants.{Individual, Corporation, Treasury}
-use Rattle.poll_rules.specs.Cutoffs.{is_late_poll, late_cutoffs, meeting_cutoffs}
-use Rattle.poll_rules.specs.Governing.{governed_of}
-use Rattle.poll_rules.specs.declared.papers.Cutoffs.{Cutoffs}
+use Rattle.proxy_rules.specs.Cutoffs.{is_late_poll, late_cutoffs, meeting_cutoffs}
+use Rattle.proxy_rules.specs.Governing.{governed_of}
+use Rattle.proxy_rules.specs.declared.papers.Cutoffs.{Cutoffs}
 use Rattle.caller_view.specs.declared.views.PublicRecord.{PublicRecord}
 use Rattle.caller_view.specs.declared.views.OwnView.{OwnView}
 

@@ -4,6 +4,7 @@ ghost use Rattle.caller_view.specs.Answers.{answer_of, refused, mine_of, mine_an
 ghost use Rattle.caller_view.specs.Appointments.{given_use};
 
 use crate::appointments::{appoint, end, use_by};
+use crate::attendance::{attend, authorise, demand};
 use crate::casts::cast;
 use crate::notices::notice;
 use crate::views::{Answer, OwnView, PublicRecord};
@@ -121,6 +122,7 @@ pub fn answer(
     match request {
         Request::CallMeeting(_)
         | Request::LoadRegister(_)
+        | Request::Presence(_)
         | Request::OpenMeeting(_)
         | Request::Order(_)
         | Request::Start(_)
@@ -131,6 +133,9 @@ pub fn answer(
         Request::Mine(meeting) => mine(alloc, public, own, now, *meeting),
         Request::Appoint(new) => appoint(public, own, now, new),
         Request::End(new) => Ok(end(public, own, now, new)),
+        Request::Authorise(new) => Ok(authorise(public, own, now, new)),
+        Request::Attend(meeting) => Ok(attend(public, own, now, *meeting)),
+        Request::Demand(poll) => Ok(demand(public, own, now, *poll)),
         Request::Cast(new) => Ok(cast(public, own, now, new)),
     }
 }

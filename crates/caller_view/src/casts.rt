@@ -1,8 +1,8 @@
 //! The answer to a vote that a party casts.
 ghost use Rattle.std.specs.Prelude.{◌≡◌};
 ghost use Rattle.desk_words.specs.Refusals.{first_refusal};
-ghost use Rattle.caller_view.specs.Polls.{poll_on, casts_on};
-ghost use Rattle.caller_view.specs.Answers.{cast_answer, cast_cases, cast_recorded, holds_as_individual, is_past, may_vote_as, unless};
+ghost use Rattle.caller_view.specs.Polls.{poll_on, casts_on, holds_as_individual};
+ghost use Rattle.caller_view.specs.Answers.{cast_answer, cast_cases, cast_recorded, is_past, may_vote_as, unless};
 
 use crate::answers::refuse;
 use crate::polls::find_poll;
@@ -21,7 +21,8 @@ fn casts_on(casts: &[CastMark], resolution: u64) -> usize
     casts.iter().filter(|c| c.resolution == resolution).count()
 }
 
-fn holds_as_individual(row: &Option<RegisterRow>) -> bool
+/// Whether a row is an individual's.
+pub(crate) fn holds_as_individual(row: &Option<RegisterRow>) -> bool
     ensures { result ≡ holds_as_individual row.now }
 {
     match row {

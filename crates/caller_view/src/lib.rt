@@ -3,11 +3,13 @@
 
 mod answers;
 mod appointments;
+mod attendance;
 mod casts;
 mod notices;
 mod polls;
 mod views;
 
 pub use answers::{answer, refuse};
+pub use attendance::noted;
 pub use polls::find_poll;
 pub use views::{Answer, OwnView, PublicRecord};

@@ -15,14 +15,16 @@ use Rattle.desk_words.specs.declared.records.Resolution.{Resolution}
 use Rattle.desk_words.specs.declared.request.Request.{Request}
 use Rattle.desk_words.specs.declared.request.Request.TheVariants as request
 use Rattle.desk_words.specs.declared.request.NewMeeting.{NewMeeting}
+use Rattle.desk_words.specs.declared.request.NewPresence.{NewPresence}
 use Rattle.desk_words.specs.declared.request.NewRegister.{NewRegister}
 use Rattle.desk_words.specs.declared.request.NewPoll.{NewPoll}
 use Rattle.desk_words.specs.declared.request.PollName.{PollName}
 use Rattle.desk_words.specs.declared.request.NewAppointment.{NewAppointment}
 use Rattle.desk_words.specs.declared.request.NewEnding.{NewEnding}
+use Rattle.desk_words.specs.declared.request.NewAuthority.{NewAuthority}
 use Rattle.desk_words.specs.declared.request.NewCast.{NewCast}
 use Rattle.desk_bodies.specs.declared.verb.Verb.{Verb}
-use Rattle.desk_bodies.specs.declared.verb.Verb.TheVariants.{Call, Register, Open, Order, Start, Close, Declare, Closed, Notice, Mine, Appoint, End, Cast}
+use Rattle.desk_bodies.specs.declared.verb.Verb.TheVariants.{Call, Presence, Register, Open, Order, Start, Close, Declare, Closed, Notice, Mine, Appoint, End, Authorise, Attend, Demand, Cast}
 use Rattle.desk_bodies.specs.Answers.{◌>>=◌, readable, only}
 use Rattle.desk_bodies.specs.Places.{has_fields, has_items, string_in, number_in, flag_in, items_in, spelled, just, text_of, each}
 use Rattle.desk_bodies.specs.Appointments.{most_instructions, instruction_at, instructions_in, new_appointment_of, new_ending_of}
@@ -30,8 +32,9 @@ use Rattle.desk_bodies.specs.Bodies.{body_of, value_of, filled}
 use Rattle.desk_bodies.specs.Calls.{resolution_of, counted, resolutions_in, new_meeting_of}
 use Rattle.desk_bodies.specs.Days.{day_at, day_list_of, days_in, closed_days_of}
 use Rattle.desk_bodies.specs.Polls.{new_poll_of, poll_name_of, new_cast_of}
+use Rattle.desk_bodies.specs.Presences.{new_presence_of, new_authority_of}
 use Rattle.desk_bodies.specs.Registers.{row_of, register_in, new_register_of}
-use Rattle.desk_bodies.specs.Requests.{routed, call_of, load_of, open_of, order_of, named_poll_of, start_of, close_of, declare_of, closed_of, appoint_of, end_of, cast_of, unnamed, asked, request_of}
+use Rattle.desk_bodies.specs.Requests.{routed, call_of, presence_of, load_of, open_of, order_of, named_poll_of, start_of, close_of, declare_of, closed_of, appoint_of, end_of, authorise_of, attend_of, demand_of, cast_of, unnamed, asked, request_of}
 use Rattle.desk_bodies.specs.Verbs.{verb_of}
 use Rattle.desk_bodies.specs.Laws.{meeting_in}
 
@@ -111,6 +114,12 @@ of_new_meeting meeting d =
     of_next (spelled moment_of _) _ (of_spelled _ _) (λ record_moment.
     of_next (resolutions_in _) _ (of_resolutions _) (λ resolutions. of_ok _)))))))
 
+of_new_presence : (meeting : List ℕ) (d : Data) → OnlyUnreadable (new_presence_of meeting d)
+unfolding new_presence_of
+of_new_presence meeting d =
+    of_next (only (has_fields 1 d)) _ (of_only _) (λ exactly.
+    of_next (spelled party_of _) _ (of_spelled _ _) (λ party. of_ok _))
+
 of_row : (d : Data) → OnlyUnreadable (row_of d)
 unfolding row_of
 of_row d =
@@ -184,6 +193,12 @@ of_new_ending meeting d =
     of_next (only (has_fields 1 d)) _ (of_only _) (λ exactly.
     of_next (number_in _) _ (of_number _) (λ number. of_ok _))
 
+of_new_authority : (meeting : List ℕ) (d : Data) → OnlyUnreadable (new_authority_of meeting d)
+unfolding new_authority_of
+of_new_authority meeting d =
+    of_next (only (has_fields 1 d)) _ (of_only _) (λ exactly.
+    of_next (spelled party_of _) _ (of_spelled _ _) (λ person. of_ok _))
+
 of_body : (body : List ℕ) → OnlyUnreadable (body_of body)
 unfolding body_of
 of_body body = of_readable (value_of (filled body))
@@ -206,6 +221,11 @@ of_call : (meeting body : List ℕ) → OnlyUnreadable (call_of meeting body)
 unfolding call_of
 of_call meeting body =
     of_next (body_of body) _ (of_body body) (λ d. of_next (new_meeting_of meeting d) _ (of_new_meeting meeting d) (λ called. of_ok _))
+
+of_presence : (meeting body : List ℕ) → OnlyUnreadable (presence_of meeting body)
+unfolding presence_of
+of_presence meeting body =
+    of_next (body_of body) _ (of_body body) (λ d. of_next (new_presence_of meeting d) _ (of_new_presence meeting d) (λ noted. of_ok _))
 
 of_load : (meeting body : List ℕ) → OnlyUnreadable (load_of meeting body)
 unfolding load_of
@@ -249,6 +269,20 @@ unfolding end_of
 of_end meeting body =
     of_next (body_of body) _ (of_body body) (λ d. of_next (new_ending_of meeting d) _ (of_new_ending meeting d) (λ ended. of_ok _))
 
+of_authorise : (meeting body : List ℕ) → OnlyUnreadable (authorise_of meeting body)
+unfolding authorise_of
+of_authorise meeting body =
+    of_next (body_of body) _ (of_body body) (λ d. of_next (new_authority_of meeting d) _ (of_new_authority meeting d) (λ authorised. of_ok _))
+
+of_attend : (meeting body : List ℕ) → OnlyUnreadable (attend_of meeting body)
+unfolding attend_of
+of_attend meeting body =
+    of_next (body_of body) _ (of_body body) (λ d. of_next (only (has_fields 0 d)) _ (of_only _) (λ nothing. of_ok _))
+
+of_demand : (meeting body : List ℕ) → OnlyUnreadable (demand_of meeting body)
+unfolding demand_of
+of_demand meeting body = of_next (named_poll_of meeting body) _ (of_named_poll meeting body) (λ poll. of_ok _)
+
 of_cast : (meeting body : List ℕ) → OnlyUnreadable (cast_of meeting body)
 unfolding cast_of
 of_cast meeting body =
@@ -274,6 +308,7 @@ after_route (Some x) asking h =
 
 asked_routed : (verb : Verb) (meeting : List ℕ) → IsRoutedFirst (λ body. asked verb meeting body)
 asked_routed Call meeting = after_route (meeting_of meeting) call_of of_call
+asked_routed Presence meeting = after_route (meeting_of meeting) presence_of of_presence
 asked_routed Register meeting = after_route (meeting_of meeting) load_of of_load
 asked_routed Open meeting = after_route (meeting_of meeting) open_of of_open
 asked_routed Order meeting = after_route (meeting_of meeting) order_of of_order
@@ -285,6 +320,9 @@ asked_routed Notice meeting = after_route (meeting_of meeting) (λ m body. Ok (r
 asked_routed Mine meeting = after_route (meeting_of meeting) (λ m body. Ok (request.Mine m)) (λ m body. of_ok _)
 asked_routed Appoint meeting = after_route (meeting_of meeting) appoint_of of_appoint
 asked_routed End meeting = after_route (meeting_of meeting) end_of of_end
+asked_routed Authorise meeting = after_route (meeting_of meeting) authorise_of of_authorise
+asked_routed Attend meeting = after_route (meeting_of meeting) attend_of of_attend
+asked_routed Demand meeting = after_route (meeting_of meeting) demand_of of_demand
 asked_routed Cast meeting = after_route (meeting_of meeting) cast_of of_cast
 
 -- ---- the meeting is kept
@@ -319,6 +357,13 @@ new_meeting_keeps meeting d =
     keeps_next kept (spelled moment_of _) _ (λ appointed.
     keeps_next kept (spelled moment_of _) _ (λ record_moment.
     keeps_next kept (resolutions_in _) _ (λ resolutions. keeps_ok kept _ refl)))))))
+
+new_presence_keeps : (meeting : List ℕ) (d : Data) → Keeps (λ (noted : NewPresence). meeting ≡ noted.meeting) (new_presence_of meeting d)
+unfolding new_presence_of
+new_presence_keeps meeting d =
+    let kept : NewPresence → Type 0 = λ noted. meeting ≡ noted.meeting in
+    keeps_next kept (only (has_fields 1 d)) _ (λ exactly.
+    keeps_next kept (spelled party_of _) _ (λ party. keeps_ok kept _ refl))
 
 new_register_keeps : (meeting : List ℕ) (d : Data) → Keeps (λ (loaded : NewRegister). meeting ≡ loaded.meeting) (new_register_of meeting d)
 unfolding new_register_of
@@ -362,6 +407,13 @@ new_ending_keeps meeting d =
     keeps_next kept (only (has_fields 1 d)) _ (λ exactly.
     keeps_next kept (number_in _) _ (λ number. keeps_ok kept _ refl))
 
+new_authority_keeps : (meeting : List ℕ) (d : Data) → Keeps (λ (authorised : NewAuthority). meeting ≡ authorised.meeting) (new_authority_of meeting d)
+unfolding new_authority_of
+new_authority_keeps meeting d =
+    let kept : NewAuthority → Type 0 = λ authorised. meeting ≡ authorised.meeting in
+    keeps_next kept (only (has_fields 1 d)) _ (λ exactly.
+    keeps_next kept (spelled party_of _) _ (λ person. keeps_ok kept _ refl))
+
 new_cast_keeps : (meeting : List ℕ) (d : Data) → Keeps (λ (cast : NewCast). meeting ≡ cast.meeting) (new_cast_of meeting d)
 unfolding new_cast_of
 new_cast_keeps meeting d =
@@ -391,6 +443,13 @@ call_keeps meeting body =
     keeps_next (IsOf meeting) (body_of body) _ (λ d.
     keeps_then (λ (called : NewMeeting). meeting ≡ called.meeting) (IsOf meeting) (new_meeting_of meeting d) _ (new_meeting_keeps meeting d) (λ called h.
     keeps_ok (IsOf meeting) (request.CallMeeting called) (ap (λ m. Some m) h)))
+
+presence_keeps : (meeting body : List ℕ) → Keeps (IsOf meeting) (presence_of meeting body)
+unfolding presence_of
+presence_keeps meeting body =
+    keeps_next (IsOf meeting) (body_of body) _ (λ d.
+    keeps_then (λ (noted : NewPresence). meeting ≡ noted.meeting) (IsOf meeting) (new_presence_of meeting d) _ (new_presence_keeps meeting d) (λ noted h.
+    keeps_ok (IsOf meeting) (request.Presence noted) (ap (λ m. Some m) h)))
 
 load_keeps : (meeting body : List ℕ) → Keeps (IsOf meeting) (load_of meeting body)
 unfolding load_of
@@ -437,6 +496,22 @@ end_keeps meeting body =
     keeps_then (λ (ended : NewEnding). meeting ≡ ended.meeting) (IsOf meeting) (new_ending_of meeting d) _ (new_ending_keeps meeting d) (λ ended h.
     keeps_ok (IsOf meeting) (request.End ended) (ap (λ m. Some m) h)))
 
+authorise_keeps : (meeting body : List ℕ) → Keeps (IsOf meeting) (authorise_of meeting body)
+unfolding authorise_of
+authorise_keeps meeting body =
+    keeps_next (IsOf meeting) (body_of body) _ (λ d.
+    keeps_then (λ (authorised : NewAuthority). meeting ≡ authorised.meeting) (IsOf meeting) (new_authority_of meeting d) _ (new_authority_keeps meeting d) (λ authorised h.
+    keeps_ok (IsOf meeting) (request.Authorise authorised) (ap (λ m. Some m) h)))
+
+attend_keeps : (meeting body : List ℕ) → Keeps (IsOf meeting) (attend_of meeting body)
+unfolding attend_of
+attend_keeps meeting body =
+    keeps_next (IsOf meeting) (body_of body) _ (λ d. keeps_next (IsOf meeting) (only (has_fields 0 d)) _ (λ nothing. keeps_ok (IsOf meeting) _ refl))
+
+demand_keeps : (meeting body : List ℕ) → Keeps (IsOf meeting) (demand_of meeting body)
+unfolding demand_of
+demand_keeps meeting body = on_poll_keeps (λ poll. request.Demand poll) meeting body (λ poll. refl)
+
 cast_keeps : (meeting body : List ℕ) → Keeps (IsOf meeting) (cast_of meeting body)
 unfolding cast_of
 cast_keeps meeting body =
@@ -468,6 +543,7 @@ of_unnamed meeting false is asking h = record { ok = λ request e. cc }
 
 asked_keeps : (verb : Verb) (meeting body : List ℕ) → Keeps (λ request. meeting_of meeting ≡ meeting_in request) (asked verb meeting body)
 asked_keeps Call meeting body = of_found (meeting_of meeting) (λ m. call_of m body) (λ m. call_keeps m body)
+asked_keeps Presence meeting body = of_found (meeting_of meeting) (λ m. presence_of m body) (λ m. presence_keeps m body)
 asked_keeps Register meeting body = of_found (meeting_of meeting) (λ m. load_of m body) (λ m. load_keeps m body)
 asked_keeps Open meeting body = of_found (meeting_of meeting) (λ m. open_of m body) (λ m. open_keeps m body)
 asked_keeps Order meeting body = of_found (meeting_of meeting) (λ m. order_of m body) (λ m. order_keeps m body)
@@ -479,6 +555,9 @@ asked_keeps Notice meeting body = of_found (meeting_of meeting) (λ m. Ok (reque
 asked_keeps Mine meeting body = of_found (meeting_of meeting) (λ m. Ok (request.Mine m)) (λ m. keeps_ok (IsOf m) (request.Mine m) refl)
 asked_keeps Appoint meeting body = of_found (meeting_of meeting) (λ m. appoint_of m body) (λ m. appoint_keeps m body)
 asked_keeps End meeting body = of_found (meeting_of meeting) (λ m. end_of m body) (λ m. end_keeps m body)
+asked_keeps Authorise meeting body = of_found (meeting_of meeting) (λ m. authorise_of m body) (λ m. authorise_keeps m body)
+asked_keeps Attend meeting body = of_found (meeting_of meeting) (λ m. attend_of m body) (λ m. attend_keeps m body)
+asked_keeps Demand meeting body = of_found (meeting_of meeting) (λ m. demand_of m body) (λ m. demand_keeps m body)
 asked_keeps Cast meeting body = of_found (meeting_of meeting) (λ m. cast_of m body) (λ m. cast_keeps m body)
 
 -- ---- the laws, of a verb that was read or not

@@ -4,7 +4,7 @@ use Rattle.desk_terms.specs.declared.refusal.Refusal.{Refusal}
 use Rattle.desk_terms.specs.declared.refusal.Refusal.TheVariants.{Route, Unreadable}
 use Rattle.desk_terms.specs.Names.{meeting_of}
 use Rattle.desk_words.specs.declared.request.Request.{Request}
-use Rattle.desk_words.specs.declared.request.Request.TheVariants.{CallMeeting, LoadRegister, OpenMeeting, Order, Start, Close, Declare, ClosedDays, Notice, Mine, Appoint, End, Cast}
+use Rattle.desk_words.specs.declared.request.Request.TheVariants.{CallMeeting, Presence, LoadRegister, OpenMeeting, Order, Start, Close, Declare, ClosedDays, Notice, Mine, Appoint, End, Authorise, Attend, Demand, Cast}
 use Rattle.desk_bodies.specs.declared.verb.Verb.{Verb}
 use Rattle.desk_bodies.specs.Requests.{request_of}
 use Rattle.desk_bodies.specs.Verbs.{verb_word, verb_of}
@@ -25,6 +25,7 @@ RouteComesFirst = (meeting verb body other : List ℕ) → request_of meeting ve
 -- the meeting of a request; the closed days are of the whole desk
 abbrev pub meeting_in : Request → Option (List ℕ)
 meeting_in (CallMeeting called) = Some called.meeting
+meeting_in (Presence noted) = Some noted.meeting
 meeting_in (LoadRegister loaded) = Some loaded.meeting
 meeting_in (OpenMeeting meeting) = Some meeting
 meeting_in (Order ordered) = Some ordered.meeting
@@ -36,6 +37,9 @@ meeting_in (Notice meeting) = Some meeting
 meeting_in (Mine meeting) = Some meeting
 meeting_in (Appoint appointed) = Some appointed.meeting
 meeting_in (End ended) = Some ended.meeting
+meeting_in (Authorise authorised) = Some authorised.meeting
+meeting_in (Attend meeting) = Some meeting
+meeting_in (Demand poll) = Some poll.meeting
 meeting_in (Cast cast) = Some cast.meeting
 
 -- a request is of the meeting that was named, and one of the whole desk of none

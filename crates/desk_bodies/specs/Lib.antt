@@ -6,6 +6,7 @@ pub mod Days
 pub mod Laws
 pub mod Places
 pub mod Polls
+pub mod Presences
 pub mod Registers
 pub mod Requests
 pub mod Verbs

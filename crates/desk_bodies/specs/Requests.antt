@@ -7,7 +7,7 @@ use Rattle.desk_words.specs.declared.request.PollName.{PollName}
 use Rattle.desk_words.specs.declared.request.Request.{Request}
 use Rattle.desk_words.specs.declared.request.Request.TheVariants as request
 use Rattle.desk_bodies.specs.declared.verb.Verb.{Verb}
-use Rattle.desk_bodies.specs.declared.verb.Verb.TheVariants.{Call, Register, Open, Order, Start, Close, Declare, Closed, Notice, Mine, Appoint, End, Cast}
+use Rattle.desk_bodies.specs.declared.verb.Verb.TheVariants.{Call, Presence, Register, Open, Order, Start, Close, Declare, Closed, Notice, Mine, Appoint, End, Authorise, Attend, Demand, Cast}
 use Rattle.desk_bodies.specs.Answers.{only, ◌>>=◌}
 use Rattle.desk_bodies.specs.Appointments.{new_appointment_of, new_ending_of}
 use Rattle.desk_bodies.specs.Bodies.{body_of}
@@ -15,6 +15,7 @@ use Rattle.desk_bodies.specs.Calls.{new_meeting_of}
 use Rattle.desk_bodies.specs.Days.{closed_days_of}
 use Rattle.desk_bodies.specs.Places.{has_fields}
 use Rattle.desk_bodies.specs.Polls.{new_poll_of, poll_name_of, new_cast_of}
+use Rattle.desk_bodies.specs.Presences.{new_presence_of, new_authority_of}
 use Rattle.desk_bodies.specs.Registers.{new_register_of}
 use Rattle.desk_bodies.specs.Verbs.{verb_of}
 
@@ -28,6 +29,13 @@ call_of meeting body = do
   d ← body_of body
   called ← new_meeting_of meeting d
   Ok (request.CallMeeting called)
+
+-- the presence of a party, which the body names
+unfoldable pub presence_of : List ℕ → List ℕ → Result Request Refusal
+presence_of meeting body = do
+  d ← body_of body
+  noted ← new_presence_of meeting d
+  Ok (request.Presence noted)
 
 -- the loading of a register, which the body describes
 unfoldable pub load_of : List ℕ → List ℕ → Result Request Refusal
@@ -95,6 +103,26 @@ end_of meeting body = do
   ended ← new_ending_of meeting d
   Ok (request.End ended)
 
+-- an authority that a party gives, to the person whom the body names
+unfoldable pub authorise_of : List ℕ → List ℕ → Result Request Refusal
+authorise_of meeting body = do
+  d ← body_of body
+  authorised ← new_authority_of meeting d
+  Ok (request.Authorise authorised)
+
+-- a party's own presence, of which the body says nothing
+unfoldable pub attend_of : List ℕ → List ℕ → Result Request Refusal
+attend_of meeting body = do
+  d ← body_of body
+  nothing ← only (has_fields 0 d)
+  Ok (request.Attend meeting)
+
+-- a demand of the poll that the body names
+unfoldable pub demand_of : List ℕ → List ℕ → Result Request Refusal
+demand_of meeting body = do
+  poll ← named_poll_of meeting body
+  Ok (request.Demand poll)
+
 -- a member's vote, which the body describes
 unfoldable pub cast_of : List ℕ → List ℕ → Result Request Refusal
 cast_of meeting body = do
@@ -117,6 +145,7 @@ in_no_meeting meeting asking = routed (unnamed meeting) >>= λ nothing. asking
 -- what a verb asks, and where; for `notice` and `mine` no body is looked at
 abbrev pub asked : Verb → List ℕ → List ℕ → Result Request Refusal
 asked Call meeting body = in_named meeting (λ m. call_of m body)
+asked Presence meeting body = in_named meeting (λ m. presence_of m body)
 asked Register meeting body = in_named meeting (λ m. load_of m body)
 asked Open meeting body = in_named meeting (λ m. open_of m body)
 asked Order meeting body = in_named meeting (λ m. order_of m body)
@@ -128,6 +157,9 @@ asked Notice meeting body = in_named meeting (λ m. Ok (request.Notice m))
 asked Mine meeting body = in_named meeting (λ m. Ok (request.Mine m))
 asked Appoint meeting body = in_named meeting (λ m. appoint_of m body)
 asked End meeting body = in_named meeting (λ m. end_of m body)
+asked Authorise meeting body = in_named meeting (λ m. authorise_of m body)
+asked Attend meeting body = in_named meeting (λ m. attend_of m body)
+asked Demand meeting body = in_named meeting (λ m. demand_of m body)
 asked Cast meeting body = in_named meeting (λ m. cast_of m body)
 
 -- what the bytes ask: of a verb that is listed and a meeting's name, and only then of the body

@@ -14,6 +14,7 @@ mod closed;
 pub mod laws;
 mod place;
 mod poll;
+mod presence;
 mod register;
 mod request;
 mod verb;

@@ -1,7 +1,7 @@
 //! Requests, as a meeting, a verb and a body ask them.
 ghost use Rattle.desk_terms.specs.Names.{meeting_of};
 ghost use Rattle.desk_bodies.specs.Answers.{Gives, itself};
-ghost use Rattle.desk_bodies.specs.Requests.{call_of, load_of, open_of, order_of, named_poll_of, start_of, close_of, declare_of, closed_of, appoint_of, end_of, cast_of, routed, unnamed, request_of};
+ghost use Rattle.desk_bodies.specs.Requests.{call_of, presence_of, load_of, open_of, order_of, named_poll_of, start_of, close_of, declare_of, closed_of, appoint_of, end_of, authorise_of, attend_of, demand_of, cast_of, routed, unnamed, request_of};
 
 use crate::appointment::{new_appointment, new_ending};
 use crate::ask::Ask;
@@ -10,6 +10,7 @@ use crate::call::new_meeting;
 use crate::closed::closed_days;
 use crate::place::exactly_fields;
 use crate::poll::{new_cast, new_poll, poll_name};
+use crate::presence::{new_authority, new_presence};
 use crate::register::new_register;
 use crate::verb::Verb;
 use desk_words::{MeetingId, PollName, Refusal, Request, read_meeting};
@@ -24,6 +25,15 @@ fn call(alloc: Global, meeting: MeetingId, body: &[u8]) -> Result<Request, Ask>
     let body = read_body(alloc, body)?;
     let called = new_meeting(alloc, meeting, &body)?;
     Ok(Request::CallMeeting(called))
+}
+
+#[tactic(auto, unfolding(crate::specs::Requests::presence_of))]
+fn presence(alloc: Global, meeting: MeetingId, body: &[u8]) -> Result<Request, Ask>
+    ensures { Gives itself result (presence_of meeting body.now) }
+{
+    let body = read_body(alloc, body)?;
+    let noted = new_presence(meeting, &body)?;
+    Ok(Request::Presence(noted))
 }
 
 #[tactic(auto, unfolding(crate::specs::Requests::load_of))]
@@ -112,6 +122,32 @@ fn end(alloc: Global, meeting: MeetingId, body: &[u8]) -> Result<Request, Ask>
     Ok(Request::End(ended))
 }
 
+#[tactic(auto, unfolding(crate::specs::Requests::authorise_of))]
+fn authorise(alloc: Global, meeting: MeetingId, body: &[u8]) -> Result<Request, Ask>
+    ensures { Gives itself result (authorise_of meeting body.now) }
+{
+    let body = read_body(alloc, body)?;
+    let authorised = new_authority(meeting, &body)?;
+    Ok(Request::Authorise(authorised))
+}
+
+#[tactic(auto, unfolding(crate::specs::Requests::attend_of))]
+fn attend(alloc: Global, meeting: MeetingId, body: &[u8]) -> Result<Request, Ask>
+    ensures { Gives itself result (attend_of meeting body.now) }
+{
+    let body = read_body(alloc, body)?;
+    exactly_fields(&body, 0)?;
+    Ok(Request::Attend(meeting))
+}
+
+#[tactic(auto, unfolding(crate::specs::Requests::demand_of))]
+fn demand(alloc: Global, meeting: MeetingId, body: &[u8]) -> Result<Request, Ask>
+    ensures { Gives itself result (demand_of meeting body.now) }
+{
+    let poll = named_poll(alloc, meeting, body)?;
+    Ok(Request::Demand(poll))
+}
+
 #[tactic(auto, unfolding(crate::specs::Requests::cast_of))]
 fn cast(alloc: Global, meeting: MeetingId, body: &[u8]) -> Result<Request, Ask>
     ensures { Gives itself result (cast_of meeting body.now) }
@@ -153,6 +189,7 @@ pub fn request_of(alloc: Global, meeting: &[u8], verb: &[u8], body: &[u8]) -> Re
 {
     match Verb::of_word(verb).ok_or(ROUTE)? {
         Verb::Call => call(alloc, named(meeting)?, body),
+        Verb::Presence => presence(alloc, named(meeting)?, body),
         Verb::Register => load(alloc, named(meeting)?, body),
         Verb::Open => open(alloc, named(meeting)?, body),
         Verb::Order => order(alloc, named(meeting)?, body),
@@ -167,6 +204,9 @@ pub fn request_of(alloc: Global, meeting: &[u8], verb: &[u8], body: &[u8]) -> Re
         Verb::Mine => Ok(Request::Mine(named(meeting)?)),
         Verb::Appoint => appoint(alloc, named(meeting)?, body),
         Verb::End => end(alloc, named(meeting)?, body),
+        Verb::Authorise => authorise(alloc, named(meeting)?, body),
+        Verb::Attend => attend(alloc, named(meeting)?, body),
+        Verb::Demand => demand(alloc, named(meeting)?, body),
         Verb::Cast => cast(alloc, named(meeting)?, body),
     }
 }

@@ -17,6 +17,10 @@ const ORDER: &str = r#"{"resolution":7,"take":"2026-06-18T10:05:00","chair":true
 
 const POLL: &str = r#"{"resolution":2}"#;
 
+const PRESENCE: &str = r#"{"party":"M1"}"#;
+
+const AUTHORISE: &str = r#"{"person":"M1"}"#;
+
 const CAST: &str =
     r#"{"resolution":3,"as":"member","member":"M1","from":61,"to":100,"way":"against"}"#;
 
@@ -258,6 +262,7 @@ fn lengths_of_texts(rt: HostRuntime) -> Result<(), Fail> {
 fn words_of_verbs(rt: HostRuntime) {
     let words = [
         (Verb::Call, "call"),
+        (Verb::Presence, "presence"),
         (Verb::Register, "register"),
         (Verb::Open, "open"),
         (Verb::Order, "order"),
@@ -269,6 +274,9 @@ fn words_of_verbs(rt: HostRuntime) {
         (Verb::Mine, "mine"),
         (Verb::Appoint, "appoint"),
         (Verb::End, "end"),
+        (Verb::Authorise, "authorise"),
+        (Verb::Attend, "attend"),
+        (Verb::Demand, "demand"),
         (Verb::Cast, "cast"),
     ];
     for (verb, word) in words {
@@ -435,6 +443,18 @@ fn a_declaration_is_read(rt: HostRuntime) -> Result<(), Fail> {
     Ok(())
 }
 
+#[test]
+fn a_demand_is_read(rt: HostRuntime) -> Result<(), Fail> {
+    let body = r#"{"resolution":18446744073709551615}"#;
+    let request = request_of(rt.alloc(), b"G1", b"demand", body.as_bytes())?;
+    let Request::Demand(poll) = request else {
+        panic!(rt; "another request");
+    };
+    assert_eq!(rt; poll.meeting.as_str(), "G1");
+    assert_eq!(rt; poll.resolution, u64::MAX);
+    Ok(())
+}
+
 /// The first body that is read though it names no poll as this verb asks.
 fn poll_read(alloc: Global, verb: &str) -> Result<Option<&'static str>, AllocError> {
     let bodies = ["", "{}", "{", "[2]", "2", r#"{"number":2}"#];
@@ -449,9 +469,67 @@ fn poll_read(alloc: Global, verb: &str) -> Result<Option<&'static str>, AllocErr
 
 #[test]
 fn forms_of_polls(rt: HostRuntime) -> Result<(), Fail> {
-    for verb in ["start", "close", "declare"] {
+    for verb in ["start", "close", "declare", "demand"] {
         assert_eq!(rt; poll_read(rt.alloc(), verb)?, None, "{verb}");
     }
+    Ok(())
+}
+
+#[test]
+fn a_presence_is_read(rt: HostRuntime) -> Result<(), Fail> {
+    let request = request_of(rt.alloc(), b"G1", b"presence", PRESENCE.as_bytes())?;
+    let Request::Presence(noted) = request else {
+        panic!(rt; "another request");
+    };
+    assert_eq!(rt; noted.meeting.as_str(), "G1");
+    assert_eq!(rt; noted.party.as_str(), "M1");
+    Ok(())
+}
+
+#[test]
+fn an_authority_is_read(rt: HostRuntime) -> Result<(), Fail> {
+    let request = request_of(rt.alloc(), b"G1", b"authorise", AUTHORISE.as_bytes())?;
+    let Request::Authorise(authorised) = request else {
+        panic!(rt; "another request");
+    };
+    assert_eq!(rt; authorised.meeting.as_str(), "G1");
+    assert_eq!(rt; authorised.person.as_str(), "M1");
+    Ok(())
+}
+
+/// The first body that is read though it names no party as this verb asks.
+fn party_read(alloc: Global, verb: &str, body: &str) -> Result<Option<&'static str>, AllocError> {
+    let bodies = ["", "{}", r#"["M1"]"#, r#"{"member":"M1"}"#];
+    if let Some(other) = first_read(alloc, verb, body, body, &bodies)? {
+        return Ok(Some(other));
+    }
+    if let Some(more) = first_read(alloc, verb, body, "}", &[r#","more":1}"#])? {
+        return Ok(Some(more));
+    }
+    let parties = [r#""OFFICE""#, r#""m1""#, r#""""#, "1", "null"];
+    first_read(alloc, verb, body, r#""M1""#, &parties)
+}
+
+#[test]
+fn forms_of_parties(rt: HostRuntime) -> Result<(), Fail> {
+    for (verb, body) in [("presence", PRESENCE), ("authorise", AUTHORISE)] {
+        assert_eq!(rt; party_read(rt.alloc(), verb, body)?, None, "{verb}");
+    }
+    assert_eq!(rt; refusal(rt.alloc(), "presence", AUTHORISE), UNREADABLE);
+    assert_eq!(rt; refusal(rt.alloc(), "authorise", PRESENCE), UNREADABLE);
+    Ok(())
+}
+
+#[test]
+fn an_attendance_is_read(rt: HostRuntime) -> Result<(), Fail> {
+    for body in ["", "{}"] {
+        let request = request_of(rt.alloc(), b"G1", b"attend", body.as_bytes())?;
+        let Request::Attend(meeting) = request else {
+            panic!(rt; "another request");
+        };
+        assert_eq!(rt; meeting.as_str(), "G1");
+    }
+    assert_eq!(rt; refusal(rt.alloc(), "attend", PRESENCE), UNREADABLE);
     Ok(())
 }
 

@@ -7,6 +7,8 @@ ghost use Rattle.desk_bodies.specs.Verbs.{verb_word, verb_of};
 pub enum Verb {
     /// The office calls a meeting.
     Call,
+    /// The office notes that a party is present.
+    Presence,
     /// The office loads the register of a meeting.
     Register,
     /// The office opens a meeting.
@@ -29,14 +31,21 @@ pub enum Verb {
     Appoint,
     /// A party ends an appointment that it gave.
     End,
+    /// A party authorises a person to represent it.
+    Authorise,
+    /// A party notes that it is present.
+    Attend,
+    /// A party demands a poll.
+    Demand,
     /// A member votes on some of its own shares.
     Cast,
 }
 
 impl Verb {
     /// Every verb.
-    const ALL: [Verb; 13] = [
+    const ALL: [Verb; 17] = [
         Verb::Call,
+        Verb::Presence,
         Verb::Register,
         Verb::Open,
         Verb::Order,
@@ -48,6 +57,9 @@ impl Verb {
         Verb::Mine,
         Verb::Appoint,
         Verb::End,
+        Verb::Authorise,
+        Verb::Attend,
+        Verb::Demand,
         Verb::Cast,
     ];
 
@@ -57,6 +69,7 @@ impl Verb {
     {
         match self {
             Verb::Call => "call",
+            Verb::Presence => "presence",
             Verb::Register => "register",
             Verb::Open => "open",
             Verb::Order => "order",
@@ -68,6 +81,9 @@ impl Verb {
             Verb::Mine => "mine",
             Verb::Appoint => "appoint",
             Verb::End => "end",
+            Verb::Authorise => "authorise",
+            Verb::Attend => "attend",
+            Verb::Demand => "demand",
             Verb::Cast => "cast",
         }
     }
@@ -79,6 +95,6 @@ impl Verb {
         Verb::ALL
             .iter()
             .copied()
-            .find(|verb| verb.word().as_bytes() == word)
+            .find(|verb| word == verb.word().as_bytes())
     }
 }

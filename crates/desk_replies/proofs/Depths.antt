@@ -101,6 +101,7 @@ reply_below reply.VotingClosed = omega arith
 reply_below (reply.Declared d) = omega arith
 reply_below (reply.Appointed r) = omega arith
 reply_below (reply.Ended n) = omega arith
+reply_below reply.Noted = omega arith
 reply_below reply.Recorded = omega arith
 reply_below (reply.Notice n) = omega (arith, notice_below n)
 reply_below (reply.Mine m) = omega (arith, mine_below m)

@@ -93,6 +93,7 @@ reply_whole reply.VotingClosed = refl
 reply_whole (reply.Declared d) = refl
 reply_whole (reply.Appointed r) = refl
 reply_whole (reply.Ended n) = refl
+reply_whole reply.Noted = refl
 reply_whole reply.Recorded = refl
 reply_whole (reply.Notice n) = notice_whole n
 reply_whole (reply.Mine m) = mine_whole m

@@ -4,7 +4,7 @@ use Rattle.desk_terms.specs.Refusals.{number_of, name_of}
 use Rattle.desk_terms.specs.declared.refusal.Refusal.{Refusal}
 use Rattle.desk_words.specs.declared.request.AppointmentUse.TheVariants.{Meeting, LaterPolls}
 use Rattle.desk_words.specs.declared.request.Declaration.{Declaration}
-use Rattle.desk_words.specs.declared.request.Reply.TheVariants.{Called, Loaded, Same, MeetingOpened, Ordered, Started, VotingClosed, Declared, Appointed, Ended, Recorded, Refused}
+use Rattle.desk_words.specs.declared.request.Reply.TheVariants.{Called, Loaded, Same, MeetingOpened, Ordered, Started, VotingClosed, Declared, Appointed, Ended, Noted, Recorded, Refused}
 use Rattle.desk_words.specs.declared.request.Failure.TheVariants.{Store, Memory}
 use Rattle.desk_replies.specs.Replies.{reply_bytes, failure_bytes}
 
@@ -32,6 +32,7 @@ pub record RepliesAreSpelled : Type 0 where
   pub ordered : reply_bytes Ordered ≡ codes "{\"ok\":\"ordered\"}"
   pub started : reply_bytes Started ≡ codes "{\"ok\":\"started\"}"
   pub closed : reply_bytes VotingClosed ≡ codes "{\"ok\":\"closed\"}"
+  pub noted : reply_bytes Noted ≡ codes "{\"ok\":\"noted\"}"
   pub recorded : reply_bytes Recorded ≡ codes "{\"ok\":\"recorded\"}"
   pub declared : (d : Declaration) → reply_bytes (Declared d) ≡ declaration_text d
   pub appointed : (n : ℕ) → reply_bytes (Appointed (record { number = n; used = Meeting })) ≡ codes "{\"number\":" ++ decimal n ++ codes ",\"ok\":\"appointed\",\"use\":\"meeting\"}"

@@ -107,6 +107,7 @@ reply_data (reply.Notice n) = notice_data n
 reply_data (reply.Mine m) = mine_data m
 reply_data (reply.Appointed r) = appointed_data r
 reply_data (reply.Ended number) = ended_data number
+reply_data reply.Noted = ok_data (codes "noted")
 reply_data reply.Recorded = ok_data (codes "recorded")
 reply_data (reply.Refused r) = refusal_data r
 

@@ -52,6 +52,7 @@ fn reply_value(alloc: Global, reply: &Reply) -> Result<Value, AllocError>
         Reply::Mine(mine) => mine_value(alloc, mine),
         Reply::Appointed(receipt) => appointed_value(alloc, *receipt),
         Reply::Ended(number) => ended_value(alloc, *number),
+        Reply::Noted => ok_value(alloc, "noted"),
         Reply::Recorded => ok_value(alloc, "recorded"),
         Reply::Refused(refusal) => refusal_value(alloc, *refusal),
     }

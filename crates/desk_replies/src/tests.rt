@@ -45,6 +45,8 @@ fn short_replies(rt: HostRuntime) -> Result<(), Fail> {
     let alloc = rt.alloc();
     let called = reply_text(alloc, &Reply::Called)?;
     assert!(rt; called.as_slice() == b"{\"ok\":\"called\"}".as_slice());
+    let noted = reply_text(alloc, &Reply::Noted)?;
+    assert!(rt; noted.as_slice() == br#"{"ok":"noted"}"#.as_slice());
     let refused = reply_text(alloc, &Reply::Refused(Refusal::NotYours))?;
     assert!(rt; refused.as_slice() == b"{\"code\":33,\"refused\":\"NotYours\"}".as_slice());
     Ok(())

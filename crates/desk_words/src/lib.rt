@@ -27,8 +27,9 @@ pub use records::{
 };
 pub use register::{MOST_SHARES, Register, same_rows};
 pub use request::{
-    AddAppointment, AddCast, AddEnding, AddPoll, AppointmentReceipt, AppointmentUse, Authorised,
-    Call, Change, Declaration, Failure, Given, GivenUse, Mine, NewAppointment, NewCast, NewEnding,
-    NewMeeting, NewPoll, NewRegister, Notice, NoticedPoll, NoticedResolution, PollGoverned,
-    PollName, Received, Reply, Request, SetOpened, SetPollMoment, SetRegister, SetTally,
+    AddAppointment, AddAuthority, AddCast, AddDemand, AddEnding, AddPoll, AddPresence,
+    AppointmentReceipt, AppointmentUse, Authorised, Call, Change, Declaration, Failure, Given,
+    GivenUse, Mine, NewAppointment, NewAuthority, NewCast, NewEnding, NewMeeting, NewPoll,
+    NewPresence, NewRegister, Notice, NoticedPoll, NoticedResolution, PollGoverned, PollName,
+    Received, Reply, Request, SetOpened, SetPollMoment, SetRegister, SetTally,
 };

@@ -2,7 +2,8 @@
 use crate::caller::Caller;
 use crate::lists::{DayList, Resolutions};
 use crate::records::{
-    Appointment, Authority, CastMark, DemandMark, Ending, Meeting, Poll, RegisterRow, Tally,
+    Appointment, Authority, CastMark, DemandMark, Ending, Meeting, Poll, PresenceMark, RegisterRow,
+    Tally,
 };
 use crate::register::Register;
 use desk_calendar::{Day, Moment};
@@ -76,6 +77,20 @@ pub struct NewEnding {
     pub number: u64,
 }
 
+/// A person whom a party is to authorise as its representative (section 323).
+#[derive(Clone, Copy, Debug, PartialEq, Eq)]
+pub struct NewAuthority {
+    pub meeting: MeetingId,
+    pub person: Party,
+}
+
+/// A party whose presence the office is to note (section 318).
+#[derive(Clone, Copy, Debug, PartialEq, Eq)]
+pub struct NewPresence {
+    pub meeting: MeetingId,
+    pub party: Party,
+}
+
 /// A vote that a member is to cast on some of its own shares (sections 284 and 322).
 #[derive(Clone, Copy, Debug, PartialEq, Eq)]
 pub struct NewCast {
@@ -98,6 +113,8 @@ pub enum Request {
     CallMeeting(NewMeeting),
     /// The office loads the register of a meeting.
     LoadRegister(NewRegister),
+    /// The office notes that a party is present.
+    Presence(NewPresence),
     /// The office opens a meeting.
     OpenMeeting(MeetingId),
     /// The office orders a poll.
@@ -118,6 +135,12 @@ pub enum Request {
     Appoint(NewAppointment),
     /// A party ends an appointment that it gave.
     End(NewEnding),
+    /// A party authorises a person to represent it.
+    Authorise(NewAuthority),
+    /// A party notes that it is present.
+    Attend(MeetingId),
+    /// A party demands a poll.
+    Demand(PollName),
     /// A member votes on some of its own shares.
     Cast(NewCast),
 }
@@ -274,6 +297,9 @@ pub enum Reply {
     Appointed(AppointmentReceipt),
     /// The appointment of that number is ended.
     Ended(u64),
+    /// A presence, an authority or a demand stands. Nothing is said of those of others, nor of
+    /// whether it stood before.
+    Noted,
     /// A vote is recorded. Nothing is said of other votes.
     Recorded,
     Refused(Refusal),
@@ -337,6 +363,27 @@ pub struct AddEnding {
     pub ending: Ending,
 }
 
+/// An authority that is recorded in a meeting.
+#[derive(Clone, Copy, Debug, PartialEq, Eq)]
+pub struct AddAuthority {
+    pub meeting: MeetingId,
+    pub authority: Authority,
+}
+
+/// A presence that is recorded in a meeting.
+#[derive(Clone, Copy, Debug, PartialEq, Eq)]
+pub struct AddPresence {
+    pub meeting: MeetingId,
+    pub presence: PresenceMark,
+}
+
+/// A demand that is recorded in a meeting.
+#[derive(Clone, Copy, Debug, PartialEq, Eq)]
+pub struct AddDemand {
+    pub meeting: MeetingId,
+    pub demand: DemandMark,
+}
+
 /// A vote that is recorded in a meeting.
 #[derive(Clone, Copy, Debug, PartialEq, Eq)]
 pub struct AddCast {
@@ -357,5 +404,8 @@ pub enum Change {
     SetClosedDays(DayList),
     AddAppointment(AddAppointment),
     AddEnding(AddEnding),
+    AddAuthority(AddAuthority),
+    AddPresence(AddPresence),
+    AddDemand(AddDemand),
     AddCast(AddCast),
 }

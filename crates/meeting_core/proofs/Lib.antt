@@ -1,4 +1,5 @@
 pub mod AppointmentsKept
+pub mod AttendanceKept
 pub mod MeetingKept
 pub mod OfficeKept
 pub mod StepLaws

@@ -16,11 +16,14 @@ use Rattle.desk_words.specs.declared.office.OfficeLists.{OfficeLists}
 use Rattle.desk_words.specs.declared.office.MeetingLists.{MeetingLists}
 use Rattle.desk_words.specs.declared.records.Meeting.{Meeting}
 use Rattle.desk_words.specs.declared.records.Poll.{Poll}
+use Rattle.desk_words.specs.declared.records.PresenceMark.{PresenceMark}
 use Rattle.desk_words.specs.declared.request.NewAppointment.{NewAppointment}
+use Rattle.desk_words.specs.declared.request.NewAuthority.{NewAuthority}
 use Rattle.desk_words.specs.declared.request.NewCast.{NewCast}
 use Rattle.desk_words.specs.declared.request.NewEnding.{NewEnding}
 use Rattle.desk_words.specs.declared.request.NewMeeting.{NewMeeting}
 use Rattle.desk_words.specs.declared.request.NewPoll.{NewPoll}
+use Rattle.desk_words.specs.declared.request.NewPresence.{NewPresence}
 use Rattle.desk_words.specs.declared.request.NewRegister.{NewRegister}
 use Rattle.desk_words.specs.declared.request.PollName.{PollName}
 use Rattle.desk_words.specs.declared.request.Reply.TheVariants as reply
@@ -32,19 +35,22 @@ use Rattle.desk_terms.specs.declared.refusal.Refusal.{Refusal}
 use Rattle.caller_view.specs.declared.views.Answer.{Answer}
 use Rattle.caller_view.specs.declared.views.OwnView.{OwnView}
 use Rattle.caller_view.specs.declared.views.PublicRecord.{PublicRecord}
-use Rattle.caller_view.specs.Answers.{answer_of, settled, mine_answer, notice_answer, appoint_answer, appointed, cutoff_in, end_answer, ended, cast_cases, cast_answer, cast_of, cast_recorded}
+use Rattle.caller_view.specs.Answers.{answer_of, settled, mine_answer, notice_answer, appoint_answer, appointed, attend_answer, authorise_answer, cutoff_in, demand_answer, end_answer, ended, noted, cast_cases, cast_answer, cast_of, cast_recorded}
 use Rattle.caller_view.specs.Appointments.{appoint_cases, appointment_of, end_cases, ending_of}
+use Rattle.caller_view.specs.Attendance.{authorise_cases, authority_of, demand_cases, demand_of, gave_authority, has_demanded, presence_of}
 use Rattle.caller_view.specs.Polls.{poll_on, there_is, is_waiting, is_unclosed}
 use Rattle.caller_view.specs.Views.{meeting_at, meeting_named, own_in, own_in_some, own_of, polls_in, public_of}
 use Rattle.office_answers.specs.Answers.{office_answer}
+use Rattle.office_answers.specs.Attendance.{is_marked, presence_answer}
 use Rattle.office_answers.specs.Calls.{call_cases, call_answer, meeting_of, load_cases, loads, load_answer, in_meeting}
 use Rattle.office_answers.specs.Closed.{same_days, loads_days}
 use Rattle.office_answers.specs.Limits.{keeps_limits}
 use Rattle.office_answers.specs.Polls.{open_cases, open_answer, order_cases, order_answer, poll_of, start_cases, start_answer, close_cases, close_answer, declare_cases, declare_answer, declaration_of}
 use Rattle.office_answers.proofs.OfficeFacts.{OfficeFacts, office_facts, office_from_facts, meeting_from_facts, find-passes}
-use Rattle.meeting_core.specs.Office.{after_some, change_meeting, sets_fields, new_lists, with_register, opened_at, with_poll, change_poll, started_at, closed_at, declared_as, with_appointment, with_ending, with_cast}
+use Rattle.meeting_core.specs.Office.{after, after_some, change_meeting, sets_fields, new_lists, with_register, opened_at, with_poll, change_poll, started_at, closed_at, declared_as, with_appointment, with_authority, with_demand, with_ending, with_presence, with_cast}
 use Rattle.meeting_core.specs.Step.{answer_to, needs_no_memory, party_answer}
 use Rattle.meeting_core.proofs.AppointmentsKept.{appointment_kept, ending_kept, given_count, numbered_given, unended_none}
+use Rattle.meeting_core.proofs.AttendanceKept.{authority_kept, demand_kept, not_demanded, not_given, presence_kept, room_left}
 use Rattle.meeting_core.proofs.MeetingKept.{register_kept, opening_kept, poll_kept, start_kept, close_kept, declare_kept, vote_kept}
 
 -- where nothing is refused, the first condition fails, and the others refuse nothing
@@ -159,18 +165,29 @@ load_kept o now new h = in_found o new.meeting (load_answer now new) h (λ m fou
     let same = same_rows m.register new.rows in
     by_refusal o (loads same new) (first_refusal (load_cases m.meeting now new)) h (λ _. loads_kept o m same new h found))
 
-open_kept : (o : OfficeLists) (now : ℕ) (id : List ℕ) → is_office o ≡ true → Kept o (in_meeting (meeting_at o id) (open_answer now id))
-open_kept o now id h = in_found o id (open_answer now id) h (λ m found.
-    by_refusal o (record { reply = reply.MeetingOpened; change = Some (change.SetOpened (record { meeting = id; moment = now })) }) (first_refusal (open_cases m.meeting now)) h (λ none _.
-    let fail = all_fail (open_cases m.meeting now) none in
+-- a record that is noted keeps the office if it does where it is added
+noted_kept : (o : OfficeLists) (stands : Bool) (added : Change) → is_office o ≡ true → (stands ≡ false → is_office (after o added) ≡ true) → Kept o (noted stands added)
+noted_kept o true added h k = λ _. h
+noted_kept o false added h k = λ _. k refl
+
+presence_noted : (o : OfficeLists) (now : ℕ) (new : NewPresence) → is_office o ≡ true → Kept o (in_meeting (meeting_at o new.meeting) (presence_answer now new))
+presence_noted o now new h = in_found o new.meeting (presence_answer now new) h (λ m found.
+    let presence : PresenceMark = record { party = new.party; moment = now } in
+    noted_kept o (is_marked m.presences new.party) (change.AddPresence (record { meeting = new.meeting; presence = presence })) h (λ fresh.
+    meeting_kept o new.meeting (with_presence presence) m (λ x. refl) h found (presence_kept presence m (good_meeting o new.meeting m h found) fresh)))
+
+open_kept : (o : OfficeLists) (now : ℕ) (id : List ℕ) → is_office o ≡ true → Kept o (in_meeting (meeting_at o id) (open_answer o.closed now id))
+open_kept o now id h = in_found o id (open_answer o.closed now id) h (λ m found.
+    by_refusal o (record { reply = reply.MeetingOpened; change = Some (change.SetOpened (record { meeting = id; moment = now })) }) (first_refusal (open_cases m o.closed now)) h (λ none _.
+    let fail = all_fail (open_cases m o.closed now) none in
     meeting_kept o id (opened_at now) m (λ x. refl) h found (opening_kept now m (good_meeting o id m h found) (not_false m.meeting.loaded fail.0))))
 
-order_kept : (o : OfficeLists) (now : ℕ) (new : NewPoll) → is_office o ≡ true → Kept o (in_meeting (meeting_at o new.meeting) (order_answer now new))
-order_kept o now new h = in_found o new.meeting (order_answer now new) h (λ m found.
+order_kept : (o : OfficeLists) (now : ℕ) (new : NewPoll) → is_office o ≡ true → Kept o (in_meeting (meeting_at o new.meeting) (order_answer o.closed now new))
+order_kept o now new h = in_found o new.meeting (order_answer o.closed now new) h (λ m found.
     let poll = poll_on m.polls new.resolution in
     let n = length m.meeting.resolutions in
-    by_refusal o (record { reply = reply.Ordered; change = Some (change.AddPoll (record { meeting = new.meeting; poll = poll_of now new })) }) (first_refusal (order_cases m.meeting poll now new)) h (λ none _.
-    let fail = all_fail (order_cases m.meeting poll now new) none in
+    by_refusal o (record { reply = reply.Ordered; change = Some (change.AddPoll (record { meeting = new.meeting; poll = poll_of now new })) }) (first_refusal (order_cases m o.closed now new)) h (λ none _.
+    let fail = all_fail (order_cases m o.closed now new) none in
     let number : is_resolution n new.resolution ≡ true = not_false (is_resolution n new.resolution) fail.0 in
     let good : is_poll n (poll_of now new) ≡ true = both_true (both_true (both_true number refl) refl) refl in
     meeting_kept o new.meeting (with_poll (poll_of now new)) m (λ x. refl) h found
@@ -223,6 +240,7 @@ days_loaded o false days h = λ limits.
 office_kept : (o : OfficeLists) (now : ℕ) (request : Request) → is_office o ≡ true → Kept o (office_answer o.closed o.meetings now request)
 office_kept o now (asked.CallMeeting new) h = call_kept o new h
 office_kept o now (asked.LoadRegister new) h = load_kept o now new h
+office_kept o now (asked.Presence new) h = presence_noted o now new h
 office_kept o now (asked.OpenMeeting id) h = open_kept o now id h
 office_kept o now (asked.Order new) h = order_kept o now new h
 office_kept o now (asked.Start name) h = start_changes o now name h
@@ -233,6 +251,9 @@ office_kept o now (asked.Notice id) h = λ limits. h
 office_kept o now (asked.Mine id) h = λ limits. h
 office_kept o now (asked.Appoint new) h = λ limits. h
 office_kept o now (asked.End new) h = λ limits. h
+office_kept o now (asked.Authorise new) h = λ limits. h
+office_kept o now (asked.Attend id) h = λ limits. h
+office_kept o now (asked.Demand name) h = λ limits. h
 office_kept o now (asked.Cast new) h = λ limits. h
 
 -- ---- a vote
@@ -298,6 +319,65 @@ end_changes o party now new h =
           (unended_none m.endings party new.number m.appointments fail.0 fail.1.0))))
     ]) refl
 
+-- ---- an authority, a presence and a demand
+
+-- the answer to an authority, where the meeting is found or not
+abbrev pub authorise_in : Option MeetingLists → List ℕ → List ℕ → ℕ → NewAuthority → Answer
+authorise_in found closed party now new = authorise_answer (record_of found closed) (own_in_some found closed party now) now new
+
+authorise_changes : (o : OfficeLists) (party : List ℕ) (now : ℕ) (new : NewAuthority) → is_office o ≡ true → Kept o (authorise_in (meeting_at o new.meeting) o.closed party now new)
+authorise_changes o party now new h =
+    (elim (meeting_at o new.meeting) as (λ found. meeting_at o new.meeting ≡ found → Kept o (authorise_in found o.closed party now new)) [
+      | None ↦ λ e _. h
+      | Some m ↦ λ found. (
+          let own = own_in m o.closed party now in
+          let a = authority_of own now new in
+          let gave = gave_authority own new.person in
+          let added = change.AddAuthority (record { meeting = new.meeting; authority = a }) in
+          by_refusal o (noted gave added) (first_refusal (authorise_cases own new)) h (λ none.
+          noted_kept o gave added h (λ fresh.
+          let fail = all_fail (authorise_cases own new) none in
+          meeting_kept o new.meeting (with_authority a) m (λ x. refl) h found
+          (authority_kept a m (good_meeting o new.meeting m h found) (room_left party gave m.authorities fresh fail.1.0) (not_given party new.person m.authorities fresh)))))
+    ]) refl
+
+-- the answer to a party that notes its presence, where the meeting is found or not
+abbrev pub attend_in : Option MeetingLists → List ℕ → List ℕ → ℕ → List ℕ → Answer
+attend_in found closed party now id = attend_answer (record_of found closed) (own_in_some found closed party now) now id
+
+attend_changes : (o : OfficeLists) (party : List ℕ) (now : ℕ) (id : List ℕ) → is_office o ≡ true → Kept o (attend_in (meeting_at o id) o.closed party now id)
+attend_changes o party now id h =
+    (elim (meeting_at o id) as (λ found. meeting_at o id ≡ found → Kept o (attend_in found o.closed party now id)) [
+      | None ↦ λ e _. h
+      | Some m ↦ λ found. (
+          let own = own_in m o.closed party now in
+          let p = presence_of own now in
+          noted_kept o own.present (change.AddPresence (record { meeting = id; presence = p })) h (λ fresh.
+          meeting_kept o id (with_presence p) m (λ x. refl) h found (presence_kept p m (good_meeting o id m h found) fresh)))
+    ]) refl
+
+-- the answer to a demand, where the meeting is found or not
+abbrev pub demand_in : Option MeetingLists → List ℕ → List ℕ → ℕ → PollName → Answer
+demand_in found closed party now name = demand_answer (record_of found closed) (own_in_some found closed party now) now name
+
+demand_changes : (o : OfficeLists) (party : List ℕ) (now : ℕ) (name : PollName) → is_office o ≡ true → Kept o (demand_in (meeting_at o name.meeting) o.closed party now name)
+demand_changes o party now name h =
+    (elim (meeting_at o name.meeting) as (λ found. meeting_at o name.meeting ≡ found → Kept o (demand_in found o.closed party now name)) [
+      | None ↦ λ e _. h
+      | Some m ↦ λ found. (
+          let own = own_in m o.closed party now in
+          let d = demand_of own now name.resolution in
+          let stands = has_demanded own name.resolution in
+          let added = change.AddDemand (record { meeting = name.meeting; demand = d }) in
+          let cases = demand_cases m.meeting (poll_on m.polls name.resolution) own name.resolution in
+          by_refusal o (noted stands added) (first_refusal cases) h (λ none.
+          noted_kept o stands added h (λ fresh.
+          let fail = all_fail cases none in
+          meeting_kept o name.meeting (with_demand d) m (λ x. refl) h found
+          (demand_kept d m (good_meeting o name.meeting m h found) (not_false (is_resolution (length m.meeting.resolutions) name.resolution) fail.0)
+          (not_demanded party name.resolution m.demands fresh)))))
+    ]) refl
+
 notice_in : (o : OfficeLists) (meeting : Option Meeting) (closed : List ℕ) (polls : List Poll) (now : ℕ) → is_office o ≡ true
     → Kept o (notice_answer (record { closed = closed; meeting = meeting; polls = polls }) now)
 notice_in o None closed polls now h = λ _. h
@@ -317,6 +397,7 @@ mine_kept o public own now id h = mine_in o public.meeting public.closed public.
 party_kept : (o : OfficeLists) (party : List ℕ) (now : ℕ) (request : Request) → is_office o ≡ true → Kept o (party_answer o party now request)
 party_kept o party now (asked.CallMeeting new) h = λ _. h
 party_kept o party now (asked.LoadRegister new) h = λ _. h
+party_kept o party now (asked.Presence new) h = λ _. h
 party_kept o party now (asked.OpenMeeting id) h = λ _. h
 party_kept o party now (asked.Order new) h = λ _. h
 party_kept o party now (asked.Start name) h = λ _. h
@@ -327,6 +408,9 @@ party_kept o party now (asked.Notice id) h = notice_kept o (public_of o id) now 
 party_kept o party now (asked.Mine id) h = mine_kept o (public_of o id) (own_of o party id now) now id h
 party_kept o party now (asked.Appoint new) h = appoint_changes o party now new h
 party_kept o party now (asked.End new) h = end_changes o party now new h
+party_kept o party now (asked.Authorise new) h = authorise_changes o party now new h
+party_kept o party now (asked.Attend id) h = attend_changes o party now id h
+party_kept o party now (asked.Demand name) h = demand_changes o party now name h
 party_kept o party now (asked.Cast new) h = vote_changes o party now new h
 
 -- each step keeps the lists of an office
@@ -367,10 +451,36 @@ limits_of_ending : (meeting : Option Meeting) (closed : List ℕ) (polls : List 
 limits_of_ending None closed polls own now new = refl
 limits_of_ending (Some meeting) closed polls own now new = limits_settled (first_refusal (end_cases own new)) (ended own now new) refl
 
+limits_noted : (stands : Bool) (added : Change) → keeps_limits (Some added) ≡ true → keeps_limits (noted stands added).change ≡ true
+limits_noted true added h = refl
+limits_noted false added h = h
+
+limits_of_authority : (meeting : Option Meeting) (closed : List ℕ) (polls : List Poll) (own : OwnView) (now : ℕ) (new : NewAuthority)
+    → keeps_limits (authorise_answer (record { closed = closed; meeting = meeting; polls = polls }) own now new).change ≡ true
+limits_of_authority None closed polls own now new = refl
+limits_of_authority (Some meeting) closed polls own now new =
+    let gave = gave_authority own new.person in
+    let added = change.AddAuthority (record { meeting = new.meeting; authority = authority_of own now new }) in
+    limits_settled (first_refusal (authorise_cases own new)) (noted gave added) (limits_noted gave added refl)
+
+limits_of_presence : (meeting : Option Meeting) (closed : List ℕ) (polls : List Poll) (own : OwnView) (now : ℕ) (id : List ℕ)
+    → keeps_limits (attend_answer (record { closed = closed; meeting = meeting; polls = polls }) own now id).change ≡ true
+limits_of_presence None closed polls own now id = refl
+limits_of_presence (Some meeting) closed polls own now id = limits_noted own.present (change.AddPresence (record { meeting = id; presence = presence_of own now })) refl
+
+limits_of_demand : (meeting : Option Meeting) (closed : List ℕ) (polls : List Poll) (own : OwnView) (now : ℕ) (name : PollName)
+    → keeps_limits (demand_answer (record { closed = closed; meeting = meeting; polls = polls }) own now name).change ≡ true
+limits_of_demand None closed polls own now name = refl
+limits_of_demand (Some meeting) closed polls own now name =
+    let stands = has_demanded own name.resolution in
+    let added = change.AddDemand (record { meeting = name.meeting; demand = demand_of own now name.resolution }) in
+    limits_settled (first_refusal (demand_cases meeting (poll_on polls name.resolution) own name.resolution)) (noted stands added) (limits_noted stands added refl)
+
 -- what a party adds has no limits of its own
 pub party_limits : (public : PublicRecord) (own : OwnView) (now : ℕ) (request : Request) → keeps_limits (answer_of public own now request).change ≡ true
 party_limits public own now (asked.CallMeeting new) = refl
 party_limits public own now (asked.LoadRegister new) = refl
+party_limits public own now (asked.Presence new) = refl
 party_limits public own now (asked.OpenMeeting id) = refl
 party_limits public own now (asked.Order new) = refl
 party_limits public own now (asked.Start name) = refl
@@ -381,6 +491,9 @@ party_limits public own now (asked.Notice id) = limits_of_notice public.meeting 
 party_limits public own now (asked.Mine id) = limits_of_mine public.meeting public.closed public.polls own now id
 party_limits public own now (asked.Appoint new) = limits_of_appointment public.meeting public.closed public.polls own now new
 party_limits public own now (asked.End new) = limits_of_ending public.meeting public.closed public.polls own now new
+party_limits public own now (asked.Authorise new) = limits_of_authority public.meeting public.closed public.polls own now new
+party_limits public own now (asked.Attend id) = limits_of_presence public.meeting public.closed public.polls own now id
+party_limits public own now (asked.Demand name) = limits_of_demand public.meeting public.closed public.polls own now name
 party_limits public own now (asked.Cast new) = limits_of_vote public.meeting public.closed public.polls own now new
 
 -- there is no change, or one that sets fields
@@ -406,6 +519,7 @@ close_sets (Some m) now name =
 pub sets_alone : (o : OfficeLists) (now : ℕ) (who : Caller) (request : Request) → needs_no_memory who request ≡ true → sets (answer_to o now who request).change ≡ true
 sets_alone o now caller.Office (asked.CallMeeting new) h = absurd (cc)
 sets_alone o now caller.Office (asked.LoadRegister new) h = absurd (cc)
+sets_alone o now caller.Office (asked.Presence new) h = absurd (cc)
 sets_alone o now caller.Office (asked.OpenMeeting id) h = absurd (cc)
 sets_alone o now caller.Office (asked.Order new) h = absurd (cc)
 sets_alone o now caller.Office (asked.Start name) h = start_sets (meeting_at o name.meeting) now name
@@ -416,9 +530,13 @@ sets_alone o now caller.Office (asked.Notice id) h = refl
 sets_alone o now caller.Office (asked.Mine id) h = refl
 sets_alone o now caller.Office (asked.Appoint new) h = refl
 sets_alone o now caller.Office (asked.End new) h = refl
+sets_alone o now caller.Office (asked.Authorise new) h = refl
+sets_alone o now caller.Office (asked.Attend id) h = refl
+sets_alone o now caller.Office (asked.Demand name) h = refl
 sets_alone o now caller.Office (asked.Cast new) h = refl
 sets_alone o now (caller.Party party) (asked.CallMeeting new) h = refl
 sets_alone o now (caller.Party party) (asked.LoadRegister new) h = refl
+sets_alone o now (caller.Party party) (asked.Presence new) h = refl
 sets_alone o now (caller.Party party) (asked.OpenMeeting id) h = refl
 sets_alone o now (caller.Party party) (asked.Order new) h = refl
 sets_alone o now (caller.Party party) (asked.Start name) h = refl
@@ -429,4 +547,7 @@ sets_alone o now (caller.Party party) (asked.Notice id) h = absurd (cc)
 sets_alone o now (caller.Party party) (asked.Mine id) h = absurd (cc)
 sets_alone o now (caller.Party party) (asked.Appoint new) h = absurd (cc)
 sets_alone o now (caller.Party party) (asked.End new) h = absurd (cc)
+sets_alone o now (caller.Party party) (asked.Authorise new) h = absurd (cc)
+sets_alone o now (caller.Party party) (asked.Attend id) h = absurd (cc)
+sets_alone o now (caller.Party party) (asked.Demand name) h = absurd (cc)
 sets_alone o now (caller.Party party) (asked.Cast new) h = absurd (cc)

@@ -14,8 +14,12 @@ use Rattle.desk_words.specs.declared.caller.Caller.TheVariants as caller
 use Rattle.desk_words.specs.declared.office.OfficeLists.{OfficeLists}
 use Rattle.desk_words.specs.declared.office.MeetingLists.{MeetingLists}
 use Rattle.desk_words.specs.declared.request.AddAppointment.{AddAppointment}
+use Rattle.desk_words.specs.declared.request.AddAuthority.{AddAuthority}
 use Rattle.desk_words.specs.declared.request.AddCast.{AddCast}
+use Rattle.desk_words.specs.declared.request.AddDemand.{AddDemand}
 use Rattle.desk_words.specs.declared.request.AddEnding.{AddEnding}
+use Rattle.desk_words.specs.declared.request.AddPresence.{AddPresence}
+use Rattle.desk_words.specs.declared.request.Change.{Change}
 use Rattle.desk_words.specs.declared.request.Change.TheVariants as change
 use Rattle.desk_words.specs.declared.records.DemandMark.{DemandMark}
 use Rattle.desk_words.specs.declared.records.Meeting.{Meeting}
@@ -23,9 +27,12 @@ use Rattle.desk_words.specs.declared.request.Authorised.{Authorised}
 use Rattle.desk_words.specs.declared.request.Given.{Given}
 use Rattle.desk_words.specs.declared.request.GivenUse.{GivenUse}
 use Rattle.desk_words.specs.declared.request.NewAppointment.{NewAppointment}
+use Rattle.desk_words.specs.declared.request.NewAuthority.{NewAuthority}
 use Rattle.desk_words.specs.declared.request.NewCast.{NewCast}
 use Rattle.desk_words.specs.declared.request.NewEnding.{NewEnding}
+use Rattle.desk_words.specs.declared.request.NewPresence.{NewPresence}
 use Rattle.desk_words.specs.declared.request.NewRegister.{NewRegister}
+use Rattle.desk_words.specs.declared.request.PollName.{PollName}
 use Rattle.desk_words.specs.declared.request.Received.{Received}
 use Rattle.desk_words.specs.declared.request.Reply.TheVariants as reply
 use Rattle.desk_words.specs.declared.request.Request.{Request}
@@ -33,19 +40,21 @@ use Rattle.desk_words.specs.declared.request.Request.TheVariants as asked
 use Rattle.desk_terms.specs.declared.refusal.Refusal.{Refusal}
 use Rattle.caller_view.specs.declared.views.Answer.{Answer}
 use Rattle.caller_view.specs.declared.views.OwnView.{OwnView}
-use Rattle.caller_view.specs.Answers.{answer_of, appointed, cast_cases, cast_of, cast_recorded, cutoff_in, ended, settled, unless, mine_answer, mine_of, notice_answer}
+use Rattle.caller_view.specs.Answers.{answer_of, appointed, cast_cases, cast_of, cast_recorded, cutoff_in, ended, noted, settled, unless, mine_answer, mine_of, notice_answer}
 use Rattle.caller_view.specs.Appointments.{appoint_cases, appointment_of, end_cases, ending_of, given_use}
+use Rattle.caller_view.specs.Attendance.{authorise_cases, authority_of, demand_cases, demand_of, gave_authority, has_demanded, presence_of}
 use Rattle.caller_view.specs.Polls.{poll_on}
 use Rattle.caller_view.specs.Views.{meeting_at, own_in, own_in_some, own_of, polls_in, public_of}
+use Rattle.office_answers.specs.Attendance.{presence_answer}
 use Rattle.office_answers.specs.Calls.{call_cases, in_meeting, load_cases, loads, meeting_of}
 use Rattle.office_answers.specs.Closed.{same_days, loads_days}
 use Rattle.office_answers.specs.Polls.{open_cases, order_cases, start_cases, close_cases, declare_cases, declaration_of, poll_of}
 use Rattle.meeting_core.specs.Conditions.{ConditionsStandInOrder, TheLowestRefusalIsAnswered, cases_in, no_meeting, refusal_in, request_cases, side_cases}
 use Rattle.meeting_core.specs.Laws.{PartiesLeaveThePublicRecord, RepliesAreTheCallersOwn}
 use Rattle.meeting_core.specs.Names.{Names, NamesAreTheCallersOwn, in_appointment, in_authority, in_cast, in_mine, in_reply, in_row, in_view}
-use Rattle.meeting_core.specs.Office.{after_some, change_at, with_appointment, with_cast, with_ending}
+use Rattle.meeting_core.specs.Office.{after, after_some, change_at, with_appointment, with_authority, with_cast, with_demand, with_ending, with_presence}
 use Rattle.meeting_core.specs.Step.{answer_to, party_answer}
-use Rattle.meeting_core.proofs.OfficeKept.{appoint_in, end_in, record_of, vote_in}
+use Rattle.meeting_core.proofs.OfficeKept.{appoint_in, attend_in, authorise_in, demand_in, end_in, record_of, vote_in}
 
 pub replies_own : RepliesAreTheCallersOwn
 replies_own o p party now request agree = λ i. answer_of (agree.public i) (agree.own i) now request
@@ -86,6 +95,16 @@ appointment_unseen o added id = unseen_at o (with_appointment added.appointment)
 ending_unseen : (o : OfficeLists) (added : AddEnding) (id : List ℕ) → public_of (after_some o (Some (change.AddEnding added))) id ≡ public_of o id
 ending_unseen o added id = unseen_at o (with_ending added.ending) added.meeting id (λ m. refl) (λ m. refl)
 
+-- nor does an authority, a presence or a demand
+authority_unseen : (o : OfficeLists) (added : AddAuthority) (id : List ℕ) → public_of (after_some o (Some (change.AddAuthority added))) id ≡ public_of o id
+authority_unseen o added id = unseen_at o (with_authority added.authority) added.meeting id (λ m. refl) (λ m. refl)
+
+presence_unseen : (o : OfficeLists) (added : AddPresence) (id : List ℕ) → public_of (after_some o (Some (change.AddPresence added))) id ≡ public_of o id
+presence_unseen o added id = unseen_at o (with_presence added.presence) added.meeting id (λ m. refl) (λ m. refl)
+
+demand_unseen : (o : OfficeLists) (added : AddDemand) (id : List ℕ) → public_of (after_some o (Some (change.AddDemand added))) id ≡ public_of o id
+demand_unseen o added id = unseen_at o (with_demand added.demand) added.meeting id (λ m. refl) (λ m. refl)
+
 -- an answer that changes nothing that is public
 abbrev IsUnseen : OfficeLists → Answer → Type 0
 IsUnseen o answer = (id : List ℕ) → public_of (after_some o answer.change) id ≡ public_of o id
@@ -114,6 +133,34 @@ ending_leaves o (Some m) party now new =
     let own = own_in m o.closed party now in
     unseen_settled o (first_refusal (end_cases own new)) (ended own now new) (ending_unseen o (record { meeting = new.meeting; ending = ending_of own now new }))
 
+unseen_noted : (o : OfficeLists) (stands : Bool) (added : Change) → ((id : List ℕ) → public_of (after o added) id ≡ public_of o id) → IsUnseen o (noted stands added)
+unseen_noted o true added h = λ id. refl
+unseen_noted o false added h = h
+
+authority_leaves : (o : OfficeLists) (found : Option MeetingLists) (party : List ℕ) (now : ℕ) (new : NewAuthority) → IsUnseen o (authorise_in found o.closed party now new)
+authority_leaves o None party now new = λ id. refl
+authority_leaves o (Some m) party now new =
+    let own = own_in m o.closed party now in
+    let gave = gave_authority own new.person in
+    let added : AddAuthority = record { meeting = new.meeting; authority = authority_of own now new } in
+    unseen_settled o (first_refusal (authorise_cases own new)) (noted gave (change.AddAuthority added)) (unseen_noted o gave (change.AddAuthority added) (authority_unseen o added))
+
+presence_leaves : (o : OfficeLists) (found : Option MeetingLists) (party : List ℕ) (now : ℕ) (id : List ℕ) → IsUnseen o (attend_in found o.closed party now id)
+presence_leaves o None party now id = λ _. refl
+presence_leaves o (Some m) party now id =
+    let own = own_in m o.closed party now in
+    let added : AddPresence = record { meeting = id; presence = presence_of own now } in
+    unseen_noted o own.present (change.AddPresence added) (presence_unseen o added)
+
+demand_leaves : (o : OfficeLists) (found : Option MeetingLists) (party : List ℕ) (now : ℕ) (name : PollName) → IsUnseen o (demand_in found o.closed party now name)
+demand_leaves o None party now name = λ id. refl
+demand_leaves o (Some m) party now name =
+    let own = own_in m o.closed party now in
+    let stands = has_demanded own name.resolution in
+    let added : AddDemand = record { meeting = name.meeting; demand = demand_of own now name.resolution } in
+    unseen_settled o (first_refusal (demand_cases m.meeting (poll_on m.polls name.resolution) own name.resolution)) (noted stands (change.AddDemand added))
+    (unseen_noted o stands (change.AddDemand added) (demand_unseen o added))
+
 -- the answer to a party that asks for the notice, where the meeting is found or not
 abbrev notice_to : Option MeetingLists → List ℕ → ℕ → Answer
 notice_to found closed now = notice_answer (record_of found closed) now
@@ -133,6 +180,7 @@ mine_leaves o (Some m) party now id = λ _. refl
 pub public_stays : PartiesLeaveThePublicRecord
 public_stays o party now (asked.CallMeeting new) = λ id. refl
 public_stays o party now (asked.LoadRegister new) = λ id. refl
+public_stays o party now (asked.Presence new) = λ id. refl
 public_stays o party now (asked.OpenMeeting meeting) = λ id. refl
 public_stays o party now (asked.Order new) = λ id. refl
 public_stays o party now (asked.Start name) = λ id. refl
@@ -143,6 +191,9 @@ public_stays o party now (asked.Notice meeting) = notice_leaves o (meeting_at o 
 public_stays o party now (asked.Mine meeting) = mine_leaves o (meeting_at o meeting) party now meeting
 public_stays o party now (asked.Appoint new) = appointment_leaves o (meeting_at o new.meeting) party now new
 public_stays o party now (asked.End new) = ending_leaves o (meeting_at o new.meeting) party now new
+public_stays o party now (asked.Authorise new) = authority_leaves o (meeting_at o new.meeting) party now new
+public_stays o party now (asked.Attend meeting) = presence_leaves o (meeting_at o meeting) party now meeting
+public_stays o party now (asked.Demand name) = demand_leaves o (meeting_at o name.meeting) party now name
 public_stays o party now (asked.Cast new) = vote_leaves o (meeting_at o new.meeting) party now new
 
 -- ---- names
@@ -196,6 +247,25 @@ ending_names (Some m) closed party now new =
     let own = own_in m closed party now in
     nobody_settled (first_refusal (end_cases own new)) (ended own now new) refl
 
+-- nor what is noted
+authority_names : (found : Option MeetingLists) (closed party : List ℕ) (now : ℕ) (new : NewAuthority) → in_reply (authorise_in found closed party now new).reply ≡ []
+authority_names None closed party now new = refl
+authority_names (Some m) closed party now new =
+    let own = own_in m closed party now in
+    let added = change.AddAuthority (record { meeting = new.meeting; authority = authority_of own now new }) in
+    nobody_settled (first_refusal (authorise_cases own new)) (noted (gave_authority own new.person) added) refl
+
+presence_names : (found : Option MeetingLists) (closed party : List ℕ) (now : ℕ) (id : List ℕ) → in_reply (attend_in found closed party now id).reply ≡ []
+presence_names None closed party now id = refl
+presence_names (Some m) closed party now id = refl
+
+demand_names : (found : Option MeetingLists) (closed party : List ℕ) (now : ℕ) (name : PollName) → in_reply (demand_in found closed party now name).reply ≡ []
+demand_names None closed party now name = refl
+demand_names (Some m) closed party now name =
+    let own = own_in m closed party now in
+    let added = change.AddDemand (record { meeting = name.meeting; demand = demand_of own now name.resolution }) in
+    nobody_settled (first_refusal (demand_cases m.meeting (poll_on m.polls name.resolution) own name.resolution)) (noted (has_demanded own name.resolution) added) refl
+
 notice_names : (found : Option MeetingLists) (closed : List ℕ) (now : ℕ) → in_reply (notice_to found closed now).reply ≡ []
 notice_names None closed now = refl
 notice_names (Some m) closed now = refl
@@ -207,6 +277,7 @@ none_named view (x ∷ xs) h = absurd (cc)
 pub names_own : NamesAreTheCallersOwn
 names_own o party now (asked.CallMeeting new) = λ k d h. absurd (omega arith)
 names_own o party now (asked.LoadRegister new) = λ k d h. absurd (omega arith)
+names_own o party now (asked.Presence new) = λ k d h. absurd (omega arith)
 names_own o party now (asked.OpenMeeting id) = λ k d h. absurd (omega arith)
 names_own o party now (asked.Order new) = λ k d h. absurd (omega arith)
 names_own o party now (asked.Start name) = λ k d h. absurd (omega arith)
@@ -220,6 +291,12 @@ names_own o party now (asked.Appoint new) =
     none_named (in_view (own_of o party new.meeting now)) (in_reply (party_answer o party now (asked.Appoint new)).reply) (appointment_names (meeting_at o new.meeting) o.closed party now new)
 names_own o party now (asked.End new) =
     none_named (in_view (own_of o party new.meeting now)) (in_reply (party_answer o party now (asked.End new)).reply) (ending_names (meeting_at o new.meeting) o.closed party now new)
+names_own o party now (asked.Authorise new) =
+    none_named (in_view (own_of o party new.meeting now)) (in_reply (party_answer o party now (asked.Authorise new)).reply) (authority_names (meeting_at o new.meeting) o.closed party now new)
+names_own o party now (asked.Attend id) =
+    none_named (in_view (own_of o party id now)) (in_reply (party_answer o party now (asked.Attend id)).reply) (presence_names (meeting_at o id) o.closed party now id)
+names_own o party now (asked.Demand name) =
+    none_named (in_view (own_of o party name.meeting now)) (in_reply (party_answer o party now (asked.Demand name)).reply) (demand_names (meeting_at o name.meeting) o.closed party now name)
 names_own o party now (asked.Cast new) =
     none_named (in_view (own_of o party new.meeting now)) (in_reply (party_answer o party now (asked.Cast new)).reply) (vote_names (meeting_at o new.meeting) o.closed party now new)
 
@@ -275,16 +352,44 @@ ending_lowest (Some m) closed party now new =
     let own = own_in m closed party now in
     refusal_settled (first_refusal (end_cases own new)) (ended own now new) refl
 
+authority_lowest : (found : Option MeetingLists) (closed party : List ℕ) (now : ℕ) (new : NewAuthority)
+    → refusal_in (authorise_in found closed party now new).reply
+    ≡ first_refusal (no_meeting found ∷ cases_in found (λ (m : MeetingLists). authorise_cases (own_in m closed party now) new))
+authority_lowest None closed party now new = refl
+authority_lowest (Some m) closed party now new =
+    let own = own_in m closed party now in
+    let added = change.AddAuthority (record { meeting = new.meeting; authority = authority_of own now new }) in
+    refusal_settled (first_refusal (authorise_cases own new)) (noted (gave_authority own new.person) added) refl
+
+presence_lowest : (found : Option MeetingLists) (closed party : List ℕ) (now : ℕ) (id : List ℕ) → refusal_in (attend_in found closed party now id).reply ≡ first_refusal (no_meeting found ∷ [])
+presence_lowest None closed party now id = refl
+presence_lowest (Some m) closed party now id = refl
+
+demand_lowest : (found : Option MeetingLists) (closed party : List ℕ) (now : ℕ) (name : PollName)
+    → refusal_in (demand_in found closed party now name).reply
+    ≡ first_refusal (no_meeting found ∷ cases_in found (λ (m : MeetingLists). demand_cases m.meeting (poll_on m.polls name.resolution) (own_in m closed party now) name.resolution))
+demand_lowest None closed party now name = refl
+demand_lowest (Some m) closed party now name =
+    let own = own_in m closed party now in
+    let added = change.AddDemand (record { meeting = name.meeting; demand = demand_of own now name.resolution }) in
+    refusal_settled (first_refusal (demand_cases m.meeting (poll_on m.polls name.resolution) own name.resolution)) (noted (has_demanded own name.resolution) added) refl
+
+-- the office's note of a presence
+marked_lowest : (found : Option MeetingLists) (now : ℕ) (new : NewPresence) → refusal_in (in_meeting found (presence_answer now new)).reply ≡ first_refusal (no_meeting found ∷ [])
+marked_lowest None now new = refl
+marked_lowest (Some m) now new = refl
+
 lowest_to : (o : OfficeLists) (now : ℕ) (who : Caller) (request : Request)
     → refusal_in (answer_to o now who request).reply ≡ first_refusal (side_cases who request ++ request_cases o now who request)
 lowest_to o now caller.Office (asked.CallMeeting new) =
     refusal_settled (first_refusal (call_cases o.meetings new)) (record { reply = reply.Called; change = Some (change.AddMeeting (meeting_of new)) }) refl
 lowest_to o now caller.Office (asked.LoadRegister new) =
     in_lowest (meeting_at o new.meeting) (λ m. load_cases m.meeting now new) (λ m. loads (same_rows m.register new.rows) new) (λ m. loads_accepted (same_rows m.register new.rows) new)
+lowest_to o now caller.Office (asked.Presence new) = marked_lowest (meeting_at o new.meeting) now new
 lowest_to o now caller.Office (asked.OpenMeeting id) =
-    in_lowest (meeting_at o id) (λ m. open_cases m.meeting now) (λ m. record { reply = reply.MeetingOpened; change = Some (change.SetOpened (record { meeting = id; moment = now })) }) (λ m. refl)
+    in_lowest (meeting_at o id) (λ m. open_cases m o.closed now) (λ m. record { reply = reply.MeetingOpened; change = Some (change.SetOpened (record { meeting = id; moment = now })) }) (λ m. refl)
 lowest_to o now caller.Office (asked.Order new) =
-    in_lowest (meeting_at o new.meeting) (λ m. order_cases m.meeting (poll_on m.polls new.resolution) now new)
+    in_lowest (meeting_at o new.meeting) (λ m. order_cases m o.closed now new)
     (λ m. record { reply = reply.Ordered; change = Some (change.AddPoll (record { meeting = new.meeting; poll = poll_of now new })) }) (λ m. refl)
 lowest_to o now caller.Office (asked.Start name) =
     in_lowest (meeting_at o name.meeting) (λ m. start_cases m.meeting (poll_on m.polls name.resolution) now name.resolution)
@@ -300,9 +405,13 @@ lowest_to o now caller.Office (asked.Notice id) = refl
 lowest_to o now caller.Office (asked.Mine id) = refl
 lowest_to o now caller.Office (asked.Appoint new) = refl
 lowest_to o now caller.Office (asked.End new) = refl
+lowest_to o now caller.Office (asked.Authorise new) = refl
+lowest_to o now caller.Office (asked.Attend id) = refl
+lowest_to o now caller.Office (asked.Demand name) = refl
 lowest_to o now caller.Office (asked.Cast new) = refl
 lowest_to o now (caller.Party party) (asked.CallMeeting new) = refl
 lowest_to o now (caller.Party party) (asked.LoadRegister new) = refl
+lowest_to o now (caller.Party party) (asked.Presence new) = refl
 lowest_to o now (caller.Party party) (asked.OpenMeeting id) = refl
 lowest_to o now (caller.Party party) (asked.Order new) = refl
 lowest_to o now (caller.Party party) (asked.Start name) = refl
@@ -313,6 +422,9 @@ lowest_to o now (caller.Party party) (asked.Notice id) = notice_lowest (meeting_
 lowest_to o now (caller.Party party) (asked.Mine id) = mine_lowest (meeting_at o id) o.closed party now id
 lowest_to o now (caller.Party party) (asked.Appoint new) = appointment_lowest (meeting_at o new.meeting) o.closed party now new
 lowest_to o now (caller.Party party) (asked.End new) = ending_lowest (meeting_at o new.meeting) o.closed party now new
+lowest_to o now (caller.Party party) (asked.Authorise new) = authority_lowest (meeting_at o new.meeting) o.closed party now new
+lowest_to o now (caller.Party party) (asked.Attend id) = presence_lowest (meeting_at o id) o.closed party now id
+lowest_to o now (caller.Party party) (asked.Demand name) = demand_lowest (meeting_at o name.meeting) o.closed party now name
 lowest_to o now (caller.Party party) (asked.Cast new) = vote_lowest (meeting_at o new.meeting) o.closed party now new
 
 pub lowest : TheLowestRefusalIsAnswered
@@ -325,8 +437,9 @@ order_in (Some m) cases h = h m
 order_of : (o : OfficeLists) (now : ℕ) (who : Caller) (request : Request) → ascend_from 7 (request_cases o now who request) ≡ true
 order_of o now who (asked.CallMeeting new) = refl
 order_of o now who (asked.LoadRegister new) = order_in (meeting_at o new.meeting) (λ m. load_cases m.meeting now new) (λ m. refl)
-order_of o now who (asked.OpenMeeting id) = order_in (meeting_at o id) (λ m. open_cases m.meeting now) (λ m. refl)
-order_of o now who (asked.Order new) = order_in (meeting_at o new.meeting) (λ m. order_cases m.meeting (poll_on m.polls new.resolution) now new) (λ m. refl)
+order_of o now who (asked.Presence new) = refl
+order_of o now who (asked.OpenMeeting id) = order_in (meeting_at o id) (λ m. open_cases m o.closed now) (λ m. refl)
+order_of o now who (asked.Order new) = order_in (meeting_at o new.meeting) (λ m. order_cases m o.closed now new) (λ m. refl)
 order_of o now who (asked.Start name) = order_in (meeting_at o name.meeting) (λ m. start_cases m.meeting (poll_on m.polls name.resolution) now name.resolution) (λ m. refl)
 order_of o now who (asked.Close name) = order_in (meeting_at o name.meeting) (λ m. close_cases m.meeting (poll_on m.polls name.resolution) name.resolution) (λ m. refl)
 order_of o now who (asked.Declare name) = order_in (meeting_at o name.meeting) (λ m. declare_cases m.meeting (poll_on m.polls name.resolution) name.resolution) (λ m. refl)
@@ -338,6 +451,12 @@ order_of o now (caller.Party party) (asked.Appoint new) =
     order_in (meeting_at o new.meeting) (λ m. appoint_cases m.meeting (own_in m o.closed party now) new) (λ m. refl)
 order_of o now caller.Office (asked.End new) = refl
 order_of o now (caller.Party party) (asked.End new) = order_in (meeting_at o new.meeting) (λ m. end_cases (own_in m o.closed party now) new) (λ m. refl)
+order_of o now caller.Office (asked.Authorise new) = refl
+order_of o now (caller.Party party) (asked.Authorise new) = order_in (meeting_at o new.meeting) (λ m. authorise_cases (own_in m o.closed party now) new) (λ m. refl)
+order_of o now who (asked.Attend id) = refl
+order_of o now caller.Office (asked.Demand name) = refl
+order_of o now (caller.Party party) (asked.Demand name) =
+    order_in (meeting_at o name.meeting) (λ m. demand_cases m.meeting (poll_on m.polls name.resolution) (own_in m o.closed party now) name.resolution) (λ m. refl)
 order_of o now caller.Office (asked.Cast new) = refl
 order_of o now (caller.Party party) (asked.Cast new) =
     order_in (meeting_at o new.meeting) (λ m. cast_cases m.meeting (poll_on m.polls new.resolution) (own_in m o.closed party now) new) (λ m. refl)

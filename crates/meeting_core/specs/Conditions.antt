@@ -14,6 +14,7 @@ use Rattle.desk_terms.specs.declared.refusal.Refusal.{Refusal}
 use Rattle.desk_terms.specs.declared.refusal.Refusal.TheVariants.{OfficeOnly, PartyOnly, NoMeeting}
 use Rattle.caller_view.specs.Answers.{cast_cases, is_for_office}
 use Rattle.caller_view.specs.Appointments.{appoint_cases, end_cases}
+use Rattle.caller_view.specs.Attendance.{authorise_cases, demand_cases}
 use Rattle.caller_view.specs.declared.views.OwnView.{OwnView}
 use Rattle.caller_view.specs.Polls.{poll_on}
 use Rattle.caller_view.specs.Views.{meeting_at, own_in}
@@ -60,8 +61,9 @@ own_cases o (caller.Party party) now id f = meeting_cases o id (λ (m : MeetingL
 abbrev pub request_cases : OfficeLists → ℕ → Caller → Request → List Case
 request_cases o now who (asked.CallMeeting new) = call_cases o.meetings new
 request_cases o now who (asked.LoadRegister new) = meeting_cases o new.meeting (λ (m : MeetingLists). load_cases m.meeting now new)
-request_cases o now who (asked.OpenMeeting id) = meeting_cases o id (λ (m : MeetingLists). open_cases m.meeting now)
-request_cases o now who (asked.Order new) = meeting_cases o new.meeting (λ (m : MeetingLists). order_cases m.meeting (poll_on m.polls new.resolution) now new)
+request_cases o now who (asked.Presence new) = no_meeting (meeting_at o new.meeting) ∷ []
+request_cases o now who (asked.OpenMeeting id) = meeting_cases o id (λ (m : MeetingLists). open_cases m o.closed now)
+request_cases o now who (asked.Order new) = meeting_cases o new.meeting (λ (m : MeetingLists). order_cases m o.closed now new)
 request_cases o now who (asked.Start name) =
     meeting_cases o name.meeting (λ (m : MeetingLists). start_cases m.meeting (poll_on m.polls name.resolution) now name.resolution)
 request_cases o now who (asked.Close name) =
@@ -73,6 +75,10 @@ request_cases o now who (asked.Notice id) = no_meeting (meeting_at o id) ∷ []
 request_cases o now who (asked.Mine id) = no_meeting (meeting_at o id) ∷ []
 request_cases o now who (asked.Appoint new) = own_cases o who now new.meeting (λ m own. appoint_cases m.meeting own new)
 request_cases o now who (asked.End new) = own_cases o who now new.meeting (λ m own. end_cases own new)
+request_cases o now who (asked.Authorise new) = own_cases o who now new.meeting (λ m own. authorise_cases own new)
+request_cases o now who (asked.Attend id) = no_meeting (meeting_at o id) ∷ []
+request_cases o now who (asked.Demand name) =
+    own_cases o who now name.meeting (λ m own. demand_cases m.meeting (poll_on m.polls name.resolution) own name.resolution)
 request_cases o now who (asked.Cast new) = own_cases o who now new.meeting (λ m own. cast_cases m.meeting (poll_on m.polls new.resolution) own new)
 
 -- all the conditions under which a call is refused
@@ -93,6 +99,7 @@ refusal_in (reply.Notice n) = None
 refusal_in (reply.Mine m) = None
 refusal_in (reply.Appointed receipt) = None
 refusal_in (reply.Ended number) = None
+refusal_in reply.Noted = None
 refusal_in reply.Recorded = None
 refusal_in (reply.Refused r) = Some r
 

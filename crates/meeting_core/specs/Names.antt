@@ -69,6 +69,7 @@ in_reply (reply.Notice n) = []
 in_reply (reply.Mine m) = in_mine m
 in_reply (reply.Appointed receipt) = []
 in_reply (reply.Ended number) = []
+in_reply reply.Noted = []
 in_reply reply.Recorded = []
 in_reply (reply.Refused r) = []
 

@@ -7,11 +7,14 @@ use Rattle.desk_words.specs.Office.{poll_before}
 use Rattle.desk_words.specs.declared.office.OfficeLists.{OfficeLists}
 use Rattle.desk_words.specs.declared.office.MeetingLists.{MeetingLists}
 use Rattle.desk_words.specs.declared.records.Appointment.{Appointment}
+use Rattle.desk_words.specs.declared.records.Authority.{Authority}
+use Rattle.desk_words.specs.declared.records.DemandMark.{DemandMark}
 use Rattle.desk_words.specs.declared.records.Ending.{Ending}
 use Rattle.desk_words.specs.declared.records.RegisterRow.{RegisterRow}
 use Rattle.desk_words.specs.declared.records.Meeting.{Meeting}
 use Rattle.desk_words.specs.declared.records.CastMark.{CastMark}
 use Rattle.desk_words.specs.declared.records.Poll.{Poll}
+use Rattle.desk_words.specs.declared.records.PresenceMark.{PresenceMark}
 use Rattle.desk_words.specs.declared.records.Tally.{Tally}
 use Rattle.desk_words.specs.declared.request.PollName.{PollName}
 use Rattle.desk_words.specs.declared.request.Change.{Change}
@@ -75,6 +78,18 @@ with_appointment appointment m = record m { appointments = m.appointments ++ app
 abbrev pub with_ending : Ending → MeetingLists → MeetingLists
 with_ending ending m = record m { endings = m.endings ++ ending ∷ [] }
 
+-- a meeting with one authority more
+abbrev pub with_authority : Authority → MeetingLists → MeetingLists
+with_authority authority m = record m { authorities = m.authorities ++ authority ∷ [] }
+
+-- a meeting with one presence more
+abbrev pub with_presence : PresenceMark → MeetingLists → MeetingLists
+with_presence presence m = record m { presences = m.presences ++ presence ∷ [] }
+
+-- a meeting with one demand more
+abbrev pub with_demand : DemandMark → MeetingLists → MeetingLists
+with_demand demand m = record m { demands = m.demands ++ demand ∷ [] }
+
 -- a meeting with one vote more
 abbrev pub with_cast : CastMark → MeetingLists → MeetingLists
 with_cast cast m = record m { casts = m.casts ++ cast ∷ [] }
@@ -99,6 +114,9 @@ after office (change.SetDeclared set) = change_named (declared_as set.tally) set
 after office (change.SetClosedDays days) = record office { closed = days }
 after office (change.AddAppointment added) = change_meeting (with_appointment added.appointment) added.meeting office
 after office (change.AddEnding added) = change_meeting (with_ending added.ending) added.meeting office
+after office (change.AddAuthority added) = change_meeting (with_authority added.authority) added.meeting office
+after office (change.AddPresence added) = change_meeting (with_presence added.presence) added.meeting office
+after office (change.AddDemand added) = change_meeting (with_demand added.demand) added.meeting office
 after office (change.AddCast added) = change_meeting (with_cast added.cast) added.meeting office
 
 -- the office after a change, if there is one
@@ -118,4 +136,7 @@ sets_fields (change.SetDeclared set) = true
 sets_fields (change.SetClosedDays days) = true
 sets_fields (change.AddAppointment added) = false
 sets_fields (change.AddEnding added) = false
+sets_fields (change.AddAuthority added) = false
+sets_fields (change.AddPresence added) = false
+sets_fields (change.AddDemand added) = false
 sets_fields (change.AddCast added) = false

@@ -17,6 +17,7 @@ use Rattle.office_answers.specs.Answers.{office_answer}
 abbrev pub named_meeting : Request → List ℕ
 named_meeting (asked.CallMeeting new) = new.meeting
 named_meeting (asked.LoadRegister new) = new.meeting
+named_meeting (asked.Presence new) = new.meeting
 named_meeting (asked.OpenMeeting meeting) = meeting
 named_meeting (asked.Order new) = new.meeting
 named_meeting (asked.Start poll) = poll.meeting
@@ -27,6 +28,9 @@ named_meeting (asked.Notice meeting) = meeting
 named_meeting (asked.Mine meeting) = meeting
 named_meeting (asked.Appoint new) = new.meeting
 named_meeting (asked.End new) = new.meeting
+named_meeting (asked.Authorise new) = new.meeting
+named_meeting (asked.Attend meeting) = meeting
+named_meeting (asked.Demand poll) = poll.meeting
 named_meeting (asked.Cast new) = new.meeting
 
 -- the answer to a party: that of its views of the meeting that the request names
@@ -48,6 +52,7 @@ is_misplaced (caller.Party party) request = is_for_office request
 abbrev pub is_start_or_close : Request → Bool
 is_start_or_close (asked.CallMeeting new) = false
 is_start_or_close (asked.LoadRegister new) = false
+is_start_or_close (asked.Presence new) = false
 is_start_or_close (asked.OpenMeeting meeting) = false
 is_start_or_close (asked.Order new) = false
 is_start_or_close (asked.Start poll) = true
@@ -58,6 +63,9 @@ is_start_or_close (asked.Notice meeting) = false
 is_start_or_close (asked.Mine meeting) = false
 is_start_or_close (asked.Appoint new) = false
 is_start_or_close (asked.End new) = false
+is_start_or_close (asked.Authorise new) = false
+is_start_or_close (asked.Attend meeting) = false
+is_start_or_close (asked.Demand poll) = false
 is_start_or_close (asked.Cast new) = false
 
 -- the office starts or closes a poll

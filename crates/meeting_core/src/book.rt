@@ -10,8 +10,8 @@ ghost use Rattle.meeting_core.specs.Office.{after, after_some, empty_office, set
 ghost use Rattle.meeting_core.specs.Step.{decided, needs_no_memory, stepped, party_answer};
 
 use crate::changes::{
-    add_appointment, add_cast, add_ending, add_poll, new_lists, set_closed, set_declared,
-    set_opened, set_register, set_started,
+    add_appointment, add_authority, add_cast, add_demand, add_ending, add_poll, add_presence,
+    new_lists, set_closed, set_declared, set_opened, set_register, set_started,
 };
 use caller_view::{Answer, OwnView, PublicRecord, answer, refuse};
 use desk_words::{
@@ -147,6 +147,7 @@ impl Book {
         match request {
             Request::CallMeeting(_)
             | Request::LoadRegister(_)
+            | Request::Presence(_)
             | Request::OpenMeeting(_)
             | Request::Order(_)
             | Request::Start(_)
@@ -157,6 +158,9 @@ impl Book {
             Request::Mine(meeting) => self.answer_in(party, *meeting, now, request),
             Request::Appoint(new) => self.answer_in(party, new.meeting, now, request),
             Request::End(new) => self.answer_in(party, new.meeting, now, request),
+            Request::Authorise(new) => self.answer_in(party, new.meeting, now, request),
+            Request::Attend(meeting) => self.answer_in(party, *meeting, now, request),
+            Request::Demand(poll) => self.answer_in(party, poll.meeting, now, request),
             Request::Cast(new) => self.answer_in(party, new.meeting, now, request),
         }
     }
@@ -211,6 +215,9 @@ impl Book {
             Change::SetClosedDays(days) => self.closed = Closed::from_list(days),
             Change::AddAppointment(added) => add_appointment(&mut self.meetings, added)?,
             Change::AddEnding(added) => add_ending(&mut self.meetings, added)?,
+            Change::AddAuthority(added) => add_authority(&mut self.meetings, added)?,
+            Change::AddPresence(added) => add_presence(&mut self.meetings, added)?,
+            Change::AddDemand(added) => add_demand(&mut self.meetings, added)?,
             Change::AddCast(added) => add_cast(&mut self.meetings, added)?,
         }
         Ok(())

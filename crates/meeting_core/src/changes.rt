@@ -3,13 +3,13 @@ ghost use Rattle.std.specs.Prelude.{◌≡◌, ◌==◌, ◌<◌, IfSome, OnOk, 
 ghost use Rattle.std.specs.List.{position_from};
 ghost use Rattle.desk_words.specs.Edits.{change_first};
 ghost use Rattle.desk_words.specs.declared.records.Poll.{Poll};
-ghost use Rattle.meeting_core.specs.Office.{change_at, change_poll, closed_at, declared_as, new_lists, opened_at, started_at, with_appointment, with_cast, with_ending, with_poll, with_register};
+ghost use Rattle.meeting_core.specs.Office.{change_at, change_poll, closed_at, declared_as, new_lists, opened_at, started_at, with_appointment, with_authority, with_cast, with_demand, with_ending, with_poll, with_presence, with_register};
 
 use caller_view::find_poll;
 use desk_words::{
-    AddAppointment, AddCast, AddEnding, AddPoll, Appointment, CastKind, CastMark, Ending, Listing,
-    Meeting, MeetingId, MeetingLists, Moment, Poll, Register, SetOpened, SetPollMoment, SetTally,
-    Tally,
+    AddAppointment, AddAuthority, AddCast, AddDemand, AddEnding, AddPoll, AddPresence, Appointment,
+    Authority, CastKind, CastMark, DemandMark, Ending, Listing, Meeting, MeetingId, MeetingLists,
+    Moment, Poll, PresenceMark, Register, SetOpened, SetPollMoment, SetTally, Tally,
 };
 use meeting_views::place_of_meeting;
 use std::alloc::{AllocError, Global};
@@ -65,6 +65,27 @@ fn put_ending(lists: &mut MeetingLists, ending: Ending) -> Result<(), AllocError
     ensures err { OnErr result (lists.new ≡ lists.old) }
 {
     lists.endings.push(ending)
+}
+
+fn put_authority(lists: &mut MeetingLists, authority: Authority) -> Result<(), AllocError>
+    ensures ok { OnOk result (lists.new ≡ with_authority authority lists.old) }
+    ensures err { OnErr result (lists.new ≡ lists.old) }
+{
+    lists.authorities.push(authority)
+}
+
+fn put_presence(lists: &mut MeetingLists, presence: PresenceMark) -> Result<(), AllocError>
+    ensures ok { OnOk result (lists.new ≡ with_presence presence lists.old) }
+    ensures err { OnErr result (lists.new ≡ lists.old) }
+{
+    lists.presences.push(presence)
+}
+
+fn put_demand(lists: &mut MeetingLists, demand: DemandMark) -> Result<(), AllocError>
+    ensures ok { OnOk result (lists.new ≡ with_demand demand lists.old) }
+    ensures err { OnErr result (lists.new ≡ lists.old) }
+{
+    lists.demands.push(demand)
 }
 
 fn put_cast(lists: &mut MeetingLists, cast: CastMark) -> Result<(), AllocError>
@@ -129,6 +150,42 @@ pub fn add_ending(meetings: &mut [MeetingLists], added: AddEnding) -> Result<(),
 {
     match place_of_meeting(meetings, added.meeting) {
         Some(i) => put_ending(&mut meetings[i], added.ending),
+        None => Ok(()),
+    }
+}
+
+/// Gives the meeting of that name an authority. Where there is none, nothing changes. The error is
+/// want of memory, and nothing changes then.
+pub fn add_authority(meetings: &mut [MeetingLists], added: AddAuthority) -> Result<(), AllocError>
+    ensures ok { OnOk result (meetings.new ≡ change_at (with_authority added.authority) added.meeting meetings.old) }
+    ensures err { OnErr result (meetings.new ≡ meetings.old) }
+{
+    match place_of_meeting(meetings, added.meeting) {
+        Some(i) => put_authority(&mut meetings[i], added.authority),
+        None => Ok(()),
+    }
+}
+
+/// Gives the meeting of that name a mark of presence. Where there is none, nothing changes. The error
+/// is want of memory, and nothing changes then.
+pub fn add_presence(meetings: &mut [MeetingLists], added: AddPresence) -> Result<(), AllocError>
+    ensures ok { OnOk result (meetings.new ≡ change_at (with_presence added.presence) added.meeting meetings.old) }
+    ensures err { OnErr result (meetings.new ≡ meetings.old) }
+{
+    match place_of_meeting(meetings, added.meeting) {
+        Some(i) => put_presence(&mut meetings[i], added.presence),
+        None => Ok(()),
+    }
+}
+
+/// Gives the meeting of that name a demand of a poll. Where there is none, nothing changes. The error
+/// is want of memory, and nothing changes then.
+pub fn add_demand(meetings: &mut [MeetingLists], added: AddDemand) -> Result<(), AllocError>
+    ensures ok { OnOk result (meetings.new ≡ change_at (with_demand added.demand) added.meeting meetings.old) }
+    ensures err { OnErr result (meetings.new ≡ meetings.old) }
+{
+    match place_of_meeting(meetings, added.meeting) {
+        Some(i) => put_demand(&mut meetings[i], added.demand),
         None => Ok(()),
     }
 }

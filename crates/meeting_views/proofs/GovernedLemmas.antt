@@ -12,8 +12,8 @@ use Rattle.desk_terms.specs.Names.{same_name, name_cmp}
 use Rattle.desk_terms.specs.Places.{Places}
 use Rattle.desk_words.proofs.RowLemmas.{same_name-true, same_name-refl}
 use Rattle.desk_words.specs.declared.records.Appointment.{Appointment}
-use Rattle.poll_rules.specs.Holdings.{is_given_by}
-use Rattle.poll_rules.specs.Runs.{runs_at}
+use Rattle.proxy_rules.specs.Holdings.{is_given_by}
+use Rattle.proxy_rules.specs.Runs.{runs_at}
 use Rattle.meeting_views.specs.Governed.{Numbered, is_among}
 
 -- what holds of what is kept for each member holds after it was put for one

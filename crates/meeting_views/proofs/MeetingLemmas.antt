@@ -24,16 +24,16 @@ use Rattle.desk_words.specs.declared.records.Ending.{Ending}
 use Rattle.desk_words.specs.declared.records.RegisterRow.{RegisterRow}
 use Rattle.share_blocks.specs.Tags.{is_tag}
 use Rattle.caller_view.specs.Views.{ended_at, given_in, governed_by, poll_governed, received_in}
-use Rattle.poll_rules.specs.Cutoffs.{is_late_poll, late_cutoffs, meeting_cutoffs}
-use Rattle.poll_rules.specs.Governing.{shares_by, governed_of}
-use Rattle.poll_rules.specs.Holdings.{appointed_by, is_given_by, is_ended_of, holding_of, governed_in, has_tag, are_tagged}
-use Rattle.poll_rules.specs.Laws.{has_number}
-use Rattle.poll_rules.specs.Shares.{are_rows}
-use Rattle.poll_rules.specs.declared.holdings.Appointed.{Appointed}
-use Rattle.poll_rules.specs.declared.holdings.Holding.{Holding}
-use Rattle.poll_rules.specs.declared.papers.Cutoffs.{Cutoffs}
-use Rattle.poll_rules.proofs.HoldingLemmas.{governed_of-governed_in, governed_in-later}
-use Rattle.poll_rules.proofs.ShareLemmas.{shares_by-le}
+use Rattle.proxy_rules.specs.Cutoffs.{is_late_poll, late_cutoffs, meeting_cutoffs}
+use Rattle.proxy_rules.specs.Governing.{shares_by, governed_of}
+use Rattle.proxy_rules.specs.Holdings.{appointed_by, is_given_by, is_ended_of, holding_of, governed_in, has_tag, are_tagged, are_tags}
+use Rattle.proxy_rules.specs.Laws.{has_number}
+use Rattle.proxy_rules.specs.Shares.{are_rows}
+use Rattle.proxy_rules.specs.declared.holdings.Appointed.{Appointed}
+use Rattle.proxy_rules.specs.declared.holdings.Holding.{Holding}
+use Rattle.proxy_rules.specs.declared.papers.Cutoffs.{Cutoffs}
+use Rattle.proxy_rules.proofs.HoldingLemmas.{governed_of-governed_in, governed_in-later}
+use Rattle.proxy_rules.proofs.ShareLemmas.{shares_by-le}
 use Rattle.meeting_views.specs.Governed.{AreFit, governed_at, poll_due, received_due}
 use Rattle.meeting_views.specs.Named.{given_kept, since_named, holding_with, named_of, with_endings}
 
@@ -225,6 +225,20 @@ tagged-all n k (x ∷ xs) numbered each =
     let few = first_so (nat_le x.number 256) (length x.instructions == k) (first_so (is_appointment k x) (list_all (is_appointment k) xs) each) in
     both_true (is_tag-number x.number n (first_so (x.number == suc n) (numbered_from (suc n) xs) numbered) few)
     (tagged-all (suc n) k xs (second_so (x.number == suc n) (numbered_from (suc n) xs) numbered) (second_so (is_appointment k x) (list_all (is_appointment k) xs) each))
+
+tags-after : (k : ℕ) (earlier given : List Appointment) → are_numbered_after earlier given ≡ true → list_all (is_appointment k) given ≡ true → are_tags given ≡ true
+tags-after k earlier [] numbered each = refl
+tags-after k earlier (a ∷ rest) numbered each =
+    let n = count_by (λ (b : Appointment). same_name b.member a.member) earlier in
+    let later = are_numbered_after (earlier ++ a ∷ []) rest in
+    let few = first_so (nat_le a.number 256) (length a.instructions == k) (first_so (is_appointment k a) (list_all (is_appointment k) rest) each) in
+    both_true (is_tag-number a.number n (first_so (a.number == suc n) later numbered) few)
+    (tags-after k (earlier ++ a ∷ []) rest (second_so (a.number == suc n) later numbered) (second_so (is_appointment k a) (list_all (is_appointment k) rest) each))
+
+-- the numbers of a meeting's appointments are tags
+pub are_tags-appointments : (k : ℕ) (given : List Appointment) → are_appointments k given ≡ true → are_tags given ≡ true
+are_tags-appointments k given h =
+    tags-after k [] given (first_so (are_numbered_after [] given) (list_all (is_appointment k) given) h) (second_so (are_numbered_after [] given) (list_all (is_appointment k) given) h)
 
 tagged-since : (party : List ℕ) (n k : ℕ) (xs : List Appointment) → numbered_from n xs ≡ true → list_all (is_appointment k) xs ≡ true
     → are_tagged (map appointed_by (since_named party xs)) ≡ true

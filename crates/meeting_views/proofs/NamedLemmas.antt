@@ -7,8 +7,8 @@ use Rattle.std.proofs.lemmas.List.{append-nil, map-append, take_more}
 use Rattle.std.proofs.lemmas.List.Elements.{filter-append}
 use Rattle.desk_words.specs.declared.records.Appointment.{Appointment}
 use Rattle.desk_words.specs.declared.records.RegisterRow.{RegisterRow}
-use Rattle.poll_rules.specs.Governing.{shares_by}
-use Rattle.poll_rules.specs.Holdings.{appointed_by, is_given_by}
+use Rattle.proxy_rules.specs.Governing.{shares_by}
+use Rattle.proxy_rules.specs.Holdings.{appointed_by, is_given_by}
 use Rattle.meeting_views.specs.Named.{since_named, holding_with, named_of, with_appointment}
 use Rattle.desk_terms.specs.Names.{same_name, name_cmp}
 use Rattle.desk_words.proofs.RowLemmas.{same_name-true}

@@ -11,11 +11,11 @@ use Rattle.desk_words.specs.declared.records.Appointment.{Appointment}
 use Rattle.desk_words.specs.declared.records.Poll.{Poll}
 use Rattle.desk_words.specs.declared.request.PollGoverned.{PollGoverned}
 use Rattle.desk_words.specs.declared.request.Received.{Received}
-use Rattle.poll_rules.specs.Cutoffs.{is_late_poll, late_cutoffs, meeting_cutoffs}
-use Rattle.poll_rules.specs.Holdings.{are_tagged, governed_in, is_given_by}
-use Rattle.poll_rules.specs.Runs.{runs_at}
-use Rattle.poll_rules.specs.declared.holdings.Holding.{Holding}
-use Rattle.poll_rules.specs.declared.papers.Cutoffs.{Cutoffs}
+use Rattle.proxy_rules.specs.Cutoffs.{is_late_poll, late_cutoffs, meeting_cutoffs}
+use Rattle.proxy_rules.specs.Holdings.{are_tagged, governed_in, is_given_by}
+use Rattle.proxy_rules.specs.Runs.{runs_at}
+use Rattle.proxy_rules.specs.declared.holdings.Holding.{Holding}
+use Rattle.proxy_rules.specs.declared.papers.Cutoffs.{Cutoffs}
 use Rattle.meeting_views.specs.declared.governed.PollRuns.{PollRuns}
 
 -- a member's runs by its appointments' numbers

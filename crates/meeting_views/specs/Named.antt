@@ -7,9 +7,9 @@ use Rattle.desk_words.specs.declared.records.Appointment.{Appointment}
 use Rattle.desk_words.specs.declared.records.Ending.{Ending}
 use Rattle.desk_words.specs.declared.records.RegisterRow.{RegisterRow}
 use Rattle.desk_words.specs.declared.request.Given.{Given}
-use Rattle.poll_rules.specs.Governing.{shares_by}
-use Rattle.poll_rules.specs.Holdings.{appointed_by, is_given_by, is_ended_of}
-use Rattle.poll_rules.specs.declared.holdings.Holding.{Holding}
+use Rattle.proxy_rules.specs.Governing.{shares_by}
+use Rattle.proxy_rules.specs.Holdings.{appointed_by, is_given_by, is_ended_of}
+use Rattle.proxy_rules.specs.declared.holdings.Holding.{Holding}
 
 -- the appointments from the first that names the party on
 abbrev pub since_named : List ℕ → List Appointment → List Appointment

@@ -1,8 +1,8 @@
 //! What the appointments that name a party govern. The runs of each member who named it are made
 //! once for the meeting and once for each late poll, and looked up by the appointments' numbers.
 ghost use Rattle.std.specs.Prelude.{◌≡◌, ℕ, List, IfOk, IsTrue, map, filter};
-ghost use Rattle.poll_rules.specs.Cutoffs.{is_late_poll};
-ghost use Rattle.poll_rules.specs.Runs.{runs_at};
+ghost use Rattle.proxy_rules.specs.Cutoffs.{is_late_poll};
+ghost use Rattle.proxy_rules.specs.Runs.{runs_at};
 ghost use Rattle.meeting_views.specs.Governed.{AreFit, governed_at, is_among, poll_due, poll_kept, received_due, received_kept, runs_of};
 
 use desk_words::{

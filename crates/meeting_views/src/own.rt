@@ -11,7 +11,7 @@ ghost use Rattle.desk_words.specs.declared.records.Appointment.{Appointment};
 ghost use Rattle.desk_words.specs.declared.records.CastMark.{CastMark};
 ghost use Rattle.desk_words.specs.declared.records.DemandMark.{DemandMark};
 ghost use Rattle.desk_words.specs.declared.records.PresenceMark.{PresenceMark};
-ghost use Rattle.poll_rules.specs.Shares.{are_rows};
+ghost use Rattle.proxy_rules.specs.Shares.{are_rows};
 
 use crate::authorities::authorities_of;
 use crate::finding::find_row;

@@ -3,7 +3,7 @@ ghost use Rattle.std.specs.Prelude.{◌≡◌, ◌&&◌, ◌==◌, suc, true, If
 ghost use Rattle.desk_words.specs.Names.{same_name};
 ghost use Rattle.desk_words.specs.Office.{are_appointments, is_appointment};
 ghost use Rattle.desk_words.specs.declared.records.Appointment.{Appointment as Given};
-ghost use Rattle.poll_rules.specs.Shares.{are_rows};
+ghost use Rattle.proxy_rules.specs.Shares.{are_rows};
 
 use crate::{find_meeting, find_row, nothing_of, own_in, place_of_meeting};
 use caller_view::OwnView;

@@ -9,8 +9,8 @@ ghost use Rattle.desk_words.specs.Ordered.{ascends_by};
 ghost use Rattle.desk_words.specs.Registers.{member_before};
 ghost use Rattle.desk_words.specs.declared.records.Appointment.{Appointment};
 ghost use Rattle.caller_view.specs.Views.{ended_at};
-ghost use Rattle.poll_rules.specs.Governing.{shares_by};
-ghost use Rattle.poll_rules.specs.Holdings.{appointed_by, is_ended_of};
+ghost use Rattle.proxy_rules.specs.Governing.{shares_by};
+ghost use Rattle.proxy_rules.specs.Holdings.{appointed_by, is_ended_of};
 ghost use Rattle.meeting_views.specs.Named.{given_kept, named_of, with_appointment, with_endings};
 
 use crate::finding::find_row;

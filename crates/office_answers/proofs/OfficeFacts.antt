@@ -8,13 +8,15 @@ use Rattle.desk_words.specs.Names.{same_name}
 use Rattle.desk_words.specs.Ordered.{ascends_by, differ_by}
 use Rattle.desk_words.specs.Registers.{is_register, keep_limits, member_before}
 use Rattle.desk_words.specs.Lists.{is_key_list, is_day_list, are_resolutions}
-use Rattle.desk_words.specs.Office.{implies, no_rows, is_loaded_right, are_appointments, are_endings, are_authorities, same_presence, are_demands, are_polls, are_casts, is_meeting, same_meeting, are_meetings, is_office}
+use Rattle.desk_words.specs.Office.{are_numbered_after, is_appointment, implies, no_rows, is_loaded_right, are_appointments, are_endings, are_authorities, same_presence, are_demands, are_polls, are_casts, is_meeting, same_meeting, are_meetings, is_office}
 use Rattle.desk_words.specs.declared.office.OfficeLists.{OfficeLists}
 use Rattle.desk_words.specs.declared.office.MeetingLists.{MeetingLists}
 use Rattle.desk_words.specs.declared.records.RegisterRow.{RegisterRow}
 use Rattle.caller_view.specs.Views.{meeting_named}
 use Rattle.desk_lists.proofs.Truth.{either_second}
-use Rattle.poll_rules.specs.Shares.{are_rows}
+use Rattle.meeting_views.proofs.MeetingLemmas.{are_tags-appointments}
+use Rattle.proxy_rules.specs.Holdings.{are_tags}
+use Rattle.proxy_rules.specs.Shares.{are_rows}
 
 -- the tests of an office, by name
 pub record OfficeFacts (o : OfficeLists) : Type 0 where
@@ -124,7 +126,24 @@ meeting_rows m h =
     register_or_none m.meeting.loaded m.register
     (first_so (cond m.meeting.loaded (is_register m.register) (no_rows m.register)) (implies (is_some m.meeting.opened) m.meeting.loaded) (meeting_facts m h).loaded)
 
--- so are those of a meeting that is found
+-- the appointments of a meeting are numbered from 1 for each member
+pub meeting_numbered : (m : MeetingLists) → is_meeting m ≡ true → are_numbered_after [] m.appointments ≡ true
+meeting_numbered m h =
+    first_so (are_numbered_after [] m.appointments) (list_all (is_appointment (length m.meeting.resolutions)) m.appointments) (meeting_facts m h).appointments
+
+-- and their numbers are tags
+pub meeting_tags : (m : MeetingLists) → is_meeting m ≡ true → are_tags m.appointments ≡ true
+meeting_tags m h = are_tags-appointments (length m.meeting.resolutions) m.appointments (meeting_facts m h).appointments
+
+-- what is found among meetings is one
+pub found_meeting : (meetings : List MeetingLists) (id : List ℕ) → list_all is_meeting meetings ≡ true → IfSome (meeting_named meetings id) (λ m. is_meeting m ≡ true)
+found_meeting meetings id h =
+    (elim (meeting_named meetings id) as (λ found. meeting_named meetings id ≡ found → IfSome found (λ m. is_meeting m ≡ true)) [
+      | None ↦ λ e. tt
+      | Some m ↦ λ e. find-passes (λ x. same_name x.meeting.id id) is_meeting meetings m h e
+    ]) refl
+
+-- its rows are a register, or none
 pub found_rows : (meetings : List MeetingLists) (id : List ℕ) → list_all is_meeting meetings ≡ true → IfSome (meeting_named meetings id) (λ m. are_rows m.register ≡ true)
 found_rows meetings id h =
     (elim (meeting_named meetings id) as (λ found. meeting_named meetings id ≡ found → IfSome found (λ m. are_rows m.register ≡ true)) [

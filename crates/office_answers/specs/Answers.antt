@@ -7,6 +7,7 @@ use Rattle.desk_terms.specs.declared.refusal.Refusal.TheVariants.{PartyOnly}
 use Rattle.caller_view.specs.declared.views.Answer.{Answer}
 use Rattle.caller_view.specs.Answers.{refused}
 use Rattle.caller_view.specs.Views.{meeting_named}
+use Rattle.office_answers.specs.Attendance.{presence_answer}
 use Rattle.office_answers.specs.Calls.{call_answer, load_answer, in_meeting}
 use Rattle.office_answers.specs.Closed.{closed_answer}
 use Rattle.office_answers.specs.Polls.{open_answer, order_answer, start_answer, close_answer, declare_answer}
@@ -15,8 +16,9 @@ use Rattle.office_answers.specs.Polls.{open_answer, order_answer, start_answer, 
 abbrev pub office_answer : List ℕ → List MeetingLists → ℕ → Request → Answer
 office_answer closed meetings now (asked.CallMeeting new) = call_answer meetings new
 office_answer closed meetings now (asked.LoadRegister new) = in_meeting (meeting_named meetings new.meeting) (load_answer now new)
-office_answer closed meetings now (asked.OpenMeeting meeting) = in_meeting (meeting_named meetings meeting) (open_answer now meeting)
-office_answer closed meetings now (asked.Order new) = in_meeting (meeting_named meetings new.meeting) (order_answer now new)
+office_answer closed meetings now (asked.Presence new) = in_meeting (meeting_named meetings new.meeting) (presence_answer now new)
+office_answer closed meetings now (asked.OpenMeeting meeting) = in_meeting (meeting_named meetings meeting) (open_answer closed now meeting)
+office_answer closed meetings now (asked.Order new) = in_meeting (meeting_named meetings new.meeting) (order_answer closed now new)
 office_answer closed meetings now (asked.Start poll) = in_meeting (meeting_named meetings poll.meeting) (start_answer now poll)
 office_answer closed meetings now (asked.Close poll) = in_meeting (meeting_named meetings poll.meeting) (close_answer now poll)
 office_answer closed meetings now (asked.Declare poll) = in_meeting (meeting_named meetings poll.meeting) (declare_answer poll)
@@ -25,14 +27,18 @@ office_answer closed meetings now (asked.Notice meeting) = refused PartyOnly
 office_answer closed meetings now (asked.Mine meeting) = refused PartyOnly
 office_answer closed meetings now (asked.Appoint new) = refused PartyOnly
 office_answer closed meetings now (asked.End new) = refused PartyOnly
+office_answer closed meetings now (asked.Authorise new) = refused PartyOnly
+office_answer closed meetings now (asked.Attend meeting) = refused PartyOnly
+office_answer closed meetings now (asked.Demand poll) = refused PartyOnly
 office_answer closed meetings now (asked.Cast new) = refused PartyOnly
 
--- what is asked and answered without memory: an opening, an order, a start or a close, and what only a party may ask
+-- what is asked and answered without memory: a presence, a start or a close, and what only a party may ask
 abbrev pub takes_no_memory : Request → Bool
 takes_no_memory (asked.CallMeeting new) = false
 takes_no_memory (asked.LoadRegister new) = false
-takes_no_memory (asked.OpenMeeting meeting) = true
-takes_no_memory (asked.Order new) = true
+takes_no_memory (asked.Presence new) = true
+takes_no_memory (asked.OpenMeeting meeting) = false
+takes_no_memory (asked.Order new) = false
 takes_no_memory (asked.Start poll) = true
 takes_no_memory (asked.Close poll) = true
 takes_no_memory (asked.Declare poll) = false
@@ -41,4 +47,7 @@ takes_no_memory (asked.Notice meeting) = true
 takes_no_memory (asked.Mine meeting) = true
 takes_no_memory (asked.Appoint new) = true
 takes_no_memory (asked.End new) = true
+takes_no_memory (asked.Authorise new) = true
+takes_no_memory (asked.Attend meeting) = true
+takes_no_memory (asked.Demand poll) = true
 takes_no_memory (asked.Cast new) = true

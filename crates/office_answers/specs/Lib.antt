@@ -1,4 +1,5 @@
 pub mod Answers
+pub mod Attendance
 pub mod Calls
 pub mod Closed
 pub mod Limits

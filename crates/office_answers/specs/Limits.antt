@@ -19,4 +19,7 @@ keeps_limits (Some (change.SetDeclared set)) = is_tally set.tally
 keeps_limits (Some (change.SetClosedDays days)) = is_day_list days
 keeps_limits (Some (change.AddAppointment added)) = true
 keeps_limits (Some (change.AddEnding added)) = true
+keeps_limits (Some (change.AddAuthority added)) = true
+keeps_limits (Some (change.AddPresence added)) = true
+keeps_limits (Some (change.AddDemand added)) = true
 keeps_limits (Some (change.AddCast added)) = true

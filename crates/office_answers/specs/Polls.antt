@@ -1,9 +1,9 @@
 -- The opening of a meeting, and the way of a poll: ordered, started, closed, declared.
-use Rattle.std.specs.Prelude.{ℕ, Bool, false, not, ◌-◌, nat_lt, List, [], ◌∷◌, length, Option, Some, None, is_some, is_none}
+use Rattle.std.specs.Prelude.{ℕ, Bool, false, not, ◌&&◌, ◌-◌, nat_lt, List, [], ◌∷◌, length, Option, Some, None, is_some, is_none}
 use Rattle.std.specs.List.{slice_get}
 use Rattle.desk_words.specs.Office.{is_resolution}
 use Rattle.desk_words.specs.Refusals.{Case}
-use Rattle.desk_terms.specs.declared.refusal.Refusal.TheVariants.{Exists, NoResolution, NoRegister, Opened, NotOpened, Early, PollOrdered, NoPoll, DemandTooSmall, PollNotOpen, PollClosed, NotClosed, Declared}
+use Rattle.desk_terms.specs.declared.refusal.Refusal.TheVariants.{Exists, NoResolution, NoRegister, Opened, NotOpened, Early, NoQuorum, PollOrdered, NoPoll, DemandTooSmall, PollNotOpen, PollClosed, NotClosed, Declared}
 use Rattle.desk_words.specs.declared.office.MeetingLists.{MeetingLists}
 use Rattle.desk_words.specs.declared.records.Meeting.{Meeting}
 use Rattle.desk_words.specs.declared.records.Poll.{Poll}
@@ -15,35 +15,37 @@ use Rattle.desk_words.specs.declared.request.NewPoll.{NewPoll}
 use Rattle.desk_words.specs.declared.request.PollName.{PollName}
 use Rattle.desk_words.specs.declared.request.Reply.TheVariants as reply
 use Rattle.caller_view.specs.Answers.{unless}
+use Rattle.office_answers.specs.Attendance.{demand_in, quorum_in}
 use Rattle.caller_view.specs.Polls.{poll_on, there_is, is_started, is_waiting, is_closed, is_unclosed, is_declared, is_taken_after}
 use Rattle.caller_view.specs.declared.views.Answer.{Answer}
 use Rattle.poll_rules.specs.Tallies.{tally_of}
 use Rattle.poll_rules.specs.Majority.{is_carried}
 
--- when a meeting is not opened
-abbrev pub open_cases : Meeting → ℕ → List Case
-open_cases meeting now =
-    record { refusal = NoRegister; holds = not meeting.loaded }
-    ∷ record { refusal = Opened; holds = is_some meeting.opened }
-    ∷ record { refusal = Early; holds = nat_lt now meeting.appointed }
+-- when a meeting is not opened (section 318)
+abbrev pub open_cases : MeetingLists → List ℕ → ℕ → List Case
+open_cases m closed now =
+    record { refusal = NoRegister; holds = not m.meeting.loaded }
+    ∷ record { refusal = Opened; holds = is_some m.meeting.opened }
+    ∷ record { refusal = Early; holds = nat_lt now m.meeting.appointed }
+    ∷ record { refusal = NoQuorum; holds = not (quorum_in m closed now) }
     ∷ []
 
 -- the answer to the opening of a meeting that exists
-abbrev pub open_answer : ℕ → List ℕ → MeetingLists → Answer
-open_answer now id m = unless (open_cases m.meeting now) (record { reply = reply.MeetingOpened; change = Some (change.SetOpened (record { meeting = id; moment = now })) })
+abbrev pub open_answer : List ℕ → ℕ → List ℕ → MeetingLists → Answer
+open_answer closed now id m = unless (open_cases m closed now) (record { reply = reply.MeetingOpened; change = Some (change.SetOpened (record { meeting = id; moment = now })) })
 
 -- no such resolution stands in the notice
 abbrev pub no_resolution : Meeting → ℕ → Case
 no_resolution meeting number = record { refusal = NoResolution; holds = not (is_resolution (length meeting.resolutions) number) }
 
--- when a poll is not ordered; a demand is not reached while nobody can demand a poll (section 321)
-abbrev pub order_cases : Meeting → Option Poll → ℕ → NewPoll → List Case
-order_cases meeting poll now new =
-    no_resolution meeting new.resolution
-    ∷ record { refusal = NotOpened; holds = is_none meeting.opened }
+-- when a poll is not ordered (section 321); the chair may order it without a demand
+abbrev pub order_cases : MeetingLists → List ℕ → ℕ → NewPoll → List Case
+order_cases m closed now new =
+    no_resolution m.meeting new.resolution
+    ∷ record { refusal = NotOpened; holds = is_none m.meeting.opened }
     ∷ record { refusal = Early; holds = nat_lt new.take now }
-    ∷ record { refusal = PollOrdered; holds = is_some poll }
-    ∷ record { refusal = DemandTooSmall; holds = not new.chair }
+    ∷ record { refusal = PollOrdered; holds = is_some (poll_on m.polls new.resolution) }
+    ∷ record { refusal = DemandTooSmall; holds = not new.chair && not (demand_in m closed now new.resolution).reached }
     ∷ []
 
 -- the poll that is ordered at a moment (section 321)
@@ -58,10 +60,10 @@ poll_of now new = record {
   declared = None;
 }
 
--- the answer to the order of a poll in a meeting that exists (section 321)
-abbrev pub order_answer : ℕ → NewPoll → MeetingLists → Answer
-order_answer now new m =
-    unless (order_cases m.meeting (poll_on m.polls new.resolution) now new)
+-- the answer to the order of a poll in a meeting that exists
+abbrev pub order_answer : List ℕ → ℕ → NewPoll → MeetingLists → Answer
+order_answer closed now new m =
+    unless (order_cases m closed now new)
     (record { reply = reply.Ordered; change = Some (change.AddPoll (record { meeting = new.meeting; poll = poll_of now new })) })
 
 -- when a poll is not started

@@ -5,6 +5,7 @@ ghost use Rattle.desk_words.specs.Office.{is_meeting};
 ghost use Rattle.office_answers.specs.Answers.{office_answer, takes_no_memory};
 ghost use Rattle.office_answers.specs.Limits.{keeps_limits};
 
+use crate::attendance::note_presence;
 use crate::calls::{call_meeting, load_register};
 use crate::closed::load_days;
 use crate::polls::{close_poll, declare_poll, open_meeting, order_poll, start_poll};
@@ -15,7 +16,7 @@ use office_days::Closed;
 use std::alloc::{AllocError, Global};
 
 /// The answer to the office, from the closed days and all its meetings. The error is want of memory; what
-/// `takes_no_memory` names, an opening, an order, a start and a close among it, needs none.
+/// `takes_no_memory` names, a presence, a start and a close among it, needs none.
 pub fn office_answer(
     alloc: Global,
     closed: &Closed,
@@ -33,8 +34,13 @@ pub fn office_answer(
         Request::LoadRegister(new) => {
             load_register(find_meeting(meetings, new.meeting), now, new)
         }
-        Request::OpenMeeting(id) => Ok(open_meeting(find_meeting(meetings, *id), now, *id)),
-        Request::Order(new) => Ok(order_poll(find_meeting(meetings, new.meeting), now, new)),
+        Request::Presence(new) => Ok(note_presence(find_meeting(meetings, new.meeting), now, new)),
+        Request::OpenMeeting(id) => {
+            open_meeting(alloc, closed, find_meeting(meetings, *id), now, *id)
+        }
+        Request::Order(new) => {
+            order_poll(alloc, closed, find_meeting(meetings, new.meeting), now, new)
+        }
         Request::Start(poll) => Ok(start_poll(find_meeting(meetings, poll.meeting), now, *poll)),
         Request::Close(poll) => Ok(close_poll(find_meeting(meetings, poll.meeting), now, *poll)),
         Request::Declare(poll) => declare_poll(alloc, find_meeting(meetings, poll.meeting), *poll),
@@ -43,6 +49,9 @@ pub fn office_answer(
         | Request::Mine(_)
         | Request::Appoint(_)
         | Request::End(_)
+        | Request::Authorise(_)
+        | Request::Attend(_)
+        | Request::Demand(_)
         | Request::Cast(_) => Ok(refuse(Refusal::PartyOnly)),
     }
 }

@@ -2,6 +2,7 @@
 #![tactic(auto)]
 
 mod answer;
+mod attendance;
 mod calls;
 mod closed;
 mod polls;

@@ -1,58 +1,78 @@
 //! The opening of a meeting, and the way of a poll: ordered, started, closed, declared.
-ghost use Rattle.std.specs.Prelude.{◌≡◌, ◌≤◌, ◌-◌, true, length, IfSome, IfOk, IsTrue};
+ghost use Rattle.std.specs.Prelude.{◌≡◌, ◌≤◌, ◌-◌, ◌&&◌, not, true, length, IfSome, IfOk, IsTrue};
 ghost use Rattle.std.specs.List.{slice_get};
 ghost use Rattle.std.specs.Option.{option_copied};
-ghost use Rattle.desk_words.specs.Office.{is_resolution, is_tally};
+ghost use Rattle.desk_words.specs.Office.{is_meeting, is_resolution, is_tally};
 ghost use Rattle.desk_words.specs.Refusals.{first_refusal};
 ghost use Rattle.caller_view.specs.Polls.{there_is, is_started};
-ghost use Rattle.poll_rules.specs.Shares.{are_rows};
+ghost use Rattle.proxy_rules.specs.Shares.{are_rows};
+ghost use Rattle.office_answers.specs.Attendance.{demand_in, quorum_in};
 ghost use Rattle.office_answers.specs.Limits.{keeps_limits};
 ghost use Rattle.office_answers.specs.Calls.{in_meeting};
 ghost use Rattle.office_answers.specs.Polls.{open_cases, open_answer, order_cases, order_answer, poll_of, start_cases, start_answer, close_cases, close_answer, declare_cases, declare_answer, carries, declaration_of};
 
+use crate::attendance::{demand_in, papers_of, quorum_in};
 use caller_view::{Answer, find_poll, refuse};
 use desk_words::{
     AddPoll, Change, Declaration, Meeting, MeetingId, MeetingLists, Moment, NewPoll, Poll,
     PollName, Refusal, Reply, SetOpened, SetPollMoment, SetTally, Tally,
 };
-use poll_rules::{Papers, carried, tally};
+use office_days::Closed;
+use poll_rules::{carried, tally};
 use std::alloc::{AllocError, Global};
 
-fn open_refusal(meeting: &Meeting, now: Moment) -> Option<Refusal>
-    ensures { result ≡ first_refusal (open_cases meeting.now now) }
+fn open_refusal(
+    alloc: Global,
+    closed: &Closed,
+    lists: &MeetingLists,
+    now: Moment,
+) -> Result<Option<Refusal>, AllocError>
+    requires { is_meeting lists.now ≡ true }
+    ensures { IfOk result (λ refusal. refusal ≡ first_refusal (open_cases lists.now closed.now now)) }
 {
-    if !meeting.loaded {
-        return Some(Refusal::NoRegister);
+    if !lists.meeting.loaded {
+        return Ok(Some(Refusal::NoRegister));
     }
-    if meeting.opened.is_some() {
-        return Some(Refusal::Opened);
+    if lists.meeting.opened.is_some() {
+        return Ok(Some(Refusal::Opened));
     }
-    if now < meeting.appointed {
-        return Some(Refusal::Early);
+    if now < lists.meeting.appointed {
+        return Ok(Some(Refusal::Early));
     }
-    None
+    if !quorum_in(alloc, closed, lists, now)? {
+        return Ok(Some(Refusal::NoQuorum));
+    }
+    Ok(None)
 }
 
-/// The answer to the opening of a meeting: the first that holds of `NoMeeting`, `NoRegister`, `Opened`, and
-/// `Early` before the appointed time; and else `MeetingOpened`, which sets the moment. It takes no
-/// memory.
-pub fn open_meeting(found: Option<&MeetingLists>, now: Moment, id: MeetingId) -> Answer
-    ensures answer { result ≡ in_meeting (option_copied found.entry) (open_answer now id) }
-    ensures limits { IsTrue (keeps_limits result.change) }
+/// The answer to the opening of a meeting: the first that holds of `NoMeeting`, `NoRegister`, `Opened`,
+/// `Early` before the appointed time, and `NoQuorum` where those who are present make no quorum (section
+/// 318); and else `MeetingOpened`, which sets the moment. The error is want of memory. Its cost is that
+/// of `poll_rules::quorum`.
+pub fn open_meeting(
+    alloc: Global,
+    closed: &Closed,
+    found: Option<&MeetingLists>,
+    now: Moment,
+    id: MeetingId,
+) -> Result<Answer, AllocError>
+    requires { IfSome (option_copied found) (λ m. is_meeting m ≡ true) }
+    ensures answer { IfOk result (λ a. a ≡ in_meeting (option_copied found.entry) (open_answer closed.now now id)) }
+    ensures limits { IfOk result (λ a. IsTrue (keeps_limits a.change)) }
 {
     let Some(lists) = found else {
-        return refuse(Refusal::NoMeeting);
+        return Ok(refuse(Refusal::NoMeeting));
     };
-    if let Some(refusal) = open_refusal(&lists.meeting, now) {
-        return refuse(refusal);
+    if let Some(refusal) = open_refusal(alloc, closed, lists, now)? {
+        return Ok(refuse(refusal));
     }
-    Answer {
+    Ok(Answer {
         reply: Reply::MeetingOpened,
         change: Some(Change::SetOpened(SetOpened {
             meeting: id,
             moment: now,
         })),
-    }
+    })
 }
 
 fn has_resolution(meeting: &Meeting, number: u64) -> bool
@@ -61,62 +81,89 @@ fn has_resolution(meeting: &Meeting, number: u64) -> bool
     1 <= number && number <= meeting.resolutions.as_slice().len() as u64
 }
 
-fn order_refusal(
-    meeting: &Meeting,
-    poll: Option<Poll>,
+/// Whether neither the chair nor enough shares want the poll.
+fn is_unwanted(
+    alloc: Global,
+    closed: &Closed,
+    lists: &MeetingLists,
     now: Moment,
     new: &NewPoll,
-) -> Option<Refusal>
-    ensures { result ≡ first_refusal (order_cases meeting.now poll now new.now) }
+) -> Result<bool, AllocError>
+    requires { is_meeting lists.now ≡ true }
+    ensures { IfOk result (λ b. b ≡ (not new.now.chair && not (demand_in lists.now closed.now now new.now.resolution).reached)) }
 {
-    if !has_resolution(meeting, new.resolution) {
-        return Some(Refusal::NoResolution);
+    if new.chair {
+        return Ok(false);
     }
-    if meeting.opened.is_none() {
-        return Some(Refusal::NotOpened);
+    Ok(!demand_in(alloc, closed, lists, now, new.resolution)?.reached)
+}
+
+fn order_refusal(
+    alloc: Global,
+    closed: &Closed,
+    lists: &MeetingLists,
+    now: Moment,
+    new: &NewPoll,
+) -> Result<Option<Refusal>, AllocError>
+    requires { is_meeting lists.now ≡ true }
+    ensures { IfOk result (λ refusal. refusal ≡ first_refusal (order_cases lists.now closed.now now new.now)) }
+{
+    if !has_resolution(&lists.meeting, new.resolution) {
+        return Ok(Some(Refusal::NoResolution));
+    }
+    if lists.meeting.opened.is_none() {
+        return Ok(Some(Refusal::NotOpened));
     }
     if new.take < now {
-        return Some(Refusal::Early);
+        return Ok(Some(Refusal::Early));
     }
-    if poll.is_some() {
-        return Some(Refusal::PollOrdered);
+    if find_poll(lists.polls.as_slice(), new.resolution).is_some() {
+        return Ok(Some(Refusal::PollOrdered));
     }
-    if !new.chair {
-        return Some(Refusal::DemandTooSmall);
+    if is_unwanted(alloc, closed, lists, now, new)? {
+        return Ok(Some(Refusal::DemandTooSmall));
     }
-    None
+    Ok(None)
 }
 
 /// The answer to the order of a poll (section 321): the first that holds of `NoMeeting`, `NoResolution`,
 /// `NotOpened`, `Early` where the poll were taken before now, `PollOrdered`, and `DemandTooSmall`
-/// where the chair does not order it, since no demand can be made yet; and else `Ordered`, which
-/// adds the poll. It takes no memory.
-pub fn order_poll(found: Option<&MeetingLists>, now: Moment, new: &NewPoll) -> Answer
-    ensures answer { result ≡ in_meeting (option_copied found.entry) (order_answer now new.now) }
-    ensures limits { IsTrue (keeps_limits result.change) }
+/// where neither the chair orders it nor enough shares demand it; and else `Ordered`, which adds the
+/// poll. The error is want of memory. Without the chair its cost is that of
+/// `poll_rules::demand_reached`.
+pub fn order_poll(
+    alloc: Global,
+    closed: &Closed,
+    found: Option<&MeetingLists>,
+    now: Moment,
+    new: &NewPoll,
+) -> Result<Answer, AllocError>
+    requires { IfSome (option_copied found) (λ m. is_meeting m ≡ true) }
+    ensures answer { IfOk result (λ a. a ≡ in_meeting (option_copied found.entry) (order_answer closed.now now new.now)) }
+    ensures limits { IfOk result (λ a. IsTrue (keeps_limits a.change)) }
 {
     let Some(lists) = found else {
-        return refuse(Refusal::NoMeeting);
+        return Ok(refuse(Refusal::NoMeeting));
     };
-    let poll = find_poll(lists.polls.as_slice(), new.resolution);
-    if let Some(refusal) = order_refusal(&lists.meeting, poll, now, new) {
-        return refuse(refusal);
+    if let Some(refusal) = order_refusal(alloc, closed, lists, now, new)? {
+        return Ok(refuse(refusal));
     }
-    Answer {
+    let poll = Poll {
+        resolution: new.resolution,
+        ordered: now,
+        take: new.take,
+        chair: new.chair,
+        started: None,
+        closed: None,
+        declared: None,
+    };
+    Ok(Answer {
         reply: Reply::Ordered,
         change: Some(Change::AddPoll(AddPoll {
             meeting: new.meeting,
-            poll: Poll {
-                resolution: new.resolution,
-                ordered: now,
-                take: new.take,
-                chair: new.chair,
-                started: None,
-                closed: None,
-                declared: None,
-            },
+            poll,
         })),
-    }
+    })
 }
 
 fn has_started(poll: &Option<Poll>) -> bool
@@ -244,13 +291,7 @@ fn declaration(alloc: Global, lists: &MeetingLists, number: u64) -> Result<Decla
     ensures value { IfOk result (λ d. d ≡ declaration_of lists.now number) }
     ensures limits { IfOk result (λ d. IsTrue (is_tally d.tally)) }
 {
-    let papers = Papers {
-        register: lists.register.as_slice(),
-        appointments: lists.appointments.as_slice(),
-        endings: lists.endings.as_slice(),
-        casts: lists.casts.as_slice(),
-    };
-    let tally = tally(alloc, &papers, number)?;
+    let tally = tally(alloc, &papers_of(lists), number)?;
     Ok(Declaration {
         tally,
         carried: carries(&lists.meeting, number, tally),

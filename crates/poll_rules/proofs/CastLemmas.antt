@@ -2,7 +2,7 @@
 use Rattle.std.proofs.Common.{◌≡◌, ℕ, ◌+◌, ◌<◌, Bool, true, false, ◌&&◌, ◌==◌, cond, List, [], ◌∷◌, ◌++◌, length, get_or, take, refl, sym, ap, ◌∙◌}
 use Rattle.std.specs.Prelude.{Option, Some, None, option_map, option_and_then, find, reverse}
 use Rattle.std.specs.List.{filter_map, cons_option}
-use Rattle.std.proofs.lemmas.List.{reverse-append, take_more, append-nil}
+use Rattle.std.proofs.lemmas.List.{take_more, append-nil}
 use Rattle.std.proofs.lemmas.List.Elements.{filter_map-append}
 use Rattle.desk_terms.specs.Names.{same_name}
 use Rattle.desk_terms.specs.declared.kinds.Way.{Way}
@@ -12,24 +12,12 @@ use Rattle.desk_words.specs.declared.records.CastKind.{CastKind}
 use Rattle.desk_words.specs.declared.records.CastKind.TheVariants as cast
 use Rattle.desk_words.specs.declared.records.CastMark.{CastMark}
 use Rattle.desk_words.specs.declared.records.RegisterRow.{RegisterRow}
+use Rattle.proxy_rules.proofs.TurnedLists.{filter_map-reverse}
 use Rattle.poll_rules.specs.Casts.{is_member, covers_as_member, is_cast, way_cast, own_cast}
 use Rattle.poll_rules.specs.Groups.{block_by, block_of, own_blocks, is_on, last_way, vote_among}
 use Rattle.poll_rules.specs.Laws.{casts_on}
-use Rattle.poll_rules.specs.Shares.{is_individual}
+use Rattle.proxy_rules.specs.Shares.{is_individual}
 use Rattle.poll_rules.specs.Votes.{first_that_applies, valid_vote}
-
--- ---- turned lists
-
-reverse-cons_option : {X : Type 0} (o : Option X) (xs : List X) → reverse (cons_option o xs) ≡ reverse xs ++ cons_option o []
-reverse-cons_option None xs = sym (append-nil (reverse xs))
-reverse-cons_option (Some x) xs = reverse-append (x ∷ []) xs
-
-pub filter_map-reverse : {X Y : Type 0} (h : X → Option Y) (xs : List X) → reverse (filter_map h xs) ≡ filter_map h (reverse xs)
-filter_map-reverse h [] = refl
-filter_map-reverse h (x ∷ xs) =
-    reverse-cons_option (h x) (filter_map h xs)
-    ∙ ap (λ ys. ys ++ cons_option (h x) []) (filter_map-reverse h xs)
-    ∙ sym (ap (filter_map h) (reverse-append (x ∷ []) xs) ∙ filter_map-append h (reverse xs) (x ∷ []))
 
 -- ---- a member's own cast on a share is the last of its blocks that holds the place
 

@@ -1,7 +1,6 @@
+pub mod ActingLemmas
 pub mod CastLemmas
-pub mod CoverTags
-pub mod GroupLemmas
-pub mod HoldingLemmas
-pub mod PieceLemmas
-pub mod RunLemmas
-pub mod ShareLemmas
+pub mod CountLemmas
+pub mod DemandLemmas
+pub mod GatherLemmas
+pub mod PairLemmas

@@ -1,10 +1,7 @@
 -- What members cast for shares of their own.
-use Rattle.std.specs.Prelude.{ℕ, Bool, ◌&&◌, ◌==◌, List, [], find, reverse, Option, Some, None, option_map, Vec, if◌then◌else◌}
-use Rattle.std.specs.BTreeMap.{BTreeMap, get}
+use Rattle.std.specs.Prelude.{ℕ, Bool, ◌&&◌, ◌==◌, List, find, reverse, Option, Some, None, option_map, if◌then◌else◌}
 use Rattle.std.specs.List.{filter_map}
-use Rattle.std.specs.Option.{option_map_or}
-use Rattle.std.specs.declared.alloc.Global.{Global}
-use Rattle.desk_terms.specs.Names.{same_name, name_cmp}
+use Rattle.desk_terms.specs.Names.{same_name}
 use Rattle.desk_terms.specs.Places.{holds}
 use Rattle.desk_terms.specs.declared.kinds.HolderKind.{HolderKind}
 use Rattle.desk_terms.specs.declared.kinds.Way.{Way}
@@ -13,7 +10,7 @@ use Rattle.desk_words.specs.declared.records.CastKind.{CastKind}
 use Rattle.desk_words.specs.declared.records.CastKind.TheVariants as cast
 use Rattle.desk_words.specs.declared.records.CastMark.{CastMark}
 use Rattle.poll_rules.specs.Casts.{is_member}
-use Rattle.poll_rules.specs.Shares.{is_individual}
+use Rattle.proxy_rules.specs.Shares.{is_individual}
 
 -- the block that a voter casts as member for shares of its own, if it is on the right resolution
 abbrev pub block_by : List ℕ → Bool → CastKind → Option Block
@@ -31,10 +28,6 @@ block_of resolution member mark = if same_name mark.voter member then own_block 
 -- what a member casts on the resolution for shares of its own, in order of receipt
 abbrev pub own_blocks : List CastMark → ℕ → List ℕ → List Block
 own_blocks casts resolution member = filter_map (block_of resolution member) casts
-
--- the blocks that a map keeps for a member
-abbrev pub blocks_at : BTreeMap (List ℕ) (Vec Block Global) → List ℕ → List Block
-blocks_at own member = option_map_or (λ (blocks : Vec Block Global). blocks.items) (get name_cmp own member) []
 
 -- the block is cast on that place
 abbrev pub is_on : ℕ → Block → Bool

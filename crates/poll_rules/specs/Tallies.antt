@@ -6,7 +6,7 @@ use Rattle.desk_terms.specs.declared.kinds.Way.TheVariants.{For, Against, Withhe
 use Rattle.desk_words.specs.declared.records.RegisterRow.{RegisterRow}
 use Rattle.desk_words.specs.declared.records.CastMark.{CastMark}
 use Rattle.desk_words.specs.declared.records.Tally.{Tally}
-use Rattle.poll_rules.specs.Shares.{shares_of}
+use Rattle.proxy_rules.specs.Shares.{shares_of}
 use Rattle.poll_rules.specs.Votes.{valid_vote}
 
 -- both are the same way

@@ -3,7 +3,7 @@ use Rattle.std.specs.Prelude.{ℕ, List, [], ◌∷◌, Option, Some, None, opti
 use Rattle.desk_terms.specs.declared.kinds.Way.{Way}
 use Rattle.desk_words.specs.declared.records.RegisterRow.{RegisterRow}
 use Rattle.desk_words.specs.declared.records.CastMark.{CastMark}
-use Rattle.poll_rules.specs.Shares.{is_individual}
+use Rattle.proxy_rules.specs.Shares.{is_individual}
 use Rattle.poll_rules.specs.Casts.{own_cast}
 
 -- the vote by the first rule that applies, and none where none does; a rule that applies may also say that there is none

@@ -5,13 +5,15 @@ ghost use Rattle.std.specs.Option.{option_copied};
 ghost use Rattle.desk_terms.specs.Names.{same_name};
 ghost use Rattle.desk_words.specs.Registers.{all_shares};
 ghost use Rattle.desk_words.specs.declared.records.RegisterRow.{RegisterRow};
-ghost use Rattle.poll_rules.specs.Shares.{are_rows, shares_of};
+ghost use Rattle.proxy_rules.specs.Shares.{are_rows, shares_of};
 ghost use Rattle.poll_rules.specs.Tallies.{tally_of, tally_by};
-ghost use Rattle.poll_rules.specs.Groups.{own_block, own_blocks, blocks_at, is_on, vote_among};
+ghost use Rattle.poll_rules.specs.Gathered.{items_at};
+ghost use Rattle.poll_rules.specs.Groups.{own_block, own_blocks, is_on, vote_among};
 ghost use Rattle.poll_rules.specs.Sums.{FitsOneMore, FitsBoth, with_vote, tally_to, joined};
 
-use crate::papers::Papers;
+use crate::gathered::{add_to, items_of};
 use desk_words::{Block, Capacity, CastKind, CastMark, HolderKind, Party, RegisterRow, Tally, Way};
+use proxy_rules::{Papers, shares};
 use std::alloc::{AllocError, Global};
 use std::collections::BTreeMap;
 
@@ -30,44 +32,21 @@ fn own_block(cast: &CastMark, resolution: u64) -> Option<Block>
     }
 }
 
-/// Keeps one block more for a member, behind those that were received before it.
-fn add_block(
-    own: &mut BTreeMap<Party, Vec<Block>>,
-    member: Party,
-    block: Block,
-) -> Result<(), AllocError>
-    ensures { OnOk result ((other : List ℕ) →
-        blocks_at own.new other ≡ (if same_name member other then blocks_at own.old other ++ block ∷ [] else blocks_at own.old other)) }
-{
-    own.entry(member)?.or_default().push(block)?;
-    Ok(())
-}
-
 /// What each member cast on the resolution for shares of its own, in order of receipt.
 fn own_blocks(
     alloc: Global,
     casts: &[CastMark],
     resolution: u64,
 ) -> Result<BTreeMap<Party, Vec<Block>>, AllocError>
-    ensures { IfOk result (λ own. (member : List ℕ) → blocks_at own member ≡ own_blocks casts.now resolution member) }
+    ensures { IfOk result (λ own. (member : List ℕ) → items_at own member ≡ own_blocks casts.now resolution member) }
 {
     let mut own = BTreeMap::new(alloc);
     for cast in casts {
         if let Some(block) = own_block(cast, resolution) {
-            add_block(&mut own, cast.voter, block)?;
+            add_to(&mut own, cast.voter, block)?;
         }
     }
     Ok(own)
-}
-
-/// What a member cast for shares of its own.
-fn blocks_of<'a>(own: &'a BTreeMap<Party, Vec<Block>>, member: Party) -> &'a [Block]
-    ensures { result.now ≡ blocks_at own.now member }
-{
-    match own.get(&member) {
-        Some(blocks) => blocks.as_slice(),
-        None => &[],
-    }
 }
 
 /// The last of the blocks that holds the place.
@@ -84,16 +63,6 @@ fn vote(blocks: &[Block], kind: HolderKind, place: u64) -> Option<Way>
     match kind {
         HolderKind::Individual => Some(last_on(blocks, place)?.way),
         HolderKind::Corporation | HolderKind::Treasury => None,
-    }
-}
-
-/// How many shares a row has. Treasury shares are none.
-pub(crate) fn shares(row: &RegisterRow) -> u64
-    ensures { result ≡ shares_of row.now }
-{
-    match row.kind {
-        HolderKind::Individual | HolderKind::Corporation => row.shares,
-        HolderKind::Treasury => 0,
     }
 }
 
@@ -119,7 +88,7 @@ fn add_share(tally: &mut Tally, vote: Option<Way>)
 }
 
 /// The count of one holding.
-#[tactic(auto, using(crate::proofs::ShareLemmas::places_that_le, crate::proofs::ShareLemmas::places_that_more))]
+#[tactic(auto, using(crate::proofs::CountLemmas::places_that_le, crate::proofs::CountLemmas::places_that_more))]
 fn tally_row(blocks: &[Block], row: &RegisterRow) -> Tally
     requires { row.now.shares ≤ 10 ^ 12 }
     ensures { result ≡ tally_to (vote_among blocks.now row.now.kind) (shares_of row.now) }
@@ -147,11 +116,11 @@ fn join(a: Tally, b: Tally) -> Tally
 /// The count of the holdings, where each member cast these blocks for shares of its own.
 fn tally_rows(rows: &[RegisterRow], own: &BTreeMap<Party, Vec<Block>>) -> Tally
     requires { all_shares rows.now ≤ 10 ^ 12 }
-    ensures { result ≡ tally_by (λ (row : RegisterRow). vote_among (blocks_at own.now row.member) row.kind) rows.now }
+    ensures { result ≡ tally_by (λ (row : RegisterRow). vote_among (items_at own.now row.member) row.kind) rows.now }
 {
     let mut tally = NOTHING;
     for row in rows {
-        tally = join(tally, tally_row(blocks_of(own, row.member), row));
+        tally = join(tally, tally_row(items_of(own, row.member), row));
     }
     tally
 }

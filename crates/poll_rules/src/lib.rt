@@ -1,24 +1,24 @@
-//! The rules of a poll: which appointment governs a share, the valid vote of each share, the count
-//! of them, and the majority.
+//! The rules of a poll: the valid vote of each share, the count of them, and the majority. The rules
+//! of proxies stand below it, and are handed on.
 #![tactic(auto)]
 
-mod appointed;
-#[cfg(test)]
-mod appointment_tests;
-mod counted;
 mod counting;
-mod holdings;
+mod demand;
+mod gathered;
 pub mod laws;
 mod majority;
-mod papers;
-mod runs;
+#[cfg(test)]
+mod meeting_tests;
+mod qualifying;
+mod roles;
 #[cfg(test)]
 mod tests;
 
-pub use appointed::governing;
-pub use counted::{cutoffs, is_late_poll};
 pub use counting::tally;
-pub use holdings::{Appointed, Holding};
+pub use demand::{Demand, demand_reached};
 pub use majority::carried;
-pub use papers::{Cutoffs, Papers};
-pub use runs::{governed, runs_by_number};
+pub use proxy_rules::{
+    Appointed, Cutoffs, Holding, Papers, cutoffs, governed, governing, is_late_poll,
+    runs_by_number, shares,
+};
+pub use qualifying::quorum;

@@ -1,11 +1,9 @@
 //! Majorities and counts worked out by hand, with ample memory.
-use crate::{Cutoffs, Papers, carried, cutoffs, is_late_poll, tally};
+use crate::{Papers, carried, tally};
 use desk_words::{
-    Block, Capacity, CastKind, CastMark, Company, HolderKind, Meeting, MeetingKind, Moment, Party,
-    Poll, Range, Register, RegisterRow, ResKind, Resolution, Resolutions, Tally, Text, Way,
-    read_day, read_meeting, read_moment, read_party,
+    Block, Capacity, CastKind, CastMark, HolderKind, Moment, Party, Range, Register, RegisterRow,
+    ResKind, Tally, Text, Way, read_moment, read_party,
 };
-use office_days::Closed;
 use std::alloc::Global;
 use std::test::Fail;
 
@@ -13,7 +11,7 @@ pub(crate) fn party(name: &str) -> Result<Party, Fail> {
     Ok(read_party(name.as_bytes()).ok_or("a party")?)
 }
 
-fn moment() -> Result<Moment, Fail> {
+pub(crate) fn moment() -> Result<Moment, Fail> {
     Ok(read_moment(b"2026-06-18T10:06:00").ok_or("a moment")?)
 }
 
@@ -77,6 +75,9 @@ fn count(
         register: register.rows(),
         appointments: &[],
         endings: &[],
+        authorities: &[],
+        presences: &[],
+        demands: &[],
         casts,
     };
     Ok(tally(alloc, &papers, 1)?)
@@ -237,124 +238,12 @@ fn without_a_register_there_are_no_shares(rt: HostRuntime) -> Result<(), Fail> {
         register: &[],
         appointments: &[],
         endings: &[],
+        authorities: &[],
+        presences: &[],
+        demands: &[],
         casts: &casts,
     };
     let tally = tally(rt.alloc(), &papers, 1)?;
     assert!(rt; tally == counted(0, 0, 0, 0), "{tally:?}");
-    Ok(())
-}
-
-pub(crate) fn at(text: &str) -> Result<Moment, Fail> {
-    Ok(read_moment(text.as_bytes()).ok_or("a moment")?)
-}
-
-fn resolutions(alloc: Global) -> Result<Resolutions, Fail> {
-    let accounts = Resolution {
-        kind: ResKind::Ordinary,
-        text: Text::new(alloc, b"Accounts")?,
-    };
-    Ok(Resolutions::new(vec![in alloc; accounts]?)?)
-}
-
-fn meeting_at(alloc: Global, appointed: &str, opened: Option<Moment>) -> Result<Meeting, Fail> {
-    Ok(Meeting {
-        id: read_meeting(b"G1").ok_or("a meeting")?,
-        company: Company::Private,
-        kind: MeetingKind::General,
-        given: read_day(b"2026-06-01").ok_or("a day")?,
-        appointed: at(appointed)?,
-        record_moment: at("2026-06-16T18:00:00")?,
-        resolutions: resolutions(alloc)?,
-        loaded: true,
-        opened,
-    })
-}
-
-fn poll_taken(take: Moment) -> Result<Poll, Fail> {
-    Ok(Poll {
-        resolution: 1,
-        ordered: at("2026-06-18T10:05:00")?,
-        take,
-        chair: true,
-        started: None,
-        closed: None,
-        declared: None,
-    })
-}
-
-fn closed_on(alloc: Global, day: Option<&str>) -> Result<Closed, Fail> {
-    match day {
-        None => Ok(Closed::from_days(alloc, &[])?),
-        Some(day) => {
-            let day = read_day(day.as_bytes()).ok_or("a day")?;
-            Ok(Closed::from_days(alloc, &[day])?)
-        }
-    }
-}
-
-/// The cutoffs of a meeting with that appointed time, asked on 2026-06-10.
-fn before_opening(alloc: Global, appointed: &str, closed: Option<&str>) -> Result<Cutoffs, Fail> {
-    let meeting = meeting_at(alloc, appointed, None)?;
-    let closed = closed_on(alloc, closed)?;
-    Ok(cutoffs(&meeting, None, &closed, at("2026-06-10T00:00:00")?))
-}
-
-/// The cutoffs of a poll that is taken then, in the opened meeting.
-fn of_a_poll(alloc: Global, take: &str) -> Result<Cutoffs, Fail> {
-    let opened = at("2026-06-18T10:00:00")?;
-    let meeting = meeting_at(alloc, "2026-06-18T10:00:00", Some(opened))?;
-    let closed = closed_on(alloc, None)?;
-    let poll = poll_taken(at(take)?)?;
-    Ok(cutoffs(&meeting, Some(&poll), &closed, opened))
-}
-
-fn are(found: Cutoffs, appointments: &str, endings: &str) -> Result<bool, Fail> {
-    Ok(found.appointments == at(appointments)? && found.endings == at(endings)?)
-}
-
-#[test]
-fn a_meeting_has_cutoffs(rt: HostRuntime) -> Result<(), Fail> {
-    let alloc = rt.alloc();
-    let now = "2026-06-10T00:00:00";
-    let june = "2026-06-18T10:00:00";
-    assert!(rt;
-        are(
-            before_opening(alloc, june, None)?,
-            "2026-06-16T10:00:00",
-            now
-        )?
-    );
-    let later = before_opening(alloc, june, Some("2026-06-17"))?;
-    assert!(rt; are(later, "2026-06-15T10:00:00", now)?);
-    Ok(())
-}
-
-#[test]
-fn the_first_moment_stands_for_none(rt: HostRuntime) -> Result<(), Fail> {
-    let found = before_opening(rt.alloc(), "1900-01-02T10:00:00", None)?;
-    assert!(rt; are(found, "1900-01-01T00:00:00", "2026-06-10T00:00:00")?);
-    Ok(())
-}
-
-#[test]
-fn a_late_poll_has_its_own_cutoffs(rt: HostRuntime) -> Result<(), Fail> {
-    let take = "2026-06-23T09:00:00";
-    assert!(rt; are(of_a_poll(rt.alloc(), take)?, "2026-06-22T09:00:00", take)?);
-    let soon = of_a_poll(rt.alloc(), "2026-06-18T10:05:00")?;
-    assert!(rt; are(soon, "2026-06-16T10:00:00", "2026-06-18T10:00:00")?);
-    Ok(())
-}
-
-fn is_late(alloc: Global, take: &str) -> Result<bool, Fail> {
-    let closed: Closed = closed_on(alloc, None)?;
-    let take: Moment = at(take)?;
-    let poll: Poll = poll_taken(take)?;
-    Ok(is_late_poll(&closed, &poll))
-}
-
-#[test]
-fn lateness_is_more_than_48_hours(rt: HostRuntime) -> Result<(), Fail> {
-    assert!(rt; !is_late(rt.alloc(), "2026-06-22T10:05:00")?);
-    assert!(rt; is_late(rt.alloc(), "2026-06-22T10:05:01")?);
     Ok(())
 }

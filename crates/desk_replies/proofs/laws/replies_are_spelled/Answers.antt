@@ -90,4 +90,4 @@ ended_spelled n = simp append_assoc
 
 pub returns : goal.returns
 unfolding serde_json_on_literals
-returns c = record { called = refl; loaded = refl; same = refl; opened = refl; ordered = refl; started = refl; closed = refl; recorded = refl; declared = declaration_spelled; appointed = appointed_spelled; appointed_late = appointed_late_spelled; ended = ended_spelled; refused = refused_text; store = refl; memory = refl }
+returns c = record { called = refl; loaded = refl; same = refl; opened = refl; ordered = refl; started = refl; closed = refl; noted = refl; recorded = refl; declared = declaration_spelled; appointed = appointed_spelled; appointed_late = appointed_late_spelled; ended = ended_spelled; refused = refused_text; store = refl; memory = refl }

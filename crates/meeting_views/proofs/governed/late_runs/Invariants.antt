@@ -1,6 +1,6 @@
 use Rattle.std.proofs.Common.{◌≡◌, ℕ, List, map, filter, take}
 use Rattle.std.specs.Prelude.{IsTrue}
-use Rattle.poll_rules.specs.Cutoffs.{is_late_poll}
+use Rattle.proxy_rules.specs.Cutoffs.{is_late_poll}
 use Rattle.meeting_views.specs.Governed.{is_among, poll_due, poll_kept}
 use Rattle.meeting_views.proofs.governed.late_runs.Given as goal
 

@@ -1,8 +1,8 @@
 use Rattle.std.proofs.Common.{◌≡◌, true, ◌≤◌, sym, subst}
 use Rattle.std.specs.Prelude.{Option, IfSome}
 use Rattle.desk_terms.specs.Places.{most_places}
-use Rattle.poll_rules.specs.Holdings.{are_tagged}
-use Rattle.poll_rules.specs.declared.holdings.Holding.{Holding}
+use Rattle.proxy_rules.specs.Holdings.{are_tagged}
+use Rattle.proxy_rules.specs.declared.holdings.Holding.{Holding}
 use Rattle.meeting_views.proofs.governed.member_runs.Goals as goal
 
 abbrev IsFit : Option Holding → Type 0

@@ -1,6 +1,6 @@
 use Rattle.std.proofs.Common.{◌≡◌, List, map, ap, sym, ◌∙◌}
 use Rattle.desk_words.specs.declared.records.Appointment.{Appointment}
-use Rattle.poll_rules.specs.declared.papers.Cutoffs.{Cutoffs}
+use Rattle.proxy_rules.specs.declared.papers.Cutoffs.{Cutoffs}
 use Rattle.meeting_views.specs.Governed.{governed_at, is_among, received_due, received_kept}
 use Rattle.meeting_views.specs.declared.governed.PollRuns.{PollRuns}
 use Rattle.meeting_views.proofs.GovernedLemmas.{map-among}

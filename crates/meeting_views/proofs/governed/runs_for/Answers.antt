@@ -3,7 +3,7 @@ use Rattle.std.specs.BTreeMap.{BTreeMap, get}
 use Rattle.std.specs.Prelude.{IfSome, is_some}
 use Rattle.std.proofs.lemmas.List.{take_all}
 use Rattle.desk_terms.specs.Names.{name_cmp}
-use Rattle.poll_rules.specs.Runs.{runs_at}
+use Rattle.proxy_rules.specs.Runs.{runs_at}
 use Rattle.meeting_views.specs.Governed.{Numbered, governed_at, is_among}
 use Rattle.meeting_views.proofs.GovernedLemmas.{put-right, put-there, stays-there, is_among-more, found-right}
 use Rattle.meeting_views.proofs.governed.runs_for.Goals as goal

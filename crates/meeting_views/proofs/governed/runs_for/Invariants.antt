@@ -2,7 +2,7 @@ use Rattle.std.proofs.Common.{◌≡◌, true, ℕ, List, take}
 use Rattle.std.specs.BTreeMap.{get}
 use Rattle.std.specs.Prelude.{IfSome, is_some}
 use Rattle.desk_terms.specs.Names.{name_cmp}
-use Rattle.poll_rules.specs.Runs.{runs_at}
+use Rattle.proxy_rules.specs.Runs.{runs_at}
 use Rattle.meeting_views.specs.Governed.{Numbered, governed_at, is_among}
 use Rattle.meeting_views.proofs.governed.runs_for.Given as goal
 

@@ -4,7 +4,7 @@ use Rattle.std.specs.Ordering.{nat_cmp}
 use Rattle.std.specs.Prelude.{filter, option_map}
 use Rattle.desk_terms.specs.Names.{name_cmp}
 use Rattle.caller_view.specs.Views.{ended_at}
-use Rattle.poll_rules.specs.Holdings.{is_ended_of}
+use Rattle.proxy_rules.specs.Holdings.{is_ended_of}
 use Rattle.meeting_views.specs.Named.{with_endings}
 use Rattle.meeting_views.proofs.walks.gather_endings.Given as goal
 

@@ -3,9 +3,9 @@ use Rattle.std.specs.BTreeMap.{BTreeMap, get}
 use Rattle.std.specs.Ordering.{is_eq}
 use Rattle.std.specs.Prelude.{Some, None, is_some}
 use Rattle.desk_terms.specs.Names.{same_name, name_cmp}
-use Rattle.poll_rules.specs.Governing.{shares_by}
-use Rattle.poll_rules.specs.Holdings.{appointed_by}
-use Rattle.poll_rules.specs.declared.holdings.Holding.{Holding}
+use Rattle.proxy_rules.specs.Governing.{shares_by}
+use Rattle.proxy_rules.specs.Holdings.{appointed_by}
+use Rattle.proxy_rules.specs.declared.holdings.Holding.{Holding}
 use Rattle.meeting_views.specs.Named.{with_appointment}
 use Rattle.meeting_views.proofs.NamedLemmas.{changed_at}
 use Rattle.meeting_views.proofs.walks.keep_appointment.Goals as goal

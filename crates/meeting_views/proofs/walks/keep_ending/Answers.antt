@@ -2,7 +2,7 @@ use Rattle.std.proofs.Common.{◌≡◌, [], ◌∷◌, ap, sym, ◌∙◌}
 use Rattle.std.specs.BTreeMap.{get}
 use Rattle.std.specs.Prelude.{Some, is_some, option_map}
 use Rattle.desk_terms.specs.Names.{name_cmp}
-use Rattle.poll_rules.specs.declared.holdings.Holding.{Holding}
+use Rattle.proxy_rules.specs.declared.holdings.Holding.{Holding}
 use Rattle.meeting_views.specs.Named.{with_endings}
 use Rattle.meeting_views.proofs.NamedLemmas.{changed_at}
 use Rattle.meeting_views.proofs.walks.keep_ending.Goals as goal

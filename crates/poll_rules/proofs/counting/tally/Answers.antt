@@ -3,7 +3,7 @@ use Rattle.desk_words.specs.declared.records.RegisterRow.{RegisterRow}
 use Rattle.poll_rules.specs.Groups.{vote_among}
 use Rattle.poll_rules.specs.Tallies.{tally_by}
 use Rattle.poll_rules.proofs.CastLemmas.{valid_vote-blocks}
-use Rattle.poll_rules.proofs.ShareLemmas.{all_shares-le}
+use Rattle.proxy_rules.proofs.ShareLemmas.{all_shares-le}
 use Rattle.poll_rules.proofs.counting.tally.Goals as goal
 
 pub tally_rows-requires : goal.tally_rows-requires

@@ -1,0 +1,149 @@
+-- An authority more, a presence more, and a demand more keep the lists of a meeting.
+use Rattle.std.proofs.Common.{◌≡◌, ℕ, ◌+◌, Bool, true, false, not, ◌&&◌, ◌||◌, ◌==◌, cond, List, [], ◌∷◌, ◌++◌, length, refl, ap, sym, ◌∙◌, arith, add-zero}
+use Rattle.std.specs.Prelude.{filter, nat_le, count_by}
+use Rattle.std.specs.List.{list_all, list_any}
+use Rattle.std.specs.Cmp.{first_so, second_so}
+use Rattle.std.specs.Cmp.Derive.{both_true}
+use Rattle.std.proofs.lemmas.Bool.Decides.{nat_tests}
+use Rattle.std.proofs.lemmas.List.Sums.{length-filter}
+use Rattle.std.proofs.lemmas.List.Folds.{list_all-append}
+use Rattle.desk_lists.proofs.Differing.{all_weaker, count_snoc, differ_snoc}
+use Rattle.desk_lists.specs.Ordered.{differ_by}
+use Rattle.desk_words.proofs.RowLemmas.{same_name-true}
+use Rattle.desk_words.specs.Names.{same_name}
+use Rattle.desk_words.specs.Office.{is_meeting, is_resolution, same_authority, same_demand, same_presence}
+use Rattle.desk_words.specs.declared.office.MeetingLists.{MeetingLists}
+use Rattle.desk_words.specs.declared.records.Authority.{Authority}
+use Rattle.desk_words.specs.declared.records.DemandMark.{DemandMark}
+use Rattle.desk_words.specs.declared.records.PresenceMark.{PresenceMark}
+use Rattle.office_answers.proofs.OfficeFacts.{meeting_facts, meeting_from_facts}
+use Rattle.meeting_core.specs.Office.{with_authority, with_demand, with_presence}
+
+-- a value of a part of the list passes where one of the list passes both tests
+any_filter : {X : Type 0} (p q : X → Bool) (xs : List X) → list_any p (filter q xs) ≡ list_any (λ x. q x && p x) xs
+any_filter p q [] = refl
+any_filter p q (x ∷ xs) =
+    elim (q x) as (λ b. list_any p (cond b (x ∷ filter q xs) (filter q xs)) ≡ ((b && p x) || list_any (λ y. q y && p y) xs)) [
+      | true ↦ ap (λ b. p x || b) (any_filter p q xs)
+      | false ↦ any_filter p q xs
+    ]
+
+and_turned : (a b : Bool) → (a && b) ≡ (b && a)
+and_turned true true = refl
+and_turned true false = refl
+and_turned false true = refl
+and_turned false false = refl
+
+-- ---- an authority more
+
+-- how many authorities are of the same corporation
+abbrev given_like : Authority → List Authority → ℕ
+given_like a given = count_by (λ (b : Authority). same_name b.corporation a.corporation) given
+
+-- there is room for one authority more of that corporation, and so of every one
+authority_fits : (a d : Authority) (given : List Authority) → nat_le 64 (given_like a given) ≡ false → nat_le (given_like d given) 64 ≡ true
+    → nat_le (given_like d (given ++ a ∷ [])) 64 ≡ true
+authority_fits a d given room fits =
+    ap (λ n. nat_le n 64) (count_snoc (λ (e : Authority). same_name e.corporation d.corporation) given a)
+    ∙ (elim (same_name a.corporation d.corporation) as (λ b. same_name a.corporation d.corporation ≡ b → nat_le (given_like d given + cond b 1 0) 64 ≡ true) [
+      | true ↦ λ e. (
+          let one : a.corporation ≡ d.corporation = same_name-true a.corporation d.corporation e in
+          let alike : given_like a given ≡ given_like d given = λ i. count_by (λ (x : Authority). same_name x.corporation (one i)) given in
+          let less : nat_le 64 (given_like d given) ≡ false = ap (nat_le 64) (sym alike) ∙ room in
+          grind (arith, nat_tests))
+      | false ↦ λ e. ap (λ n. nat_le n 64) (add-zero (given_like d given)) ∙ fits
+    ]) refl
+
+-- an authority may be added that is not given yet, where its corporation gave fewer than 64
+pub authority_kept : (a : Authority) (m : MeetingLists) → is_meeting m ≡ true → nat_le 64 (given_like a m.authorities) ≡ false
+    → list_any (λ b. same_authority b a) m.authorities ≡ false → is_meeting (with_authority a m) ≡ true
+authority_kept a m h room fresh =
+    let f = meeting_facts m h in
+    let given = m.authorities in
+    let fits = λ (d : Authority). nat_le (given_like d given) 64 in
+    let more = λ (d : Authority). nat_le (given_like d (given ++ a ∷ [])) 64 in
+    let apart = differ_by same_authority given in
+    let own : nat_le (given_like a given) 64 ≡ true = grind (arith, nat_tests) in
+    meeting_from_facts (with_authority a m) (record {
+      resolutions = f.resolutions;
+      loaded = f.loaded;
+      appointments = f.appointments;
+      endings = f.endings;
+      authorities = both_true
+          (list_all-append more given (a ∷ [])
+          ∙ both_true (all_weaker fits more given (λ d. authority_fits a d given room) (first_so (list_all fits given) apart f.authorities)) (both_true (authority_fits a a given room own) refl))
+          (differ_snoc same_authority given a (second_so (list_all fits given) apart f.authorities) fresh);
+      presences = f.presences;
+      demands = f.demands;
+      polls = f.polls;
+      casts = f.casts;
+    })
+
+-- there is room where the authority is not given yet, and not too many are
+has_room : (gave many : Bool) → gave ≡ false → (not gave && many) ≡ false → many ≡ false
+has_room true many g h = absurd (cc)
+has_room false many g h = h
+
+-- so there is among a party's own
+pub room_left : (party : List ℕ) (gave : Bool) (given : List Authority) → gave ≡ false
+    → (not gave && nat_le 64 (length (filter (λ (b : Authority). same_name b.corporation party) given))) ≡ false
+    → nat_le 64 (count_by (λ (b : Authority). same_name b.corporation party) given) ≡ false
+room_left party gave given fresh h =
+    let own = λ (b : Authority). same_name b.corporation party in
+    ap (nat_le 64) (sym (length-filter own given)) ∙ has_room gave (nat_le 64 (length (filter own given))) fresh h
+
+-- what is not among a party's own authorities is not among all
+pub not_given : (party person : List ℕ) (given : List Authority)
+    → list_any (λ (b : Authority). same_name b.person person) (filter (λ (b : Authority). same_name b.corporation party) given) ≡ false
+    → list_any (λ (b : Authority). same_name b.corporation party && same_name b.person person) given ≡ false
+not_given party person given h =
+    sym (any_filter (λ (b : Authority). same_name b.person person) (λ (b : Authority). same_name b.corporation party) given) ∙ h
+
+-- ---- a presence more
+
+-- a party may be marked that is not marked yet
+pub presence_kept : (p : PresenceMark) (m : MeetingLists) → is_meeting m ≡ true → list_any (λ q. same_presence q p) m.presences ≡ false → is_meeting (with_presence p m) ≡ true
+presence_kept p m h fresh =
+    let f = meeting_facts m h in
+    meeting_from_facts (with_presence p m) (record {
+      resolutions = f.resolutions;
+      loaded = f.loaded;
+      appointments = f.appointments;
+      endings = f.endings;
+      authorities = f.authorities;
+      presences = differ_snoc same_presence m.presences p f.presences fresh;
+      demands = f.demands;
+      polls = f.polls;
+      casts = f.casts;
+    })
+
+-- ---- a demand more
+
+-- a demand of a resolution of the meeting may be added that does not stand yet
+pub demand_kept : (d : DemandMark) (m : MeetingLists) → is_meeting m ≡ true → is_resolution (length m.meeting.resolutions) d.resolution ≡ true
+    → list_any (λ e. same_demand e d) m.demands ≡ false → is_meeting (with_demand d m) ≡ true
+demand_kept d m h number fresh =
+    let f = meeting_facts m h in
+    let on = λ (e : DemandMark). is_resolution (length m.meeting.resolutions) e.resolution in
+    let apart = differ_by same_demand m.demands in
+    meeting_from_facts (with_demand d m) (record {
+      resolutions = f.resolutions;
+      loaded = f.loaded;
+      appointments = f.appointments;
+      endings = f.endings;
+      authorities = f.authorities;
+      presences = f.presences;
+      demands = both_true
+          (list_all-append on m.demands (d ∷ []) ∙ both_true (first_so (list_all on m.demands) apart f.demands) (both_true number refl))
+          (differ_snoc same_demand m.demands d (second_so (list_all on m.demands) apart f.demands) fresh);
+      polls = f.polls;
+      casts = f.casts;
+    })
+
+-- what is not among a party's own demands is not among all
+pub not_demanded : (party : List ℕ) (resolution : ℕ) (demands : List DemandMark)
+    → list_any (λ (e : DemandMark). e.resolution == resolution) (filter (λ (e : DemandMark). same_name e.party party) demands) ≡ false
+    → list_any (λ (e : DemandMark). e.resolution == resolution && same_name e.party party) demands ≡ false
+not_demanded party resolution demands h =
+    ap (λ test. list_any test demands) (λ i (e : DemandMark). and_turned (e.resolution == resolution) (same_name e.party party) i)
+    ∙ sym (any_filter (λ (e : DemandMark). e.resolution == resolution) (λ (e : DemandMark). same_name e.party party) demands) ∙ h

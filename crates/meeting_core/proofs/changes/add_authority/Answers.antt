@@ -1,0 +1,16 @@
+use Rattle.std.proofs.Common.{sym, ◌∙◌, ap, slice_set}
+use Rattle.std.proofs.lemmas.Result.{on_ok_weaker}
+use Rattle.desk_words.specs.Names.{same_name}
+use Rattle.desk_lists.proofs.ChangeFirst.{change_first-some, change_first-none}
+use Rattle.meeting_core.specs.Office.{with_authority}
+use Rattle.meeting_core.proofs.changes.add_authority.Goals as goal
+
+pub returns-in-Some-clause-ok : goal.returns-in-Some-clause-ok
+returns-in-Some-clause-ok c =
+    let meetings = c.args.meetings.now in
+    let changed = change_first-some (λ m. same_name m.meeting.id c.args.added.meeting) _ (with_authority c.args.added.authority) meetings c.in-Some.i (sym c.place_of_meeting.ensures.first ∙ c.in-Some.is) in
+    on_ok_weaker c.put_authority.result (λ ok. ap (slice_set meetings c.in-Some.i) ok ∙ sym changed) c.put_authority.ensures.ok
+
+pub returns-in-None-clause-ok : goal.returns-in-None-clause-ok
+returns-in-None-clause-ok c =
+    sym (change_first-none (λ m. same_name m.meeting.id c.args.added.meeting) (with_authority c.args.added.authority) 0 c.args.meetings.now (sym c.place_of_meeting.ensures.first ∙ c.in-None.is))

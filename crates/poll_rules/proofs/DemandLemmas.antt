@@ -1,0 +1,164 @@
+-- Sums of a demand.
+use Rattle.std.proofs.Common.{◌≡◌, ℕ, zero, suc, ◌+◌, ◌*◌, ◌^◌, ◌<◌, ◌≤◌, Bool, true, false, cond, List, [], ◌∷◌, length, get_or, take, refl, sym, ap, ◌∙◌, arith}
+use Rattle.std.specs.Prelude.{◌&&◌, ◌||◌, ◌==◌, nat_le, nat_lt, sum_by, count_by}
+use Rattle.std.specs.Cmp.{first_so, second_so}
+use Rattle.std.specs.Cmp.Lexicographic.{texts_ties}
+use Rattle.std.specs.Ordering.{is_eq}
+use Rattle.std.specs.List.{list_all, list_any}
+use Rattle.std.proofs.Math.Nat.{mul-le-mul_left}
+use Rattle.std.proofs.lemmas.Bool.Decides.{nat_tests}
+use Rattle.std.proofs.lemmas.List.Sums.{sum_by-cons, sum_by_more, sum_by_more_le, sum_by-take-le, sum_by-le-sum_by, count_by-le-length}
+use Rattle.desk_lists.specs.Ordered.{ascends_by}
+use Rattle.desk_terms.specs.Names.{same_name, name_cmp}
+use Rattle.desk_terms.specs.Places.{places_that}
+use Rattle.desk_words.specs.Registers.{all_shares, is_holding, keep_limits, member_before}
+use Rattle.desk_words.specs.declared.records.Appointment.{Appointment}
+use Rattle.desk_words.specs.declared.records.Authority.{Authority}
+use Rattle.desk_words.specs.declared.records.Ending.{Ending}
+use Rattle.desk_words.specs.declared.records.RegisterRow.{RegisterRow}
+use Rattle.desk_words.specs.declared.register.TheConstants.{MOST_SHARES}
+use Rattle.proxy_rules.specs.Shares.{are_rows, is_corporation, is_individual, shares_of}
+use Rattle.proxy_rules.specs.declared.papers.Cutoffs.{Cutoffs}
+use Rattle.proxy_rules.proofs.ShareLemmas.{all_shares-le, shares_of-le}
+use Rattle.proxy_rules.proofs.Choices.{le_is, or-false}
+use Rattle.poll_rules.specs.Acting.{is_governed_in}
+use Rattle.poll_rules.specs.Demanding.{FitsRow, demanding_in, holder_demands, sums_by, with_row}
+use Rattle.poll_rules.specs.Demands.{paid_on, share_demands}
+use Rattle.poll_rules.specs.Gathered.{IsGathered}
+use Rattle.poll_rules.specs.declared.gathered.Gathered.{Gathered}
+use Rattle.poll_rules.proofs.ActingLemmas.{governed_in-gathered}
+use Rattle.poll_rules.proofs.CountLemmas.{places_that_le}
+use Rattle.poll_rules.proofs.GatherLemmas.{any-authorised}
+
+-- ---- the shares of a row that demand
+
+all_places : (n : ℕ) → places_that (λ place. true) n ≡ n
+all_places zero = refl
+all_places (suc n) = omega (arith, all_places n)
+
+by_either : (b : Bool) (test : ℕ → Bool) (n : ℕ) → cond b n (places_that test n) ≡ places_that (λ place. b || test place) n
+by_either true test n = sym (all_places n)
+by_either false test n = refl
+
+module _ (gathered : Gathered) (given : List Appointment) (endings : List Ending) (authorities : List Authority) (is : IsGathered gathered given endings authorities) (cutoffs : Cutoffs) where
+  -- they are those that the definition asks one by one
+  pub demanding-gathered : (demanded : List ℕ → Bool) (row : RegisterRow) → demanding_in demanded cutoffs gathered row ≡ places_that (share_demands demanded cutoffs given endings authorities row) (shares_of row)
+  demanding-gathered demanded row =
+      let own = is_individual row.kind && demanded row.member in
+      by_either (holder_demands demanded gathered row) (is_governed_in demanded cutoffs gathered row) (shares_of row)
+      ∙ ap (λ b. places_that (λ place. (own || (is_corporation row.kind && b)) || is_governed_in demanded cutoffs gathered row place) (shares_of row))
+      (ap (list_any demanded) (is.authorised row.member) ∙ any-authorised demanded authorities row.member)
+      ∙ ap (λ test. places_that test (shares_of row))
+      (λ k place. ap (λ b. (own || (is_corporation row.kind && list_any (λ (a : Authority). same_name a.corporation row.member && demanded a.person) authorities)) || b)
+      (governed_in-gathered gathered given endings authorities is cutoffs demanded row place) k)
+
+-- no row has more shares that demand than shares
+pub demanding-le : (demanded : List ℕ → Bool) (cutoffs : Cutoffs) (gathered : Gathered) (row : RegisterRow) → demanding_in demanded cutoffs gathered row ≤ shares_of row
+demanding-le demanded cutoffs gathered row =
+    elim (holder_demands demanded gathered row) as (λ b. cond b (shares_of row) (places_that (is_governed_in demanded cutoffs gathered row) (shares_of row)) ≤ shares_of row) [
+      | true ↦ omega arith
+      | false ↦ places_that_le (is_governed_in demanded cutoffs gathered row) (shares_of row)
+    ]
+
+-- ---- the limits of rows
+
+record Limits (rows : List RegisterRow) : Type 0 where
+  pub few : length rows ≤ 20000
+  pub each : list_all is_holding rows ≡ true
+  pub shares : all_shares rows ≤ 1000000000000
+
+limits : (rows : List RegisterRow) → are_rows rows ≡ true → Limits rows
+limits [] h = record { few = omega arith; each = refl; shares = omega arith }
+limits (row ∷ rows) h =
+    let kept = first_so (keep_limits (row ∷ rows)) (ascends_by member_before (row ∷ rows)) h in
+    let front = first_so (nat_le 1 (length (row ∷ rows)) && nat_le (length (row ∷ rows)) 20000 && list_all is_holding (row ∷ rows)) (nat_le (all_shares (row ∷ rows)) MOST_SHARES) kept in
+    let sizes = first_so (nat_le 1 (length (row ∷ rows)) && nat_le (length (row ∷ rows)) 20000) (list_all is_holding (row ∷ rows)) front in
+    record {
+      few = le_is (length (row ∷ rows)) 20000 (second_so (nat_le 1 (length (row ∷ rows))) (nat_le (length (row ∷ rows)) 20000) sizes);
+      each = second_so (nat_le 1 (length (row ∷ rows)) && nat_le (length (row ∷ rows)) 20000) (list_all is_holding (row ∷ rows)) front;
+      shares = all_shares-le (row ∷ rows) h;
+    }
+
+paid_le : (row : RegisterRow) → is_holding row ≡ true → row.paid ≤ 1000000
+paid_le row h = le_is row.paid 1000000 (second_so (nat_le 1 row.shares && nat_le row.shares 1000000000000) (nat_le row.paid 1000000) h)
+
+one_paid : (shares paid held : ℕ) → shares ≤ held → paid ≤ 1000000 → shares * paid ≤ 1000000 * held
+one_paid shares paid held few small = omega (arith, mul-le-mul_left shares small)
+
+-- what is paid up on some shares of each row is at most 10^6 pence for each share
+paid-le : (f : RegisterRow → ℕ) → ((row : RegisterRow) → f row ≤ row.shares) → (rows : List RegisterRow) → list_all is_holding rows ≡ true → sum_by (paid_on f) rows ≤ 1000000 * all_shares rows
+paid-le f below [] h = omega arith
+paid-le f below (row ∷ rows) h =
+    omega (
+      arith,
+      sum_by-cons (paid_on f) row rows,
+      sum_by-cons (λ (r : RegisterRow). r.shares) row rows,
+      one_paid (f row) row.paid row.shares (below row) (paid_le row (first_so (is_holding row) (list_all is_holding rows) h)),
+      paid-le f below rows (second_so (is_holding row) (list_all is_holding rows) h),
+    )
+
+-- ---- one row more
+
+pub next : {X : Type 0} (f : X → ℕ) (rows : List X) (i : ℕ) (row : X) → i < length rows → row ≡ get_or rows i row → sum_by f (take i rows) + f row ≡ sum_by f (take (i + 1) rows)
+next f rows i row lt is = ap (λ r. sum_by f (take i rows) + f r) is ∙ sym (sum_by_more f rows i row lt)
+
+pub next-le : {X : Type 0} (f : X → ℕ) (rows : List X) (i : ℕ) (row : X) → i < length rows → row ≡ get_or rows i row → sum_by f (take i rows) + f row ≤ sum_by f rows
+next-le f rows i row lt is = omega (arith, sum_by_more_le f rows i row lt, ap f is)
+
+pub sums-more : (f : RegisterRow → ℕ) (rows : List RegisterRow) (i : ℕ) (row : RegisterRow) → i < length rows → row ≡ get_or rows i row → with_row (sums_by f (take i rows)) row (f row) ≡ sums_by f (take (i + 1) rows)
+sums-more f rows i row lt is =
+    let members = next (λ r. cond (nat_lt 0 (f r)) 1 0) rows i row lt is in
+    let shares = next f rows i row lt is in
+    let paid = next (paid_on f) rows i row lt is in
+    let all_shares = next shares_of rows i row lt is in
+    let all_paid = next (paid_on shares_of) rows i row lt is in
+    λ k. record { members = members k; shares = shares k; paid = paid k; all_shares = all_shares k; all_paid = all_paid k }
+
+shares-le : (f : RegisterRow → ℕ) → ((row : RegisterRow) → f row ≤ shares_of row) → (row : RegisterRow) → f row ≤ row.shares
+shares-le f below row = omega (arith, below row, shares_of-le row)
+
+sum-le : (f : RegisterRow → ℕ) → ((row : RegisterRow) → f row ≤ row.shares) → (rows : List RegisterRow) → sum_by f rows ≤ all_shares rows
+sum-le f below rows = sum_by-le-sum_by f (λ (row : RegisterRow). row.shares) rows below
+
+pub sums_fit : (f : RegisterRow → ℕ) → ((row : RegisterRow) → f row ≤ shares_of row) → (rows : List RegisterRow) (i : ℕ) (row : RegisterRow) → are_rows rows ≡ true → i < length rows → row ≡ get_or rows i row
+    → FitsRow (sums_by f (take i rows)) row (f row)
+sums_fit f below rows i row h lt is =
+    let l = limits rows h in
+    let counted : count_by (λ r. nat_lt 0 (f r)) (take i rows) ≤ length rows = omega (arith, sum_by-take-le (λ r. cond (nat_lt 0 (f r)) 1 0) rows i, count_by-le-length (λ r. nat_lt 0 (f r)) rows) in
+    record {
+      members = omega (arith, l.few, counted);
+      shares = omega (arith, l.shares, next-le f rows i row lt is, sum-le f (shares-le f below) rows);
+      paid = omega (arith, l.shares, next-le (paid_on f) rows i row lt is, paid-le f (shares-le f below) rows l.each);
+      all_shares = omega (arith, l.shares, next-le shares_of rows i row lt is, sum-le shares_of shares_of-le rows);
+      all_paid = omega (arith, l.shares, next-le (paid_on shares_of) rows i row lt is, paid-le shares_of shares_of-le rows l.each);
+    }
+
+-- tenfold sums fit
+pub tenfold_shares : (f : RegisterRow → ℕ) → ((row : RegisterRow) → f row ≤ shares_of row) → (rows : List RegisterRow) → are_rows rows ≡ true → 10 * sum_by f rows < 2 ^ 64
+tenfold_shares f below rows h = omega (arith, (limits rows h).shares, sum-le f (shares-le f below) rows)
+
+pub tenfold_paid : (f : RegisterRow → ℕ) → ((row : RegisterRow) → f row ≤ shares_of row) → (rows : List RegisterRow) → are_rows rows ≡ true → 10 * sum_by (paid_on f) rows < 2 ^ 64
+tenfold_paid f below rows h = let l = limits rows h in omega (arith, l.shares, paid-le f (shares-le f below) rows l.each)
+
+-- ---- those who demanded
+
+-- one demand more on the resolution
+pub one_demander : (after so_far right : Bool) (party person : List ℕ) → after ≡ cond (is_eq (name_cmp party person)) true so_far → right ≡ true → after ≡ (so_far || (right && same_name party person))
+one_demander after so_far right party person put is =
+    put
+    ∙ ap (λ b. cond b true so_far) (sym (texts_ties party person))
+    ∙ either (same_name party person) so_far
+    ∙ ap (λ b. so_far || (b && same_name party person)) (sym is)
+  where
+    either : (a b : Bool) → cond a true b ≡ (b || a)
+    either true true = refl
+    either true false = refl
+    either false true = refl
+    either false false = refl
+
+-- one on another resolution
+pub no_demander : (so_far right same : Bool) → right ≡ false → so_far ≡ (so_far || (right && same))
+no_demander so_far right same not_right = sym (ap (λ b. so_far || (b && same)) not_right ∙ or-false so_far)
+
+pub apart_false : (a b : ℕ) → (a ≡ b → ⊥) → (a == b) ≡ false
+apart_false a b apart = grind (arith, nat_tests)

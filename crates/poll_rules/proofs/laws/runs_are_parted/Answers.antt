@@ -1,5 +1,0 @@
-use Rattle.poll_rules.proofs.RunLemmas.{are_parted-runs_that}
-use Rattle.poll_rules.proofs.laws.runs_are_parted.Goals as goal
-
-pub returns : goal.returns
-returns c = λ test n. are_parted-runs_that test n

@@ -1,0 +1,204 @@
+//! The demand of a poll.
+ghost use Rattle.std.specs.Prelude.{◌≡◌, ◌≤◌, ◌<◌, ◌*◌, ◌^◌, ℕ, List, [], true, IfOk, sum_by};
+ghost use Rattle.std.specs.List.{list_any};
+ghost use Rattle.desk_words.specs.Office.{are_numbered_after};
+ghost use Rattle.proxy_rules.specs.Holdings.{are_tags};
+ghost use Rattle.proxy_rules.specs.Parts.{shares_if};
+ghost use Rattle.proxy_rules.specs.Shares.{are_rows};
+ghost use Rattle.poll_rules.specs.Demanding.{FitsRow, demand_from, demanding_in, holder_demands, is_one_of, sums_by, with_row};
+ghost use Rattle.poll_rules.specs.Demands.{demand_of, has_demanded, is_enough};
+ghost use Rattle.poll_rules.specs.Gathered.{AreNumbered};
+
+use crate::gathered::{Gathered, gather, items_of};
+use crate::roles::parts;
+use desk_words::{DemandMark, HolderKind, Party, RegisterRow};
+use proxy_rules::{Cutoffs, Papers, Part, shares};
+use std::alloc::{AllocError, Global};
+use std::collections::BTreeSet;
+
+/// Which shares demand a poll, and whether they are enough (sections 321 and 329).
+#[derive(Clone, Copy, Debug, PartialEq, Eq)]
+pub struct Demand {
+    /// How many members hold a share that demands it.
+    pub members: u64,
+    /// How many shares demand it.
+    pub shares: u64,
+    /// The pence paid up on these shares.
+    pub paid: u64,
+    /// Whether some share demands it, and the shares that do have at least five holders, or are at
+    /// least a tenth of all shares by number or by the sum paid up on them.
+    pub reached: bool,
+}
+
+/// The sums of a demand over some rows.
+#[derive(Clone, Copy, Debug)]
+struct Sums {
+    /// How many rows have a share that demands.
+    members: u64,
+    /// How many shares demand, and the pence paid up on them.
+    shares: u64,
+    paid: u64,
+    /// How many shares there are, and the pence paid up on them.
+    all_shares: u64,
+    all_paid: u64,
+}
+
+const NOTHING: Sums = Sums {
+    members: 0,
+    shares: 0,
+    paid: 0,
+    all_shares: 0,
+    all_paid: 0,
+};
+
+/// Those who demanded a poll on the resolution.
+fn demanders(
+    alloc: Global,
+    demands: &[DemandMark],
+    resolution: u64,
+) -> Result<BTreeSet<Party>, AllocError>
+    ensures { IfOk result (λ persons. (person : List ℕ) → is_one_of persons person ≡ has_demanded demands.now resolution person) }
+{
+    let mut persons = BTreeSet::new(alloc);
+    for demand in demands {
+        if demand.resolution == resolution {
+            persons.insert(demand.party)?;
+        }
+    }
+    Ok(persons)
+}
+
+/// Whether any of these persons demands it.
+fn any_demands(demanders: &BTreeSet<Party>, persons: &[Party]) -> bool
+    ensures { result ≡ list_any (is_one_of demanders.now) persons.now }
+{
+    persons.iter().any(|person| demanders.contains(person))
+}
+
+/// Whether the individual who holds the row demands it, or a representative of the corporation that
+/// does.
+fn holder_demands(demanders: &BTreeSet<Party>, gathered: &Gathered, row: &RegisterRow) -> bool
+    ensures { result ≡ holder_demands (is_one_of demanders.now) gathered.now row.now }
+{
+    match row.kind {
+        HolderKind::Individual => demanders.contains(&row.member),
+        HolderKind::Corporation => {
+            any_demands(demanders, items_of(&gathered.authorised, row.member))
+        }
+        HolderKind::Treasury => false,
+    }
+}
+
+/// The shares of the part, if its proxy demands.
+fn shares_if_demanded(part: &Part, demanders: &BTreeSet<Party>) -> u64
+    ensures { result ≡ shares_if (is_one_of demanders.now) part.now }
+{
+    if demanders.contains(&part.proxy) {
+        part.shares
+    } else {
+        0
+    }
+}
+
+/// How many shares the parts of those who demand have.
+fn shares_of_demanders(parts: &[Part], demanders: &BTreeSet<Party>) -> u64
+    requires { sum_by (shares_if (is_one_of demanders.now)) parts.now < 2 ^ 64 }
+    ensures { result ≡ sum_by (shares_if (is_one_of demanders.now)) parts.now }
+{
+    let mut shares = 0;
+    for part in parts {
+        shares += shares_if_demanded(part, demanders);
+    }
+    shares
+}
+
+/// How many shares of the row demand it.
+fn demanding(
+    alloc: Global,
+    cutoffs: &Cutoffs,
+    gathered: &Gathered,
+    demanders: &BTreeSet<Party>,
+    row: &RegisterRow,
+) -> Result<u64, AllocError>
+    requires numbered { AreNumbered gathered.now }
+    requires few { row.now.shares ≤ 10 ^ 12 }
+    ensures { IfOk result (λ shares. shares ≡ demanding_in (is_one_of demanders.now) cutoffs.now gathered.now row.now) }
+{
+    if holder_demands(demanders, gathered, row) {
+        return Ok(shares(row));
+    }
+    let parts = parts(alloc, cutoffs, gathered, row)?;
+    Ok(shares_of_demanders(parts.as_slice(), demanders))
+}
+
+/// Counts one row more, of which so many shares demand.
+fn add_row(sums: &mut Sums, row: &RegisterRow, demanding: u64)
+    requires { FitsRow sums.old row.now demanding }
+    ensures { sums.new ≡ with_row sums.old row.now demanding }
+{
+    if demanding > 0 {
+        sums.members += 1;
+    }
+    sums.shares += demanding;
+    sums.paid += demanding * row.paid;
+    sums.all_shares += shares(row);
+    sums.all_paid += shares(row) * row.paid;
+}
+
+/// The sums over the rows.
+fn sums_over(
+    alloc: Global,
+    cutoffs: &Cutoffs,
+    gathered: &Gathered,
+    demanders: &BTreeSet<Party>,
+    register: &[RegisterRow],
+) -> Result<Sums, AllocError>
+    requires numbered { AreNumbered gathered.now }
+    requires rows { are_rows register.now ≡ true }
+    ensures { IfOk result (λ sums. sums ≡ sums_by (demanding_in (is_one_of demanders.now) cutoffs.now gathered.now) register.now) }
+{
+    let mut sums = NOTHING;
+    for row in register {
+        let demanding = demanding(alloc, cutoffs, gathered, demanders, row)?;
+        add_row(&mut sums, row, demanding);
+    }
+    Ok(sums)
+}
+
+/// Whether the shares that demand have at least five holders, or are a tenth of all shares by number
+/// or by what is paid up on them.
+fn is_enough(sums: &Sums) -> bool
+    requires shares { 10 * sums.now.shares < 2 ^ 64 }
+    requires paid { 10 * sums.now.paid < 2 ^ 64 }
+    ensures { result ≡ is_enough sums.now.members sums.now.shares sums.now.paid sums.now.all_shares sums.now.all_paid }
+{
+    sums.shares > 0
+        && (sums.members >= 5
+            || 10 * sums.shares >= sums.all_shares
+            || 10 * sums.paid >= sums.all_paid)
+}
+
+/// The demand of a poll on a resolution: a share demands it if the individual who holds it, a
+/// representative of the corporation that holds it, or the proxy who governs it by these cutoffs has
+/// demanded it (sections 321, 323 and 329). Treasury shares are none. The error is want of memory.
+pub fn demand_reached(
+    alloc: Global,
+    cutoffs: &Cutoffs,
+    papers: &Papers,
+    resolution: u64,
+) -> Result<Demand, AllocError>
+    requires rows { are_rows papers.now.register.now ≡ true }
+    requires tags { are_tags papers.now.appointments.now ≡ true }
+    requires numbered { are_numbered_after [] papers.now.appointments.now ≡ true }
+    ensures { IfOk result (λ demand. demand ≡ demand_of cutoffs.now papers.now.register.now papers.now.appointments.now papers.now.endings.now papers.now.authorities.now papers.now.demands.now resolution) }
+{
+    let gathered = gather(alloc, papers)?;
+    let demanders = demanders(alloc, papers.demands, resolution)?;
+    let sums = sums_over(alloc, cutoffs, &gathered, &demanders, papers.register)?;
+    Ok(Demand {
+        members: sums.members,
+        shares: sums.shares,
+        paid: sums.paid,
+        reached: is_enough(&sums),
+    })
+}

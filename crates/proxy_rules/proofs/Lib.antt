@@ -1,0 +1,11 @@
+pub mod CoverTags
+pub mod FoundRuns
+pub mod GroupedLemmas
+pub mod HoldingLemmas
+pub mod PartLemmas
+pub mod PieceCounts
+pub mod PieceLemmas
+pub mod RunLemmas
+pub mod ShareLemmas
+pub mod TurnedLists
+pub use Rattle.share_blocks.proofs.Choices

@@ -1,0 +1,5 @@
+use Rattle.proxy_rules.proofs.RunLemmas.{are_parted-runs_that}
+use Rattle.proxy_rules.proofs.laws.runs_are_parted.Goals as goal
+
+pub returns : goal.returns
+returns c = λ test n. are_parted-runs_that test n

@@ -1,0 +1,39 @@
+-- Shares. Those of a holding are numbered from 1, so a share is a row of the register and a place.
+use Rattle.std.specs.Prelude.{ℕ, Bool, true, false, ◌||◌, List}
+use Rattle.desk_terms.specs.declared.kinds.HolderKind.{HolderKind}
+use Rattle.desk_terms.specs.declared.kinds.HolderKind.TheVariants.{Individual, Corporation, Treasury}
+use Rattle.desk_words.specs.declared.records.RegisterRow.{RegisterRow}
+use Rattle.desk_words.specs.Office.{no_rows}
+use Rattle.desk_words.specs.Registers.{is_register}
+
+-- the rows of a meeting: a register, or none where no register is loaded
+abbrev pub are_rows : List RegisterRow → Bool
+are_rows rows = no_rows rows || is_register rows
+
+-- the shares of a holding, of which treasury shares are none in any rule of a poll (section 726)
+abbrev pub shares_held : HolderKind → ℕ → ℕ
+shares_held Individual shares = shares
+shares_held Corporation shares = shares
+shares_held Treasury shares = 0
+
+-- the shares of a row are its places 1 to this number (section 284)
+abbrev pub shares_of : RegisterRow → ℕ
+shares_of row = shares_held row.kind row.shares
+
+-- a person holds them
+abbrev pub is_individual : HolderKind → Bool
+is_individual Individual = true
+is_individual Corporation = false
+is_individual Treasury = false
+
+-- a corporation holds them
+abbrev pub is_corporation : HolderKind → Bool
+is_corporation Individual = false
+is_corporation Corporation = true
+is_corporation Treasury = false
+
+-- the company holds them itself (section 724)
+abbrev pub is_treasury : HolderKind → Bool
+is_treasury Individual = false
+is_treasury Corporation = false
+is_treasury Treasury = true

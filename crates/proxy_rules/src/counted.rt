@@ -1,0 +1,54 @@
+//! Cutoffs: until when appointments and endings count.
+ghost use Rattle.std.specs.Prelude.{◌≡◌};
+ghost use Rattle.std.specs.Option.{option_copied};
+ghost use Rattle.proxy_rules.specs.Cutoffs.{back_or_first, is_late_poll, meeting_cutoffs, late_cutoffs, cutoffs_of};
+
+use crate::papers::Cutoffs;
+use desk_words::{Meeting, Moment, Poll};
+use office_days::Closed;
+
+fn back_or_first(closed: &Closed, hours: u32, moment: Moment) -> Moment
+    ensures { result ≡ back_or_first closed.now hours moment }
+{
+    match closed.back(hours, moment) {
+        Ok(earlier) => earlier,
+        Err(_) => Moment::first(),
+    }
+}
+
+/// Whether a poll is late, by the closed days as they stand: whether it is taken more than 48 hours
+/// of working time after its order (section 327).
+pub fn is_late_poll(closed: &Closed, poll: &Poll) -> bool
+    ensures { result ≡ is_late_poll closed.now poll.now }
+{
+    closed.is_late(poll.ordered, poll.take)
+}
+
+fn meeting_cutoffs(meeting: &Meeting, closed: &Closed, now: Moment) -> Cutoffs
+    ensures { result ≡ meeting_cutoffs meeting.now closed.now now }
+{
+    Cutoffs {
+        appointments: back_or_first(closed, 48, meeting.appointed),
+        endings: meeting.opened.unwrap_or(now),
+    }
+}
+
+fn late_cutoffs(poll: &Poll, closed: &Closed) -> Cutoffs
+    ensures { result ≡ late_cutoffs poll.now closed.now }
+{
+    Cutoffs {
+        appointments: back_or_first(closed, 24, poll.take),
+        endings: poll.take,
+    }
+}
+
+/// The cutoffs for a meeting, or for a poll of it, by the closed days as they stand (sections 327 and
+/// 330). It takes no memory.
+pub fn cutoffs(meeting: &Meeting, poll: Option<&Poll>, closed: &Closed, now: Moment) -> Cutoffs
+    ensures { result ≡ cutoffs_of meeting.now (option_copied poll.entry) closed.now now }
+{
+    match poll {
+        Some(poll) if is_late_poll(closed, poll) => late_cutoffs(poll, closed),
+        _ => meeting_cutoffs(meeting, closed, now),
+    }
+}

@@ -1,0 +1,30 @@
+//! Laws of the definitions by which the contracts speak.
+ghost use Rattle.proxy_rules.specs.Laws.{EarlierTakeNothing, EndingsReviveNothing, GovernedByTheHolding, RunsAreParted, RunsHoldWhatPasses};
+
+/// Of every test, the runs hold exactly the places that pass it.
+pub fn runs_hold_what_passes()
+    ensures { RunsHoldWhatPasses }
+{}
+
+/// Of every test, the runs are in order, with a gap between each and the next.
+pub fn runs_are_parted()
+    ensures { RunsAreParted }
+{}
+
+/// An ending more revives nothing: what governs a place with it governed that place without it
+/// (own, after section 330).
+pub fn endings_revive_nothing()
+    ensures { EndingsReviveNothing }
+{}
+
+/// What a member's appointments govern depends on the member's own shares, appointments and endings
+/// alone.
+pub fn governed_by_the_holding()
+    ensures { GovernedByTheHolding }
+{}
+
+/// What a member's appointment governs does not depend on those that were received before all of its
+/// number.
+pub fn earlier_take_nothing()
+    ensures { EarlierTakeNothing }
+{}

@@ -1,0 +1,24 @@
+//! The rules of proxies: until when appointments and endings count, and which appointment governs a
+//! share.
+#![tactic(auto)]
+
+mod appointed;
+#[cfg(test)]
+mod appointment_tests;
+mod counted;
+mod holdings;
+pub mod laws;
+mod papers;
+mod parts;
+mod rows;
+mod runs;
+#[cfg(test)]
+mod tests;
+
+pub use appointed::governing;
+pub use counted::{cutoffs, is_late_poll};
+pub use holdings::{Appointed, Holding};
+pub use papers::{Cutoffs, Papers};
+pub use parts::{Part, parts_by_proxy};
+pub use rows::shares;
+pub use runs::{governed, runs_by_number};
