@@ -8,7 +8,7 @@ use office_days::Closed;
 /// What everyone may know of a meeting: the closed days (section 1173), and, where the meeting
 /// exists, its notice and resolutions, whether a register is loaded, the opening, and its polls
 /// with what is declared of them.
-#[derive(Debug, Drop)]
+#[derive(Drop)]
 pub struct PublicRecord {
     pub closed: Closed,
     pub meeting: Option<Meeting>,
@@ -17,7 +17,7 @@ pub struct PublicRecord {
 }
 
 /// What a party may know of itself in a meeting. Lists are in order of receipt.
-#[derive(Debug, Drop)]
+#[derive(Drop)]
 pub struct OwnView {
     pub party: Party,
     /// Its row in the register.
@@ -39,7 +39,7 @@ pub struct OwnView {
 }
 
 /// A reply, and at most one change.
-#[derive(Debug, Drop)]
+#[derive(Drop)]
 pub struct Answer {
     pub reply: Reply,
     pub change: Option<Change>,

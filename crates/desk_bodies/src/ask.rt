@@ -6,7 +6,7 @@ use desk_words::Refusal;
 use std::alloc::{AllocError, AllocFailed};
 
 /// Why no request was read.
-#[derive(Clone, Copy, Debug, PartialEq, Eq)]
+#[derive(Clone, Copy, PartialEq, Eq)]
 pub enum Ask {
     /// It is refused: `Route` for an unknown verb or a name that no meeting can have, and
     /// `Unreadable` for a body that does not say what the verb asks.

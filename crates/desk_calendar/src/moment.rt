@@ -4,7 +4,7 @@ ghost use Rattle.std.specs.Prelude.{◌≡◌, ℕ, ◌+◌, ◌*◌, ◌/◌, �
 use std::marker::Model;
 
 /// A day of the years 1900 to 2999, seen as the number of days since 1900-01-01.
-#[derive(Clone, Copy, Debug, PartialEq, Eq, PartialOrd, Ord)]
+#[derive(Clone, Copy, PartialEq, Eq, PartialOrd, Ord)]
 pub struct Day {
     number: u32,
 }
@@ -60,7 +60,7 @@ impl Day {
 
 /// A whole second of the office's wall clock, from 1900-01-01T00:00:00 to 2999-12-31T23:59:59,
 /// seen as the seconds on that clock since the first of them.
-#[derive(Clone, Copy, Debug, PartialEq, Eq, PartialOrd, Ord)]
+#[derive(Clone, Copy, PartialEq, Eq, PartialOrd, Ord)]
 pub struct Moment {
     seconds: u64,
 }

@@ -8,7 +8,7 @@ use std::alloc::Global;
 use std::marker::Model;
 
 /// A source over bytes in memory. It gives all that is left or as much as fits, and never fails.
-#[derive(Debug, Drop)]
+#[derive(Drop)]
 pub struct SliceSource<'a> {
     bytes: &'a [u8],
     next: usize,
@@ -52,7 +52,7 @@ impl Source for SliceSource<'_> {
 }
 
 /// A sink that keeps all the bytes in memory. A want of memory is a failure of the sink.
-#[derive(Debug, Drop)]
+#[derive(Drop)]
 pub struct VecSink {
     bytes: Vec<u8>,
     failures: u64,

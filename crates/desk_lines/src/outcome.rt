@@ -4,7 +4,7 @@ use std::error::Error;
 use std::fmt;
 
 /// What stands next in the input.
-#[derive(Clone, Copy, Debug, PartialEq, Eq)]
+#[derive(Clone, Copy, PartialEq, Eq)]
 pub enum NextLine {
     /// A line of at most 65,536 bytes, which the reader shows.
     Whole,

@@ -7,7 +7,7 @@ use std::marker::Model;
 
 /// Values in order. Contracts see it as the plain list of its values, so that two of them are
 /// equal where they hold the same values, whatever room they keep.
-#[derive(Clone, Debug, Drop)]
+#[derive(Clone, Drop)]
 pub struct Listing<T> {
     items: Vec<T>,
 }

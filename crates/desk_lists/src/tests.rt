@@ -9,7 +9,7 @@ use std::alloc::{AllocError, Global};
 use std::marker::Model;
 use std::test::Fail;
 
-#[derive(Clone, Debug, Drop)]
+#[derive(Clone, Drop)]
 struct Label {
     text: String,
 }
@@ -20,14 +20,14 @@ impl Model for Label {
     ghost view = { λ l. string_bytes l.text };
 }
 
-#[derive(Clone, Debug, Drop)]
+#[derive(Clone, Drop)]
 struct Entry {
     label: Label,
     number: u64,
 }
 
 /// A row of a register, kept in the order of its number.
-#[derive(Clone, Copy, Debug, PartialEq, Eq)]
+#[derive(Clone, Copy, PartialEq, Eq)]
 struct Row {
     number: u64,
     seat: u32,
@@ -44,7 +44,7 @@ impl Keyed for Row {
 }
 
 /// A day, seen as its number.
-#[derive(Clone, Copy, Debug, PartialEq, Eq, PartialOrd, Ord)]
+#[derive(Clone, Copy, PartialEq, Eq, PartialOrd, Ord)]
 struct Day {
     number: u32,
 }

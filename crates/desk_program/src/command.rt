@@ -13,14 +13,14 @@ use desk_devices::{Sink, Source};
 use std::alloc::Global;
 
 /// What the words of the program ask for.
-#[derive(Clone, Copy, Debug, PartialEq, Eq)]
+#[derive(Clone, Copy, PartialEq, Eq)]
 pub enum Plan {
     /// A script of requests from standard input, answered on standard output.
     Replay,
 }
 
 /// How the program ends: its status, and the line that it prints on standard error, if any.
-#[derive(Clone, Copy, Debug)]
+#[derive(Clone, Copy)]
 pub struct Ended {
     pub status: u8,
     pub line: Option<&'static str>,

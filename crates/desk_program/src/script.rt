@@ -19,7 +19,7 @@ use meeting_core::Book;
 use std::alloc::{AllocError, Global};
 
 /// Why a replay ended before its input did.
-#[derive(Clone, Copy, Debug, PartialEq, Eq)]
+#[derive(Clone, Copy, PartialEq, Eq)]
 pub enum ReplayFault {
     /// The reader failed, or gave more than 16,777,216 bytes.
     Read,

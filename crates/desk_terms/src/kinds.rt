@@ -3,7 +3,7 @@ ghost use Rattle.std.specs.Prelude.{◌≡◌};
 ghost use Rattle.desk_terms.specs.Kinds.{company_word, company_of, meeting_kind_word, meeting_kind_of, resolution_kind_word, resolution_kind_of, holder_kind_word, holder_kind_of, capacity_word, capacity_of, way_word, way_of, instruction_word, instruction_of};
 
 /// The kind of a company (Companies Act 2006, section 4).
-#[derive(Clone, Copy, Debug, PartialEq, Eq)]
+#[derive(Clone, Copy, PartialEq, Eq)]
 pub enum Company {
     Private,
     Public,
@@ -33,7 +33,7 @@ impl Company {
 }
 
 /// The kind of a general meeting: the annual one of section 336, or any other.
-#[derive(Clone, Copy, Debug, PartialEq, Eq)]
+#[derive(Clone, Copy, PartialEq, Eq)]
 pub enum MeetingKind {
     Annual,
     General,
@@ -63,7 +63,7 @@ impl MeetingKind {
 }
 
 /// The kind of a resolution (sections 282 and 283).
-#[derive(Clone, Copy, Debug, PartialEq, Eq)]
+#[derive(Clone, Copy, PartialEq, Eq)]
 pub enum ResKind {
     Ordinary,
     Special,
@@ -93,7 +93,7 @@ impl ResKind {
 }
 
 /// Who holds the shares of a row: a person, a corporation (section 323), or the company itself (section 724).
-#[derive(Clone, Copy, Debug, PartialEq, Eq)]
+#[derive(Clone, Copy, PartialEq, Eq)]
 pub enum HolderKind {
     Individual,
     Corporation,
@@ -126,7 +126,7 @@ impl HolderKind {
 }
 
 /// In what capacity a vote is cast: as the member (section 284), as a representative of a corporation (section 323), or as a proxy (section 324).
-#[derive(Clone, Copy, Debug, PartialEq, Eq)]
+#[derive(Clone, Copy, PartialEq, Eq)]
 pub enum Capacity {
     Member,
     Rep,
@@ -160,7 +160,7 @@ impl Capacity {
 
 /// How a vote is cast. A vote that is withheld is counted as withheld, and is neither for nor
 /// against.
-#[derive(Clone, Copy, Debug, PartialEq, Eq)]
+#[derive(Clone, Copy, PartialEq, Eq)]
 pub enum Way {
     For,
     Against,
@@ -193,7 +193,7 @@ impl Way {
 }
 
 /// What a proxy is instructed to do on a resolution (section 324A).
-#[derive(Clone, Copy, Debug, PartialEq, Eq)]
+#[derive(Clone, Copy, PartialEq, Eq)]
 pub enum Instr {
     For,
     Against,

@@ -6,7 +6,7 @@ ghost use Rattle.desk_terms.specs.Names.{letters_of, in_places, is_name_letter, 
 use std::marker::Model;
 
 /// The name of a party: 1 to 16 of A to Z and 0 to 9, and not `OFFICE`.
-#[derive(Clone, Copy, Debug, PartialEq, Eq, PartialOrd, Ord)]
+#[derive(Clone, Copy, PartialEq, Eq, PartialOrd, Ord)]
 pub struct Party {
     letters: [u8; 16],
 }
@@ -25,7 +25,7 @@ impl Model for Party {
 }
 
 /// The name of a meeting: 1 to 16 of A to Z and 0 to 9.
-#[derive(Clone, Copy, Debug, PartialEq, Eq, PartialOrd, Ord)]
+#[derive(Clone, Copy, PartialEq, Eq, PartialOrd, Ord)]
 pub struct MeetingId {
     letters: [u8; 16],
 }
@@ -44,7 +44,7 @@ impl Model for MeetingId {
 }
 
 /// A key by which a caller is known: 16 to 64 of A to Z, a to z, 0 to 9 and `-`.
-#[derive(Clone, Copy, Debug, PartialEq, Eq, PartialOrd, Ord)]
+#[derive(Clone, Copy, PartialEq, Eq, PartialOrd, Ord)]
 pub struct SecretKey {
     letters: [u8; 64],
 }

@@ -9,7 +9,7 @@ const MOST_PLACES: u64 = 1_000_000_000_000;
 
 /// Places of a member's shares, from the first to the last: `1 <= from <= to <= 10^12`. A range
 /// may reach past the holding; places past it are nothing.
-#[derive(Clone, Copy, Debug, PartialEq, Eq)]
+#[derive(Clone, Copy, PartialEq, Eq)]
 pub struct Range {
     from: u64,
     to: u64,

@@ -3,7 +3,7 @@ ghost use Rattle.std.specs.Prelude.{◌≡◌};
 ghost use Rattle.desk_terms.specs.Refusals.{number_of, name_of};
 
 /// Why a request is refused. Of the conditions that hold, the lowest number is answered.
-#[derive(Clone, Copy, Debug, PartialEq, Eq)]
+#[derive(Clone, Copy, PartialEq, Eq)]
 pub enum Refusal {
     /// No known caller.
     Key = 1,

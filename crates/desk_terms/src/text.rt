@@ -9,7 +9,7 @@ use std::alloc::{AllocError, Global};
 use std::marker::Model;
 
 /// A text of 1 to 200 bytes of UTF-8, with no byte below 32 and no byte 127.
-#[derive(Clone, Debug, Drop)]
+#[derive(Clone, Drop)]
 pub struct Text {
     text: String,
 }
@@ -26,7 +26,7 @@ impl Model for Text {
 }
 
 /// Why no text was made.
-#[derive(Clone, Copy, Debug, PartialEq, Eq)]
+#[derive(Clone, Copy, PartialEq, Eq)]
 pub enum TextFault {
     /// The bytes have not the form of a text.
     Form,

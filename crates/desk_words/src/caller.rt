@@ -6,7 +6,7 @@ use desk_lists::Keyed;
 use desk_terms::{Party, SecretKey, read_party};
 
 /// Who calls: the office, or a party.
-#[derive(Clone, Copy, Debug, PartialEq, Eq)]
+#[derive(Clone, Copy, PartialEq, Eq)]
 pub enum Caller {
     Office,
     Party(Party),
@@ -35,7 +35,7 @@ pub fn read_caller(bytes: &[u8]) -> Option<Caller>
 }
 
 /// A caller's key.
-#[derive(Clone, Copy, Debug, PartialEq, Eq)]
+#[derive(Clone, Copy, PartialEq, Eq)]
 pub struct KeyRow {
     pub caller: Caller,
     pub secret: SecretKey,

@@ -14,7 +14,7 @@ use std::alloc::{AllocError, Global};
 use std::marker::Model;
 
 /// Why a list was not made.
-#[derive(Clone, Copy, Debug, PartialEq, Eq)]
+#[derive(Clone, Copy, PartialEq, Eq)]
 pub enum ListFault {
     /// The list breaks the limits of its type.
     Limit,
@@ -31,7 +31,7 @@ impl From<AllocError> for ListFault {
 }
 
 /// The resolutions of a meeting, numbered from 1: 1 to 50 of them.
-#[derive(Clone, Debug, Drop)]
+#[derive(Clone, Drop)]
 pub struct Resolutions {
     resolutions: Vec<Resolution>,
 }
@@ -84,7 +84,7 @@ impl Resolutions {
 }
 
 /// The keys of a desk, in the order of callers: at most 40,000, with no caller and no key twice.
-#[derive(Clone, Debug, Drop)]
+#[derive(Clone, Drop)]
 pub struct KeyRows {
     rows: Vec<KeyRow>,
 }
@@ -103,7 +103,7 @@ impl Model for KeyRows {
 }
 
 /// The closed days, in order, each once: at most 2,000 of them (section 1173).
-#[derive(Clone, Debug, Drop)]
+#[derive(Clone, Drop)]
 pub struct DayList {
     days: Vec<Day>,
 }
@@ -166,7 +166,7 @@ impl DayList {
 }
 
 /// A key row in a list that is in the order of keys.
-#[derive(Clone, Copy, Debug)]
+#[derive(Clone, Copy)]
 struct BySecret {
     row: KeyRow,
 }

@@ -7,7 +7,7 @@ use desk_lists::Listing;
 
 /// A meeting and its lists: the register in the order of members, the polls in the order of
 /// resolutions, and the others in order of receipt.
-#[derive(Debug, Drop)]
+#[derive(Drop)]
 pub struct MeetingLists {
     pub meeting: Meeting,
     pub register: Listing<RegisterRow>,
@@ -21,7 +21,7 @@ pub struct MeetingLists {
 }
 
 /// All that an office holds.
-#[derive(Debug, Drop)]
+#[derive(Drop)]
 pub struct OfficeLists {
     pub keys: KeyRows,
     pub closed: DayList,

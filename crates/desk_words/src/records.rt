@@ -11,14 +11,14 @@ use desk_terms::{
 };
 
 /// A resolution of which notice was given (section 283(6)).
-#[derive(Clone, Debug, Drop)]
+#[derive(Clone, Drop)]
 pub struct Resolution {
     pub kind: ResKind,
     pub text: Text,
 }
 
 /// A meeting as it is called (section 307), whether its register is loaded, and when it opened.
-#[derive(Clone, Debug, Drop)]
+#[derive(Clone, Drop)]
 pub struct Meeting {
     pub id: MeetingId,
     pub company: Company,
@@ -35,7 +35,7 @@ pub struct Meeting {
 }
 
 /// A holding in the register of members (section 113).
-#[derive(Clone, Debug, Drop)]
+#[derive(Clone, Drop)]
 pub struct RegisterRow {
     pub member: Party,
     pub kind: HolderKind,
@@ -70,7 +70,7 @@ impl Keyed for RegisterRow {
 }
 
 /// An appointment of a proxy over a block of the member's shares (section 324).
-#[derive(Clone, Debug, Drop)]
+#[derive(Clone, Drop)]
 pub struct Appointment {
     pub member: Party,
     /// The member's own count: 1, 2, .. in order of receipt.
@@ -84,7 +84,7 @@ pub struct Appointment {
 }
 
 /// The ending of an appointment (section 330).
-#[derive(Clone, Copy, Debug, PartialEq, Eq)]
+#[derive(Clone, Copy, PartialEq, Eq)]
 pub struct Ending {
     pub member: Party,
     /// The number of the member's appointment that it ends.
@@ -93,7 +93,7 @@ pub struct Ending {
 }
 
 /// An authority to act as a corporation's representative (section 323).
-#[derive(Clone, Copy, Debug, PartialEq, Eq)]
+#[derive(Clone, Copy, PartialEq, Eq)]
 pub struct Authority {
     pub corporation: Party,
     pub person: Party,
@@ -101,14 +101,14 @@ pub struct Authority {
 }
 
 /// A mark that a party is present.
-#[derive(Clone, Copy, Debug, PartialEq, Eq)]
+#[derive(Clone, Copy, PartialEq, Eq)]
 pub struct PresenceMark {
     pub party: Party,
     pub moment: Moment,
 }
 
 /// A party's demand of a poll on a resolution (sections 321 and 329).
-#[derive(Clone, Copy, Debug, PartialEq, Eq)]
+#[derive(Clone, Copy, PartialEq, Eq)]
 pub struct DemandMark {
     /// The resolution's number, from 1.
     pub resolution: u64,
@@ -118,7 +118,7 @@ pub struct DemandMark {
 
 /// A count of votes, in shares. `eligible` is the number of all shares that are not treasury
 /// shares.
-#[derive(Clone, Copy, Debug, PartialEq, Eq)]
+#[derive(Clone, Copy, PartialEq, Eq)]
 pub struct Tally {
     pub votes_for: u64,
     pub votes_against: u64,
@@ -127,7 +127,7 @@ pub struct Tally {
 }
 
 /// A poll on a resolution (section 321).
-#[derive(Clone, Copy, Debug, PartialEq, Eq)]
+#[derive(Clone, Copy, PartialEq, Eq)]
 pub struct Poll {
     /// The resolution's number, from 1.
     pub resolution: u64,
@@ -153,7 +153,7 @@ impl Keyed for Poll {
 }
 
 /// A vote on some of a member's shares, in one capacity and one way (section 322).
-#[derive(Clone, Copy, Debug, PartialEq, Eq)]
+#[derive(Clone, Copy, PartialEq, Eq)]
 pub struct Block {
     pub capacity: Capacity,
     pub member: Party,
@@ -162,14 +162,14 @@ pub struct Block {
 }
 
 /// What is cast: a vote on some shares, or, by a proxy, whatever it is instructed (section 324A).
-#[derive(Clone, Copy, Debug, PartialEq, Eq)]
+#[derive(Clone, Copy, PartialEq, Eq)]
 pub enum CastKind {
     Block(Block),
     AsInstructed,
 }
 
 /// A vote cast on a poll.
-#[derive(Clone, Copy, Debug, PartialEq, Eq)]
+#[derive(Clone, Copy, PartialEq, Eq)]
 pub struct CastMark {
     /// The resolution's number, from 1.
     pub resolution: u64,

@@ -16,7 +16,7 @@ pub const MOST_SHARES: u64 = 100_000;
 /// The rows of a register of members (section 113), in the order of members: 1 to 20,000 rows of
 /// different members, each of 1 to 10^12 shares with at most 1,000,000 pence paid up, and no more
 /// than `MOST_SHARES` in all.
-#[derive(Clone, Debug, Drop)]
+#[derive(Clone, Drop)]
 pub struct Register {
     rows: Vec<RegisterRow>,
 }

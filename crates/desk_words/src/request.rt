@@ -13,7 +13,7 @@ use desk_terms::{
 };
 
 /// A meeting that is to be called (sections 302 and 307).
-#[derive(Debug, Drop)]
+#[derive(Drop)]
 pub struct NewMeeting {
     pub meeting: MeetingId,
     pub company: Company,
@@ -28,7 +28,7 @@ pub struct NewMeeting {
 }
 
 /// A register that is to be loaded for a meeting.
-#[derive(Debug, Drop)]
+#[derive(Drop)]
 pub struct NewRegister {
     pub meeting: MeetingId,
     /// The moment as of which it was taken.
@@ -37,7 +37,7 @@ pub struct NewRegister {
 }
 
 /// A poll that is to be ordered (section 321).
-#[derive(Clone, Copy, Debug, PartialEq, Eq)]
+#[derive(Clone, Copy, PartialEq, Eq)]
 pub struct NewPoll {
     pub meeting: MeetingId,
     /// The resolution's number, from 1.
@@ -49,7 +49,7 @@ pub struct NewPoll {
 }
 
 /// The poll on a resolution of a meeting.
-#[derive(Clone, Copy, Debug, PartialEq, Eq)]
+#[derive(Clone, Copy, PartialEq, Eq)]
 pub struct PollName {
     pub meeting: MeetingId,
     /// The resolution's number, from 1.
@@ -57,7 +57,7 @@ pub struct PollName {
 }
 
 /// An appointment of a proxy that a party is to give over some of its own shares (section 324).
-#[derive(Debug, Drop)]
+#[derive(Drop)]
 pub struct NewAppointment {
     pub meeting: MeetingId,
     pub proxy: Party,
@@ -70,7 +70,7 @@ pub struct NewAppointment {
 }
 
 /// An appointment that a party is to end (section 330).
-#[derive(Clone, Copy, Debug, PartialEq, Eq)]
+#[derive(Clone, Copy, PartialEq, Eq)]
 pub struct NewEnding {
     pub meeting: MeetingId,
     /// The party's own number of the appointment, from 1.
@@ -78,21 +78,21 @@ pub struct NewEnding {
 }
 
 /// A person whom a party is to authorise as its representative (section 323).
-#[derive(Clone, Copy, Debug, PartialEq, Eq)]
+#[derive(Clone, Copy, PartialEq, Eq)]
 pub struct NewAuthority {
     pub meeting: MeetingId,
     pub person: Party,
 }
 
 /// A party whose presence the office is to note (section 318).
-#[derive(Clone, Copy, Debug, PartialEq, Eq)]
+#[derive(Clone, Copy, PartialEq, Eq)]
 pub struct NewPresence {
     pub meeting: MeetingId,
     pub party: Party,
 }
 
 /// A vote that a member is to cast on some of its own shares (sections 284 and 322).
-#[derive(Clone, Copy, Debug, PartialEq, Eq)]
+#[derive(Clone, Copy, PartialEq, Eq)]
 pub struct NewCast {
     pub meeting: MeetingId,
     /// The resolution's number, from 1.
@@ -107,7 +107,7 @@ pub struct NewCast {
 }
 
 /// What is asked.
-#[derive(Debug, Drop)]
+#[derive(Drop)]
 pub enum Request {
     /// The office calls a meeting.
     CallMeeting(NewMeeting),
@@ -146,7 +146,7 @@ pub enum Request {
 }
 
 /// One call: what is asked, by whom and when.
-#[derive(Debug, Drop)]
+#[derive(Drop)]
 pub struct Call {
     pub moment: Moment,
     pub caller: Caller,
@@ -154,14 +154,14 @@ pub struct Call {
 }
 
 /// An appointment that a party gave, with the moment of its ending if it is ended.
-#[derive(Clone, Debug, Drop)]
+#[derive(Clone, Drop)]
 pub struct Given {
     pub appointment: Appointment,
     pub ended: Option<Moment>,
 }
 
 /// What an appointment counts for, by the cutoff of the meeting as it stands (section 327).
-#[derive(Clone, Copy, Debug, PartialEq, Eq)]
+#[derive(Clone, Copy, PartialEq, Eq)]
 pub enum AppointmentUse {
     /// It counts for the meeting, and for each poll that is not late.
     Meeting,
@@ -170,14 +170,14 @@ pub enum AppointmentUse {
 }
 
 /// An appointment that a party gave, and what it counts for.
-#[derive(Clone, Debug, Drop)]
+#[derive(Clone, Drop)]
 pub struct GivenUse {
     pub given: Given,
     pub used: AppointmentUse,
 }
 
 /// The places that an appointment governs for a late poll, in runs in order.
-#[derive(Clone, Debug, Drop)]
+#[derive(Clone, Drop)]
 pub struct PollGoverned {
     /// The number of the poll's resolution, from 1.
     pub resolution: u64,
@@ -186,7 +186,7 @@ pub struct PollGoverned {
 
 /// An appointment that names a party, with the places of its member's shares that it governs, in
 /// runs in order.
-#[derive(Clone, Debug, Drop)]
+#[derive(Clone, Drop)]
 pub struct Received {
     pub appointment: Appointment,
     /// What it governs for the meeting, and for each poll that is not late.
@@ -196,7 +196,7 @@ pub struct Received {
 }
 
 /// The member's own number of an appointment that it gives, and what the appointment counts for.
-#[derive(Clone, Copy, Debug, PartialEq, Eq)]
+#[derive(Clone, Copy, PartialEq, Eq)]
 pub struct AppointmentReceipt {
     pub number: u64,
     pub used: AppointmentUse,
@@ -204,14 +204,14 @@ pub struct AppointmentReceipt {
 
 /// A corporation that authorised a party, with its shares: 0 unless the register has it as a
 /// corporation.
-#[derive(Clone, Copy, Debug, PartialEq, Eq)]
+#[derive(Clone, Copy, PartialEq, Eq)]
 pub struct Authorised {
     pub corporation: Party,
     pub shares: u64,
 }
 
 /// A party's own things in a meeting, as the reply to it gives them. Lists are in order of receipt.
-#[derive(Debug, Drop)]
+#[derive(Drop)]
 pub struct Mine {
     pub meeting: MeetingId,
     /// The party's row in the register.
@@ -230,14 +230,14 @@ pub struct Mine {
 
 /// What is declared of a poll: its count, and whether the resolution is carried (sections 282 and
 /// 283).
-#[derive(Clone, Copy, Debug, PartialEq, Eq)]
+#[derive(Clone, Copy, PartialEq, Eq)]
 pub struct Declaration {
     pub tally: Tally,
     pub carried: bool,
 }
 
 /// A poll as a notice shows it.
-#[derive(Clone, Copy, Debug, PartialEq, Eq)]
+#[derive(Clone, Copy, PartialEq, Eq)]
 pub struct NoticedPoll {
     pub poll: Poll,
     /// Whether it is taken more than 48 hours of working time after its order (section 327).
@@ -249,7 +249,7 @@ pub struct NoticedPoll {
 }
 
 /// A resolution as a notice shows it.
-#[derive(Clone, Debug, Drop)]
+#[derive(Clone, Drop)]
 pub struct NoticedResolution {
     /// Its number, from 1.
     pub number: u64,
@@ -260,7 +260,7 @@ pub struct NoticedResolution {
 }
 
 /// The notice of a meeting (section 307), and what is public of it since.
-#[derive(Clone, Debug, Drop)]
+#[derive(Clone, Drop)]
 pub struct Notice {
     pub meeting: MeetingId,
     pub company: Company,
@@ -281,7 +281,7 @@ pub struct Notice {
 }
 
 /// What is answered.
-#[derive(Debug, Drop)]
+#[derive(Drop)]
 pub enum Reply {
     Called,
     Loaded,
@@ -306,7 +306,7 @@ pub enum Reply {
 }
 
 /// Why a call has no answer; the office is then as it was.
-#[derive(Clone, Copy, Debug, PartialEq, Eq)]
+#[derive(Clone, Copy, PartialEq, Eq)]
 pub enum Failure {
     /// The store refused a call for another cause than memory, or its rows are no office's.
     Store,
@@ -315,84 +315,84 @@ pub enum Failure {
 }
 
 /// The register that a meeting gets.
-#[derive(Debug, Drop)]
+#[derive(Drop)]
 pub struct SetRegister {
     pub meeting: MeetingId,
     pub rows: Register,
 }
 
 /// When a meeting is opened.
-#[derive(Clone, Copy, Debug, PartialEq, Eq)]
+#[derive(Clone, Copy, PartialEq, Eq)]
 pub struct SetOpened {
     pub meeting: MeetingId,
     pub moment: Moment,
 }
 
 /// A poll that a meeting gets.
-#[derive(Clone, Copy, Debug, PartialEq, Eq)]
+#[derive(Clone, Copy, PartialEq, Eq)]
 pub struct AddPoll {
     pub meeting: MeetingId,
     pub poll: Poll,
 }
 
 /// When a poll is started, or closed.
-#[derive(Clone, Copy, Debug, PartialEq, Eq)]
+#[derive(Clone, Copy, PartialEq, Eq)]
 pub struct SetPollMoment {
     pub poll: PollName,
     pub moment: Moment,
 }
 
 /// The count that is declared of a poll.
-#[derive(Clone, Copy, Debug, PartialEq, Eq)]
+#[derive(Clone, Copy, PartialEq, Eq)]
 pub struct SetTally {
     pub poll: PollName,
     pub tally: Tally,
 }
 
 /// An appointment that is recorded in a meeting.
-#[derive(Debug, Drop)]
+#[derive(Drop)]
 pub struct AddAppointment {
     pub meeting: MeetingId,
     pub appointment: Appointment,
 }
 
 /// An ending that is recorded in a meeting.
-#[derive(Clone, Copy, Debug, PartialEq, Eq)]
+#[derive(Clone, Copy, PartialEq, Eq)]
 pub struct AddEnding {
     pub meeting: MeetingId,
     pub ending: Ending,
 }
 
 /// An authority that is recorded in a meeting.
-#[derive(Clone, Copy, Debug, PartialEq, Eq)]
+#[derive(Clone, Copy, PartialEq, Eq)]
 pub struct AddAuthority {
     pub meeting: MeetingId,
     pub authority: Authority,
 }
 
 /// A presence that is recorded in a meeting.
-#[derive(Clone, Copy, Debug, PartialEq, Eq)]
+#[derive(Clone, Copy, PartialEq, Eq)]
 pub struct AddPresence {
     pub meeting: MeetingId,
     pub presence: PresenceMark,
 }
 
 /// A demand that is recorded in a meeting.
-#[derive(Clone, Copy, Debug, PartialEq, Eq)]
+#[derive(Clone, Copy, PartialEq, Eq)]
 pub struct AddDemand {
     pub meeting: MeetingId,
     pub demand: DemandMark,
 }
 
 /// A vote that is recorded in a meeting.
-#[derive(Clone, Copy, Debug, PartialEq, Eq)]
+#[derive(Clone, Copy, PartialEq, Eq)]
 pub struct AddCast {
     pub meeting: MeetingId,
     pub cast: CastMark,
 }
 
 /// What a call changes: a record that is added, or fields that are set.
-#[derive(Debug, Drop)]
+#[derive(Drop)]
 pub enum Change {
     AddMeeting(Meeting),
     SetRegister(SetRegister),

@@ -220,8 +220,8 @@ close_changes o now name h = in_found o name.meeting (close_answer now name) h (
     meeting_kept o name.meeting (change_poll (closed_at now) name.resolution) m (λ x. refl) h found
     (close_kept now name.resolution m p.0 (good_meeting o name.meeting m h found) p.1 (not_none p.0.started (fails is_waiting poll p.0 p.1 fail.1.1.0)))))
 
-declare_changes : (o : OfficeLists) (name : PollName) → is_office o ≡ true → Kept o (in_meeting (meeting_at o name.meeting) (declare_answer name))
-declare_changes o name h = in_found o name.meeting (declare_answer name) h (λ m found.
+declare_changes : (o : OfficeLists) (now : ℕ) (name : PollName) → is_office o ≡ true → Kept o (in_meeting (meeting_at o name.meeting) (declare_answer o.closed now name))
+declare_changes o now name h = in_found o name.meeting (declare_answer o.closed now name) h (λ m found.
     let poll = poll_on m.polls name.resolution in
     let declared = declaration_of m name.resolution in
     by_refusal o (record { reply = reply.Declared declared; change = Some (change.SetDeclared (record { poll = name; tally = declared.tally })) }) (first_refusal (declare_cases m.meeting poll name.resolution)) h (λ none limits.
@@ -245,7 +245,7 @@ office_kept o now (asked.OpenMeeting id) h = open_kept o now id h
 office_kept o now (asked.Order new) h = order_kept o now new h
 office_kept o now (asked.Start name) h = start_changes o now name h
 office_kept o now (asked.Close name) h = close_changes o now name h
-office_kept o now (asked.Declare name) h = declare_changes o name h
+office_kept o now (asked.Declare name) h = declare_changes o now name h
 office_kept o now (asked.ClosedDays days) h = days_loaded o (same_days o.closed days) days h
 office_kept o now (asked.Notice id) h = λ limits. h
 office_kept o now (asked.Mine id) h = λ limits. h

@@ -13,12 +13,12 @@ use crate::changes::{
     add_appointment, add_authority, add_cast, add_demand, add_ending, add_poll, add_presence,
     new_lists, set_closed, set_declared, set_opened, set_register, set_started,
 };
-use caller_view::{Answer, OwnView, PublicRecord, answer, refuse};
+use caller_view::{Answer, OwnView, PublicRecord, answer, find_meeting, refuse};
 use desk_words::{
     Call, Caller, Change, DayList, KeyRows, Listing, MeetingId, MeetingLists, Moment, Party,
     Refusal, Reply, Request,
 };
-use meeting_views::{find_meeting, nothing_of, own_in};
+use meeting_views::{nothing_of, own_in};
 use office_answers::office_answer;
 use office_days::Closed;
 use std::alloc::{AllocError, Global};
@@ -26,7 +26,7 @@ use std::marker::Model;
 
 /// All that an office holds. Contracts see it as the lists of the office, and it always holds the
 /// lists of an office.
-#[derive(Debug, Drop)]
+#[derive(Drop)]
 pub struct Book {
     alloc: Global,
     keys: KeyRows,

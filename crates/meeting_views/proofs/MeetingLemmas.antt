@@ -34,6 +34,7 @@ use Rattle.proxy_rules.specs.declared.holdings.Holding.{Holding}
 use Rattle.proxy_rules.specs.declared.papers.Cutoffs.{Cutoffs}
 use Rattle.proxy_rules.proofs.HoldingLemmas.{governed_of-governed_in, governed_in-later}
 use Rattle.proxy_rules.proofs.ShareLemmas.{shares_by-le}
+use Rattle.proxy_rules.proofs.TagLemmas.{is_tag-number}
 use Rattle.meeting_views.specs.Governed.{AreFit, governed_at, poll_due, received_due}
 use Rattle.meeting_views.specs.Named.{given_kept, since_named, holding_with, named_of, with_endings}
 
@@ -216,29 +217,12 @@ all-filter p q (x ∷ xs) all =
       | false ↦ all-filter p q xs (second_so (p x) (list_all p xs) all)
     ]
 
-is_tag-number : (a n : ℕ) → (a == suc n) ≡ true → nat_le a 256 ≡ true → is_tag a ≡ true
-is_tag-number a n h k = grind (arith, nat_tests)
-
 tagged-all : (n k : ℕ) (xs : List Appointment) → numbered_from n xs ≡ true → list_all (is_appointment k) xs ≡ true → are_tagged (map appointed_by xs) ≡ true
 tagged-all n k [] numbered each = refl
 tagged-all n k (x ∷ xs) numbered each =
     let few = first_so (nat_le x.number 256) (length x.instructions == k) (first_so (is_appointment k x) (list_all (is_appointment k) xs) each) in
     both_true (is_tag-number x.number n (first_so (x.number == suc n) (numbered_from (suc n) xs) numbered) few)
     (tagged-all (suc n) k xs (second_so (x.number == suc n) (numbered_from (suc n) xs) numbered) (second_so (is_appointment k x) (list_all (is_appointment k) xs) each))
-
-tags-after : (k : ℕ) (earlier given : List Appointment) → are_numbered_after earlier given ≡ true → list_all (is_appointment k) given ≡ true → are_tags given ≡ true
-tags-after k earlier [] numbered each = refl
-tags-after k earlier (a ∷ rest) numbered each =
-    let n = count_by (λ (b : Appointment). same_name b.member a.member) earlier in
-    let later = are_numbered_after (earlier ++ a ∷ []) rest in
-    let few = first_so (nat_le a.number 256) (length a.instructions == k) (first_so (is_appointment k a) (list_all (is_appointment k) rest) each) in
-    both_true (is_tag-number a.number n (first_so (a.number == suc n) later numbered) few)
-    (tags-after k (earlier ++ a ∷ []) rest (second_so (a.number == suc n) later numbered) (second_so (is_appointment k a) (list_all (is_appointment k) rest) each))
-
--- the numbers of a meeting's appointments are tags
-pub are_tags-appointments : (k : ℕ) (given : List Appointment) → are_appointments k given ≡ true → are_tags given ≡ true
-are_tags-appointments k given h =
-    tags-after k [] given (first_so (are_numbered_after [] given) (list_all (is_appointment k) given) h) (second_so (are_numbered_after [] given) (list_all (is_appointment k) given) h)
 
 tagged-since : (party : List ℕ) (n k : ℕ) (xs : List Appointment) → numbered_from n xs ≡ true → list_all (is_appointment k) xs ≡ true
     → are_tagged (map appointed_by (since_named party xs)) ≡ true

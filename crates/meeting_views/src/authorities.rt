@@ -12,7 +12,7 @@ use desk_words::{Authorised, Authority, HolderKind, Listing, Party, RegisterRow}
 use std::alloc::{AllocError, Global};
 
 /// A party's authorities, in order of receipt.
-#[derive(Debug, Drop)]
+#[derive(Drop)]
 pub(crate) struct Authorities {
     /// The authorities that it gave (section 323).
     pub persons: Listing<Authority>,

@@ -5,17 +5,10 @@ ghost use Rattle.std.specs.Option.{option_copied};
 ghost use Rattle.desk_words.specs.Names.{same_name};
 ghost use Rattle.desk_words.specs.Ordered.{ascends_by};
 ghost use Rattle.desk_words.specs.Registers.{member_before};
-ghost use Rattle.caller_view.specs.Views.{row_of, meeting_named};
+ghost use Rattle.caller_view.specs.Views.{row_of};
 
 use desk_lists::find_by_key;
 use desk_words::{MeetingId, MeetingLists, Party, RegisterRow};
-
-/// The lists of a meeting, or none where there is no meeting of that name.
-pub fn find_meeting(meetings: &[MeetingLists], id: MeetingId) -> Option<&MeetingLists>
-    ensures { option_copied result ≡ meeting_named meetings.now id }
-{
-    meetings.iter().find(|m| m.meeting.id.is(id))
-}
 
 /// Where a meeting stands among the meetings.
 pub fn place_of_meeting(meetings: &[MeetingLists], id: MeetingId) -> Option<usize>

@@ -14,7 +14,7 @@ use std::alloc::{AllocError, Global};
 use std::collections::BTreeMap;
 
 /// What the appointments of members govern for a late poll.
-#[derive(Debug, Drop)]
+#[derive(Drop)]
 pub(crate) struct PollRuns {
     /// The number of the poll's resolution, from 1.
     pub resolution: u64,

@@ -9,5 +9,5 @@ mod own;
 mod tests;
 mod walks;
 
-pub use finding::{find_meeting, find_row, place_of_meeting};
+pub use finding::{find_row, place_of_meeting};
 pub use own::{nothing_of, own_in};

@@ -26,7 +26,7 @@ use office_days::Closed;
 use std::alloc::{AllocError, Global};
 
 /// The appointments of proxies that a party gave and received, in order of receipt.
-#[derive(Debug, Drop)]
+#[derive(Drop)]
 struct Proxies {
     given: Listing<Given>,
     received: Listing<Received>,

@@ -5,7 +5,7 @@ ghost use Rattle.desk_words.specs.Office.{are_appointments, is_appointment};
 ghost use Rattle.desk_words.specs.declared.records.Appointment.{Appointment as Given};
 ghost use Rattle.proxy_rules.specs.Shares.{are_rows};
 
-use crate::{find_meeting, find_row, nothing_of, own_in, place_of_meeting};
+use crate::{find_row, nothing_of, own_in, place_of_meeting};
 use caller_view::OwnView;
 use desk_words::{
     Appointment, Authority, Block, Capacity, CastKind, CastMark, Company, DayList, DemandMark,

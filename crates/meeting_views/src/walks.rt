@@ -20,7 +20,7 @@ use std::alloc::{AllocError, Global};
 use std::collections::BTreeMap;
 
 /// What one walk over a meeting's appointments gathers for a party, in order of receipt.
-#[derive(Debug, Drop)]
+#[derive(Drop)]
 pub(crate) struct Gathered {
     /// The appointments that it gave.
     pub given: Listing<Appointment>,

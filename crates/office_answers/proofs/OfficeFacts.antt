@@ -14,7 +14,7 @@ use Rattle.desk_words.specs.declared.office.MeetingLists.{MeetingLists}
 use Rattle.desk_words.specs.declared.records.RegisterRow.{RegisterRow}
 use Rattle.caller_view.specs.Views.{meeting_named}
 use Rattle.desk_lists.proofs.Truth.{either_second}
-use Rattle.meeting_views.proofs.MeetingLemmas.{are_tags-appointments}
+use Rattle.proxy_rules.proofs.TagLemmas.{are_tags-appointments}
 use Rattle.proxy_rules.specs.Holdings.{are_tags}
 use Rattle.proxy_rules.specs.Shares.{are_rows}
 

@@ -117,8 +117,8 @@ declaration_of m number =
     record { tally = tally; carried = carries (slice_get m.meeting.resolutions (number - 1)) tally }
 
 -- the answer to the declaration of a poll in a meeting that exists
-abbrev pub declare_answer : PollName → MeetingLists → Answer
-declare_answer name m =
+abbrev pub declare_answer : List ℕ → ℕ → PollName → MeetingLists → Answer
+declare_answer closed now name m =
     unless (declare_cases m.meeting (poll_on m.polls name.resolution) name.resolution)
     (let declared = declaration_of m name.resolution in
     record { reply = reply.Declared declared; change = Some (change.SetDeclared (record { poll = name; tally = declared.tally })) })

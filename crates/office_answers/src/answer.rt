@@ -9,9 +9,8 @@ use crate::attendance::note_presence;
 use crate::calls::{call_meeting, load_register};
 use crate::closed::load_days;
 use crate::polls::{close_poll, declare_poll, open_meeting, order_poll, start_poll};
-use caller_view::{Answer, refuse};
+use caller_view::{Answer, find_meeting, refuse};
 use desk_words::{MeetingLists, Moment, Refusal, Request};
-use meeting_views::find_meeting;
 use office_days::Closed;
 use std::alloc::{AllocError, Global};
 
@@ -43,7 +42,9 @@ pub fn office_answer(
         }
         Request::Start(poll) => Ok(start_poll(find_meeting(meetings, poll.meeting), now, *poll)),
         Request::Close(poll) => Ok(close_poll(find_meeting(meetings, poll.meeting), now, *poll)),
-        Request::Declare(poll) => declare_poll(alloc, find_meeting(meetings, poll.meeting), *poll),
+        Request::Declare(poll) => {
+            declare_poll(alloc, closed, find_meeting(meetings, poll.meeting), now, *poll)
+        }
         Request::ClosedDays(days) => load_days(closed, days),
         Request::Notice(_)
         | Request::Mine(_)

@@ -6,12 +6,11 @@ ghost use Rattle.desk_words.specs.Lists.{are_resolutions};
 ghost use Rattle.office_answers.specs.Calls.{in_meeting, loads, call_cases, call_answer, load_cases, load_answer, meeting_of};
 ghost use Rattle.office_answers.specs.Limits.{keeps_limits};
 
-use caller_view::{Answer, refuse};
+use caller_view::{Answer, find_meeting, refuse};
 use desk_words::{
     Change, Meeting, MeetingLists, Moment, NewMeeting, NewRegister, Refusal, Reply, SetRegister,
     same_rows,
 };
-use meeting_views::find_meeting;
 use office_days::enough_notice;
 use std::alloc::AllocError;
 

@@ -305,11 +305,13 @@ fn declaration(alloc: Global, lists: &MeetingLists, number: u64) -> Result<Decla
 /// Its cost is that of `poll_rules::tally`.
 pub fn declare_poll(
     alloc: Global,
+    closed: &Closed,
     found: Option<&MeetingLists>,
+    now: Moment,
     name: PollName,
 ) -> Result<Answer, AllocError>
     requires { IfSome (option_copied found) (λ m. are_rows m.register ≡ true) }
-    ensures answer { IfOk result (λ a. a ≡ in_meeting (option_copied found.entry) (declare_answer name)) }
+    ensures answer { IfOk result (λ a. a ≡ in_meeting (option_copied found.entry) (declare_answer closed.now now name)) }
     ensures limits { IfOk result (λ a. IsTrue (keeps_limits a.change)) }
 {
     let Some(lists) = found else {

@@ -9,7 +9,7 @@ use jiff::Timestamp;
 use jiff::tz::TimeZone;
 
 /// Why an instant has no moment on the wall clock.
-#[derive(Clone, Copy, Debug, PartialEq, Eq)]
+#[derive(Clone, Copy, PartialEq, Eq)]
 pub enum ClockFault {
     /// The clock shows a second before 1900-01-01T00:00:00 or after 2999-12-31T23:59:59.
     OutOfRange,

@@ -12,7 +12,7 @@ use std::alloc::{AllocError, Global};
 use std::marker::Model;
 
 /// Why a set of closed days was not made.
-#[derive(Clone, Copy, Debug, PartialEq, Eq)]
+#[derive(Clone, Copy, PartialEq, Eq)]
 pub enum DaysFault {
     /// There are more than 2,000 different days.
     TooMany,
@@ -29,12 +29,12 @@ impl From<AllocError> for DaysFault {
 }
 
 /// No moment of the years 1900 to 2999 lies far enough back.
-#[derive(Clone, Copy, Debug, PartialEq, Eq)]
+#[derive(Clone, Copy, PartialEq, Eq)]
 pub struct OutOfRange;
 
 /// The days that the office has closed, at most 2,000, seen in order, each once. A closed day is no
 /// working day (section 1173); it may fall on a Saturday or a Sunday.
-#[derive(Clone, Debug, Drop)]
+#[derive(Clone, Drop)]
 pub struct Closed {
     days: DayList,
 }

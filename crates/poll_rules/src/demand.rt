@@ -17,7 +17,7 @@ use std::alloc::{AllocError, Global};
 use std::collections::BTreeSet;
 
 /// Which shares demand a poll, and whether they are enough (sections 321 and 329).
-#[derive(Clone, Copy, Debug, PartialEq, Eq)]
+#[derive(Clone, Copy, PartialEq, Eq)]
 pub struct Demand {
     /// How many members hold a share that demands it.
     pub members: u64,
@@ -31,7 +31,7 @@ pub struct Demand {
 }
 
 /// The sums of a demand over some rows.
-#[derive(Clone, Copy, Debug)]
+#[derive(Clone, Copy)]
 struct Sums {
     /// How many rows have a share that demands.
     members: u64,

@@ -7,5 +7,6 @@ pub mod PieceCounts
 pub mod PieceLemmas
 pub mod RunLemmas
 pub mod ShareLemmas
+pub mod TagLemmas
 pub mod TurnedLists
 pub use Rattle.share_blocks.proofs.Choices

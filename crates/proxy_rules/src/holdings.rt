@@ -8,7 +8,7 @@ use desk_words::{Appointment, Ending, Listing, Moment, Party, Range};
 use std::alloc::{AllocError, Global};
 
 /// What an appointment says of which shares it governs, and for whom.
-#[derive(Clone, Copy, Debug, PartialEq, Eq)]
+#[derive(Clone, Copy, PartialEq, Eq)]
 pub struct Appointed {
     /// The member's own count of its appointments.
     pub number: u64,
@@ -35,7 +35,7 @@ impl Appointed {
 }
 
 /// One member's shares, its appointments of proxies and its endings of them.
-#[derive(Debug, Drop)]
+#[derive(Drop)]
 pub struct Holding {
     /// How many shares the member has, treasury shares not among them.
     pub shares: u64,

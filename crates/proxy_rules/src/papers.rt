@@ -5,7 +5,7 @@ use desk_words::{
 
 /// The lists of a meeting by which its shares are governed and its polls counted. Where no register is
 /// loaded there are no rows.
-#[derive(Clone, Copy, Debug)]
+#[derive(Clone, Copy)]
 pub struct Papers<'a> {
     /// The register of members, in the order of members (section 113).
     pub register: &'a [RegisterRow],
@@ -24,7 +24,7 @@ pub struct Papers<'a> {
 }
 
 /// Until when appointments and endings count.
-#[derive(Clone, Copy, Debug, PartialEq, Eq)]
+#[derive(Clone, Copy, PartialEq, Eq)]
 pub struct Cutoffs {
     /// The last moment at which an appointment counts.
     pub appointments: Moment,

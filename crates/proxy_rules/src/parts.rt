@@ -15,7 +15,7 @@ use share_blocks::{Admitted, Blocks, PlainBlocks, Tag};
 use std::alloc::{AllocError, Global};
 
 /// Some of a member's shares, which one proxy governs.
-#[derive(Clone, Copy, Debug, PartialEq, Eq)]
+#[derive(Clone, Copy, PartialEq, Eq)]
 pub struct Part {
     /// Who governs them.
     pub proxy: Party,

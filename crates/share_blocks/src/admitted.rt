@@ -7,7 +7,7 @@ use crate::tag::{MOST_TAGS, Tag};
 use std::marker::Model;
 
 /// A set of tags, in an array of fixed size. Contracts see it as the set of their numbers.
-#[derive(Debug, Drop)]
+#[derive(Drop)]
 pub struct Admitted {
     marks: [bool; MOST_TAGS],
 }

@@ -21,7 +21,7 @@ const MOST_PLACES: u64 = 1_000_000_000_000;
 ///
 /// To cover a range takes about the same time whatever was covered before. `first_where` looks at
 /// each covered range at most once, and `pieces` takes about n log n steps for n of them.
-#[derive(Debug, Drop)]
+#[derive(Drop)]
 pub struct PlainBlocks {
     covers: Vec<(Range, Tag)>,
 }

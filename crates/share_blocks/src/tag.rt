@@ -8,7 +8,7 @@ use std::marker::Model;
 pub const MOST_TAGS: usize = 256;
 
 /// What a range is covered with: a number from 1 to 256, as that of a member's appointment.
-#[derive(Clone, Copy, Debug, PartialEq, Eq)]
+#[derive(Clone, Copy, PartialEq, Eq)]
 pub struct Tag {
     number: u16,
 }
