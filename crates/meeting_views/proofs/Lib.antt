@@ -1,4 +1,9 @@
+pub mod AnyLemmas
+pub mod CapacityLemmas
 pub mod GovernedLemmas
 pub mod MeetingLemmas
+pub mod MemberRows
 pub mod NamedLemmas
 pub mod NextLemmas
+pub mod PlaceLemmas
+pub mod ProxyLemmas

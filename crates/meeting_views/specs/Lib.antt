@@ -1,2 +1,3 @@
 pub mod Governed
+pub mod Laws
 pub mod Named

@@ -4,6 +4,7 @@
 mod authorities;
 mod finding;
 mod governed;
+pub mod laws;
 mod own;
 #[cfg(test)]
 mod tests;
