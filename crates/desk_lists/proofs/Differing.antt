@@ -1,5 +1,5 @@
 -- What adding a value, and changing the first value that passes a test, leave true of a list.
-use Rattle.std.proofs.Common.{◌≡◌, ℕ, ◌+◌, Bool, true, false, not, ◌&&◌, ◌||◌, cond, List, [], ◌∷◌, ◌++◌, length, refl, ap, sym, ◌∙◌, arith}
+use Rattle.std.proofs.Common.{◌≡◌, ◌+◌, Bool, true, false, not, ◌&&◌, ◌||◌, cond, List, [], ◌∷◌, ◌++◌, length, refl, ap, sym, ◌∙◌, arith}
 use Rattle.std.specs.Prelude.{Some, None, find, filter, count_by}
 use Rattle.std.specs.List.{list_any, list_all}
 use Rattle.std.specs.Cmp.{first_so, second_so}

@@ -1,5 +1,5 @@
 -- A list in order is determined by its values.
-use Rattle.std.proofs.Common.{◌≡◌, Bool, true, false, not, ◌&&◌, ◌||◌, cond, List, [], ◌∷◌, ◌++◌, refl, ap, sym, ◌∙◌}
+use Rattle.std.proofs.Common.{◌≡◌, Bool, true, false, not, ◌&&◌, ◌||◌, cond, List, [], ◌∷◌, refl, ap, sym, ◌∙◌}
 use Rattle.std.specs.Prelude.{IsPermutation}
 use Rattle.std.specs.List.{list_any}
 use Rattle.std.specs.Ordering.{is_lt, is_eq, ordering_reverse}
@@ -7,10 +7,10 @@ use Rattle.std.specs.declared.cmp.Ordering.{Ordering}
 use Rattle.std.specs.declared.cmp.Ordering.TheVariants.{Less, Equal, Greater}
 use Rattle.std.specs.Cmp.{IsTotalOrder, first_so, second_so}
 use Rattle.std.specs.Cmp.Derive.{both_true}
-use Rattle.std.proofs.lemmas.List.Sorted.{IsPermutation-refl, IsPermutation-sym, IsPermutation-cons, IsPermutation-trans, IsPermutation-middle, Contains-permutation}
+use Rattle.std.proofs.lemmas.List.Sorted.{IsPermutation-refl, IsPermutation-sym, IsPermutation-cons, IsPermutation-trans, IsPermutation-middle}
 use Rattle.desk_lists.specs.Ordered.{differ_by, ascends_by, key_before, same_key}
 use Rattle.desk_lists.specs.Sorting.{insert_by, sort_by}
-use Rattle.desk_lists.proofs.Ascending.{ascends_by-tail, same_list-from_IsPermutation, differ_by_key-IsPermutation, differs-from_ascends_by}
+use Rattle.desk_lists.proofs.Ascending.{same_list-from_IsPermutation, differ_by_key-IsPermutation, differs-from_ascends_by}
 
 swap_first : {X : Type 0} (x y : X) (ys : List X) → IsPermutation (x ∷ y ∷ ys) (y ∷ x ∷ ys)
 swap_first x y ys = IsPermutation-middle (x ∷ []) y ys

@@ -1,6 +1,5 @@
 //! Lists kept in the order of a key.
 ghost use Rattle.std.specs.Prelude.{◌≡◌, ◌≤◌, true, length, OnOk, OnErr, IsPermutation, IsSortedByKey, find};
-ghost use Rattle.std.specs.List.Sorted.{IsStableByKey};
 ghost use Rattle.std.specs.List.{insert, position_from};
 ghost use Rattle.std.specs.Option.{option_copied};
 ghost use Rattle.desk_lists.specs.Sorting.{insert_by, place_by};
@@ -30,19 +29,16 @@ pub fn ascend<T: Keyed>(values: &[T]) -> bool
     values.is_sorted_by(|first, second| first.key().cmp(&second.key()).is_lt())
 }
 
-/// Puts the values in the order of their keys, in about n log n comparisons. Values of equal keys
-/// keep the order that they have among themselves; where no two keys are equal the list ascends.
-/// With `AllocError`, where no memory is left to sort in, the list stays as it was.
-pub fn into_order<T: Keyed + Drop>(values: &mut Vec<T>) -> Result<(), AllocError>
+/// Puts the values in the order of their keys. It sorts in place, in about n log n comparisons,
+/// and needs no memory. Where no two keys are equal the list then ascends; in what order values
+/// of equal keys stand is left open.
+pub fn into_order<T: Keyed>(values: &mut Vec<T>)
     ensures permutation { IsPermutation values.old.items values.new.items }
-    ensures sorted { OnOk result (IsSortedByKey T.key_of T.Key.cmp values.new.items) }
-    ensures stable { IsStableByKey T.key_of T.Key.cmp values.old.items values.new.items }
-    ensures ascending { OnOk result (
-        ascends_by (key_before T.key_of T.Key.cmp) values.new.items
-        ≡ differ_by (same_key T.key_of T.Key.cmp) values.old.items) }
-    ensures err { OnErr result (values.new.items ≡ values.old.items) }
+    ensures sorted { IsSortedByKey T.key_of T.Key.cmp values.new.items }
+    ensures ascending { ascends_by (key_before T.key_of T.Key.cmp) values.new.items
+        ≡ differ_by (same_key T.key_of T.Key.cmp) values.old.items }
 {
-    values.sort_by_key(|value| value.key())
+    values.sort_unstable_by_key(|value| value.key());
 }
 
 /// The value that has the key, or `None` where no value has it, in about log n comparisons.

@@ -1,29 +1,43 @@
--- Keys in the order of callers, and in that of their letters.
-use Rattle.std.proofs.Common.{◌≡◌, Bool, true, not, ◌&&◌, ◌||◌, List, [], ◌∷◌, length, map, refl, ap, ◌∙◌}
-use Rattle.std.specs.Prelude.{IsPermutation, nat_le}
-use Rattle.std.specs.List.{list_any}
+-- What the order of keys tells of them.
+use Rattle.std.proofs.Common.{◌≡◌, true, false, ◌&&◌, cond, List, length, ap, sym, ◌∙◌}
+use Rattle.std.specs.Prelude.{IsPermutation, nat_le, Some, None}
 use Rattle.std.specs.Cmp.{first_so, second_so}
 use Rattle.std.specs.Cmp.Derive.{both_true}
-use Rattle.std.specs.Cmp.Lexicographic.{nat_list_cmp_total}
+use Rattle.std.specs.Cmp.Lexicographic.{nat_list_cmp_total, options_total}
 use Rattle.std.proofs.lemmas.List.Sorted.{length_permutation}
-use Rattle.desk_lists.specs.Ordered.{differ_by}
-use Rattle.desk_lists.proofs.Ascending.{differ_by_key-IsPermutation}
+use Rattle.desk_lists.specs.Ordered.{ascends_by, differ_by}
+use Rattle.desk_lists.specs.Sorting.{sort_by}
+use Rattle.desk_lists.proofs.Ascending.{differ_by_key-IsPermutation, differs-from_ascends_by}
+use Rattle.desk_lists.proofs.SortingLemmas.{sort_by-ascending}
+use Rattle.desk_words.specs.Callers.{party_in}
 use Rattle.desk_words.specs.declared.caller.KeyRow.{KeyRow}
-use Rattle.desk_words.specs.Lists.{keep_keys, same_secret}
-
-list_any-map : {X Y : Type 0} (p : Y → Bool) (f : X → Y) (xs : List X) → list_any p (map f xs) ≡ list_any (λ x. p (f x)) xs
-list_any-map p f [] = refl
-list_any-map p f (x ∷ xs) = ap (λ b. p (f x) || b) (list_any-map p f xs)
-
--- whether values differ, seen through a function
-pub differ_by-map : {X Y : Type 0} (alike : Y → Y → Bool) (f : X → Y) (xs : List X) → differ_by alike (map f xs) ≡ differ_by (λ a b. alike (f a) (f b)) xs
-differ_by-map alike f [] = refl
-differ_by-map alike f (x ∷ xs) =
-    ap (λ b. not b && differ_by alike (map f xs)) (list_any-map (alike (f x)) f xs)
-    ∙ ap (λ b. not (list_any (λ y. alike (f x) (f y)) xs) && b) (differ_by-map alike f xs)
+use Rattle.desk_words.specs.Lists.{keep_keys, same_secret, same_caller, caller_before, are_keys, is_key_list, key_list_of}
 
 -- the limits of keys do not depend on their order
-pub keep_keys-permutation : (xs ys : List KeyRow) → IsPermutation xs ys → keep_keys xs ≡ true → keep_keys ys ≡ true
+keep_keys-permutation : (xs ys : List KeyRow) → IsPermutation xs ys → keep_keys xs ≡ true → keep_keys ys ≡ true
 keep_keys-permutation xs ys moved h =
     both_true (ap (λ n. nat_le n 40000) (length_permutation xs ys moved) ∙ first_so (nat_le (length xs) 40000) (differ_by same_secret xs) h)
     (differ_by_key-IsPermutation nat_list_cmp_total (λ (row : KeyRow). row.secret) xs ys moved ∙ second_so (nat_le (length xs) 40000) (differ_by same_secret xs) h)
+
+-- whether each key is of another caller does not depend on the order
+callers-permutation : (xs ys : List KeyRow) → IsPermutation xs ys → differ_by same_caller ys ≡ differ_by same_caller xs
+callers-permutation = differ_by_key-IsPermutation (options_total nat_list_cmp_total) (λ (row : KeyRow). party_in row.caller)
+
+-- keys that are kept are a key list once they stand in the order of callers
+pub is_key_list-sorted : (rows sorted : List KeyRow) → IsPermutation rows sorted → keep_keys rows ≡ true → ascends_by caller_before sorted ≡ true → is_key_list sorted ≡ true
+is_key_list-sorted rows sorted moved kept up = both_true (keep_keys-permutation rows sorted moved kept) up
+
+-- and they are the list of these keys
+pub key_list_of-sorted : (rows sorted : List KeyRow) → IsPermutation rows sorted → keep_keys rows ≡ true → ascends_by caller_before sorted ≡ true → key_list_of rows ≡ Some sorted
+key_list_of-sorted rows sorted moved kept up =
+    let callers : differ_by same_caller rows ≡ true =
+    sym (callers-permutation rows sorted moved) ∙ differs-from_ascends_by (options_total nat_list_cmp_total) (λ (row : KeyRow). party_in row.caller) sorted up in
+    let keys : are_keys rows ≡ true = both_true kept callers in
+    ap (λ b. cond b (Some (sort_by caller_before rows)) None) keys
+    ∙ ap (λ r. Some r) (sym (sort_by-ascending (options_total nat_list_cmp_total) (λ (row : KeyRow). party_in row.caller) rows sorted moved up))
+
+-- where the order shows that a caller stands twice, there is no list of these keys
+pub key_list_of-repeated : (rows moved sorted : List KeyRow) → IsPermutation rows moved → keep_keys rows ≡ true → ascends_by caller_before sorted ≡ differ_by same_caller moved → ascends_by caller_before sorted ≡ false → key_list_of rows ≡ None
+key_list_of-repeated rows moved sorted same kept tells falls =
+    let callers : differ_by same_caller rows ≡ false = sym (callers-permutation rows moved same) ∙ sym tells ∙ falls in
+    ap (λ b. cond b (Some (sort_by caller_before rows)) None) (ap (λ b. b && differ_by same_caller rows) kept ∙ callers)

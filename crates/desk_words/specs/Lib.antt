@@ -1,4 +1,3 @@
-pub mod BySecret
 pub mod Callers
 pub mod Laws
 pub mod Lists

@@ -1,15 +1,13 @@
 //! The lists of resolutions, keys and closed days.
-ghost use Rattle.std.specs.Prelude.{◌≡◌, ◌<◌, ◌↔◌, ℕ, IfOk, Err, Some, None, IsTrue, false, [], map, Contains, IsPermutation};
+ghost use Rattle.std.specs.Prelude.{◌≡◌, ◌<◌, ◌↔◌, ℕ, IfOk, Err, Some, None, IsTrue, false, [], Contains, IsPermutation};
 ghost use Rattle.desk_lists.specs.Ordered.{differ_by};
 ghost use Rattle.desk_words.specs.Lists.{same_secret};
-ghost use Rattle.desk_words.specs.BySecret.{by_secret_of};
 ghost use Rattle.desk_words.specs.declared.lists.ListFault.TheVariants.{Limit, Memory};
 
 use crate::caller::KeyRow;
 use crate::records::Resolution;
 use desk_calendar::Day;
-use desk_lists::{Keyed, ascend, in_order_once, into_order};
-use desk_terms::SecretKey;
+use desk_lists::{ascend, in_order_once, into_order};
 use std::alloc::{AllocError, Global};
 use std::marker::Model;
 
@@ -18,16 +16,8 @@ use std::marker::Model;
 pub enum ListFault {
     /// The list breaks the limits of its type.
     Limit,
-    /// An allocation was refused.
+    /// An allocation was refused. The lists of this crate take no memory, so none of them answers it.
     Memory,
-}
-
-impl From<AllocError> for ListFault {
-    ghost from_gives = { λ _ e. e ≡ Memory };
-
-    fn from(_refused: AllocError) -> ListFault {
-        ListFault::Memory
-    }
 }
 
 /// The resolutions of a meeting, numbered from 1: 1 to 50 of them.
@@ -165,52 +155,32 @@ impl DayList {
     }
 }
 
-/// A key row in a list that is in the order of keys.
-#[derive(Clone, Copy)]
-struct BySecret {
-    row: KeyRow,
-}
-
-impl Keyed for BySecret {
-    type Key = SecretKey;
-
-    ghost key_of = { λ by. by.row.secret };
-
-    fn key(&self) -> SecretKey {
-        self.row.secret
-    }
-}
-
-fn by_secret(alloc: Global, rows: &[KeyRow]) -> Result<Vec<BySecret>, AllocError>
-    ensures { IfOk result (λ by. by.items ≡ map by_secret_of rows.now) }
+/// Whether no two keys are the same. To tell, it puts the rows in the order of keys, in place.
+fn secrets_differ(rows: &mut Vec<KeyRow>) -> bool
+    ensures differ { result ≡ differ_by same_secret rows.old.items }
+    ensures rows { IsPermutation rows.old.items rows.new.items }
 {
-    rows.iter().map(|row| BySecret { row: *row }).collect(alloc)
-}
-
-fn secrets_differ(alloc: Global, rows: &[KeyRow]) -> Result<bool, AllocError>
-    ensures { IfOk result (λ r. r ≡ differ_by same_secret rows.now) }
-{
-    let mut rows = by_secret(alloc, rows)?;
-    into_order(&mut rows)?;
-    Ok(ascend(&rows))
+    rows.sort_unstable_by_key(|row| row.secret);
+    rows.is_sorted_by(|first, second| first.secret.cmp(&second.secret).is_lt())
 }
 
 impl KeyRows {
     ghost use Rattle.desk_words.specs.Lists.{is_key_list, key_list_of};
 
-    /// The list of these keys. The fault is `Limit` only where there are more than 40,000, or a
-    /// caller or a key stands twice, and else `Memory`.
-    pub fn new(alloc: Global, rows: Vec<KeyRow>) -> Result<KeyRows, ListFault>
+    /// The list of these keys. The fault is `Limit` exactly where there are more than 40,000, or a
+    /// caller or a key stands twice. It takes no memory.
+    pub fn new(rows: Vec<KeyRow>) -> Result<KeyRows, ListFault>
         ensures value { IfOk result (λ r. key_list_of rows.items ≡ Some r) }
         ensures rows { IfOk result (λ r. IsPermutation rows.items r) }
         ensures kept { IfOk result (λ r. IsTrue (is_key_list r)) }
-        ensures limit { result ≡ Err Limit → key_list_of rows.items ≡ None }
+        ensures limit { (result ≡ Err Limit) ↔ (key_list_of rows.items ≡ None) }
+        ensures no_memory { (result ≡ Err Memory) → ⊥ }
     {
-        if rows.len() > 40_000 || !secrets_differ(alloc, &rows)? {
+        let mut rows = rows;
+        if rows.len() > 40_000 || !secrets_differ(&mut rows) {
             return Err(ListFault::Limit);
         }
-        let mut rows = rows;
-        into_order(&mut rows)?;
+        into_order(&mut rows);
         if !ascend(&rows) {
             return Err(ListFault::Limit);
         }

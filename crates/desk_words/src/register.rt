@@ -2,7 +2,7 @@
 ghost use Rattle.std.specs.Prelude.{◌≡◌, ◌≤◌, ◌↔◌, IfOk, Err, Some, None, IsTrue, length, IsPermutation};
 ghost use Rattle.std.specs.List.{list_all, zip};
 ghost use Rattle.desk_words.specs.Rows.{same_row, same_rows};
-ghost use Rattle.desk_words.specs.declared.lists.ListFault.TheVariants.{Limit};
+ghost use Rattle.desk_words.specs.declared.lists.ListFault.TheVariants.{Limit, Memory};
 
 use crate::lists::ListFault;
 use crate::records::RegisterRow;
@@ -70,19 +70,20 @@ impl Register {
             && Register::total(rows) <= MOST_SHARES
     }
 
-    /// The register of these rows. The fault is `Limit` only where they are not 1 to 20,000 rows
-    /// of different members that keep the limits, and else `Memory`.
+    /// The register of these rows. The fault is `Limit` exactly where they are not 1 to 20,000 rows
+    /// of different members that keep the limits. It takes no memory.
     pub fn new(rows: Vec<RegisterRow>) -> Result<Register, ListFault>
         ensures value { IfOk result (λ r. register_of rows.items ≡ Some r) }
         ensures rows { IfOk result (λ r. IsPermutation rows.items r) }
         ensures kept { IfOk result (λ r. IsTrue (is_register r)) }
-        ensures limit { result ≡ Err Limit → register_of rows.items ≡ None }
+        ensures limit { (result ≡ Err Limit) ↔ (register_of rows.items ≡ None) }
+        ensures no_memory { (result ≡ Err Memory) → ⊥ }
     {
         if !Register::keep_limits(&rows) {
             return Err(ListFault::Limit);
         }
         let mut rows = rows;
-        into_order(&mut rows)?;
+        into_order(&mut rows);
         if !ascend(&rows) {
             return Err(ListFault::Limit);
         }

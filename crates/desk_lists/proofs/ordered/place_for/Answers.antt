@@ -1,4 +1,4 @@
-use Rattle.std.proofs.Common.{◌≡◌, arith, sym, ◌∙◌}
+use Rattle.std.proofs.Common.{arith, sym, ◌∙◌}
 use Rattle.desk_lists.specs.Ordered.{key_before}
 use Rattle.desk_lists.proofs.Inserting.{place_some, place_none, place_bound}
 use Rattle.desk_lists.proofs.ordered.place_for.Goals as goal

@@ -1,15 +1,18 @@
-use Rattle.std.proofs.Common.{ap, ◌∙◌}
+use Rattle.std.proofs.Common.{Bool, ap, ◌∙◌, rules}
+use Rattle.std.specs.Cmp.Lexicographic.{nat_list_cmp_total}
+use Rattle.std.proofs.lemmas.List.Sorted.{answers_always}
 use Rattle.desk_terms.specs.Names.{name_cmp}
-use Rattle.desk_lists.specs.Ordered.{ascends_by, differ_by, key_before, same_key}
-use Rattle.desk_words.specs.declared.lists.BySecret.{BySecret}
-use Rattle.desk_words.specs.BySecret.{by_secret_of}
-use Rattle.desk_words.proofs.KeyLimits.{differ_by-map}
+use Rattle.desk_lists.specs.Ordered.{ascends_by, key_before}
+use Rattle.desk_lists.proofs.Ascending.{ascends-from_answer, ascends_by-sorted}
+use Rattle.desk_words.specs.declared.caller.KeyRow.{KeyRow}
 use Rattle.desk_words.proofs.lists.secrets_differ.Goals as goal
 
-pub returns : goal.returns
-returns c =
-    c.ascend.ensures
-    ∙ ap (ascends_by (key_before (λ (by : BySecret). by.row.secret) name_cmp)) c.deref.ensures.value
-    ∙ c.in_ok-into_order.ensures.ascending
-    ∙ ap (differ_by (same_key (λ (by : BySecret). by.row.secret) name_cmp)) c.in_ok-rows.ensures
-    ∙ differ_by-map (same_key (λ (by : BySecret). by.row.secret) name_cmp) by_secret_of c.args.rows.now
+abbrev secret_before : KeyRow → KeyRow → Bool
+secret_before = key_before (λ (row : KeyRow). row.secret) name_cmp
+
+pub returns-clause-differ : goal.returns-clause-differ
+returns-clause-differ c =
+    ascends-from_answer secret_before c.deref.result.now c.is_sorted_by.result (c.is_sorted_by.ensures.cases secret_before (answers_always _ _ _ (λ f a r next called. search rules)))
+    ∙ ap (ascends_by secret_before) c.deref.ensures.value
+    ∙ ascends_by-sorted nat_list_cmp_total (λ (row : KeyRow). row.secret) c.args.rows.now.items c.sort_unstable_by_key.new.self.items c.sort_unstable_by_key.ensures.permutation
+    (c.sort_unstable_by_key.ensures.sorted (λ (row : KeyRow). row.secret) (answers_always _ _ _ (λ f a r next called. search rules)))
