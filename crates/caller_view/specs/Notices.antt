@@ -1,28 +1,27 @@
 -- What the notice of a meeting shows.
-use Rattle.std.specs.Prelude.{ℕ, suc, Bool, List, [], ◌∷◌, Some, option_map}
+use Rattle.std.specs.Prelude.{ℕ, suc, List, [], ◌∷◌, Some, option_map}
 use Rattle.desk_terms.specs.declared.kinds.ResKind.{ResKind}
 use Rattle.desk_words.specs.declared.records.Meeting.{Meeting}
 use Rattle.desk_words.specs.declared.records.Poll.{Poll}
 use Rattle.desk_words.specs.declared.records.Resolution.{Resolution}
-use Rattle.desk_words.specs.declared.records.Tally.{Tally}
 use Rattle.desk_words.specs.declared.request.Notice.{Notice}
 use Rattle.desk_words.specs.declared.request.NoticedPoll.{NoticedPoll}
 use Rattle.desk_words.specs.declared.request.NoticedResolution.{NoticedResolution}
 use Rattle.proxy_rules.specs.Cutoffs.{cutoffs_of, meeting_cutoffs, is_late_poll}
-use Rattle.poll_rules.specs.Majority.{is_carried}
+use Rattle.poll_rules.specs.Majority.{result_of}
 use Rattle.caller_view.specs.Polls.{poll_on}
-
--- whether a count carries a resolution of a kind (sections 282 and 283)
-abbrev pub carries : ResKind → Tally → Bool
-carries kind tally = is_carried kind tally.votes_for tally.votes_against
 
 -- a poll, with its lateness and its cutoff by the closed days as they stand, and its result once it is declared (section 327)
 abbrev pub noticed_poll : Meeting → List ℕ → ℕ → ResKind → Poll → NoticedPoll
 noticed_poll meeting closed now kind poll = record {
-  poll = poll;
+  ordered = poll.ordered;
+  take = poll.take;
+  chair = poll.chair;
+  started = poll.started;
+  closed = poll.closed;
   late = is_late_poll closed poll;
   cutoff = (cutoffs_of meeting (Some poll) closed now).appointments;
-  carried = option_map (carries kind) poll.declared;
+  result = option_map (result_of kind) poll.declared;
 }
 
 -- a resolution, with the poll on it if one is ordered

@@ -1,27 +1,27 @@
 //! The notice of a meeting.
-ghost use Rattle.std.specs.Prelude.{◌≡◌, IfOk};
+ghost use Rattle.std.specs.Prelude.{◌≡◌, IfOk, option_map};
 ghost use Rattle.caller_view.specs.Answers.{notice_answer};
-ghost use Rattle.caller_view.specs.Notices.{carries, noticed_poll, noticed_resolution, numbered, notice_of};
+ghost use Rattle.caller_view.specs.Notices.{noticed_poll, noticed_resolution, numbered, notice_of};
 ghost use Rattle.caller_view.specs.Polls.{poll_on};
-ghost use Rattle.std.specs.Prelude.{option_map};
+ghost use Rattle.poll_rules.specs.Majority.{result_of};
 
 use crate::answers::refuse;
 use crate::polls::find_poll;
 use crate::views::{Answer, PublicRecord};
 use desk_words::{
-    Listing, Meeting, Moment, Notice, NoticedPoll, NoticedResolution, Poll, Refusal, Reply,
-    ResKind, Resolution, Tally,
+    Declaration, Listing, Meeting, Moment, Notice, NoticedPoll, NoticedResolution, Poll, Refusal,
+    Reply, ResKind, Resolution, Tally,
 };
 use office_days::Closed;
-use poll_rules::{carried, cutoffs, is_late_poll};
+use poll_rules::{cutoffs, is_late_poll, result_of};
 use std::alloc::{AllocError, Global};
 
-fn carries(kind: ResKind, declared: &Option<Tally>) -> Option<bool>
-    ensures { result ≡ option_map (carries kind) declared.now }
+fn declared_result(kind: ResKind, declared: Option<Tally>) -> Option<Declaration>
+    ensures { result ≡ option_map (result_of kind) declared }
 {
     match declared {
         None => None,
-        Some(tally) => Some(carried(kind, tally.votes_for, tally.votes_against)),
+        Some(tally) => Some(result_of(kind, tally)),
     }
 }
 
@@ -35,10 +35,14 @@ fn noticed_poll(
     ensures { result ≡ noticed_poll meeting.now closed.now now kind poll }
 {
     NoticedPoll {
-        poll,
+        ordered: poll.ordered,
+        take: poll.take,
+        chair: poll.chair,
+        started: poll.started,
+        closed: poll.closed,
         late: is_late_poll(closed, &poll),
         cutoff: cutoffs(meeting, Some(&poll), closed, now).appointments,
-        carried: carries(kind, &poll.declared),
+        result: declared_result(kind, poll.declared),
     }
 }
 

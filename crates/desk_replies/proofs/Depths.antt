@@ -1,8 +1,7 @@
 -- No reply nests deep, so its text reads back.
-use Rattle.std.proofs.Common.{ℕ, ◌≤◌, max, List, [], ◌∷◌, map, Option, Some, None, Bool, arith}
+use Rattle.std.proofs.Common.{ℕ, ◌≤◌, max, List, [], ◌∷◌, map, Option, Some, None, arith}
 use Rattle.serde_json.specs.Data.{Data, depth, items_depth}
 use Rattle.serde_json.specs.View.{items_of}
-use Rattle.desk_words.specs.declared.records.Tally.{Tally}
 use Rattle.desk_words.specs.declared.records.CastMark.{CastMark}
 use Rattle.desk_words.specs.declared.records.CastKind.{CastKind}
 use Rattle.desk_words.specs.declared.records.CastKind.TheVariants as cast
@@ -67,16 +66,11 @@ mine_below m =
     let row : depth (or_null row_data m.row) ≤ 1 = or_null_below row_data 1 (λ _. omega arith) m.row in
     omega arith
 
-result_below : (declared : Option Tally) (carried : Option Bool) → depth (result_data declared carried) ≤ 1
-result_below None carried = omega arith
-result_below (Some tally) None = omega arith
-result_below (Some tally) (Some carried) = omega arith
-
 noticed_poll_below : (p : NoticedPoll) → depth (noticed_poll_data p) ≤ 2
 noticed_poll_below p =
-    let closed : depth (or_null moment_data p.poll.closed) ≤ 0 = or_null_below moment_data 0 (λ _. omega arith) p.poll.closed in
-    let result : depth (result_data p.poll.declared p.carried) ≤ 1 = result_below p.poll.declared p.carried in
-    let started : depth (or_null moment_data p.poll.started) ≤ 0 = or_null_below moment_data 0 (λ _. omega arith) p.poll.started in
+    let closed : depth (or_null moment_data p.closed) ≤ 0 = or_null_below moment_data 0 (λ _. omega arith) p.closed in
+    let result : depth (or_null result_data p.result) ≤ 1 = or_null_below result_data 1 (λ _. omega arith) p.result in
+    let started : depth (or_null moment_data p.started) ≤ 0 = or_null_below moment_data 0 (λ _. omega arith) p.started in
     omega arith
 
 noticed_resolution_below : (r : NoticedResolution) → depth (noticed_resolution_data r) ≤ 3

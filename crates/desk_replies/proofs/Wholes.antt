@@ -1,9 +1,8 @@
 -- No reply holds a float, so its text is `compact_text`.
-use Rattle.std.proofs.Common.{◌≡◌, List, [], ◌∷◌, map, false, refl, Option, Some, None, Bool}
+use Rattle.std.proofs.Common.{◌≡◌, List, [], ◌∷◌, map, false, refl, Option, Some, None}
 use Rattle.serde_json.specs.Data.{Data}
 use Rattle.serde_json.specs.View.{items_of}
 use Rattle.serde_json.specs.Written.{has_float, items_have_float}
-use Rattle.desk_words.specs.declared.records.Tally.{Tally}
 use Rattle.desk_words.specs.declared.records.CastMark.{CastMark}
 use Rattle.desk_words.specs.declared.records.CastKind.{CastKind}
 use Rattle.desk_words.specs.declared.records.CastKind.TheVariants as cast
@@ -61,16 +60,11 @@ mine_whole m = rw (
   or_null_whole row_data (λ _. refl) m.row,
 )
 
-result_whole : (declared : Option Tally) (carried : Option Bool) → has_float (result_data declared carried) ≡ false
-result_whole None carried = refl
-result_whole (Some tally) None = refl
-result_whole (Some tally) (Some carried) = refl
-
 noticed_poll_whole : (p : NoticedPoll) → has_float (noticed_poll_data p) ≡ false
 noticed_poll_whole p = rw (
-  or_null_whole moment_data (λ _. refl) p.poll.closed,
-  result_whole p.poll.declared p.carried,
-  or_null_whole moment_data (λ _. refl) p.poll.started,
+  or_null_whole moment_data (λ _. refl) p.closed,
+  or_null_whole result_data (λ _. refl) p.result,
+  or_null_whole moment_data (λ _. refl) p.started,
 )
 
 noticed_resolution_whole : (r : NoticedResolution) → has_float (noticed_resolution_data r) ≡ false

@@ -1,36 +1,34 @@
 -- The notice of a meeting as JSON. The members of an object stand in the order of the bytes of their keys.
-use Rattle.std.specs.Prelude.{Bool, [], ◌∷◌, Option, Some, None, codes}
-use Rattle.serde_json.specs.Data.{Data, null, boolean, string}
+use Rattle.std.specs.Prelude.{[], ◌∷◌, codes}
+use Rattle.serde_json.specs.Data.{Data, boolean, string}
 use Rattle.desk_terms.specs.Kinds.{company_word, meeting_kind_word, resolution_kind_word}
-use Rattle.desk_words.specs.declared.records.Tally.{Tally}
+use Rattle.desk_words.specs.declared.request.Declaration.{Declaration}
 use Rattle.desk_words.specs.declared.request.NoticedPoll.{NoticedPoll}
 use Rattle.desk_words.specs.declared.request.NoticedResolution.{NoticedResolution}
 use Rattle.desk_words.specs.declared.request.Notice.{Notice}
 use Rattle.desk_replies.specs.Forms.{whole, name_data, day_data, moment_data, or_null, listed, with_members}
 
--- the result of a poll: its count, and whether the resolution is carried; null before its declaration
-abbrev pub result_data : Option Tally → Option Bool → Data
-result_data None _ = null
-result_data (Some tally) None = null
-result_data (Some tally) (Some carried) = with_members (
-    (codes "against", whole tally.votes_against)
-    ∷ (codes "carried", boolean carried)
-    ∷ (codes "eligible", whole tally.eligible)
-    ∷ (codes "for", whole tally.votes_for)
-    ∷ (codes "withheld", whole tally.withheld)
+-- the result of a poll: its count, and whether the resolution is carried (sections 282 and 283)
+abbrev pub result_data : Declaration → Data
+result_data d = with_members (
+    (codes "against", whole d.tally.votes_against)
+    ∷ (codes "carried", boolean d.carried)
+    ∷ (codes "eligible", whole d.tally.eligible)
+    ∷ (codes "for", whole d.tally.votes_for)
+    ∷ (codes "withheld", whole d.tally.withheld)
     ∷ [])
 
--- a poll; `cutoff` is the last moment at which an appointment for it counts, and `take` when it is to be taken
+-- a poll; `cutoff` is the last moment at which an appointment for it counts, `take` when it is to be taken, and `result` null before its declaration
 abbrev pub noticed_poll_data : NoticedPoll → Data
 noticed_poll_data p = with_members (
-    (codes "chair", boolean p.poll.chair)
-    ∷ (codes "closed", or_null moment_data p.poll.closed)
+    (codes "chair", boolean p.chair)
+    ∷ (codes "closed", or_null moment_data p.closed)
     ∷ (codes "cutoff", moment_data p.cutoff)
     ∷ (codes "late", boolean p.late)
-    ∷ (codes "ordered", moment_data p.poll.ordered)
-    ∷ (codes "result", result_data p.poll.declared p.carried)
-    ∷ (codes "started", or_null moment_data p.poll.started)
-    ∷ (codes "take", moment_data p.poll.take)
+    ∷ (codes "ordered", moment_data p.ordered)
+    ∷ (codes "result", or_null result_data p.result)
+    ∷ (codes "started", or_null moment_data p.started)
+    ∷ (codes "take", moment_data p.take)
     ∷ [])
 
 -- a resolution, and the poll on it if one is ordered

@@ -23,8 +23,8 @@ mine_lists m =
 -- the members of a poll before the moment of its order
 abbrev pub poll_head : NoticedPoll → List (List ℕ × Data)
 poll_head p =
-    (codes "chair", boolean p.poll.chair)
-    ∷ (codes "closed", or_null moment_data p.poll.closed)
+    (codes "chair", boolean p.chair)
+    ∷ (codes "closed", or_null moment_data p.closed)
     ∷ (codes "cutoff", moment_data p.cutoff)
     ∷ (codes "late", boolean p.late)
     ∷ []

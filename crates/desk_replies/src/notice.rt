@@ -6,7 +6,7 @@ ghost use Rattle.desk_replies.specs.Notices.{result_data, noticed_poll_data, not
 ghost use Rattle.desk_replies.specs.Parts.{poll_head, notice_head};
 
 use crate::shown::{Shown, list_value, value_or_null};
-use desk_words::{Day, Notice, NoticedPoll, NoticedResolution, Tally, write_day};
+use desk_words::{Day, Declaration, Notice, NoticedPoll, NoticedResolution, write_day};
 use serde_json::{Map, Value, json, put};
 use std::alloc::{AllocError, Global};
 
@@ -19,34 +19,28 @@ impl Shown for Day {
     }
 }
 
-/// What is declared of a poll, or null before its declaration.
-fn result_value(
-    alloc: Global,
-    declared: Option<Tally>,
-    carried: Option<bool>,
-) -> Result<Value, AllocError>
-    ensures { IfOk result (λ v. view v ≡ result_data declared carried) }
-{
-    let (Some(tally), Some(carried)) = (declared, carried) else {
-        return Ok(Value::Null);
-    };
-    json!(in alloc; {
-        "against": tally.votes_against,
-        "carried": carried,
-        "eligible": tally.eligible,
-        "for": tally.votes_for,
-        "withheld": tally.withheld
-    })
+impl Shown for Declaration {
+    ghost shown = { result_data };
+
+    fn value(&self, alloc: Global) -> Result<Value, AllocError> {
+        json!(in alloc; {
+            "against": self.tally.votes_against,
+            "carried": self.carried,
+            "eligible": self.tally.eligible,
+            "for": self.tally.votes_for,
+            "withheld": self.tally.withheld
+        })
+    }
 }
 
 /// The members of a poll before the moment of its order.
 fn poll_head(alloc: Global, noticed: &NoticedPoll) -> Result<Map<String, Value>, AllocError>
     ensures { IfOk result (λ map. members_view map.entries ≡ members (poll_head noticed.now)) }
 {
-    let closed = value_or_null(alloc, &noticed.poll.closed)?;
+    let closed = value_or_null(alloc, &noticed.closed)?;
     let cutoff = noticed.cutoff.value(alloc)?;
     let mut map = Map::new(alloc);
-    put(&mut map, alloc, "chair", Value::Bool(noticed.poll.chair))?;
+    put(&mut map, alloc, "chair", Value::Bool(noticed.chair))?;
     put(&mut map, alloc, "closed", closed)?;
     put(&mut map, alloc, "cutoff", cutoff)?;
     put(&mut map, alloc, "late", Value::Bool(noticed.late))?;
@@ -57,10 +51,10 @@ impl Shown for NoticedPoll {
     ghost shown = { noticed_poll_data };
 
     fn value(&self, alloc: Global) -> Result<Value, AllocError> {
-        let ordered = self.poll.ordered.value(alloc)?;
-        let result = result_value(alloc, self.poll.declared, self.carried)?;
-        let started = value_or_null(alloc, &self.poll.started)?;
-        let take = self.poll.take.value(alloc)?;
+        let ordered = self.ordered.value(alloc)?;
+        let result = value_or_null(alloc, &self.result)?;
+        let started = value_or_null(alloc, &self.started)?;
+        let take = self.take.value(alloc)?;
         let mut map = poll_head(alloc, self)?;
         put(&mut map, alloc, "ordered", ordered)?;
         put(&mut map, alloc, "result", result)?;

@@ -239,13 +239,20 @@ pub struct Declaration {
 /// A poll as a notice shows it.
 #[derive(Clone, Copy, PartialEq, Eq)]
 pub struct NoticedPoll {
-    pub poll: Poll,
+    /// When it was ordered.
+    pub ordered: Moment,
+    /// When it is to be taken.
+    pub take: Moment,
+    /// Whether the chair ordered it, without a demand.
+    pub chair: bool,
+    pub started: Option<Moment>,
+    pub closed: Option<Moment>,
     /// Whether it is taken more than 48 hours of working time after its order (section 327).
     pub late: bool,
     /// The last moment at which an appointment for it counts.
     pub cutoff: Moment,
-    /// Whether the resolution is carried, once the poll is declared.
-    pub carried: Option<bool>,
+    /// What is declared of it, once it is declared.
+    pub result: Option<Declaration>,
 }
 
 /// A resolution as a notice shows it.

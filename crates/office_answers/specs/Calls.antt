@@ -7,7 +7,6 @@ use Rattle.desk_words.specs.declared.records.Meeting.{Meeting}
 use Rattle.desk_words.specs.declared.request.NewMeeting.{NewMeeting}
 use Rattle.desk_words.specs.declared.request.NewRegister.{NewRegister}
 use Rattle.desk_words.specs.declared.request.Reply.TheVariants as reply
-use Rattle.desk_words.specs.declared.request.SetRegister.{SetRegister}
 use Rattle.desk_words.specs.declared.request.Change.TheVariants as change
 use Rattle.desk_terms.specs.declared.refusal.Refusal.TheVariants.{NoMeeting, Exists, ShortNotice, TooMany, OtherRecord, Opened, Early}
 use Rattle.caller_view.specs.declared.views.Answer.{Answer}

@@ -1,5 +1,5 @@
 -- The closed days.
-use Rattle.std.specs.Prelude.{ℕ, Bool, true, false, nat_eq, List, Some, None}
+use Rattle.std.specs.Prelude.{ℕ, Bool, true, false, nat_eq, List, Some}
 use lib.Pointwise.{pointwise}
 use Rattle.desk_words.specs.declared.request.Change.TheVariants as change
 use Rattle.desk_words.specs.declared.request.Reply.TheVariants as reply

@@ -1,5 +1,5 @@
 -- The opening of a meeting, and the way of a poll: ordered, started, closed, declared.
-use Rattle.std.specs.Prelude.{ℕ, Bool, false, not, ◌&&◌, ◌-◌, nat_lt, List, [], ◌∷◌, length, Option, Some, None, is_some, is_none}
+use Rattle.std.specs.Prelude.{ℕ, false, not, ◌&&◌, ◌-◌, nat_lt, List, [], ◌∷◌, length, Option, Some, None, is_some, is_none}
 use Rattle.std.specs.List.{slice_get}
 use Rattle.desk_words.specs.Office.{is_resolution}
 use Rattle.desk_words.specs.Refusals.{Case}
@@ -19,7 +19,7 @@ use Rattle.office_answers.specs.Attendance.{demand_in, quorum_in}
 use Rattle.caller_view.specs.Polls.{poll_on, there_is, is_started, is_waiting, is_closed, is_unclosed, is_declared, is_taken_after}
 use Rattle.caller_view.specs.declared.views.Answer.{Answer}
 use Rattle.poll_rules.specs.Tallies.{tally_of}
-use Rattle.poll_rules.specs.Majority.{is_carried}
+use Rattle.poll_rules.specs.Majority.{result_of}
 
 -- when a meeting is not opened (section 318)
 abbrev pub open_cases : MeetingLists → List ℕ → ℕ → List Case
@@ -105,16 +105,14 @@ declare_cases meeting poll number =
     ∷ record { refusal = Declared; holds = there_is is_declared poll }
     ∷ []
 
--- whether a resolution of the notice is carried by a count (sections 282 and 283)
-abbrev pub carries : Option Resolution → Tally → Bool
-carries None tally = false
-carries (Some resolution) tally = is_carried resolution.kind tally.votes_for tally.votes_against
+-- the result of a poll by its count; where the resolution is not of the notice, it is not carried
+abbrev pub result_on : Option Resolution → Tally → Declaration
+result_on None tally = record { tally = tally; carried = false }
+result_on (Some resolution) tally = result_of resolution.kind tally
 
 -- the count of the votes on a resolution, and whether it is carried (sections 282 to 284)
 abbrev pub declaration_of : MeetingLists → ℕ → Declaration
-declaration_of m number =
-    let tally = tally_of m.register m.casts number in
-    record { tally = tally; carried = carries (slice_get m.meeting.resolutions (number - 1)) tally }
+declaration_of m number = result_on (slice_get m.meeting.resolutions (number - 1)) (tally_of m.register m.casts number)
 
 -- the answer to the declaration of a poll in a meeting that exists
 abbrev pub declare_answer : List ℕ → ℕ → PollName → MeetingLists → Answer

@@ -43,7 +43,13 @@ pub fn office_answer(
         Request::Start(poll) => Ok(start_poll(find_meeting(meetings, poll.meeting), now, *poll)),
         Request::Close(poll) => Ok(close_poll(find_meeting(meetings, poll.meeting), now, *poll)),
         Request::Declare(poll) => {
-            declare_poll(alloc, closed, find_meeting(meetings, poll.meeting), now, *poll)
+            declare_poll(
+                alloc,
+                closed,
+                find_meeting(meetings, poll.meeting),
+                now,
+                *poll,
+            )
         }
         Request::ClosedDays(days) => load_days(closed, days),
         Request::Notice(_)

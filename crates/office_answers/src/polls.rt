@@ -9,7 +9,7 @@ ghost use Rattle.proxy_rules.specs.Shares.{are_rows};
 ghost use Rattle.office_answers.specs.Attendance.{demand_in, quorum_in};
 ghost use Rattle.office_answers.specs.Limits.{keeps_limits};
 ghost use Rattle.office_answers.specs.Calls.{in_meeting};
-ghost use Rattle.office_answers.specs.Polls.{open_cases, open_answer, order_cases, order_answer, poll_of, start_cases, start_answer, close_cases, close_answer, declare_cases, declare_answer, carries, declaration_of};
+ghost use Rattle.office_answers.specs.Polls.{open_cases, open_answer, order_cases, order_answer, poll_of, start_cases, start_answer, close_cases, close_answer, declare_cases, declare_answer, result_on, declaration_of};
 
 use crate::attendance::{demand_in, papers_of, quorum_in};
 use caller_view::{Answer, find_poll, refuse};
@@ -18,7 +18,7 @@ use desk_words::{
     PollName, Refusal, Reply, SetOpened, SetPollMoment, SetTally, Tally,
 };
 use office_days::Closed;
-use poll_rules::{carried, tally};
+use poll_rules::{result_of, tally};
 use std::alloc::{AllocError, Global};
 
 fn open_refusal(
@@ -275,13 +275,17 @@ fn declare_refusal(meeting: &Meeting, poll: Option<Poll>, number: u64) -> Option
     None
 }
 
-fn carries(meeting: &Meeting, number: u64, tally: Tally) -> bool
+fn result_on(meeting: &Meeting, number: u64, tally: Tally) -> Declaration
     requires { 1 ≤ number }
-    ensures { result ≡ carries (slice_get meeting.now.resolutions (number - 1)) tally }
+    ensures value { result ≡ result_on (slice_get meeting.now.resolutions (number - 1)) tally }
+    ensures count { result.tally ≡ tally }
 {
     match meeting.resolutions.as_slice().get((number - 1) as usize) {
-        None => false,
-        Some(resolution) => carried(resolution.kind, tally.votes_for, tally.votes_against),
+        None => Declaration {
+            tally,
+            carried: false,
+        },
+        Some(resolution) => result_of(resolution.kind, tally),
     }
 }
 
@@ -292,10 +296,7 @@ fn declaration(alloc: Global, lists: &MeetingLists, number: u64) -> Result<Decla
     ensures limits { IfOk result (λ d. IsTrue (is_tally d.tally)) }
 {
     let tally = tally(alloc, &papers_of(lists), number)?;
-    Ok(Declaration {
-        tally,
-        carried: carries(&lists.meeting, number, tally),
-    })
+    Ok(result_on(&lists.meeting, number, tally))
 }
 
 /// The answer to the declaration of a poll: the first that holds of `NoMeeting`, `NoResolution`, `NoPoll`,

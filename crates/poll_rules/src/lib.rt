@@ -16,7 +16,7 @@ mod tests;
 
 pub use counting::tally;
 pub use demand::{Demand, demand_reached};
-pub use majority::carried;
+pub use majority::{carried, result_of};
 pub use proxy_rules::{
     Appointed, Cutoffs, Holding, Papers, cutoffs, governed, governing, is_late_poll,
     runs_by_number, shares,

@@ -1,8 +1,8 @@
 //! The majority that carries a resolution.
 ghost use Rattle.std.specs.Prelude.{◌≡◌};
-ghost use Rattle.poll_rules.specs.Majority.{is_carried};
+ghost use Rattle.poll_rules.specs.Majority.{is_carried, result_of};
 
-use desk_words::ResKind;
+use desk_words::{Declaration, ResKind, Tally};
 
 /// Whether a resolution of this kind is carried by so many votes for and against it, in shares: an
 /// ordinary one by a simple majority (section 282), a special one by not less than 75 per cent of
@@ -16,5 +16,16 @@ pub fn carried(kind: ResKind, votes_for: u64, votes_against: u64) -> bool
             let votes = u128::from(votes_for) + u128::from(votes_against);
             votes > 0 && 4 * u128::from(votes_for) >= 3 * votes
         }
+    }
+}
+
+/// The result of a poll on a resolution of this kind: its count, and whether that carries the
+/// resolution (sections 282 and 283).
+pub fn result_of(kind: ResKind, tally: Tally) -> Declaration
+    ensures { result ≡ result_of kind tally }
+{
+    Declaration {
+        tally,
+        carried: carried(kind, tally.votes_for, tally.votes_against),
     }
 }

@@ -1,4 +1,4 @@
-use Rattle.std.proofs.Common.{◌≡◌, true, [], ap, ◌∙◌}
+use Rattle.std.proofs.Common.{◌≡◌, [], ap, ◌∙◌}
 use Rattle.std.proofs.lemmas.Result.{IfOk-weaker}
 use Rattle.desk_words.specs.Office.{are_numbered_after}
 use Rattle.proxy_rules.specs.Holdings.{are_tags}

@@ -1,4 +1,4 @@
-use Rattle.std.proofs.Common.{◌≡◌, true, [], ap, ◌∙◌}
+use Rattle.std.proofs.Common.{[], ap, ◌∙◌}
 use Rattle.desk_lists.specs.Ordered.{differ_by}
 use Rattle.desk_words.specs.Office.{are_numbered_after, same_presence}
 use Rattle.proxy_rules.specs.Holdings.{are_tags}
