@@ -1,4 +1,4 @@
-//! The one error of a device, and the count of failures.
+//! The errors of devices, and the count of failures.
 ghost use Rattle.std.specs.Prelude.{◌≡◌};
 ghost use Rattle.desk_devices.specs.Counts.{one_more};
 
@@ -16,6 +16,21 @@ impl fmt::Display for DeviceFailed {
 }
 
 impl Error for DeviceFailed {}
+
+/// A call of a reader failed before a buffer was full. The device counts it as a `DeviceFailed`.
+#[derive(Clone, Copy, Debug, PartialEq, Eq)]
+pub struct FillFailed {
+    /// How many bytes came before the failure. They stand at the front of the buffer.
+    pub filled: usize,
+}
+
+impl fmt::Display for FillFailed {
+    fn fmt<W: fmt::Write>(&self, f: &mut fmt::Formatter<W>) -> fmt::Result {
+        f.write_str("a device failed before the buffer was full")
+    }
+}
+
+impl Error for FillFailed {}
 
 /// The count of failures after one more. It stays at `u64::MAX`.
 pub(crate) fn counted(failures: u64) -> u64

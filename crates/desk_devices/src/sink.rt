@@ -41,7 +41,8 @@ impl<W: Sink> Sink for &mut W {
 
 /// Writes all the bytes, by as many calls as the sink needs.
 ///
-/// An error is one failed call of the sink. The bytes that were written before it stay written.
+/// An error is one failed call of the sink. The bytes that were written before it stay written, and
+/// are never all.
 pub fn write_all<W: Sink>(sink: &mut W, bytes: &[u8]) -> Result<(), DeviceFailed>
     ensures written { OnOk result (Appends (W.contents sink.old) (W.contents sink.new) bytes.now) }
     ensures works { OnOk result (W.failures sink.new ≡ W.failures sink.old) }

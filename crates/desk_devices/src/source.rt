@@ -2,8 +2,9 @@
 ghost use Rattle.std.specs.Prelude.{◌≡◌, ℕ, ◌+◌, ◌<◌, ◌≤◌, List, Option, length, take, IfOk, OnOk, OnErr};
 ghost use Rattle.std.specs.Io.KnownBytes.{Consumes, Keeps, IsAtEnd};
 ghost use Rattle.desk_devices.specs.Counts.{one_more};
+ghost use Rattle.desk_devices.specs.Filled.{count_read};
 
-use crate::failure::DeviceFailed;
+use crate::failure::{DeviceFailed, FillFailed};
 
 /// What bytes are read from, in order, each once.
 pub trait Source {
@@ -49,23 +50,28 @@ impl<S: Source> Source for &mut S {
 
 /// Reads until the buffer is full or the source has ended, and returns how many bytes it read.
 ///
-/// An error is one failed call of the source. The bytes that came before it are lost.
-pub fn read_to_fill<S: Source>(source: &mut S, buffer: &mut [u8]) -> Result<usize, DeviceFailed>
-    ensures bound { IfOk result (λ n. n ≤ length buffer.new) }
-    ensures count { IfOk result (λ n. S.passed source.new ≡ S.passed source.old + n) }
-    ensures bytes { IfOk result
-        (λ n. Consumes (S.remaining source.old) (S.remaining source.new) (take n buffer.new)) }
+/// An error is one failed call of the source, and says how many bytes came before it. They stand at
+/// the front of the buffer, and all others are still to come: a caller that goes on behind them loses
+/// nothing.
+pub fn read_to_fill<S: Source>(source: &mut S, buffer: &mut [u8]) -> Result<usize, FillFailed>
+    // What was read, before a failure too.
+    ensures bound { count_read result ≤ length buffer.new }
+    ensures count { S.passed source.new ≡ S.passed source.old + count_read result }
+    ensures bytes { Consumes (S.remaining source.old) (S.remaining source.new)
+        (take (count_read result) buffer.new) }
+
     ensures end { IfOk result (λ n. n < length buffer.old → IsAtEnd (S.remaining source.new)) }
     ensures works { OnOk result (S.failures source.new ≡ S.failures source.old) }
     ensures failed { OnErr result (S.failures source.new ≡ one_more (S.failures source.old)) }
+    ensures unfilled { OnErr result (count_read result < length buffer.new) }
 {
     let mut filled = 0;
     while filled < buffer.len() {
-        let count = source.read(&mut buffer[filled..])?;
-        if count == 0 {
-            break;
+        match source.read(&mut buffer[filled..]) {
+            Ok(0) => break,
+            Ok(count) => filled += count,
+            Err(DeviceFailed) => return Err(FillFailed { filled }),
         }
-        filled += count;
     }
     Ok(filled)
 }

@@ -4,14 +4,11 @@ use Rattle.desk_devices.proofs.source.read_to_fill.Goals as goal
 
 pub loop-filled-preserved : goal.loop-filled-preserved
 loop-filled-preserved g c =
-    let before = c.loop-filled.invariant in let given = c.in_ok-count.ensures in
+    let before = c.loop-filled.invariant in let given = c.in-Ok.ensures in
     let auto = c.read.auto.buffer in
     record {
-      bound = simp (length-append, length-take, length-drop) (omega arith);
+      bound = simp (length-append, length-take, length-drop) (omega (arith, given.bound));
       count = omega (arith, given.count, before.count);
-      bytes = Consumes-more _ _ _ _ _ c.in_ok-count.count _ _ before.bound given.bound before.bytes given.bytes;
+      bytes = Consumes-more _ _ _ _ _ c.in-Ok.count _ _ before.bound given.bound before.bytes given.bytes;
       works = given.works ∙ before.works;
     }
-
-pub returns-then-count-eq0-clause-end : goal.returns-then-count-eq0-clause-end
-returns-then-count-eq0-clause-end g c = λ short. c.in_ok-count.ensures.end c.if-count-eq0.true (simp (length-take, length-drop) (omega arith))
