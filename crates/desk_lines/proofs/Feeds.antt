@@ -1,12 +1,13 @@
 -- Where the first line feed stands.
-use Rattle.std.proofs.Common.{◌≡◌, ℕ, zero, suc, ◌+◌, ◌<◌, ◌≤◌, Bool, true, false, not, cond, ltb, List, [], ◌∷◌, ◌++◌, Option, Some, None, MatchOption, length, drop, refl, ◌∙◌, arith, ⊎_elim, length-drop}
+use Rattle.std.proofs.Common.{◌≡◌, ℕ, zero, suc, ◌+◌, ◌<◌, ◌≤◌, Bool, true, false, not, cond, ltb, List, [], ◌∷◌, ◌++◌, Option, Some, None, MatchOption, length, take, drop, refl, ap, subst, ◌∙◌, arith, ⊎_elim, length-drop, length-take}
 use Rattle.std.specs.List.{position}
-use Rattle.std.proofs.lemmas.List.Sums.{prefix_len-le-length}
+use Rattle.std.proofs.Math.Seq.{take-add, take-length}
+use Rattle.std.proofs.lemmas.List.Sums.{count_by-le-length, prefix_len-le-length, sum_by-append, sum_by-cons}
 use Rattle.std.proofs.lemmas.List.Folds.{prefix_len-append}
 use Rattle.std.proofs.lemmas.Bool.Decides.{nat_tests}
 use Rattle.std.proofs.lemmas.Bool.{cases_lt}
 use borrow.Author.Tests.{ltb-true, ltb-false}
-use Rattle.desk_lines.specs.Lines.{is_feed, feed_place}
+use Rattle.desk_lines.specs.Lines.{is_feed, feed_place, feeds_in}
 
 pub feed_place-le : (bytes : List ℕ) → feed_place bytes ≤ length bytes
 feed_place-le bytes = prefix_len-le-length (λ b. not (is_feed b)) bytes
@@ -59,3 +60,29 @@ found-behind searched bytes (Some place) h e =
       omega (arith, some.0, feed_place-drop searched bytes h),
       omega (arith, some.0, some.1, length-drop searched bytes),
     )
+
+-- ---- how many line feeds there are
+
+pub feeds_in-append : (xs ys : List ℕ) → feeds_in (xs ++ ys) ≡ feeds_in xs + feeds_in ys
+feeds_in-append xs ys = sum_by-append (λ b. cond (is_feed b) 1 0) xs ys
+
+before-one : (b : Bool) (n m k : ℕ) → suc n ≤ cond (not b) (1 + m) 0 → (n ≤ m → k ≡ 0) → cond b 1 0 + k ≡ 0
+before-one true n m k h f = absurd (omega (arith, h))
+before-one false n m k h f = omega (arith, f (omega (arith, h)))
+
+-- none before the first
+feeds_in-before : (n : ℕ) (xs : List ℕ) → n ≤ feed_place xs → feeds_in (take n xs) ≡ 0
+feeds_in-before zero xs h = refl
+feeds_in-before (suc n) [] h = refl
+feeds_in-before (suc n) (x ∷ xs) h =
+    sum_by-cons (λ b. cond (is_feed b) 1 0) x (take n xs) ∙ before-one (is_feed x) n (feed_place xs) (feeds_in (take n xs)) h (feeds_in-before n xs)
+
+pub feeds_in-none : (xs : List ℕ) → feed_place xs ≡ length xs → feeds_in xs ≡ 0
+feeds_in-none xs none = subst (λ (ys : List ℕ). feeds_in ys ≡ 0) (take-length xs) (feeds_in-before (length xs) xs (omega (arith, none)))
+
+-- a line has one at most
+pub feeds_in-line : (xs : List ℕ) → feeds_in (take (feed_place xs + 1) xs) ≤ 1
+feeds_in-line xs =
+    let n = feed_place xs in
+    let parts = ap feeds_in (take-add n 1 xs) ∙ feeds_in-append (take n xs) (take 1 (drop n xs)) in
+    omega (arith, parts, feeds_in-before n xs (omega arith), count_by-le-length is_feed (take 1 (drop n xs)), length-take 1 (drop n xs))

@@ -78,13 +78,13 @@ gives-skipped (Some bytes) mid line (Some rest) (Some left) same none full lost 
 pub stays-none : (a b : Option (List ℕ)) → Keeps a b → StaysInLine a b
 stays-none None b p = tt
 stays-none (Some x) None p = absurd p
-stays-none (Some x) (Some y) p = ([], sym p, ap after_line p)
+stays-none (Some x) (Some y) p = ([], sym p, refl)
 
 pub stays-front : (a b c : Option (List ℕ)) → Keeps a b → StaysInLine b c → StaysInLine a c
 stays-front None b c p q = tt
 stays-front (Some x) None c p q = absurd p
 stays-front (Some x) (Some y) None p q = absurd q
-stays-front (Some x) (Some y) (Some z) p q = (q.0, sym p ∙ q.1, q.2 ∙ ap after_line p)
+stays-front (Some x) (Some y) (Some z) p q = (q.0, sym p ∙ q.1, q.2)
 
 pub Keeps-same : (a : Option (List ℕ)) → Keeps a a
 Keeps-same None = tt

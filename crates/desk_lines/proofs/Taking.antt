@@ -1,5 +1,5 @@
 -- Lines that are taken from the front of the unread bytes.
-use Rattle.std.proofs.Common.{◌≡◌, ℕ, ◌+◌, ◌<◌, ◌≤◌, List, [], ◌++◌, Option, Some, None, length, drop, refl, sym, ap, ◌∙◌, arith, append_assoc, IfSome}
+use Rattle.std.proofs.Common.{◌≡◌, ℕ, ◌+◌, ◌<◌, ◌≤◌, List, [], ◌++◌, Option, Some, None, length, drop, refl, sym, ap, ◌∙◌, arith, append_assoc, length-append, IfSome}
 use Rattle.std.proofs.Math.Seq.{drop-append-add}
 use Rattle.std.proofs.lemmas.List.{drop-append-le}
 use Rattle.std.specs.Io.KnownBytes.{Keeps}
@@ -20,19 +20,31 @@ after_line-append_some xs ys some =
 
 pub stays-dropped : (pending rest : List ℕ) (remaining : Option (List ℕ)) → feed_place pending ≡ length pending → rest ≡ [] → StaysInLine (unread pending remaining) (unread rest remaining)
 stays-dropped pending rest None none e = tt
-stays-dropped pending rest (Some xs) none e = rw e (pending, refl, sym (after_line-append_none pending xs none))
+stays-dropped pending rest (Some xs) none e = rw e (pending, refl, none)
+
+stays-pending : (pending : List ℕ) (remaining : Option (List ℕ)) → feed_place pending ≡ length pending → StaysInLine (unread pending remaining) remaining
+stays-pending pending None none = tt
+stays-pending pending (Some xs) none = (pending, refl, none)
 
 pub stays-kept : (a b c : Option (List ℕ)) → StaysInLine a b → Keeps b c → StaysInLine a c
 stays-kept None b c p q = tt
 stays-kept (Some x) None c p q = absurd p
 stays-kept (Some x) (Some y) None p q = absurd q
-stays-kept (Some x) (Some y) (Some z) p q = (p.0, rw q p.1, rw q p.2)
+stays-kept (Some x) (Some y) (Some z) p q = (p.0, rw q p.1, p.2)
+
+-- there is no line feed in two parts, where there is none in each
+unfed-append : (xs ys : List ℕ) → feed_place xs ≡ length xs → feed_place ys ≡ length ys → feed_place (xs ++ ys) ≡ length (xs ++ ys)
+unfed-append xs ys p q = omega (arith, feed_place-append_none xs ys p, q, length-append xs ys)
 
 pub stays-chained : (a b c : Option (List ℕ)) → StaysInLine a b → StaysInLine b c → StaysInLine a c
 stays-chained None b c p q = tt
 stays-chained (Some x) None c p q = absurd p
 stays-chained (Some x) (Some y) None p q = absurd q
-stays-chained (Some x) (Some y) (Some z) p q = (p.0 ++ q.0, p.1 ∙ ap (λ w. p.0 ++ w) q.1 ∙ sym (append_assoc p.0 q.0 z), q.2 ∙ p.2)
+stays-chained (Some x) (Some y) (Some z) p q = (p.0 ++ q.0, p.1 ∙ ap (λ w. p.0 ++ w) q.1 ∙ sym (append_assoc p.0 q.0 z), unfed-append p.0 q.0 p.2 q.2)
+
+-- where no line feed is pending, the source has all of them
+pub stays-read : (a : Option (List ℕ)) (pending : List ℕ) (remaining : Option (List ℕ)) → StaysInLine a (unread pending remaining) → feed_place pending ≡ length pending → StaysInLine a remaining
+stays-read a pending remaining p none = stays-chained a (unread pending remaining) remaining p (stays-pending pending remaining none)
 
 -- behind a line of which some was dropped, its line feed has come
 pub loses-line : (a : Option (List ℕ)) (pending rest : List ℕ) (remaining : Option (List ℕ)) (place : ℕ) → StaysInLine a (unread pending remaining) →
@@ -42,7 +54,8 @@ loses-line (Some x) pending rest None place p first inside e = absurd p
 loses-line (Some x) pending rest (Some xs) place p first inside e =
     let some : feed_place pending < length pending = omega arith in
     let given : rest ≡ after_line pending = e ∙ ap (λ n. drop (n + 1) pending) first in
-    rw given (sym (after_line-append_some pending xs some) ∙ p.2)
+    let behind : after_line x ≡ after_line (pending ++ xs) = ap after_line p.1 ∙ after_line-append_none p.0 (pending ++ xs) p.2 in
+    rw given (sym (after_line-append_some pending xs some) ∙ sym behind)
 
 pub SameWhole-same : (m n : ℕ) (a : Option (List ℕ)) → n ≡ m → SameWhole m a n a
 SameWhole-same m n None e = tt

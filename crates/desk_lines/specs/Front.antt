@@ -28,11 +28,11 @@ GivesFirst Whole old new line = (length line ≤ longest_line) × (line ≡ firs
 GivesFirst TooLong old new line = (line ≡ []) × (longest_line < length (first_line old)) × (new ≡ after_line old)
 GivesFirst End old new line = ⊥
 
--- the known bytes lost some of the first line at their front, so that what stands after it is the same
+-- the known bytes lost some bytes of the first line at their front, and no line feed
 abbrev pub StaysInLine : Option (List ℕ) → Option (List ℕ) → Type 0
 StaysInLine None new = ⊤
 StaysInLine (Some bytes) None = ⊥
-StaysInLine (Some bytes) (Some rest) = (lost : List ℕ) × (bytes ≡ lost ++ rest) × (after_line rest ≡ after_line bytes)
+StaysInLine (Some bytes) (Some rest) = (lost : List ℕ) × (bytes ≡ lost ++ rest) × (feed_place lost ≡ length lost)
 
 -- the known bytes lost their first line
 abbrev pub LosesLine : Option (List ℕ) → Option (List ℕ) → Type 0

@@ -1,11 +1,15 @@
 -- The lines of an input.
-use Rattle.std.specs.Prelude.{◌≡◌, ℕ, ◌-◌, ◌<◌, Bool, ◌==◌, nat_lt, List, [], ◌∷◌, length, slice_index, take, if◌then◌else◌}
+use Rattle.std.specs.Prelude.{◌≡◌, ℕ, ◌-◌, ◌<◌, Bool, ◌==◌, nat_lt, List, [], ◌∷◌, count_by, length, slice_index, take, if◌then◌else◌}
 use Rattle.std.specs.List.{position_or_len, before_first, after_first}
 use Rattle.std.specs.Str.Lines.{lines}
 
 -- a line feed
 abbrev pub is_feed : ℕ → Bool
 is_feed byte = byte == 10
+
+-- how many line feeds stand among the bytes
+abbrev pub feeds_in : List ℕ → ℕ
+feeds_in bytes = count_by is_feed bytes
 
 -- how many bytes stand before the first line feed, or all of them
 abbrev pub feed_place : List ℕ → ℕ

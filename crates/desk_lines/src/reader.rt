@@ -82,8 +82,8 @@ impl LineReader {
     ///
     /// A line that is too long is passed over. An input that is too long is a fault once no
     /// whole line is left of its first 16,777,217 bytes. Where the end of a line was read ahead,
-    /// the source is not touched. After an error some bytes of that line may be lost, and none behind
-    /// it; a later call goes on with those that are left.
+    /// the source is not touched. After an error some bytes of that line may be lost, no line feed among
+    /// them and none behind it; a later call goes on with those that are left.
     pub fn next_line<S: Source>(&mut self, source: &mut S) -> Result<NextLine, ReadFault>
         ensures given { IfOk result (λ next. Gives next
             (unread self.old.pending (S.remaining source.old))

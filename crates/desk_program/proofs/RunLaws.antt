@@ -1,5 +1,5 @@
 -- A replay is a run.
-use Rattle.std.proofs.Common.{◌≡◌, ℕ, ◌==◌, Bool, true, false, cond, List, [], ◌∷◌, ◌++◌, length, refl, ap, sym, ◌∙◌}
+use Rattle.std.proofs.Common.{◌≡◌, ℕ, ◌==◌, Bool, true, false, cond, List, [], ◌∷◌, ◌++◌, length, refl, ap}
 use Rattle.std.specs.Prelude.{Result, Ok, Err}
 use Rattle.desk_terms.specs.declared.refusal.Refusal.{Refusal}
 use Rattle.desk_words.specs.declared.office.OfficeLists.{OfficeLists}
@@ -10,7 +10,7 @@ use Rattle.desk_replies.specs.Replies.{reply_bytes, failure_bytes}
 use Rattle.meeting_core.specs.Step.{decided, replies_to, stepped}
 use Rattle.desk_program.specs.ReplayLines.{asked_by}
 use Rattle.desk_program.specs.ReplayRuns.{answer_before, answer_unless, call_before, call_unless, calls_of, spread, RepliesAreThoseOfTheRun}
-use Rattle.desk_program.specs.Transcript.{Answered, answered, as_line, replied, transcript, unless_refused}
+use Rattle.desk_program.specs.Transcript.{Answered, as_line, replied, transcript, unless_refused}
 
 abbrev Follows : Answered → List (List ℕ) → List Bool → List ℕ
 Follows a lines refused = a.text ++ transcript a.office lines refused

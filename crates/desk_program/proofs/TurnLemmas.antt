@@ -1,6 +1,6 @@
 -- What one turn of a replay answers.
 use Rattle.std.proofs.Common.{◌≡◌, ℕ, ◌<◌, ◌==◌, Bool, true, false, cond, List, [], ◌∷◌, length, length-append, refl, ap, subst, sym, ◌∙◌, arith}
-use Rattle.std.specs.Prelude.{Option, Some, None, Result, Ok, Err, IfOk, nat_lt, codes}
+use Rattle.std.specs.Prelude.{Option, Some, None, Result, Ok, Err, IfOk, nat_lt}
 use Rattle.std.specs.declared.alloc.AllocError.{AllocError}
 use Rattle.std.specs.declared.alloc.Global.{Global}
 use Rattle.std.specs.declared.vec.Vec.{Vec}
@@ -14,7 +14,7 @@ use Rattle.desk_terms.specs.declared.refusal.Refusal.TheVariants.{TooLarge}
 use Rattle.desk_words.specs.declared.office.OfficeLists.{OfficeLists}
 use Rattle.desk_words.specs.declared.request.Reply.TheVariants.{Refused}
 use Rattle.desk_replies.specs.Replies.{reply_bytes}
-use Rattle.desk_program.specs.ReplayLines.{asked_by, spelled_call}
+use Rattle.desk_program.specs.ReplayLines.{spelled_call}
 use Rattle.desk_program.specs.ReplaySteps.{Stops}
 use Rattle.desk_program.specs.Transcript.{Answered, answered, as_line, replied, text_or_failure, unless_refused}
 use Rattle.desk_program.specs.declared.script.ReplayFault.TheVariants.{Write}
@@ -34,41 +34,41 @@ answered-too_long office line h =
     let long : nat_lt longest_line (length line) ≡ true = grind (arith, nat_tests) in
     ap (λ b. replied office (cond b (Err TooLarge) (spelled_call line))) long
 
-stops_at : (office : OfficeLists) (bytes : List ℕ) (text : Result (Vec ℕ Global) AllocError) (old new : Option (List ℕ))
+stops_at : (office : OfficeLists) (bytes : List ℕ) (remaining : Option (List ℕ)) (text : Result (Vec ℕ Global) AllocError) (old new : Option (List ℕ))
     → 0 < length bytes → 0 < length (first_line bytes)
     → IfOk text (λ t. t.items ≡ (unless_refused false office (first_line bytes)).text)
-    → AppendsPrefix old new (text_or_failure text) → Stops Write (Some bytes) office old new
-stops_at office bytes (Ok text) old new some line is partly = record {
+    → AppendsPrefix old new (text_or_failure text) → Stops Write (Some bytes) remaining office old new
+stops_at office bytes remaining (Ok text) old new some line is partly = record {
   some_left = some;
   refused = false;
   written = subst (AppendsPrefix old new) (is ∙ sym (ap (λ (a : Answered). a.text) (answered-some false office (first_line bytes) line))) partly;
 }
-stops_at office bytes (Err e) old new some line is partly = record {
+stops_at office bytes remaining (Err e) old new some line is partly = record {
   some_left = some;
   refused = true;
   written = subst (AppendsPrefix old new) (sym (ap (λ (a : Answered). a.text) (answered-some true office (first_line bytes) line))) partly;
 }
 
 -- the answer to a line that is too long was written in part
-pub stops-too_long : (unread left : Option (List ℕ)) (line : List ℕ) (office : OfficeLists) (text : Result (Vec ℕ Global) AllocError) (old new : Option (List ℕ))
+pub stops-too_long : (unread left remaining : Option (List ℕ)) (line : List ℕ) (office : OfficeLists) (text : Result (Vec ℕ Global) AllocError) (old new : Option (List ℕ))
     → Gives TooLong unread left line → IfOk text (λ t. t.items ≡ as_line (reply_bytes (Refused TooLarge)))
-    → AppendsPrefix old new (text_or_failure text) → Stops Write unread office old new
-stops-too_long None left line office text old new given is partly = tt
-stops-too_long (Some bytes) None line office text old new given is partly = absurd given.1
-stops-too_long (Some bytes) (Some rest) line office text old new given is partly =
+    → AppendsPrefix old new (text_or_failure text) → Stops Write unread remaining office old new
+stops-too_long None left remaining line office text old new given is partly = tt
+stops-too_long (Some bytes) None remaining line office text old new given is partly = absurd given.1
+stops-too_long (Some bytes) (Some rest) remaining line office text old new given is partly =
     let long = given.1.2 in
     let same : (unless_refused false office (first_line bytes)).text ≡ as_line (reply_bytes (Refused TooLarge)) = ap (λ (a : Answered). a.text) (answered-too_long office (first_line bytes) long) in
-    stops_at office bytes text old new given.1.0 (omega arith) (subst (λ (s : List ℕ). IfOk text (λ t. t.items ≡ s)) (sym same) is) partly
+    stops_at office bytes remaining text old new given.1.0 (omega arith) (subst (λ (s : List ℕ). IfOk text (λ t. t.items ≡ s)) (sym same) is) partly
 
 -- the answer to a whole line was written in part
-pub stops-whole : (unread left : Option (List ℕ)) (line : List ℕ) (office : OfficeLists) (text : Result (Vec ℕ Global) AllocError) (old new : Option (List ℕ))
+pub stops-whole : (unread left remaining : Option (List ℕ)) (line : List ℕ) (office : OfficeLists) (text : Result (Vec ℕ Global) AllocError) (old new : Option (List ℕ))
     → Gives Whole unread left line → 0 < length line → IfOk text (λ t. t.items ≡ (unless_refused false office line).text)
-    → AppendsPrefix old new (text_or_failure text) → Stops Write unread office old new
-stops-whole None left line office text old new given some is partly = tt
-stops-whole (Some bytes) None line office text old new given some is partly = absurd given.1
-stops-whole (Some bytes) (Some rest) line office text old new given some is partly =
+    → AppendsPrefix old new (text_or_failure text) → Stops Write unread remaining office old new
+stops-whole None left remaining line office text old new given some is partly = tt
+stops-whole (Some bytes) None remaining line office text old new given some is partly = absurd given.1
+stops-whole (Some bytes) (Some rest) remaining line office text old new given some is partly =
     let first : line ≡ first_line bytes = given.1.2 in
-    stops_at office bytes text old new given.1.0 (subst (λ (s : List ℕ). 0 < length s) first some) (subst (λ (s : List ℕ). IfOk text (λ t. t.items ≡ (unless_refused false office s).text)) first is) partly
+    stops_at office bytes remaining text old new given.1.0 (subst (λ (s : List ℕ). 0 < length s) first some) (subst (λ (s : List ℕ). IfOk text (λ t. t.items ≡ (unless_refused false office s).text)) first is) partly
 
 pub positive : (n : ℕ) → (n == 0) ≡ false → 0 < n
 positive n h = grind (arith, nat_tests)

@@ -1,8 +1,9 @@
 -- What one turn of a replay does: it reads a line and writes its answer.
-use Rattle.std.specs.Prelude.{◌≡◌, ℕ, ◌+◌, ◌<◌, ◌⊎◌, List, length, Bool, true, false, Option, None, Some, ⊤}
+use Rattle.std.specs.Prelude.{◌≡◌, ℕ, ◌<◌, ◌⊎◌, List, length, Bool, true, false, Option, None, Some, ⊤}
 use Rattle.std.specs.Io.KnownBytes.{Appends, IsAtEnd, Keeps}
 use Rattle.desk_devices.specs.Counts.{one_more}
 use Rattle.desk_devices.specs.Written.{AppendsPrefix}
+use Rattle.desk_lines.specs.Front.{StaysInLine}
 use Rattle.desk_lines.specs.Lines.{first_line, after_line}
 use Rattle.desk_lines.specs.Reading.{longest_input}
 use Rattle.desk_words.specs.declared.office.OfficeLists.{OfficeLists}
@@ -31,11 +32,11 @@ pub record AnswersInPart (bytes : List ℕ) (office : OfficeLists) (old new : Op
   pub refused : Bool
   pub written : AppendsPrefix old new (answered refused office (first_line bytes)).text
 
--- a turn that a device ended: nothing was written for the line that was not read, or its answer in part
-abbrev pub Stops : ReplayFault → Option (List ℕ) → OfficeLists → Option (List ℕ) → Option (List ℕ) → Type 0
-Stops Read unread office old new = Keeps old new
-Stops Write None office old new = ⊤
-Stops Write (Some bytes) office old new = AnswersInPart bytes office old new
+-- a turn that a device ended: the reader before the line feed of the next line came, and nothing was written; or the writer, and the line's answer was written in part
+abbrev pub Stops : ReplayFault → Option (List ℕ) → Option (List ℕ) → OfficeLists → Option (List ℕ) → Option (List ℕ) → Type 0
+Stops Read unread left office old new = Keeps old new × StaysInLine unread left
+Stops Write None left office old new = ⊤
+Stops Write (Some bytes) left office old new = AnswersInPart bytes office old new
 
 -- why a replay ended early: the reader failed once in the call, or more bytes came than an input has, or the writer failed once; nothing else failed
 abbrev pub HasEndedFor : ReplayFault → ℕ → ℕ → ℕ → ℕ → ℕ → Type 0

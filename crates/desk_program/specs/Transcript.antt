@@ -1,21 +1,22 @@
 -- What a replay writes.
-use Rattle.std.specs.Prelude.{◌≡◌, ℕ, ◌==◌, List, [], ◌∷◌, ◌++◌, length, Bool, true, false, Option, Result, Ok, Err, if◌then◌else◌}
+use Rattle.std.specs.Prelude.{◌≡◌, ℕ, ◌==◌, ◌≤◌, List, [], ◌∷◌, ◌++◌, length, take, Bool, true, false, Option, Result, Ok, Err, if◌then◌else◌}
 use Rattle.std.specs.Io.KnownBytes.{Appends}
 use Rattle.std.specs.declared.alloc.AllocError.{AllocError}
 use Rattle.std.specs.declared.alloc.Global.{Global}
 use Rattle.std.specs.declared.vec.Vec.{Vec}
 use Rattle.desk_devices.specs.Written.{AppendsPrefix}
-use Rattle.desk_lines.specs.Lines.{lines_of}
+use Rattle.desk_lines.specs.Lines.{feeds_in, lines_of}
 use Rattle.desk_terms.specs.declared.refusal.Refusal.{Refusal}
 use Rattle.desk_words.specs.declared.office.OfficeLists.{OfficeLists}
 use Rattle.desk_words.specs.declared.request.Call.{Call}
 use Rattle.desk_words.specs.declared.request.Failure.TheVariants.{Memory}
-use Rattle.desk_words.specs.declared.request.Reply.{Reply}
 use Rattle.desk_words.specs.declared.request.Reply.TheVariants.{Refused}
 use Rattle.desk_replies.specs.Replies.{reply_bytes, failure_bytes}
 use Rattle.meeting_core.specs.Office.{empty_office}
 use Rattle.meeting_core.specs.Step.{decided, stepped}
 use Rattle.desk_program.specs.ReplayLines.{asked_by}
+use Rattle.desk_program.specs.declared.script.ReplayFault.{ReplayFault}
+use Rattle.desk_program.specs.declared.script.ReplayFault.TheVariants.{Read, Write}
 
 -- a text and a line feed
 abbrev pub as_line : List ℕ → List ℕ
@@ -46,17 +47,28 @@ transcript office [] refused = []
 transcript office (line ∷ lines) [] = []
 transcript office (line ∷ lines) (r ∷ refused) = (answered r office line).text ++ transcript (answered r office line).office lines refused
 
--- the answers to the lines of the input were written, in a run from the empty office; some lines may have been refused memory
-pub record IsReplayed (input : List ℕ) (old new : Option (List ℕ)) : Type 0 where
+-- the answers to these lines were written, each whole, in a run from the empty office; some lines may have been refused memory
+pub record AreAnswered (lines : List (List ℕ)) (old new : Option (List ℕ)) : Type 0 where
   pub refused : List Bool
-  pub each : length refused ≡ length (lines_of input)
-  pub written : Appends old new (transcript empty_office (lines_of input) refused)
+  pub each : length refused ≡ length lines
+  pub written : Appends old new (transcript empty_office lines refused)
 
--- some bytes from the front of that were written
-pub record IsPartlyReplayed (input : List ℕ) (old new : Option (List ℕ)) : Type 0 where
+-- the first lines of the input are answered, at least as many as line feeds stand among the bytes that the reader gave
+pub record IsAnsweredSoFar (input : List ℕ) (given : ℕ) (old new : Option (List ℕ)) : Type 0 where
+  pub count : ℕ
+  pub each_that_came : feeds_in (take given input) ≤ count
+  pub answered : AreAnswered (take count (lines_of input)) old new
+
+-- some bytes from the front of the answers to all lines of the input were written, and not all of them
+pub record IsAnsweredInPart (input : List ℕ) (old new : Option (List ℕ)) : Type 0 where
   pub refused : List Bool
   pub each : length refused ≡ length (lines_of input)
   pub written : AppendsPrefix old new (transcript empty_office (lines_of input) refused)
+
+-- what was written where a device ended the replay: whole answers alone where it was the reader; the last may be cut where it was the writer
+abbrev pub IsReplayedUntil : ReplayFault → List ℕ → ℕ → Option (List ℕ) → Option (List ℕ) → Type 0
+IsReplayedUntil Read input given old new = IsAnsweredSoFar input given old new
+IsReplayedUntil Write input given old new = IsAnsweredInPart input old new
 
 -- a text that was made, or the line that says that memory was refused
 abbrev pub text_or_failure : Result (Vec ℕ Global) AllocError → List ℕ

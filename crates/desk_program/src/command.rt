@@ -1,10 +1,11 @@
 //! The words of the program, and how it ends.
 ghost use Rattle.std.specs.Prelude.{◌≡◌, ◌≤◌, ◌+◌, ◌-◌, map, string_bytes, Some, None, OnOk, OnErr, IfErr, IfSome, Result};
 ghost use Rattle.std.specs.Io.KnownBytes.{IsAtEnd};
+ghost use Rattle.desk_lines.specs.Lines.{lines_of};
 ghost use Rattle.desk_lines.specs.Reading.{longest_input};
 ghost use Rattle.desk_program.specs.Commands.{ended_by, ended_view, no_memory, plan_of, wrong_words};
 ghost use Rattle.desk_program.specs.ReplaySteps.{HasEndedFor};
-ghost use Rattle.desk_program.specs.Transcript.{IsReplayed, IsPartlyReplayed};
+ghost use Rattle.desk_program.specs.Transcript.{AreAnswered, IsReplayedUntil};
 ghost use Rattle.desk_program.specs.declared.command.Plan.TheVariants.{Replay};
 ghost use Rattle.desk_program.specs.declared.script.ReplayFault.{ReplayFault as Fault};
 
@@ -88,8 +89,9 @@ pub fn run<R: Source, W: Sink>(
         → (ended_view result ≡ wrong_words) × (reader.new ≡ reader.old) × (writer.new ≡ writer.old) }
     ensures replays { plan_of (map string_bytes words.now) ≡ Some Replay
         → (outcome : Result (Unit {0}) Fault) × (ended_view result ≡ ended_by outcome)
-        × OnOk outcome (IfSome (R.remaining reader.old) (λ input. IsReplayed input (W.contents writer.old) (W.contents writer.new)))
-        × OnErr outcome (IfSome (R.remaining reader.old) (λ input. IsPartlyReplayed input (W.contents writer.old) (W.contents writer.new)))
+        × OnOk outcome (IfSome (R.remaining reader.old) (λ input. AreAnswered (lines_of input) (W.contents writer.old) (W.contents writer.new)))
+        × IfErr outcome (λ fault. IfSome (R.remaining reader.old) (λ input. IsReplayedUntil fault
+        input (R.passed reader.new - R.passed reader.old) (W.contents writer.old) (W.contents writer.new)))
         × OnOk outcome ((R.failures reader.new ≡ R.failures reader.old) × (W.failures writer.new ≡ W.failures writer.old))
         × IfErr outcome (λ fault. HasEndedFor fault (R.failures reader.old) (R.failures reader.new)
         (R.passed reader.new - R.passed reader.old) (W.failures writer.old) (W.failures writer.new))

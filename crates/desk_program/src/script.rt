@@ -3,10 +3,11 @@ ghost use Rattle.std.specs.Prelude.{◌≡◌, ◌≤◌, ◌<◌, ◌+◌, ◌-
 ghost use Rattle.std.specs.Io.KnownBytes.{Appends, IsAtEnd};
 ghost use Rattle.desk_devices.specs.Written.{AppendsPrefix};
 ghost use Rattle.desk_devices.specs.Counts.{one_more};
-ghost use Rattle.desk_lines.specs.Reading.{longest_input, longest_line, unread};
+ghost use Rattle.desk_lines.specs.Lines.{lines_of};
+ghost use Rattle.desk_lines.specs.Reading.{longest_input, longest_line, unread, SameWhole};
 ghost use Rattle.desk_replies.specs.Replies.{reply_bytes};
 ghost use Rattle.meeting_core.specs.Step.{decided, stepped};
-ghost use Rattle.desk_program.specs.Transcript.{as_line, text_or_failure, unless_refused, IsReplayed, IsPartlyReplayed};
+ghost use Rattle.desk_program.specs.Transcript.{as_line, text_or_failure, unless_refused, AreAnswered, IsReplayedUntil};
 ghost use Rattle.desk_program.specs.ReplaySteps.{Turns, Stops, HasEndedFor};
 
 use crate::line::call_of;
@@ -115,12 +116,14 @@ fn turn<R: Source, W: Sink>(
         (unread lines.old.pending (R.remaining reader.old)) (unread lines.new.pending (R.remaining reader.new))
         book.old book.new (W.contents writer.old) (W.contents writer.new)) }
     ensures stops { IfErr result (λ fault. Stops fault (unread lines.old.pending (R.remaining reader.old))
-        book.old (W.contents writer.old) (W.contents writer.new)) }
+        (R.remaining reader.new) book.old (W.contents writer.old) (W.contents writer.new)) }
     ensures cause { IfErr result (λ fault. HasEndedFor fault (R.failures reader.old) (R.failures reader.new)
         lines.new.taken (W.failures writer.old) (W.failures writer.new)) }
     ensures works { OnOk result ((R.failures reader.new ≡ R.failures reader.old)
         × (W.failures writer.new ≡ W.failures writer.old)) }
     ensures counted { lines.new.taken + R.passed reader.old ≡ lines.old.taken + R.passed reader.new }
+    ensures whole { SameWhole lines.old.taken (R.remaining reader.old)
+        lines.new.taken (R.remaining reader.new) }
 
     // Each turn but the last gives some bytes of an input that has so many at most.
     ensures moves { result ≡ Ok true
@@ -151,17 +154,18 @@ fn turn<R: Source, W: Sink>(
 /// whose reading, step or text was refused memory is answered by the failure's text and changes
 /// nothing. Where all goes well the reader is at its end, and gave at most 16,777,216 bytes; it is never
 /// asked for more than one byte above that. The fault is `Read` only where the reader failed in this
-/// call, or gave more bytes than that, and `Write` only where the writer failed; a part of the answers
-/// from their front is written then.
+/// call, or gave more bytes than that, and `Write` only where the writer failed. On `Read` the first
+/// lines are answered, each with its line feed, at least all whose own line feed came; on `Write` the
+/// last answer may be cut.
 pub fn replay<R: Source, W: Sink>(
     alloc: Global,
     reader: &mut R,
     writer: &mut W,
 ) -> Result<(), ReplayFault>
     ensures replayed { OnOk result (IfSome (R.remaining reader.old)
-        (λ input. IsReplayed input (W.contents writer.old) (W.contents writer.new))) }
-    ensures partly { OnErr result (IfSome (R.remaining reader.old)
-        (λ input. IsPartlyReplayed input (W.contents writer.old) (W.contents writer.new))) }
+        (λ input. AreAnswered (lines_of input) (W.contents writer.old) (W.contents writer.new))) }
+    ensures until { IfErr result (λ fault. IfSome (R.remaining reader.old) (λ input. IsReplayedUntil fault
+        input (R.passed reader.new - R.passed reader.old) (W.contents writer.old) (W.contents writer.new))) }
     ensures works { OnOk result ((R.failures reader.new ≡ R.failures reader.old)
         × (W.failures writer.new ≡ W.failures writer.old)) }
     ensures cause { IfErr result (λ fault. HasEndedFor fault (R.failures reader.old) (R.failures reader.new)

@@ -1,6 +1,6 @@
 use Rattle.std.proofs.Common.{◌≡◌, ◌+◌, ◌-◌, length}
 use Rattle.std.specs.Prelude.{IfSome}
-use Rattle.desk_lines.specs.Reading.{longest_input, unread}
+use Rattle.desk_lines.specs.Reading.{longest_input, unread, SameWhole}
 use Rattle.desk_program.proofs.Progress.{Progress}
 use Rattle.desk_program.proofs.script.replay.Given as goal
 
@@ -11,6 +11,7 @@ invariant-loop-book g l = record {
       Progress input (unread l.lines.pending (g.R.Source.remaining l.reader)) l.book (g.W.Sink.contents l.fn.writer) (g.W.Sink.contents l.writer));
   reads : g.R.Source.failures l.reader ≡ g.R.Source.failures l.fn.reader;
   writes : g.W.Sink.failures l.writer ≡ g.W.Sink.failures l.fn.writer;
+  whole : SameWhole 0 (g.R.Source.remaining l.fn.reader) l.lines.taken (g.R.Source.remaining l.reader);
   counted : l.lines.taken + g.R.Source.passed l.fn.reader ≡ g.R.Source.passed l.reader;
 }
 

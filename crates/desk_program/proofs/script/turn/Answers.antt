@@ -6,6 +6,8 @@ use Rattle.std.specs.declared.vec.Vec.{Vec}
 use Rattle.std.proofs.lemmas.Result.{err_from_is_err_and}
 use Rattle.desk_lines.specs.Reading.{Gives, unread}
 use Rattle.desk_lines.specs.declared.outcome.NextLine.{NextLine}
+use Rattle.desk_lines.proofs.Giving.{Keeps-same}
+use Rattle.desk_lines.proofs.Taking.{stays-read}
 use Rattle.desk_terms.specs.declared.refusal.Refusal.TheVariants.{TooLarge}
 use Rattle.desk_words.specs.declared.request.Reply.TheVariants.{Refused}
 use Rattle.desk_replies.specs.Replies.{reply_bytes}
@@ -14,24 +16,32 @@ use Rattle.desk_program.proofs.TurnLemmas.{at_end-rest, positive, stops-too_long
 use Rattle.desk_program.proofs.script.turn.Goals as goal
 use Rattle.desk_program.proofs.script.turn.Goals.{in-TooLong, in-Whole+else-is_empty}
 
+-- where the reader failed, no line feed came that it has not left
+pub returns-in_err-next_line-clause-stops : goal.returns-in_err-next_line-clause-stops
+returns-in_err-next_line-clause-stops g c =
+    let p = err_from_is_err_and c.from_residual.result c.from_residual.ensures.1 in
+    let failed = c.in_err-next_line.ensures in
+    rw (p.1, p.2) (Keeps-same _, stays-read _ _ _ failed.lost failed.err)
+
 -- where the writer failed, the answer to the line that was read was written in part
 pub returns-in_err-write_answer-clause-stops : goal.returns-in_err-write_answer-clause-stops
 returns-in_err-write_answer-clause-stops g c =
     let p = err_from_is_err_and c.from_residual-in_err-write_answer.result c.from_residual-in_err-write_answer.ensures.1 in
     let before = unread c.args.lines.now.pending (g.R.Source.remaining c.args.reader.now) in
     let after = unread c.next_line.new.self.pending (g.R.Source.remaining c.next_line.new.source) in
+    let left = g.R.Source.remaining c.next_line.new.source in
     let line : List ℕ = c.next_line.new.self.line in
     let office = c.args.book.now in
     let text : Result (Vec ℕ Global) AllocError = c.match-branch-2.text in
     let given = λ (next : NextLine) (is : c.in_ok-next_line.field-0 ≡ next). subst (λ (n : NextLine). Gives n before after line) is c.in_ok-next_line.ensures.given in
     rw (p.1, p.2) (elim c.match-branch-2.branch [
       | in-TooLong w ↦
-          stops-too_long before after line office text _ _ (given _ w.in-TooLong.is)
+          stops-too_long before after left line office text _ _ (given _ w.in-TooLong.is)
           (subst (λ (t : Result (Vec ℕ Global) AllocError). IfOk t (λ v. v.items ≡ as_line (reply_bytes (Refused TooLarge)))) (sym w.text-is) w.reply_line-text.ensures)
           c.in_err-write_answer.ensures.partly
       | in-Whole+else-is_empty w ↦
           let some : 0 < length line = subst (λ (s : List ℕ). 0 < length s) w.line-line.ensures (positive _ (sym w.is_empty.ensures ∙ w.if-is_empty.false)) in
-          stops-whole before after line office text _ _ (given _ w.in-Whole.is) some
+          stops-whole before after left line office text _ _ (given _ w.in-Whole.is) some
           (subst (λ (t : Result (Vec ℕ Global) AllocError). IfOk t (λ v. v.items ≡ (unless_refused false office line).text)) (sym w.text-is)
           (subst (λ (s : List ℕ). IfOk w.answer-text.result (λ v. v.items ≡ (unless_refused false office s).text)) w.line-line.ensures w.answer-text.ensures.text))
           c.in_err-write_answer.ensures.partly
