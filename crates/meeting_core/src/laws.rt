@@ -1,6 +1,6 @@
 //! Laws of the definitions by which the contracts speak.
 ghost use Rattle.meeting_core.specs.Conditions.{ConditionsStandInOrder, TheLowestRefusalIsAnswered};
-ghost use Rattle.meeting_core.specs.Laws.{PartiesLeaveThePublicRecord, RepliesAreTheCallersOwn};
+ghost use Rattle.meeting_core.specs.Laws.{PartiesLeaveThePublicRecord, RefusedCallsHaveNoChange, RefusedCallsLeaveTheOffice, RepliesAreTheCallersOwn};
 ghost use Rattle.meeting_core.specs.Names.{CountsNameNobody, NamesAreTheCallersOwn};
 
 /// Two offices that agree on the public record of the meeting that a request names, and on a
@@ -23,4 +23,11 @@ pub fn names()
 pub fn lowest_refusal()
     ensures order { ConditionsStandInOrder }
     ensures lowest { TheLowestRefusalIsAnswered }
+{}
+
+/// A refused call changes nothing, whether a party or the office calls: its answer has no change, and
+/// the office after it is the office before it.
+pub fn refused_calls_change_nothing()
+    ensures change { RefusedCallsHaveNoChange }
+    ensures office { RefusedCallsLeaveTheOffice }
 {}
