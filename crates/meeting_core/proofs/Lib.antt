@@ -4,3 +4,4 @@ pub mod MeetingKept
 pub mod OfficeKept
 pub mod RefusedCalls
 pub mod StepLaws
+pub mod WrongAnswers

@@ -50,13 +50,13 @@ use Rattle.office_answers.specs.Calls.{call_cases, in_meeting, load_cases, loads
 use Rattle.office_answers.specs.Closed.{same_days, loads_days}
 use Rattle.office_answers.specs.Polls.{open_cases, order_cases, start_cases, close_cases, declare_cases, declaration_of, poll_of}
 use Rattle.meeting_core.specs.Conditions.{ConditionsStandInOrder, TheLowestRefusalIsAnswered, cases_in, no_meeting, refusal_in, request_cases, side_cases}
-use Rattle.meeting_core.specs.Laws.{PartiesLeaveThePublicRecord, RepliesAreTheCallersOwn}
-use Rattle.meeting_core.specs.Names.{Names, NamesAreTheCallersOwn, in_appointment, in_authority, in_cast, in_mine, in_reply, in_row, in_view}
+use Rattle.meeting_core.specs.Laws.{LeavesThePublicRecord, ReadsTheViews}
+use Rattle.meeting_core.specs.Names.{Names, NamesOwn, in_appointment, in_authority, in_cast, in_mine, in_reply, in_row, in_view}
 use Rattle.meeting_core.specs.Office.{after, after_some, change_at, with_appointment, with_authority, with_cast, with_demand, with_ending, with_presence}
 use Rattle.meeting_core.specs.Step.{answer_to, party_answer}
 use Rattle.meeting_core.proofs.OfficeKept.{appoint_in, attend_in, authorise_in, demand_in, end_in, record_of, vote_in}
 
-pub replies_own : RepliesAreTheCallersOwn
+pub replies_own : ReadsTheViews party_answer
 replies_own o p party now request agree = λ i. answer_of (agree.public i) (agree.own i) now request
 
 -- ---- the public record
@@ -177,7 +177,7 @@ mine_leaves : (o : OfficeLists) (found : Option MeetingLists) (party : List ℕ)
 mine_leaves o None party now id = λ _. refl
 mine_leaves o (Some m) party now id = λ _. refl
 
-pub public_stays : PartiesLeaveThePublicRecord
+pub public_stays : LeavesThePublicRecord party_answer
 public_stays o party now (asked.CallMeeting new) = λ id. refl
 public_stays o party now (asked.LoadRegister new) = λ id. refl
 public_stays o party now (asked.Presence new) = λ id. refl
@@ -274,7 +274,7 @@ none_named : (view names : Names) → names ≡ [] → All (Contains view) names
 none_named view [] h = λ k d h. absurd (omega arith)
 none_named view (x ∷ xs) h = absurd (cc)
 
-pub names_own : NamesAreTheCallersOwn
+pub names_own : NamesOwn party_answer
 names_own o party now (asked.CallMeeting new) = λ k d h. absurd (omega arith)
 names_own o party now (asked.LoadRegister new) = λ k d h. absurd (omega arith)
 names_own o party now (asked.Presence new) = λ k d h. absurd (omega arith)

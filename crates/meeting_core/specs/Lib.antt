@@ -3,3 +3,4 @@ pub mod Laws
 pub mod Names
 pub mod Office
 pub mod Step
+pub mod WrongAnswers

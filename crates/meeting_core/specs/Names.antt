@@ -20,7 +20,7 @@ use Rattle.desk_words.specs.declared.request.Reply.TheVariants as reply
 use Rattle.desk_words.specs.declared.request.Request.{Request}
 use Rattle.caller_view.specs.declared.views.OwnView.{OwnView}
 use Rattle.caller_view.specs.Views.{own_of}
-use Rattle.meeting_core.specs.Step.{named_meeting, party_answer}
+use Rattle.meeting_core.specs.Step.{Answering, named_meeting}
 
 -- names of parties
 abbrev pub Names : Type 0
@@ -81,11 +81,11 @@ in_view own =
     ++ map (λ (a : Authorised). a.corporation) own.authorised ++ map (λ (d : DemandMark). d.party) own.demands ++ flat_map in_cast own.casts
     ++ flat_map (λ (r : Received). in_appointment r.appointment) own.received)
 
--- every party named in a reply to a party is that party, or stands in its own things
-abbrev pub NamesAreTheCallersOwn : Type 0
-NamesAreTheCallersOwn =
+-- it names the caller's own: every party named in a reply to a party is that party, or stands in its own things
+abbrev pub NamesOwn : Answering → Type 0
+NamesOwn answer =
     (office : OfficeLists) (party : List ℕ) (now : ℕ) (request : Request)
-    → All (Contains (in_view (own_of office party (named_meeting request) now))) (in_reply (party_answer office party now request).reply)
+    → All (Contains (in_view (own_of office party (named_meeting request) now))) (in_reply (answer office party now request).reply)
 
 -- a count names nobody: the names in a reply do not show whether it tells a count
 abbrev pub CountsNameNobody : Type 0

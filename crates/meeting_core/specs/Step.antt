@@ -33,8 +33,12 @@ named_meeting (asked.Attend meeting) = meeting
 named_meeting (asked.Demand poll) = poll.meeting
 named_meeting (asked.Cast new) = new.meeting
 
+-- what answers a party: from an office, the party, the moment and its request, a reply and at most one change
+abbrev pub Answering : Type 0
+Answering = OfficeLists → List ℕ → ℕ → Request → Answer
+
 -- the answer to a party: that of its views of the meeting that the request names
-abbrev pub party_answer : OfficeLists → List ℕ → ℕ → Request → Answer
+abbrev pub party_answer : Answering
 party_answer office party now request =
     let meeting = named_meeting request in answer_of (public_of office meeting) (own_of office party meeting now) now request
 

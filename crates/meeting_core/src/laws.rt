@@ -1,22 +1,34 @@
 //! Laws of the definitions by which the contracts speak.
+ghost use Rattle.std.specs.Prelude.{[], ◌∷◌};
 ghost use Rattle.meeting_core.specs.Conditions.{ConditionsStandInOrder, TheLowestRefusalIsAnswered};
-ghost use Rattle.meeting_core.specs.Laws.{PartiesLeaveThePublicRecord, RefusedCallsHaveNoChange, RefusedCallsLeaveTheOffice, RepliesAreTheCallersOwn};
-ghost use Rattle.meeting_core.specs.Names.{CountsNameNobody, NamesAreTheCallersOwn};
+ghost use Rattle.meeting_core.specs.Laws.{LeavesThePublicRecord, ReadsTheViews, RefusedCallsHaveNoChange, RefusedCallsLeaveTheOffice, TellsApart};
+ghost use Rattle.meeting_core.specs.Names.{CountsNameNobody, NamesOwn};
+ghost use Rattle.meeting_core.specs.Step.{party_answer};
+ghost use Rattle.meeting_core.specs.WrongAnswers.{a_member, office_with, running_total, vote_of_another, vote_wanted};
 
 /// Two offices that agree on the public record of the meeting that a request names, and on a
 /// party's own things in it, give that party the same reply and the same change; and no call of a
 /// party changes a public record.
 pub fn two_worlds()
-    ensures same { RepliesAreTheCallersOwn }
-    ensures quiet { PartiesLeaveThePublicRecord }
+    ensures same { ReadsTheViews party_answer }
+    ensures quiet { LeavesThePublicRecord party_answer }
 {}
 
 /// Every party named in a reply to a party is that party or stands in its own things. It follows
 /// from `two_worlds` and says less: a count names nobody, so that a reply which told how the votes
-/// stand would keep this law, and breaks only `two_worlds`.
+/// stand would keep this law, and breaks only `two_worlds` (`running_total_is_caught`).
 pub fn names()
-    ensures names { NamesAreTheCallersOwn }
+    ensures names { NamesOwn party_answer }
     ensures counts { CountsNameNobody }
+{}
+
+/// The law of two worlds can fail where that of names holds: an answer that tells a voter how the votes
+/// stand names nobody, and still tells apart two offices that agree on all that the voter may know, and
+/// differ in the vote of another member alone.
+pub fn running_total_is_caught()
+    ensures names { NamesOwn running_total }
+    ensures apart { TellsApart running_total (office_with []) (office_with (vote_of_another ∷ [])) a_member 0 vote_wanted }
+    ensures caught { ReadsTheViews running_total → ⊥ }
 {}
 
 /// Of the conditions under which a call is refused, the lowest number that holds is answered.
