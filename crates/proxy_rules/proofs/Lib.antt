@@ -1,5 +1,6 @@
 pub mod CoverTags
 pub mod FoundRuns
+pub mod GovernedLemmas
 pub mod GroupedLemmas
 pub mod HoldingLemmas
 pub mod PartLemmas

@@ -1,5 +1,5 @@
 -- Laws of the appointments that govern.
-use Rattle.std.specs.Prelude.{◌≡◌, ℕ, Bool, true, false, ◌&&◌, ◌==◌, nat_le, List, [], ◌∷◌, ◌++◌}
+use Rattle.std.specs.Prelude.{◌≡◌, ◌↔◌, ℕ, Bool, true, false, ◌&&◌, ◌==◌, nat_le, List, [], ◌∷◌, ◌++◌, Some, IsTrue}
 use Rattle.std.specs.List.{list_any}
 use Rattle.desk_terms.specs.Places.{Places, holds}
 use Rattle.desk_words.specs.declared.records.Appointment.{Appointment}
@@ -7,7 +7,7 @@ use Rattle.desk_words.specs.declared.records.Ending.{Ending}
 use Rattle.desk_words.specs.declared.records.RegisterRow.{RegisterRow}
 use Rattle.proxy_rules.specs.declared.holdings.Appointed.{Appointed}
 use Rattle.proxy_rules.specs.declared.papers.Cutoffs.{Cutoffs}
-use Rattle.proxy_rules.specs.Governing.{governs, governed_of}
+use Rattle.proxy_rules.specs.Governing.{governing_of, governs, governed_of}
 use Rattle.proxy_rules.specs.Holdings.{governed_in, holding_of}
 use Rattle.proxy_rules.specs.Runs.{are_parted, runs_that}
 
@@ -19,6 +19,13 @@ RunsHoldWhatPasses =
 -- runs are in order, with gaps between them
 abbrev pub RunsAreParted : Type 0
 RunsAreParted = (test : ℕ → Bool) (n : ℕ) → are_parted (runs_that test n) ≡ true
+
+-- the runs of what an appointment governs hold exactly the places that it governs
+abbrev pub RunsHoldWhatGoverns : Type 0
+RunsHoldWhatGoverns =
+    (cutoffs : Cutoffs) (register : List RegisterRow) (given : List Appointment) (ended : List Ending) (member : List ℕ) (number place : ℕ)
+    → IsTrue (list_any (λ (run : Places). holds run place) (governed_of cutoffs register given ended member number))
+    ↔ (governing_of cutoffs register given ended member place ≡ Some number)
 
 -- what governs a place where one ending more is received governed it without that ending
 abbrev pub EndingsReviveNothing : Type 0

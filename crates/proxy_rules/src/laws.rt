@@ -1,5 +1,5 @@
 //! Laws of the definitions by which the contracts speak.
-ghost use Rattle.proxy_rules.specs.Laws.{EarlierTakeNothing, EndingsReviveNothing, GovernedByTheHolding, RunsAreParted, RunsHoldWhatPasses};
+ghost use Rattle.proxy_rules.specs.Laws.{EarlierTakeNothing, EndingsReviveNothing, GovernedByTheHolding, RunsAreParted, RunsHoldWhatGoverns, RunsHoldWhatPasses};
 
 /// Of every test, the runs hold exactly the places that pass it.
 pub fn runs_hold_what_passes()
@@ -9,6 +9,12 @@ pub fn runs_hold_what_passes()
 /// Of every test, the runs are in order, with a gap between each and the next.
 pub fn runs_are_parted()
     ensures { RunsAreParted }
+{}
+
+/// The runs of the shares that an appointment governs hold exactly the places of which it is the one that
+/// governs (section 324): what `governed` and `governing` answer is one rule.
+pub fn runs_hold_what_governs()
+    ensures { RunsHoldWhatGoverns }
 {}
 
 /// An ending more revives nothing: what governs a place with it governed that place without it
