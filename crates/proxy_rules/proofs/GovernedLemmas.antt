@@ -1,5 +1,5 @@
 -- The runs that an appointment governs, place by place.
-use Rattle.std.proofs.Common.{◌≡◌, ℕ, Bool, true, false, cond, refl, ap, sym, ◌∙◌}
+use Rattle.std.proofs.Common.{◌≡◌, ℕ, Bool, true, false, cond, ap, sym, ◌∙◌}
 use Rattle.std.specs.Prelude.{◌↔◌, ◌&&◌, ◌==◌, Option, Some, None, option_map, IsTrue}
 use Rattle.std.specs.Option.{option_map_or}
 use Rattle.std.proofs.lemmas.Bool.{eq-eqb, eqb-true}

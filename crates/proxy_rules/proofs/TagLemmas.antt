@@ -1,5 +1,5 @@
 -- The numbers of a member's appointments are tags.
-use Rattle.std.proofs.Common.{◌≡◌, ℕ, suc, Bool, true, List, [], ◌∷◌, ◌++◌, length, refl, arith}
+use Rattle.std.proofs.Common.{◌≡◌, ℕ, suc, true, List, [], ◌∷◌, ◌++◌, length, refl, arith}
 use Rattle.std.specs.Prelude.{◌==◌, count_by, nat_le}
 use Rattle.std.specs.Cmp.{first_so, second_so}
 use Rattle.std.specs.Cmp.Derive.{both_true}
