@@ -25,7 +25,7 @@ use std::alloc::{AllocError, Global};
 use std::marker::Model;
 
 /// All that an office holds. Contracts see it as the lists of the office, and it always holds the
-/// lists of an office.
+/// lists of an office: `decide` says so of any book, and `new`, `apply` and `step` of what they leave.
 #[derive(Drop)]
 pub struct Book {
     alloc: Global,
@@ -49,7 +49,8 @@ impl Model for Book {
 impl Book {
     /// The empty office.
     pub fn new(alloc: Global) -> Book
-        ensures { result ≡ empty_office }
+        ensures value { result ≡ empty_office }
+        ensures kept { IsTrue (is_office result) }
     {
         Book {
             alloc,
@@ -183,6 +184,7 @@ impl Book {
     pub fn decide(&self, call: &Call) -> Result<(Reply, Option<Change>), AllocError>
         ensures reply { IfOk result (λ d. d.0 ≡ (decided self.now call.now).reply) }
         ensures change { IfOk result (λ d. d.1 ≡ (decided self.now call.now).change) }
+        ensures held { IsTrue (is_office self.now) }
         ensures kept { IfOk result (λ d. IsTrue (is_office (after_some self.now d.1))) }
         ensures sure { needs_no_memory call.now.caller call.now.request ≡ true → IsOk result }
     {
@@ -199,6 +201,7 @@ impl Book {
         requires { IsTrue (is_office (after self.old change)) }
         ensures ok { OnOk result (self.new ≡ after self.old change) }
         ensures err { OnErr result (self.new ≡ self.old) }
+        ensures kept { IsTrue (is_office self.new) }
         ensures sure { sets_fields change ≡ true → IsOk result }
     {
         match change {
@@ -229,6 +232,7 @@ impl Book {
         ensures reply { IfOk result (λ r. r ≡ (decided self.old call).reply) }
         ensures ok { OnOk result (self.new ≡ stepped self.old call) }
         ensures err { OnErr result (self.new ≡ self.old) }
+        ensures kept { IsTrue (is_office self.new) }
         ensures sure { needs_no_memory call.caller call.request ≡ true → IsOk result }
     {
         let (reply, change) = self.decide(&call)?;

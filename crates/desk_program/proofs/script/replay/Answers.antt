@@ -6,7 +6,7 @@ use Rattle.desk_program.proofs.script.replay.Goals as goal
 
 pub loop-book-init : goal.loop-book-init
 loop-book-init g c = record {
-  progress = known_none (g.R.Source.remaining c.args.reader.now) c.new-lines.result.pending c.new-book.result (g.W.Sink.contents c.args.writer.now) c.new-lines.ensures.pending c.new-book.ensures;
+  progress = known_none (g.R.Source.remaining c.args.reader.now) c.new-lines.result.pending c.new-book.result (g.W.Sink.contents c.args.writer.now) c.new-lines.ensures.pending c.new-book.ensures.value;
   whole = SameWhole-same _ _ _ c.new-lines.ensures.taken;
   reads = refl;
   writes = refl;
