@@ -1,5 +1,5 @@
 -- The answer to a party.
-use Rattle.std.specs.Prelude.{ℕ, Bool, true, false, not, ◌&&◌, nat_le, nat_lt, List, [], ◌∷◌, map, length, Option, Some, None, is_none, if◌then◌else◌}
+use Rattle.std.specs.Prelude.{ℕ, Bool, true, false, not, ◌&&◌, nat_le, nat_lt, List, [], ◌∷◌, map, length, Option, Some, None, is_none, is_some, if◌then◌else◌}
 use Rattle.desk_words.specs.Names.{same_name}
 use Rattle.desk_words.specs.Office.{is_resolution}
 use Rattle.desk_words.specs.Places.{is_range}
@@ -49,6 +49,28 @@ settled None accepted = accepted
 -- the lowest refusal whose condition holds, or else what is accepted
 abbrev pub unless : List Case → Answer → Answer
 unless cases accepted = settled (first_refusal cases) accepted
+
+-- the refusal in a reply
+abbrev pub refusal_in : Reply → Option Refusal
+refusal_in reply.Called = None
+refusal_in reply.Loaded = None
+refusal_in reply.Same = None
+refusal_in reply.MeetingOpened = None
+refusal_in reply.Ordered = None
+refusal_in reply.Started = None
+refusal_in reply.VotingClosed = None
+refusal_in (reply.Declared declared) = None
+refusal_in (reply.Notice n) = None
+refusal_in (reply.Mine m) = None
+refusal_in (reply.Appointed receipt) = None
+refusal_in (reply.Ended number) = None
+refusal_in reply.Noted = None
+refusal_in reply.Recorded = None
+refusal_in (reply.Refused r) = Some r
+
+-- the answer refuses
+abbrev pub is_refused : Answer → Bool
+is_refused answer = is_some (refusal_in answer.reply)
 
 -- whether only the office may ask it
 abbrev pub is_for_office : Request → Bool

@@ -1,6 +1,6 @@
 //! The answer to a party.
 ghost use Rattle.std.specs.Prelude.{◌≡◌, IfOk, IsOk, IsTrue, map};
-ghost use Rattle.caller_view.specs.Answers.{answer_of, refused, mine_of, mine_answer, is_for_office};
+ghost use Rattle.caller_view.specs.Answers.{answer_of, refused, mine_of, mine_answer, is_refused};
 ghost use Rattle.caller_view.specs.Appointments.{given_use};
 
 use crate::appointments::{appoint, end, use_by};
@@ -93,7 +93,8 @@ fn mine(
     now: Moment,
     id: MeetingId,
 ) -> Result<Answer, AllocError>
-    ensures { IfOk result (λ a. a ≡ mine_answer public.now own.now now id) }
+    ensures answer { IfOk result (λ a. a ≡ mine_answer public.now own.now now id) }
+    ensures sure { IsTrue (is_refused (mine_answer public.now own.now now id)) → IsOk result }
 {
     match &public.meeting {
         None => Ok(refuse(Refusal::NoMeeting)),
@@ -108,7 +109,7 @@ fn mine(
 }
 
 /// The answer to a party: a function of what it may see, the moment and the request. The error is
-/// want of memory; an office request, which is refused, needs none.
+/// want of memory; a refusal takes none.
 pub fn answer(
     alloc: Global,
     public: &PublicRecord,
@@ -117,7 +118,7 @@ pub fn answer(
     request: &Request,
 ) -> Result<Answer, AllocError>
     ensures answer { IfOk result (λ a. a ≡ answer_of public.now own.now now request.now) }
-    ensures sure { IsTrue (is_for_office request.now) → IsOk result }
+    ensures sure { IsTrue (is_refused (answer_of public.now own.now now request.now)) → IsOk result }
 {
     match request {
         Request::CallMeeting(_)

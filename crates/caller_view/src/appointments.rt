@@ -1,9 +1,9 @@
 //! The answers to a party that gives or ends an appointment of a proxy.
-ghost use Rattle.std.specs.Prelude.{◌≡◌, ◌==◌, IfOk, find};
+ghost use Rattle.std.specs.Prelude.{◌≡◌, ◌==◌, IfOk, IsOk, IsTrue, find};
 ghost use Rattle.std.specs.Option.{option_copied};
 ghost use Rattle.desk_words.specs.Refusals.{first_refusal};
 ghost use Rattle.desk_words.specs.declared.request.Given.{Given};
-ghost use Rattle.caller_view.specs.Answers.{appoint_answer, appointed, cutoff_in, end_answer, ended, unless};
+ghost use Rattle.caller_view.specs.Answers.{appoint_answer, appointed, cutoff_in, end_answer, ended, is_refused, unless};
 ghost use Rattle.caller_view.specs.Appointments.{appoint_cases, appointment_of, end_cases, given_numbered, use_by};
 
 use crate::answers::refuse;
@@ -102,7 +102,8 @@ fn appoint_in(
     now: Moment,
     new: &NewAppointment,
 ) -> Result<Answer, AllocError>
-    ensures { IfOk result (λ a. a ≡ unless (appoint_cases meeting.now own.now new.now) (appointed (cutoff_in public.now now meeting.now) own.now now new.now)) }
+    ensures answer { IfOk result (λ a. a ≡ unless (appoint_cases meeting.now own.now new.now) (appointed (cutoff_in public.now now meeting.now) own.now now new.now)) }
+    ensures sure { IsTrue (is_refused (unless (appoint_cases meeting.now own.now new.now) (appointed (cutoff_in public.now now meeting.now) own.now now new.now))) → IsOk result }
 {
     if let Some(refusal) = appoint_refusal(meeting, own, new) {
         return Ok(refuse(refusal));
@@ -118,14 +119,15 @@ fn appoint_in(
 /// the first that holds of `NoMeeting`, `BadRange`, `SelfNamed` where it names itself,
 /// `BadInstructions` where there is not one for each resolution, and `TooMany` where it gave 256
 /// appointments in the meeting; and else `Appointed` with its next number, which adds the
-/// appointment. The register is not looked at. The error is want of memory.
+/// appointment. The register is not looked at. The error is want of memory; a refusal takes none.
 pub fn appoint(
     public: &PublicRecord,
     own: &OwnView,
     now: Moment,
     new: &NewAppointment,
 ) -> Result<Answer, AllocError>
-    ensures { IfOk result (λ a. a ≡ appoint_answer public.now own.now now new.now) }
+    ensures answer { IfOk result (λ a. a ≡ appoint_answer public.now own.now now new.now) }
+    ensures sure { IsTrue (is_refused (appoint_answer public.now own.now now new.now)) → IsOk result }
 {
     match &public.meeting {
         None => Ok(refuse(Refusal::NoMeeting)),

@@ -1,6 +1,6 @@
 //! The notice of a meeting.
-ghost use Rattle.std.specs.Prelude.{◌≡◌, IfOk, option_map};
-ghost use Rattle.caller_view.specs.Answers.{notice_answer};
+ghost use Rattle.std.specs.Prelude.{◌≡◌, IfOk, IsOk, IsTrue, option_map};
+ghost use Rattle.caller_view.specs.Answers.{is_refused, notice_answer};
 ghost use Rattle.caller_view.specs.Notices.{noticed_poll, noticed_resolution, numbered, notice_of};
 ghost use Rattle.caller_view.specs.Polls.{poll_on};
 ghost use Rattle.poll_rules.specs.Majority.{result_of};
@@ -116,9 +116,10 @@ fn notice_in(
 
 /// The answer to a party that asks for the notice of a meeting: `NoMeeting`, or the notice, with its
 /// polls and cutoffs by the closed days as they stand (sections 307 and 327). The error is want of
-/// memory.
+/// memory; a refusal takes none.
 pub fn notice(alloc: Global, public: &PublicRecord, now: Moment) -> Result<Answer, AllocError>
-    ensures { IfOk result (λ a. a ≡ notice_answer public.now now) }
+    ensures answer { IfOk result (λ a. a ≡ notice_answer public.now now) }
+    ensures sure { IsTrue (is_refused (notice_answer public.now now)) → IsOk result }
 {
     match &public.meeting {
         None => Ok(refuse(Refusal::NoMeeting)),

@@ -1,39 +1,40 @@
 -- A refused call changes nothing.
 use Rattle.std.proofs.Common.{◌≡◌, ℕ, Bool, true, false, List, refl, ap}
-use Rattle.std.specs.Prelude.{Option, Some, None}
+use Rattle.std.specs.Prelude.{Option, Some, None, is_some}
+use Rattle.std.specs.Option.{option_map_or}
 use Rattle.desk_words.specs.Refusals.{Case, first_refusal}
 use Rattle.desk_words.specs.declared.caller.Caller.{Caller}
 use Rattle.desk_words.specs.declared.caller.Caller.TheVariants as caller
 use Rattle.desk_words.specs.declared.office.OfficeLists.{OfficeLists}
 use Rattle.desk_words.specs.declared.office.MeetingLists.{MeetingLists}
 use Rattle.desk_words.specs.declared.records.Meeting.{Meeting}
+use Rattle.desk_words.specs.declared.request.Call.{Call}
 use Rattle.desk_words.specs.declared.request.Change.{Change}
 use Rattle.desk_words.specs.declared.request.NewRegister.{NewRegister}
-use Rattle.desk_words.specs.declared.request.Reply.TheVariants as reply
 use Rattle.desk_words.specs.declared.request.Request.{Request}
 use Rattle.desk_words.specs.declared.request.Request.TheVariants as asked
 use Rattle.desk_terms.specs.declared.refusal.Refusal.{Refusal}
-use Rattle.caller_view.specs.Answers.{answer_of, in_record, noted, refused, settled, unless}
+use Rattle.caller_view.specs.Answers.{answer_of, in_record, is_refused, noted, refusal_in, refused, settled, unless}
 use Rattle.caller_view.specs.Views.{own_of, public_of}
 use Rattle.caller_view.specs.declared.views.Answer.{Answer}
 use Rattle.caller_view.specs.declared.views.OwnView.{OwnView}
 use Rattle.caller_view.specs.declared.views.PublicRecord.{PublicRecord}
+use Rattle.office_answers.specs.Answers.{is_at_once}
 use Rattle.office_answers.specs.Calls.{in_meeting, loads}
 use Rattle.office_answers.specs.Closed.{loads_days}
-use Rattle.meeting_core.specs.Conditions.{refusal_in}
 use Rattle.meeting_core.specs.Laws.{RefusedCallsHaveNoChange, RefusedCallsLeaveTheOffice}
 use Rattle.meeting_core.specs.Office.{after_some}
-use Rattle.meeting_core.specs.Step.{answer_to, named_meeting}
+use Rattle.meeting_core.specs.Step.{answer_to, decided, is_at_once_to, named_meeting}
 
 -- an answer that has no change where it refuses
 record QuietIfRefused (answer : Answer) : Type 0 where
-  quiet : (refusal : Refusal) → answer.reply ≡ reply.Refused refusal → answer.change ≡ None
+  quiet : is_refused answer ≡ true → answer.change ≡ None
 
 accepted : (a : Answer) → refusal_in a.reply ≡ None → QuietIfRefused a
-accepted a none = record { quiet = λ r h. (let both = ap refusal_in h in absurd (cc)) }
+accepted a none = record { quiet = λ h. (let both = ap is_some none in absurd (cc)) }
 
 a_refusal : (r : Refusal) → QuietIfRefused (refused r)
-a_refusal r = record { quiet = λ _ _. refl }
+a_refusal r = record { quiet = λ _. refl }
 
 by_cases : (r : Option Refusal) (a : Answer) → QuietIfRefused a → QuietIfRefused (settled r a)
 by_cases None a h = h
@@ -106,7 +107,19 @@ answered o now caller.Office request = to_the_office o now request
 answered o now (caller.Party party) request = to_a_party (public_of o (named_meeting request)) (own_of o party (named_meeting request) now) now request
 
 pub no_change : RefusedCallsHaveNoChange
-no_change o call r h = (answered o call.moment call.caller call.request).quiet r h
+no_change o call r h = (answered o call.moment call.caller call.request).quiet (ap (λ x. is_some (refusal_in x)) h)
 
 pub office_left : RefusedCallsLeaveTheOffice
 office_left o call r h = ap (after_some o) (no_change o call r h)
+
+at_once_refused : (refusal : Option Refusal) → option_map_or is_at_once refusal false ≡ true → is_some refusal ≡ true
+at_once_refused None h = h
+at_once_refused (Some r) h = refl
+
+by_caller : (o : OfficeLists) (now : ℕ) (who : Caller) (request : Request) → is_at_once_to who (answer_to o now who request) ≡ true → (answer_to o now who request).change ≡ None
+by_caller o now caller.Office request h = (to_the_office o now request).quiet (at_once_refused (refusal_in (answer_to o now caller.Office request).reply) h)
+by_caller o now (caller.Party party) request h = absurd (cc)
+
+-- what is refused at once has no change that memory could be refused to
+pub at_once_quiet : (o : OfficeLists) (call : Call) → is_at_once_to call.caller (decided o call) ≡ true → (decided o call).change ≡ None
+at_once_quiet o call h = by_caller o call.moment call.caller call.request h

@@ -40,7 +40,7 @@ use Rattle.desk_words.specs.declared.request.Request.TheVariants as asked
 use Rattle.desk_terms.specs.declared.refusal.Refusal.{Refusal}
 use Rattle.caller_view.specs.declared.views.Answer.{Answer}
 use Rattle.caller_view.specs.declared.views.OwnView.{OwnView}
-use Rattle.caller_view.specs.Answers.{answer_of, appointed, cast_cases, cast_of, cast_recorded, cutoff_in, ended, noted, settled, unless, mine_answer, mine_of, notice_answer}
+use Rattle.caller_view.specs.Answers.{answer_of, appointed, cast_cases, cast_of, cast_recorded, cutoff_in, ended, noted, refusal_in, settled, unless, mine_answer, mine_of, notice_answer}
 use Rattle.caller_view.specs.Appointments.{appoint_cases, appointment_of, end_cases, ending_of, given_use}
 use Rattle.caller_view.specs.Attendance.{authorise_cases, authority_of, demand_cases, demand_of, gave_authority, has_demanded, presence_of}
 use Rattle.caller_view.specs.Polls.{poll_on}
@@ -49,7 +49,7 @@ use Rattle.office_answers.specs.Attendance.{presence_answer}
 use Rattle.office_answers.specs.Calls.{call_cases, in_meeting, load_cases, loads, meeting_of}
 use Rattle.office_answers.specs.Closed.{same_days, loads_days}
 use Rattle.office_answers.specs.Polls.{open_cases, order_cases, start_cases, close_cases, declare_cases, declaration_of, poll_of}
-use Rattle.meeting_core.specs.Conditions.{ConditionsStandInOrder, TheLowestRefusalIsAnswered, cases_in, no_meeting, refusal_in, request_cases, side_cases}
+use Rattle.meeting_core.specs.Conditions.{ConditionsStandInOrder, TheLowestRefusalIsAnswered, cases_in, no_meeting, request_cases, side_cases}
 use Rattle.meeting_core.specs.Laws.{LeavesThePublicRecord, ReadsTheViews}
 use Rattle.meeting_core.specs.Names.{Names, NamesOwn, in_appointment, in_authority, in_cast, in_mine, in_reply, in_row, in_view}
 use Rattle.meeting_core.specs.Office.{after, after_some, change_at, with_appointment, with_authority, with_cast, with_demand, with_ending, with_presence}

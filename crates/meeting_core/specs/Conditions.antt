@@ -6,13 +6,10 @@ use Rattle.desk_words.specs.declared.office.MeetingLists.{MeetingLists}
 use Rattle.desk_words.specs.declared.caller.Caller.{Caller}
 use Rattle.desk_words.specs.declared.caller.Caller.TheVariants as caller
 use Rattle.desk_words.specs.declared.request.Call.{Call}
-use Rattle.desk_words.specs.declared.request.Reply.{Reply}
-use Rattle.desk_words.specs.declared.request.Reply.TheVariants as reply
 use Rattle.desk_words.specs.declared.request.Request.{Request}
 use Rattle.desk_words.specs.declared.request.Request.TheVariants as asked
-use Rattle.desk_terms.specs.declared.refusal.Refusal.{Refusal}
 use Rattle.desk_terms.specs.declared.refusal.Refusal.TheVariants.{OfficeOnly, PartyOnly, NoMeeting}
-use Rattle.caller_view.specs.Answers.{cast_cases, is_for_office}
+use Rattle.caller_view.specs.Answers.{cast_cases, is_for_office, refusal_in}
 use Rattle.caller_view.specs.Appointments.{appoint_cases, end_cases}
 use Rattle.caller_view.specs.Attendance.{authorise_cases, demand_cases}
 use Rattle.caller_view.specs.declared.views.OwnView.{OwnView}
@@ -84,24 +81,6 @@ request_cases o now who (asked.Cast new) = own_cases o who now new.meeting (λ m
 -- all the conditions under which a call is refused
 abbrev pub all_cases : OfficeLists → Call → List Case
 all_cases o call = side_cases call.caller call.request ++ request_cases o call.moment call.caller call.request
-
--- the refusal in a reply
-abbrev pub refusal_in : Reply → Option Refusal
-refusal_in reply.Called = None
-refusal_in reply.Loaded = None
-refusal_in reply.Same = None
-refusal_in reply.MeetingOpened = None
-refusal_in reply.Ordered = None
-refusal_in reply.Started = None
-refusal_in reply.VotingClosed = None
-refusal_in (reply.Declared declared) = None
-refusal_in (reply.Notice n) = None
-refusal_in (reply.Mine m) = None
-refusal_in (reply.Appointed receipt) = None
-refusal_in (reply.Ended number) = None
-refusal_in reply.Noted = None
-refusal_in reply.Recorded = None
-refusal_in (reply.Refused r) = Some r
 
 -- the conditions stand in the order of their numbers
 abbrev pub ConditionsStandInOrder : Type 0

@@ -11,7 +11,7 @@ use Rattle.caller_view.specs.declared.views.Answer.{Answer}
 use Rattle.caller_view.specs.Answers.{answer_of, is_for_office}
 use Rattle.caller_view.specs.Views.{public_of, own_of}
 use Rattle.meeting_core.specs.Office.{after_some}
-use Rattle.office_answers.specs.Answers.{office_answer}
+use Rattle.office_answers.specs.Answers.{is_refused_at_once, office_answer}
 
 -- the meeting that a request names, and no name where it names none
 abbrev pub named_meeting : Request → List ℕ
@@ -80,6 +80,11 @@ is_of_the_office (caller.Party party) request = false
 -- what is never answered by want of memory: what the wrong side asks, and a start or a close by the office
 abbrev pub needs_no_memory : Caller → Request → Bool
 needs_no_memory who request = is_misplaced who request || is_of_the_office who request
+
+-- the office is refused, before any memory is taken
+abbrev pub is_at_once_to : Caller → Answer → Bool
+is_at_once_to caller.Office answer = is_refused_at_once answer
+is_at_once_to (caller.Party party) answer = false
 
 -- the reply to a call, and its change
 abbrev pub decided : OfficeLists → Call → Answer

@@ -4,10 +4,10 @@ ghost use Rattle.caller_view.specs.Views.{nothing_of, own_of, public_of};
 ghost use Rattle.caller_view.specs.Answers.{answer_of, is_for_office};
 ghost use Rattle.desk_words.specs.Office.{is_office};
 ghost use Rattle.desk_words.specs.declared.caller.Caller.TheVariants as caller;
-ghost use Rattle.office_answers.specs.Answers.{office_answer, takes_no_memory};
+ghost use Rattle.office_answers.specs.Answers.{is_refused_at_once, office_answer, takes_no_memory};
 ghost use Rattle.office_answers.specs.Limits.{keeps_limits};
 ghost use Rattle.meeting_core.specs.Office.{after, after_some, empty_office, sets_fields};
-ghost use Rattle.meeting_core.specs.Step.{decided, needs_no_memory, stepped, party_answer};
+ghost use Rattle.meeting_core.specs.Step.{decided, is_at_once_to, needs_no_memory, party_answer, stepped};
 
 use crate::changes::{
     add_appointment, add_authority, add_cast, add_demand, add_ending, add_poll, add_presence,
@@ -100,6 +100,7 @@ impl Book {
         ensures answer { IfOk result (λ a. a ≡ office_answer self.now.closed self.now.meetings now request.now) }
         ensures limits { IfOk result (λ a. IsTrue (keeps_limits a.change)) }
         ensures sure { takes_no_memory request.now ≡ true → IsOk result }
+        ensures refusals { is_refused_at_once (office_answer self.now.closed self.now.meetings now request.now) ≡ true → IsOk result }
     {
         office_answer(self.alloc, &self.closed, &self.meetings, now, request)
     }
@@ -170,6 +171,7 @@ impl Book {
         ensures answer { IfOk result (λ a. a ≡ decided self.now call.now) }
         ensures limits { IfOk result (λ a. IsTrue (keeps_limits a.change)) }
         ensures sure { needs_no_memory call.now.caller call.now.request ≡ true → IsOk result }
+        ensures refusals { is_at_once_to call.now.caller (decided self.now call.now) ≡ true → IsOk result }
     {
         match call.caller {
             Caller::Office => self.answer_to_office(call.moment, &call.request),
@@ -180,13 +182,15 @@ impl Book {
     /// The reply to a call, and its change: to a party the answer of its public record and its own
     /// things, to the office that of the whole office. The error is want of memory; a start or a
     /// close of a poll by the office needs none, nor does an office request of a party or a party
-    /// request of the office, which are refused.
+    /// request of the office, which are refused, nor any call of the office that is refused, but as
+    /// `NoQuorum` or `DemandTooSmall`.
     pub fn decide(&self, call: &Call) -> Result<(Reply, Option<Change>), AllocError>
         ensures reply { IfOk result (λ d. d.0 ≡ (decided self.now call.now).reply) }
         ensures change { IfOk result (λ d. d.1 ≡ (decided self.now call.now).change) }
         ensures held { IsTrue (is_office self.now) }
         ensures kept { IfOk result (λ d. IsTrue (is_office (after_some self.now d.1))) }
         ensures sure { needs_no_memory call.now.caller call.now.request ≡ true → IsOk result }
+        ensures refusals { is_at_once_to call.now.caller (decided self.now call.now) ≡ true → IsOk result }
     {
         // This opens the value, so that what its type keeps is known.
         let _ = &self.meetings;
@@ -234,6 +238,7 @@ impl Book {
         ensures err { OnErr result (self.new ≡ self.old) }
         ensures kept { IsTrue (is_office self.new) }
         ensures sure { needs_no_memory call.caller call.request ≡ true → IsOk result }
+        ensures refusals { is_at_once_to call.caller (decided self.old call) ≡ true → IsOk result }
     {
         let (reply, change) = self.decide(&call)?;
         if let Some(change) = change {

@@ -1,2 +1,3 @@
 pub mod CastLemmas
 pub mod OfficeFacts
+pub mod RefusedAtOnce

@@ -1,11 +1,13 @@
 -- The answer to the office.
 use Rattle.std.specs.Prelude.{ℕ, List, Bool, true, false}
+use Rattle.std.specs.Option.{option_map_or}
 use Rattle.desk_words.specs.declared.office.MeetingLists.{MeetingLists}
 use Rattle.desk_words.specs.declared.request.Request.{Request}
 use Rattle.desk_words.specs.declared.request.Request.TheVariants as asked
-use Rattle.desk_terms.specs.declared.refusal.Refusal.TheVariants.{PartyOnly}
+use Rattle.desk_terms.specs.declared.refusal.Refusal.{Refusal}
+use Rattle.desk_terms.specs.declared.refusal.Refusal.TheVariants.{PartyOnly, NoQuorum, DemandTooSmall}
 use Rattle.caller_view.specs.declared.views.Answer.{Answer}
-use Rattle.caller_view.specs.Answers.{refused}
+use Rattle.caller_view.specs.Answers.{refused, refusal_in}
 use Rattle.caller_view.specs.Views.{meeting_named}
 use Rattle.office_answers.specs.Attendance.{presence_answer}
 use Rattle.office_answers.specs.Calls.{call_answer, load_answer, in_meeting}
@@ -32,13 +34,13 @@ office_answer closed meetings now (asked.Attend meeting) = refused PartyOnly
 office_answer closed meetings now (asked.Demand poll) = refused PartyOnly
 office_answer closed meetings now (asked.Cast new) = refused PartyOnly
 
--- what is asked and answered without memory: a presence, a start or a close, and what only a party may ask
+-- what is asked and answered without memory: a presence, an order by the chair, a start or a close, and what only a party may ask
 abbrev pub takes_no_memory : Request → Bool
 takes_no_memory (asked.CallMeeting new) = false
 takes_no_memory (asked.LoadRegister new) = false
 takes_no_memory (asked.Presence new) = true
 takes_no_memory (asked.OpenMeeting meeting) = false
-takes_no_memory (asked.Order new) = false
+takes_no_memory (asked.Order new) = new.chair
 takes_no_memory (asked.Start poll) = true
 takes_no_memory (asked.Close poll) = true
 takes_no_memory (asked.Declare poll) = false
@@ -51,3 +53,13 @@ takes_no_memory (asked.Authorise new) = true
 takes_no_memory (asked.Attend meeting) = true
 takes_no_memory (asked.Demand poll) = true
 takes_no_memory (asked.Cast new) = true
+
+-- a refusal that is decided before any memory is taken: all but those for which it is counted who is present (section 318), or which shares demand a poll (section 321)
+abbrev pub is_at_once : Refusal → Bool
+is_at_once NoQuorum = false
+is_at_once DemandTooSmall = false
+is_at_once other = true
+
+-- the answer is such a refusal
+abbrev pub is_refused_at_once : Answer → Bool
+is_refused_at_once answer = option_map_or is_at_once (refusal_in answer.reply) false

@@ -2,7 +2,7 @@
 ghost use Rattle.std.specs.Prelude.{◌≡◌, true, IfOk, IsTrue, IsOk};
 ghost use Rattle.std.specs.List.{list_all};
 ghost use Rattle.desk_words.specs.Office.{is_meeting};
-ghost use Rattle.office_answers.specs.Answers.{office_answer, takes_no_memory};
+ghost use Rattle.office_answers.specs.Answers.{is_refused_at_once, office_answer, takes_no_memory};
 ghost use Rattle.office_answers.specs.Limits.{keeps_limits};
 
 use crate::attendance::note_presence;
@@ -15,7 +15,8 @@ use office_days::Closed;
 use std::alloc::{AllocError, Global};
 
 /// The answer to the office, from the closed days and all its meetings. The error is want of memory; what
-/// `takes_no_memory` names, a presence, a start and a close among it, needs none.
+/// `takes_no_memory` names, a presence, a start and a close among it, needs none, nor does a refusal
+/// other than `NoQuorum` and `DemandTooSmall`.
 pub fn office_answer(
     alloc: Global,
     closed: &Closed,
@@ -27,6 +28,7 @@ pub fn office_answer(
     ensures answer { IfOk result (λ a. a ≡ office_answer closed.now meetings.now now request.now) }
     ensures limits { IfOk result (λ a. IsTrue (keeps_limits a.change)) }
     ensures sure { takes_no_memory request.now ≡ true → IsOk result }
+    ensures refusals { is_refused_at_once (office_answer closed.now meetings.now now request.now) ≡ true → IsOk result }
 {
     match request {
         Request::CallMeeting(new) => call_meeting(meetings, new),

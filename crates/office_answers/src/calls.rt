@@ -1,8 +1,9 @@
 //! The calling of a meeting, and the loading of its register.
-ghost use Rattle.std.specs.Prelude.{◌≡◌, IfOk, IsTrue};
+ghost use Rattle.std.specs.Prelude.{◌≡◌, true, IfOk, IsOk, IsTrue};
 ghost use Rattle.std.specs.Option.{option_copied};
 ghost use Rattle.desk_words.specs.Refusals.{first_refusal};
 ghost use Rattle.desk_words.specs.Lists.{are_resolutions};
+ghost use Rattle.caller_view.specs.Answers.{is_refused};
 ghost use Rattle.office_answers.specs.Calls.{in_meeting, loads, call_cases, call_answer, load_cases, load_answer, meeting_of};
 ghost use Rattle.office_answers.specs.Limits.{keeps_limits};
 
@@ -49,10 +50,11 @@ fn new_meeting(new: &NewMeeting) -> Result<Meeting, AllocError>
 /// The answer to a call of a meeting (sections 302 and 307): `Exists` where a meeting has that
 /// name, `ShortNotice` where the clear days between the notice and the appointed day are too few,
 /// `TooMany` where there are 100, and else `Called`, which adds the meeting. The error is
-/// want of memory.
+/// want of memory; a refusal takes none.
 pub fn call_meeting(meetings: &[MeetingLists], new: &NewMeeting) -> Result<Answer, AllocError>
     ensures answer { IfOk result (λ a. a ≡ call_answer meetings.now new.now) }
     ensures limits { IfOk result (λ a. IsTrue (keeps_limits a.change)) }
+    ensures sure { is_refused (call_answer meetings.now new.now) ≡ true → IsOk result }
 {
     if let Some(refusal) = call_refusal(meetings, new) {
         return Ok(refuse(refusal));
@@ -100,7 +102,7 @@ fn loaded(same: bool, new: &NewRegister) -> Result<Answer, AllocError>
 /// The answer to a register for a meeting (section 113): the first that holds of `NoMeeting`,
 /// `OtherRecord` where it is of another moment than the meeting's record moment, `Opened`, and `Early`
 /// before that moment; else `Same` where the rows are those that are held, and else `Loaded`, which sets
-/// the register. The error is want of memory.
+/// the register. The error is want of memory; a refusal takes none.
 pub fn load_register(
     found: Option<&MeetingLists>,
     now: Moment,
@@ -108,6 +110,7 @@ pub fn load_register(
 ) -> Result<Answer, AllocError>
     ensures answer { IfOk result (λ a. a ≡ in_meeting (option_copied found.entry) (load_answer now new.now)) }
     ensures limits { IfOk result (λ a. IsTrue (keeps_limits a.change)) }
+    ensures sure { is_refused (in_meeting (option_copied found.entry) (load_answer now new.now)) ≡ true → IsOk result }
 {
     let Some(lists) = found else {
         return Ok(refuse(Refusal::NoMeeting));

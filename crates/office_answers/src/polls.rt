@@ -1,11 +1,13 @@
 //! The opening of a meeting, and the way of a poll: ordered, started, closed, declared.
-ghost use Rattle.std.specs.Prelude.{◌≡◌, ◌≤◌, ◌-◌, ◌&&◌, not, true, length, IfSome, IfOk, IsTrue};
+ghost use Rattle.std.specs.Prelude.{◌≡◌, ◌≤◌, ◌-◌, ◌&&◌, not, true, false, length, IfSome, IfOk, IsOk, IsTrue};
 ghost use Rattle.std.specs.List.{slice_get};
-ghost use Rattle.std.specs.Option.{option_copied};
+ghost use Rattle.std.specs.Option.{option_copied, option_map_or};
 ghost use Rattle.desk_words.specs.Office.{is_meeting, is_resolution, is_tally};
 ghost use Rattle.desk_words.specs.Refusals.{first_refusal};
+ghost use Rattle.caller_view.specs.Answers.{is_refused};
 ghost use Rattle.caller_view.specs.Polls.{there_is, is_started};
 ghost use Rattle.proxy_rules.specs.Shares.{are_rows};
+ghost use Rattle.office_answers.specs.Answers.{is_at_once, is_refused_at_once};
 ghost use Rattle.office_answers.specs.Attendance.{demand_in, quorum_in};
 ghost use Rattle.office_answers.specs.Limits.{keeps_limits};
 ghost use Rattle.office_answers.specs.Calls.{in_meeting};
@@ -28,7 +30,8 @@ fn open_refusal(
     now: Moment,
 ) -> Result<Option<Refusal>, AllocError>
     requires { is_meeting lists.now ≡ true }
-    ensures { IfOk result (λ refusal. refusal ≡ first_refusal (open_cases lists.now closed.now now)) }
+    ensures refusal { IfOk result (λ refusal. refusal ≡ first_refusal (open_cases lists.now closed.now now)) }
+    ensures sure { option_map_or is_at_once (first_refusal (open_cases lists.now closed.now now)) false ≡ true → IsOk result }
 {
     if !lists.meeting.loaded {
         return Ok(Some(Refusal::NoRegister));
@@ -47,8 +50,8 @@ fn open_refusal(
 
 /// The answer to the opening of a meeting: the first that holds of `NoMeeting`, `NoRegister`, `Opened`,
 /// `Early` before the appointed time, and `NoQuorum` where those who are present make no quorum (section
-/// 318); and else `MeetingOpened`, which sets the moment. The error is want of memory. Its cost is that
-/// of `poll_rules::quorum`.
+/// 318); and else `MeetingOpened`, which sets the moment. The error is want of memory; a refusal other
+/// than `NoQuorum` takes none. Its cost is that of `poll_rules::quorum`.
 pub fn open_meeting(
     alloc: Global,
     closed: &Closed,
@@ -59,6 +62,7 @@ pub fn open_meeting(
     requires { IfSome (option_copied found) (λ m. is_meeting m ≡ true) }
     ensures answer { IfOk result (λ a. a ≡ in_meeting (option_copied found.entry) (open_answer closed.now now id)) }
     ensures limits { IfOk result (λ a. IsTrue (keeps_limits a.change)) }
+    ensures sure { is_refused_at_once (in_meeting (option_copied found.entry) (open_answer closed.now now id)) ≡ true → IsOk result }
 {
     let Some(lists) = found else {
         return Ok(refuse(Refusal::NoMeeting));
@@ -90,7 +94,8 @@ fn is_unwanted(
     new: &NewPoll,
 ) -> Result<bool, AllocError>
     requires { is_meeting lists.now ≡ true }
-    ensures { IfOk result (λ b. b ≡ (not new.now.chair && not (demand_in lists.now closed.now now new.now.resolution).reached)) }
+    ensures unwanted { IfOk result (λ b. b ≡ (not new.now.chair && not (demand_in lists.now closed.now now new.now.resolution).reached)) }
+    ensures sure { new.now.chair ≡ true → IsOk result }
 {
     if new.chair {
         return Ok(false);
@@ -106,7 +111,9 @@ fn order_refusal(
     new: &NewPoll,
 ) -> Result<Option<Refusal>, AllocError>
     requires { is_meeting lists.now ≡ true }
-    ensures { IfOk result (λ refusal. refusal ≡ first_refusal (order_cases lists.now closed.now now new.now)) }
+    ensures refusal { IfOk result (λ refusal. refusal ≡ first_refusal (order_cases lists.now closed.now now new.now)) }
+    ensures sure { option_map_or is_at_once (first_refusal (order_cases lists.now closed.now now new.now)) false ≡ true → IsOk result }
+    ensures chair { new.now.chair ≡ true → IsOk result }
 {
     if !has_resolution(&lists.meeting, new.resolution) {
         return Ok(Some(Refusal::NoResolution));
@@ -129,8 +136,9 @@ fn order_refusal(
 /// The answer to the order of a poll (section 321): the first that holds of `NoMeeting`, `NoResolution`,
 /// `NotOpened`, `Early` where the poll were taken before now, `PollOrdered`, and `DemandTooSmall`
 /// where neither the chair orders it nor enough shares demand it; and else `Ordered`, which adds the
-/// poll. The error is want of memory. Without the chair its cost is that of
-/// `poll_rules::demand_reached`.
+/// poll. The error is want of memory; an order by the chair takes none, nor does a refusal other than
+/// `DemandTooSmall`. Without the chair its cost is that of `poll_rules::demand_reached`.
+#[tactic(auto, using(crate::proofs::RefusedAtOnce::at_once_settled))]
 pub fn order_poll(
     alloc: Global,
     closed: &Closed,
@@ -141,6 +149,8 @@ pub fn order_poll(
     requires { IfSome (option_copied found) (λ m. is_meeting m ≡ true) }
     ensures answer { IfOk result (λ a. a ≡ in_meeting (option_copied found.entry) (order_answer closed.now now new.now)) }
     ensures limits { IfOk result (λ a. IsTrue (keeps_limits a.change)) }
+    ensures sure { is_refused_at_once (in_meeting (option_copied found.entry) (order_answer closed.now now new.now)) ≡ true → IsOk result }
+    ensures chair { new.now.chair ≡ true → IsOk result }
 {
     let Some(lists) = found else {
         return Ok(refuse(Refusal::NoMeeting));
@@ -302,7 +312,7 @@ fn declaration(alloc: Global, lists: &MeetingLists, number: u64) -> Result<Decla
 /// The answer to the declaration of a poll: the first that holds of `NoMeeting`, `NoResolution`, `NoPoll`,
 /// `NotClosed`, and the refusal `Declared` where it is declared already; and else the reply `Declared`,
 /// with the count of the votes and whether the resolution is carried (sections 282 to 284), which sets
-/// the count. The error is want of memory.
+/// the count. The error is want of memory; a refusal takes none.
 /// Its cost is that of `poll_rules::tally`.
 pub fn declare_poll(
     alloc: Global,
@@ -314,6 +324,7 @@ pub fn declare_poll(
     requires { IfSome (option_copied found) (λ m. are_rows m.register ≡ true) }
     ensures answer { IfOk result (λ a. a ≡ in_meeting (option_copied found.entry) (declare_answer closed.now now name)) }
     ensures limits { IfOk result (λ a. IsTrue (keeps_limits a.change)) }
+    ensures sure { is_refused (in_meeting (option_copied found.entry) (declare_answer closed.now now name)) ≡ true → IsOk result }
 {
     let Some(lists) = found else {
         return Ok(refuse(Refusal::NoMeeting));

@@ -1,5 +1,6 @@
-use Rattle.std.proofs.Common.{◌≡◌, true, false, ap, sym, ◌∙◌}
+use Rattle.std.proofs.Common.{◌≡◌, true, false, Some, None, ap, sym, ◌∙◌}
 use Rattle.meeting_core.proofs.OfficeKept.{sets, sets_alone}
+use Rattle.meeting_core.proofs.RefusedCalls.{at_once_quiet}
 use Rattle.meeting_core.specs.Office.{sets_fields}
 use Rattle.meeting_core.proofs.book.Book.step.Goals as goal
 
@@ -10,4 +11,10 @@ returns-in_err-apply-clause-sure c = λ needless.
     let fields : sets_fields c.in-Some.change ≡ true =
     ap sets (sym c.in-Some.is ∙ c.in_ok-reply.ensures.change) ∙ sets_alone c.args.self.now call.moment call.caller call.request needless in
     let never : false ≡ true = c.in_err-apply.ensures.sure fields in
+    absurd (cc)
+
+-- what is refused at once has no change at all
+pub returns-in_err-apply-clause-refusals : goal.returns-in_err-apply-clause-refusals
+returns-in_err-apply-clause-refusals c = λ refused.
+    let none : Some c.in-Some.change ≡ None = sym c.in-Some.is ∙ c.in_ok-reply.ensures.change ∙ at_once_quiet c.args.self.now c.args.call refused in
     absurd (cc)
