@@ -58,9 +58,9 @@ a_load : (same : Bool) (new : NewRegister) → QuietIfRefused (loads same new)
 a_load true new = accepted (loads true new) refl
 a_load false new = accepted (loads false new) refl
 
-days : (same : Bool) (new : List ℕ) → QuietIfRefused (loads_days same new)
-days true new = accepted (loads_days true new) refl
-days false new = accepted (loads_days false new) refl
+some_days : (same : Bool) (new : List ℕ) → QuietIfRefused (loads_days same new)
+some_days true new = accepted (loads_days true new) refl
+some_days false new = accepted (loads_days false new) refl
 
 -- to a party
 to_a_party : (public : PublicRecord) (own : OwnView) (now : ℕ) (request : Request) → QuietIfRefused (answer_of public own now request)
@@ -92,7 +92,7 @@ to_the_office o now (asked.Order new) = search (in_lists, either_case, accepted)
 to_the_office o now (asked.Start name) = search (in_lists, either_case, accepted)
 to_the_office o now (asked.Close name) = search (in_lists, either_case, accepted)
 to_the_office o now (asked.Declare name) = search (in_lists, either_case, accepted)
-to_the_office o now (asked.ClosedDays new) = search days
+to_the_office o now (asked.ClosedDays new) = search some_days
 to_the_office o now (asked.Notice id) = a_refusal _
 to_the_office o now (asked.Mine id) = a_refusal _
 to_the_office o now (asked.Appoint new) = a_refusal _
