@@ -14,6 +14,7 @@ mod tests;
 pub use caller::{Caller, KeyRow, read_caller};
 pub use desk_calendar::{Day, Moment, read_day, read_moment, write_day, write_moment};
 pub use desk_devices::{FailAt, Sink, Source};
+pub use desk_filed::Filed;
 pub use desk_lists::Listing;
 pub use desk_terms::{
     Capacity, Company, HolderKind, Instr, MeetingId, MeetingKind, Party, Range, Refusal, ResKind,

@@ -3,21 +3,22 @@ use crate::lists::{DayList, KeyRows};
 use crate::records::{
     Appointment, Authority, CastMark, DemandMark, Ending, Meeting, Poll, PresenceMark, RegisterRow,
 };
+use desk_filed::Filed;
 use desk_lists::Listing;
 
 /// A meeting and its lists: the register in the order of members, the polls in the order of
-/// resolutions, and the others in order of receipt.
+/// resolutions, and the others in order of receipt, filed by the parties that each record names.
 #[derive(Drop)]
 pub struct MeetingLists {
     pub meeting: Meeting,
     pub register: Listing<RegisterRow>,
-    pub appointments: Listing<Appointment>,
-    pub endings: Listing<Ending>,
-    pub authorities: Listing<Authority>,
-    pub presences: Listing<PresenceMark>,
-    pub demands: Listing<DemandMark>,
+    pub appointments: Filed<Appointment>,
+    pub endings: Filed<Ending>,
+    pub authorities: Filed<Authority>,
+    pub presences: Filed<PresenceMark>,
+    pub demands: Filed<DemandMark>,
     pub polls: Listing<Poll>,
-    pub casts: Listing<CastMark>,
+    pub casts: Filed<CastMark>,
 }
 
 /// All that an office holds.

@@ -1,10 +1,11 @@
 //! The records of an office. Moments are seconds of the office's wall clock, shares are counts,
 //! and what is paid up is in pence on each share.
-ghost use Rattle.std.specs.Prelude.{◌≡◌};
+ghost use Rattle.std.specs.Prelude.{◌≡◌, Some, None};
 ghost use Rattle.desk_words.specs.Rows.{same_row};
 
 use crate::lists::Resolutions;
 use desk_calendar::{Day, Moment};
+use desk_filed::FiledBy;
 use desk_lists::{Keyed, Listing};
 use desk_terms::{
     Capacity, Company, HolderKind, Instr, MeetingId, MeetingKind, Party, Range, ResKind, Text, Way,
@@ -83,6 +84,22 @@ pub struct Appointment {
     pub moment: Moment,
 }
 
+impl FiledBy for Appointment {
+    type Key = Party;
+
+    ghost first_key_of = { λ appointment. appointment.member };
+
+    ghost second_key_of = { λ appointment. Some appointment.proxy };
+
+    fn first_key(&self) -> Party {
+        self.member
+    }
+
+    fn second_key(&self) -> Option<Party> {
+        Some(self.proxy)
+    }
+}
+
 /// The ending of an appointment (section 330).
 #[derive(Clone, Copy, PartialEq, Eq)]
 pub struct Ending {
@@ -90,6 +107,22 @@ pub struct Ending {
     /// The number of the member's appointment that it ends.
     pub number: u64,
     pub moment: Moment,
+}
+
+impl FiledBy for Ending {
+    type Key = Party;
+
+    ghost first_key_of = { λ ending. ending.member };
+
+    ghost second_key_of = { λ _. None };
+
+    fn first_key(&self) -> Party {
+        self.member
+    }
+
+    fn second_key(&self) -> Option<Party> {
+        None
+    }
 }
 
 /// An authority to act as a corporation's representative (section 323).
@@ -100,11 +133,43 @@ pub struct Authority {
     pub moment: Moment,
 }
 
+impl FiledBy for Authority {
+    type Key = Party;
+
+    ghost first_key_of = { λ authority. authority.corporation };
+
+    ghost second_key_of = { λ authority. Some authority.person };
+
+    fn first_key(&self) -> Party {
+        self.corporation
+    }
+
+    fn second_key(&self) -> Option<Party> {
+        Some(self.person)
+    }
+}
+
 /// A mark that a party is present.
 #[derive(Clone, Copy, PartialEq, Eq)]
 pub struct PresenceMark {
     pub party: Party,
     pub moment: Moment,
+}
+
+impl FiledBy for PresenceMark {
+    type Key = Party;
+
+    ghost first_key_of = { λ mark. mark.party };
+
+    ghost second_key_of = { λ _. None };
+
+    fn first_key(&self) -> Party {
+        self.party
+    }
+
+    fn second_key(&self) -> Option<Party> {
+        None
+    }
 }
 
 /// A party's demand of a poll on a resolution (sections 321 and 329).
@@ -114,6 +179,22 @@ pub struct DemandMark {
     pub resolution: u64,
     pub party: Party,
     pub moment: Moment,
+}
+
+impl FiledBy for DemandMark {
+    type Key = Party;
+
+    ghost first_key_of = { λ mark. mark.party };
+
+    ghost second_key_of = { λ _. None };
+
+    fn first_key(&self) -> Party {
+        self.party
+    }
+
+    fn second_key(&self) -> Option<Party> {
+        None
+    }
 }
 
 /// A count of votes, in shares. `eligible` is the number of all shares that are not treasury
@@ -176,4 +257,20 @@ pub struct CastMark {
     pub voter: Party,
     pub what: CastKind,
     pub moment: Moment,
+}
+
+impl FiledBy for CastMark {
+    type Key = Party;
+
+    ghost first_key_of = { λ mark. mark.voter };
+
+    ghost second_key_of = { λ _. None };
+
+    fn first_key(&self) -> Party {
+        self.voter
+    }
+
+    fn second_key(&self) -> Option<Party> {
+        None
+    }
 }

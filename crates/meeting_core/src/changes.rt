@@ -8,8 +8,8 @@ ghost use Rattle.meeting_core.specs.Office.{change_at, change_poll, closed_at, d
 use caller_view::find_poll;
 use desk_words::{
     AddAppointment, AddAuthority, AddCast, AddDemand, AddEnding, AddPoll, AddPresence, Appointment,
-    Authority, CastKind, CastMark, DemandMark, Ending, Listing, Meeting, MeetingId, MeetingLists,
-    Moment, Poll, PresenceMark, Register, SetOpened, SetPollMoment, SetTally, Tally,
+    Authority, CastKind, CastMark, DemandMark, Ending, Filed, Listing, Meeting, MeetingId,
+    MeetingLists, Moment, Poll, PresenceMark, Register, SetOpened, SetPollMoment, SetTally, Tally,
 };
 use meeting_views::place_of_meeting;
 use std::alloc::{AllocError, Global};
@@ -21,13 +21,13 @@ pub fn new_lists(alloc: Global, meeting: Meeting) -> MeetingLists
     MeetingLists {
         meeting,
         register: Listing::new(alloc),
-        appointments: Listing::new(alloc),
-        endings: Listing::new(alloc),
-        authorities: Listing::new(alloc),
-        presences: Listing::new(alloc),
-        demands: Listing::new(alloc),
+        appointments: Filed::new(alloc),
+        endings: Filed::new(alloc),
+        authorities: Filed::new(alloc),
+        presences: Filed::new(alloc),
+        demands: Filed::new(alloc),
         polls: Listing::new(alloc),
-        casts: Listing::new(alloc),
+        casts: Filed::new(alloc),
     }
 }
 
