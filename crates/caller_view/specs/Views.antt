@@ -99,13 +99,21 @@ governed_by m cutoffs a = governed_of cutoffs m.register m.appointments m.ending
 abbrev pub poll_governed : MeetingLists → List ℕ → Appointment → Poll → PollGoverned
 poll_governed m closed a poll = record { resolution = poll.resolution; governs = governed_by m (late_cutoffs poll closed) a }
 
--- an appointment, with what it governs for the meeting and for each late poll, by the closed days as they stand (section 324)
-abbrev pub received_in : MeetingLists → List ℕ → ℕ → Appointment → Received
-received_in m closed now a = record {
-  appointment = a;
-  governs = governed_by m (meeting_cutoffs m.meeting closed now) a;
-  polls = map (poll_governed m closed a) (filter (is_late_poll closed) m.polls);
+-- an appointment as its proxy knows it, with the places that it governs: without its number, which counts what the member gave to others (sections 324 and 324A)
+abbrev pub known_to_proxy : Appointment → List Places → List PollGoverned → Received
+known_to_proxy a governs polls = record {
+  member = a.member;
+  range = a.range;
+  instructions = a.instructions;
+  moment = a.moment;
+  governs = governs;
+  polls = polls;
 }
+
+-- an appointment as its proxy knows it, with what it governs for the meeting and for each late poll, by the closed days as they stand (section 324)
+abbrev pub received_in : MeetingLists → List ℕ → ℕ → Appointment → Received
+received_in m closed now a =
+    known_to_proxy a (governed_by m (meeting_cutoffs m.meeting closed now) a) (map (poll_governed m closed a) (filter (is_late_poll closed) m.polls))
 
 -- the own things of a party in a meeting, by the closed days as they stand, at a moment
 abbrev pub own_in : MeetingLists → List ℕ → List ℕ → ℕ → OwnView

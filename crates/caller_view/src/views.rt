@@ -26,7 +26,7 @@ pub struct OwnView {
     pub given: Listing<Given>,
     /// The authorities that it gave (section 323).
     pub persons: Listing<Authority>,
-    /// The appointments that name it, with the places that each governs.
+    /// What it knows of the appointments that name it, with the places that each governs.
     pub received: Listing<Received>,
     /// The corporations that authorised it, with their shares.
     pub authorised: Listing<Authorised>,

@@ -51,7 +51,7 @@ poll_governed_below p =
 received_below : (r : Received) → depth (received_data r) ≤ 5
 received_below r =
     let governs : items_depth (items_of (map run_data r.governs)) ≤ 1 = items_below run_data 1 (λ _. omega arith) r.governs in
-    let instructions : items_depth (items_of (map instruction_data r.appointment.instructions)) ≤ 0 = items_below instruction_data 0 (λ _. omega arith) r.appointment.instructions in
+    let instructions : items_depth (items_of (map instruction_data r.instructions)) ≤ 0 = items_below instruction_data 0 (λ _. omega arith) r.instructions in
     let polls : items_depth (items_of (map poll_governed_data r.polls)) ≤ 3 = items_below poll_governed_data 3 poll_governed_below r.polls in
     omega arith
 

@@ -45,7 +45,7 @@ poll_governed_whole p = rw (list_whole run_data (λ _. refl) p.governs)
 received_whole : (r : Received) → has_float (received_data r) ≡ false
 received_whole r = rw (
   list_whole run_data (λ _. refl) r.governs,
-  list_whole instruction_data (λ _. refl) r.appointment.instructions,
+  list_whole instruction_data (λ _. refl) r.instructions,
   list_whole poll_governed_data poll_governed_whole r.polls,
 )
 

@@ -49,13 +49,13 @@ poll_governed_data p = with_members (
 -- an appointment that names the party; `received` is the moment of its receipt, `governs` has the places that it governs for the meeting, in runs in order, and `polls` those for each late poll
 abbrev pub received_data : Received → Data
 received_data r = with_members (
-    (codes "from", whole r.appointment.range.from)
+    (codes "from", whole r.range.from)
     ∷ (codes "governs", listed run_data r.governs)
-    ∷ (codes "instructions", listed instruction_data r.appointment.instructions)
-    ∷ (codes "member", name_data r.appointment.member)
+    ∷ (codes "instructions", listed instruction_data r.instructions)
+    ∷ (codes "member", name_data r.member)
     ∷ (codes "polls", listed poll_governed_data r.polls)
-    ∷ (codes "received", moment_data r.appointment.moment)
-    ∷ (codes "to", whole r.appointment.range.to)
+    ∷ (codes "received", moment_data r.moment)
+    ∷ (codes "to", whole r.range.to)
     ∷ [])
 
 -- the number of an appointment that is recorded, and what it counts for

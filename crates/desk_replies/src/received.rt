@@ -28,19 +28,18 @@ impl Shown for Received {
     ghost shown = { received_data };
 
     fn value(&self, alloc: Global) -> Result<Value, AllocError> {
-        let appointment = &self.appointment;
         let governs = list_value(alloc, self.governs.as_slice())?;
-        let instructions = list_value(alloc, appointment.instructions.as_slice())?;
+        let instructions = list_value(alloc, self.instructions.as_slice())?;
         let polls = list_value(alloc, self.polls.as_slice())?;
-        let received = appointment.moment.value(alloc)?;
+        let received = self.moment.value(alloc)?;
         json!(in alloc; {
-            "from": appointment.range.from(),
+            "from": self.range.from(),
             "governs": governs,
             "instructions": instructions,
-            "member": appointment.member.as_str(),
+            "member": self.member.as_str(),
             "polls": polls,
             "received": received,
-            "to": appointment.range.to()
+            "to": self.range.to()
         })
     }
 }

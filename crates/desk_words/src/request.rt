@@ -184,11 +184,18 @@ pub struct PollGoverned {
     pub governs: Listing<Range>,
 }
 
-/// An appointment that names a party, with the places of its member's shares that it governs, in
-/// runs in order.
+/// What a party knows of an appointment that names it as the proxy, with the places of the member's
+/// shares that the appointment governs, in runs in order. The member's own number of it is left
+/// out, since it counts what the member gave to others.
 #[derive(Clone, Drop)]
 pub struct Received {
-    pub appointment: Appointment,
+    /// The member who gave it.
+    pub member: Party,
+    pub range: Range,
+    /// One instruction for each resolution (section 324A).
+    pub instructions: Listing<Instr>,
+    /// When it was received.
+    pub moment: Moment,
     /// What it governs for the meeting, and for each poll that is not late.
     pub governs: Listing<Range>,
     /// What it governs for each late poll, in the order of resolutions.

@@ -212,7 +212,7 @@ mine_named : (id : List ℕ) (cutoff : ℕ) (own : OwnView) → in_view own ≡ 
 mine_named id cutoff own =
     λ i. own.party ∷ (in_row own.row ++ sym (names_of_uses cutoff own.given) i ++ flat_map in_authority own.persons
     ++ map (λ (a : Authorised). a.corporation) own.authorised ++ map (λ (d : DemandMark). d.party) own.demands ++ flat_map in_cast own.casts
-    ++ flat_map (λ (r : Received). in_appointment r.appointment) own.received)
+    ++ map (λ (r : Received). r.member) own.received)
 
 names_told : (id : List ℕ) (cutoff : ℕ) (own : OwnView) → All (Contains (in_view own)) (in_mine (mine_of id cutoff own))
 names_told id cutoff own =

@@ -53,7 +53,7 @@ abbrev pub in_mine : Mine → Names
 in_mine m =
     in_row m.row ++ flat_map (λ (g : GivenUse). in_appointment g.given.appointment) m.given ++ flat_map in_authority m.persons
     ++ map (λ (a : Authorised). a.corporation) m.authorised ++ map (λ (d : DemandMark). d.party) m.demands ++ flat_map in_cast m.casts
-    ++ flat_map (λ (r : Received). in_appointment r.appointment) m.received
+    ++ map (λ (r : Received). r.member) m.received
 
 -- the parties named in a reply
 abbrev pub in_reply : Reply → Names
@@ -79,7 +79,7 @@ in_view own =
     own.party
     ∷ (in_row own.row ++ flat_map (λ (g : Given). in_appointment g.appointment) own.given ++ flat_map in_authority own.persons
     ++ map (λ (a : Authorised). a.corporation) own.authorised ++ map (λ (d : DemandMark). d.party) own.demands ++ flat_map in_cast own.casts
-    ++ flat_map (λ (r : Received). in_appointment r.appointment) own.received)
+    ++ map (λ (r : Received). r.member) own.received)
 
 -- it names the caller's own: every party named in a reply to a party is that party, or stands in its own things
 abbrev pub NamesOwn : Answering → Type 0

@@ -1,7 +1,7 @@
 -- What a meeting's lists give: the numbers of a member's appointments, and holdings that runs are
 -- made of.
 use Rattle.std.proofs.Common.{◌≡◌, ℕ, suc, ◌+◌, ◌<◌, ◌≤◌, Bool, true, false, cond, List, [], ◌∷◌, ◌++◌, length, map, filter, refl, sym, ap, ◌∙◌, subst, arith, ◌⊎◌, inl, inr, length-append}
-use Rattle.std.specs.Prelude.{◌&&◌, ◌||◌, ◌==◌, Option, Some, None, IfSome, count_by, nat_le, is_some, option_map}
+use Rattle.std.specs.Prelude.{◌&&◌, ◌||◌, ◌==◌, Option, Some, IfSome, count_by, nat_le, option_map}
 use Rattle.std.specs.BTreeMap.{BTreeMap, get}
 use Rattle.std.specs.Cmp.{first_so, second_so}
 use Rattle.std.specs.Cmp.Derive.{both_true}
@@ -13,7 +13,7 @@ use Rattle.std.proofs.lemmas.List.{append-nil, map-append}
 use Rattle.std.proofs.lemmas.List.Elements.{filter-append}
 use Rattle.std.proofs.lemmas.List.Sums.{length-filter}
 use Rattle.desk_terms.specs.Names.{same_name, name_cmp}
-use Rattle.desk_terms.specs.Places.{Places, most_places}
+use Rattle.desk_terms.specs.Places.{most_places}
 use Rattle.desk_words.proofs.RowLemmas.{same_name-true, same_name-refl}
 use Rattle.desk_words.specs.Office.{is_appointment, are_appointments, are_numbered_after}
 use Rattle.desk_words.specs.Ordered.{ascends_by}
@@ -22,14 +22,12 @@ use Rattle.desk_words.specs.declared.office.MeetingLists.{MeetingLists}
 use Rattle.desk_words.specs.declared.records.Appointment.{Appointment}
 use Rattle.desk_words.specs.declared.records.Ending.{Ending}
 use Rattle.desk_words.specs.declared.records.RegisterRow.{RegisterRow}
-use Rattle.share_blocks.specs.Tags.{is_tag}
-use Rattle.caller_view.specs.Views.{ended_at, given_in, governed_by, poll_governed, received_in}
+use Rattle.caller_view.specs.Views.{ended_at, given_in, governed_by, known_to_proxy, poll_governed, received_in}
 use Rattle.proxy_rules.specs.Cutoffs.{is_late_poll, late_cutoffs, meeting_cutoffs}
 use Rattle.proxy_rules.specs.Governing.{shares_by, governed_of}
-use Rattle.proxy_rules.specs.Holdings.{appointed_by, is_given_by, is_ended_of, holding_of, governed_in, has_tag, are_tagged, are_tags}
+use Rattle.proxy_rules.specs.Holdings.{appointed_by, is_given_by, is_ended_of, governed_in, are_tagged}
 use Rattle.proxy_rules.specs.Laws.{has_number}
 use Rattle.proxy_rules.specs.Shares.{are_rows}
-use Rattle.proxy_rules.specs.declared.holdings.Appointed.{Appointed}
 use Rattle.proxy_rules.specs.declared.holdings.Holding.{Holding}
 use Rattle.proxy_rules.specs.declared.papers.Cutoffs.{Cutoffs}
 use Rattle.proxy_rules.proofs.HoldingLemmas.{governed_of-governed_in, governed_in-later}
@@ -284,7 +282,7 @@ received-kept m closed party now named parts kept =
     (λ poll _.
     let one = governed_at-kept m party named (late_cutoffs poll closed) a parts kept here in
     λ i. record { resolution = poll.resolution; governs = one i }) in
-    λ i. record { appointment = a; governs = governs i; polls = polls i })
+    λ i. known_to_proxy a (governs i) (polls i))
 
 -- the appointments that the party gave, with their endings by number
 pub given-kept : (m : MeetingLists) (party : List ℕ) (ended : BTreeMap ℕ ℕ) → ((number : ℕ) → get nat_cmp ended number ≡ ended_at m.endings party number)

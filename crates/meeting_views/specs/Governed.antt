@@ -1,5 +1,5 @@
 -- What appointments govern, as it is kept by member and number.
-use Rattle.std.specs.Prelude.{◌≡◌, ℕ, ◌≤◌, Bool, true, List, [], map, filter, Option, Vec, IfSome}
+use Rattle.std.specs.Prelude.{◌≡◌, ℕ, ◌≤◌, Bool, true, List, [], map, filter, Vec, IfSome}
 use Rattle.std.specs.BTreeMap.{BTreeMap, get}
 use Rattle.std.specs.List.{list_any}
 use Rattle.std.specs.Option.{option_map_or}
@@ -11,6 +11,7 @@ use Rattle.desk_words.specs.declared.records.Appointment.{Appointment}
 use Rattle.desk_words.specs.declared.records.Poll.{Poll}
 use Rattle.desk_words.specs.declared.request.PollGoverned.{PollGoverned}
 use Rattle.desk_words.specs.declared.request.Received.{Received}
+use Rattle.caller_view.specs.Views.{known_to_proxy}
 use Rattle.proxy_rules.specs.Cutoffs.{is_late_poll, late_cutoffs, meeting_cutoffs}
 use Rattle.proxy_rules.specs.Holdings.{are_tagged, governed_in, is_given_by}
 use Rattle.proxy_rules.specs.Runs.{runs_at}
@@ -42,22 +43,16 @@ is_among member given = list_any (is_given_by member) given
 abbrev pub poll_kept : List ℕ → ℕ → PollRuns → PollGoverned
 poll_kept member number late = record { resolution = late.resolution; governs = runs_of late.runs member number }
 
--- an appointment, with the runs that are kept for the meeting and for late polls
+-- an appointment as its proxy knows it, with the runs that are kept for the meeting and for late polls
 abbrev pub received_kept : BTreeMap (List ℕ) Numbered → List PollRuns → Appointment → Received
-received_kept runs late a = record {
-  appointment = a;
-  governs = runs_of runs a.member a.number;
-  polls = map (poll_kept a.member a.number) late;
-}
+received_kept runs late a = known_to_proxy a (runs_of runs a.member a.number) (map (poll_kept a.member a.number) late)
 
 -- what a member's number governs for a late poll in the holding that is kept
 abbrev pub poll_due : BTreeMap (List ℕ) Holding → List ℕ → List ℕ → ℕ → Poll → PollGoverned
 poll_due named closed member number poll = record { resolution = poll.resolution; governs = governed_at (late_cutoffs poll closed) named member number }
 
--- an appointment, with what it governs for the meeting and for each late poll in the holding that is kept of its member
+-- an appointment as its proxy knows it, with what it governs for the meeting and for each late poll in the holding that is kept of its member
 abbrev pub received_due : MeetingLists → List ℕ → ℕ → BTreeMap (List ℕ) Holding → Appointment → Received
-received_due m closed now named a = record {
-  appointment = a;
-  governs = governed_at (meeting_cutoffs m.meeting closed now) named a.member a.number;
-  polls = map (poll_due named closed a.member a.number) (filter (is_late_poll closed) m.polls);
-}
+received_due m closed now named a =
+    known_to_proxy a (governed_at (meeting_cutoffs m.meeting closed now) named a.member a.number)
+    (map (poll_due named closed a.member a.number) (filter (is_late_poll closed) m.polls))

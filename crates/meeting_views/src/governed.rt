@@ -134,7 +134,7 @@ fn polls_of(
     Ok(polls)
 }
 
-/// The appointments, each with what it governs.
+/// The appointments as their proxy knows them, each with what it governs.
 fn with_runs(
     alloc: Global,
     received: Listing<Appointment>,
@@ -148,7 +148,10 @@ fn with_runs(
         let governs = runs_of(alloc, runs, appointment.member, appointment.number)?;
         let polls = polls_of(alloc, late, appointment.member, appointment.number)?;
         all.push(Received {
-            appointment,
+            member: appointment.member,
+            range: appointment.range,
+            instructions: appointment.instructions,
+            moment: appointment.moment,
             governs,
             polls,
         })?;
@@ -156,8 +159,8 @@ fn with_runs(
     Ok(all)
 }
 
-/// The appointments, each with what it governs of the holding that is kept of its member: for the
-/// meeting and the polls that are not late, and for each late poll.
+/// The appointments as their proxy knows them, each with what it governs of the holding that is
+/// kept of its member: for the meeting and the polls that are not late, and for each late poll.
 pub(crate) fn received_with(
     alloc: Global,
     lists: &MeetingLists,

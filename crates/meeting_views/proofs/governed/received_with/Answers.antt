@@ -1,5 +1,5 @@
-use Rattle.std.proofs.Common.{◌≡◌, List, map, ap, sym, ◌∙◌}
-use Rattle.desk_words.specs.declared.records.Appointment.{Appointment}
+use Rattle.std.proofs.Common.{List, map, ap, ◌∙◌}
+use Rattle.caller_view.specs.Views.{known_to_proxy}
 use Rattle.proxy_rules.specs.declared.papers.Cutoffs.{Cutoffs}
 use Rattle.meeting_views.specs.Governed.{governed_at, is_among, received_due, received_kept}
 use Rattle.meeting_views.specs.declared.governed.PollRuns.{PollRuns}
@@ -19,4 +19,4 @@ returns c =
     let governs = c.in_ok-runs.ensures a.member a.number (ap (is_among a.member) c.as_slice.ensures ∙ h)
     ∙ ap (λ (cutoffs : Cutoffs). governed_at cutoffs named a.member a.number) c.cutoffs-meeting.ensures in
     let polls = c.in_ok-late.ensures a.member a.number (ap (is_among a.member) c.as_slice-2.ensures ∙ h) in
-    λ i. record { appointment = a; governs = governs i; polls = polls i })
+    λ i. known_to_proxy a (governs i) (polls i))

@@ -1,4 +1,4 @@
-use Rattle.std.proofs.Common.{◌≡◌, ℕ, List, map, filter, ap, ◌∙◌}
+use Rattle.std.proofs.Common.{ℕ, List, map, filter, ap, ◌∙◌}
 use Rattle.std.specs.List.{list_any}
 use Rattle.desk_words.specs.Names.{same_name}
 use Rattle.desk_words.specs.declared.records.Authority.{Authority}

@@ -1,4 +1,4 @@
-use Rattle.std.proofs.Common.{◌≡◌, ℕ, List, map, filter, ap, sym, ◌∙◌}
+use Rattle.std.proofs.Common.{map, filter, ap, ◌∙◌}
 use Rattle.desk_words.specs.Names.{same_name}
 use Rattle.desk_words.specs.declared.records.Appointment.{Appointment}
 use Rattle.caller_view.specs.Views.{ended_at}
