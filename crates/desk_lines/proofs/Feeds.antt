@@ -1,7 +1,8 @@
 -- Where the first line feed stands.
-use Rattle.std.proofs.Common.{◌≡◌, ℕ, zero, suc, ◌+◌, ◌<◌, ◌≤◌, Bool, true, false, not, cond, ltb, List, [], ◌∷◌, ◌++◌, Option, Some, None, MatchOption, length, take, drop, refl, ap, subst, ◌∙◌, arith, ⊎_elim, length-drop, length-take}
+use Rattle.std.proofs.Common.{◌≡◌, ℕ, zero, suc, ◌+◌, ◌<◌, ◌≤◌, Bool, true, false, not, cond, ltb, List, [], ◌∷◌, ◌++◌, Option, Some, None, MatchOption, length, take, drop, refl, ap, subst, sym, ◌∙◌, arith, ⊎_elim, length-append, length-drop, length-take}
 use Rattle.std.specs.List.{position}
 use Rattle.std.proofs.Math.Seq.{take-add, take-length}
+use Rattle.std.proofs.lemmas.List.{take-append-drop}
 use Rattle.std.proofs.lemmas.List.Sums.{count_by-le-length, prefix_len-le-length, sum_by-append, sum_by-cons}
 use Rattle.std.proofs.lemmas.List.Folds.{prefix_len-append}
 use Rattle.std.proofs.lemmas.Bool.Decides.{nat_tests}
@@ -36,6 +37,22 @@ feed_place-append_le xs ys =
     ⊎_elim (λ (more : feed_place xs < length xs). omega (arith, feed_place-append_some xs ys more))
     (λ (none : length xs ≤ feed_place xs). let same : feed_place xs ≡ length xs = omega (arith, feed_place-le xs) in omega (arith, feed_place-append_none xs ys same))
     (cases_lt (feed_place xs) (length xs))
+
+-- behind a front with no line feed
+pub feed_place-front : (front bytes : List ℕ) → take (length front) bytes ≡ front → feed_place front ≡ length front → length front ≤ feed_place bytes
+feed_place-front front bytes e none =
+    let parts : bytes ≡ front ++ drop (length front) bytes = sym (take-append-drop (length front) bytes) ∙ ap (λ x. x ++ drop (length front) bytes) e in
+    omega (arith, ap feed_place parts, feed_place-append_none front (drop (length front) bytes) none)
+
+-- the front of bytes with no line feed
+pub feed_place-take : (n : ℕ) (bytes : List ℕ) → feed_place bytes ≡ length bytes → feed_place (take n bytes) ≡ length (take n bytes)
+feed_place-take n bytes none =
+    let front = take n bytes in
+    let back = drop n bytes in
+    let whole : feed_place (front ++ back) ≡ length front + length back = ap feed_place (take-append-drop n bytes) ∙ none ∙ ap length (sym (take-append-drop n bytes)) ∙ length-append front back in
+    ⊎_elim (λ (some : feed_place front < length front). absurd (omega (arith, whole, feed_place-append_some front back some)))
+    (λ (all : length front ≤ feed_place front). omega (arith, all, feed_place-le front))
+    (cases_lt (feed_place front) (length front))
 
 pub still-searched : (searched : ℕ) (old new bytes : List ℕ) → searched ≤ feed_place old → new ≡ old ++ bytes → searched ≤ feed_place new
 still-searched searched old new bytes h e = rw e (omega (arith, feed_place-append_le old bytes))

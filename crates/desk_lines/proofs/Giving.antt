@@ -1,5 +1,6 @@
 -- What a line taken from the pending bytes says of all unread bytes.
-use Rattle.std.proofs.Common.{◌≡◌, ℕ, ◌+◌, ◌-◌, ◌<◌, ◌≤◌, Bool, true, false, cond, eqb, ltb, get_or, List, [], ◌++◌, Option, Some, None, length, take, refl, sym, ap, subst, ◌∙◌, arith, length-append, length-take}
+use Rattle.std.proofs.Common.{◌≡◌, ℕ, ◌+◌, ◌-◌, ◌<◌, ◌≤◌, Bool, true, false, cond, eqb, ltb, get_or, List, [], ◌++◌, Option, Some, None, Ok, Err, length, take, refl, sym, ap, subst, ◌∙◌, arith, length-append, length-take, inr}
+use Rattle.std.specs.Prelude.{Result, OnErr}
 use Rattle.std.proofs.lemmas.List.{take-append-le}
 use Rattle.std.proofs.lemmas.Bool.Decides.{nat_tests}
 use Rattle.std.specs.Io.KnownBytes.{Keeps}
@@ -7,9 +8,9 @@ use Rattle.desk_lines.specs.Lines.{feed_place, first_line, after_line, without_r
 use Rattle.desk_lines.specs.Reading.{unread, Gives, TakesLine, longest_line}
 use Rattle.desk_lines.specs.declared.outcome.NextLine.{NextLine}
 use Rattle.desk_lines.specs.declared.outcome.NextLine.TheVariants.{Whole, TooLong, End}
-use Rattle.desk_lines.specs.Front.{GivesFirst, StaysInLine, LosesLine}
+use Rattle.desk_lines.specs.Front.{GivesFirst, SameLines, StaysInLine, LosesLine}
 use Rattle.desk_lines.proofs.Feeds.{feed_place-le, feed_place-append_none, feed_place-append_some}
-use Rattle.desk_lines.proofs.Taking.{after_line-append_some}
+use Rattle.desk_lines.proofs.Taking.{after_line-append_none, after_line-append_some}
 
 without-long : (b : Bool) (xs : List ℕ) → length xs ≤ length (cond b (take (length xs - 1) xs) xs) + 1
 without-long true xs = omega (arith, length-take (length xs - 1) xs)
@@ -59,8 +60,11 @@ gives-fed TooLong None mid new line remaining same some given = (given.0, tt)
 gives-fed TooLong (Some bytes) mid new line None same some given = absurd same
 gives-fed TooLong (Some bytes) mid new line (Some rest) same some given = (given.0, taken-fed bytes mid new rest (λ first. longest_line < length first) same some given.2 given.1)
 
--- a full buffer with no line feed is the front of a line that is too long
-pub gives-skipped : (a : Option (List ℕ)) (mid line : List ℕ) (remaining b : Option (List ℕ)) → Keeps a (unread mid remaining) → feed_place mid ≡ length mid → length mid ≡ 65538 →
+-- so many bytes with no line feed are the front of a line that is too long
+long-front : (front rest : List ℕ) → feed_place front ≡ length front → 65538 ≤ length front → longest_line < length (first_line (front ++ rest))
+long-front front rest none long = omega (arith, feed_place-append_none front rest none, length-first_line (front ++ rest))
+
+pub gives-skipped : (a : Option (List ℕ)) (mid line : List ℕ) (remaining b : Option (List ℕ)) → Keeps a (unread mid remaining) → feed_place mid ≡ length mid → 65538 ≤ length mid →
     LosesLine (unread mid remaining) b → line ≡ [] → Gives TooLong a b line
 gives-skipped None mid line remaining b same none full lost e = (e, tt)
 gives-skipped (Some bytes) mid line None b same none full lost e = absurd same
@@ -75,17 +79,21 @@ gives-skipped (Some bytes) mid line (Some rest) (Some left) same none full lost 
       ),
     )
 
-pub stays-none : (a b : Option (List ℕ)) → Keeps a b → StaysInLine a b
-stays-none None b p = tt
-stays-none (Some x) None p = absurd p
-stays-none (Some x) (Some y) p = ([], sym p, refl)
-
-pub stays-front : (a b c : Option (List ℕ)) → Keeps a b → StaysInLine b c → StaysInLine a c
-stays-front None b c p q = tt
-stays-front (Some x) None c p q = absurd p
-stays-front (Some x) (Some y) None p q = absurd q
-stays-front (Some x) (Some y) (Some z) p q = (q.0, sym p ∙ q.1, q.2)
+-- behind two fronts of lines that are too long the same lines are to come
+pub same-long : (old new : List ℕ) (a b : Option (List ℕ)) → feed_place old ≡ length old → 65538 ≤ length old → feed_place new ≡ length new → 65538 ≤ length new
+    → StaysInLine (unread old a) b → SameLines (unread old a) (unread new b)
+same-long old new None b p long q longer s = tt
+same-long old new (Some x) None p long q longer s = absurd s
+same-long old new (Some x) (Some y) p long q longer s = inr (record {
+  long_before = long-front old x p long;
+  long_after = long-front new y q longer;
+  same_behind = after_line-append_none new y q ∙ sym (after_line-append_none s.0 y s.2) ∙ ap after_line (sym s.1);
+})
 
 pub Keeps-same : (a : Option (List ℕ)) → Keeps a a
 Keeps-same None = tt
 Keeps-same (Some x) = refl
+
+pub on_err : {T E X : Type 0} (r : Result T E) → X → OnErr r X
+on_err (Ok t) x = tt
+on_err (Err e) x = x

@@ -1,12 +1,12 @@
 -- Lines that are taken from the front of the unread bytes.
-use Rattle.std.proofs.Common.{◌≡◌, ℕ, ◌+◌, ◌<◌, ◌≤◌, List, [], ◌++◌, Option, Some, None, length, drop, refl, sym, ap, ◌∙◌, arith, append_assoc, length-append, IfSome}
-use Rattle.std.proofs.Math.Seq.{drop-append-add}
+use Rattle.std.proofs.Common.{◌≡◌, ℕ, ◌+◌, ◌<◌, ◌≤◌, List, ◌++◌, Option, Some, None, length, drop, sym, ap, ◌∙◌, arith, append_assoc, length-append, length-drop, IfSome}
+use Rattle.std.proofs.Math.Seq.{drop-append-add, drop-append_seam}
 use Rattle.std.proofs.lemmas.List.{drop-append-le}
 use Rattle.std.specs.Io.KnownBytes.{Keeps}
 use Rattle.desk_lines.specs.Lines.{feed_place, after_line}
 use Rattle.desk_lines.specs.Reading.{unread, SameWhole}
 use Rattle.desk_lines.specs.Front.{StaysInLine, LosesLine}
-use Rattle.desk_lines.proofs.Feeds.{feed_place-append_none, feed_place-append_some}
+use Rattle.desk_lines.proofs.Feeds.{feed_place-append_none, feed_place-append_some, feed_place-drop}
 
 pub after_line-append_none : (xs ys : List ℕ) → feed_place xs ≡ length xs → after_line (xs ++ ys) ≡ after_line ys
 after_line-append_none xs ys none =
@@ -18,20 +18,6 @@ after_line-append_some xs ys some =
     let within : feed_place xs + 1 ≤ length xs = omega arith in
     ap (λ n. drop (n + 1) (xs ++ ys)) (feed_place-append_some xs ys some) ∙ drop-append-le (feed_place xs + 1) xs ys within
 
-pub stays-dropped : (pending rest : List ℕ) (remaining : Option (List ℕ)) → feed_place pending ≡ length pending → rest ≡ [] → StaysInLine (unread pending remaining) (unread rest remaining)
-stays-dropped pending rest None none e = tt
-stays-dropped pending rest (Some xs) none e = rw e (pending, refl, none)
-
-stays-pending : (pending : List ℕ) (remaining : Option (List ℕ)) → feed_place pending ≡ length pending → StaysInLine (unread pending remaining) remaining
-stays-pending pending None none = tt
-stays-pending pending (Some xs) none = (pending, refl, none)
-
-pub stays-kept : (a b c : Option (List ℕ)) → StaysInLine a b → Keeps b c → StaysInLine a c
-stays-kept None b c p q = tt
-stays-kept (Some x) None c p q = absurd p
-stays-kept (Some x) (Some y) None p q = absurd q
-stays-kept (Some x) (Some y) (Some z) p q = (p.0, rw q p.1, p.2)
-
 -- there is no line feed in two parts, where there is none in each
 unfed-append : (xs ys : List ℕ) → feed_place xs ≡ length xs → feed_place ys ≡ length ys → feed_place (xs ++ ys) ≡ length (xs ++ ys)
 unfed-append xs ys p q = omega (arith, feed_place-append_none xs ys p, q, length-append xs ys)
@@ -42,20 +28,27 @@ stays-chained (Some x) None c p q = absurd p
 stays-chained (Some x) (Some y) None p q = absurd q
 stays-chained (Some x) (Some y) (Some z) p q = (p.0 ++ q.0, p.1 ∙ ap (λ w. p.0 ++ w) q.1 ∙ sym (append_assoc p.0 q.0 z), unfed-append p.0 q.0 p.2 q.2)
 
--- where no line feed is pending, the source has all of them
-pub stays-read : (a : Option (List ℕ)) (pending : List ℕ) (remaining : Option (List ℕ)) → StaysInLine a (unread pending remaining) → feed_place pending ≡ length pending → StaysInLine a remaining
-stays-read a pending remaining p none = stays-chained a (unread pending remaining) remaining p (stays-pending pending remaining none)
+-- behind a front more was read, and no line feed
+pub stays-read : (front pending : List ℕ) (a b : Option (List ℕ)) → Keeps (unread front a) (unread pending b) → length front ≤ length pending → feed_place pending ≡ length pending → StaysInLine a b
+stays-read front pending None b p more none = tt
+stays-read front pending (Some x) None p more none = absurd p
+stays-read front pending (Some x) (Some y) p more none =
+    let n = length front in
+    let came : x ≡ drop n pending ++ y = sym (drop-append_seam front x) ∙ ap (λ z. drop n z) (sym p) ∙ drop-append-le n pending y more in
+    (drop n pending, came, omega (arith, none, feed_place-drop n pending (omega (arith, none)), length-drop n pending))
 
--- behind a line of which some was dropped, its line feed has come
-pub loses-line : (a : Option (List ℕ)) (pending rest : List ℕ) (remaining : Option (List ℕ)) (place : ℕ) → StaysInLine a (unread pending remaining) →
-    place ≡ feed_place pending → place < length pending → rest ≡ drop (place + 1) pending → LosesLine a (unread rest remaining)
-loses-line None pending rest remaining place p first inside e = tt
-loses-line (Some x) pending rest None place p first inside e = absurd p
-loses-line (Some x) pending rest (Some xs) place p first inside e =
+-- behind a line of which some was passed over, its line feed has come
+pub loses-line : (a b c : Option (List ℕ)) (front pending rest : List ℕ) (place : ℕ) → StaysInLine a b → Keeps (unread front b) (unread pending c) → feed_place front ≡ length front
+    → place ≡ feed_place pending → place < length pending → rest ≡ drop (place + 1) pending → LosesLine a (unread rest c)
+loses-line None b c front pending rest place s p none first inside e = tt
+loses-line (Some x) None c front pending rest place s p none first inside e = absurd s
+loses-line (Some x) (Some y) None front pending rest place s p none first inside e = absurd p
+loses-line (Some x) (Some y) (Some z) front pending rest place s p none first inside e =
     let some : feed_place pending < length pending = omega arith in
     let given : rest ≡ after_line pending = e ∙ ap (λ n. drop (n + 1) pending) first in
-    let behind : after_line x ≡ after_line (pending ++ xs) = ap after_line p.1 ∙ after_line-append_none p.0 (pending ++ xs) p.2 in
-    rw given (sym (after_line-append_some pending xs some) ∙ sym behind)
+    let behind : after_line x ≡ after_line y = ap after_line s.1 ∙ after_line-append_none s.0 y s.2 in
+    let there : after_line pending ++ z ≡ after_line y = sym (after_line-append_some pending z some) ∙ ap after_line p ∙ after_line-append_none front y none in
+    rw given (there ∙ sym behind)
 
 pub SameWhole-same : (m n : ℕ) (a : Option (List ℕ)) → n ≡ m → SameWhole m a n a
 SameWhole-same m n None e = tt

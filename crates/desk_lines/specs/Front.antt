@@ -1,5 +1,5 @@
 -- How the reading towards the end of a line ended.
-use Rattle.std.specs.Prelude.{◌≡◌, ℕ, ◌+◌, ◌<◌, ◌≤◌, List, [], ◌++◌, Option, None, Some, length, ⊤}
+use Rattle.std.specs.Prelude.{◌≡◌, ℕ, ◌+◌, ◌<◌, ◌≤◌, ◌⊎◌, List, [], ◌++◌, Option, None, Some, length, ⊤}
 use Rattle.std.specs.Io.KnownBytes.{Keeps, IsAtEnd}
 use Rattle.desk_lines.specs.Held.{Reading}
 use Rattle.desk_lines.specs.Lines.{feed_place, first_line, after_line}
@@ -7,12 +7,12 @@ use Rattle.desk_lines.specs.Reading.{unread, longest_line, SameWhole}
 use Rattle.desk_lines.specs.declared.outcome.NextLine.{NextLine}
 use Rattle.desk_lines.specs.declared.outcome.NextLine.TheVariants.{Whole, TooLong, End}
 use Rattle.desk_lines.specs.declared.reader.Front.{Front}
-use Rattle.desk_lines.specs.declared.reader.Front.TheVariants.{Feed, Full, Ended}
+use Rattle.desk_lines.specs.declared.reader.Front.TheVariants.{Feed, Long, Ended}
 
--- the pending bytes hold a line feed, or they fill the buffer without one, or they are the last ones
+-- the pending bytes hold a line feed, or they begin a line that is too long, or they are the last ones
 abbrev pub IsFront : Front → List ℕ → Option (List ℕ) → Type 0
 IsFront (Feed place) pending remaining = (place ≡ feed_place pending) × (place < length pending)
-IsFront Full pending remaining = (feed_place pending ≡ length pending) × (length pending ≡ 65538)
+IsFront Long pending remaining = (feed_place pending ≡ length pending) × (65538 ≤ length pending)
 IsFront Ended pending remaining = (feed_place pending ≡ length pending) × (length pending < 65538) × IsAtEnd remaining
 
 -- the reader read on, and gave nothing
@@ -27,6 +27,18 @@ abbrev pub GivesFirst : NextLine → List ℕ → List ℕ → List ℕ → Type
 GivesFirst Whole old new line = (length line ≤ longest_line) × (line ≡ first_line old) × (new ≡ after_line old)
 GivesFirst TooLong old new line = (line ≡ []) × (longest_line < length (first_line old)) × (new ≡ after_line old)
 GivesFirst End old new line = ⊥
+
+-- the first line is too long, before and after, and what stands behind it is the same
+pub record StaysTooLong (bytes rest : List ℕ) : Type 0 where
+  pub long_before : longest_line < length (first_line bytes)
+  pub long_after : longest_line < length (first_line rest)
+  pub same_behind : after_line rest ≡ after_line bytes
+
+-- the same lines are still to come: the known bytes are the same, or lost some of a first line that is too long
+abbrev pub SameLines : Option (List ℕ) → Option (List ℕ) → Type 0
+SameLines None new = ⊤
+SameLines (Some bytes) None = ⊥
+SameLines (Some bytes) (Some rest) = (rest ≡ bytes) ⊎ StaysTooLong bytes rest
 
 -- the known bytes lost some bytes of the first line at their front, and no line feed
 abbrev pub StaysInLine : Option (List ℕ) → Option (List ℕ) → Type 0

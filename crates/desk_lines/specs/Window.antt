@@ -7,9 +7,9 @@ pub record Held : Type 0 where
   pub line : List ℕ
   pub pending : List ℕ
 
--- the line and the pending bytes lie in a buffer of 65,538 bytes
+-- the line and the pending bytes lie in a buffer of 81,922 bytes
 pub record IsInside (line_start line_len start end capacity : ℕ) : Type 0 where
-  pub capacity_is : capacity ≡ 65538
+  pub capacity_is : capacity ≡ 81922
   pub line_inside : line_start + line_len ≤ capacity
   pub in_order : start ≤ end
   pub inside : end ≤ capacity

@@ -7,7 +7,7 @@ ghost use Rattle.desk_lines.specs.Reading.{Gives, HasCause, MovesOn, SameWhole, 
 
 use crate::outcome::{NextLine, ReadFault};
 use crate::scan;
-use crate::window::{CAPACITY, Window};
+use crate::window::{CAPACITY, FRONT, Window};
 use desk_devices::Source;
 use std::marker::Model;
 
@@ -21,8 +21,8 @@ const LONGEST_LINE: usize = 65_536;
 enum Front {
     /// A line feed stands at this place.
     Feed(usize),
-    /// The buffer is full, with no line feed in it.
-    Full,
+    /// The line is too long, and its line feed is still to come.
+    Long,
     /// The source has ended before a line feed came.
     Ended,
 }
@@ -48,7 +48,7 @@ impl Model for LineReader {
 }
 
 impl LineReader {
-    ghost use Rattle.desk_lines.specs.Front.{ReadsOn, IsFront, GivesFirst, StaysInLine, LosesLine};
+    ghost use Rattle.desk_lines.specs.Front.{ReadsOn, IsFront, GivesFirst, SameLines, StaysInLine, LosesLine};
 
     /// A reader that has read nothing. It holds its one buffer in itself, and takes no memory.
     pub fn new() -> Self
@@ -82,20 +82,23 @@ impl LineReader {
     ///
     /// A line that is too long is passed over. An input that is too long is a fault once no
     /// whole line is left of its first 16,777,217 bytes. Where the end of a line was read ahead,
-    /// the source is not touched. After an error some bytes of that line may be lost, no line feed among
-    /// them and none behind it; a later call goes on with those that are left.
+    /// the source is not touched. After an error the same lines are still to come: a later call goes on
+    /// where this one stood. Of a line that is too long some bytes may be lost then, and it is still
+    /// too long.
     pub fn next_line<S: Source>(&mut self, source: &mut S) -> Result<NextLine, ReadFault>
         ensures given { IfOk result (λ next. Gives next
             (unread self.old.pending (S.remaining source.old))
             (unread self.new.pending (S.remaining source.new)) self.new.line) }
         ensures works { OnOk result (S.failures source.new ≡ S.failures source.old) }
 
-        // Why it fails, and what is left then: no end of a line is pending.
+        // Why it fails, and what is left then: the same lines, and no end of a line came or is pending.
         ensures fault { IfErr result
             (λ e. HasCause e (S.failures source.old) (S.failures source.new) self.new.taken) }
-        ensures lost { OnErr result (StaysInLine
+        ensures same { OnErr result (SameLines
             (unread self.old.pending (S.remaining source.old))
             (unread self.new.pending (S.remaining source.new))) }
+        ensures unfed { OnErr result (StaysInLine (unread self.old.pending (S.remaining source.old))
+            (S.remaining source.new)) }
         ensures err { OnErr result (feed_place self.new.pending ≡ length self.new.pending) }
 
         // More bytes came than an input has only where it is that long.
@@ -153,6 +156,7 @@ impl LineReader {
         ensures fault { IfErr result
             (λ e. HasCause e (S.failures source.old) (S.failures source.new) self.new.taken) }
         ensures err { OnErr result (self.new.pending ≡ self.old.pending) }
+        ensures behind { take (length self.old.pending) self.new.pending ≡ self.old.pending }
         ensures line { OnOk result (self.new.line ≡ []) }
     {
         if self.taken > LONGEST_INPUT {
@@ -163,16 +167,16 @@ impl LineReader {
         Ok(count)
     }
 
-    /// Whether the pending bytes fill the buffer.
-    fn is_full(&self) -> bool
-        ensures full { IsTrue result ↔ (length self.now.pending ≡ CAPACITY) }
-        ensures bound { length self.now.pending ≤ CAPACITY }
+    /// Whether so many bytes are pending that a line which they begin is too long.
+    fn is_long(&self) -> bool
+        ensures long { IsTrue result ↔ (FRONT ≤ length self.now.pending) }
         ensures input { self.now.taken ≤ longest_input + 1 }
     {
-        self.window.pending().len() == CAPACITY
+        self.window.pending().len() >= FRONT
     }
 
-    /// Reads until the pending bytes hold a line feed, or fill the buffer, or the source has ended.
+    /// Reads until the pending bytes hold a line feed, or begin a line that is too long, or the source
+    /// has ended.
     fn read_on<S: Source>(&mut self, source: &mut S) -> Result<Front, ReadFault>
         requires { feed_place self.old.pending ≡ length self.old.pending }
         ensures front { IfOk result
@@ -186,7 +190,7 @@ impl LineReader {
         ensures end { result ≡ Ok Front.Ended → self.new.taken ≤ longest_input }
         ensures err { OnErr result (feed_place self.new.pending ≡ length self.new.pending) }
     {
-        while !self.is_full() {
+        while !self.is_long() {
             if self.read_more(source)? == 0 {
                 return Ok(Front::Ended);
             }
@@ -194,7 +198,7 @@ impl LineReader {
                 return Ok(Front::Feed(place));
             }
         }
-        Ok(Front::Full)
+        Ok(Front::Long)
     }
 
     /// Gives the first pending bytes, and the front of them as the line, unless that is too long.
@@ -259,14 +263,31 @@ impl LineReader {
         self.searched = 0;
     }
 
-    /// Passes over the line whose front is pending, up to its line feed or the end of the source.
+    /// Keeps no more of the pending bytes than show that the line which they begin is too long.
+    fn keep_front(&mut self)
+        requires long { FRONT ≤ length self.old.pending }
+        requires unfed { feed_place self.old.pending ≡ length self.old.pending }
+        ensures pending { self.new.pending ≡ take FRONT self.old.pending }
+        ensures front { length self.new.pending ≡ FRONT }
+        ensures unfed { feed_place self.new.pending ≡ length self.new.pending }
+        ensures taken { self.new.taken ≡ self.old.taken }
+    {
+        self.window.keep(FRONT);
+        self.searched = FRONT;
+    }
+
+    /// Passes over the line that is too long, up to its line feed or the end of the source. Its front
+    /// stays pending until then.
     fn skip_line<S: Source>(&mut self, source: &mut S) -> Result<(), ReadFault>
-        requires { feed_place self.old.pending ≡ length self.old.pending }
+        requires long { FRONT ≤ length self.old.pending }
+        requires unfed { feed_place self.old.pending ≡ length self.old.pending }
         ensures skips { OnOk result (LosesLine (unread self.old.pending (S.remaining source.old))
             (unread self.new.pending (S.remaining source.new))) }
         ensures line { OnOk result (self.new.line ≡ []) }
-        ensures lost { OnErr result (StaysInLine (unread self.old.pending (S.remaining source.old))
+        ensures same { OnErr result (SameLines (unread self.old.pending (S.remaining source.old))
             (unread self.new.pending (S.remaining source.new))) }
+        ensures unfed { OnErr result (StaysInLine (unread self.old.pending (S.remaining source.old))
+            (S.remaining source.new)) }
         ensures counted { self.new.taken + S.passed source.old ≡ self.old.taken + S.passed source.new }
         ensures whole { SameWhole self.old.taken (S.remaining source.old)
             self.new.taken (S.remaining source.new) }
@@ -277,16 +298,15 @@ impl LineReader {
         ensures read { OnOk result (self.old.taken + length self.new.pending ≤ self.new.taken) }
         ensures err { OnErr result (feed_place self.new.pending ≡ length self.new.pending) }
     {
-        self.drop_pending();
+        self.keep_front();
         while self.read_more(source)? > 0 {
-            match self.find_feed() {
-                Some(place) => {
-                    let _ = self.give_line(place + 1, 0);
-                    return Ok(());
-                }
-                None => self.drop_pending(),
+            if let Some(place) = self.find_feed() {
+                let _ = self.give_line(place + 1, 0);
+                return Ok(());
             }
+            self.keep_front();
         }
+        self.drop_pending();
         Ok(())
     }
 
@@ -296,9 +316,11 @@ impl LineReader {
         ensures given { IfOk result (λ next. Gives next
             (unread self.old.pending (S.remaining source.old))
             (unread self.new.pending (S.remaining source.new)) self.new.line) }
-        ensures lost { OnErr result (StaysInLine
+        ensures same { OnErr result (SameLines
             (unread self.old.pending (S.remaining source.old))
             (unread self.new.pending (S.remaining source.new))) }
+        ensures unfed { OnErr result (StaysInLine (unread self.old.pending (S.remaining source.old))
+            (S.remaining source.new)) }
         ensures counted { self.new.taken + S.passed source.old ≡ self.old.taken + S.passed source.new }
         ensures whole { SameWhole self.old.taken (S.remaining source.old)
             self.new.taken (S.remaining source.new) }
@@ -312,7 +334,7 @@ impl LineReader {
     {
         match self.read_on(source)? {
             Front::Feed(place) => Ok(self.give_fed_line(place)),
-            Front::Full => {
+            Front::Long => {
                 self.skip_line(source)?;
                 Ok(NextLine::TooLong)
             }

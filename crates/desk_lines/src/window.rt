@@ -7,8 +7,12 @@ ghost use Rattle.desk_lines.specs.Window.{Arrives};
 use desk_devices::{DeviceFailed, Source};
 use std::marker::Model;
 
-/// How many bytes the buffer holds: the longest line, a carriage return and a line feed.
-pub const CAPACITY: usize = 65_538;
+/// So many bytes with no line feed begin a line that is too long: the longest line, a carriage return
+/// and one byte more.
+pub const FRONT: usize = 65_538;
+
+/// How many bytes the buffer holds: such a front, and 16,384 bytes behind it.
+pub const CAPACITY: usize = 81_922;
 
 /// The bytes of the last line, and those that were read and not yet given.
 #[derive(Drop)]
@@ -84,6 +88,18 @@ impl Window {
         self.start += given;
     }
 
+    /// Keeps the first bytes that are pending, and drops the others and the last line.
+    pub fn keep(&mut self, kept: usize)
+        requires { kept ≤ length self.old.pending }
+        ensures line { self.new.line ≡ [] }
+        ensures pending { self.new.pending ≡ take kept self.old.pending }
+    {
+        move_to_front(&mut self.buffer, self.start, kept);
+        self.line_len = 0;
+        self.start = 0;
+        self.end = kept;
+    }
+
     /// Reads at most `most` bytes behind those that are pending, and returns how many came.
     ///
     /// 0 says that the source has ended. The last line is forgotten.
@@ -130,6 +146,17 @@ fn make_room(buffer: &mut [u8], start: usize, end: usize) -> (usize, usize)
     }
     buffer.copy_within(start..end, 0);
     (0, end - start)
+}
+
+/// Moves bytes to the front of the buffer, where they do not stand there.
+fn move_to_front(buffer: &mut [u8], start: usize, count: usize)
+    requires { start + count ≤ length buffer.old }
+    ensures len { length buffer.new ≡ length buffer.old }
+    ensures bytes { take count buffer.new ≡ take count (drop start buffer.old) }
+{
+    if start > 0 {
+        buffer.copy_within(start..start + count, 0);
+    }
 }
 
 /// Reads at most `most` bytes into the buffer from this place on.

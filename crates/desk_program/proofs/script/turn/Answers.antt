@@ -7,7 +7,6 @@ use Rattle.std.proofs.lemmas.Result.{err_from_is_err_and}
 use Rattle.desk_lines.specs.Reading.{Gives, unread}
 use Rattle.desk_lines.specs.declared.outcome.NextLine.{NextLine}
 use Rattle.desk_lines.proofs.Giving.{Keeps-same}
-use Rattle.desk_lines.proofs.Taking.{stays-read}
 use Rattle.desk_terms.specs.declared.refusal.Refusal.TheVariants.{TooLarge}
 use Rattle.desk_words.specs.declared.request.Reply.TheVariants.{Refused}
 use Rattle.desk_replies.specs.Replies.{reply_bytes}
@@ -20,8 +19,7 @@ use Rattle.desk_program.proofs.script.turn.Goals.{in-TooLong, in-Whole+else-is_e
 pub returns-in_err-next_line-clause-stops : goal.returns-in_err-next_line-clause-stops
 returns-in_err-next_line-clause-stops g c =
     let p = err_from_is_err_and c.from_residual.result c.from_residual.ensures.1 in
-    let failed = c.in_err-next_line.ensures in
-    rw (p.1, p.2) (Keeps-same _, stays-read _ _ _ failed.lost failed.err)
+    rw (p.1, p.2) (Keeps-same _, c.in_err-next_line.ensures.unfed)
 
 -- where the writer failed, the answer to the line that was read was written in part
 pub returns-in_err-write_answer-clause-stops : goal.returns-in_err-write_answer-clause-stops

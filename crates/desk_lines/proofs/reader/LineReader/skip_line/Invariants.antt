@@ -1,17 +1,18 @@
-use Rattle.std.proofs.Common.{◌≡◌, ◌-◌, ◌+◌, ◌≤◌, []}
+use Rattle.std.proofs.Common.{◌≡◌, ◌-◌, ◌+◌, ◌≤◌, length}
+use Rattle.desk_lines.specs.Lines.{feed_place}
 use Rattle.desk_lines.specs.Reading.{unread, SameWhole, longest_input}
 use Rattle.desk_lines.specs.Front.{StaysInLine}
 use Rattle.desk_lines.proofs.reader.LineReader.skip_line.Given as goal
 
--- What was dropped so far belongs to the first line.
+-- A front of the line is pending, and no line feed has come.
 abbrev pub invariant-loop-self : goal.invariant-loop-self
 invariant-loop-self g l = record {
-  stays : StaysInLine (unread l.fn.self.pending (g.S.Source.remaining l.fn.source)) (unread l.self.pending (g.S.Source.remaining l.source));
+  unfed : feed_place l.self.pending ≡ length l.self.pending;
+  front : length l.self.pending ≡ 65538;
+  stays : StaysInLine (unread l.fn.self.pending (g.S.Source.remaining l.fn.source)) (g.S.Source.remaining l.source);
   counted : l.self.taken + g.S.Source.passed l.fn.source ≡ l.fn.self.taken + g.S.Source.passed l.source;
   whole : SameWhole l.fn.self.taken (g.S.Source.remaining l.fn.source) l.self.taken (g.S.Source.remaining l.source);
   works : g.S.Source.failures l.source ≡ g.S.Source.failures l.fn.source;
-  line : l.self.line ≡ [];
-  pending : l.self.pending ≡ [];
   more : l.fn.self.taken ≤ l.self.taken;
 }
 
