@@ -90,8 +90,8 @@ pub fn run<R: Source, W: Sink>(
     ensures replays { plan_of (map string_bytes words.now) ≡ Some Replay
         → (outcome : Result (Unit {0}) Fault) × (ended_view result ≡ ended_by outcome)
         × OnOk outcome (IfSome (R.remaining reader.old) (λ input. AreAnswered (lines_of input) (W.contents writer.old) (W.contents writer.new)))
-        × IfErr outcome (λ fault. IfSome (R.remaining reader.old) (λ input. IsReplayedUntil fault
-        input (R.passed reader.new - R.passed reader.old) (W.contents writer.old) (W.contents writer.new)))
+        × IfErr outcome (λ fault. IfSome (R.remaining reader.old) (λ input. IsReplayedUntil fault input
+        (R.passed reader.new - R.passed reader.old) (W.contents writer.old) (W.contents writer.new)))
         × OnOk outcome ((R.failures reader.new ≡ R.failures reader.old) × (W.failures writer.new ≡ W.failures writer.old))
         × IfErr outcome (λ fault. HasEndedFor fault (R.failures reader.old) (R.failures reader.new)
         (R.passed reader.new - R.passed reader.old) (W.failures writer.old) (W.failures writer.new))

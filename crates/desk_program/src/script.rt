@@ -164,8 +164,9 @@ pub fn replay<R: Source, W: Sink>(
 ) -> Result<(), ReplayFault>
     ensures replayed { OnOk result (IfSome (R.remaining reader.old)
         (λ input. AreAnswered (lines_of input) (W.contents writer.old) (W.contents writer.new))) }
-    ensures until { IfErr result (λ fault. IfSome (R.remaining reader.old) (λ input. IsReplayedUntil fault
-        input (R.passed reader.new - R.passed reader.old) (W.contents writer.old) (W.contents writer.new))) }
+    ensures until { IfErr result (λ fault. IfSome (R.remaining reader.old)
+        (λ input. IsReplayedUntil fault input (R.passed reader.new - R.passed reader.old)
+        (W.contents writer.old) (W.contents writer.new))) }
     ensures works { OnOk result ((R.failures reader.new ≡ R.failures reader.old)
         × (W.failures writer.new ≡ W.failures writer.old)) }
     ensures cause { IfErr result (λ fault. HasEndedFor fault (R.failures reader.old) (R.failures reader.new)
