@@ -22,8 +22,3 @@ mod verb;
 pub use ask::Ask;
 pub use request::request_of;
 pub use verb::Verb;
-
-#[cfg(test)]
-mod appointment_tests;
-#[cfg(test)]
-mod tests;

@@ -8,6 +8,3 @@ mod text;
 
 pub use moment::{Day, Moment};
 pub use text::{read_day, read_moment, write_day, write_moment};
-
-#[cfg(test)]
-mod tests;

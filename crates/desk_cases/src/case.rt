@@ -3,7 +3,7 @@
 //! `> LINE` sends a line to the desk, `* N` says that it is sent so many times, and `< REPLY` is the reply
 //! that it is to get each time. A line of no bytes, or of a lone carriage return, gets no reply. Empty
 //! lines and lines that begin with `#` are comment. Lines end in a line feed.
-ghost use Rattle.std.specs.Prelude.{◌≡◌, ◌∷◌, IfSome};
+ghost use Rattle.std.specs.Prelude.{◌<◌, IfSome};
 
 use std::alloc::{AllocError, Global};
 
@@ -46,41 +46,32 @@ pub fn without_end(line: &[u8]) -> &[u8] {
     line.strip_suffix(b"\n").unwrap_or(line)
 }
 
-/// What stands behind a mark and a space, or nothing where the mark stands alone.
-fn behind(line: &[u8], mark: u8) -> Option<&[u8]>
-    ensures { IfSome result (λ rest. (line.now ≡ mark ∷ rest.now) → rest.now ≡ rest.now) }
+/// A number of times, at least one.
+fn times(digits: &[u8]) -> Option<u16>
+    ensures { IfSome result (λ number. 0 < number) }
 {
-    match line {
-        [first] if *first == mark => Some(&[]),
-        [first, b' ', rest @ ..] if *first == mark => Some(rest),
-        _ => None,
-    }
-}
-
-/// A number of times, which is no nought.
-fn times(digits: &[u8]) -> Option<u16> {
     let number = str::from_utf8(digits).ok()?.parse::<u16>().ok()?;
     if number == 0 { None } else { Some(number) }
 }
 
 fn read_line(line: &[u8]) -> Line<'_> {
-    if line.is_empty() || line[0] == b'#' {
-        Line::Comment
-    } else if let Some(sent) = behind(line, b'>') {
-        Line::Sent(sent)
-    } else if let Some(text) = behind(line, b'<') {
-        Line::Reply(text)
-    } else if let Some(digits) = behind(line, b'*') {
-        times(digits).map_or(Line::Unknown, Line::Times)
-    } else {
-        Line::Unknown
+    match line {
+        [] | [b'#', ..] => Line::Comment,
+        [b'>'] => Line::Sent(&[]),
+        [b'>', b' ', sent @ ..] => Line::Sent(sent),
+        [b'*', b' ', digits @ ..] => match times(digits) {
+            Some(times) => Line::Times(times),
+            None => Line::Unknown,
+        },
+        [b'<', b' ', text @ ..] => Line::Reply(text),
+        _ => Line::Unknown,
     }
 }
 
 impl<'a> Exchange<'a> {
     /// Whether a reply is expected just where the desk gives one.
     pub fn is_whole(&self) -> bool {
-        let is_skipped = self.sent.is_empty() || self.sent == b"\r";
+        let is_skipped = self.sent.is_empty() || self.sent == b"\r".as_slice();
         self.reply.is_some() != is_skipped
     }
 

@@ -17,6 +17,3 @@ pub use sink::{Sink, write_all};
 pub use source::{Source, read_to_fill};
 pub use std_device::{ReadDevice, WriteDevice};
 pub use trial::{FailAt, ShortReads};
-
-#[cfg(test)]
-mod tests;

@@ -10,6 +10,3 @@ mod window;
 pub use law::lines_law;
 pub use outcome::{NextLine, ReadFault};
 pub use reader::LineReader;
-
-#[cfg(test)]
-mod tests;

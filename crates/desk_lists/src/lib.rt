@@ -4,8 +4,6 @@
 mod distinct;
 mod listing;
 mod ordered;
-#[cfg(test)]
-mod tests;
 
 pub use distinct::in_order_once;
 pub use listing::Listing;

@@ -13,6 +13,3 @@ mod shown;
 pub use desk_words::{Failure, Reply};
 pub use failure::failure_text;
 pub use reply::reply_text;
-
-#[cfg(test)]
-mod tests;

@@ -6,8 +6,6 @@ pub mod laws;
 mod names;
 mod range;
 mod refusal;
-#[cfg(test)]
-mod tests;
 mod text;
 
 pub use kinds::{Capacity, Company, HolderKind, Instr, MeetingKind, ResKind, Way};

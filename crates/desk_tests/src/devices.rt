@@ -1,87 +1,49 @@
-//! Readers and writers that fail in the middle of the first run.
-use crate::script::{FIRST_RUN, Script, is_text};
+//! Readers and writers that fail in the middle of the script.
+use crate::script::{LINES, REPLIES, first_line, first_replies};
 use desk_devices::{DeviceFailed, FailAt, ShortReads, Sink, SliceSource, VecSink};
 use desk_program::{ReplayFault, replay};
 use std::alloc::Global;
 use std::test::Fail;
-
-/// The first so many replies.
-fn first_replies(alloc: Global, count: usize) -> Result<String, Fail> {
-    let mut text = String::new(alloc);
-    for (_, _, reply) in FIRST_RUN.iter().take(count) {
-        text.push_str(reply)?;
-        text.push_str("\n")?;
-    }
-    Ok(text)
-}
 
 /// How many lines end in the bytes.
 fn count_feeds(bytes: &[u8]) -> usize {
     bytes.iter().filter(|byte| **byte == b'\n').count()
 }
 
+/// How the replay ends, and what is written, where the read of that number fails, of so many bytes each.
+fn read_failing(alloc: Global, most: usize, failing: u64) -> (Result<(), ReplayFault>, VecSink) {
+    let short = ShortReads::new(SliceSource::new(LINES.as_bytes()), most.max(1));
+    let mut sink = VecSink::new(alloc);
+    let outcome = replay(alloc, &mut FailAt::new(short, failing), &mut sink);
+    (outcome, sink)
+}
+
+/// How many replies are due where so many reads of so many bytes went well.
+fn replies_due(most: usize, reads: u64) -> usize {
+    let passed = most.saturating_mul(reads as usize).min(LINES.len());
+    count_feeds(&LINES.as_bytes()[..passed])
+}
+
+// Where a read gives just the first line, its answer comes before the second read fails.
 #[test]
 fn one_read_fails(rt: HostRuntime) -> Result<(), Fail> {
-    let script = Script::of_table(rt.alloc(), &FIRST_RUN)?;
-    let bytes = script.lines.as_bytes();
-    let first_line = FIRST_RUN[0]
-        .0
-        .len()
-        .saturating_add(FIRST_RUN[0].1.len())
-        .saturating_add(2);
-    for most in [1, 7, 100, first_line, 65_538] {
-        for failing in 1u64..1_000 {
-            let short = ShortReads::new(SliceSource::new(bytes), most);
-            let mut source = FailAt::new(short, failing);
-            let mut sink = VecSink::new(rt.alloc());
-            let outcome = replay(rt.alloc(), &mut source, &mut sink);
+    for most in [1, 7, 100, first_line(), 65_538] {
+        for reads in 0u64..1_000 {
+            let (outcome, sink) = read_failing(rt.alloc(), most, reads.saturating_add(1));
             if outcome == Ok(()) {
-                is_text(&rt, sink.as_slice(), &script.replies)?;
+                assert!(rt; sink.as_slice() == REPLIES.as_bytes(), "of {most}");
                 break;
             }
+            let replies = first_replies(rt.alloc(), replies_due(most, reads))?;
             assert!(rt;
                 outcome == Err(ReplayFault::Read),
-                "read {failing} of {most}"
+                "after {reads} of {most}"
             );
-            let passed = most.saturating_mul(failing as usize).saturating_sub(most);
-            let passed = passed.min(bytes.len());
-            let replies = first_replies(rt.alloc(), count_feeds(&bytes[..passed]))?;
-            is_text(&rt, sink.as_slice(), &replies)?;
+            assert!(rt;
+                sink.as_slice() == replies.as_bytes(),
+                "after {reads} of {most}"
+            );
         }
-    }
-    Ok(())
-}
-
-#[test]
-fn an_answer_comes_before_the_next_read(rt: HostRuntime) -> Result<(), Fail> {
-    let script = Script::of_table(rt.alloc(), &FIRST_RUN)?;
-    let first_line = FIRST_RUN[0]
-        .0
-        .len()
-        .saturating_add(FIRST_RUN[0].1.len())
-        .saturating_add(2);
-    let short = ShortReads::new(SliceSource::new(script.lines.as_bytes()), first_line);
-    let mut sink = VecSink::new(rt.alloc());
-    let outcome = replay(rt.alloc(), &mut FailAt::new(short, 2), &mut sink);
-    assert!(rt; outcome == Err(ReplayFault::Read));
-    is_text(&rt, sink.as_slice(), "{\"ok\":\"called\"}\n")
-}
-
-#[test]
-fn one_write_fails(rt: HostRuntime) -> Result<(), Fail> {
-    let script = Script::of_table(rt.alloc(), &FIRST_RUN)?;
-    for failing in 1u64..5 {
-        let mut source = SliceSource::new(script.lines.as_bytes());
-        let mut sink = FailAt::new(VecSink::new(rt.alloc()), failing);
-        let outcome = replay(rt.alloc(), &mut source, &mut sink);
-        let wanted = if failing == 4 {
-            Ok(())
-        } else {
-            Err(ReplayFault::Write)
-        };
-        assert!(rt; outcome == wanted, "write {failing}");
-        let replies = first_replies(rt.alloc(), (failing as usize).saturating_sub(1))?;
-        is_text(&rt, sink.inner.as_slice(), &replies)?;
     }
     Ok(())
 }
@@ -104,19 +66,22 @@ impl<W: Sink> Sink for ByteByByte<W> {
 }
 
 #[test]
-fn a_write_fails_within_a_reply(rt: HostRuntime) -> Result<(), Fail> {
-    let script = Script::of_table(rt.alloc(), &FIRST_RUN)?;
-    for written in 0..script.replies.len() {
-        let failing = (written as u64).saturating_add(1);
+fn a_write_fails_within_a_reply(rt: HostRuntime) {
+    for written in 0..REPLIES.len() {
         let slow = ByteByByte {
             inner: VecSink::new(rt.alloc()),
         };
-        let mut sink = FailAt::new(slow, failing);
-        let mut source = SliceSource::new(script.lines.as_bytes());
-        let outcome = replay(rt.alloc(), &mut source, &mut sink);
-        assert!(rt; outcome == Err(ReplayFault::Write), "write {failing}");
-        let front = &script.replies.as_bytes()[..written];
-        assert!(rt; sink.inner.inner.as_slice() == front, "write {failing}");
+        let mut sink = FailAt::new(slow, (written as u64).saturating_add(1));
+        let outcome = replay(
+            rt.alloc(),
+            &mut SliceSource::new(LINES.as_bytes()),
+            &mut sink,
+        );
+        let front = &REPLIES.as_bytes()[..written];
+        assert!(rt; outcome == Err(ReplayFault::Write), "after {written} bytes");
+        assert!(rt;
+            sink.inner.inner.as_slice() == front,
+            "after {written} bytes"
+        );
     }
-    Ok(())
 }

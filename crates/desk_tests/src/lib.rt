@@ -1,24 +1,16 @@
-//! Tests that cross crates: whole scripts from bytes to bytes, the words of the program, devices
-//! that fail, and what a party may see.
+//! Tests of the upper crates, of what no line of a replay reaches: devices that fail, ends of an input,
+//! and the calls between the words and the program, each by itself with ample memory.
 #![tactic(auto)]
 
 #[cfg(test)]
+mod book;
+#[cfg(test)]
 mod calls;
 #[cfg(test)]
-mod days;
+mod commands;
 #[cfg(test)]
 mod devices;
-#[cfg(test)]
-mod lines;
-#[cfg(test)]
-mod polls;
-#[cfg(test)]
-mod proxies;
 #[cfg(test)]
 mod replies;
 #[cfg(test)]
 mod script;
-#[cfg(test)]
-mod words;
-#[cfg(test)]
-mod worlds;

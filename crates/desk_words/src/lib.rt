@@ -8,8 +8,6 @@ mod office;
 mod records;
 mod register;
 mod request;
-#[cfg(test)]
-mod tests;
 
 pub use caller::{Caller, KeyRow, read_caller};
 pub use desk_calendar::{Day, Moment, read_day, read_moment, write_day, write_moment};

@@ -6,8 +6,6 @@ mod finding;
 mod governed;
 pub mod laws;
 mod own;
-#[cfg(test)]
-mod tests;
 mod walks;
 
 pub use finding::{find_row, place_of_meeting};

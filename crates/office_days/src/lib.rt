@@ -4,8 +4,6 @@
 mod clock;
 mod closed;
 mod notice;
-#[cfg(test)]
-mod tests;
 mod working;
 
 pub use clock::{ClockFault, wall_clock};

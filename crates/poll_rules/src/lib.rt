@@ -7,12 +7,8 @@ mod demand;
 mod gathered;
 pub mod laws;
 mod majority;
-#[cfg(test)]
-mod meeting_tests;
 mod qualifying;
 mod roles;
-#[cfg(test)]
-mod tests;
 
 pub use counting::tally;
 pub use demand::{Demand, demand_reached};

@@ -3,8 +3,6 @@
 #![tactic(auto)]
 
 mod appointed;
-#[cfg(test)]
-mod appointment_tests;
 mod counted;
 mod holdings;
 pub mod laws;
@@ -12,8 +10,6 @@ mod papers;
 mod parts;
 mod rows;
 mod runs;
-#[cfg(test)]
-mod tests;
 
 pub use appointed::governing;
 pub use counted::{cutoffs, is_late_poll};

@@ -10,8 +10,6 @@ mod admitted;
 mod blocks;
 mod plain;
 mod tag;
-#[cfg(test)]
-mod tests;
 
 pub use admitted::Admitted;
 pub use blocks::{Blocks, run};

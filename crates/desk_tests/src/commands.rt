@@ -1,0 +1,11 @@
+//! How the program ends where it does not come to its words or its memory.
+use desk_program::{Ended, no_memory, wrong_words};
+
+fn is_ended(ended: Ended, status: u8, line: &str) -> bool {
+    ended.status == status && ended.line == Some(line)
+}
+
+#[test]
+fn other_ends(rt: HostRuntime) {
+    assert!(rt; is_ended(wrong_words(), 2, "words") && is_ended(no_memory(), 3, "Memory"));
+}

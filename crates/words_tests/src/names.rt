@@ -1,0 +1,86 @@
+//! Keys, which no request asks for yet, and the longest register, which no line holds.
+use desk_words::{
+    Caller, HolderKind, KeyRow, KeyRows, ListFault, Party, Register, RegisterRow, SecretKey, Text,
+    read_key, read_party,
+};
+use std::alloc::Global;
+use std::test::Fail;
+
+fn party(name: &[u8]) -> Result<Party, Fail> {
+    Ok(read_party(name).ok_or("a party")?)
+}
+
+fn key(word: &str) -> Result<SecretKey, Fail> {
+    Ok(read_key(word.as_bytes()).ok_or("a key")?)
+}
+
+#[test]
+fn keys_have_the_form(rt: HostRuntime) {
+    for word in [
+        "aaaaaaaaaaaaaaaa",
+        "0123456789-abcdefghij-ABCDEFGHIJ-KLMNOPQRST-uvwxyz-UVWXYZ-012345",
+    ] {
+        let key = read_key(word.as_bytes());
+        assert!(rt; key.is_some_and(|key| key.as_str() == word), "{word}");
+    }
+    for word in [
+        "aaaaaaaaaaaaaaa",
+        "aaaaaaaa_aaaaaaa",
+        "aaaaaaaa aaaaaaa",
+        "0123456789-abcdefghij-ABCDEFGHIJ-KLMNOPQRST-uvwxyz-UVWXYZ-0123456",
+    ] {
+        assert!(rt; read_key(word.as_bytes()).is_none(), "{word}");
+    }
+}
+
+/// The key of the office, and two of a member.
+fn rows_of_keys() -> Result<[KeyRow; 3], Fail> {
+    let member = Caller::Party(party(b"M1")?);
+    let [first, second] = [key("aaaaaaaaaaaaaaaa")?, key("zzzzzzzzzzzzzzzz")?];
+    Ok([(Caller::Office, second), (member, first), (member, second)].map(|(caller, secret)| KeyRow {
+        caller,
+        secret,
+    }))
+}
+
+#[test]
+fn keys_are_of_one_caller_each(rt: HostRuntime) -> Result<(), Fail> {
+    let [office, member, again] = rows_of_keys()?;
+    let keys = KeyRows::new(rt.alloc(), vec![in rt.alloc(); member, office]?);
+    assert!(rt; keys.is_ok_and(|keys| keys.as_slice() == [office, member].as_slice()));
+    for other in [office, member] {
+        let keys = KeyRows::new(rt.alloc(), vec![in rt.alloc(); again, other]?);
+        assert!(rt; keys.err() == Some(ListFault::Limit));
+    }
+    Ok(())
+}
+
+#[test]
+fn a_key_list_may_be_empty(rt: HostRuntime) {
+    let none = KeyRows::new(rt.alloc(), Vec::new(rt.alloc()));
+    assert!(rt; none.is_ok_and(|none| none.as_slice().is_empty()));
+}
+
+/// So many rows of one share each, the last of them first.
+fn rows_of_one_share(alloc: Global, count: u32) -> Result<Vec<RegisterRow>, Fail> {
+    let mut rows = Vec::new(alloc);
+    for number in (0..count).rev() {
+        rows.push(RegisterRow {
+            member: party(format!(in alloc; "M{number}")?.as_bytes())?,
+            kind: HolderKind::Individual,
+            name: Text::new(alloc, b"Ada").ok().ok_or("a text")?,
+            shares: 1,
+            paid: 0,
+        })?;
+    }
+    Ok(rows)
+}
+
+#[test]
+fn a_register_has_20_000_rows_at_most(rt: HostRuntime) -> Result<(), Fail> {
+    let register = Register::new(rows_of_one_share(rt.alloc(), 20_000)?);
+    assert!(rt; register.is_ok_and(|register| register.rows().len() == 20_000));
+    let fault = Register::new(rows_of_one_share(rt.alloc(), 20_001)?).err();
+    assert!(rt; fault == Some(ListFault::Limit));
+    Ok(())
+}
