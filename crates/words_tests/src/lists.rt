@@ -1,11 +1,11 @@
 //! Lists in order, and what a caller's contract learns of them at types of its own.
-ghost use Rattle.std.specs.Prelude.{◌≡◌, ◌==◌, ◌↔◌, ℕ, true, find, Contains, OnOk};
+ghost use Rattle.std.specs.Prelude.{◌≡◌, ◌==◌, ◌↔◌, ℕ, true, find, Contains};
 ghost use Rattle.std.specs.Ordering.{nat_cmp};
 ghost use Rattle.words_tests.specs.declared.lists.Row.{Row};
 ghost use Rattle.desk_lists.specs.Ordered.{ascends_by, differ_by, key_before, same_key};
 
 use desk_lists::{Keyed, Listing, ascend, find_by_key, in_order_once, into_order};
-use std::alloc::{AllocError, Global};
+use std::alloc::Global;
 use std::marker::Model;
 use std::test::Fail;
 
@@ -53,12 +53,11 @@ fn row_of(rows: &[Row], number: u64) -> Option<Row>
     find_by_key(rows, &number).copied()
 }
 
-fn order_rows(rows: &mut Vec<Row>) -> Result<(), AllocError>
-    ensures { OnOk result (
-        ascends_by (key_before (λ (r : Row). r.number) nat_cmp) rows.new.items
-        ≡ differ_by (same_key (λ (r : Row). r.number) nat_cmp) rows.old.items) }
+fn order_rows(rows: &mut Vec<Row>)
+    ensures { ascends_by (key_before (λ (r : Row). r.number) nat_cmp) rows.new.items
+        ≡ differ_by (same_key (λ (r : Row). r.number) nat_cmp) rows.old.items }
 {
-    into_order(rows)
+    into_order(rows);
 }
 
 fn different_days(days: Vec<Day>) -> Vec<Day>
@@ -73,7 +72,7 @@ fn seat_of(alloc: Global, number: u64) -> Result<Option<u32>, Fail> {
     for (number, seat) in [(7, 1), (2, 2), (4, 3)] {
         rows.push(Row { number, seat })?;
     }
-    order_rows(&mut rows)?;
+    order_rows(&mut rows);
     if !rows_ascend(&rows) {
         return Err("two rows of one number".into());
     }

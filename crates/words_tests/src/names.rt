@@ -46,10 +46,10 @@ fn rows_of_keys() -> Result<[KeyRow; 3], Fail> {
 #[test]
 fn keys_are_of_one_caller_each(rt: HostRuntime) -> Result<(), Fail> {
     let [office, member, again] = rows_of_keys()?;
-    let keys = KeyRows::new(rt.alloc(), vec![in rt.alloc(); member, office]?);
+    let keys = KeyRows::new(vec![in rt.alloc(); member, office]?);
     assert!(rt; keys.is_ok_and(|keys| keys.as_slice() == [office, member].as_slice()));
     for other in [office, member] {
-        let keys = KeyRows::new(rt.alloc(), vec![in rt.alloc(); again, other]?);
+        let keys = KeyRows::new(vec![in rt.alloc(); again, other]?);
         assert!(rt; keys.err() == Some(ListFault::Limit));
     }
     Ok(())
@@ -57,7 +57,7 @@ fn keys_are_of_one_caller_each(rt: HostRuntime) -> Result<(), Fail> {
 
 #[test]
 fn a_key_list_may_be_empty(rt: HostRuntime) {
-    let none = KeyRows::new(rt.alloc(), Vec::new(rt.alloc()));
+    let none = KeyRows::new(Vec::new(rt.alloc()));
     assert!(rt; none.is_ok_and(|none| none.as_slice().is_empty()));
 }
 
