@@ -4,6 +4,5 @@ pub mod GovernedLemmas
 pub mod MeetingLemmas
 pub mod MemberRows
 pub mod NamedLemmas
-pub mod NextLemmas
 pub mod PlaceLemmas
 pub mod ProxyLemmas
