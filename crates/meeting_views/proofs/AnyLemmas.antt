@@ -5,7 +5,7 @@ use Rattle.std.specs.List.{list_all, list_any}
 use Rattle.std.proofs.lemmas.List.{reverse-append}
 use Rattle.desk_lists.proofs.Truth.{either_second}
 use Rattle.share_blocks.proofs.Choices.{first_of, second_of, neither_first, neither_second, neither_of, or-true}
-use Rattle.meeting_views.proofs.MeetingLemmas.{In}
+use Rattle.meeting_views.proofs.NumberLemmas.{In}
 
 -- ---- choices
 

@@ -3,6 +3,7 @@ pub mod CapacityLemmas
 pub mod GovernedLemmas
 pub mod MeetingLemmas
 pub mod MemberRows
-pub mod NamedLemmas
+pub mod NameLemmas
+pub mod NumberLemmas
 pub mod PlaceLemmas
 pub mod ProxyLemmas

@@ -17,7 +17,7 @@ use Rattle.proxy_rules.proofs.HoldingLemmas.{found-passes, same_name-sym}
 use Rattle.share_blocks.proofs.Choices.{first_of, second_of, both_of, and-false, same_is, same_true}
 use Rattle.poll_rules.specs.Roles.{is_proxy_at}
 use Rattle.meeting_views.proofs.AnyLemmas.{any-none, any-In, In-any, In-find, In-reverse}
-use Rattle.meeting_views.proofs.MeetingLemmas.{In, filter-In, numbered_from, numbered-own}
+use Rattle.meeting_views.proofs.NumberLemmas.{In, filter-In, numbered_from, numbered-own}
 
 -- ---- a member and a number name one appointment
 

@@ -1,47 +1,26 @@
--- What is kept of the members who named a party as their proxy.
-use Rattle.std.specs.Prelude.{ℕ, List, [], ◌∷◌, ◌++◌, map, filter, Option, Some, None, if◌then◌else◌}
+-- What is kept of a party's appointments, and of the members who named it as their proxy.
+use Rattle.std.specs.Prelude.{ℕ, ◌==◌, List, find, reverse, Option, Some, None, option_map, if◌then◌else◌}
 use Rattle.std.specs.BTreeMap.{BTreeMap, get}
 use Rattle.std.specs.Ordering.{nat_cmp}
-use Rattle.desk_words.specs.Names.{same_name}
+use Rattle.desk_words.specs.declared.office.MeetingLists.{MeetingLists}
 use Rattle.desk_words.specs.declared.records.Appointment.{Appointment}
 use Rattle.desk_words.specs.declared.records.Ending.{Ending}
-use Rattle.desk_words.specs.declared.records.RegisterRow.{RegisterRow}
 use Rattle.desk_words.specs.declared.request.Given.{Given}
-use Rattle.proxy_rules.specs.Governing.{shares_by}
-use Rattle.proxy_rules.specs.Holdings.{appointed_by, is_given_by, is_ended_of}
+use Rattle.proxy_rules.specs.Holdings.{holding_of}
 use Rattle.proxy_rules.specs.declared.holdings.Holding.{Holding}
+use Rattle.meeting_views.specs.Governed.{is_among}
 
--- the appointments from the first that names the party on
-abbrev pub since_named : List ℕ → List Appointment → List Appointment
-since_named party [] = []
-since_named party (a ∷ rest) = if same_name a.proxy party then a ∷ rest else since_named party rest
+-- a member's holding in a meeting
+abbrev pub holding_in : MeetingLists → List ℕ → Holding
+holding_in m member = holding_of m.register m.appointments m.endings member
 
--- a member's shares and endings with these of its appointments, and nothing where there are none of them
-abbrev pub holding_with : List RegisterRow → List Ending → List ℕ → List Appointment → Option Holding
-holding_with register ended member [] = None
-holding_with register ended member (a ∷ rest) = Some (record {
-  shares = shares_by register member;
-  appointed = map appointed_by (a ∷ rest);
-  ended = filter (is_ended_of member) ended;
-})
+-- what is kept of a member: its holding, where one of the appointments is the member's
+abbrev pub named_of : MeetingLists → List Appointment → List ℕ → Option Holding
+named_of m given member = if is_among member given then Some (holding_in m member) else None
 
--- what is kept of a member: its holding with its appointments from the first that names the party on, and nothing where none does
-abbrev pub named_of : List RegisterRow → List Appointment → List Ending → List ℕ → List ℕ → Option Holding
-named_of register given ended party member = holding_with register ended member (since_named party (filter (is_given_by member) given))
-
--- what is kept of a member, with one appointment more of it
-abbrev pub with_appointment : List RegisterRow → List ℕ → Appointment → Option Holding → Option Holding
-with_appointment register party a (Some holding) = Some (record {
-  shares = holding.shares;
-  appointed = holding.appointed ++ appointed_by a ∷ [];
-  ended = holding.ended;
-})
-with_appointment register party a None =
-    if same_name a.proxy party then Some (record { shares = shares_by register a.member; appointed = appointed_by a ∷ []; ended = [] }) else None
-
--- a holding with these endings behind those that it has
-abbrev pub with_endings : List Ending → Holding → Holding
-with_endings ended holding = record { shares = holding.shares; appointed = holding.appointed; ended = holding.ended ++ ended }
+-- the moment of the last ending that names the number
+abbrev pub last_ended : List Ending → ℕ → Option ℕ
+last_ended endings number = option_map (λ (e : Ending). e.moment) (find (λ (e : Ending). e.number == number) (reverse endings))
 
 -- an appointment, with its ending as a map keeps it by number
 abbrev pub given_kept : BTreeMap ℕ ℕ → Appointment → Given

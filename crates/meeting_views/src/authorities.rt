@@ -8,17 +8,8 @@ ghost use Rattle.desk_words.specs.declared.records.Authority.{Authority};
 ghost use Rattle.caller_view.specs.Views.{authorised_by, row_of, shares_if, shares_in};
 
 use crate::finding::find_row;
-use desk_words::{Authorised, Authority, HolderKind, Listing, Party, RegisterRow};
+use desk_words::{Authorised, Authority, Filed, HolderKind, Listing, Party, RegisterRow};
 use std::alloc::{AllocError, Global};
-
-/// A party's authorities, in order of receipt.
-#[derive(Drop)]
-pub(crate) struct Authorities {
-    /// The authorities that it gave (section 323).
-    pub persons: Listing<Authority>,
-    /// The corporations that authorised it, with their shares.
-    pub authorised: Listing<Authorised>,
-}
 
 fn shares_of(row: Option<&RegisterRow>) -> u64
     ensures { result ≡ shares_in (option_copied row.entry) }
@@ -32,32 +23,45 @@ fn shares_of(row: Option<&RegisterRow>) -> u64
     }
 }
 
-/// What the authorities hold for a party.
-pub(crate) fn authorities_of(
+/// The authorities that a party gave, in order of receipt (section 323).
+pub(crate) fn persons_of(
+    alloc: Global,
+    authorities: &Filed<Authority>,
+    party: Party,
+) -> Result<Vec<Authority>, AllocError>
+    ensures { IfOk result (λ persons. persons.items ≡ filter (λ (a : Authority). same_name a.corporation party) authorities.now) }
+{
+    authorities.by_first(alloc, party)
+}
+
+/// The authorities that were given to a party, in order of receipt.
+fn trusting(
+    alloc: Global,
+    authorities: &Filed<Authority>,
+    party: Party,
+) -> Result<Vec<Authority>, AllocError>
+    ensures { IfOk result (λ given. given.items ≡ filter (λ (a : Authority). same_name a.person party) authorities.now) }
+{
+    authorities.by_second(alloc, party)
+}
+
+/// The corporations that authorised a party, with their shares, in order of receipt (section 323).
+pub(crate) fn authorised_of(
     alloc: Global,
     rows: &[RegisterRow],
-    authorities: &[Authority],
+    authorities: &Filed<Authority>,
     party: Party,
-) -> Result<Authorities, AllocError>
+) -> Result<Listing<Authorised>, AllocError>
     requires { ascends_by member_before rows.now ≡ true }
-    ensures persons { IfOk result (λ own. own.persons ≡ filter (λ (a : Authority). same_name a.corporation party) authorities.now) }
-    ensures authorised { IfOk result (λ own. own.authorised ≡ map (authorised_by rows.now) (filter (λ (a : Authority). same_name a.person party) authorities.now)) }
+    ensures { IfOk result (λ authorised. authorised ≡ map (authorised_by rows.now) (filter (λ (a : Authority). same_name a.person party) authorities.now)) }
 {
-    let mut persons = Listing::new(alloc);
+    let given = trusting(alloc, authorities, party)?;
     let mut authorised = Listing::new(alloc);
-    for authority in authorities {
-        if authority.corporation.is(party) {
-            persons.push(*authority)?;
-        }
-        if authority.person.is(party) {
-            authorised.push(Authorised {
-                corporation: authority.corporation,
-                shares: shares_of(find_row(rows, authority.corporation)),
-            })?;
-        }
+    for authority in &given {
+        authorised.push(Authorised {
+            corporation: authority.corporation,
+            shares: shares_of(find_row(rows, authority.corporation)),
+        })?;
     }
-    Ok(Authorities {
-        persons,
-        authorised,
-    })
+    Ok(authorised)
 }

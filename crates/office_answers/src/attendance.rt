@@ -8,17 +8,17 @@ ghost use Rattle.office_answers.specs.Limits.{keeps_limits};
 
 use caller_view::{Answer, noted, refuse};
 use desk_words::{
-    AddPresence, Change, MeetingLists, Moment, NewPresence, Party, PresenceMark, Refusal,
+    AddPresence, Change, Filed, MeetingLists, Moment, NewPresence, Party, PresenceMark, Refusal,
 };
 use office_days::Closed;
 use poll_rules::{Demand, Papers, cutoffs, demand_reached, quorum};
 use std::alloc::{AllocError, Global};
 
 /// Whether the party's presence is marked.
-fn is_marked(presences: &[PresenceMark], party: Party) -> bool
+fn is_marked(presences: &Filed<PresenceMark>, party: Party) -> bool
     ensures { result ≡ is_marked presences.now party }
 {
-    presences.iter().any(|mark| mark.party.is(party))
+    presences.has_first(party)
 }
 
 /// The answer to a presence that the office notes (section 318): `NoMeeting`, or else `Noted`, which adds
@@ -39,7 +39,7 @@ pub(crate) fn note_presence(found: Option<&MeetingLists>, now: Moment, new: &New
         presence,
     };
     noted(
-        is_marked(lists.presences.as_slice(), new.party),
+        is_marked(&lists.presences, new.party),
         Change::AddPresence(added),
     )
 }

@@ -1,6 +1,6 @@
 use Rattle.std.proofs.Common.{◌≡◌, map}
 use Rattle.meeting_views.specs.Named.{given_kept}
-use Rattle.meeting_views.proofs.walks.given_with.Given as goal
+use Rattle.meeting_views.proofs.appointments.given_with.Given as goal
 
 -- the first appointments with their endings
 abbrev pub invariant-loop-appointment : goal.invariant-loop-appointment
