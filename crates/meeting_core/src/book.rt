@@ -1,5 +1,6 @@
 //! The book: all that an office holds, in memory.
 ghost use Rattle.std.specs.Prelude.{◌≡◌, true, false, IfOk, OnOk, OnErr, IsTrue, IsOk};
+ghost use Rattle.caller_view.specs.Reads.{own_read};
 ghost use Rattle.caller_view.specs.Views.{nothing_of, own_of, public_of};
 ghost use Rattle.caller_view.specs.Answers.{answer_of, is_for_office};
 ghost use Rattle.desk_words.specs.Office.{is_office};
@@ -18,7 +19,7 @@ use desk_words::{
     Call, Caller, Change, DayList, KeyRows, Listing, MeetingId, MeetingLists, Moment, Party,
     Refusal, Reply, Request,
 };
-use meeting_views::{nothing_of, own_in};
+use meeting_views::{nothing_of, own_for, own_in};
 use office_answers::office_answer;
 use office_days::Closed;
 use std::alloc::{AllocError, Global};
@@ -96,6 +97,22 @@ impl Book {
         }
     }
 
+    /// Those of the own things of a party in a meeting at a moment that the answer to a request reads.
+    fn own_for(
+        &self,
+        party: Party,
+        meeting: MeetingId,
+        now: Moment,
+        request: &Request,
+    ) -> Result<OwnView, AllocError>
+        ensures { IfOk result (λ own. own ≡ own_read request.now (own_of self.now party meeting now)) }
+    {
+        match find_meeting(&self.meetings, meeting) {
+            None => Ok(nothing_of(self.alloc, party)),
+            Some(lists) => own_for(self.alloc, &self.closed, lists, party, now, request),
+        }
+    }
+
     fn answer_to_office(&self, now: Moment, request: &Request) -> Result<Answer, AllocError>
         ensures answer { IfOk result (λ a. a ≡ office_answer self.now.closed self.now.meetings now request.now) }
         ensures limits { IfOk result (λ a. IsTrue (keeps_limits a.change)) }
@@ -116,7 +133,7 @@ impl Book {
         ensures limits { IfOk result (λ a. IsTrue (keeps_limits a.change)) }
     {
         let public = self.public_of(meeting)?;
-        let own = self.own_of(party, meeting, now)?;
+        let own = self.own_for(party, meeting, now, request)?;
         answer(self.alloc, &public, &own, now, request)
     }
 

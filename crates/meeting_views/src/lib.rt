@@ -8,6 +8,8 @@ mod governed;
 mod holdings;
 pub mod laws;
 mod own;
+mod reads;
 
 pub use finding::{find_row, place_of_meeting};
 pub use own::{nothing_of, own_in};
+pub use reads::own_for;

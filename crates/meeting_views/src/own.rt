@@ -27,7 +27,7 @@ use office_days::Closed;
 use std::alloc::{AllocError, Global};
 
 /// The appointments that name a party, each with what it governs, in order of receipt.
-fn received_of(
+pub(crate) fn received_of(
     alloc: Global,
     closed: &Closed,
     lists: &MeetingLists,
@@ -44,13 +44,13 @@ fn received_of(
     received_with(alloc, lists, closed, now, &named, received)
 }
 
-fn is_present(presences: &Filed<PresenceMark>, party: Party) -> bool
+pub(crate) fn is_present(presences: &Filed<PresenceMark>, party: Party) -> bool
     ensures { result ≡ list_any (λ (p : PresenceMark). same_name p.party party) presences.now }
 {
     presences.has_first(party)
 }
 
-fn demands_of(
+pub(crate) fn demands_of(
     alloc: Global,
     demands: &Filed<DemandMark>,
     party: Party,
@@ -60,7 +60,7 @@ fn demands_of(
     demands.by_first(alloc, party)
 }
 
-fn casts_of(
+pub(crate) fn casts_of(
     alloc: Global,
     casts: &Filed<CastMark>,
     party: Party,
@@ -70,7 +70,7 @@ fn casts_of(
     casts.by_first(alloc, party)
 }
 
-fn row_in(rows: &[RegisterRow], party: Party) -> Result<Option<RegisterRow>, AllocError>
+pub(crate) fn row_in(rows: &[RegisterRow], party: Party) -> Result<Option<RegisterRow>, AllocError>
     requires { ascends_by member_before rows.now ≡ true }
     ensures { IfOk result (λ r. r ≡ row_of rows.now party) }
 {
