@@ -1,5 +1,6 @@
 -- What of a party's own things the answer to its request reads.
-use Rattle.std.specs.Prelude.{[]}
+use Rattle.std.specs.Prelude.{[], filter, ◌==◌}
+use Rattle.desk_words.specs.declared.records.CastMark.{CastMark}
 use Rattle.desk_words.specs.declared.request.Request.{Request}
 use Rattle.desk_words.specs.declared.request.Request.TheVariants as asked
 use Rattle.caller_view.specs.Views.{nothing_of}
@@ -13,5 +14,5 @@ own_read (asked.End new) own = record (nothing_of own.party) { given = own.given
 own_read (asked.Authorise new) own = record (nothing_of own.party) { persons = own.persons }
 own_read (asked.Attend meeting) own = record (nothing_of own.party) { present = own.present }
 own_read (asked.Demand poll) own = record own { given = []; persons = []; casts = [] }
-own_read (asked.Cast new) own = record (nothing_of own.party) { row = own.row; casts = own.casts }
+own_read (asked.Cast new) own = record (nothing_of own.party) { row = own.row; casts = filter (λ (c : CastMark). c.resolution == new.resolution) own.casts }
 own_read request own = nothing_of own.party

@@ -60,7 +60,7 @@ pub(crate) fn demands_of(
     demands.by_first(alloc, party)
 }
 
-pub(crate) fn casts_of(
+fn casts_of(
     alloc: Global,
     casts: &Filed<CastMark>,
     party: Party,

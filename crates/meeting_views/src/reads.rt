@@ -1,5 +1,5 @@
 //! What of a party's own things the answer to its request reads.
-ghost use Rattle.std.specs.Prelude.{◌≡◌, [], true, IfOk, filter, length, map};
+ghost use Rattle.std.specs.Prelude.{◌≡◌, ◌==◌, [], true, IfOk, filter, length, map};
 ghost use Rattle.std.specs.List.{list_any};
 ghost use Rattle.desk_words.specs.Names.{same_name};
 ghost use Rattle.desk_words.specs.Office.{are_appointments};
@@ -15,9 +15,9 @@ ghost use Rattle.proxy_rules.specs.Shares.{are_rows};
 
 use crate::appointments::given_of;
 use crate::authorities::{authorised_of, persons_of};
-use crate::own::{casts_of, demands_of, is_present, nothing_of, own_in, received_of, row_in};
+use crate::own::{demands_of, is_present, nothing_of, own_in, received_of, row_in};
 use caller_view::OwnView;
-use desk_words::{Listing, MeetingLists, Moment, Party, Request};
+use desk_words::{CastMark, Filed, Listing, MeetingLists, Moment, Party, Request};
 use office_days::Closed;
 use std::alloc::{AllocError, Global};
 
@@ -55,16 +55,42 @@ fn presence_alone(alloc: Global, lists: &MeetingLists, party: Party) -> OwnView
     }
 }
 
-/// The party's row and the votes that it cast.
-fn row_and_casts(alloc: Global, lists: &MeetingLists, party: Party) -> Result<OwnView, AllocError>
+/// The votes that a party cast on a resolution, in order of receipt.
+fn casts_on(
+    alloc: Global,
+    casts: &Filed<CastMark>,
+    party: Party,
+    resolution: u64,
+) -> Result<Vec<CastMark>, AllocError>
+    ensures { IfOk result (λ found. found.items
+        ≡ filter (λ (c : CastMark). c.resolution == resolution) (filter (λ (c : CastMark). same_name c.voter party) casts.now)) }
+{
+    let all = casts.as_slice();
+    let mut found = Vec::new(alloc);
+    for place in casts.places_by_first(party) {
+        let cast = &all[*place];
+        if cast.resolution == resolution {
+            found.push(*cast)?;
+        }
+    }
+    Ok(found)
+}
+
+/// The party's row and the votes that it cast on a resolution.
+fn row_and_casts(
+    alloc: Global,
+    lists: &MeetingLists,
+    party: Party,
+    resolution: u64,
+) -> Result<OwnView, AllocError>
     requires { ascends_by member_before lists.now.register ≡ true }
     ensures { IfOk result (λ own. own ≡ record (nothing_of party) {
       row = row_of lists.now.register party;
-      casts = filter (λ (c : CastMark). same_name c.voter party) lists.now.casts;
+      casts = filter (λ (c : CastMark). c.resolution == resolution) (filter (λ (c : CastMark). same_name c.voter party) lists.now.casts);
     }) }
 {
     let row = row_in(lists.register.as_slice(), party)?;
-    let casts = casts_of(alloc, &lists.casts, party)?;
+    let casts = casts_on(alloc, &lists.casts, party, resolution)?;
     Ok(OwnView {
         row,
         casts: Listing::from_vec(casts),
@@ -118,7 +144,7 @@ pub fn own_for(
         Request::Authorise(_) => persons_alone(alloc, lists, party),
         Request::Attend(_) => Ok(presence_alone(alloc, lists, party)),
         Request::Demand(_) => for_demand(alloc, closed, lists, party, now),
-        Request::Cast(_) => row_and_casts(alloc, lists, party),
+        Request::Cast(new) => row_and_casts(alloc, lists, party, new.resolution),
         _ => Ok(nothing_of(alloc, party)),
     }
 }
