@@ -1,12 +1,32 @@
 -- The answer to a request reads no more of the party's own things than is said.
-use Rattle.std.proofs.Common.{◌≡◌, ℕ, Bool, true, false, cond, List, [], ◌∷◌, filter, length, refl, sym, ap, ◌∙◌}
-use Rattle.std.specs.Prelude.{◌==◌, count_by}
+use Rattle.std.proofs.Common.{◌≡◌, ℕ, Bool, true, false, not, ◌&&◌, ◌||◌, cond, List, [], ◌∷◌, find, filter, map, length, Some, refl, sym, ap, ◌∙◌}
+use Rattle.std.specs.Prelude.{◌==◌, count_by, is_none, is_some, nat_le, nat_lt}
+use Rattle.std.specs.List.{list_any}
+use Rattle.std.specs.Option.{option_map_or}
 use Rattle.std.proofs.lemmas.List.Sums.{length-filter}
+use Rattle.desk_terms.specs.Names.{same_name}
+use Rattle.desk_terms.specs.Places.{Places, holds, is_range}
+use Rattle.desk_terms.specs.Refusals.{Case}
+use Rattle.desk_terms.specs.declared.kinds.Capacity.{Capacity}
+use Rattle.desk_terms.specs.declared.kinds.Capacity.TheVariants.{Member, Rep, Proxy}
+use Rattle.desk_terms.specs.declared.refusal.Refusal.TheVariants.{BadRange, TooMany, NoRegister, NoRight, NoPoll, PollNotOpen, PollClosed, NotYours, AgainstInstruction}
+use Rattle.desk_words.specs.Finding.{poll_on}
+use Rattle.desk_words.specs.Polls.{is_closed, is_waiting, there_is}
+use Rattle.desk_words.specs.Rulings.{in_found, no_resolution}
+use Rattle.desk_words.specs.declared.own.Authorised.{Authorised}
+use Rattle.desk_words.specs.declared.own.PollGoverned.{PollGoverned}
+use Rattle.desk_words.specs.declared.own.Received.{Received}
 use Rattle.desk_words.specs.declared.records.CastMark.{CastMark}
-use Rattle.desk_words.specs.declared.request.Request.{Request}
-use Rattle.desk_words.specs.declared.request.Request.TheVariants as asked
-use Rattle.caller_view.specs.Answers.{answer_of}
-use Rattle.caller_view.specs.Reads.{own_read}
+use Rattle.desk_words.specs.declared.records.Meeting.{Meeting}
+use Rattle.desk_words.specs.declared.request.NewCast.{NewCast}
+use Rattle.desk_words.specs.declared.request.PartyRequest.{PartyRequest}
+use Rattle.desk_words.specs.declared.request.PartyRequest.TheVariants.{Mine, Cast, Instructed}
+use Rattle.caller_view.specs.Answers.{party_ruling, ruling_in}
+use Rattle.caller_view.specs.Casts.{cast_ruling, casts_on, has_cast_enough, instructed_ruling, is_late_on}
+use Rattle.proxy_rules.specs.Instructions.{allows, instructed_on}
+use Rattle.caller_view.specs.Reads.{authorised_read, cast_on, for_poll, own_read, received_read}
+use Rattle.caller_view.specs.Rights.{forbids, governed_for, governs_at, instructs, is_against, is_governed, is_not_own, may_vote_for, meets, no_runs, some_fail}
+use Rattle.caller_view.specs.Views.{nothing_of}
 use Rattle.caller_view.specs.declared.views.OwnView.{OwnView}
 use Rattle.caller_view.specs.declared.views.PublicRecord.{PublicRecord}
 
@@ -23,13 +43,152 @@ filter-again test (x ∷ xs) =
 count_by-filter : {X : Type 0} (test : X → Bool) (xs : List X) → count_by test (filter test xs) ≡ count_by test xs
 count_by-filter test xs = sym (length-filter test (filter test xs)) ∙ ap length (filter-again test xs) ∙ length-filter test xs
 
--- the others change no answer
-pub answer_of-own_read : (public : PublicRecord) (own : OwnView) (now : ℕ) (request : Request) → answer_of public (own_read request own) now request ≡ answer_of public own now request
-answer_of-own_read public own now (asked.Mine meeting) = refl
-answer_of-own_read public own now (asked.Appoint new) = refl
-answer_of-own_read public own now (asked.End new) = refl
-answer_of-own_read public own now (asked.Authorise new) = refl
-answer_of-own_read public own now (asked.Attend meeting) = refl
-answer_of-own_read public own now (asked.Demand poll) = refl
-answer_of-own_read public own now (asked.Cast new) = rw (count_by-filter (λ (c : CastMark). c.resolution == new.resolution) own.casts)
-answer_of-own_read public own now request = refl
+-- what is found is found among what passes
+find-filter : {X : Type 0} (test : X → Bool) (xs : List X) → find test (filter test xs) ≡ find test xs
+find-filter test [] = refl
+find-filter test (x ∷ xs) =
+    (elim (test x) as (λ b. test x ≡ b → find test (cond b (x ∷ filter test xs) (filter test xs)) ≡ cond b (Some x) (find test xs)) [
+      | true ↦ λ passes. ap (λ b. cond b (Some x) (find test (filter test xs))) passes
+      | false ↦ λ fails. find-filter test xs
+    ]) refl
+
+-- some pass among those that are kept, where all that pass are kept
+any-filter : {X : Type 0} (keeps passes : X → Bool) (xs : List X) → ((x : X) → (keeps x && passes x) ≡ passes x) → list_any passes (filter keeps xs) ≡ list_any passes xs
+any-filter keeps passes [] kept = refl
+any-filter keeps passes (x ∷ xs) kept =
+    (elim (keeps x) as (λ b. keeps x ≡ b → list_any passes (cond b (x ∷ filter keeps xs) (filter keeps xs)) ≡ (passes x || list_any passes xs)) [
+      | true ↦ λ keep. ap (λ b. passes x || b) (any-filter keeps passes xs kept)
+      | false ↦ λ leave.
+          let fails : passes x ≡ false = sym (kept x) ∙ ap (λ b. b && passes x) leave in
+          any-filter keeps passes xs kept ∙ ap (λ b. b || list_any passes xs) (sym fails)
+    ]) refl
+
+-- some pass among what is made of them, where what is made of each passes alike
+any-map : {X : Type 0} (passes : X → Bool) (make : X → X) (xs : List X) → ((x : X) → passes (make x) ≡ passes x) → list_any passes (map make xs) ≡ list_any passes xs
+any-map passes make [] alike = refl
+any-map passes make (x ∷ xs) alike = ap (λ b. b || list_any passes (map make xs)) (alike x) ∙ ap (λ b. passes x || b) (any-map passes make xs alike)
+
+and-again : (a b : Bool) → (a && (a && b)) ≡ (a && b)
+and-again true b = refl
+and-again false b = refl
+
+and-twice : (a b c : Bool) → (a && ((a && b) && c)) ≡ ((a && b) && c)
+and-twice true b c = refl
+and-twice false b c = refl
+
+-- what an appointment governs for a poll is read from that poll
+governed-alike : (late : Bool) (resolution : ℕ) (r : Received) → governed_for late resolution (for_poll resolution r) ≡ governed_for late resolution r
+governed-alike true resolution r = ap (λ found. option_map_or (λ (p : PollGoverned). p.governs) found []) (find-filter (λ (p : PollGoverned). p.resolution == resolution) r.polls)
+governed-alike false resolution r = refl
+
+-- ---- rights
+
+governs-alike : (late : Bool) (new : NewCast) (place : ℕ) (r : Received) → governs_at late new place (for_poll new.resolution r) ≡ governs_at late new place r
+governs-alike late new place r = ap (λ runs. same_name r.member new.member && list_any (λ (run : Places). holds run place) runs) (governed-alike late new.resolution r)
+
+forbids-alike : (late : Bool) (new : NewCast) (r : Received) → forbids late new (for_poll new.resolution r) ≡ forbids late new r
+forbids-alike late new r =
+    ap (λ runs. same_name r.member new.member && not (allows (instructed_on new.resolution r.instructions) new.way) && list_any (meets new.from new.to) runs)
+    (governed-alike late new.resolution r)
+
+instructs-alike : (late : Bool) (resolution : ℕ) (r : Received) → instructs late resolution (for_poll resolution r) ≡ instructs late resolution r
+instructs-alike late resolution r = ap (λ runs. is_some (instructed_on resolution r.instructions) && not (no_runs runs)) (governed-alike late resolution r)
+
+-- of the member's appointments some pass where some of all do, if only the member's can
+any-read : (new : NewCast) (passes : Received → Bool) (received : List Received)
+    → ((r : Received) → passes (for_poll new.resolution r) ≡ passes r) → ((r : Received) → (same_name r.member new.member && passes r) ≡ passes r)
+    → list_any passes (received_read new received Proxy) ≡ list_any passes received
+any-read new passes received alike members =
+    any-map passes (for_poll new.resolution) (filter (λ (r : Received). same_name r.member new.member) received) alike
+    ∙ any-filter (λ (r : Received). same_name r.member new.member) passes received members
+
+may-alike : (own : OwnView) (new : NewCast) (capacity : Capacity) (casts : List CastMark)
+    → may_vote_for (record (nothing_of own.party) { row = own.row; received = received_read new own.received capacity; authorised = authorised_read new own.authorised capacity; casts = casts }) new.member capacity
+    ≡ may_vote_for own new.member capacity
+may-alike own new Member casts = refl
+may-alike own new Rep casts = ap (λ found. nat_lt 0 (option_map_or (λ (a : Authorised). a.shares) found 0)) (find-filter (λ (a : Authorised). same_name a.corporation new.member) own.authorised)
+may-alike own new Proxy casts = refl
+
+own-alike : (own : OwnView) (late : Bool) (new : NewCast) (capacity : Capacity) (casts : List CastMark)
+    → is_not_own (record (nothing_of own.party) { row = own.row; received = received_read new own.received capacity; authorised = authorised_read new own.authorised capacity; casts = casts }) late new capacity
+    ≡ is_not_own own late new capacity
+own-alike own late new Member casts = refl
+own-alike own late new Rep casts = ap (λ found. nat_lt (option_map_or (λ (a : Authorised). a.shares) found 0) new.to) (find-filter (λ (a : Authorised). same_name a.corporation new.member) own.authorised)
+own-alike own late new Proxy casts =
+    let governed : (place : ℕ) → is_governed (received_read new own.received Proxy) late new place ≡ is_governed own.received late new place =
+    λ place. any-read new (governs_at late new place) own.received (governs-alike late new place)
+    (λ r. and-again (same_name r.member new.member) (list_any (λ (run : Places). holds run place) (governed_for late new.resolution r))) in
+    λ i. some_fail (λ place. governed place i) new.from new.to
+
+against-alike : (own : OwnView) (late : Bool) (new : NewCast) (capacity : Capacity) (casts : List CastMark)
+    → is_against (record (nothing_of own.party) { row = own.row; received = received_read new own.received capacity; authorised = authorised_read new own.authorised capacity; casts = casts }) late new capacity
+    ≡ is_against own late new capacity
+against-alike own late new Member casts = refl
+against-alike own late new Rep casts = refl
+against-alike own late new Proxy casts =
+    any-read new (forbids late new) own.received (forbids-alike late new)
+    (λ r. and-twice (same_name r.member new.member) (not (allows (instructed_on new.resolution r.instructions) new.way))
+    (list_any (meets new.from new.to) (governed_for late new.resolution r)))
+
+enough-alike : (own : OwnView) (resolution : ℕ) → nat_le 1024 (casts_on (cast_on resolution own.casts) resolution) ≡ has_cast_enough own resolution
+enough-alike own resolution = ap (nat_le 1024) (count_by-filter (λ (c : CastMark). c.resolution == resolution) own.casts)
+
+-- the cases of a vote, by what they ask of the own things
+abbrev cast_cases_by : PublicRecord → Meeting → NewCast → Bool → Bool → Bool → Bool → List Case
+cast_cases_by public meeting new enough may not_own against =
+    let poll = poll_on public.polls new.resolution in
+    no_resolution meeting new.resolution
+    ∷ record { refusal = BadRange; holds = not (is_range new.from new.to) }
+    ∷ record { refusal = TooMany; holds = enough }
+    ∷ record { refusal = NoRegister; holds = not meeting.loaded }
+    ∷ record { refusal = NoRight; holds = not may }
+    ∷ record { refusal = NoPoll; holds = is_none poll }
+    ∷ record { refusal = PollNotOpen; holds = there_is is_waiting poll }
+    ∷ record { refusal = PollClosed; holds = there_is is_closed poll }
+    ∷ record { refusal = NotYours; holds = not_own }
+    ∷ record { refusal = AgainstInstruction; holds = against }
+    ∷ []
+
+cast-alike : (public : PublicRecord) (meeting : Meeting) (own : OwnView) (now : ℕ) (new : NewCast)
+    → cast_ruling public meeting (own_read (Cast new) own) now new ≡ cast_ruling public meeting own now new
+cast-alike public meeting own now new =
+    let late = is_late_on public new.resolution in
+    let casts = cast_on new.resolution own.casts in
+    λ i. record {
+      cases = cast_cases_by public meeting new (enough-alike own new.resolution i) (may-alike own new new.capacity casts i)
+          (own-alike own late new new.capacity casts i) (against-alike own late new new.capacity casts i);
+      accepted = (cast_ruling public meeting own now new).accepted;
+    }
+
+abbrev instructed_cases_by : PublicRecord → Meeting → ℕ → Bool → Bool → List Case
+instructed_cases_by public meeting resolution enough uninstructed =
+    let poll = poll_on public.polls resolution in
+    no_resolution meeting resolution
+    ∷ record { refusal = TooMany; holds = enough }
+    ∷ record { refusal = NoRegister; holds = not meeting.loaded }
+    ∷ record { refusal = NoPoll; holds = is_none poll }
+    ∷ record { refusal = PollNotOpen; holds = there_is is_waiting poll }
+    ∷ record { refusal = PollClosed; holds = there_is is_closed poll }
+    ∷ record { refusal = NotYours; holds = uninstructed }
+    ∷ []
+
+instructed-alike : (public : PublicRecord) (meeting : Meeting) (own : OwnView) (now resolution : ℕ)
+    → instructed_ruling public meeting (own_read (Instructed resolution) own) now resolution ≡ instructed_ruling public meeting own now resolution
+instructed-alike public meeting own now resolution =
+    let late = is_late_on public resolution in
+    λ i. record {
+      cases = instructed_cases_by public meeting resolution (enough-alike own resolution i)
+          (not (any-map (instructs late resolution) (for_poll resolution) own.received (instructs-alike late resolution) i));
+      accepted = (instructed_ruling public meeting own now resolution).accepted;
+    }
+
+-- the others change no ruling
+ruled_alike : (public : PublicRecord) (own : OwnView) (now : ℕ) (asked : PartyRequest) (meeting : Meeting)
+    → ruling_in public (own_read asked own) now asked meeting ≡ ruling_in public own now asked meeting
+ruled_alike public own now Mine meeting = refl
+ruled_alike public own now (Cast new) meeting = cast-alike public meeting own now new
+ruled_alike public own now (Instructed resolution) meeting = instructed-alike public meeting own now resolution
+ruled_alike public own now asked meeting = refl
+
+pub ruling-own_read : (public : PublicRecord) (own : OwnView) (now : ℕ) (asked : PartyRequest) → party_ruling public (own_read asked own) now asked ≡ party_ruling public own now asked
+ruling-own_read public own now asked = λ i. in_found public.meeting (λ meeting. ruled_alike public own now asked meeting i)

@@ -1,49 +1,58 @@
 -- Authorities that a party gives, its presence, and polls that it demands.
-use Rattle.std.specs.Prelude.{ℕ, Bool, true, false, not, ◌&&◌, ◌||◌, ◌==◌, nat_le, nat_lt, List, [], ◌∷◌, length, Option, is_none, is_some}
+use Rattle.std.specs.Prelude.{Bool, true, false, not, ◌&&◌, ◌||◌, ◌==◌, nat_le, nat_lt, List, [], ◌∷◌, length, is_none, is_some}
 use Rattle.std.specs.List.{list_any}
+use Rattle.desk_words.specs.Finding.{poll_on}
 use Rattle.desk_words.specs.Names.{same_name}
-use Rattle.desk_words.specs.Office.{is_resolution}
 use Rattle.desk_words.specs.Places.{Places}
 use Rattle.desk_words.specs.Refusals.{Case}
-use Rattle.desk_terms.specs.declared.refusal.Refusal.TheVariants.{NoResolution, SelfNamed, TooMany, NoRegister, NotOpened, NotPresent, NoRight, PollOrdered}
+use Rattle.desk_words.specs.Rulings.{Ruling, no_resolution, noted}
+use Rattle.desk_words.specs.Seen.{Moment, Number, Party}
+use Rattle.desk_terms.specs.declared.refusal.Refusal.TheVariants.{SelfNamed, TooMany, NoRegister, NotOpened, NotPresent, NoRight, PollOrdered}
 use Rattle.desk_words.specs.declared.records.Authority.{Authority}
 use Rattle.desk_words.specs.declared.records.DemandMark.{DemandMark}
 use Rattle.desk_words.specs.declared.records.Meeting.{Meeting}
-use Rattle.desk_words.specs.declared.records.Poll.{Poll}
 use Rattle.desk_words.specs.declared.records.PresenceMark.{PresenceMark}
-use Rattle.desk_words.specs.declared.request.Authorised.{Authorised}
-use Rattle.desk_words.specs.declared.request.NewAuthority.{NewAuthority}
-use Rattle.desk_words.specs.declared.request.Received.{Received}
-use Rattle.caller_view.specs.Polls.{holds_as_individual}
+use Rattle.desk_words.specs.declared.change.Entry.{Entry}
+use Rattle.desk_words.specs.declared.change.Entry.TheVariants as entry
+use Rattle.desk_words.specs.declared.own.Authorised.{Authorised}
+use Rattle.desk_words.specs.declared.own.Received.{Received}
+use Rattle.caller_view.specs.Rights.{holds_as_individual, no_runs}
+use Rattle.caller_view.specs.declared.views.PublicRecord.{PublicRecord}
 use Rattle.caller_view.specs.declared.views.OwnView.{OwnView}
 
 -- the party gave the person its authority already (section 323)
-abbrev pub gave_authority : OwnView → List ℕ → Bool
+abbrev pub gave_authority : OwnView → Party → Bool
 gave_authority own person = list_any (λ (a : Authority). same_name a.person person) own.persons
 
 -- when an authority is not noted: the party names itself, or it gave 64 already and this is none of them
-abbrev pub authorise_cases : OwnView → NewAuthority → List Case
-authorise_cases own new =
-    record { refusal = SelfNamed; holds = same_name new.person own.party }
-    ∷ record { refusal = TooMany; holds = not (gave_authority own new.person) && nat_le 64 (length own.persons) }
+abbrev pub authorise_cases : OwnView → Party → List Case
+authorise_cases own person =
+    record { refusal = SelfNamed; holds = same_name person own.party }
+    ∷ record { refusal = TooMany; holds = not (gave_authority own person) && nat_le 64 (length own.persons) }
     ∷ []
 
 -- the authority that is noted (section 323)
-abbrev pub authority_of : OwnView → ℕ → NewAuthority → Authority
-authority_of own now new = record { corporation = own.party; person = new.person; moment = now }
+abbrev pub authority_of : OwnView → Moment → Party → Authority
+authority_of own now person = record { corporation = own.party; person = person; moment = now }
+
+-- an authority is noted, or refused by the party's own things; the register is not looked at (section 323)
+abbrev pub authorise_ruling : OwnView → Moment → Party → Ruling Entry
+authorise_ruling own now person = record {
+  cases = authorise_cases own person;
+  accepted = noted (gave_authority own person) (entry.Authority (authority_of own now person));
+}
 
 -- the mark of the party's presence (section 318)
-abbrev pub presence_of : OwnView → ℕ → PresenceMark
+abbrev pub presence_of : OwnView → Moment → PresenceMark
 presence_of own now = record { party = own.party; moment = now }
+
+-- a presence is noted (section 318)
+abbrev pub attend_ruling : OwnView → Moment → Ruling Entry
+attend_ruling own now = record { cases = []; accepted = noted own.present (entry.Presence (presence_of own now)) }
 
 -- the party may act for a corporation of the register (section 323)
 abbrev pub represents : OwnView → Bool
 represents own = list_any (λ (a : Authorised). nat_lt 0 a.shares) own.authorised
-
--- there is no run
-abbrev pub no_runs : List Places → Bool
-no_runs [] = true
-no_runs (run ∷ runs) = false
 
 -- the party governs at least one share for the meeting (section 324)
 abbrev pub governs_any : OwnView → Bool
@@ -54,20 +63,27 @@ abbrev pub may_demand : OwnView → Bool
 may_demand own = holds_as_individual own.row || represents own || governs_any own
 
 -- the party has demanded a poll on the resolution already
-abbrev pub has_demanded : OwnView → ℕ → Bool
+abbrev pub has_demanded : OwnView → Number → Bool
 has_demanded own resolution = list_any (λ (d : DemandMark). d.resolution == resolution) own.demands
 
 -- when a demand is not noted (section 321)
-abbrev pub demand_cases : Meeting → Option Poll → OwnView → ℕ → List Case
-demand_cases meeting poll own resolution =
-    record { refusal = NoResolution; holds = not (is_resolution (length meeting.resolutions) resolution) }
+abbrev pub demand_cases : PublicRecord → Meeting → OwnView → Number → List Case
+demand_cases public meeting own resolution =
+    no_resolution meeting resolution
     ∷ record { refusal = NoRegister; holds = not meeting.loaded }
     ∷ record { refusal = NotOpened; holds = is_none meeting.opened }
     ∷ record { refusal = NotPresent; holds = not own.present }
     ∷ record { refusal = NoRight; holds = not (may_demand own) }
-    ∷ record { refusal = PollOrdered; holds = is_some poll }
+    ∷ record { refusal = PollOrdered; holds = is_some (poll_on public.polls resolution) }
     ∷ []
 
 -- the demand that is noted (section 321)
-abbrev pub demand_of : OwnView → ℕ → ℕ → DemandMark
+abbrev pub demand_of : OwnView → Moment → Number → DemandMark
 demand_of own now resolution = record { resolution = resolution; party = own.party; moment = now }
+
+-- a demand is noted, or refused by the public record and the party's own things; whether the demands are enough is not said (section 321)
+abbrev pub demand_ruling : PublicRecord → Meeting → OwnView → Moment → Number → Ruling Entry
+demand_ruling public meeting own now resolution = record {
+  cases = demand_cases public meeting own resolution;
+  accepted = noted (has_demanded own resolution) (entry.Demand (demand_of own now resolution));
+}

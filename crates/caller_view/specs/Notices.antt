@@ -1,18 +1,19 @@
 -- What the notice of a meeting shows.
 use Rattle.std.specs.Prelude.{ℕ, suc, List, [], ◌∷◌, Some, option_map}
 use Rattle.desk_terms.specs.declared.kinds.ResKind.{ResKind}
+use Rattle.desk_words.specs.Finding.{poll_on}
+use Rattle.desk_words.specs.Seen.{Day, Moment, Number}
 use Rattle.desk_words.specs.declared.records.Meeting.{Meeting}
 use Rattle.desk_words.specs.declared.records.Poll.{Poll}
 use Rattle.desk_words.specs.declared.records.Resolution.{Resolution}
-use Rattle.desk_words.specs.declared.request.Notice.{Notice}
-use Rattle.desk_words.specs.declared.request.NoticedPoll.{NoticedPoll}
-use Rattle.desk_words.specs.declared.request.NoticedResolution.{NoticedResolution}
+use Rattle.desk_words.specs.declared.reply.Notice.{Notice}
+use Rattle.desk_words.specs.declared.reply.NoticedPoll.{NoticedPoll}
+use Rattle.desk_words.specs.declared.reply.NoticedResolution.{NoticedResolution}
 use Rattle.proxy_rules.specs.Cutoffs.{cutoffs_of, meeting_cutoffs, is_late_poll}
-use Rattle.poll_rules.specs.Majority.{result_of}
-use Rattle.caller_view.specs.Polls.{poll_on}
+use Rattle.desk_words.specs.Majority.{result_of}
 
 -- a poll, with its lateness and its cutoff by the closed days as they stand, and its result once it is declared (section 327)
-abbrev pub noticed_poll : Meeting → List ℕ → ℕ → ResKind → Poll → NoticedPoll
+abbrev pub noticed_poll : Meeting → List Day → Moment → ResKind → Poll → NoticedPoll
 noticed_poll meeting closed now kind poll = record {
   ordered = poll.ordered;
   take = poll.take;
@@ -25,7 +26,7 @@ noticed_poll meeting closed now kind poll = record {
 }
 
 -- a resolution, with the poll on it if one is ordered
-abbrev pub noticed_resolution : Meeting → List Poll → List ℕ → ℕ → ℕ → Resolution → NoticedResolution
+abbrev pub noticed_resolution : Meeting → List Poll → List Day → Moment → Number → Resolution → NoticedResolution
 noticed_resolution meeting polls closed now number resolution = record {
   number = number;
   kind = resolution.kind;
@@ -39,7 +40,7 @@ numbered f n [] = []
 numbered f n (x ∷ xs) = f n x ∷ numbered f (suc n) xs
 
 -- the notice of a meeting, and what is public of it since (section 307)
-abbrev pub notice_of : Meeting → List Poll → List ℕ → ℕ → Notice
+abbrev pub notice_of : Meeting → List Poll → List Day → Moment → Notice
 notice_of meeting polls closed now = record {
   meeting = meeting.id;
   company = meeting.company;

@@ -1,6 +1,7 @@
 -- What a party may see of an office.
 use Rattle.std.specs.Prelude.{ℕ, Bool, false, ◌&&◌, ◌==◌, List, [], map, filter, find, reverse, Option, Some, None, option_map}
 use Rattle.std.specs.List.{list_any}
+use Rattle.desk_words.specs.Finding.{meeting_named}
 use Rattle.desk_words.specs.Names.{same_name}
 use Rattle.desk_words.specs.Places.{Places}
 use Rattle.desk_words.specs.declared.office.OfficeLists.{OfficeLists}
@@ -13,21 +14,18 @@ use Rattle.desk_words.specs.declared.records.PresenceMark.{PresenceMark}
 use Rattle.desk_words.specs.declared.records.DemandMark.{DemandMark}
 use Rattle.desk_words.specs.declared.records.Poll.{Poll}
 use Rattle.desk_words.specs.declared.records.CastMark.{CastMark}
-use Rattle.desk_words.specs.declared.request.Given.{Given}
-use Rattle.desk_words.specs.declared.request.PollGoverned.{PollGoverned}
-use Rattle.desk_words.specs.declared.request.Received.{Received}
-use Rattle.desk_words.specs.declared.request.Authorised.{Authorised}
+use Rattle.desk_words.specs.declared.own.Given.{Given}
+use Rattle.desk_words.specs.declared.own.PollGoverned.{PollGoverned}
+use Rattle.desk_words.specs.declared.own.Received.{Received}
+use Rattle.desk_words.specs.declared.own.Authorised.{Authorised}
 use Rattle.desk_terms.specs.declared.kinds.HolderKind.{HolderKind}
 use Rattle.desk_terms.specs.declared.kinds.HolderKind.TheVariants.{Individual, Corporation, Treasury}
 use Rattle.proxy_rules.specs.Cutoffs.{is_late_poll, late_cutoffs, meeting_cutoffs}
-use Rattle.proxy_rules.specs.Governing.{governed_of}
+use Rattle.proxy_rules.specs.Governing.{governed_in}
+use Rattle.proxy_rules.specs.Holdings.{holding_of}
 use Rattle.proxy_rules.specs.declared.papers.Cutoffs.{Cutoffs}
 use Rattle.caller_view.specs.declared.views.PublicRecord.{PublicRecord}
 use Rattle.caller_view.specs.declared.views.OwnView.{OwnView}
-
--- the lists of the meeting of a name
-abbrev pub meeting_named : List MeetingLists → List ℕ → Option MeetingLists
-meeting_named meetings id = find (λ m. same_name m.meeting.id id) meetings
 
 -- the lists of the meeting of a name in an office
 abbrev pub meeting_at : OfficeLists → List ℕ → Option MeetingLists
@@ -93,7 +91,7 @@ nothing_of party = record {
 
 -- the places that an appointment governs, by the meeting's register, appointments and endings (section 324)
 abbrev pub governed_by : MeetingLists → Cutoffs → Appointment → List Places
-governed_by m cutoffs a = governed_of cutoffs m.register m.appointments m.endings a.member a.number
+governed_by m cutoffs a = governed_in cutoffs (holding_of m.register m.appointments m.endings a.member) a.number
 
 -- what an appointment governs for a late poll (section 327)
 abbrev pub poll_governed : MeetingLists → List ℕ → Appointment → Poll → PollGoverned

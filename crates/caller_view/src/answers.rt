@@ -1,29 +1,20 @@
 //! The answer to a party.
-ghost use Rattle.std.specs.Prelude.{◌≡◌, IfOk, IsOk, IsTrue, map};
-ghost use Rattle.caller_view.specs.Answers.{answer_of, refused, mine_of, mine_answer, is_refused};
-ghost use Rattle.caller_view.specs.Appointments.{given_use};
+ghost use Rattle.std.specs.Prelude.{◌≡◌, true, IfOk, IsOk, map};
+ghost use Rattle.desk_words.specs.Rulings.{refuses, settled};
+ghost use Rattle.caller_view.specs.Answers.{mine_of, party_ruling};
+ghost use Rattle.caller_view.specs.Appointments.{cutoff_in, given_use};
 
 use crate::appointments::{appoint, end, use_by};
 use crate::attendance::{attend, authorise, demand};
-use crate::casts::cast;
-use crate::notices::notice;
-use crate::views::{Answer, OwnView, PublicRecord};
+use crate::casts::{cast, instructed};
+use crate::notices::notice_in;
+use crate::views::{OwnView, PublicRecord};
 use desk_words::{
-    CastMark, Given, GivenUse, Listing, MeetingId, Mine, Moment, Received, Refusal, RegisterRow,
-    Reply, Request,
+    Answer, CastMark, Entry, Given, GivenUse, Listing, Meeting, Mine, Moment, PartyRequest,
+    Received, Refusal, RegisterRow, Reply, refuse, tell,
 };
-use poll_rules::cutoffs;
+use proxy_rules::cutoffs;
 use std::alloc::{AllocError, Global};
-
-/// The answer that refuses, and changes nothing.
-pub fn refuse(refusal: Refusal) -> Answer
-    ensures { result ≡ refused refusal }
-{
-    Answer {
-        reply: Reply::Refused(refusal),
-        change: None,
-    }
-}
 
 fn copy_row(row: &Option<RegisterRow>) -> Result<Option<RegisterRow>, AllocError>
     ensures { IfOk result (λ r. r ≡ row.now) }
@@ -65,16 +56,26 @@ fn copy_casts(casts: &Listing<CastMark>) -> Result<Listing<CastMark>, AllocError
     casts.clone()
 }
 
-fn own_things(
-    alloc: Global,
-    meeting: MeetingId,
-    cutoff: Moment,
-    own: &OwnView,
-) -> Result<Mine, AllocError>
-    ensures { IfOk result (λ m. m ≡ mine_of meeting cutoff own.now) }
+/// The last moment at which an appointment counts for the meeting.
+pub(crate) fn cutoff_in(public: &PublicRecord, meeting: &Meeting, now: Moment) -> Moment
+    ensures { result ≡ cutoff_in public.now meeting.now now }
 {
+    cutoffs(meeting, None, &public.closed, now).appointments
+}
+
+/// What a party is told of its own things.
+fn mine(
+    alloc: Global,
+    public: &PublicRecord,
+    meeting: &Meeting,
+    own: &OwnView,
+    now: Moment,
+) -> Result<Mine, AllocError>
+    ensures { IfOk result (λ m. m ≡ mine_of public.now meeting.now own.now now) }
+{
+    let cutoff = cutoff_in(public, meeting, now);
     Ok(Mine {
-        meeting,
+        meeting: meeting.id,
         row: copy_row(&own.row)?,
         given: Listing::from_vec(given_uses(alloc, own.given.as_slice(), cutoff)?),
         persons: own.persons.clone()?,
@@ -86,57 +87,34 @@ fn own_things(
     })
 }
 
-fn mine(
-    alloc: Global,
-    public: &PublicRecord,
-    own: &OwnView,
-    now: Moment,
-    id: MeetingId,
-) -> Result<Answer, AllocError>
-    ensures answer { IfOk result (λ a. a ≡ mine_answer public.now own.now now id) }
-    ensures sure { IsTrue (is_refused (mine_answer public.now own.now now id)) → IsOk result }
-{
-    match &public.meeting {
-        None => Ok(refuse(Refusal::NoMeeting)),
-        Some(meeting) => {
-            let cutoff = cutoffs(meeting, None, &public.closed, now).appointments;
-            Ok(Answer {
-                reply: Reply::Mine(own_things(alloc, id, cutoff, own)?),
-                change: None,
-            })
-        }
-    }
-}
-
-/// The answer to a party: a function of what it may see, the moment and the request. The error is
-/// want of memory; a refusal takes none.
+/// The answer to a party: a function of what it may see, the moment and the request. It is refused
+/// as `NoMeeting` where there is no meeting, and else as its request is. The error is want of
+/// memory; a refusal takes none.
 pub fn answer(
     alloc: Global,
     public: &PublicRecord,
     own: &OwnView,
     now: Moment,
-    request: &Request,
-) -> Result<Answer, AllocError>
-    ensures answer { IfOk result (λ a. a ≡ answer_of public.now own.now now request.now) }
-    ensures sure { IsTrue (is_refused (answer_of public.now own.now now request.now)) → IsOk result }
+    asked: &PartyRequest,
+) -> Result<Answer<Entry>, AllocError>
+    ensures answer { IfOk result (λ a. a ≡ settled
+        (party_ruling public.now own.now now asked.now)) }
+    ensures sure { refuses (party_ruling public.now own.now now asked.now) ≡ true → IsOk result }
 {
-    match request {
-        Request::CallMeeting(_)
-        | Request::LoadRegister(_)
-        | Request::Presence(_)
-        | Request::OpenMeeting(_)
-        | Request::Order(_)
-        | Request::Start(_)
-        | Request::Close(_)
-        | Request::Declare(_)
-        | Request::ClosedDays(_) => Ok(refuse(Refusal::OfficeOnly)),
-        Request::Notice(_) => notice(alloc, public, now),
-        Request::Mine(meeting) => mine(alloc, public, own, now, *meeting),
-        Request::Appoint(new) => appoint(public, own, now, new),
-        Request::End(new) => Ok(end(public, own, now, new)),
-        Request::Authorise(new) => Ok(authorise(public, own, now, new)),
-        Request::Attend(meeting) => Ok(attend(public, own, now, *meeting)),
-        Request::Demand(poll) => Ok(demand(public, own, now, *poll)),
-        Request::Cast(new) => Ok(cast(public, own, now, new)),
+    let Some(meeting) = &public.meeting else {
+        return Ok(refuse(Refusal::NoMeeting));
+    };
+    match asked {
+        PartyRequest::Notice => { Ok(tell(Reply::Notice(notice_in(alloc, public, meeting, now)?))) }
+        PartyRequest::Mine => { Ok(tell(Reply::Mine(mine(alloc, public, meeting, own, now)?))) }
+        PartyRequest::Appoint(new) => appoint(public, meeting, own, now, new),
+        PartyRequest::End(number) => Ok(end(own, now, *number)),
+        PartyRequest::Authorise(person) => Ok(authorise(own, now, *person)),
+        PartyRequest::Attend => Ok(attend(own, now)),
+        PartyRequest::Demand(resolution) => Ok(demand(public, meeting, own, now, *resolution)),
+        PartyRequest::Cast(new) => Ok(cast(public, meeting, own, now, new)),
+        PartyRequest::Instructed(resolution) => {
+            Ok(instructed(public, meeting, own, now, *resolution))
+        }
     }
 }

@@ -1,18 +1,17 @@
 //! The answers to a party that gives or ends an appointment of a proxy.
-ghost use Rattle.std.specs.Prelude.{◌≡◌, ◌==◌, IfOk, IsOk, IsTrue, find};
+ghost use Rattle.std.specs.Prelude.{◌≡◌, ◌==◌, true, IfOk, IsOk, find};
 ghost use Rattle.std.specs.Option.{option_copied};
 ghost use Rattle.desk_words.specs.Refusals.{first_refusal};
-ghost use Rattle.desk_words.specs.declared.request.Given.{Given};
-ghost use Rattle.caller_view.specs.Answers.{appoint_answer, appointed, cutoff_in, end_answer, ended, is_refused, unless};
-ghost use Rattle.caller_view.specs.Appointments.{appoint_cases, appointment_of, end_cases, given_numbered, use_by};
+ghost use Rattle.desk_words.specs.Rulings.{refuses, settled};
+ghost use Rattle.desk_words.specs.declared.own.Given.{Given};
+ghost use Rattle.caller_view.specs.Appointments.{appoint_cases, appoint_ruling, appointment_of, end_cases, end_ruling, given_numbered, use_by};
 
-use crate::answers::refuse;
-use crate::views::{Answer, OwnView, PublicRecord};
+use crate::answers::cutoff_in;
+use crate::views::{OwnView, PublicRecord};
 use desk_words::{
-    AddAppointment, AddEnding, Appointment, AppointmentReceipt, AppointmentUse, Change, Ending,
-    Given, Instr, Listing, Meeting, Moment, NewAppointment, NewEnding, Range, Refusal, Reply,
+    Answer, Appointment, AppointmentReceipt, AppointmentUse, Ending, Entry, Given, Instr, Listing,
+    Meeting, Moment, NewAppointment, Range, Refusal, Reply, refuse,
 };
-use poll_rules::cutoffs;
 use std::alloc::AllocError;
 
 /// The most appointments of a party in a meeting.
@@ -73,65 +72,50 @@ fn new_appointment(
 }
 
 fn appointed(
-    cutoff: Moment,
+    public: &PublicRecord,
+    meeting: &Meeting,
     own: &OwnView,
     now: Moment,
     new: &NewAppointment,
     range: Range,
-) -> Result<Answer, AllocError>
+) -> Result<Answer<Entry>, AllocError>
     requires { range ≡ record { from = new.now.from; to = new.now.to } }
-    ensures { IfOk result (λ a. a ≡ appointed cutoff own.now now new.now) }
+    ensures { IfOk result
+        (λ a. a ≡ (appoint_ruling public.now meeting.now own.now now new.now).accepted) }
 {
     let appointment = new_appointment(own, now, new, range)?;
     Ok(Answer {
         reply: Reply::Appointed(AppointmentReceipt {
             number: appointment.number,
-            used: use_by(cutoff, now),
+            used: use_by(cutoff_in(public, meeting, now), now),
         }),
-        change: Some(Change::AddAppointment(AddAppointment {
-            meeting: new.meeting,
-            appointment,
-        })),
+        change: Some(Entry::Appointment(appointment)),
     })
 }
 
-fn appoint_in(
-    meeting: &Meeting,
+/// The answer to a party that appoints a proxy over some of its own shares (sections 324 and 324A):
+/// the first that holds of `BadRange`, `SelfNamed` where it names itself, `BadInstructions` where
+/// there is not one for each resolution, and `TooMany` where it gave 256 appointments in the
+/// meeting; and else `Appointed` with its next number, which enters the appointment. The register
+/// is not looked at. The error is want of memory; a refusal takes none.
+pub(crate) fn appoint(
     public: &PublicRecord,
+    meeting: &Meeting,
     own: &OwnView,
     now: Moment,
     new: &NewAppointment,
-) -> Result<Answer, AllocError>
-    ensures answer { IfOk result (λ a. a ≡ unless (appoint_cases meeting.now own.now new.now) (appointed (cutoff_in public.now now meeting.now) own.now now new.now)) }
-    ensures sure { IsTrue (is_refused (unless (appoint_cases meeting.now own.now new.now) (appointed (cutoff_in public.now now meeting.now) own.now now new.now))) → IsOk result }
+) -> Result<Answer<Entry>, AllocError>
+    ensures answer { IfOk result (λ a. a ≡ settled
+        (appoint_ruling public.now meeting.now own.now now new.now)) }
+    ensures sure { refuses (appoint_ruling public.now meeting.now own.now now new.now) ≡ true
+        → IsOk result }
 {
     if let Some(refusal) = appoint_refusal(meeting, own, new) {
         return Ok(refuse(refusal));
     }
-    let cutoff = cutoffs(meeting, None, &public.closed, now).appointments;
     match Range::new(new.from, new.to) {
-        Some(range) => appointed(cutoff, own, now, new, range),
+        Some(range) => appointed(public, meeting, own, now, new, range),
         None => Ok(refuse(Refusal::BadRange)),
-    }
-}
-
-/// The answer to a party that appoints a proxy over some of its own shares (sections 324 and 324A):
-/// the first that holds of `NoMeeting`, `BadRange`, `SelfNamed` where it names itself,
-/// `BadInstructions` where there is not one for each resolution, and `TooMany` where it gave 256
-/// appointments in the meeting; and else `Appointed` with its next number, which adds the
-/// appointment. The register is not looked at. The error is want of memory; a refusal takes none.
-pub fn appoint(
-    public: &PublicRecord,
-    own: &OwnView,
-    now: Moment,
-    new: &NewAppointment,
-) -> Result<Answer, AllocError>
-    ensures answer { IfOk result (λ a. a ≡ appoint_answer public.now own.now now new.now) }
-    ensures sure { IsTrue (is_refused (appoint_answer public.now own.now now new.now)) → IsOk result }
-{
-    match &public.meeting {
-        None => Ok(refuse(Refusal::NoMeeting)),
-        Some(meeting) => appoint_in(meeting, public, own, now, new),
     }
 }
 
@@ -141,10 +125,10 @@ fn find_given(given: &[Given], number: u64) -> Option<&Given>
     given.iter().find(|g| g.appointment.number == number)
 }
 
-fn end_refusal(own: &OwnView, new: &NewEnding) -> Option<Refusal>
-    ensures { result ≡ first_refusal (end_cases own.now new.now) }
+fn end_refusal(own: &OwnView, number: u64) -> Option<Refusal>
+    ensures { result ≡ first_refusal (end_cases own.now number) }
 {
-    let Some(given) = find_given(own.given.as_slice(), new.number) else {
+    let Some(given) = find_given(own.given.as_slice(), number) else {
         return Some(Refusal::NoSuchNumber);
     };
     if given.ended.is_some() {
@@ -153,33 +137,20 @@ fn end_refusal(own: &OwnView, new: &NewEnding) -> Option<Refusal>
     None
 }
 
-fn ended(own: &OwnView, now: Moment, new: &NewEnding) -> Answer
-    ensures { result ≡ ended own.now now new.now }
+/// The answer to a party that ends an appointment that it gave (section 330): `NoSuchNumber` where
+/// it gave none of that number, `AlreadyEnded`, and else `Ended`, which enters the ending.
+pub(crate) fn end(own: &OwnView, now: Moment, number: u64) -> Answer<Entry>
+    ensures { result ≡ settled (end_ruling own.now now number) }
 {
+    if let Some(refusal) = end_refusal(own, number) {
+        return refuse(refusal);
+    }
     Answer {
-        reply: Reply::Ended(new.number),
-        change: Some(Change::AddEnding(AddEnding {
-            meeting: new.meeting,
-            ending: Ending {
-                member: own.party,
-                number: new.number,
-                moment: now,
-            },
+        reply: Reply::Ended(number),
+        change: Some(Entry::Ending(Ending {
+            member: own.party,
+            number,
+            moment: now,
         })),
-    }
-}
-
-/// The answer to a party that ends an appointment that it gave (section 330): the first that holds of
-/// `NoMeeting`, `NoSuchNumber` where it gave none of that number, and `AlreadyEnded`; and else
-/// `Ended`, which adds the ending.
-pub fn end(public: &PublicRecord, own: &OwnView, now: Moment, new: &NewEnding) -> Answer
-    ensures { result ≡ end_answer public.now own.now now new.now }
-{
-    if public.meeting.is_none() {
-        return refuse(Refusal::NoMeeting);
-    }
-    match end_refusal(own, new) {
-        Some(refusal) => refuse(refusal),
-        None => ended(own, now, new),
     }
 }

@@ -1,32 +1,18 @@
 //! Authorities that a party gives, its presence, and polls that it demands.
 ghost use Rattle.std.specs.Prelude.{◌≡◌};
 ghost use Rattle.desk_words.specs.Refusals.{first_refusal};
-ghost use Rattle.caller_view.specs.Polls.{poll_on};
-ghost use Rattle.caller_view.specs.Attendance.{authorise_cases, demand_cases, gave_authority, governs_any, has_demanded, may_demand, represents};
-ghost use Rattle.caller_view.specs.Answers.{attend_answer, authorise_answer, demand_answer, noted, unless};
+ghost use Rattle.desk_words.specs.Rulings.{settled};
+ghost use Rattle.caller_view.specs.Attendance.{attend_ruling, authorise_cases, authorise_ruling, demand_cases, demand_ruling, gave_authority, governs_any, has_demanded, may_demand, represents};
 
-use crate::answers::refuse;
-use crate::casts::holds_as_individual;
-use crate::polls::find_poll;
-use crate::views::{Answer, OwnView, PublicRecord};
+use crate::rights::holds_as_individual;
+use crate::views::{OwnView, PublicRecord};
 use desk_words::{
-    AddAuthority, AddDemand, AddPresence, Authority, Change, DemandMark, Meeting, MeetingId,
-    Moment, NewAuthority, Party, Poll, PollName, PresenceMark, Refusal, Reply,
+    Answer, Authority, DemandMark, Entry, Meeting, Moment, Party, PresenceMark, Refusal, find_poll,
+    noted, refuse,
 };
 
 /// The most authorities that a party gives in a meeting.
 const MOST_AUTHORITIES: usize = 64;
-
-/// The answer that notes a record, which is added unless it stands already.
-pub fn noted(stands: bool, change: Change) -> Answer
-    ensures { result ≡ noted stands change }
-{
-    let change = if stands { None } else { Some(change) };
-    Answer {
-        reply: Reply::Noted,
-        change,
-    }
-}
 
 /// Whether the party gave the person its authority already.
 fn gave_authority(own: &OwnView, person: Party) -> bool
@@ -36,69 +22,46 @@ fn gave_authority(own: &OwnView, person: Party) -> bool
     persons.iter().any(|authority| authority.person.is(person))
 }
 
-fn authorise_refusal(own: &OwnView, new: &NewAuthority) -> Option<Refusal>
-    ensures { result ≡ first_refusal (authorise_cases own.now new.now) }
+fn authorise_refusal(own: &OwnView, person: Party) -> Option<Refusal>
+    ensures { result ≡ first_refusal (authorise_cases own.now person) }
 {
-    if new.person.is(own.party) {
+    if person.is(own.party) {
         return Some(Refusal::SelfNamed);
     }
-    if !gave_authority(own, new.person) && own.persons.len() >= MOST_AUTHORITIES {
+    if !gave_authority(own, person) && own.persons.len() >= MOST_AUTHORITIES {
         return Some(Refusal::TooMany);
     }
     None
 }
 
-/// The answer to a party that authorises a person to represent it (section 323): the first that
-/// holds of `NoMeeting`, `SelfNamed` where it names itself, and `TooMany` where it gave 64 authorities
-/// in the meeting and this is none of them; and else `Noted`, which adds the authority unless it
-/// stands already. The register is not looked at.
-pub(crate) fn authorise(
-    public: &PublicRecord,
-    own: &OwnView,
-    now: Moment,
-    new: &NewAuthority,
-) -> Answer
-    ensures { result ≡ authorise_answer public.now own.now now new.now }
+/// The answer to a party that authorises a person to represent it (section 323): `SelfNamed` where
+/// it names itself, `TooMany` where it gave 64 authorities in the meeting and this is none of them,
+/// and else `Noted`, which enters the authority unless it stands already. The register is not
+/// looked at.
+pub(crate) fn authorise(own: &OwnView, now: Moment, person: Party) -> Answer<Entry>
+    ensures { result ≡ settled (authorise_ruling own.now now person) }
 {
-    if public.meeting.is_none() {
-        return refuse(Refusal::NoMeeting);
-    }
-    if let Some(refusal) = authorise_refusal(own, new) {
+    if let Some(refusal) = authorise_refusal(own, person) {
         return refuse(refusal);
     }
     let authority = Authority {
         corporation: own.party,
-        person: new.person,
+        person,
         moment: now,
     };
-    let added = AddAuthority {
-        meeting: new.meeting,
-        authority,
-    };
-    noted(gave_authority(own, new.person), Change::AddAuthority(added))
+    noted(gave_authority(own, person), Entry::Authority(authority))
 }
 
-/// The answer to a party that notes its presence (section 318): `NoMeeting`, or else `Noted`, which
-/// adds the mark unless it stands already. A party that has no right to be present is noted too.
-pub(crate) fn attend(
-    public: &PublicRecord,
-    own: &OwnView,
-    now: Moment,
-    meeting: MeetingId,
-) -> Answer
-    ensures { result ≡ attend_answer public.now own.now now meeting }
+/// The answer to a party that notes its own presence (section 318): `Noted`, which enters the mark
+/// unless it stands already. A party that has no right to be present is noted too.
+pub(crate) fn attend(own: &OwnView, now: Moment) -> Answer<Entry>
+    ensures { result ≡ settled (attend_ruling own.now now) }
 {
-    if public.meeting.is_none() {
-        return refuse(Refusal::NoMeeting);
-    }
     let presence = PresenceMark {
         party: own.party,
         moment: now,
     };
-    noted(
-        own.present,
-        Change::AddPresence(AddPresence { meeting, presence }),
-    )
+    noted(own.present, Entry::Presence(presence))
 }
 
 /// Whether the party may act for a corporation of the register.
@@ -133,15 +96,14 @@ fn has_demanded(own: &OwnView, resolution: u64) -> bool
 }
 
 fn demand_refusal(
+    public: &PublicRecord,
     meeting: &Meeting,
-    poll: Option<Poll>,
     own: &OwnView,
     resolution: u64,
 ) -> Option<Refusal>
-    ensures { result ≡ first_refusal (demand_cases meeting.now poll own.now resolution) }
+    ensures { result ≡ first_refusal (demand_cases public.now meeting.now own.now resolution) }
 {
-    let resolutions = meeting.resolutions.as_slice().len() as u64;
-    if resolution < 1 || resolution > resolutions {
+    if !meeting.has_resolution(resolution) {
         return Some(Refusal::NoResolution);
     }
     if !meeting.loaded {
@@ -156,35 +118,33 @@ fn demand_refusal(
     if !may_demand(own) {
         return Some(Refusal::NoRight);
     }
-    if poll.is_some() {
+    if find_poll(public.polls.as_slice(), resolution).is_some() {
         return Some(Refusal::PollOrdered);
     }
     None
 }
 
 /// The answer to a party that demands a poll (sections 321 and 329): the first that holds of
-/// `NoMeeting`, `NoResolution`, `NoRegister`, `NotOpened`, `NotPresent` where its presence is not
-/// marked, `NoRight` where it is no individual member of the register, no representative of a
-/// corporation there, and governs no share as a proxy for the meeting, and `PollOrdered`; and else
-/// `Noted`, which adds the demand unless it stands already. Whether the demands are enough is not said.
-pub(crate) fn demand(public: &PublicRecord, own: &OwnView, now: Moment, name: PollName) -> Answer
-    ensures { result ≡ demand_answer public.now own.now now name }
+/// `NoResolution`, `NoRegister`, `NotOpened`, `NotPresent` where its presence is not marked,
+/// `NoRight` where it is no individual member of the register, no representative of a corporation
+/// there, and governs no share as a proxy for the meeting, and `PollOrdered`; and else `Noted`,
+/// which enters the demand unless it stands already. Whether the demands are enough is not said.
+pub(crate) fn demand(
+    public: &PublicRecord,
+    meeting: &Meeting,
+    own: &OwnView,
+    now: Moment,
+    resolution: u64,
+) -> Answer<Entry>
+    ensures { result ≡ settled (demand_ruling public.now meeting.now own.now now resolution) }
 {
-    let Some(meeting) = &public.meeting else {
-        return refuse(Refusal::NoMeeting);
-    };
-    let poll = find_poll(public.polls.as_slice(), name.resolution);
-    if let Some(refusal) = demand_refusal(meeting, poll, own, name.resolution) {
+    if let Some(refusal) = demand_refusal(public, meeting, own, resolution) {
         return refuse(refusal);
     }
     let demand = DemandMark {
-        resolution: name.resolution,
+        resolution,
         party: own.party,
         moment: now,
     };
-    let added = AddDemand {
-        meeting: name.meeting,
-        demand,
-    };
-    noted(has_demanded(own, name.resolution), Change::AddDemand(added))
+    noted(has_demanded(own, resolution), Entry::Demand(demand))
 }

@@ -1,16 +1,18 @@
-//! The answer to a vote that a party casts.
-ghost use Rattle.std.specs.Prelude.{◌≡◌};
+//! The answers to votes that a party casts.
+ghost use Rattle.std.specs.Prelude.{◌≡◌, Some};
 ghost use Rattle.desk_words.specs.Refusals.{first_refusal};
-ghost use Rattle.caller_view.specs.Polls.{poll_on, casts_on, holds_as_individual};
-ghost use Rattle.caller_view.specs.Answers.{cast_answer, cast_cases, cast_recorded, is_past, may_vote_as, unless};
+ghost use Rattle.desk_words.specs.Rulings.{settled};
+ghost use Rattle.desk_words.specs.declared.change.Entry.TheVariants as entry;
+ghost use Rattle.desk_words.specs.declared.reply.Reply.TheVariants as reply;
+ghost use Rattle.caller_view.specs.Casts.{block_of, cast_cases, cast_of, cast_ruling, casts_on, has_cast_enough, instructed_cases, instructed_ruling, is_late_on};
 
-use crate::answers::refuse;
-use crate::polls::find_poll;
-use crate::views::{Answer, OwnView, PublicRecord};
+use crate::rights::{is_against, is_not_own, is_uninstructed, may_vote_for};
+use crate::views::{OwnView, PublicRecord};
 use desk_words::{
-    AddCast, Block, Capacity, CastKind, CastMark, Change, HolderKind, Meeting, Moment, NewCast,
-    Party, Poll, Range, Refusal, RegisterRow, Reply,
+    Answer, Block, CastKind, CastMark, Entry, Meeting, Moment, NewCast, Range, Refusal, Reply,
+    find_poll, refuse,
 };
+use proxy_rules::is_late_poll;
 
 /// The most votes of a party on one resolution of a meeting.
 const MOST_CASTS: usize = 1_024;
@@ -21,56 +23,46 @@ fn casts_on(casts: &[CastMark], resolution: u64) -> usize
     casts.iter().filter(|c| c.resolution == resolution).count()
 }
 
-/// Whether a row is an individual's.
-pub(crate) fn holds_as_individual(row: &Option<RegisterRow>) -> bool
-    ensures { result ≡ holds_as_individual row.now }
+fn has_cast_enough(own: &OwnView, resolution: u64) -> bool
+    ensures { result ≡ has_cast_enough own.now resolution }
 {
-    match row {
-        None => false,
-        Some(row) => row.kind == HolderKind::Individual,
-    }
+    casts_on(own.casts.as_slice(), resolution) >= MOST_CASTS
 }
 
-fn may_vote_as(own: &OwnView, member: Party) -> bool
-    ensures { result ≡ may_vote_as own.now member }
+/// Whether the poll on the resolution is late, by the closed days as they stand.
+fn is_late_on(public: &PublicRecord, resolution: u64) -> bool
+    ensures { result ≡ is_late_on public.now resolution }
 {
-    member.is(own.party) && holds_as_individual(&own.row)
-}
-
-fn is_past(row: &Option<RegisterRow>, place: u64) -> bool
-    ensures { result ≡ is_past row.now place }
-{
-    match row {
+    match find_poll(public.polls.as_slice(), resolution) {
+        Some(poll) => is_late_poll(&public.closed, &poll),
         None => false,
-        Some(row) => place > row.shares,
     }
 }
 
 fn cast_refusal(
+    public: &PublicRecord,
     meeting: &Meeting,
-    poll: Option<Poll>,
     own: &OwnView,
     new: &NewCast,
 ) -> Option<Refusal>
-    ensures { result ≡ first_refusal (cast_cases meeting.now poll own.now new.now) }
+    ensures { result ≡ first_refusal (cast_cases public.now meeting.now own.now new.now) }
 {
-    let resolutions = meeting.resolutions.as_slice().len() as u64;
-    if new.resolution < 1 || new.resolution > resolutions {
+    if !meeting.has_resolution(new.resolution) {
         return Some(Refusal::NoResolution);
     }
     if Range::new(new.from, new.to).is_none() {
         return Some(Refusal::BadRange);
     }
-    if casts_on(own.casts.as_slice(), new.resolution) >= MOST_CASTS {
+    if has_cast_enough(own, new.resolution) {
         return Some(Refusal::TooMany);
     }
     if !meeting.loaded {
         return Some(Refusal::NoRegister);
     }
-    if !may_vote_as(own, new.member) {
+    if !may_vote_for(own, new.member, new.capacity) {
         return Some(Refusal::NoRight);
     }
-    let Some(poll) = poll else {
+    let Some(poll) = find_poll(public.polls.as_slice(), new.resolution) else {
         return Some(Refusal::NoPoll);
     };
     if poll.started.is_none() {
@@ -79,64 +71,124 @@ fn cast_refusal(
     if poll.closed.is_some() {
         return Some(Refusal::PollClosed);
     }
-    if is_past(&own.row, new.to) {
+    let late = is_late_on(public, new.resolution);
+    if is_not_own(own, late, new, new.capacity) {
+        return Some(Refusal::NotYours);
+    }
+    if is_against(own, late, new, new.capacity) {
+        return Some(Refusal::AgainstInstruction);
+    }
+    None
+}
+
+/// What is cast on some of a member's shares.
+fn block_of(new: &NewCast, range: Range) -> CastKind
+    requires { range ≡ record { from = new.now.from; to = new.now.to } }
+    ensures { result ≡ block_of new.now }
+{
+    CastKind::Block(Block {
+        capacity: new.capacity,
+        member: new.member,
+        range,
+        way: new.way,
+    })
+}
+
+/// The vote that is recorded.
+fn cast_of(own: &OwnView, now: Moment, resolution: u64, what: CastKind) -> CastMark
+    ensures { result ≡ cast_of own.now now resolution what }
+{
+    CastMark {
+        resolution,
+        voter: own.party,
+        what,
+        moment: now,
+    }
+}
+
+/// The answer that enters a vote.
+fn recorded(cast: CastMark) -> Answer<Entry>
+    ensures { result ≡ record { reply = reply.Recorded; change = Some (entry.Cast cast) } }
+{
+    Answer {
+        reply: Reply::Recorded,
+        change: Some(Entry::Cast(cast)),
+    }
+}
+
+/// The answer to a vote that a party casts on some of a member's shares (sections 284, 322, 323 and
+/// 324): the first that holds of `NoResolution`, `BadRange`, `TooMany` where the party cast 1,024 votes
+/// on the resolution, `NoRegister`, `NoRight` where it votes as a member and the member is another or
+/// holds no shares as an individual, or as a representative and the member is no corporation of the
+/// register or did not authorise it, `NoPoll`, `PollNotOpen`, `PollClosed`, `NotYours` where a place is
+/// past the holding, or is none that it governs as a proxy for this poll, and `AgainstInstruction` where
+/// an appointment that governs some of the places instructs it otherwise (section 324A); and else
+/// `Recorded`, which enters the vote.
+pub(crate) fn cast(
+    public: &PublicRecord,
+    meeting: &Meeting,
+    own: &OwnView,
+    now: Moment,
+    new: &NewCast,
+) -> Answer<Entry>
+    ensures { result ≡ settled (cast_ruling public.now meeting.now own.now now new.now) }
+{
+    if let Some(refusal) = cast_refusal(public, meeting, own, new) {
+        return refuse(refusal);
+    }
+    match Range::new(new.from, new.to) {
+        Some(range) => recorded(cast_of(own, now, new.resolution, block_of(new, range))),
+        None => refuse(Refusal::BadRange),
+    }
+}
+
+fn instructed_refusal(
+    public: &PublicRecord,
+    meeting: &Meeting,
+    own: &OwnView,
+    resolution: u64,
+) -> Option<Refusal>
+    ensures { result ≡ first_refusal (instructed_cases public.now meeting.now own.now resolution) }
+{
+    if !meeting.has_resolution(resolution) {
+        return Some(Refusal::NoResolution);
+    }
+    if has_cast_enough(own, resolution) {
+        return Some(Refusal::TooMany);
+    }
+    if !meeting.loaded {
+        return Some(Refusal::NoRegister);
+    }
+    let Some(poll) = find_poll(public.polls.as_slice(), resolution) else {
+        return Some(Refusal::NoPoll);
+    };
+    if poll.started.is_none() {
+        return Some(Refusal::PollNotOpen);
+    }
+    if poll.closed.is_some() {
+        return Some(Refusal::PollClosed);
+    }
+    if is_uninstructed(own, is_late_on(public, resolution), resolution) {
         return Some(Refusal::NotYours);
     }
     None
 }
 
-fn recorded(own: &OwnView, now: Moment, new: &NewCast, range: Range) -> Answer
-    requires { range ≡ record { from = new.now.from; to = new.now.to } }
-    ensures { result ≡ cast_recorded own.now now new.now }
-{
-    Answer {
-        reply: Reply::Recorded,
-        change: Some(Change::AddCast(AddCast {
-            meeting: new.meeting,
-            cast: CastMark {
-                resolution: new.resolution,
-                voter: own.party,
-                what: CastKind::Block(Block {
-                    capacity: Capacity::Member,
-                    member: new.member,
-                    range,
-                    way: new.way,
-                }),
-                moment: now,
-            },
-        })),
-    }
-}
-
-fn in_meeting(
-    meeting: &Meeting,
+/// The answer to what a proxy casts as instructed (section 324A): the first that holds of
+/// `NoResolution`, `TooMany` where the party cast 1,024 votes on the resolution, `NoRegister`, `NoPoll`,
+/// `PollNotOpen`, `PollClosed`, and `NotYours` where it governs no share for this poll with an
+/// instruction other than free; and else `Recorded`, which enters the vote.
+pub(crate) fn instructed(
     public: &PublicRecord,
+    meeting: &Meeting,
     own: &OwnView,
     now: Moment,
-    new: &NewCast,
-) -> Answer
-    ensures { result ≡ unless (cast_cases meeting.now (poll_on public.now.polls new.now.resolution) own.now new.now) (cast_recorded own.now now new.now) }
+    resolution: u64,
+) -> Answer<Entry>
+    ensures { result ≡ settled (instructed_ruling public.now meeting.now own.now now resolution) }
 {
-    let poll = find_poll(public.polls.as_slice(), new.resolution);
-    if let Some(refusal) = cast_refusal(meeting, poll, own, new) {
-        return refuse(refusal);
-    }
-    match Range::new(new.from, new.to) {
-        Some(range) => recorded(own, now, new, range),
-        None => refuse(Refusal::BadRange),
-    }
-}
-
-/// The answer to a vote that a party casts as a member (sections 284 and 322): the first that holds
-/// of `NoMeeting`, `NoResolution`, `BadRange`, `TooMany` where the party cast 1,024 votes on the
-/// resolution, `NoRegister`, `NoRight` where the member is not the party or holds no shares as an
-/// individual, `NoPoll`, `PollNotOpen`, `PollClosed`, and `NotYours` where a place is past the
-/// holding; and else `Recorded`, which adds the vote.
-pub fn cast(public: &PublicRecord, own: &OwnView, now: Moment, new: &NewCast) -> Answer
-    ensures { result ≡ cast_answer public.now own.now now new.now }
-{
-    match &public.meeting {
-        None => refuse(Refusal::NoMeeting),
-        Some(meeting) => in_meeting(meeting, public, own, now, new),
+    match instructed_refusal(public, meeting, own, resolution) {
+        Some(refusal) => refuse(refusal),
+        None => recorded(cast_of(own, now, resolution, CastKind::AsInstructed)),
     }
 }

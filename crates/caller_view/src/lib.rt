@@ -5,13 +5,9 @@ mod answers;
 mod appointments;
 mod attendance;
 mod casts;
-mod finding;
 mod notices;
-mod polls;
+mod rights;
 mod views;
 
-pub use answers::{answer, refuse};
-pub use attendance::noted;
-pub use finding::find_meeting;
-pub use polls::find_poll;
-pub use views::{Answer, OwnView, PublicRecord};
+pub use answers::answer;
+pub use views::{OwnView, PublicRecord};

@@ -1,19 +1,16 @@
 //! The notice of a meeting.
-ghost use Rattle.std.specs.Prelude.{◌≡◌, IfOk, IsOk, IsTrue, option_map};
-ghost use Rattle.caller_view.specs.Answers.{is_refused, notice_answer};
+ghost use Rattle.std.specs.Prelude.{◌≡◌, IfOk, option_map};
 ghost use Rattle.caller_view.specs.Notices.{noticed_poll, noticed_resolution, numbered, notice_of};
-ghost use Rattle.caller_view.specs.Polls.{poll_on};
-ghost use Rattle.poll_rules.specs.Majority.{result_of};
+ghost use Rattle.desk_words.specs.Finding.{poll_on};
+ghost use Rattle.desk_words.specs.Majority.{result_of};
 
-use crate::answers::refuse;
-use crate::polls::find_poll;
-use crate::views::{Answer, PublicRecord};
+use crate::views::PublicRecord;
 use desk_words::{
-    Declaration, Listing, Meeting, Moment, Notice, NoticedPoll, NoticedResolution, Poll, Refusal,
-    Reply, ResKind, Resolution, Tally,
+    Declaration, Listing, Meeting, Moment, Notice, NoticedPoll, NoticedResolution, Poll, ResKind,
+    Resolution, Tally, find_poll, result_of,
 };
 use office_days::Closed;
-use poll_rules::{cutoffs, is_late_poll, result_of};
+use proxy_rules::{cutoffs, is_late_poll};
 use std::alloc::{AllocError, Global};
 
 fn declared_result(kind: ResKind, declared: Option<Tally>) -> Option<Declaration>
@@ -53,7 +50,8 @@ fn poll_in(
     number: u64,
     kind: ResKind,
 ) -> Option<NoticedPoll>
-    ensures { result ≡ option_map (noticed_poll meeting.now public.now.closed now kind) (poll_on public.now.polls number) }
+    ensures { result ≡ option_map (noticed_poll meeting.now public.now.closed now kind)
+        (poll_on public.now.polls number) }
 {
     let poll = find_poll(public.polls.as_slice(), number)?;
     Some(noticed_poll(meeting, &public.closed, now, kind, poll))
@@ -66,7 +64,8 @@ fn noticed_resolution(
     number: u64,
     resolution: &Resolution,
 ) -> Result<NoticedResolution, AllocError>
-    ensures { IfOk result (λ r. r ≡ noticed_resolution meeting.now public.now.polls public.now.closed now number resolution.now) }
+    ensures { IfOk result (λ r. r ≡ noticed_resolution meeting.now public.now.polls
+        public.now.closed now number resolution.now) }
 {
     Ok(NoticedResolution {
         number,
@@ -82,7 +81,9 @@ fn noticed_resolutions(
     meeting: &Meeting,
     now: Moment,
 ) -> Result<Vec<NoticedResolution>, AllocError>
-    ensures { IfOk result (λ v. v.items ≡ numbered (noticed_resolution meeting.now public.now.polls public.now.closed now) 1 meeting.now.resolutions) }
+    ensures { IfOk result (λ v. v.items ≡ numbered
+        (noticed_resolution meeting.now public.now.polls public.now.closed now) 1
+        meeting.now.resolutions) }
 {
     let mut noticed = Vec::new(alloc);
     for resolution in meeting.resolutions.as_slice() {
@@ -92,7 +93,9 @@ fn noticed_resolutions(
     Ok(noticed)
 }
 
-fn notice_in(
+/// The notice of a meeting, with its polls and cutoffs by the closed days as they stand (sections
+/// 307 and 327). The error is want of memory.
+pub(crate) fn notice_in(
     alloc: Global,
     public: &PublicRecord,
     meeting: &Meeting,
@@ -112,20 +115,4 @@ fn notice_in(
         opened: meeting.opened,
         resolutions: Listing::from_vec(noticed_resolutions(alloc, public, meeting, now)?),
     })
-}
-
-/// The answer to a party that asks for the notice of a meeting: `NoMeeting`, or the notice, with its
-/// polls and cutoffs by the closed days as they stand (sections 307 and 327). The error is want of
-/// memory; a refusal takes none.
-pub fn notice(alloc: Global, public: &PublicRecord, now: Moment) -> Result<Answer, AllocError>
-    ensures answer { IfOk result (λ a. a ≡ notice_answer public.now now) }
-    ensures sure { IsTrue (is_refused (notice_answer public.now now)) → IsOk result }
-{
-    match &public.meeting {
-        None => Ok(refuse(Refusal::NoMeeting)),
-        Some(meeting) => Ok(Answer {
-            reply: Reply::Notice(notice_in(alloc, public, meeting, now)?),
-            change: None,
-        }),
-    }
 }

@@ -1,7 +1,7 @@
-//! What a party may see, and what it is answered.
+//! What a party may see.
 use desk_words::{
-    Authorised, Authority, CastMark, Change, DemandMark, Given, Listing, Meeting, Party, Poll,
-    Received, RegisterRow, Reply,
+    Authorised, Authority, CastMark, DemandMark, Given, Listing, Meeting, Party, Poll, Received,
+    RegisterRow,
 };
 use office_days::Closed;
 
@@ -36,11 +36,4 @@ pub struct OwnView {
     pub demands: Listing<DemandMark>,
     /// The votes that it cast.
     pub casts: Listing<CastMark>,
-}
-
-/// A reply, and at most one change.
-#[derive(Drop)]
-pub struct Answer {
-    pub reply: Reply,
-    pub change: Option<Change>,
 }

@@ -1,4 +1,5 @@
 mod BodyLemmas
+mod CallLemmas
 mod DayLemmas
 mod ItemLemmas
 mod LawLemmas

@@ -1,15 +1,14 @@
-use Rattle.std.proofs.Common.{◌≡◌, ℕ, List, ◌++◌, drop, Result, Ok, Err}
+use Rattle.std.proofs.Common.{◌≡◌, ℕ, List, ◌++◌, drop, Option, Some, None}
 use Rattle.serde_json.specs.Data.{Data}
 use Rattle.serde_json.specs.View.{items_view}
 use Rattle.serde_json.specs.declared.value.Value.{Value}
-use Rattle.desk_terms.specs.declared.refusal.Refusal.{Refusal}
 use Rattle.desk_bodies.specs.Places.{each}
 
 -- what was found, and then the rest
-abbrev pub onto : {A : Type 0} → List A → Result (List A) Refusal → Result (List A) Refusal
-onto found (Ok rest) = Ok (found ++ rest)
-onto found (Err refusal) = Err refusal
+abbrev pub onto : {A : Type 0} → List A → Option (List A) → Option (List A)
+onto found (Some rest) = Some (found ++ rest)
+onto found None = None
 
 -- of each of the values, those before an index are read
-pub record IsReadUpTo {A : Type 0} (reading : Data → Result A Refusal) (vs : List Value) (found : List A) (i : ℕ) : Type 0 where
+pub record IsReadUpTo {A : Type 0} (reading : Data → Option A) (vs : List Value) (found : List A) (i : ℕ) : Type 0 where
   pub so_far : each reading (items_view vs) ≡ onto found (each reading (items_view (drop i vs)))

@@ -1,5 +1,5 @@
--- What reading gives: a thing, or why it is refused.
-use Rattle.std.specs.Prelude.{◌≡◌, Bool, true, false, Option, Result, Ok, Err, ok_or}
+-- What asking gives: a thing, or why it is refused.
+use Rattle.std.specs.Prelude.{◌≡◌, Option, Result, Ok, Err, ok_or}
 use Rattle.desk_terms.specs.declared.refusal.Refusal.{Refusal}
 use Rattle.desk_terms.specs.declared.refusal.Refusal.TheVariants.{Unreadable}
 use Rattle.desk_bodies.specs.declared.ask.Ask.{Ask}
@@ -28,8 +28,3 @@ abbrev pub ◌>>=◌ : {A B : Type 0} → Result A Refusal → (A → Result B R
 -- unreadable where there is none
 abbrev pub readable : {A : Type 0} → Option A → Result A Refusal
 readable found = ok_or found Unreadable
-
--- unreadable where the test fails
-abbrev pub only : Bool → Result (Unit {0}) Refusal
-only true = Ok tt
-only false = Err Unreadable

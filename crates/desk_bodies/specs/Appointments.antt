@@ -1,15 +1,14 @@
 -- Appointments of proxies, and their endings.
-use Rattle.std.specs.Prelude.{ℕ, nat_le, List, Option, Some, Result, Ok, codes}
+use Rattle.std.specs.Prelude.{ℕ, nat_le, List, Option, Some, codes}
 use Rattle.serde_json.specs.Data.{Data}
 use Rattle.serde_json.specs.Events.{items_len}
 use Rattle.serde_json.specs.Find.{get}
 use Rattle.desk_terms.specs.declared.kinds.Instr.{Instr}
-use Rattle.desk_terms.specs.declared.refusal.Refusal.{Refusal}
 use Rattle.desk_terms.specs.Kinds.{instruction_of}
 use Rattle.desk_terms.specs.Names.{party_of}
-use Rattle.desk_words.specs.declared.request.NewAppointment.{NewAppointment}
-use Rattle.desk_words.specs.declared.request.NewEnding.{NewEnding}
-use Rattle.desk_bodies.specs.Answers.{only, ◌>>=◌}
+use Rattle.desk_words.specs.declared.request.PartyRequest.{PartyRequest}
+use Rattle.desk_words.specs.declared.request.PartyRequest.TheVariants.{Appoint, End}
+use Rattle.desk_bodies.specs.Reads.{only, ◌>>=◌}
 use Rattle.desk_bodies.specs.Places.{has_fields, items_in, number_in, spelled, each}
 
 -- the most instructions of an appointment, which are as many as the most resolutions of a meeting
@@ -17,29 +16,29 @@ abbrev pub most_instructions : ℕ
 most_instructions = 50
 
 -- a value is the word for an instruction
-unfoldable pub instruction_at : Data → Result Instr Refusal
+unfoldable pub instruction_at : Data → Option Instr
 instruction_at d = spelled instruction_of (Some d)
 
 -- the instructions at a place: 0 to 50 words
-unfoldable pub instructions_in : Option Data → Result (List Instr) Refusal
+unfoldable pub instructions_in : Option Data → Option (List Instr)
 instructions_in place = do
   items ← items_in place
   few ← only (nat_le (items_len items) most_instructions)
   each instruction_at items
 
 -- the appointment that a value gives (section 324): four fields, each of its form
-unfoldable pub new_appointment_of : List ℕ → Data → Result NewAppointment Refusal
-new_appointment_of meeting d = do
+unfoldable pub appoint_in : Data → Option PartyRequest
+appoint_in d = do
   exactly ← only (has_fields 4 d)
   proxy ← spelled party_of (get (codes "proxy") d)
   from ← number_in (get (codes "from") d)
   to ← number_in (get (codes "to") d)
   instructions ← instructions_in (get (codes "instructions") d)
-  Ok (record { meeting = meeting; proxy = proxy; from = from; to = to; instructions = instructions })
+  Some (Appoint (record { proxy = proxy; from = from; to = to; instructions = instructions }))
 
 -- the ending that a value gives (section 330): of an appointment by its number, and one field alone
-unfoldable pub new_ending_of : List ℕ → Data → Result NewEnding Refusal
-new_ending_of meeting d = do
+unfoldable pub end_in : Data → Option PartyRequest
+end_in d = do
   exactly ← only (has_fields 1 d)
   number ← number_in (get (codes "number") d)
-  Ok (record { meeting = meeting; number = number })
+  Some (End number)

@@ -1,10 +1,9 @@
 -- Bodies of requests, which are JSON.
-use Rattle.std.specs.Prelude.{ℕ, ◌==◌, List, length, Option, None, Result, codes, if◌then◌else◌}
+use Rattle.std.specs.Prelude.{ℕ, ◌==◌, List, length, Option, None, codes, if◌then◌else◌}
 use Rattle.std.specs.Str.{is_utf8}
 use Rattle.serde_json.specs.Data.{Data}
 use Rattle.serde_json.specs.Read.{read}
-use Rattle.desk_terms.specs.declared.refusal.Refusal.{Refusal}
-use Rattle.desk_bodies.specs.Answers.{readable}
+use Rattle.desk_bodies.specs.Reads.{◌>>=◌}
 
 -- an empty body stands for an object with no fields
 abbrev pub filled : List ℕ → List ℕ
@@ -15,5 +14,9 @@ unfoldable pub value_of : List ℕ → Option Data
 value_of bytes = if is_utf8 bytes then read bytes else None
 
 -- the value that a body is
-unfoldable pub body_of : List ℕ → Result Data Refusal
-body_of body = readable (value_of (filled body))
+unfoldable pub body_of : List ℕ → Option Data
+body_of body = value_of (filled body)
+
+-- what a body says, by the reading of its value
+unfoldable pub read_by : {A : Type 0} → (Data → Option A) → List ℕ → Option A
+read_by reading body = body_of body >>= reading

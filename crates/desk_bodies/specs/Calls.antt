@@ -1,39 +1,38 @@
 -- The calling of a meeting.
-use Rattle.std.specs.Prelude.{ℕ, List, Option, Result, Ok, Err, codes, if◌then◌else◌}
+use Rattle.std.specs.Prelude.{List, Option, Some, None, codes, if◌then◌else◌}
 use Rattle.serde_json.specs.Data.{Data}
 use Rattle.serde_json.specs.Find.{get, at}
 use Rattle.desk_calendar.specs.Texts.{day_of, moment_of}
-use Rattle.desk_terms.specs.declared.refusal.Refusal.{Refusal}
-use Rattle.desk_terms.specs.declared.refusal.Refusal.TheVariants.{Unreadable}
 use Rattle.desk_terms.specs.Kinds.{company_of, meeting_kind_of, resolution_kind_of}
 use Rattle.desk_words.specs.Lists.{are_resolutions}
 use Rattle.desk_words.specs.declared.records.Resolution.{Resolution}
+use Rattle.desk_words.specs.Seen.{MeetingName}
 use Rattle.desk_words.specs.declared.request.NewMeeting.{NewMeeting}
-use Rattle.desk_bodies.specs.Answers.{only, ◌>>=◌}
+use Rattle.desk_bodies.specs.Reads.{only, ◌>>=◌}
 use Rattle.desk_bodies.specs.Places.{has_fields, has_items, items_in, spelled, text_of, each}
 
 -- a resolution is a pair of its kind and its text
-unfoldable pub resolution_of : Data → Result Resolution Refusal
+unfoldable pub resolution_of : Data → Option Resolution
 resolution_of d = do
   pair ← only (has_items 2 d)
   kind ← spelled resolution_kind_of (at 0 d)
   text ← spelled text_of (at 1 d)
-  Ok (record { kind = kind; text = text })
+  Some (record { kind = kind; text = text })
 
 -- 1 to 50 resolutions
-abbrev pub counted : List Resolution → Result (List Resolution) Refusal
-counted resolutions = if are_resolutions resolutions then Ok resolutions else Err Unreadable
+abbrev pub counted : List Resolution → Option (List Resolution)
+counted resolutions = if are_resolutions resolutions then Some resolutions else None
 
 -- the resolutions at a place
-unfoldable pub resolutions_in : Option Data → Result (List Resolution) Refusal
+unfoldable pub resolutions_in : Option Data → Option (List Resolution)
 resolutions_in place = do
   items ← items_in place
   resolutions ← each resolution_of items
   counted resolutions
 
--- the meeting that a value calls: six fields, each of its form
-unfoldable pub new_meeting_of : List ℕ → Data → Result NewMeeting Refusal
-new_meeting_of meeting d = do
+-- the meeting of a name that a value calls (section 307): six fields, each of its form
+unfoldable pub call_in : MeetingName → Data → Option NewMeeting
+call_in meeting d = do
   exactly ← only (has_fields 6 d)
   company ← spelled company_of (get (codes "company") d)
   kind ← spelled meeting_kind_of (get (codes "kind") d)
@@ -41,4 +40,12 @@ new_meeting_of meeting d = do
   appointed ← spelled moment_of (get (codes "appointed") d)
   record_moment ← spelled moment_of (get (codes "record") d)
   resolutions ← resolutions_in (get (codes "resolutions") d)
-  Ok (record { meeting = meeting; company = company; kind = kind; given = given; appointed = appointed; record_moment = record_moment; resolutions = resolutions })
+  Some (record {
+    meeting = meeting;
+    company = company;
+    kind = kind;
+    given = given;
+    appointed = appointed;
+    record_moment = record_moment;
+    resolutions = resolutions;
+  })

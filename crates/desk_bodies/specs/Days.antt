@@ -1,13 +1,12 @@
 -- The loading of closed days.
-use Rattle.std.specs.Prelude.{ℕ, List, Option, Some, None, Result, codes, nat_eq, nat_le, if◌then◌else◌}
+use Rattle.std.specs.Prelude.{ℕ, List, Option, Some, None, codes, nat_eq, nat_le, if◌then◌else◌}
 use Rattle.std.specs.Set.{unique_keys}
 use Rattle.serde_json.specs.Data.{Data}
 use Rattle.serde_json.specs.Find.{get}
 use Rattle.desk_calendar.specs.Texts.{day_of}
 use Rattle.desk_lists.specs.Sorting.{sort_by}
-use Rattle.desk_terms.specs.declared.refusal.Refusal.{Refusal}
 use Rattle.desk_words.specs.Lists.{day_before, day_count}
-use Rattle.desk_bodies.specs.Answers.{only, readable, ◌>>=◌}
+use Rattle.desk_bodies.specs.Reads.{only, ◌>>=◌}
 use Rattle.desk_bodies.specs.Places.{has_fields, items_in, spelled, each}
 
 -- the days, in order, each once
@@ -19,18 +18,18 @@ abbrev pub day_list_of : List ℕ → Option (List ℕ)
 day_list_of days = if nat_le (day_count days) 2000 then Some (each_once days) else None
 
 -- a value is a day
-unfoldable pub day_at : Data → Result ℕ Refusal
+unfoldable pub day_at : Data → Option ℕ
 day_at d = spelled day_of (Some d)
 
 -- the list that the days at a place make
-unfoldable pub days_in : Option Data → Result (List ℕ) Refusal
+unfoldable pub days_in : Option Data → Option (List ℕ)
 days_in place = do
   items ← items_in place
   days ← each day_at items
-  readable (day_list_of days)
+  day_list_of days
 
 -- the closed days that a value loads (section 1173): one field alone
-unfoldable pub closed_days_of : Data → Result (List ℕ) Refusal
-closed_days_of d = do
+unfoldable pub closed_in : Data → Option (List ℕ)
+closed_in d = do
   exactly ← only (has_fields 1 d)
   days_in (get (codes "days") d)

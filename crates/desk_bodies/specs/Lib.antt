@@ -3,10 +3,12 @@ pub mod Appointments
 pub mod Bodies
 pub mod Calls
 pub mod Days
+pub mod Keys
 pub mod Laws
 pub mod Places
 pub mod Polls
 pub mod Presences
+pub mod Reads
 pub mod Registers
 pub mod Requests
 pub mod Verbs

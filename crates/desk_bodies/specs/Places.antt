@@ -1,5 +1,5 @@
 -- What stands at a place in a JSON value: at a name in an object, or at an index in an array.
-use Rattle.std.specs.Prelude.{ℕ, Bool, false, bytes_eq, ◌==◌, List, [], ◌∷◌, Option, Some, None, option_map, option_and_then, Result, Ok, if◌then◌else◌}
+use Rattle.std.specs.Prelude.{ℕ, Bool, false, bytes_eq, ◌==◌, List, [], ◌∷◌, Option, Some, None, option_map, option_and_then, if◌then◌else◌}
 use Rattle.std.specs.Borrow.{Bor}
 use Rattle.std.specs.Option.{option_map_or}
 use Rattle.serde_json.specs.Data.{Data, Items, no_items, item}
@@ -7,9 +7,8 @@ use Rattle.serde_json.specs.View.{view}
 use Rattle.serde_json.specs.declared.value.Value.{Value}
 use Rattle.serde_json.specs.Find.{as_number, as_u64, as_bool, as_str, as_object, as_array}
 use Rattle.serde_json.specs.Events.{members_len, items_len}
-use Rattle.desk_terms.specs.declared.refusal.Refusal.{Refusal}
 use Rattle.desk_terms.specs.Texts.{is_plain_text}
-use Rattle.desk_bodies.specs.Answers.{readable, only, ◌>>=◌}
+use Rattle.desk_bodies.specs.Reads.{only, ◌>>=◌}
 
 -- the value at a place, if there is one
 abbrev pub there : Option (Bor Value) → Option Data
@@ -24,37 +23,33 @@ abbrev pub has_items : ℕ → Data → Bool
 has_items count d = option_map_or (λ items. items_len items == count) (as_array d) false
 
 -- the string at a place
-abbrev pub string_in : Option Data → Result (List ℕ) Refusal
-string_in place = readable (option_and_then as_str place)
+abbrev pub string_in : Option Data → Option (List ℕ)
+string_in place = option_and_then as_str place
 
 -- the number at a place, which is whole, with no sign, fraction or exponent, and below 2^64
-abbrev pub number_in : Option Data → Result ℕ Refusal
-number_in place = readable (option_and_then as_u64 (option_and_then as_number place))
+abbrev pub number_in : Option Data → Option ℕ
+number_in place = option_and_then as_u64 (option_and_then as_number place)
 
 -- true or false, whichever stands at a place
-abbrev pub flag_in : Option Data → Result Bool Refusal
-flag_in place = readable (option_and_then as_bool place)
+abbrev pub flag_in : Option Data → Option Bool
+flag_in place = option_and_then as_bool place
 
 -- the items of the array at a place
-abbrev pub items_in : Option Data → Result Items Refusal
-items_in place = readable (option_and_then as_array place)
+abbrev pub items_in : Option Data → Option Items
+items_in place = option_and_then as_array place
 
 -- what the string at a place spells
-unfoldable pub spelled : {A : Type 0} → (List ℕ → Option A) → Option Data → Result A Refusal
-spelled reading place = string_in place >>= λ string. readable (reading string)
-
--- just that word, and no other string, at a place
-unfoldable pub just : List ℕ → Option Data → Result (Unit {0}) Refusal
-just word place = string_in place >>= λ string. only (bytes_eq string word)
+unfoldable pub spelled : {A : Type 0} → (List ℕ → Option A) → Option Data → Option A
+spelled reading place = string_in place >>= reading
 
 -- the text that a string is, if it has the form of one
 abbrev pub text_of : List ℕ → Option (List ℕ)
 text_of string = if is_plain_text string then Some string else None
 
 -- what each of the items is
-abbrev pub each : {A : Type 0} → (Data → Result A Refusal) → Items → Result (List A) Refusal
-each reading no_items = Ok []
+abbrev pub each : {A : Type 0} → (Data → Option A) → Items → Option (List A)
+each reading no_items = Some []
 each reading (item d ds) = do
   first ← reading d
   rest ← each reading ds
-  Ok (first ∷ rest)
+  Some (first ∷ rest)

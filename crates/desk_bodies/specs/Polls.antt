@@ -1,41 +1,71 @@
 -- Polls, and the votes on them.
-use Rattle.std.specs.Prelude.{ℕ, List, Result, Ok, codes}
+use Rattle.std.specs.Prelude.{Option, Some, codes}
 use Rattle.serde_json.specs.Data.{Data}
 use Rattle.serde_json.specs.Find.{get}
 use Rattle.desk_calendar.specs.Texts.{moment_of}
-use Rattle.desk_terms.specs.declared.refusal.Refusal.{Refusal}
-use Rattle.desk_terms.specs.Kinds.{way_of}
+use Rattle.desk_terms.specs.Kinds.{capacity_of, way_of}
 use Rattle.desk_terms.specs.Names.{party_of}
-use Rattle.desk_words.specs.declared.request.NewPoll.{NewPoll}
-use Rattle.desk_words.specs.declared.request.PollName.{PollName}
-use Rattle.desk_words.specs.declared.request.NewCast.{NewCast}
-use Rattle.desk_bodies.specs.Answers.{only, ◌>>=◌}
-use Rattle.desk_bodies.specs.Places.{has_fields, number_in, flag_in, spelled, just}
+use Rattle.desk_words.specs.Seen.{Number}
+use Rattle.desk_words.specs.declared.request.OfficeRequest.{OfficeRequest}
+use Rattle.desk_words.specs.declared.request.OfficeRequest.TheVariants.{Order, Start, Close, Declare}
+use Rattle.desk_words.specs.declared.request.PartyRequest.{PartyRequest}
+use Rattle.desk_words.specs.declared.request.PartyRequest.TheVariants.{Demand, Cast, Instructed}
+use Rattle.desk_bodies.specs.Reads.{only, ◌>>=◌}
+use Rattle.desk_bodies.specs.Places.{has_fields, number_in, flag_in, spelled}
 
 -- the poll that a value orders (section 321): three fields, each of its form
-unfoldable pub new_poll_of : List ℕ → Data → Result NewPoll Refusal
-new_poll_of meeting d = do
+unfoldable pub order_in : Data → Option OfficeRequest
+order_in d = do
   exactly ← only (has_fields 3 d)
   resolution ← number_in (get (codes "resolution") d)
   take ← spelled moment_of (get (codes "take") d)
   chair ← flag_in (get (codes "chair") d)
-  Ok (record { meeting = meeting; resolution = resolution; take = take; chair = chair })
+  Some (Order (record { resolution = resolution; take = take; chair = chair }))
 
 -- the poll that a value names: by its resolution, and one field alone
-unfoldable pub poll_name_of : List ℕ → Data → Result PollName Refusal
-poll_name_of meeting d = do
+unfoldable pub poll_in : Data → Option Number
+poll_in d = do
   exactly ← only (has_fields 1 d)
-  resolution ← number_in (get (codes "resolution") d)
-  Ok (record { meeting = meeting; resolution = resolution })
+  number_in (get (codes "resolution") d)
 
--- the vote that a value casts as a member (sections 284 and 322): six fields, each of its form
-unfoldable pub new_cast_of : List ℕ → Data → Result NewCast Refusal
-new_cast_of meeting d = do
+-- the start of that poll
+unfoldable pub start_in : Data → Option OfficeRequest
+start_in d = do
+  resolution ← poll_in d
+  Some (Start resolution)
+
+-- the close of the voting on that poll
+unfoldable pub close_in : Data → Option OfficeRequest
+close_in d = do
+  resolution ← poll_in d
+  Some (Close resolution)
+
+-- the declaration of that poll
+unfoldable pub declare_in : Data → Option OfficeRequest
+declare_in d = do
+  resolution ← poll_in d
+  Some (Declare resolution)
+
+-- a demand of that poll (section 321)
+unfoldable pub demand_in : Data → Option PartyRequest
+demand_in d = do
+  resolution ← poll_in d
+  Some (Demand resolution)
+
+-- the vote that a value casts (sections 284, 322, 323 and 324): six fields, each of its form
+unfoldable pub cast_in : Data → Option PartyRequest
+cast_in d = do
   exactly ← only (has_fields 6 d)
   resolution ← number_in (get (codes "resolution") d)
-  capacity ← just (codes "member") (get (codes "as") d)
+  capacity ← spelled capacity_of (get (codes "as") d)
   member ← spelled party_of (get (codes "member") d)
   from ← number_in (get (codes "from") d)
   to ← number_in (get (codes "to") d)
   way ← spelled way_of (get (codes "way") d)
-  Ok (record { meeting = meeting; resolution = resolution; member = member; from = from; to = to; way = way })
+  Some (Cast (record { resolution = resolution; capacity = capacity; member = member; from = from; to = to; way = way }))
+
+-- what is cast as instructed (section 324A)
+unfoldable pub instructed_in : Data → Option PartyRequest
+instructed_in d = do
+  resolution ← poll_in d
+  Some (Instructed resolution)

@@ -1,19 +1,19 @@
 -- The loading of a register.
-use Rattle.std.specs.Prelude.{ℕ, List, Option, Result, Ok, codes}
+use Rattle.std.specs.Prelude.{List, Option, Some, codes}
 use Rattle.serde_json.specs.Data.{Data}
 use Rattle.serde_json.specs.Find.{get, at}
 use Rattle.desk_calendar.specs.Texts.{moment_of}
-use Rattle.desk_terms.specs.declared.refusal.Refusal.{Refusal}
 use Rattle.desk_terms.specs.Kinds.{holder_kind_of}
 use Rattle.desk_terms.specs.Names.{party_of}
 use Rattle.desk_words.specs.Registers.{register_of}
 use Rattle.desk_words.specs.declared.records.RegisterRow.{RegisterRow}
-use Rattle.desk_words.specs.declared.request.NewRegister.{NewRegister}
-use Rattle.desk_bodies.specs.Answers.{only, readable, ◌>>=◌}
+use Rattle.desk_words.specs.declared.request.OfficeRequest.{OfficeRequest}
+use Rattle.desk_words.specs.declared.request.OfficeRequest.TheVariants.{LoadRegister}
+use Rattle.desk_bodies.specs.Reads.{only, ◌>>=◌}
 use Rattle.desk_bodies.specs.Places.{has_fields, has_items, items_in, number_in, spelled, text_of, each}
 
 -- a row is a member, its kind, its name, its shares and what is paid up on each of them
-unfoldable pub row_of : Data → Result RegisterRow Refusal
+unfoldable pub row_of : Data → Option RegisterRow
 row_of d = do
   five ← only (has_items 5 d)
   member ← spelled party_of (at 0 d)
@@ -21,19 +21,19 @@ row_of d = do
   name ← spelled text_of (at 2 d)
   shares ← number_in (at 3 d)
   paid ← number_in (at 4 d)
-  Ok (record { member = member; kind = kind; name = name; shares = shares; paid = paid })
+  Some (record { member = member; kind = kind; name = name; shares = shares; paid = paid })
 
 -- the register that the rows at a place make
-unfoldable pub register_in : Option Data → Result (List RegisterRow) Refusal
+unfoldable pub register_in : Option Data → Option (List RegisterRow)
 register_in place = do
   items ← items_in place
   rows ← each row_of items
-  readable (register_of rows)
+  register_of rows
 
 -- the register that a value loads: two fields, each of its form
-unfoldable pub new_register_of : List ℕ → Data → Result NewRegister Refusal
-new_register_of meeting d = do
+unfoldable pub load_in : Data → Option OfficeRequest
+load_in d = do
   exactly ← only (has_fields 2 d)
   record_moment ← spelled moment_of (get (codes "record") d)
   rows ← register_in (get (codes "rows") d)
-  Ok (record { meeting = meeting; record_moment = record_moment; rows = rows })
+  Some (LoadRegister (record { record_moment = record_moment; rows = rows }))

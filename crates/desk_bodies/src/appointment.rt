@@ -2,13 +2,14 @@
 ghost use Rattle.std.specs.Prelude.{nat_le};
 ghost use Rattle.serde_json.specs.Events.{items_len};
 ghost use Rattle.serde_json.specs.View.{view, items_view};
-ghost use Rattle.desk_bodies.specs.Answers.{Gives, itself, only};
-ghost use Rattle.desk_bodies.specs.Appointments.{most_instructions, instruction_at, instructions_in, new_appointment_of, new_ending_of};
+ghost use Rattle.desk_bodies.specs.Answers.{itself};
+ghost use Rattle.desk_bodies.specs.Reads.{Reads, only};
+ghost use Rattle.desk_bodies.specs.Appointments.{most_instructions, instruction_at, instructions_in, appoint_in, end_in};
 ghost use Rattle.desk_bodies.specs.Places.{there, each};
 
-use crate::ask::{Ask, UNREADABLE};
+use crate::ask::Unread;
 use crate::place::{exactly_fields, instruction_in, items_in, number_in, party_in};
-use desk_words::{Instr, Listing, MeetingId, NewAppointment, NewEnding};
+use desk_words::{Instr, Listing, NewAppointment, PartyRequest};
 use serde_json::Value;
 use std::alloc::Global;
 
@@ -16,26 +17,27 @@ use std::alloc::Global;
 const MOST_INSTRUCTIONS: usize = 50;
 
 #[tactic(auto, unfolding(crate::specs::Appointments::instruction_at))]
-fn instruction(value: &Value) -> Result<Instr, Ask>
-    ensures { Gives itself result (instruction_at (view value.now)) }
+fn instruction(value: &Value) -> Result<Instr, Unread>
+    ensures { Reads itself result (instruction_at (view value.now)) }
 {
     instruction_in(Some(value))
 }
 
 /// Refuses more items than an appointment may have instructions.
 #[tactic(auto, using(crate::proofs::ItemLemmas::items_seen))]
-fn few(items: &[Value]) -> Result<(), Ask>
-    ensures { Gives itself result (only (nat_le (items_len (items_view items.now)) most_instructions)) }
+fn few(items: &[Value]) -> Result<(), Unread>
+    ensures { Reads itself result
+        (only (nat_le (items_len (items_view items.now)) most_instructions)) }
 {
     if items.len() <= MOST_INSTRUCTIONS {
         Ok(())
     } else {
-        Err(UNREADABLE)
+        Err(Unread::Unreadable)
     }
 }
 
-fn instructions_from(alloc: Global, items: &[Value]) -> Result<Vec<Instr>, Ask>
-    ensures { Gives (λ v. v.items) result (each instruction_at (items_view items.now)) }
+fn instructions_from(alloc: Global, items: &[Value]) -> Result<Vec<Instr>, Unread>
+    ensures { Reads (λ v. v.items) result (each instruction_at (items_view items.now)) }
 {
     let mut found = Vec::new(alloc);
     for item in items {
@@ -45,8 +47,8 @@ fn instructions_from(alloc: Global, items: &[Value]) -> Result<Vec<Instr>, Ask>
 }
 
 #[tactic(auto, unfolding(crate::specs::Appointments::instructions_in))]
-fn instructions_in(alloc: Global, place: Option<&Value>) -> Result<Listing<Instr>, Ask>
-    ensures { Gives itself result (instructions_in (there place.entry)) }
+fn instructions_in(alloc: Global, place: Option<&Value>) -> Result<Listing<Instr>, Unread>
+    ensures { Reads itself result (instructions_in (there place.entry)) }
 {
     let items = items_in(place)?;
     few(items)?;
@@ -56,34 +58,29 @@ fn instructions_in(alloc: Global, place: Option<&Value>) -> Result<Listing<Instr
 
 /// The appointment that a value gives. It has the fields `proxy` (a party), `from` and `to`
 /// (numbers), and `instructions` (0 to 50 of the words `for`, `against`, `withheld` and `free`).
-#[tactic(auto, unfolding(crate::specs::Appointments::new_appointment_of))]
-pub(crate) fn new_appointment(
-    alloc: Global,
-    meeting: MeetingId,
-    value: &Value,
-) -> Result<NewAppointment, Ask>
-    ensures { Gives itself result (new_appointment_of meeting (view value.now)) }
+#[tactic(auto, unfolding(crate::specs::Appointments::appoint_in))]
+pub(crate) fn appoint(alloc: Global, value: &Value) -> Result<PartyRequest, Unread>
+    ensures { Reads itself result (appoint_in (view value.now)) }
 {
     exactly_fields(value, 4)?;
     let proxy = party_in(value.get("proxy"))?;
     let from = number_in(value.get("from"))?;
     let to = number_in(value.get("to"))?;
     let instructions = instructions_in(alloc, value.get("instructions"))?;
-    Ok(NewAppointment {
-        meeting,
+    Ok(PartyRequest::Appoint(NewAppointment {
         proxy,
         from,
         to,
         instructions,
-    })
+    }))
 }
 
 /// The ending that a value gives. It has the field `number` (the number of an appointment).
-#[tactic(auto, unfolding(crate::specs::Appointments::new_ending_of))]
-pub(crate) fn new_ending(meeting: MeetingId, value: &Value) -> Result<NewEnding, Ask>
-    ensures { Gives itself result (new_ending_of meeting (view value.now)) }
+#[tactic(auto, unfolding(crate::specs::Appointments::end_in))]
+pub(crate) fn end(value: &Value) -> Result<PartyRequest, Unread>
+    ensures { Reads itself result (end_in (view value.now)) }
 {
     exactly_fields(value, 1)?;
     let number = number_in(value.get("number"))?;
-    Ok(NewEnding { meeting, number })
+    Ok(PartyRequest::End(number))
 }

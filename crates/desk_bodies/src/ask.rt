@@ -1,6 +1,7 @@
 //! Why a request was not read.
 ghost use Rattle.std.specs.Prelude.{◌≡◌};
-ghost use Rattle.desk_bodies.specs.declared.ask.Ask.TheVariants.{Memory};
+ghost use Rattle.desk_bodies.specs.Reads.{ask_of};
+ghost use Rattle.desk_bodies.specs.declared.ask.Unread.TheVariants.{Memory};
 
 use desk_words::Refusal;
 use std::alloc::{AllocError, AllocFailed};
@@ -15,20 +16,38 @@ pub enum Ask {
     Memory,
 }
 
-pub(crate) const UNREADABLE: Ask = Ask::Refused(Refusal::Unreadable);
+/// Why nothing was read of a body.
+#[derive(Clone, Copy, PartialEq, Eq)]
+pub enum Unread {
+    /// It does not say what the verb asks.
+    Unreadable,
+    /// An allocation was refused.
+    Memory,
+}
 
-impl From<AllocError> for Ask {
+impl From<AllocError> for Unread {
     ghost from_gives = { λ _ e. e ≡ Memory };
 
-    fn from(_refused: AllocError) -> Ask {
-        Ask::Memory
+    fn from(_refused: AllocError) -> Unread {
+        Unread::Memory
     }
 }
 
-impl<T: Drop> From<AllocFailed<T>> for Ask {
+impl<T: Drop> From<AllocFailed<T>> for Unread {
     ghost from_gives = { λ _ e. e ≡ Memory };
 
-    fn from(_refused: AllocFailed<T>) -> Ask {
-        Ask::Memory
+    fn from(_refused: AllocFailed<T>) -> Unread {
+        Unread::Memory
+    }
+}
+
+impl From<Unread> for Ask {
+    ghost from_gives = { λ unread ask. ask ≡ ask_of unread };
+
+    fn from(unread: Unread) -> Ask {
+        match unread {
+            Unread::Unreadable => Ask::Refused(Refusal::Unreadable),
+            Unread::Memory => Ask::Memory,
+        }
     }
 }

@@ -1,10 +1,11 @@
 //! Bodies of requests, which are JSON.
 ghost use Rattle.std.specs.Prelude.{◌≡◌};
 ghost use Rattle.serde_json.specs.View.{view};
-ghost use Rattle.desk_bodies.specs.Answers.{Gives, itself, readable};
+ghost use Rattle.desk_bodies.specs.Answers.{itself};
+ghost use Rattle.desk_bodies.specs.Reads.{Reads};
 ghost use Rattle.desk_bodies.specs.Bodies.{filled, value_of, body_of};
 
-use crate::ask::{Ask, UNREADABLE};
+use crate::ask::Unread;
 use serde_json::Value;
 use std::alloc::Global;
 
@@ -15,24 +16,24 @@ fn filled(body: &[u8]) -> &[u8]
     if body.is_empty() { b"{}" } else { body }
 }
 
-fn read_value(alloc: Global, bytes: &[u8]) -> Result<Value, Ask>
-    ensures { Gives view result (readable (value_of bytes.now)) }
+fn read_value(alloc: Global, bytes: &[u8]) -> Result<Value, Unread>
+    ensures { Reads view result (value_of bytes.now) }
 {
     match Value::from_slice(alloc, bytes) {
         Ok(value) => Ok(value),
         Err(e) => {
             if e.is_memory() {
-                return Err(Ask::Memory);
+                return Err(Unread::Memory);
             }
-            Err(UNREADABLE)
+            Err(Unread::Unreadable)
         }
     }
 }
 
 /// The value that a body is.
 #[tactic(auto, unfolding(crate::specs::Bodies::body_of))]
-pub(crate) fn read_body(alloc: Global, body: &[u8]) -> Result<Value, Ask>
-    ensures { Gives view result (body_of body.now) }
+pub(crate) fn read_body(alloc: Global, body: &[u8]) -> Result<Value, Unread>
+    ensures { Reads view result (body_of body.now) }
 {
     read_value(alloc, filled(body))
 }

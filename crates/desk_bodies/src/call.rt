@@ -1,10 +1,11 @@
 //! The calling of a meeting.
 ghost use Rattle.serde_json.specs.View.{view, items_view};
-ghost use Rattle.desk_bodies.specs.Answers.{Gives, itself};
+ghost use Rattle.desk_bodies.specs.Answers.{itself};
+ghost use Rattle.desk_bodies.specs.Reads.{Reads};
 ghost use Rattle.desk_bodies.specs.Places.{there, each};
-ghost use Rattle.desk_bodies.specs.Calls.{resolution_of, counted, resolutions_in, new_meeting_of};
+ghost use Rattle.desk_bodies.specs.Calls.{resolution_of, counted, resolutions_in, call_in};
 
-use crate::ask::{Ask, UNREADABLE};
+use crate::ask::Unread;
 use crate::place::{
     company_in, day_in, exactly_fields, exactly_items, items_in, meeting_kind_in, moment_in,
     resolution_kind_in, text_in,
@@ -15,8 +16,8 @@ use std::alloc::Global;
 
 /// A resolution is a pair of its kind and its text.
 #[tactic(auto, unfolding(crate::specs::Calls::resolution_of))]
-fn resolution(alloc: Global, value: &Value) -> Result<Resolution, Ask>
-    ensures { Gives itself result (resolution_of (view value.now)) }
+fn resolution(alloc: Global, value: &Value) -> Result<Resolution, Unread>
+    ensures { Reads itself result (resolution_of (view value.now)) }
 {
     exactly_items(value, 2)?;
     let kind = resolution_kind_in(value.get(0))?;
@@ -24,8 +25,8 @@ fn resolution(alloc: Global, value: &Value) -> Result<Resolution, Ask>
     Ok(Resolution { kind, text })
 }
 
-fn resolutions_from(alloc: Global, items: &[Value]) -> Result<Vec<Resolution>, Ask>
-    ensures { Gives (λ v. v.items) result (each resolution_of (items_view items.now)) }
+fn resolutions_from(alloc: Global, items: &[Value]) -> Result<Vec<Resolution>, Unread>
+    ensures { Reads (λ v. v.items) result (each resolution_of (items_view items.now)) }
 {
     let mut found = Vec::new(alloc);
     for item in items {
@@ -34,19 +35,19 @@ fn resolutions_from(alloc: Global, items: &[Value]) -> Result<Vec<Resolution>, A
     Ok(found)
 }
 
-fn counted(resolutions: Vec<Resolution>) -> Result<Resolutions, Ask>
-    ensures { Gives itself result (counted resolutions.items) }
+fn counted(resolutions: Vec<Resolution>) -> Result<Resolutions, Unread>
+    ensures { Reads itself result (counted resolutions.items) }
 {
     match Resolutions::new(resolutions) {
         Ok(resolutions) => Ok(resolutions),
-        Err(ListFault::Limit) => Err(UNREADABLE),
-        Err(ListFault::Memory) => Err(Ask::Memory),
+        Err(ListFault::Limit) => Err(Unread::Unreadable),
+        Err(ListFault::Memory) => Err(Unread::Memory),
     }
 }
 
 #[tactic(auto, unfolding(crate::specs::Calls::resolutions_in))]
-fn resolutions_in(alloc: Global, place: Option<&Value>) -> Result<Resolutions, Ask>
-    ensures { Gives itself result (resolutions_in (there place.entry)) }
+fn resolutions_in(alloc: Global, place: Option<&Value>) -> Result<Resolutions, Unread>
+    ensures { Reads itself result (resolutions_in (there place.entry)) }
 {
     let items = items_in(place)?;
     let resolutions = resolutions_from(alloc, items)?;
@@ -56,13 +57,9 @@ fn resolutions_in(alloc: Global, place: Option<&Value>) -> Result<Resolutions, A
 /// The meeting that a value calls. It has the fields `company` (`private` or `public`), `kind`
 /// (`annual` or `general`), `given` (the day of the notice), `appointed` and `record` (moments),
 /// and `resolutions` (1 to 50 pairs of a kind, `ordinary` or `special`, and a text).
-#[tactic(auto, unfolding(crate::specs::Calls::new_meeting_of))]
-pub(crate) fn new_meeting(
-    alloc: Global,
-    meeting: MeetingId,
-    value: &Value,
-) -> Result<NewMeeting, Ask>
-    ensures { Gives itself result (new_meeting_of meeting (view value.now)) }
+#[tactic(auto, unfolding(crate::specs::Calls::call_in))]
+pub(crate) fn call(alloc: Global, meeting: MeetingId, value: &Value) -> Result<NewMeeting, Unread>
+    ensures { Reads itself result (call_in meeting (view value.now)) }
 {
     exactly_fields(value, 6)?;
     let company = company_in(value.get("company"))?;

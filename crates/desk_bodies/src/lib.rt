@@ -11,6 +11,7 @@ mod ask;
 mod body;
 mod call;
 mod closed;
+mod keys;
 pub mod laws;
 mod place;
 mod poll;
@@ -21,4 +22,4 @@ mod verb;
 
 pub use ask::Ask;
 pub use request::request_of;
-pub use verb::Verb;
+pub use verb::{OfficeVerb, PartyVerb, Verb};

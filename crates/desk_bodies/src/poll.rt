@@ -1,64 +1,99 @@
 //! Polls, and the votes on them.
 ghost use Rattle.serde_json.specs.View.{view};
-ghost use Rattle.desk_bodies.specs.Answers.{Gives, itself};
-ghost use Rattle.desk_bodies.specs.Polls.{new_poll_of, poll_name_of, new_cast_of};
+ghost use Rattle.desk_bodies.specs.Answers.{itself};
+ghost use Rattle.desk_bodies.specs.Reads.{Reads};
+ghost use Rattle.desk_bodies.specs.Polls.{order_in, poll_in, start_in, close_in, declare_in, demand_in, cast_in, instructed_in};
 
-use crate::ask::Ask;
-use crate::place::{exactly_fields, exactly_word, flag_in, moment_in, number_in, party_in, way_in};
-use desk_words::{MeetingId, NewCast, NewPoll, PollName};
+use crate::ask::Unread;
+use crate::place::{capacity_in, exactly_fields, flag_in, moment_in, number_in, party_in, way_in};
+use desk_words::{NewCast, NewPoll, OfficeRequest, PartyRequest};
 use serde_json::Value;
 
 /// The poll that a value orders. It has the fields `resolution` (a number), `take` (a moment) and
 /// `chair` (true or false).
-#[tactic(auto, unfolding(crate::specs::Polls::new_poll_of))]
-pub(crate) fn new_poll(meeting: MeetingId, value: &Value) -> Result<NewPoll, Ask>
-    ensures { Gives itself result (new_poll_of meeting (view value.now)) }
+#[tactic(auto, unfolding(crate::specs::Polls::order_in))]
+pub(crate) fn order(value: &Value) -> Result<OfficeRequest, Unread>
+    ensures { Reads itself result (order_in (view value.now)) }
 {
     exactly_fields(value, 3)?;
     let resolution = number_in(value.get("resolution"))?;
     let take = moment_in(value.get("take"))?;
     let chair = flag_in(value.get("chair"))?;
-    Ok(NewPoll {
-        meeting,
+    Ok(OfficeRequest::Order(NewPoll {
         resolution,
         take,
         chair,
-    })
+    }))
 }
 
 /// The poll that a value names. It has the field `resolution` (a number).
-#[tactic(auto, unfolding(crate::specs::Polls::poll_name_of))]
-pub(crate) fn poll_name(meeting: MeetingId, value: &Value) -> Result<PollName, Ask>
-    ensures { Gives itself result (poll_name_of meeting (view value.now)) }
+#[tactic(auto, unfolding(crate::specs::Polls::poll_in))]
+fn poll_in(value: &Value) -> Result<u64, Unread>
+    ensures { Reads itself result (poll_in (view value.now)) }
 {
     exactly_fields(value, 1)?;
-    let resolution = number_in(value.get("resolution"))?;
-    Ok(PollName {
-        meeting,
-        resolution,
-    })
+    number_in(value.get("resolution"))
+}
+
+#[tactic(auto, unfolding(crate::specs::Polls::start_in))]
+pub(crate) fn start(value: &Value) -> Result<OfficeRequest, Unread>
+    ensures { Reads itself result (start_in (view value.now)) }
+{
+    let resolution = poll_in(value)?;
+    Ok(OfficeRequest::Start(resolution))
+}
+
+#[tactic(auto, unfolding(crate::specs::Polls::close_in))]
+pub(crate) fn close(value: &Value) -> Result<OfficeRequest, Unread>
+    ensures { Reads itself result (close_in (view value.now)) }
+{
+    let resolution = poll_in(value)?;
+    Ok(OfficeRequest::Close(resolution))
+}
+
+#[tactic(auto, unfolding(crate::specs::Polls::declare_in))]
+pub(crate) fn declare(value: &Value) -> Result<OfficeRequest, Unread>
+    ensures { Reads itself result (declare_in (view value.now)) }
+{
+    let resolution = poll_in(value)?;
+    Ok(OfficeRequest::Declare(resolution))
+}
+
+#[tactic(auto, unfolding(crate::specs::Polls::demand_in))]
+pub(crate) fn demand(value: &Value) -> Result<PartyRequest, Unread>
+    ensures { Reads itself result (demand_in (view value.now)) }
+{
+    let resolution = poll_in(value)?;
+    Ok(PartyRequest::Demand(resolution))
+}
+
+#[tactic(auto, unfolding(crate::specs::Polls::instructed_in))]
+pub(crate) fn instructed(value: &Value) -> Result<PartyRequest, Unread>
+    ensures { Reads itself result (instructed_in (view value.now)) }
+{
+    let resolution = poll_in(value)?;
+    Ok(PartyRequest::Instructed(resolution))
 }
 
 /// The vote that a value casts. It has the fields `resolution`, `from` and `to` (numbers), `as`
-/// (the word `member`, since no other capacity votes), `member` (a party) and `way` (`for`,
-/// `against` or `withheld`).
-#[tactic(auto, unfolding(crate::specs::Polls::new_cast_of))]
-pub(crate) fn new_cast(meeting: MeetingId, value: &Value) -> Result<NewCast, Ask>
-    ensures { Gives itself result (new_cast_of meeting (view value.now)) }
+/// (`member`, `rep` or `proxy`), `member` (a party) and `way` (`for`, `against` or `withheld`).
+#[tactic(auto, unfolding(crate::specs::Polls::cast_in))]
+pub(crate) fn cast(value: &Value) -> Result<PartyRequest, Unread>
+    ensures { Reads itself result (cast_in (view value.now)) }
 {
     exactly_fields(value, 6)?;
     let resolution = number_in(value.get("resolution"))?;
-    exactly_word(value.get("as"), "member")?;
+    let capacity = capacity_in(value.get("as"))?;
     let member = party_in(value.get("member"))?;
     let from = number_in(value.get("from"))?;
     let to = number_in(value.get("to"))?;
     let way = way_in(value.get("way"))?;
-    Ok(NewCast {
-        meeting,
+    Ok(PartyRequest::Cast(NewCast {
         resolution,
+        capacity,
         member,
         from,
         to,
         way,
-    })
+    }))
 }

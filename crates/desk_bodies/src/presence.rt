@@ -1,29 +1,48 @@
-//! Presences, and the persons who are to represent parties.
+//! The opening of a meeting, presences, and the persons who are to represent parties.
 ghost use Rattle.serde_json.specs.View.{view};
-ghost use Rattle.desk_bodies.specs.Answers.{Gives, itself};
-ghost use Rattle.desk_bodies.specs.Presences.{new_presence_of, new_authority_of};
+ghost use Rattle.desk_bodies.specs.Answers.{itself};
+ghost use Rattle.desk_bodies.specs.Reads.{Reads};
+ghost use Rattle.desk_bodies.specs.Presences.{open_in, presence_in, attend_in, authorise_in};
 
-use crate::ask::Ask;
+use crate::ask::Unread;
 use crate::place::{exactly_fields, party_in};
-use desk_words::{MeetingId, NewAuthority, NewPresence};
+use desk_words::{OfficeRequest, PartyRequest};
 use serde_json::Value;
 
+/// The opening of the meeting. The value has no fields.
+#[tactic(auto, unfolding(crate::specs::Presences::open_in))]
+pub(crate) fn open(value: &Value) -> Result<OfficeRequest, Unread>
+    ensures { Reads itself result (open_in (view value.now)) }
+{
+    exactly_fields(value, 0)?;
+    Ok(OfficeRequest::OpenMeeting)
+}
+
 /// The presence that a value notes. It has the field `party` (a party).
-#[tactic(auto, unfolding(crate::specs::Presences::new_presence_of))]
-pub(crate) fn new_presence(meeting: MeetingId, value: &Value) -> Result<NewPresence, Ask>
-    ensures { Gives itself result (new_presence_of meeting (view value.now)) }
+#[tactic(auto, unfolding(crate::specs::Presences::presence_in))]
+pub(crate) fn presence(value: &Value) -> Result<OfficeRequest, Unread>
+    ensures { Reads itself result (presence_in (view value.now)) }
 {
     exactly_fields(value, 1)?;
     let party = party_in(value.get("party"))?;
-    Ok(NewPresence { meeting, party })
+    Ok(OfficeRequest::Presence(party))
+}
+
+/// A party's own presence. The value has no fields.
+#[tactic(auto, unfolding(crate::specs::Presences::attend_in))]
+pub(crate) fn attend(value: &Value) -> Result<PartyRequest, Unread>
+    ensures { Reads itself result (attend_in (view value.now)) }
+{
+    exactly_fields(value, 0)?;
+    Ok(PartyRequest::Attend)
 }
 
 /// The authority that a value gives. It has the field `person` (a party).
-#[tactic(auto, unfolding(crate::specs::Presences::new_authority_of))]
-pub(crate) fn new_authority(meeting: MeetingId, value: &Value) -> Result<NewAuthority, Ask>
-    ensures { Gives itself result (new_authority_of meeting (view value.now)) }
+#[tactic(auto, unfolding(crate::specs::Presences::authorise_in))]
+pub(crate) fn authorise(value: &Value) -> Result<PartyRequest, Unread>
+    ensures { Reads itself result (authorise_in (view value.now)) }
 {
     exactly_fields(value, 1)?;
     let person = party_in(value.get("person"))?;
-    Ok(NewAuthority { meeting, person })
+    Ok(PartyRequest::Authorise(person))
 }

@@ -1,23 +1,24 @@
 //! The loading of a register.
 ghost use Rattle.serde_json.specs.View.{view, items_view};
 ghost use Rattle.desk_words.specs.Registers.{register_of};
-ghost use Rattle.desk_bodies.specs.Answers.{Gives, itself, readable};
+ghost use Rattle.desk_bodies.specs.Answers.{itself};
+ghost use Rattle.desk_bodies.specs.Reads.{Reads};
 ghost use Rattle.desk_bodies.specs.Places.{there, each};
-ghost use Rattle.desk_bodies.specs.Registers.{row_of, register_in, new_register_of};
+ghost use Rattle.desk_bodies.specs.Registers.{row_of, register_in, load_in};
 
-use crate::ask::{Ask, UNREADABLE};
+use crate::ask::Unread;
 use crate::place::{
     exactly_fields, exactly_items, holder_kind_in, items_in, moment_in, number_in, party_in,
     text_in,
 };
-use desk_words::{ListFault, MeetingId, NewRegister, Register, RegisterRow};
+use desk_words::{ListFault, NewRegister, OfficeRequest, Register, RegisterRow};
 use serde_json::Value;
 use std::alloc::Global;
 
 /// A row is a member, its kind, its name, its shares and what is paid up on each of them.
 #[tactic(auto, unfolding(crate::specs::Registers::row_of))]
-fn row(alloc: Global, value: &Value) -> Result<RegisterRow, Ask>
-    ensures { Gives itself result (row_of (view value.now)) }
+fn row(alloc: Global, value: &Value) -> Result<RegisterRow, Unread>
+    ensures { Reads itself result (row_of (view value.now)) }
 {
     exactly_items(value, 5)?;
     let member = party_in(value.get(0))?;
@@ -34,8 +35,8 @@ fn row(alloc: Global, value: &Value) -> Result<RegisterRow, Ask>
     })
 }
 
-fn rows_from(alloc: Global, items: &[Value]) -> Result<Vec<RegisterRow>, Ask>
-    ensures { Gives (λ v. v.items) result (each row_of (items_view items.now)) }
+fn rows_from(alloc: Global, items: &[Value]) -> Result<Vec<RegisterRow>, Unread>
+    ensures { Reads (λ v. v.items) result (each row_of (items_view items.now)) }
 {
     let mut found = Vec::new(alloc);
     for item in items {
@@ -44,19 +45,19 @@ fn rows_from(alloc: Global, items: &[Value]) -> Result<Vec<RegisterRow>, Ask>
     Ok(found)
 }
 
-fn registered(rows: Vec<RegisterRow>) -> Result<Register, Ask>
-    ensures { Gives itself result (readable (register_of rows.items)) }
+fn registered(rows: Vec<RegisterRow>) -> Result<Register, Unread>
+    ensures { Reads itself result (register_of rows.items) }
 {
     match Register::new(rows) {
         Ok(register) => Ok(register),
-        Err(ListFault::Limit) => Err(UNREADABLE),
-        Err(ListFault::Memory) => Err(Ask::Memory),
+        Err(ListFault::Limit) => Err(Unread::Unreadable),
+        Err(ListFault::Memory) => Err(Unread::Memory),
     }
 }
 
 #[tactic(auto, unfolding(crate::specs::Registers::register_in))]
-fn register_in(alloc: Global, place: Option<&Value>) -> Result<Register, Ask>
-    ensures { Gives itself result (register_in (there place.entry)) }
+fn register_in(alloc: Global, place: Option<&Value>) -> Result<Register, Unread>
+    ensures { Reads itself result (register_in (there place.entry)) }
 {
     let items = items_in(place)?;
     let rows = rows_from(alloc, items)?;
@@ -66,20 +67,15 @@ fn register_in(alloc: Global, place: Option<&Value>) -> Result<Register, Ask>
 /// The register that a value loads. It has the fields `record` (a moment) and `rows`, which are
 /// arrays of a member, a kind (`individual`, `corporation` or `treasury`), a name, a number of
 /// shares and the pence paid up on each of them, and together make a register.
-#[tactic(auto, unfolding(crate::specs::Registers::new_register_of))]
-pub(crate) fn new_register(
-    alloc: Global,
-    meeting: MeetingId,
-    value: &Value,
-) -> Result<NewRegister, Ask>
-    ensures { Gives itself result (new_register_of meeting (view value.now)) }
+#[tactic(auto, unfolding(crate::specs::Registers::load_in))]
+pub(crate) fn load(alloc: Global, value: &Value) -> Result<OfficeRequest, Unread>
+    ensures { Reads itself result (load_in (view value.now)) }
 {
     exactly_fields(value, 2)?;
     let record_moment = moment_in(value.get("record"))?;
     let rows = register_in(alloc, value.get("rows"))?;
-    Ok(NewRegister {
-        meeting,
+    Ok(OfficeRequest::LoadRegister(NewRegister {
         record_moment,
         rows,
-    })
+    }))
 }

@@ -1,160 +1,138 @@
 //! Requests, as a meeting, a verb and a body ask them.
+ghost use Rattle.std.specs.Prelude.{option_map};
 ghost use Rattle.desk_terms.specs.Names.{meeting_of};
-ghost use Rattle.desk_bodies.specs.Answers.{Gives, itself};
-ghost use Rattle.desk_bodies.specs.Requests.{call_of, presence_of, load_of, open_of, order_of, named_poll_of, start_of, close_of, declare_of, closed_of, appoint_of, end_of, authorise_of, attend_of, demand_of, cast_of, routed, unnamed, request_of};
+ghost use Rattle.desk_words.specs.declared.request.DeskRequest.TheVariants as desk;
+ghost use Rattle.desk_words.specs.declared.request.Request.TheVariants as request;
+ghost use Rattle.desk_bodies.specs.Answers.{Gives, itself, readable};
+ghost use Rattle.desk_bodies.specs.Bodies.{read_by};
+ghost use Rattle.desk_bodies.specs.Calls.{call_in};
+ghost use Rattle.desk_bodies.specs.Days.{closed_in};
+ghost use Rattle.desk_bodies.specs.Keys.{keys_in};
+ghost use Rattle.desk_bodies.specs.Reads.{Reads};
+ghost use Rattle.desk_bodies.specs.Requests.{office_asks, party_asks, request_of, routed, unnamed};
 
-use crate::appointment::{new_appointment, new_ending};
-use crate::ask::Ask;
+use crate::appointment::{appoint, end};
+use crate::ask::{Ask, Unread};
 use crate::body::read_body;
-use crate::call::new_meeting;
-use crate::closed::closed_days;
-use crate::place::exactly_fields;
-use crate::poll::{new_cast, new_poll, poll_name};
-use crate::presence::{new_authority, new_presence};
-use crate::register::new_register;
-use crate::verb::Verb;
-use desk_words::{MeetingId, PollName, Refusal, Request, read_meeting};
+use crate::call::call;
+use crate::closed::closed;
+use crate::keys::keys;
+use crate::poll::{cast, close, declare, demand, instructed, order, start};
+use crate::presence::{attend, authorise, open, presence};
+use crate::register::load;
+use crate::verb::{OfficeVerb, PartyVerb, Verb};
+use desk_words::{
+    DayList, DeskRequest, KeyRows, MeetingId, NewMeeting, OfficeRequest, PartyRequest, Refusal,
+    Request, read_meeting,
+};
 use std::alloc::Global;
 
 const ROUTE: Ask = Ask::Refused(Refusal::Route);
 
-#[tactic(auto, unfolding(crate::specs::Requests::call_of))]
-fn call(alloc: Global, meeting: MeetingId, body: &[u8]) -> Result<Request, Ask>
-    ensures { Gives itself result (call_of meeting body.now) }
+#[tactic(auto, unfolding(crate::specs::Bodies::read_by))]
+fn called(alloc: Global, meeting: MeetingId, body: &[u8]) -> Result<NewMeeting, Unread>
+    ensures { Reads itself result (read_by (call_in meeting) body.now) }
 {
-    let body = read_body(alloc, body)?;
-    let called = new_meeting(alloc, meeting, &body)?;
-    Ok(Request::CallMeeting(called))
+    call(alloc, meeting, &read_body(alloc, body)?)
 }
 
-#[tactic(auto, unfolding(crate::specs::Requests::presence_of))]
-fn presence(alloc: Global, meeting: MeetingId, body: &[u8]) -> Result<Request, Ask>
-    ensures { Gives itself result (presence_of meeting body.now) }
+#[tactic(auto, unfolding(crate::specs::Bodies::read_by))]
+fn closed_days(alloc: Global, body: &[u8]) -> Result<DayList, Unread>
+    ensures { Reads itself result (read_by closed_in body.now) }
 {
-    let body = read_body(alloc, body)?;
-    let noted = new_presence(meeting, &body)?;
-    Ok(Request::Presence(noted))
+    closed(alloc, &read_body(alloc, body)?)
 }
 
-#[tactic(auto, unfolding(crate::specs::Requests::load_of))]
-fn load(alloc: Global, meeting: MeetingId, body: &[u8]) -> Result<Request, Ask>
-    ensures { Gives itself result (load_of meeting body.now) }
+#[tactic(auto, unfolding(crate::specs::Bodies::read_by))]
+fn key_rows(alloc: Global, body: &[u8]) -> Result<KeyRows, Unread>
+    ensures { Reads itself result (read_by keys_in body.now) }
 {
-    let body = read_body(alloc, body)?;
-    let loaded = new_register(alloc, meeting, &body)?;
-    Ok(Request::LoadRegister(loaded))
+    keys(alloc, &read_body(alloc, body)?)
 }
 
-#[tactic(auto, unfolding(crate::specs::Requests::open_of))]
-fn open(alloc: Global, meeting: MeetingId, body: &[u8]) -> Result<Request, Ask>
-    ensures { Gives itself result (open_of meeting body.now) }
+/// What the office asks in a meeting.
+#[tactic(auto, unfolding(crate::specs::Bodies::read_by))]
+fn office_asks(alloc: Global, verb: OfficeVerb, body: &[u8]) -> Result<OfficeRequest, Unread>
+    ensures { Reads itself result (office_asks verb body.now) }
 {
-    let body = read_body(alloc, body)?;
-    exactly_fields(&body, 0)?;
-    Ok(Request::OpenMeeting(meeting))
+    match verb {
+        OfficeVerb::Presence => presence(&read_body(alloc, body)?),
+        OfficeVerb::Register => load(alloc, &read_body(alloc, body)?),
+        OfficeVerb::Open => open(&read_body(alloc, body)?),
+        OfficeVerb::Order => order(&read_body(alloc, body)?),
+        OfficeVerb::Start => start(&read_body(alloc, body)?),
+        OfficeVerb::Close => close(&read_body(alloc, body)?),
+        OfficeVerb::Declare => declare(&read_body(alloc, body)?),
+    }
 }
 
-#[tactic(auto, unfolding(crate::specs::Requests::order_of))]
-fn order(alloc: Global, meeting: MeetingId, body: &[u8]) -> Result<Request, Ask>
-    ensures { Gives itself result (order_of meeting body.now) }
+/// What a party asks in a meeting.
+#[tactic(auto, unfolding(crate::specs::Bodies::read_by))]
+fn party_asks(alloc: Global, verb: PartyVerb, body: &[u8]) -> Result<PartyRequest, Unread>
+    ensures { Reads itself result (party_asks verb body.now) }
 {
-    let body = read_body(alloc, body)?;
-    let ordered = new_poll(meeting, &body)?;
-    Ok(Request::Order(ordered))
+    match verb {
+        PartyVerb::Notice => Ok(PartyRequest::Notice),
+        PartyVerb::Mine => Ok(PartyRequest::Mine),
+        PartyVerb::Appoint => appoint(alloc, &read_body(alloc, body)?),
+        PartyVerb::End => end(&read_body(alloc, body)?),
+        PartyVerb::Authorise => authorise(&read_body(alloc, body)?),
+        PartyVerb::Attend => attend(&read_body(alloc, body)?),
+        PartyVerb::Demand => demand(&read_body(alloc, body)?),
+        PartyVerb::Cast => cast(&read_body(alloc, body)?),
+        PartyVerb::Instructed => instructed(&read_body(alloc, body)?),
+    }
 }
 
-#[tactic(auto, unfolding(crate::specs::Requests::named_poll_of))]
-fn named_poll(alloc: Global, meeting: MeetingId, body: &[u8]) -> Result<PollName, Ask>
-    ensures { Gives itself result (named_poll_of meeting body.now) }
+/// What `call` asks, in the meeting that is to have that name.
+fn by_call(alloc: Global, meeting: MeetingId, body: &[u8]) -> Result<Request, Ask>
+    ensures { Gives itself result (readable (option_map (λ new. request.Desk (desk.CallMeeting new))
+        (read_by (call_in meeting) body.now))) }
 {
-    let body = read_body(alloc, body)?;
-    poll_name(meeting, &body)
+    let new = called(alloc, meeting, body)?;
+    Ok(Request::Desk(DeskRequest::CallMeeting(new)))
 }
 
-#[tactic(auto, unfolding(crate::specs::Requests::start_of))]
-fn start(alloc: Global, meeting: MeetingId, body: &[u8]) -> Result<Request, Ask>
-    ensures { Gives itself result (start_of meeting body.now) }
+/// What `closed` asks of the whole desk.
+fn by_closed(alloc: Global, body: &[u8]) -> Result<Request, Ask>
+    ensures { Gives itself result (readable (option_map
+        (λ days. request.Desk (desk.ClosedDays days))
+        (read_by closed_in body.now))) }
 {
-    let poll = named_poll(alloc, meeting, body)?;
-    Ok(Request::Start(poll))
+    let days = closed_days(alloc, body)?;
+    Ok(Request::Desk(DeskRequest::ClosedDays(days)))
 }
 
-#[tactic(auto, unfolding(crate::specs::Requests::close_of))]
-fn close(alloc: Global, meeting: MeetingId, body: &[u8]) -> Result<Request, Ask>
-    ensures { Gives itself result (close_of meeting body.now) }
+/// What `keys` asks of the whole desk.
+fn by_keys(alloc: Global, body: &[u8]) -> Result<Request, Ask>
+    ensures { Gives itself result (readable (option_map (λ rows. request.Desk (desk.Keys rows))
+        (read_by keys_in body.now))) }
 {
-    let poll = named_poll(alloc, meeting, body)?;
-    Ok(Request::Close(poll))
+    let rows = key_rows(alloc, body)?;
+    Ok(Request::Desk(DeskRequest::Keys(rows)))
 }
 
-#[tactic(auto, unfolding(crate::specs::Requests::declare_of))]
-fn declare(alloc: Global, meeting: MeetingId, body: &[u8]) -> Result<Request, Ask>
-    ensures { Gives itself result (declare_of meeting body.now) }
+/// What the office asks in that meeting.
+fn by_office(
+    alloc: Global,
+    verb: OfficeVerb,
+    meeting: MeetingId,
+    body: &[u8],
+) -> Result<Request, Ask>
+    ensures { Gives itself result (readable (option_map (λ what. request.Office meeting what)
+        (office_asks verb body.now))) }
 {
-    let poll = named_poll(alloc, meeting, body)?;
-    Ok(Request::Declare(poll))
+    let asked = office_asks(alloc, verb, body)?;
+    Ok(Request::Office { meeting, asked })
 }
 
-#[tactic(auto, unfolding(crate::specs::Requests::closed_of))]
-fn closed(alloc: Global, body: &[u8]) -> Result<Request, Ask>
-    ensures { Gives itself result (closed_of body.now) }
+/// What a party asks in that meeting.
+fn by_party(alloc: Global, verb: PartyVerb, meeting: MeetingId, body: &[u8]) -> Result<Request, Ask>
+    ensures { Gives itself result (readable (option_map (λ what. request.Party meeting what)
+        (party_asks verb body.now))) }
 {
-    let body = read_body(alloc, body)?;
-    let days = closed_days(alloc, &body)?;
-    Ok(Request::ClosedDays(days))
-}
-
-#[tactic(auto, unfolding(crate::specs::Requests::appoint_of))]
-fn appoint(alloc: Global, meeting: MeetingId, body: &[u8]) -> Result<Request, Ask>
-    ensures { Gives itself result (appoint_of meeting body.now) }
-{
-    let body = read_body(alloc, body)?;
-    let appointed = new_appointment(alloc, meeting, &body)?;
-    Ok(Request::Appoint(appointed))
-}
-
-#[tactic(auto, unfolding(crate::specs::Requests::end_of))]
-fn end(alloc: Global, meeting: MeetingId, body: &[u8]) -> Result<Request, Ask>
-    ensures { Gives itself result (end_of meeting body.now) }
-{
-    let body = read_body(alloc, body)?;
-    let ended = new_ending(meeting, &body)?;
-    Ok(Request::End(ended))
-}
-
-#[tactic(auto, unfolding(crate::specs::Requests::authorise_of))]
-fn authorise(alloc: Global, meeting: MeetingId, body: &[u8]) -> Result<Request, Ask>
-    ensures { Gives itself result (authorise_of meeting body.now) }
-{
-    let body = read_body(alloc, body)?;
-    let authorised = new_authority(meeting, &body)?;
-    Ok(Request::Authorise(authorised))
-}
-
-#[tactic(auto, unfolding(crate::specs::Requests::attend_of))]
-fn attend(alloc: Global, meeting: MeetingId, body: &[u8]) -> Result<Request, Ask>
-    ensures { Gives itself result (attend_of meeting body.now) }
-{
-    let body = read_body(alloc, body)?;
-    exactly_fields(&body, 0)?;
-    Ok(Request::Attend(meeting))
-}
-
-#[tactic(auto, unfolding(crate::specs::Requests::demand_of))]
-fn demand(alloc: Global, meeting: MeetingId, body: &[u8]) -> Result<Request, Ask>
-    ensures { Gives itself result (demand_of meeting body.now) }
-{
-    let poll = named_poll(alloc, meeting, body)?;
-    Ok(Request::Demand(poll))
-}
-
-#[tactic(auto, unfolding(crate::specs::Requests::cast_of))]
-fn cast(alloc: Global, meeting: MeetingId, body: &[u8]) -> Result<Request, Ask>
-    ensures { Gives itself result (cast_of meeting body.now) }
-{
-    let body = read_body(alloc, body)?;
-    let cast = new_cast(meeting, &body)?;
-    Ok(Request::Cast(cast))
+    let asked = party_asks(alloc, verb, body)?;
+    Ok(Request::Party { meeting, asked })
 }
 
 /// The meeting that is named.
@@ -175,38 +153,29 @@ fn no_meeting(meeting: &[u8]) -> Result<(), Ask>
     }
 }
 
-/// The request that a verb asks, with what the body says of it: of a meeting, or for `closed` of
-/// the whole desk, where `-` stands in place of a meeting.
+/// The request that a verb asks, with what the body says of it: of a meeting, or for `closed` and
+/// `keys` of the whole desk, where `-` stands in place of a meeting.
 ///
 /// It is refused as `Route` where no such verb is listed, no meeting can have that name, or
-/// anything but `-` stands before `closed`, and only else, as `Unreadable`, where the body does not
-/// say what the verb asks. For `notice` and `mine` the body is not looked at. Of a field that is
-/// repeated the last value counts, and an empty body stands for an object with no fields. The error
-/// is `Memory` only where an allocation was refused.
+/// anything but `-` stands before `closed` and `keys`, and only else, as `Unreadable`, where the
+/// body does not say what the verb asks. For `notice` and `mine` the body is not looked at. Of a
+/// field that is repeated the last value counts, and an empty body stands for an object with no
+/// fields. The error is `Memory` only where an allocation was refused.
 #[tactic(auto, unfolding(crate::specs::Requests::request_of))]
 pub fn request_of(alloc: Global, meeting: &[u8], verb: &[u8], body: &[u8]) -> Result<Request, Ask>
     ensures { Gives itself result (request_of meeting.now verb.now body.now) }
 {
     match Verb::of_word(verb).ok_or(ROUTE)? {
-        Verb::Call => call(alloc, named(meeting)?, body),
-        Verb::Presence => presence(alloc, named(meeting)?, body),
-        Verb::Register => load(alloc, named(meeting)?, body),
-        Verb::Open => open(alloc, named(meeting)?, body),
-        Verb::Order => order(alloc, named(meeting)?, body),
-        Verb::Start => start(alloc, named(meeting)?, body),
-        Verb::Close => close(alloc, named(meeting)?, body),
-        Verb::Declare => declare(alloc, named(meeting)?, body),
+        Verb::Call => by_call(alloc, named(meeting)?, body),
         Verb::Closed => {
             no_meeting(meeting)?;
-            closed(alloc, body)
+            by_closed(alloc, body)
         }
-        Verb::Notice => Ok(Request::Notice(named(meeting)?)),
-        Verb::Mine => Ok(Request::Mine(named(meeting)?)),
-        Verb::Appoint => appoint(alloc, named(meeting)?, body),
-        Verb::End => end(alloc, named(meeting)?, body),
-        Verb::Authorise => authorise(alloc, named(meeting)?, body),
-        Verb::Attend => attend(alloc, named(meeting)?, body),
-        Verb::Demand => demand(alloc, named(meeting)?, body),
-        Verb::Cast => cast(alloc, named(meeting)?, body),
+        Verb::Keys => {
+            no_meeting(meeting)?;
+            by_keys(alloc, body)
+        }
+        Verb::Office(verb) => by_office(alloc, verb, named(meeting)?, body),
+        Verb::Party(verb) => by_party(alloc, verb, named(meeting)?, body),
     }
 }

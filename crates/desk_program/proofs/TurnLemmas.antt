@@ -12,7 +12,7 @@ use Rattle.desk_lines.specs.Reading.{Gives, longest_line, unread}
 use Rattle.desk_lines.specs.declared.outcome.NextLine.TheVariants.{Whole, TooLong}
 use Rattle.desk_terms.specs.declared.refusal.Refusal.TheVariants.{TooLarge}
 use Rattle.desk_words.specs.declared.office.OfficeLists.{OfficeLists}
-use Rattle.desk_words.specs.declared.request.Reply.TheVariants.{Refused}
+use Rattle.desk_words.specs.declared.reply.Reply.TheVariants.{Refused}
 use Rattle.desk_replies.specs.Replies.{reply_bytes}
 use Rattle.desk_program.specs.ReplayLines.{spelled_call}
 use Rattle.desk_program.specs.ReplaySteps.{Stops}

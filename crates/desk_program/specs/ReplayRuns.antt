@@ -3,9 +3,9 @@ use Rattle.std.specs.Prelude.{◌≡◌, ℕ, ◌==◌, List, [], ◌∷◌, ◌
 use Rattle.desk_terms.specs.declared.refusal.Refusal.{Refusal}
 use Rattle.desk_words.specs.declared.office.OfficeLists.{OfficeLists}
 use Rattle.desk_words.specs.declared.request.Call.{Call}
-use Rattle.desk_words.specs.declared.request.Failure.TheVariants.{Memory}
-use Rattle.desk_words.specs.declared.request.Reply.{Reply}
-use Rattle.desk_words.specs.declared.request.Reply.TheVariants.{Refused}
+use Rattle.desk_words.specs.declared.reply.Failure.TheVariants.{Memory}
+use Rattle.desk_words.specs.declared.reply.Reply.{Reply}
+use Rattle.desk_words.specs.declared.reply.Reply.TheVariants.{Refused}
 use Rattle.desk_replies.specs.Replies.{reply_bytes, failure_bytes}
 use Rattle.meeting_core.specs.Step.{replies_to}
 use Rattle.desk_program.specs.ReplayLines.{asked_by}

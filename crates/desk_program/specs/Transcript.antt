@@ -9,8 +9,8 @@ use Rattle.desk_lines.specs.Lines.{feeds_in, lines_of}
 use Rattle.desk_terms.specs.declared.refusal.Refusal.{Refusal}
 use Rattle.desk_words.specs.declared.office.OfficeLists.{OfficeLists}
 use Rattle.desk_words.specs.declared.request.Call.{Call}
-use Rattle.desk_words.specs.declared.request.Failure.TheVariants.{Memory}
-use Rattle.desk_words.specs.declared.request.Reply.TheVariants.{Refused}
+use Rattle.desk_words.specs.declared.reply.Failure.TheVariants.{Memory}
+use Rattle.desk_words.specs.declared.reply.Reply.TheVariants.{Refused}
 use Rattle.desk_replies.specs.Replies.{reply_bytes, failure_bytes}
 use Rattle.meeting_core.specs.Office.{empty_office}
 use Rattle.meeting_core.specs.Step.{decided, stepped}

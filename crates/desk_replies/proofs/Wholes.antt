@@ -6,15 +6,15 @@ use Rattle.serde_json.specs.Written.{has_float, items_have_float}
 use Rattle.desk_words.specs.declared.records.CastMark.{CastMark}
 use Rattle.desk_words.specs.declared.records.CastKind.{CastKind}
 use Rattle.desk_words.specs.declared.records.CastKind.TheVariants as cast
-use Rattle.desk_words.specs.declared.request.GivenUse.{GivenUse}
-use Rattle.desk_words.specs.declared.request.Mine.{Mine}
-use Rattle.desk_words.specs.declared.request.PollGoverned.{PollGoverned}
-use Rattle.desk_words.specs.declared.request.Received.{Received}
-use Rattle.desk_words.specs.declared.request.NoticedPoll.{NoticedPoll}
-use Rattle.desk_words.specs.declared.request.NoticedResolution.{NoticedResolution}
-use Rattle.desk_words.specs.declared.request.Notice.{Notice}
-use Rattle.desk_words.specs.declared.request.Reply.{Reply}
-use Rattle.desk_words.specs.declared.request.Reply.TheVariants as reply
+use Rattle.desk_words.specs.declared.reply.GivenUse.{GivenUse}
+use Rattle.desk_words.specs.declared.reply.Mine.{Mine}
+use Rattle.desk_words.specs.declared.own.PollGoverned.{PollGoverned}
+use Rattle.desk_words.specs.declared.own.Received.{Received}
+use Rattle.desk_words.specs.declared.reply.NoticedPoll.{NoticedPoll}
+use Rattle.desk_words.specs.declared.reply.NoticedResolution.{NoticedResolution}
+use Rattle.desk_words.specs.declared.reply.Notice.{Notice}
+use Rattle.desk_words.specs.declared.reply.Reply.{Reply}
+use Rattle.desk_words.specs.declared.reply.Reply.TheVariants as reply
 use Rattle.desk_replies.specs.Appointments.{instruction_data, run_data, given_data, poll_governed_data, received_data}
 use Rattle.desk_replies.specs.Forms.{or_null, moment_data}
 use Rattle.desk_replies.specs.Notices.{result_data, noticed_poll_data, noticed_resolution_data, notice_data}

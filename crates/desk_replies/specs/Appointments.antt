@@ -5,12 +5,12 @@ use Rattle.serde_json.specs.View.{items_of}
 use Rattle.desk_terms.specs.Kinds.{instruction_word}
 use Rattle.desk_terms.specs.Places.{Places}
 use Rattle.desk_terms.specs.declared.kinds.Instr.{Instr}
-use Rattle.desk_words.specs.declared.request.AppointmentReceipt.{AppointmentReceipt}
-use Rattle.desk_words.specs.declared.request.AppointmentUse.{AppointmentUse}
-use Rattle.desk_words.specs.declared.request.AppointmentUse.TheVariants.{Meeting, LaterPolls}
-use Rattle.desk_words.specs.declared.request.GivenUse.{GivenUse}
-use Rattle.desk_words.specs.declared.request.PollGoverned.{PollGoverned}
-use Rattle.desk_words.specs.declared.request.Received.{Received}
+use Rattle.desk_words.specs.declared.reply.AppointmentReceipt.{AppointmentReceipt}
+use Rattle.desk_words.specs.declared.reply.AppointmentUse.{AppointmentUse}
+use Rattle.desk_words.specs.declared.reply.AppointmentUse.TheVariants.{Meeting, LaterPolls}
+use Rattle.desk_words.specs.declared.reply.GivenUse.{GivenUse}
+use Rattle.desk_words.specs.declared.own.PollGoverned.{PollGoverned}
+use Rattle.desk_words.specs.declared.own.Received.{Received}
 use Rattle.desk_replies.specs.Forms.{whole, name_data, moment_data, or_null, listed, with_members}
 
 -- an instruction, as its word

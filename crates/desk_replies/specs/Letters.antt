@@ -2,10 +2,10 @@
 use Rattle.std.specs.Prelude.{◌≡◌, ◌++◌, ℕ, Bool, true, false, List, codes, decimal}
 use Rattle.desk_terms.specs.Refusals.{number_of, name_of}
 use Rattle.desk_terms.specs.declared.refusal.Refusal.{Refusal}
-use Rattle.desk_words.specs.declared.request.AppointmentUse.TheVariants.{Meeting, LaterPolls}
-use Rattle.desk_words.specs.declared.request.Declaration.{Declaration}
-use Rattle.desk_words.specs.declared.request.Reply.TheVariants.{Called, Loaded, Same, MeetingOpened, Ordered, Started, VotingClosed, Declared, Appointed, Ended, Noted, Recorded, Refused}
-use Rattle.desk_words.specs.declared.request.Failure.TheVariants.{Store, Memory}
+use Rattle.desk_words.specs.declared.reply.AppointmentUse.TheVariants.{Meeting, LaterPolls}
+use Rattle.desk_words.specs.declared.reply.Declaration.{Declaration}
+use Rattle.desk_words.specs.declared.reply.Reply.TheVariants.{Called, Loaded, Same, MeetingOpened, Ordered, Started, VotingClosed, Declared, Appointed, Ended, Noted, Recorded, Refused}
+use Rattle.desk_words.specs.declared.reply.Failure.TheVariants.{Store, Memory}
 use Rattle.desk_replies.specs.Replies.{reply_bytes, failure_bytes}
 
 -- the word for yes and for no

@@ -2,10 +2,10 @@
 use Rattle.std.specs.Prelude.{[], ◌∷◌, codes}
 use Rattle.serde_json.specs.Data.{Data, boolean, string}
 use Rattle.desk_terms.specs.Kinds.{company_word, meeting_kind_word, resolution_kind_word}
-use Rattle.desk_words.specs.declared.request.Declaration.{Declaration}
-use Rattle.desk_words.specs.declared.request.NoticedPoll.{NoticedPoll}
-use Rattle.desk_words.specs.declared.request.NoticedResolution.{NoticedResolution}
-use Rattle.desk_words.specs.declared.request.Notice.{Notice}
+use Rattle.desk_words.specs.declared.reply.Declaration.{Declaration}
+use Rattle.desk_words.specs.declared.reply.NoticedPoll.{NoticedPoll}
+use Rattle.desk_words.specs.declared.reply.NoticedResolution.{NoticedResolution}
+use Rattle.desk_words.specs.declared.reply.Notice.{Notice}
 use Rattle.desk_replies.specs.Forms.{whole, name_data, day_data, moment_data, or_null, listed, with_members}
 
 -- the result of a poll: its count, and whether the resolution is carried (sections 282 and 283)

@@ -2,9 +2,9 @@
 use Rattle.std.specs.Prelude.{ℕ, List, [], ◌∷◌, codes}
 use Rattle.serde_json.specs.Data.{Data, boolean, string}
 use Rattle.desk_terms.specs.Kinds.{company_word, meeting_kind_word}
-use Rattle.desk_words.specs.declared.request.Mine.{Mine}
-use Rattle.desk_words.specs.declared.request.Notice.{Notice}
-use Rattle.desk_words.specs.declared.request.NoticedPoll.{NoticedPoll}
+use Rattle.desk_words.specs.declared.reply.Mine.{Mine}
+use Rattle.desk_words.specs.declared.reply.Notice.{Notice}
+use Rattle.desk_words.specs.declared.reply.NoticedPoll.{NoticedPoll}
 use Rattle.desk_replies.specs.Appointments.{given_data, received_data}
 use Rattle.desk_replies.specs.Forms.{day_data, moment_data, or_null, listed}
 use Rattle.desk_replies.specs.Replies.{authorised_data, cast_data, demand_data, person_data}

@@ -11,13 +11,13 @@ use Rattle.desk_words.specs.declared.records.DemandMark.{DemandMark}
 use Rattle.desk_words.specs.declared.records.CastKind.{CastKind}
 use Rattle.desk_words.specs.declared.records.CastKind.TheVariants as cast
 use Rattle.desk_words.specs.declared.records.CastMark.{CastMark}
-use Rattle.desk_words.specs.declared.request.Declaration.{Declaration}
-use Rattle.desk_words.specs.declared.request.Authorised.{Authorised}
-use Rattle.desk_words.specs.declared.request.Mine.{Mine}
-use Rattle.desk_words.specs.declared.request.Reply.{Reply}
-use Rattle.desk_words.specs.declared.request.Reply.TheVariants as reply
-use Rattle.desk_words.specs.declared.request.Failure.{Failure}
-use Rattle.desk_words.specs.declared.request.Failure.TheVariants as failure
+use Rattle.desk_words.specs.declared.reply.Declaration.{Declaration}
+use Rattle.desk_words.specs.declared.own.Authorised.{Authorised}
+use Rattle.desk_words.specs.declared.reply.Mine.{Mine}
+use Rattle.desk_words.specs.declared.reply.Reply.{Reply}
+use Rattle.desk_words.specs.declared.reply.Reply.TheVariants as reply
+use Rattle.desk_words.specs.declared.reply.Failure.{Failure}
+use Rattle.desk_words.specs.declared.reply.Failure.TheVariants as failure
 use Rattle.desk_replies.specs.Appointments.{given_data, received_data, appointed_data, ended_data}
 use Rattle.desk_replies.specs.Forms.{whole, name_data, or_null, listed, with_members}
 use Rattle.desk_replies.specs.Notices.{notice_data}

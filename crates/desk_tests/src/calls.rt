@@ -1,10 +1,13 @@
 //! The calls between the words and the program, each by itself, with ample memory.
 use crate::book::{CALLING, answered, call, open_poll};
-use caller_view::{Answer, OwnView, PublicRecord, answer};
+use caller_view::{OwnView, PublicRecord, answer};
 use desk_replies::reply_text;
-use desk_words::{Change, DayList, MeetingId, read_meeting, read_moment, read_party};
+use desk_words::{
+    Answer, Call, Change, DayList, Entry, KeyRows, MeetingChange, MeetingId, PartyRequest, Refusal,
+    Reply, Request, read_meeting, read_moment, read_party,
+};
 use meeting_core::Book;
-use office_answers::office_answer;
+use office_answers::{desk_answer, office_answer};
 use office_days::Closed;
 use std::alloc::Global;
 use std::test::Fail;
@@ -27,16 +30,25 @@ fn adas_things(book: &Book) -> Result<OwnView, Fail> {
     Ok(book.own_of(ada, june()?, now)?)
 }
 
-/// What Ada is answered to her vote, from the public record and her own things.
-fn answered_to_ada(alloc: Global, book: &Book) -> Result<Answer, Fail> {
-    let vote = call(alloc, VOTE)?;
-    let public = public_record(book)?;
-    let own = adas_things(book)?;
-    Ok(answer(alloc, &public, &own, vote.moment, &vote.request)?)
+/// What a party asks.
+fn asked_by_party(call: &Call) -> Option<&PartyRequest> {
+    match &call.request {
+        Request::Party { asked, .. } => Some(asked),
+        _ => None,
+    }
 }
 
-fn adds_a_vote(answer: &Answer) -> bool {
-    matches!(&answer.change, Some(Change::AddCast(_)))
+/// What Ada is answered to her vote, from the public record and her own things.
+fn answered_to_ada(alloc: Global, book: &Book) -> Result<Answer<Entry>, Fail> {
+    let vote = call(alloc, VOTE)?;
+    let asked = asked_by_party(&vote).ok_or("a party's request")?;
+    let public = public_record(book)?;
+    let own = adas_things(book)?;
+    Ok(answer(alloc, &public, &own, vote.moment, asked)?)
+}
+
+fn adds_a_vote(answer: &Answer<Entry>) -> bool {
+    matches!(&answer.change, Some(Entry::Cast(_)))
 }
 
 #[test]
@@ -47,19 +59,39 @@ fn an_answer_to_a_member(rt: HostRuntime) -> Result<(), Fail> {
 }
 
 /// What the office is answered to the call of a meeting, where there is none.
-fn answered_to_the_office(alloc: Global) -> Result<Answer, Fail> {
+fn answered_to_the_desk(alloc: Global) -> Result<Answer<Change>, Fail> {
     let calling = call(alloc, CALLING)?;
+    let Request::Desk(asked) = &calling.request else {
+        return Err("a request of the whole desk".into());
+    };
     let closed = Closed::from_list(DayList::empty(alloc));
-    Ok(office_answer(alloc, &closed, &[], calling.moment, &calling.request)?)
+    Ok(desk_answer(&KeyRows::empty(alloc), &closed, &[], asked)?)
 }
 
-fn adds_a_meeting(answer: &Answer) -> bool {
+fn adds_a_meeting(answer: &Answer<Change>) -> bool {
     matches!(&answer.change, Some(Change::AddMeeting(_)))
 }
 
 #[test]
+fn an_answer_to_the_office_of_the_whole_desk(rt: HostRuntime) -> Result<(), Fail> {
+    assert!(rt; adds_a_meeting(&answered_to_the_desk(rt.alloc())?));
+    Ok(())
+}
+
+/// What the office is answered to the opening of a meeting that there is not.
+fn refused_to_the_office(alloc: Global) -> Result<Answer<MeetingChange>, Fail> {
+    let opening = call(alloc, "2026-06-18T10:00:00 OFFICE G1 open {}")?;
+    let Request::Office { asked, .. } = &opening.request else {
+        return Err("a request in a meeting".into());
+    };
+    let closed = Closed::from_list(DayList::empty(alloc));
+    Ok(office_answer(alloc, &closed, None, opening.moment, asked)?)
+}
+
+#[test]
 fn an_answer_to_the_office(rt: HostRuntime) -> Result<(), Fail> {
-    assert!(rt; adds_a_meeting(&answered_to_the_office(rt.alloc())?));
+    let answer = refused_to_the_office(rt.alloc())?;
+    assert!(rt; matches!(&answer.reply, Reply::Refused(Refusal::NoMeeting)));
     Ok(())
 }
 

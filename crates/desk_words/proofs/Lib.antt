@@ -1,3 +1,4 @@
 pub mod KeyLimits
+pub mod PairLemmas
 pub mod RegisterLimits
 pub mod RowLemmas

@@ -1,5 +1,5 @@
--- Rows that are the same.
-use Rattle.std.proofs.Common.{◌≡◌, ℕ, Bool, true, ◌&&◌, ◌==◌, List, [], ◌∷◌, length, refl, ap, sym, ◌∙◌, arith}
+-- Rows and keys that are the same.
+use Rattle.std.proofs.Common.{◌≡◌, ℕ, Bool, true, ◌&&◌, ◌==◌, List, length, refl, ap, sym, ◌∙◌}
 use Rattle.std.specs.Bool.{Decides}
 use Rattle.std.specs.Cmp.{first_so, second_so}
 use Rattle.std.specs.Cmp.Derive.{both_true}
@@ -10,7 +10,13 @@ use Rattle.std.proofs.lemmas.Slice.Eq.{slice_eq-Decides}
 use Rattle.desk_terms.specs.Names.{same_name}
 use Rattle.desk_terms.specs.declared.kinds.HolderKind.{HolderKind}
 use Rattle.desk_terms.specs.declared.kinds.HolderKind.TheVariants.{Individual, Corporation, Treasury}
+use Rattle.desk_words.specs.Callers.{is_caller}
+use Rattle.desk_words.specs.Keys.{same_key_row}
+use Rattle.desk_words.specs.declared.caller.Caller.{Caller}
+use Rattle.desk_words.specs.declared.caller.Caller.TheVariants.{Office, Party}
+use Rattle.desk_words.specs.declared.caller.KeyRow.{KeyRow}
 use Rattle.desk_words.specs.declared.records.RegisterRow.{RegisterRow}
+use Rattle.desk_words.proofs.PairLemmas.{each_pair-Decides, pairs-Decides}
 use Rattle.desk_words.specs.Rows.{same_holder, same_row, same_rows}
 
 name_decides : (a b : List ℕ) → Decides (same_name a b) (a ≡ b)
@@ -62,30 +68,36 @@ pub same_row-refl : (a : RegisterRow) → same_row a a ≡ true
 same_row-refl a =
     both_true (both_true (both_true (both_true (same_name-refl a.member) (same_holder-refl a.kind)) (same_name-refl a.name)) (eq-eqb a.shares a.shares refl)) (eq-eqb a.paid a.paid refl)
 
-abbrev each_same : List RegisterRow → List RegisterRow → Bool
-each_same a b = list_all (λ pair. same_row pair.0 pair.1) (zip a b)
-
-rows_equal : (a b : List RegisterRow) → length a ≡ length b → each_same a b ≡ true → a ≡ b
-rows_equal [] [] e h = refl
-rows_equal [] (y ∷ ys) e h = absurd (omega arith)
-rows_equal (x ∷ xs) [] e h = absurd (omega arith)
-rows_equal (x ∷ xs) (y ∷ ys) e h =
-    let first = same_row-true x y (first_so (same_row x y) (each_same xs ys) h) in
-    let rest = rows_equal xs ys (omega arith) (second_so (same_row x y) (each_same xs ys) h) in
-    λ i. first i ∷ rest i
-
-each_same-refl : (a : List RegisterRow) → each_same a a ≡ true
-each_same-refl [] = refl
-each_same-refl (x ∷ xs) = both_true (same_row-refl x) (each_same-refl xs)
+row_decides : (a b : RegisterRow) → Decides (same_row a b) (a ≡ b)
+row_decides a b = (same_row-true a b, λ e. ap (same_row a) (sym e) ∙ same_row-refl a)
 
 -- lists are the same rows exactly where they are equal
 pub same_rows-Decides : (a b : List RegisterRow) → Decides (same_rows a b) (a ≡ b)
-same_rows-Decides a b = (
-  λ h. rows_equal a b (eqb-true (length a) (length b) (first_so (length a == length b) (each_same a b) h)) (second_so (length a == length b) (each_same a b) h),
-  λ e. ap (same_rows a) (sym e) ∙ both_true (eq-eqb (length a) (length a) refl) (each_same-refl a),
-)
+same_rows-Decides a b = pairs-Decides same_row row_decides a b
 
 -- of lists that are as long, what each pair answers decides it
-pub each_same-Decides : (a b : List RegisterRow) (answer : Bool) → length a ≡ length b → answer ≡ list_all (λ pair. same_row pair.0 pair.1) (zip a b) → Decides answer (a ≡ b)
-each_same-Decides a b answer e h =
-    (λ t. rows_equal a b e (sym h ∙ t), λ same. h ∙ ap (each_same a) (sym same) ∙ each_same-refl a)
+pub each_same-Decides : (a b : List RegisterRow) (answer : Bool) → length a ≡ length b
+    → answer ≡ list_all (λ pair. same_row pair.0 pair.1) (zip a b) → Decides answer (a ≡ b)
+each_same-Decides a b answer e h = each_pair-Decides same_row row_decides a b answer e h
+
+caller_decides : (a b : Caller) → Decides (is_caller a b) (a ≡ b)
+caller_decides Office Office = (λ h. refl, λ e. refl)
+caller_decides (Party p) (Party q) =
+    (λ h. ap (λ x. Party x) (same_name-true p q h), λ e. (let names : p ≡ q = cc in ap (same_name p) (sym names) ∙ same_name-refl p))
+caller_decides Office (Party q) = (λ h. absurd (cc), λ e. absurd (cc))
+caller_decides (Party p) Office = (λ h. absurd (cc), λ e. absurd (cc))
+
+key_row_from_fields : (a b : KeyRow) → a.caller ≡ b.caller → a.secret ≡ b.secret → a ≡ b
+key_row_from_fields a b c s = λ i. record { caller = c i; secret = s i }
+
+key_row_decides : (a b : KeyRow) → Decides (same_key_row a b) (a ≡ b)
+key_row_decides a b = (
+  λ h. key_row_from_fields a b ((caller_decides a.caller b.caller).0 (first_so (is_caller a.caller b.caller) (same_name a.secret b.secret) h))
+      (same_name-true a.secret b.secret (second_so (is_caller a.caller b.caller) (same_name a.secret b.secret) h)),
+  λ e. ap (same_key_row a) (sym e) ∙ both_true ((caller_decides a.caller a.caller).1 refl) (same_name-refl a.secret),
+)
+
+-- of lists of keys that are as long, what each pair answers decides whether they are equal
+pub each_same_key-Decides : (a b : List KeyRow) (answer : Bool) → length a ≡ length b
+    → answer ≡ list_all (λ pair. same_key_row pair.0 pair.1) (zip a b) → Decides answer (a ≡ b)
+each_same_key-Decides a b answer e h = each_pair-Decides same_key_row key_row_decides a b answer e h

@@ -1,9 +1,15 @@
 pub mod Callers
+pub mod Finding
+pub mod Keys
 pub mod Laws
 pub mod Lists
+pub mod Majority
 pub mod Office
+pub mod Polls
 pub mod Registers
 pub mod Rows
+pub mod Rulings
+pub mod Seen
 pub use Rattle.desk_lists.specs.Lists as Edits
 pub use Rattle.desk_lists.specs.Ordered
 pub use Rattle.desk_terms.specs.Kinds

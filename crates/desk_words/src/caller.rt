@@ -1,6 +1,7 @@
 //! Callers, and the keys by which they are known.
 ghost use Rattle.std.specs.Prelude.{◌≡◌};
-ghost use Rattle.desk_words.specs.Callers.{caller_of, party_in};
+ghost use Rattle.desk_words.specs.Callers.{caller_of, is_caller, party_in};
+ghost use Rattle.desk_words.specs.Keys.{same_key_row};
 
 use desk_lists::Keyed;
 use desk_terms::{Party, SecretKey, read_party};
@@ -22,6 +23,19 @@ impl Caller {
             Caller::Party(party) => Some(party),
         }
     }
+
+    /// Whether both are the same caller.
+    pub fn is(self, other: Caller) -> bool
+        ensures { result ≡ is_caller self other }
+    {
+        match self {
+            Caller::Office => other.party().is_none(),
+            Caller::Party(party) => match other {
+                Caller::Office => false,
+                Caller::Party(named) => party.is(named),
+            },
+        }
+    }
 }
 
 /// The caller that the bytes name: `OFFICE`, or a party; none exactly where they name neither.
@@ -39,6 +53,15 @@ pub fn read_caller(bytes: &[u8]) -> Option<Caller>
 pub struct KeyRow {
     pub caller: Caller,
     pub secret: SecretKey,
+}
+
+impl KeyRow {
+    /// Whether both are the same row.
+    pub fn is(&self, other: &KeyRow) -> bool
+        ensures { result ≡ same_key_row self.now other.now }
+    {
+        self.caller.is(other.caller) && self.secret.is(other.secret)
+    }
 }
 
 impl Keyed for KeyRow {

@@ -1,15 +1,23 @@
 //! The words of the desk: its records, the lists of an office, requests, replies and changes.
 #![tactic(auto)]
 
+mod answer;
 mod caller;
+mod change;
+mod finding;
 pub mod laws;
 mod lists;
+mod majority;
 mod office;
+mod own;
 mod records;
 mod register;
+mod reply;
 mod request;
 
+pub use answer::{Answer, noted, refuse, tell};
 pub use caller::{Caller, KeyRow, read_caller};
+pub use change::{Change, Entry, MeetingChange, PollChange};
 pub use desk_calendar::{Day, Moment, read_day, read_moment, write_day, write_moment};
 pub use desk_devices::{FailAt, Sink, Source};
 pub use desk_filed::Filed;
@@ -18,17 +26,21 @@ pub use desk_terms::{
     Capacity, Company, HolderKind, Instr, MeetingId, MeetingKind, Party, Range, Refusal, ResKind,
     SecretKey, Text, TextFault, Way, read_key, read_meeting, read_party,
 };
-pub use lists::{DayList, KeyRows, ListFault, Resolutions};
+pub use finding::{find_meeting, find_poll};
+pub use lists::{DayList, KeyRows, ListFault, Resolutions, same_keys};
+pub use majority::{carried, result_of};
 pub use office::{MeetingLists, OfficeLists};
+pub use own::{Authorised, Given, PollGoverned, Received};
 pub use records::{
     Appointment, Authority, Block, CastKind, CastMark, DemandMark, Ending, Meeting, Poll,
     PresenceMark, RegisterRow, Resolution, Tally,
 };
 pub use register::{MOST_SHARES, Register, same_rows};
+pub use reply::{
+    AppointmentReceipt, AppointmentUse, Declaration, Failure, GivenUse, Mine, Notice, NoticedPoll,
+    NoticedResolution, Reply,
+};
 pub use request::{
-    AddAppointment, AddAuthority, AddCast, AddDemand, AddEnding, AddPoll, AddPresence,
-    AppointmentReceipt, AppointmentUse, Authorised, Call, Change, Declaration, Failure, Given,
-    GivenUse, Mine, NewAppointment, NewAuthority, NewCast, NewEnding, NewMeeting, NewPoll,
-    NewPresence, NewRegister, Notice, NoticedPoll, NoticedResolution, PollGoverned, PollName,
-    Received, Reply, Request, SetOpened, SetPollMoment, SetRegister, SetTally,
+    Call, DeskRequest, NewAppointment, NewCast, NewMeeting, NewPoll, NewRegister, OfficeRequest,
+    PartyRequest, Request,
 };

@@ -1,6 +1,8 @@
 //! The lists of resolutions, keys and closed days.
 ghost use Rattle.std.specs.Prelude.{◌≡◌, ◌<◌, ◌↔◌, ℕ, IfOk, Err, Some, None, IsTrue, false, [], Contains, IsPermutation};
 ghost use Rattle.desk_lists.specs.Ordered.{differ_by};
+ghost use Rattle.std.specs.List.{list_all, zip};
+ghost use Rattle.desk_words.specs.Keys.{same_key_row, same_keys};
 ghost use Rattle.desk_words.specs.Lists.{same_secret};
 ghost use Rattle.desk_words.specs.declared.lists.ListFault.TheVariants.{Limit, Memory};
 
@@ -196,6 +198,15 @@ impl KeyRows {
         }
     }
 
+    /// The same keys again. The error is want of memory.
+    pub fn copy(&self) -> Result<KeyRows, AllocError>
+        ensures value { IfOk result (λ r. r ≡ self.now) }
+        ensures kept { IsTrue (is_key_list self.now) }
+    {
+        let rows = self.rows.clone()?;
+        Ok(KeyRows { rows })
+    }
+
     /// The keys, in the order of callers.
     pub fn as_slice(&self) -> &[KeyRow]
         ensures value { result.now ≡ self.now }
@@ -203,4 +214,19 @@ impl KeyRows {
     {
         self.rows.as_slice()
     }
+}
+
+fn each_same_key(rows: &[KeyRow], others: &[KeyRow]) -> bool
+    ensures { result ≡ list_all (λ pair. same_key_row pair.0 pair.1) (zip rows.now others.now) }
+{
+    rows.iter().zip(others).all(|(row, other)| row.is(other))
+}
+
+/// Whether both are the same rows. For the rows of lists of keys, which stand in the order of
+/// callers, that is whether they are the same set of rows.
+pub fn same_keys(rows: &[KeyRow], others: &[KeyRow]) -> bool
+    ensures test { result ≡ same_keys rows.now others.now }
+    ensures same { IsTrue result ↔ (rows.now ≡ others.now) }
+{
+    rows.len() == others.len() && each_same_key(rows, others)
 }

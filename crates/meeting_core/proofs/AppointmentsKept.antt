@@ -14,13 +14,14 @@ use Rattle.desk_lists.specs.Ordered.{differ_by}
 use Rattle.desk_words.proofs.RowLemmas.{same_name-true}
 use Rattle.desk_words.specs.Names.{same_name}
 use Rattle.desk_words.specs.Office.{are_numbered_after, is_appointment, is_ending_of, is_meeting, same_ending}
+use Rattle.desk_words.specs.declared.change.Entry.TheVariants as entry
 use Rattle.desk_words.specs.declared.office.MeetingLists.{MeetingLists}
 use Rattle.desk_words.specs.declared.records.Appointment.{Appointment}
 use Rattle.desk_words.specs.declared.records.Ending.{Ending}
 use Rattle.caller_view.specs.Appointments.{given_numbered, is_ended}
 use Rattle.caller_view.specs.Views.{ended_at, given_in, is_ending}
 use Rattle.office_answers.proofs.OfficeFacts.{meeting_facts, meeting_from_facts}
-use Rattle.meeting_core.specs.Office.{with_appointment, with_ending}
+use Rattle.meeting_core.specs.Office.{entered}
 
 -- ---- an appointment more
 
@@ -50,7 +51,7 @@ any_front p xs ys h = list_any-append p xs ys ∙ ap (λ b. b || list_any p ys) 
 -- a member may be given its next appointment
 pub appointment_kept : (a : Appointment) (m : MeetingLists) → is_meeting m ≡ true → a.number ≡ suc (count_by (is_of a.member) m.appointments)
     → nat_le 256 (count_by (is_of a.member) m.appointments) ≡ false → (length a.instructions == length m.meeting.resolutions) ≡ true
-    → is_meeting (with_appointment a m) ≡ true
+    → is_meeting (entered (entry.Appointment a) m) ≡ true
 appointment_kept a m h number few instructions =
     let f = meeting_facts m h in
     let n = length m.meeting.resolutions in
@@ -61,7 +62,7 @@ appointment_kept a m h number few instructions =
     let ends = λ (e : Ending). list_any (is_ending_of e) given in
     let ends_more = λ (e : Ending). list_any (is_ending_of e) (given ++ a ∷ []) in
     let apart = differ_by same_ending m.endings in
-    meeting_from_facts (with_appointment a m) (record {
+    meeting_from_facts (entered (entry.Appointment a) m) (record {
       resolutions = f.resolutions;
       loaded = f.loaded;
       appointments = both_true
@@ -85,12 +86,12 @@ given_count endings party given = length-map (filter (is_of party) given) (given
 
 -- an appointment that is not ended may be ended
 pub ending_kept : (e : Ending) (m : MeetingLists) → is_meeting m ≡ true → list_any (is_ending_of e) m.appointments ≡ true
-    → list_any (λ d. same_ending d e) m.endings ≡ false → is_meeting (with_ending e m) ≡ true
+    → list_any (λ d. same_ending d e) m.endings ≡ false → is_meeting (entered (entry.Ending e) m) ≡ true
 ending_kept e m h given fresh =
     let f = meeting_facts m h in
     let ends = λ (d : Ending). list_any (is_ending_of d) m.appointments in
     let apart = differ_by same_ending m.endings in
-    meeting_from_facts (with_ending e m) (record {
+    meeting_from_facts (entered (entry.Ending e) m) (record {
       resolutions = f.resolutions;
       loaded = f.loaded;
       appointments = f.appointments;

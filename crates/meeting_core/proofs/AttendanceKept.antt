@@ -12,12 +12,13 @@ use Rattle.desk_lists.specs.Ordered.{differ_by}
 use Rattle.desk_words.proofs.RowLemmas.{same_name-true}
 use Rattle.desk_words.specs.Names.{same_name}
 use Rattle.desk_words.specs.Office.{is_meeting, is_resolution, same_authority, same_demand, same_presence}
+use Rattle.desk_words.specs.declared.change.Entry.TheVariants as entry
 use Rattle.desk_words.specs.declared.office.MeetingLists.{MeetingLists}
 use Rattle.desk_words.specs.declared.records.Authority.{Authority}
 use Rattle.desk_words.specs.declared.records.DemandMark.{DemandMark}
 use Rattle.desk_words.specs.declared.records.PresenceMark.{PresenceMark}
 use Rattle.office_answers.proofs.OfficeFacts.{meeting_facts, meeting_from_facts}
-use Rattle.meeting_core.specs.Office.{with_authority, with_demand, with_presence}
+use Rattle.meeting_core.specs.Office.{entered}
 
 -- a value of a part of the list passes where one of the list passes both tests
 any_filter : {X : Type 0} (p q : X → Bool) (xs : List X) → list_any p (filter q xs) ≡ list_any (λ x. q x && p x) xs
@@ -56,7 +57,7 @@ authority_fits a d given room fits =
 
 -- an authority may be added that is not given yet, where its corporation gave fewer than 64
 pub authority_kept : (a : Authority) (m : MeetingLists) → is_meeting m ≡ true → nat_le 64 (given_like a m.authorities) ≡ false
-    → list_any (λ b. same_authority b a) m.authorities ≡ false → is_meeting (with_authority a m) ≡ true
+    → list_any (λ b. same_authority b a) m.authorities ≡ false → is_meeting (entered (entry.Authority a) m) ≡ true
 authority_kept a m h room fresh =
     let f = meeting_facts m h in
     let given = m.authorities in
@@ -64,7 +65,7 @@ authority_kept a m h room fresh =
     let more = λ (d : Authority). nat_le (given_like d (given ++ a ∷ [])) 64 in
     let apart = differ_by same_authority given in
     let own : nat_le (given_like a given) 64 ≡ true = grind (arith, nat_tests) in
-    meeting_from_facts (with_authority a m) (record {
+    meeting_from_facts (entered (entry.Authority a) m) (record {
       resolutions = f.resolutions;
       loaded = f.loaded;
       appointments = f.appointments;
@@ -102,10 +103,10 @@ not_given party person given h =
 -- ---- a presence more
 
 -- a party may be marked that is not marked yet
-pub presence_kept : (p : PresenceMark) (m : MeetingLists) → is_meeting m ≡ true → list_any (λ q. same_presence q p) m.presences ≡ false → is_meeting (with_presence p m) ≡ true
+pub presence_kept : (p : PresenceMark) (m : MeetingLists) → is_meeting m ≡ true → list_any (λ q. same_presence q p) m.presences ≡ false → is_meeting (entered (entry.Presence p) m) ≡ true
 presence_kept p m h fresh =
     let f = meeting_facts m h in
-    meeting_from_facts (with_presence p m) (record {
+    meeting_from_facts (entered (entry.Presence p) m) (record {
       resolutions = f.resolutions;
       loaded = f.loaded;
       appointments = f.appointments;
@@ -121,12 +122,12 @@ presence_kept p m h fresh =
 
 -- a demand of a resolution of the meeting may be added that does not stand yet
 pub demand_kept : (d : DemandMark) (m : MeetingLists) → is_meeting m ≡ true → is_resolution (length m.meeting.resolutions) d.resolution ≡ true
-    → list_any (λ e. same_demand e d) m.demands ≡ false → is_meeting (with_demand d m) ≡ true
+    → list_any (λ e. same_demand e d) m.demands ≡ false → is_meeting (entered (entry.Demand d) m) ≡ true
 demand_kept d m h number fresh =
     let f = meeting_facts m h in
     let on = λ (e : DemandMark). is_resolution (length m.meeting.resolutions) e.resolution in
     let apart = differ_by same_demand m.demands in
-    meeting_from_facts (with_demand d m) (record {
+    meeting_from_facts (entered (entry.Demand d) m) (record {
       resolutions = f.resolutions;
       loaded = f.loaded;
       appointments = f.appointments;

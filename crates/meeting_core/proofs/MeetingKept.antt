@@ -15,14 +15,18 @@ use Rattle.desk_words.specs.Names.{same_name}
 use Rattle.desk_words.specs.Ordered.{ascends_by}
 use Rattle.desk_words.specs.Registers.{is_register}
 use Rattle.desk_words.specs.Office.{implies, no_rows, is_resolution, is_declared_right, is_poll, is_tally, poll_before, are_polls, is_cast_on, same_ballot, are_casts, is_meeting}
+use Rattle.desk_words.specs.declared.change.Entry.TheVariants as entry
 use Rattle.desk_words.specs.declared.office.MeetingLists.{MeetingLists}
 use Rattle.desk_words.specs.declared.records.RegisterRow.{RegisterRow}
 use Rattle.desk_words.specs.declared.records.CastMark.{CastMark}
 use Rattle.desk_words.specs.declared.records.Poll.{Poll}
 use Rattle.desk_words.specs.declared.records.Tally.{Tally}
-use Rattle.caller_view.specs.Polls.{poll_on, casts_on}
+use Rattle.desk_words.specs.Finding.{poll_on}
+use Rattle.caller_view.specs.Casts.{casts_on}
 use Rattle.office_answers.proofs.OfficeFacts.{meeting_facts, meeting_from_facts, find-passes}
-use Rattle.meeting_core.specs.Office.{with_register, opened_at, with_poll, change_poll, started_at, closed_at, declared_as, with_cast}
+use Rattle.desk_words.specs.declared.change.MeetingChange.TheVariants.{SetRegister, SetOpened, AddPoll, SetPoll}
+use Rattle.desk_words.specs.declared.change.PollChange.TheVariants.{Started, Closed, Declared}
+use Rattle.meeting_core.specs.Office.{changed, change_poll, entered, moved}
 
 pub implies_true : (b : Bool) → implies b true ≡ true
 implies_true true = refl
@@ -31,10 +35,10 @@ implies_true false = refl
 -- ---- a register, and the opening
 
 -- a meeting may be given a register
-pub register_kept : (rows : List RegisterRow) (m : MeetingLists) → is_register rows ≡ true → is_meeting m ≡ true → is_meeting (with_register rows m) ≡ true
+pub register_kept : (rows : List RegisterRow) (m : MeetingLists) → is_register rows ≡ true → is_meeting m ≡ true → is_meeting (changed (SetRegister rows) m) ≡ true
 register_kept rows m good h =
     let f = meeting_facts m h in
-    meeting_from_facts (with_register rows m) (record {
+    meeting_from_facts (changed (SetRegister rows) m) (record {
       resolutions = f.resolutions;
       loaded = both_true good (implies_true (is_some m.meeting.opened));
       appointments = f.appointments;
@@ -66,12 +70,12 @@ polls_opened opened n test (q ∷ qs) p h found =
     first_so opened (list_all (is_poll n) (q ∷ qs)) (first_so (opened && list_all (is_poll n) (q ∷ qs)) (ascends_by poll_before (q ∷ qs)) h)
 
 -- a loaded meeting may be opened
-pub opening_kept : (moment : ℕ) (m : MeetingLists) → is_meeting m ≡ true → m.meeting.loaded ≡ true → is_meeting (opened_at moment m) ≡ true
+pub opening_kept : (moment : ℕ) (m : MeetingLists) → is_meeting m ≡ true → m.meeting.loaded ≡ true → is_meeting (changed (SetOpened moment) m) ≡ true
 opening_kept moment m h loaded =
     let f = meeting_facts m h in
     let n = length m.meeting.resolutions in
     let opened = is_some m.meeting.opened in
-    meeting_from_facts (opened_at moment m) (record {
+    meeting_from_facts (changed (SetOpened moment) m) (record {
       resolutions = f.resolutions;
       loaded = both_true (first_so (cond m.meeting.loaded (is_register m.register) (no_rows m.register)) (implies opened m.meeting.loaded) f.loaded) loaded;
       appointments = f.appointments;
@@ -126,15 +130,15 @@ apart (q ∷ qs) poll =
 
 -- an opened meeting may be given a poll on another resolution
 pub poll_kept : (poll : Poll) (m : MeetingLists) → is_meeting m ≡ true → is_some m.meeting.opened ≡ true → is_poll (length m.meeting.resolutions) poll ≡ true
-    → poll_on m.polls poll.resolution ≡ None → is_meeting (with_poll poll m) ≡ true
+    → poll_on m.polls poll.resolution ≡ None → is_meeting (changed (AddPoll poll) m) ≡ true
 poll_kept poll m h opened good none =
     let f = meeting_facts m h in
     let n = length m.meeting.resolutions in
     let o = is_some m.meeting.opened in
     let all = all-insert (is_poll n) poll_before poll m.polls good (polls_all o n m.polls f.polls) in
     let up = ascends-insert poll_before poll m.polls (apart m.polls poll none) (polls_ascend o n m.polls f.polls) in
-    polls_kept (with_poll poll m).polls m h (polls_from o n (with_poll poll m).polls opened all up)
-    (casts_stay m.polls (with_poll poll m).polls m.casts (λ c. any-insert (is_cast_on c) poll_before poll m.polls) f.casts)
+    polls_kept (changed (AddPoll poll) m).polls m h (polls_from o n (changed (AddPoll poll) m).polls opened all up)
+    (casts_stay m.polls (changed (AddPoll poll) m).polls m.casts (λ c. any-insert (is_cast_on c) poll_before poll m.polls) f.casts)
 
 started_stays : (f : Poll → Poll) → ((q : Poll) → (f q).resolution ≡ q.resolution) → ((q : Poll) → is_some q.started ≡ true → is_some (f q).started ≡ true)
     → (c : CastMark) (q : Poll) → is_cast_on c q ≡ true → is_cast_on c (f q) ≡ true
@@ -179,24 +183,24 @@ poll_facts n p h =
     record { number = first_so a b two; closed = second_so a b two; declared = second_so (a && b) c three; tally = second_so (a && b && c) d h }
 
 -- a poll may be started
-pub start_kept : (moment r : ℕ) (m : MeetingLists) (p : Poll) → is_meeting m ≡ true → poll_on m.polls r ≡ Some p → is_meeting (change_poll (started_at moment) r m) ≡ true
+pub start_kept : (moment r : ℕ) (m : MeetingLists) (p : Poll) → is_meeting m ≡ true → poll_on m.polls r ≡ Some p → is_meeting (changed (SetPoll r (Started moment)) m) ≡ true
 start_kept moment r m p h found =
     let f = poll_facts (length m.meeting.resolutions) p (poll_found m r p h found) in
-    changed_kept (started_at moment) r m p (λ q. refl) (λ q k. refl) h found (both_true (both_true (both_true f.number (implies_true (is_some p.closed))) f.declared) f.tally)
+    changed_kept (moved (Started moment)) r m p (λ q. refl) (λ q k. refl) h found (both_true (both_true (both_true f.number (implies_true (is_some p.closed))) f.declared) f.tally)
 
 -- a started poll may be closed
 pub close_kept : (moment r : ℕ) (m : MeetingLists) (p : Poll) → is_meeting m ≡ true → poll_on m.polls r ≡ Some p → is_some p.started ≡ true
-    → is_meeting (change_poll (closed_at moment) r m) ≡ true
+    → is_meeting (changed (SetPoll r (Closed moment)) m) ≡ true
 close_kept moment r m p h found started =
     let f = poll_facts (length m.meeting.resolutions) p (poll_found m r p h found) in
-    changed_kept (closed_at moment) r m p (λ q. refl) (λ q k. k) h found (both_true (both_true (both_true f.number started) (implies_true (is_some p.declared))) f.tally)
+    changed_kept (moved (Closed moment)) r m p (λ q. refl) (λ q k. k) h found (both_true (both_true (both_true f.number started) (implies_true (is_some p.declared))) f.tally)
 
 -- of a closed poll a count may be declared
 pub declare_kept : (tally : Tally) (r : ℕ) (m : MeetingLists) (p : Poll) → is_meeting m ≡ true → poll_on m.polls r ≡ Some p → is_some p.closed ≡ true
-    → is_tally tally ≡ true → is_meeting (change_poll (declared_as tally) r m) ≡ true
+    → is_tally tally ≡ true → is_meeting (changed (SetPoll r (Declared tally)) m) ≡ true
 declare_kept tally r m p h found closed good =
     let f = poll_facts (length m.meeting.resolutions) p (poll_found m r p h found) in
-    changed_kept (declared_as tally) r m p (λ q. refl) (λ q k. k) h found (both_true (both_true (both_true f.number f.closed) closed) good)
+    changed_kept (moved (Declared tally)) r m p (λ q. refl) (λ q k. k) h found (both_true (both_true (both_true f.number f.closed) closed) good)
 
 -- ---- votes
 
@@ -240,7 +244,7 @@ ballot_fits c d casts room fits =
 
 -- a vote may be added on a started poll, where its voter has cast fewer than 1,024 on the resolution
 pub vote_kept : (c : CastMark) (m : MeetingLists) (p : Poll) → is_meeting m ≡ true → poll_on m.polls c.resolution ≡ Some p → is_some p.started ≡ true
-    → nat_le 1024 (casts_on (filter (λ (d : CastMark). same_name d.voter c.voter) m.casts) c.resolution) ≡ false → is_meeting (with_cast c m) ≡ true
+    → nat_le 1024 (casts_on (filter (λ (d : CastMark). same_name d.voter c.voter) m.casts) c.resolution) ≡ false → is_meeting (entered (entry.Cast c) m) ≡ true
 vote_kept c m p h found started few =
     let f = meeting_facts m h in
     let casts = m.casts in
@@ -254,7 +258,7 @@ vote_kept c m p h found started few =
     let here : on c ≡ true = any_found test (is_cast_on c) m.polls p found (both_true (found_passes test m.polls p found) started) in
     let own : nat_le (votes_like c casts) 1024 ≡ true = grind (arith, nat_tests) in
     let more = λ (d : CastMark). nat_le (votes_like d (casts ++ c ∷ [])) 1024 in
-    meeting_from_facts (with_cast c m) (record {
+    meeting_from_facts (entered (entry.Cast c) m) (record {
       resolutions = f.resolutions;
       loaded = f.loaded;
       appointments = f.appointments;

@@ -1,11 +1,13 @@
 -- What is wrong with a wrong answer is caught.
-use Rattle.std.proofs.Common.{◌≡◌, ℕ, [], ◌∷◌, refl, ap, subst, sym, arith}
+use Rattle.std.proofs.Common.{◌≡◌, ℕ, List, [], ◌∷◌, refl, ap, subst, sym, arith}
 use Rattle.std.specs.Prelude.{Option, Some, None, All, Contains}
 use Rattle.desk_words.specs.declared.office.MeetingLists.{MeetingLists}
-use Rattle.desk_words.specs.declared.request.Reply.{Reply}
-use Rattle.desk_words.specs.declared.request.Reply.TheVariants as reply
+use Rattle.desk_words.specs.declared.reply.Reply.{Reply}
+use Rattle.desk_words.specs.declared.reply.Reply.TheVariants as reply
+use Rattle.desk_words.specs.declared.change.Change.{Change}
+use Rattle.desk_words.specs.declared.request.PartyRequest.TheVariants.{Cast}
 use Rattle.desk_words.specs.declared.request.Request.TheVariants as asked
-use Rattle.caller_view.specs.declared.views.Answer.{Answer}
+use Rattle.desk_words.specs.declared.answer.Answer.{Answer}
 use Rattle.caller_view.specs.Views.{meeting_at, own_of}
 use Rattle.meeting_core.specs.Laws.{ReadsTheViews, TellsApart}
 use Rattle.meeting_core.specs.Names.{Names, NamesOwn, in_reply, in_view}
@@ -14,15 +16,16 @@ use Rattle.meeting_core.specs.WrongAnswers.{a_member, office_with, running_total
 use Rattle.meeting_core.proofs.StepLaws.{names_own}
 
 -- the count names nobody
-told_names : (found : Option MeetingLists) (resolution : ℕ) (r : Reply) → in_reply (told_the_count found resolution r) ≡ in_reply r
-told_names (Some m) resolution reply.Recorded = refl
-told_names None resolution reply.Recorded = refl
-told_names found resolution r = refl
+told_names : (found : Option MeetingLists) (closed : List ℕ) (now resolution : ℕ) (r : Reply) → in_reply (told_the_count found closed now resolution r) ≡ in_reply r
+told_names (Some m) closed now resolution reply.Recorded = refl
+told_names None closed now resolution reply.Recorded = refl
+told_names found closed now resolution r = refl
 
 pub running_names : NamesOwn running_total
-running_names o party now (asked.Cast new) =
-    subst (λ (names : Names). All (Contains (in_view (own_of o party new.meeting now))) names)
-    (sym (told_names (meeting_at o new.meeting) new.resolution (party_answer o party now (asked.Cast new)).reply)) (names_own o party now (asked.Cast new))
+running_names o party now (asked.Party meeting (Cast new)) =
+    let request = asked.Party meeting (Cast new) in
+    subst (λ (names : Names). All (Contains (in_view (own_of o party meeting now))) names)
+    (sym (told_names (meeting_at o meeting) o.closed now new.resolution (party_answer o party now request).reply)) (names_own o party now request)
 running_names o party now request = names_own o party now request
 
 -- how many votes for the resolution a reply tells
@@ -35,7 +38,7 @@ told_apart = record {
   first = refl;
   second = refl;
   agree = record { public = refl; own = refl };
-  apart = λ h. (let votes : 0 ≡ 1 = ap (λ (a : Answer). votes_told a.reply) h in absurd (omega arith));
+  apart = λ h. (let votes : 0 ≡ 1 = ap (λ (a : Answer Change). votes_told a.reply) h in absurd (omega arith));
 }
 
 pub caught : ReadsTheViews running_total → ⊥

@@ -1,5 +1,5 @@
 -- The parties that are named in a reply, and in a party's own things.
-use Rattle.std.specs.Prelude.{◌≡◌, ℕ, List, [], ◌∷◌, ◌++◌, map, Option, Some, None, All, Contains}
+use Rattle.std.specs.Prelude.{◌≡◌, List, [], ◌∷◌, ◌++◌, map, Option, Some, None, All, Contains}
 use Rattle.std.specs.List.{flat_map}
 use Rattle.desk_words.specs.declared.office.OfficeLists.{OfficeLists}
 use Rattle.desk_words.specs.declared.records.Appointment.{Appointment}
@@ -9,22 +9,24 @@ use Rattle.desk_words.specs.declared.records.CastKind.TheVariants.{Block, AsInst
 use Rattle.desk_words.specs.declared.records.CastMark.{CastMark}
 use Rattle.desk_words.specs.declared.records.DemandMark.{DemandMark}
 use Rattle.desk_words.specs.declared.records.RegisterRow.{RegisterRow}
-use Rattle.desk_words.specs.declared.request.Authorised.{Authorised}
-use Rattle.desk_words.specs.declared.request.Declaration.{Declaration}
-use Rattle.desk_words.specs.declared.request.Given.{Given}
-use Rattle.desk_words.specs.declared.request.GivenUse.{GivenUse}
-use Rattle.desk_words.specs.declared.request.Mine.{Mine}
-use Rattle.desk_words.specs.declared.request.Received.{Received}
-use Rattle.desk_words.specs.declared.request.Reply.{Reply}
-use Rattle.desk_words.specs.declared.request.Reply.TheVariants as reply
+use Rattle.desk_words.specs.declared.own.Authorised.{Authorised}
+use Rattle.desk_words.specs.declared.reply.Declaration.{Declaration}
+use Rattle.desk_words.specs.declared.own.Given.{Given}
+use Rattle.desk_words.specs.declared.reply.GivenUse.{GivenUse}
+use Rattle.desk_words.specs.declared.reply.Mine.{Mine}
+use Rattle.desk_words.specs.declared.own.Received.{Received}
+use Rattle.desk_words.specs.declared.reply.Reply.{Reply}
+use Rattle.desk_words.specs.declared.reply.Reply.TheVariants as reply
 use Rattle.desk_words.specs.declared.request.Request.{Request}
+use Rattle.desk_words.specs.declared.request.Request.TheVariants as asked
+use Rattle.desk_words.specs.Seen.{Moment, Party}
 use Rattle.caller_view.specs.declared.views.OwnView.{OwnView}
-use Rattle.caller_view.specs.Views.{own_of}
-use Rattle.meeting_core.specs.Step.{Answering, named_meeting}
+use Rattle.caller_view.specs.Views.{nothing_of, own_of}
+use Rattle.meeting_core.specs.Step.{Answering}
 
 -- names of parties
 abbrev pub Names : Type 0
-Names = List (List ℕ)
+Names = List Party
 
 -- the party named in a row of the register
 abbrev pub in_row : Option RegisterRow → Names
@@ -57,21 +59,8 @@ in_mine m =
 
 -- the parties named in a reply
 abbrev pub in_reply : Reply → Names
-in_reply reply.Called = []
-in_reply reply.Loaded = []
-in_reply reply.Same = []
-in_reply reply.MeetingOpened = []
-in_reply reply.Ordered = []
-in_reply reply.Started = []
-in_reply reply.VotingClosed = []
-in_reply (reply.Declared declared) = []
-in_reply (reply.Notice n) = []
 in_reply (reply.Mine m) = in_mine m
-in_reply (reply.Appointed receipt) = []
-in_reply (reply.Ended number) = []
-in_reply reply.Noted = []
-in_reply reply.Recorded = []
-in_reply (reply.Refused r) = []
+in_reply other = []
 
 -- the parties that stand in a party's own things, its own name among them
 abbrev pub in_view : OwnView → Names
@@ -81,11 +70,16 @@ in_view own =
     ++ map (λ (a : Authorised). a.corporation) own.authorised ++ map (λ (d : DemandMark). d.party) own.demands ++ flat_map in_cast own.casts
     ++ map (λ (r : Received). r.member) own.received)
 
+-- what a party may know of its own in the meeting in which it asks; where it asks what only the office may, its own name alone
+abbrev pub own_for : OfficeLists → Party → Moment → Request → OwnView
+own_for office party now (asked.Party meeting what) = own_of office party meeting now
+own_for office party now request = nothing_of party
+
 -- it names the caller's own: every party named in a reply to a party is that party, or stands in its own things
 abbrev pub NamesOwn : Answering → Type 0
 NamesOwn answer =
-    (office : OfficeLists) (party : List ℕ) (now : ℕ) (request : Request)
-    → All (Contains (in_view (own_of office party (named_meeting request) now))) (in_reply (answer office party now request).reply)
+    (office : OfficeLists) (party : Party) (now : Moment) (request : Request)
+    → All (Contains (in_view (own_for office party now request))) (in_reply (answer office party now request).reply)
 
 -- a count names nobody: the names in a reply do not show whether it tells a count
 abbrev pub CountsNameNobody : Type 0

@@ -1,6 +1,7 @@
 -- A wrong answer to a party, and two offices that it tells apart.
-use Rattle.std.specs.Prelude.{ℕ, true, List, [], ◌∷◌, Option, Some, None, codes}
+use Rattle.std.specs.Prelude.{true, List, [], ◌∷◌, Option, Some, None, codes}
 use Rattle.desk_terms.specs.Names.{in_places}
+use Rattle.desk_words.specs.Seen.{Day, MeetingName, Moment, Number, Party}
 use Rattle.desk_terms.specs.declared.kinds.Capacity.TheVariants.{Member}
 use Rattle.desk_terms.specs.declared.kinds.Company.TheVariants.{Private}
 use Rattle.desk_terms.specs.declared.kinds.HolderKind.TheVariants.{Individual}
@@ -12,38 +13,39 @@ use Rattle.desk_words.specs.declared.office.OfficeLists.{OfficeLists}
 use Rattle.desk_words.specs.declared.records.CastKind.TheVariants.{Block}
 use Rattle.desk_words.specs.declared.records.CastMark.{CastMark}
 use Rattle.desk_words.specs.declared.records.RegisterRow.{RegisterRow}
-use Rattle.desk_words.specs.declared.request.Reply.{Reply}
-use Rattle.desk_words.specs.declared.request.Reply.TheVariants as reply
+use Rattle.desk_words.specs.declared.reply.Reply.{Reply}
+use Rattle.desk_words.specs.declared.reply.Reply.TheVariants as reply
 use Rattle.desk_words.specs.declared.request.Request.{Request}
+use Rattle.desk_words.specs.declared.request.PartyRequest.TheVariants.{Cast}
 use Rattle.desk_words.specs.declared.request.Request.TheVariants as asked
 use Rattle.caller_view.specs.Views.{meeting_at}
 use Rattle.office_answers.specs.Polls.{declaration_of}
 use Rattle.meeting_core.specs.Step.{Answering, party_answer}
 
 -- where a vote is recorded, the reply tells how the votes on the resolution stand
-abbrev pub told_the_count : Option MeetingLists → ℕ → Reply → Reply
-told_the_count (Some m) resolution reply.Recorded = reply.Declared (declaration_of m resolution)
-told_the_count found resolution other = other
+abbrev pub told_the_count : Option MeetingLists → List Day → Moment → Number → Reply → Reply
+told_the_count (Some m) closed now resolution reply.Recorded = reply.Declared (declaration_of m closed now resolution)
+told_the_count found closed now resolution other = other
 
 -- the wrong answer: a voter is told how the votes stood
 abbrev pub running_total : Answering
-running_total office party now (asked.Cast new) =
-    let right = party_answer office party now (asked.Cast new) in
-    record right { reply = told_the_count (meeting_at office new.meeting) new.resolution right.reply }
+running_total office party now (asked.Party meeting (Cast new)) =
+    let right = party_answer office party now (asked.Party meeting (Cast new)) in
+    record right { reply = told_the_count (meeting_at office meeting) office.closed now new.resolution right.reply }
 running_total office party now request = party_answer office party now request
 
 -- a member, another member, and a meeting
-abbrev pub a_member : List ℕ
+abbrev pub a_member : Party
 a_member = in_places 16 (codes "A")
 
-abbrev pub another : List ℕ
+abbrev pub another : Party
 another = in_places 16 (codes "B")
 
-abbrev pub a_meeting : List ℕ
+abbrev pub a_meeting : MeetingName
 a_meeting = in_places 16 (codes "M")
 
 -- a member's one share
-abbrev pub one_share : List ℕ → RegisterRow
+abbrev pub one_share : Party → RegisterRow
 one_share member = record { member = member; kind = Individual; name = codes "N"; shares = 1; paid = 0 }
 
 -- an office of one opened meeting, with two members, one started poll, and these votes
@@ -85,4 +87,4 @@ vote_of_another = record {
 
 -- what the member asks
 abbrev pub vote_wanted : Request
-vote_wanted = asked.Cast (record { meeting = a_meeting; resolution = 1; member = a_member; from = 1; to = 1; way = For })
+vote_wanted = asked.Party a_meeting (Cast (record { resolution = 1; capacity = Member; member = a_member; from = 1; to = 1; way = For }))

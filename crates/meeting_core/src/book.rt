@@ -1,32 +1,33 @@
 //! The book: all that an office holds, in memory.
-ghost use Rattle.std.specs.Prelude.{◌≡◌, true, false, IfOk, OnOk, OnErr, IsTrue, IsOk};
+ghost use Rattle.std.specs.Prelude.{◌≡◌, true, IfOk, OnOk, OnErr, IsTrue, IsOk};
 ghost use Rattle.caller_view.specs.Reads.{own_read};
-ghost use Rattle.caller_view.specs.Views.{nothing_of, own_of, public_of};
-ghost use Rattle.caller_view.specs.Answers.{answer_of, is_for_office};
+ghost use Rattle.caller_view.specs.Views.{meeting_at, own_of, public_of};
+ghost use Rattle.caller_view.specs.Answers.{party_ruling};
 ghost use Rattle.desk_words.specs.Office.{is_office};
-ghost use Rattle.desk_words.specs.declared.caller.Caller.TheVariants as caller;
-ghost use Rattle.office_answers.specs.Answers.{is_refused_at_once, office_answer, takes_no_memory};
-ghost use Rattle.office_answers.specs.Limits.{keeps_limits};
+ghost use Rattle.desk_words.specs.Rulings.{settled, within};
+ghost use Rattle.desk_words.specs.declared.change.Change.TheVariants as change;
+ghost use Rattle.desk_words.specs.declared.change.MeetingChange.TheVariants as meeting_change;
+ghost use Rattle.office_answers.specs.Answers.{office_ruling, refuses_at_once, takes_no_memory};
+ghost use Rattle.office_answers.specs.Limits.{if_any, is_within_limits, keeps_limits};
 ghost use Rattle.meeting_core.specs.Office.{after, after_some, empty_office, sets_fields};
-ghost use Rattle.meeting_core.specs.Step.{decided, is_at_once_to, needs_no_memory, party_answer, stepped};
+ghost use Rattle.meeting_core.specs.Step.{decided, is_at_once_to, needs_no_memory, stepped};
 
-use crate::changes::{
-    add_appointment, add_authority, add_cast, add_demand, add_ending, add_poll, add_presence,
-    new_lists, set_closed, set_declared, set_opened, set_register, set_started,
-};
-use caller_view::{Answer, OwnView, PublicRecord, answer, find_meeting, refuse};
+use crate::changes::{change_meeting, new_lists};
+use caller_view::{OwnView, PublicRecord, answer};
 use desk_words::{
-    Call, Caller, Change, DayList, KeyRows, Listing, MeetingId, MeetingLists, Moment, Party,
-    Refusal, Reply, Request,
+    Answer, Call, Caller, Change, DayList, Entry, KeyRows, Listing, MeetingChange, MeetingId,
+    MeetingLists, Moment, OfficeRequest, Party, PartyRequest, Refusal, Reply, Request,
+    find_meeting, refuse,
 };
 use meeting_views::{nothing_of, own_for, own_in};
-use office_answers::office_answer;
+use office_answers::{desk_answer, office_answer};
 use office_days::Closed;
 use std::alloc::{AllocError, Global};
 use std::marker::Model;
 
 /// All that an office holds. Contracts see it as the lists of the office, and it always holds the
-/// lists of an office: `decide` says so of any book, and `new`, `apply` and `step` of what they leave.
+/// lists of an office: `decide` says so of any book, and `new`, `apply` and `step` of what they
+/// leave.
 #[derive(Drop)]
 pub struct Book {
     alloc: Global,
@@ -44,7 +45,33 @@ impl Model for Book {
 
     ghost view = { λ b. record { keys = b.keys; closed = b.closed; meetings = b.meetings.items } };
 
-    ghost invariant = { λ b. IsTrue (is_office (record { keys = b.keys; closed = b.closed; meetings = b.meetings.items })) };
+    ghost invariant = { λ b. IsTrue
+        (is_office (record { keys = b.keys; closed = b.closed; meetings = b.meetings.items })) };
+}
+
+/// An answer whose change is made in that meeting.
+fn in_meeting(meeting: MeetingId, answer: Answer<MeetingChange>) -> Answer<Change>
+    ensures { result ≡ within (change.InMeeting meeting) answer }
+{
+    let Answer { reply, change } = answer;
+    let change = match change {
+        None => None,
+        Some(change) => Some(Change::InMeeting { meeting, change }),
+    };
+    Answer { reply, change }
+}
+
+/// An answer whose change is entered into the lists of that meeting.
+fn entering(meeting: MeetingId, answer: Answer<Entry>) -> Answer<Change>
+    ensures { result ≡ within (λ entry. change.InMeeting meeting (meeting_change.Enter entry))
+        answer }
+{
+    let Answer { reply, change } = answer;
+    let change = match change {
+        None => None,
+        Some(entry) => Some(MeetingChange::Enter(entry)),
+    };
+    in_meeting(meeting, Answer { reply, change })
 }
 
 impl Book {
@@ -81,8 +108,8 @@ impl Book {
         })
     }
 
-    /// The own things of a party in a meeting at a moment; where there is none of that name, its own
-    /// name alone. The error is want of memory.
+    /// The own things of a party in a meeting at a moment; where there is none of that name, its
+    /// own name alone. The error is want of memory.
     pub fn own_of(
         &self,
         party: Party,
@@ -97,102 +124,85 @@ impl Book {
         }
     }
 
-    /// Those of the own things of a party in a meeting at a moment that the answer to a request reads.
+    /// Those of the own things of a party in a meeting at a moment that the answer to a request
+    /// reads.
     fn own_for(
         &self,
         party: Party,
         meeting: MeetingId,
         now: Moment,
-        request: &Request,
+        asked: &PartyRequest,
     ) -> Result<OwnView, AllocError>
-        ensures { IfOk result (λ own. own ≡ own_read request.now (own_of self.now party meeting now)) }
+        ensures { IfOk result (λ own. own ≡ own_read asked.now
+            (own_of self.now party meeting now)) }
     {
         match find_meeting(&self.meetings, meeting) {
             None => Ok(nothing_of(self.alloc, party)),
-            Some(lists) => own_for(self.alloc, &self.closed, lists, party, now, request),
+            Some(lists) => own_for(self.alloc, &self.closed, lists, party, now, asked),
         }
     }
 
-    fn answer_to_office(&self, now: Moment, request: &Request) -> Result<Answer, AllocError>
-        ensures answer { IfOk result (λ a. a ≡ office_answer self.now.closed self.now.meetings now request.now) }
-        ensures limits { IfOk result (λ a. IsTrue (keeps_limits a.change)) }
-        ensures sure { takes_no_memory request.now ≡ true → IsOk result }
-        ensures refusals { is_refused_at_once (office_answer self.now.closed self.now.meetings now request.now) ≡ true → IsOk result }
-    {
-        office_answer(self.alloc, &self.closed, &self.meetings, now, request)
-    }
-
-    fn answer_in(
-        &self,
-        party: Party,
-        meeting: MeetingId,
-        now: Moment,
-        request: &Request,
-    ) -> Result<Answer, AllocError>
-        ensures answer { IfOk result (λ a. a ≡ answer_of (public_of self.now meeting) (own_of self.now party meeting now) now request.now) }
-        ensures limits { IfOk result (λ a. IsTrue (keeps_limits a.change)) }
-    {
-        let public = self.public_of(meeting)?;
-        let own = self.own_for(party, meeting, now, request)?;
-        answer(self.alloc, &public, &own, now, request)
-    }
-
-    /// An answer that reads nothing of the party's own.
-    fn answer_in_public(
-        &self,
-        party: Party,
-        meeting: MeetingId,
-        now: Moment,
-        request: &Request,
-    ) -> Result<Answer, AllocError>
-        ensures answer { IfOk result (λ a. a ≡ answer_of (public_of self.now meeting) (nothing_of party) now request.now) }
-        ensures limits { IfOk result (λ a. IsTrue (keeps_limits a.change)) }
-    {
-        let record = self.public_of(meeting)?;
-        let own = nothing_of(self.alloc, party);
-        answer(self.alloc, &record, &own, now, request)
-    }
-
+    /// The answer to what a party asks in a meeting.
     fn answer_to_party(
         &self,
         party: Party,
+        meeting: MeetingId,
         now: Moment,
-        request: &Request,
-    ) -> Result<Answer, AllocError>
-        ensures answer { IfOk result (λ a. a ≡ party_answer self.now party now request.now) }
-        ensures limits { IfOk result (λ a. IsTrue (keeps_limits a.change)) }
-        ensures sure { is_for_office request.now ≡ true → IsOk result }
+        asked: &PartyRequest,
+    ) -> Result<Answer<Entry>, AllocError>
+        ensures { IfOk result (λ a. a
+            ≡ settled (party_ruling (public_of self.now meeting)
+            (own_of self.now party meeting now) now asked.now)) }
     {
-        match request {
-            Request::CallMeeting(_)
-            | Request::LoadRegister(_)
-            | Request::Presence(_)
-            | Request::OpenMeeting(_)
-            | Request::Order(_)
-            | Request::Start(_)
-            | Request::Close(_)
-            | Request::Declare(_)
-            | Request::ClosedDays(_) => Ok(refuse(Refusal::OfficeOnly)),
-            Request::Notice(meeting) => self.answer_in_public(party, *meeting, now, request),
-            Request::Mine(meeting) => self.answer_in(party, *meeting, now, request),
-            Request::Appoint(new) => self.answer_in(party, new.meeting, now, request),
-            Request::End(new) => self.answer_in(party, new.meeting, now, request),
-            Request::Authorise(new) => self.answer_in(party, new.meeting, now, request),
-            Request::Attend(meeting) => self.answer_in(party, *meeting, now, request),
-            Request::Demand(poll) => self.answer_in(party, poll.meeting, now, request),
-            Request::Cast(new) => self.answer_in(party, new.meeting, now, request),
-        }
+        let public = self.public_of(meeting)?;
+        let own = self.own_for(party, meeting, now, asked)?;
+        answer(self.alloc, &public, &own, now, asked)
     }
 
-    fn answer_to(&self, call: &Call) -> Result<Answer, AllocError>
+    /// The answer to what the office asks in a meeting.
+    fn answer_to_office(
+        &self,
+        meeting: MeetingId,
+        now: Moment,
+        asked: &OfficeRequest,
+    ) -> Result<Answer<MeetingChange>, AllocError>
+        ensures answer { IfOk result (λ a. a
+            ≡ settled (office_ruling self.now.closed (meeting_at self.now meeting) now asked.now)) }
+        ensures limits { IfOk result (λ a. if_any is_within_limits a.change ≡ true) }
+        ensures sure { takes_no_memory asked.now ≡ true → IsOk result }
+        ensures refusals { refuses_at_once (office_ruling self.now.closed
+            (meeting_at self.now meeting) now asked.now)
+            ≡ true → IsOk result }
+    {
+        let found = find_meeting(&self.meetings, meeting);
+        office_answer(self.alloc, &self.closed, found, now, asked)
+    }
+
+    fn answer_to(&self, call: &Call) -> Result<Answer<Change>, AllocError>
         ensures answer { IfOk result (λ a. a ≡ decided self.now call.now) }
-        ensures limits { IfOk result (λ a. IsTrue (keeps_limits a.change)) }
+        ensures limits { IfOk result (λ a. if_any keeps_limits a.change ≡ true) }
         ensures sure { needs_no_memory call.now.caller call.now.request ≡ true → IsOk result }
-        ensures refusals { is_at_once_to call.now.caller (decided self.now call.now) ≡ true → IsOk result }
+        ensures refusals { is_at_once_to call.now.caller (decided self.now call.now) ≡ true
+            → IsOk result }
     {
         match call.caller {
-            Caller::Office => self.answer_to_office(call.moment, &call.request),
-            Caller::Party(party) => self.answer_to_party(party, call.moment, &call.request),
+            Caller::Office => match &call.request {
+                Request::Desk(asked) => {
+                    desk_answer(&self.keys, &self.closed, &self.meetings, asked)
+                }
+                Request::Office { meeting, asked } => {
+                    let answer = self.answer_to_office(*meeting, call.moment, asked)?;
+                    Ok(in_meeting(*meeting, answer))
+                }
+                Request::Party { .. } => Ok(refuse(Refusal::PartyOnly)),
+            },
+            Caller::Party(party) => match &call.request {
+                Request::Party { meeting, asked } => {
+                    let answer = self.answer_to_party(party, *meeting, call.moment, asked)?;
+                    Ok(entering(*meeting, answer))
+                }
+                Request::Desk(_) | Request::Office { .. } => Ok(refuse(Refusal::OfficeOnly)),
+            },
         }
     }
 
@@ -207,7 +217,8 @@ impl Book {
         ensures held { IsTrue (is_office self.now) }
         ensures kept { IfOk result (λ d. IsTrue (is_office (after_some self.now d.1))) }
         ensures sure { needs_no_memory call.now.caller call.now.request ≡ true → IsOk result }
-        ensures refusals { is_at_once_to call.now.caller (decided self.now call.now) ≡ true → IsOk result }
+        ensures refusals { is_at_once_to call.now.caller (decided self.now call.now) ≡ true
+            → IsOk result }
     {
         // This opens the value, so that what its type keeps is known.
         let _ = &self.meetings;
@@ -230,19 +241,11 @@ impl Book {
                 let lists = new_lists(self.alloc, meeting);
                 self.meetings.push(lists)?;
             }
-            Change::SetRegister(set) => set_register(&mut self.meetings, set.meeting, set.rows),
-            Change::SetOpened(set) => set_opened(&mut self.meetings, set),
-            Change::AddPoll(added) => add_poll(&mut self.meetings, added)?,
-            Change::SetStarted(set) => set_started(&mut self.meetings, set),
-            Change::SetClosed(set) => set_closed(&mut self.meetings, set),
-            Change::SetDeclared(set) => set_declared(&mut self.meetings, set),
             Change::SetClosedDays(days) => self.closed = Closed::from_list(days),
-            Change::AddAppointment(added) => add_appointment(&mut self.meetings, added)?,
-            Change::AddEnding(added) => add_ending(&mut self.meetings, added)?,
-            Change::AddAuthority(added) => add_authority(&mut self.meetings, added)?,
-            Change::AddPresence(added) => add_presence(&mut self.meetings, added)?,
-            Change::AddDemand(added) => add_demand(&mut self.meetings, added)?,
-            Change::AddCast(added) => add_cast(&mut self.meetings, added)?,
+            Change::SetKeys(rows) => self.keys = rows,
+            Change::InMeeting { meeting, change } => {
+                change_meeting(&mut self.meetings, meeting, change)?;
+            }
         }
         Ok(())
     }

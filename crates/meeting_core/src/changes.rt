@@ -1,15 +1,14 @@
 //! Changes of an office's lists.
-ghost use Rattle.std.specs.Prelude.{◌≡◌, ◌==◌, ◌<◌, IfSome, OnOk, OnErr, length};
+ghost use Rattle.std.specs.Prelude.{◌≡◌, ◌==◌, ◌<◌, [], ◌∷◌, ◌++◌, true, IfSome, IsOk, OnOk, OnErr, length};
 ghost use Rattle.std.specs.List.{position_from};
-ghost use Rattle.desk_words.specs.Edits.{change_first};
 ghost use Rattle.desk_words.specs.declared.records.Poll.{Poll};
-ghost use Rattle.meeting_core.specs.Office.{change_at, change_poll, closed_at, declared_as, new_lists, opened_at, started_at, with_appointment, with_authority, with_cast, with_demand, with_ending, with_poll, with_presence, with_register};
+ghost use Rattle.desk_lists.specs.Sorting.{insert_by};
+ghost use Rattle.desk_words.specs.Office.{poll_before};
+ghost use Rattle.meeting_core.specs.Office.{change_at, change_poll, changed, entered, moved, new_lists, sets_in_meeting};
 
-use caller_view::find_poll;
 use desk_words::{
-    AddAppointment, AddAuthority, AddCast, AddDemand, AddEnding, AddPoll, AddPresence, Appointment,
-    Authority, CastKind, CastMark, DemandMark, Ending, Filed, Listing, Meeting, MeetingId,
-    MeetingLists, Moment, Poll, PresenceMark, Register, SetOpened, SetPollMoment, SetTally, Tally,
+    CastKind, CastMark, Entry, Filed, Listing, Meeting, MeetingChange, MeetingId, MeetingLists,
+    Moment, Poll, PollChange, find_poll,
 };
 use meeting_views::place_of_meeting;
 use std::alloc::{AllocError, Global};
@@ -31,175 +30,38 @@ pub fn new_lists(alloc: Global, meeting: Meeting) -> MeetingLists
     }
 }
 
-fn put_register(lists: &mut MeetingLists, rows: Register)
-    ensures { lists.new ≡ with_register rows lists.old }
-{
-    lists.register = rows.into_listing();
-    lists.meeting.loaded = true;
-}
-
-fn put_opening(lists: &mut MeetingLists, moment: Moment)
-    ensures { lists.new ≡ opened_at moment lists.old }
-{
-    lists.meeting.opened = Some(moment);
-}
-
-fn put_poll(lists: &mut MeetingLists, poll: Poll) -> Result<(), AllocError>
-    ensures ok { OnOk result (lists.new ≡ with_poll poll lists.old) }
-    ensures err { OnErr result (lists.new ≡ lists.old) }
-{
-    // The checker of borrows misses the types of a value's fields unless they are named here.
-    let started: Option<Moment> = poll.started;
-    lists.polls.insert_in_order(Poll { started, ..poll })
-}
-
-fn put_appointment(lists: &mut MeetingLists, appointment: Appointment) -> Result<(), AllocError>
-    ensures ok { OnOk result (lists.new ≡ with_appointment appointment lists.old) }
-    ensures err { OnErr result (lists.new ≡ lists.old) }
-{
-    lists.appointments.push(appointment)
-}
-
-fn put_ending(lists: &mut MeetingLists, ending: Ending) -> Result<(), AllocError>
-    ensures ok { OnOk result (lists.new ≡ with_ending ending lists.old) }
-    ensures err { OnErr result (lists.new ≡ lists.old) }
-{
-    lists.endings.push(ending)
-}
-
-fn put_authority(lists: &mut MeetingLists, authority: Authority) -> Result<(), AllocError>
-    ensures ok { OnOk result (lists.new ≡ with_authority authority lists.old) }
-    ensures err { OnErr result (lists.new ≡ lists.old) }
-{
-    lists.authorities.push(authority)
-}
-
-fn put_presence(lists: &mut MeetingLists, presence: PresenceMark) -> Result<(), AllocError>
-    ensures ok { OnOk result (lists.new ≡ with_presence presence lists.old) }
-    ensures err { OnErr result (lists.new ≡ lists.old) }
-{
-    lists.presences.push(presence)
-}
-
-fn put_demand(lists: &mut MeetingLists, demand: DemandMark) -> Result<(), AllocError>
-    ensures ok { OnOk result (lists.new ≡ with_demand demand lists.old) }
-    ensures err { OnErr result (lists.new ≡ lists.old) }
-{
-    lists.demands.push(demand)
-}
-
-fn put_cast(lists: &mut MeetingLists, cast: CastMark) -> Result<(), AllocError>
-    ensures ok { OnOk result (lists.new ≡ with_cast cast lists.old) }
-    ensures err { OnErr result (lists.new ≡ lists.old) }
+fn enter_cast(casts: &mut Filed<CastMark>, cast: CastMark) -> Result<(), AllocError>
+    ensures ok { OnOk result (casts.new ≡ casts.old ++ cast ∷ []) }
+    ensures err { OnErr result (casts.new ≡ casts.old) }
 {
     // The checker of borrows misses the types of a value's fields unless they are named here.
     let what: CastKind = cast.what;
-    lists.casts.push(CastMark { what, ..cast })
+    casts.push(CastMark { what, ..cast })
 }
 
-/// Gives the meeting of that name a register. Where there is none, nothing changes.
-pub fn set_register(meetings: &mut [MeetingLists], meeting: MeetingId, rows: Register)
-    ensures { meetings.new ≡ change_at (with_register rows) meeting meetings.old }
+/// Enters something into the lists of a meeting. The error is want of memory, and nothing changes
+/// then.
+fn enter(lists: &mut MeetingLists, entry: Entry) -> Result<(), AllocError>
+    ensures ok { OnOk result (lists.new ≡ entered entry lists.old) }
+    ensures err { OnErr result (lists.new ≡ lists.old) }
 {
-    if let Some(i) = place_of_meeting(meetings, meeting) {
-        put_register(&mut meetings[i], rows);
+    match entry {
+        Entry::Appointment(appointment) => lists.appointments.push(appointment),
+        Entry::Ending(ending) => lists.endings.push(ending),
+        Entry::Authority(authority) => lists.authorities.push(authority),
+        Entry::Presence(presence) => lists.presences.push(presence),
+        Entry::Demand(demand) => lists.demands.push(demand),
+        Entry::Cast(cast) => enter_cast(&mut lists.casts, cast),
     }
 }
 
-/// Opens the meeting of that name. Where there is none, nothing changes.
-pub fn set_opened(meetings: &mut [MeetingLists], set: SetOpened)
-    ensures { meetings.new ≡ change_at (opened_at set.moment) set.meeting meetings.old }
+fn add_poll(polls: &mut Listing<Poll>, poll: Poll) -> Result<(), AllocError>
+    ensures ok { OnOk result (polls.new ≡ insert_by poll_before poll polls.old) }
+    ensures err { OnErr result (polls.new ≡ polls.old) }
 {
-    if let Some(i) = place_of_meeting(meetings, set.meeting) {
-        put_opening(&mut meetings[i], set.moment);
-    }
-}
-
-/// Gives the meeting of that name a poll, in the order of resolutions. Where there is none, nothing
-/// changes. The error is want of memory, and nothing changes then.
-pub fn add_poll(meetings: &mut [MeetingLists], added: AddPoll) -> Result<(), AllocError>
-    ensures ok { OnOk result (meetings.new ≡ change_at (with_poll added.poll) added.meeting meetings.old) }
-    ensures err { OnErr result (meetings.new ≡ meetings.old) }
-{
-    match place_of_meeting(meetings, added.meeting) {
-        Some(i) => put_poll(&mut meetings[i], added.poll),
-        None => Ok(()),
-    }
-}
-
-/// Gives the meeting of that name an appointment. Where there is none, nothing changes. The error is
-/// want of memory, and nothing changes then.
-pub fn add_appointment(
-    meetings: &mut [MeetingLists],
-    added: AddAppointment,
-) -> Result<(), AllocError>
-    ensures ok { OnOk result (meetings.new ≡ change_at (with_appointment added.appointment) added.meeting meetings.old) }
-    ensures err { OnErr result (meetings.new ≡ meetings.old) }
-{
-    match place_of_meeting(meetings, added.meeting) {
-        Some(i) => put_appointment(&mut meetings[i], added.appointment),
-        None => Ok(()),
-    }
-}
-
-/// Gives the meeting of that name an ending. Where there is none, nothing changes. The error is want
-/// of memory, and nothing changes then.
-pub fn add_ending(meetings: &mut [MeetingLists], added: AddEnding) -> Result<(), AllocError>
-    ensures ok { OnOk result (meetings.new ≡ change_at (with_ending added.ending) added.meeting meetings.old) }
-    ensures err { OnErr result (meetings.new ≡ meetings.old) }
-{
-    match place_of_meeting(meetings, added.meeting) {
-        Some(i) => put_ending(&mut meetings[i], added.ending),
-        None => Ok(()),
-    }
-}
-
-/// Gives the meeting of that name an authority. Where there is none, nothing changes. The error is
-/// want of memory, and nothing changes then.
-pub fn add_authority(meetings: &mut [MeetingLists], added: AddAuthority) -> Result<(), AllocError>
-    ensures ok { OnOk result (meetings.new ≡ change_at (with_authority added.authority) added.meeting meetings.old) }
-    ensures err { OnErr result (meetings.new ≡ meetings.old) }
-{
-    match place_of_meeting(meetings, added.meeting) {
-        Some(i) => put_authority(&mut meetings[i], added.authority),
-        None => Ok(()),
-    }
-}
-
-/// Gives the meeting of that name a mark of presence. Where there is none, nothing changes. The error
-/// is want of memory, and nothing changes then.
-pub fn add_presence(meetings: &mut [MeetingLists], added: AddPresence) -> Result<(), AllocError>
-    ensures ok { OnOk result (meetings.new ≡ change_at (with_presence added.presence) added.meeting meetings.old) }
-    ensures err { OnErr result (meetings.new ≡ meetings.old) }
-{
-    match place_of_meeting(meetings, added.meeting) {
-        Some(i) => put_presence(&mut meetings[i], added.presence),
-        None => Ok(()),
-    }
-}
-
-/// Gives the meeting of that name a demand of a poll. Where there is none, nothing changes. The error
-/// is want of memory, and nothing changes then.
-pub fn add_demand(meetings: &mut [MeetingLists], added: AddDemand) -> Result<(), AllocError>
-    ensures ok { OnOk result (meetings.new ≡ change_at (with_demand added.demand) added.meeting meetings.old) }
-    ensures err { OnErr result (meetings.new ≡ meetings.old) }
-{
-    match place_of_meeting(meetings, added.meeting) {
-        Some(i) => put_demand(&mut meetings[i], added.demand),
-        None => Ok(()),
-    }
-}
-
-/// Gives the meeting of that name a vote. Where there is none, nothing changes. The error is want of
-/// memory, and nothing changes then.
-pub fn add_cast(meetings: &mut [MeetingLists], added: AddCast) -> Result<(), AllocError>
-    ensures ok { OnOk result (meetings.new ≡ change_at (with_cast added.cast) added.meeting meetings.old) }
-    ensures err { OnErr result (meetings.new ≡ meetings.old) }
-{
-    match place_of_meeting(meetings, added.meeting) {
-        Some(i) => put_cast(&mut meetings[i], added.cast),
-        None => Ok(()),
-    }
+    // The checker of borrows misses the types of a value's fields unless they are named here.
+    let started: Option<Moment> = poll.started;
+    polls.insert_in_order(Poll { started, ..poll })
 }
 
 fn place_of_poll(polls: &[Poll], resolution: u64) -> Option<usize>
@@ -218,59 +80,68 @@ fn replace_poll(lists: &mut MeetingLists, resolution: u64, poll: Poll)
     }
 }
 
-fn put_start(lists: &mut MeetingLists, resolution: u64, moment: Moment)
-    ensures { lists.new ≡ change_poll (started_at moment) resolution lists.old }
+/// The poll that has come further.
+fn moved(poll: Poll, change: PollChange) -> Poll
+    ensures { result ≡ moved change poll }
+{
+    match change {
+        PollChange::Started(moment) => Poll {
+            started: Some(moment),
+            ..poll
+        },
+        PollChange::Closed(moment) => Poll {
+            closed: Some(moment),
+            ..poll
+        },
+        PollChange::Declared(tally) => Poll {
+            declared: Some(tally),
+            ..poll
+        },
+    }
+}
+
+/// Moves the poll on that resolution. Where there is none, nothing changes.
+fn move_poll(lists: &mut MeetingLists, resolution: u64, change: PollChange)
+    ensures { lists.new ≡ change_poll (moved change) resolution lists.old }
 {
     if let Some(poll) = find_poll(lists.polls.as_slice(), resolution) {
-        let started = Some(moment);
-        replace_poll(lists, resolution, Poll { started, ..poll });
+        replace_poll(lists, resolution, moved(poll, change));
     }
 }
 
-fn put_close(lists: &mut MeetingLists, resolution: u64, moment: Moment)
-    ensures { lists.new ≡ change_poll (closed_at moment) resolution lists.old }
+/// Changes a meeting. The error is want of memory, and nothing changes then; a change that sets
+/// fields needs none.
+fn change_lists(lists: &mut MeetingLists, change: MeetingChange) -> Result<(), AllocError>
+    ensures ok { OnOk result (lists.new ≡ changed change lists.old) }
+    ensures err { OnErr result (lists.new ≡ lists.old) }
+    ensures sure { sets_in_meeting change ≡ true → IsOk result }
 {
-    if let Some(poll) = find_poll(lists.polls.as_slice(), resolution) {
-        let closed = Some(moment);
-        replace_poll(lists, resolution, Poll { closed, ..poll });
+    match change {
+        MeetingChange::SetRegister(rows) => {
+            lists.register = rows.into_listing();
+            lists.meeting.loaded = true;
+        }
+        MeetingChange::SetOpened(moment) => lists.meeting.opened = Some(moment),
+        MeetingChange::AddPoll(poll) => add_poll(&mut lists.polls, poll)?,
+        MeetingChange::SetPoll { resolution, change } => move_poll(lists, resolution, change),
+        MeetingChange::Enter(entry) => enter(lists, entry)?,
     }
+    Ok(())
 }
 
-fn put_tally(lists: &mut MeetingLists, resolution: u64, tally: Tally)
-    ensures { lists.new ≡ change_poll (declared_as tally) resolution lists.old }
+/// Changes the meeting of that name. Where there is none, nothing changes. The error is want of
+/// memory, and nothing changes then; a change that sets fields needs none.
+pub fn change_meeting(
+    meetings: &mut [MeetingLists],
+    meeting: MeetingId,
+    change: MeetingChange,
+) -> Result<(), AllocError>
+    ensures ok { OnOk result (meetings.new ≡ change_at (changed change) meeting meetings.old) }
+    ensures err { OnErr result (meetings.new ≡ meetings.old) }
+    ensures sure { sets_in_meeting change ≡ true → IsOk result }
 {
-    if let Some(poll) = find_poll(lists.polls.as_slice(), resolution) {
-        let declared = Some(tally);
-        replace_poll(lists, resolution, Poll { declared, ..poll });
-    }
-}
-
-/// Starts a poll. Where there is none of that name, nothing changes.
-pub fn set_started(meetings: &mut [MeetingLists], set: SetPollMoment)
-    ensures { meetings.new ≡ change_at (change_poll (started_at set.moment) set.poll.resolution) set.poll.meeting meetings.old }
-{
-    let resolution = set.poll.resolution;
-    if let Some(i) = place_of_meeting(meetings, set.poll.meeting) {
-        put_start(&mut meetings[i], resolution, set.moment);
-    }
-}
-
-/// Closes a poll. Where there is none of that name, nothing changes.
-pub fn set_closed(meetings: &mut [MeetingLists], set: SetPollMoment)
-    ensures { meetings.new ≡ change_at (change_poll (closed_at set.moment) set.poll.resolution) set.poll.meeting meetings.old }
-{
-    let resolution = set.poll.resolution;
-    if let Some(i) = place_of_meeting(meetings, set.poll.meeting) {
-        put_close(&mut meetings[i], resolution, set.moment);
-    }
-}
-
-/// Declares the count of a poll. Where there is none of that name, nothing changes.
-pub fn set_declared(meetings: &mut [MeetingLists], set: SetTally)
-    ensures { meetings.new ≡ change_at (change_poll (declared_as set.tally) set.poll.resolution) set.poll.meeting meetings.old }
-{
-    let resolution = set.poll.resolution;
-    if let Some(i) = place_of_meeting(meetings, set.poll.meeting) {
-        put_tally(&mut meetings[i], resolution, set.tally);
+    match place_of_meeting(meetings, meeting) {
+        Some(i) => change_lists(&mut meetings[i], change),
+        None => Ok(()),
     }
 }

@@ -6,9 +6,9 @@ ghost use Rattle.meeting_core.specs.Names.{CountsNameNobody, NamesOwn};
 ghost use Rattle.meeting_core.specs.Step.{party_answer};
 ghost use Rattle.meeting_core.specs.WrongAnswers.{a_member, office_with, running_total, vote_of_another, vote_wanted};
 
-/// Two offices that agree on the public record of the meeting that a request names, and on a
-/// party's own things in it, give that party the same reply and the same change; and no call of a
-/// party changes a public record.
+/// Two offices that agree on the public record of the meeting in which a party asks, and on its own
+/// things there, give it the same reply and the same change, and any two offices do where it asks
+/// what only the office may; and no call of a party changes a public record.
 pub fn two_worlds()
     ensures same { ReadsTheViews party_answer }
     ensures quiet { LeavesThePublicRecord party_answer }
@@ -22,12 +22,13 @@ pub fn names()
     ensures counts { CountsNameNobody }
 {}
 
-/// The law of two worlds can fail where that of names holds: an answer that tells a voter how the votes
-/// stand names nobody, and still tells apart two offices that agree on all that the voter may know, and
-/// differ in the vote of another member alone.
+/// The law of two worlds can fail where that of names holds: an answer that tells a voter how the
+/// votes stand names nobody, and still tells apart two offices that agree on all that the voter may
+/// know, and differ in the vote of another member alone.
 pub fn running_total_is_caught()
     ensures names { NamesOwn running_total }
-    ensures apart { TellsApart running_total (office_with []) (office_with (vote_of_another ∷ [])) a_member 0 vote_wanted }
+    ensures apart { TellsApart running_total (office_with [])
+        (office_with (vote_of_another ∷ [])) a_member 0 vote_wanted }
     ensures caught { ReadsTheViews running_total → ⊥ }
 {}
 
@@ -37,8 +38,8 @@ pub fn lowest_refusal()
     ensures lowest { TheLowestRefusalIsAnswered }
 {}
 
-/// A refused call changes nothing, whether a party or the office calls: its answer has no change, and
-/// the office after it is the office before it.
+/// A refused call changes nothing, whether a party or the office calls: its answer has no change,
+/// and the office after it is the office before it.
 pub fn refused_calls_change_nothing()
     ensures change { RefusedCallsHaveNoChange }
     ensures office { RefusedCallsLeaveTheOffice }

@@ -1,9 +1,3 @@
-pub mod AnyLemmas
-pub mod CapacityLemmas
 pub mod GovernedLemmas
 pub mod MeetingLemmas
-pub mod MemberRows
-pub mod NameLemmas
-pub mod NumberLemmas
-pub mod PlaceLemmas
-pub mod ProxyLemmas
+pub mod VoteLemmas

@@ -1,16 +1,16 @@
 -- What is kept of a party's appointments, and of the members who named it, is what a meeting's lists
 -- give.
-use Rattle.std.proofs.Common.{◌≡◌, ℕ, ◌≤◌, Bool, true, false, cond, List, [], ◌∷◌, length, map, filter, refl, sym, ap, ◌∙◌, subst, true≢false}
+use Rattle.std.proofs.Common.{◌≡◌, ℕ, Bool, true, false, cond, List, [], ◌∷◌, length, map, filter, refl, sym, ap, ◌∙◌, subst, true≢false}
 use Rattle.std.specs.Prelude.{◌&&◌, ◌||◌, ◌==◌, Option, Some, None, IfSome, find, reverse, is_some, option_map}
 use Rattle.std.specs.BTreeMap.{BTreeMap, get}
-use Rattle.std.specs.Cmp.{second_so}
+use Rattle.std.specs.Cmp.{first_so, second_so}
+use Rattle.std.specs.List.{list_all}
 use Rattle.std.specs.Cmp.Lexicographic.{texts_ties}
 use Rattle.std.specs.Option.{option_map_or}
 use Rattle.std.specs.Ordering.{is_eq, nat_cmp}
 use Rattle.desk_terms.specs.Names.{same_name, name_cmp}
-use Rattle.desk_terms.specs.Places.{most_places}
 use Rattle.desk_words.proofs.RowLemmas.{same_name-true}
-use Rattle.desk_words.specs.Office.{are_appointments}
+use Rattle.desk_words.specs.Office.{are_appointments, are_numbered_after, is_appointment}
 use Rattle.desk_words.specs.Ordered.{ascends_by}
 use Rattle.desk_words.specs.Registers.{keep_limits, member_before}
 use Rattle.desk_words.specs.declared.office.MeetingLists.{MeetingLists}
@@ -19,12 +19,13 @@ use Rattle.desk_words.specs.declared.records.Ending.{Ending}
 use Rattle.desk_words.specs.declared.records.RegisterRow.{RegisterRow}
 use Rattle.caller_view.specs.Views.{ended_at, given_in, governed_by, known_to_proxy, poll_governed, received_in}
 use Rattle.proxy_rules.specs.Cutoffs.{is_late_poll, late_cutoffs, meeting_cutoffs}
-use Rattle.proxy_rules.specs.Holdings.{are_tagged, governed_in, is_ended_of}
+use Rattle.proxy_rules.specs.Governing.{governed_in}
+use Rattle.proxy_rules.specs.Holdings.{IsKept, is_ended_of}
 use Rattle.proxy_rules.specs.Shares.{are_rows}
 use Rattle.proxy_rules.specs.declared.holdings.Holding.{Holding}
 use Rattle.proxy_rules.specs.declared.papers.Cutoffs.{Cutoffs}
-use Rattle.proxy_rules.proofs.HoldingLemmas.{are_tagged-holding_of, governed_of-governed_in, reverse-filter}
-use Rattle.proxy_rules.proofs.ShareLemmas.{shares_by-le}
+use Rattle.proxy_rules.proofs.KeptLemmas.{kept_of}
+use Rattle.proxy_rules.proofs.ListLemmas.{reverse-filter}
 use Rattle.proxy_rules.proofs.TagLemmas.{are_tags-appointments}
 use Rattle.meeting_views.specs.Governed.{AreFit, governed_at, is_among, poll_due, received_due}
 use Rattle.meeting_views.specs.Named.{given_kept, holding_in, last_ended, named_of}
@@ -74,7 +75,7 @@ given-kept given endings party ended kept =
 -- ---- what a party received
 
 abbrev IsFit : Option Holding → Type 0
-IsFit o = IfSome o (λ (holding : Holding). (are_tagged holding.appointed ≡ true) × (holding.shares ≤ most_places))
+IsFit o = IfSome o (λ (holding : Holding). IsKept holding)
 
 -- after a member's holding was put
 pub named-put : (m : MeetingLists) (among : Bool) (kept after : Option Holding) (member other : List ℕ) → after ≡ cond (is_eq (name_cmp member other)) (Some (holding_in m member)) kept
@@ -106,13 +107,14 @@ named-stays m false kept member other there is =
       | false ↦ λ e. is
     ]) refl
 
--- the holdings that are kept are such as runs are made of
+-- the holdings that are kept are such as an office keeps
 pub are_fit : (m : MeetingLists) (given : List Appointment) (named : BTreeMap (List ℕ) Holding) → are_rows m.register ≡ true → are_appointments (length m.meeting.resolutions) m.appointments ≡ true
     → ((member : List ℕ) → get name_cmp named member ≡ named_of m given member) → AreFit named
 are_fit m given named rows appointments kept = λ member.
-    let tagged = are_tagged-holding_of m.appointments member (are_tags-appointments (length m.meeting.resolutions) m.appointments appointments) in
-    let few = shares_by-le m.register member rows in
-    let fit : (b : Bool) → IsFit (cond b (Some (holding_in m member)) None) = elim [ true ↦ (tagged, few) | false ↦ tt ] in
+    let tags = are_tags-appointments (length m.meeting.resolutions) m.appointments appointments in
+    let numbered = first_so (are_numbered_after [] m.appointments) (list_all (is_appointment (length m.meeting.resolutions)) m.appointments) appointments in
+    let own = kept_of m.register m.appointments m.endings member rows numbered tags in
+    let fit : (b : Bool) → IsFit (cond b (Some (holding_in m member)) None) = elim [ true ↦ own | false ↦ tt ] in
     subst IsFit (sym (kept member)) (fit _)
 
 -- what an appointment governs in the holding that is kept of its member, it governs
@@ -120,7 +122,6 @@ governed_at-kept : (m : MeetingLists) (given : List Appointment) (named : BTreeM
     → ((member : List ℕ) → get name_cmp named member ≡ named_of m given member) → is_among a.member given ≡ true → governed_at cutoffs named a.member a.number ≡ governed_by m cutoffs a
 governed_at-kept m given named cutoffs a kept among =
     ap (λ (o : Option Holding). option_map_or (λ (holding : Holding). governed_in cutoffs holding a.number) o []) (kept a.member ∙ ap (λ b. cond b (Some (holding_in m a.member)) None) among)
-    ∙ sym (governed_of-governed_in cutoffs m.register m.appointments m.endings a.member a.number)
 
 -- the appointments, with what they govern in the holdings that are kept
 pub received-kept : (m : MeetingLists) (closed : List ℕ) (now : ℕ) (named : BTreeMap (List ℕ) Holding) (received : List Appointment)

@@ -1,19 +1,20 @@
 -- What appointments govern, as it is kept by member and number.
-use Rattle.std.specs.Prelude.{◌≡◌, ℕ, ◌≤◌, Bool, true, List, [], map, filter, Vec, IfSome}
+use Rattle.std.specs.Prelude.{ℕ, Bool, List, [], map, filter, Vec, IfSome}
 use Rattle.std.specs.BTreeMap.{BTreeMap, get}
 use Rattle.std.specs.List.{list_any}
 use Rattle.std.specs.Option.{option_map_or}
 use Rattle.std.specs.declared.alloc.Global.{Global}
 use Rattle.desk_terms.specs.Names.{name_cmp}
-use Rattle.desk_terms.specs.Places.{Places, most_places}
+use Rattle.desk_terms.specs.Places.{Places}
 use Rattle.desk_words.specs.declared.office.MeetingLists.{MeetingLists}
 use Rattle.desk_words.specs.declared.records.Appointment.{Appointment}
 use Rattle.desk_words.specs.declared.records.Poll.{Poll}
-use Rattle.desk_words.specs.declared.request.PollGoverned.{PollGoverned}
-use Rattle.desk_words.specs.declared.request.Received.{Received}
+use Rattle.desk_words.specs.declared.own.PollGoverned.{PollGoverned}
+use Rattle.desk_words.specs.declared.own.Received.{Received}
 use Rattle.caller_view.specs.Views.{known_to_proxy}
 use Rattle.proxy_rules.specs.Cutoffs.{is_late_poll, late_cutoffs, meeting_cutoffs}
-use Rattle.proxy_rules.specs.Holdings.{are_tagged, governed_in, is_given_by}
+use Rattle.proxy_rules.specs.Governing.{governed_in}
+use Rattle.proxy_rules.specs.Holdings.{IsKept, is_given_by}
 use Rattle.proxy_rules.specs.Runs.{runs_at}
 use Rattle.proxy_rules.specs.declared.holdings.Holding.{Holding}
 use Rattle.proxy_rules.specs.declared.papers.Cutoffs.{Cutoffs}
@@ -23,9 +24,9 @@ use Rattle.meeting_views.specs.declared.governed.PollRuns.{PollRuns}
 abbrev pub Numbered : Type 0
 Numbered = BTreeMap ℕ (Vec Places Global)
 
--- the holdings that are kept are such as runs are made of
+-- the holdings that are kept are such as an office keeps
 abbrev pub AreFit : BTreeMap (List ℕ) Holding → Type 0
-AreFit named = (member : List ℕ) → IfSome (get name_cmp named member) (λ holding. (are_tagged holding.appointed ≡ true) × (holding.shares ≤ most_places))
+AreFit named = (member : List ℕ) → IfSome (get name_cmp named member) (λ (holding : Holding). IsKept holding)
 
 -- the runs that are kept for a member's number, and none where nothing is
 abbrev pub runs_of : BTreeMap (List ℕ) Numbered → List ℕ → ℕ → List Places
@@ -50,6 +51,10 @@ received_kept runs late a = known_to_proxy a (runs_of runs a.member a.number) (m
 -- what a member's number governs for a late poll in the holding that is kept
 abbrev pub poll_due : BTreeMap (List ℕ) Holding → List ℕ → List ℕ → ℕ → Poll → PollGoverned
 poll_due named closed member number poll = record { resolution = poll.resolution; governs = governed_at (late_cutoffs poll closed) named member number }
+
+-- the lists of a meeting, with these polls alone
+abbrev pub with_polls : MeetingLists → List Poll → MeetingLists
+with_polls m polls = record m { polls = polls }
 
 -- an appointment as its proxy knows it, with what it governs for the meeting and for each late poll in the holding that is kept of its member
 abbrev pub received_due : MeetingLists → List ℕ → ℕ → BTreeMap (List ℕ) Holding → Appointment → Received

@@ -1,3 +1,2 @@
 pub mod Governed
-pub mod Laws
 pub mod Named

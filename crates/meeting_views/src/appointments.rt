@@ -1,7 +1,6 @@
 //! The appointments that a party gave, with their endings, and those that name it.
-ghost use Rattle.std.specs.Prelude.{◌≡◌, ℕ, ◌<◌, All, IfOk, filter, length, map};
+ghost use Rattle.std.specs.Prelude.{◌≡◌, ℕ, IfOk, filter, map};
 ghost use Rattle.std.specs.BTreeMap.{get};
-ghost use Rattle.std.specs.List.{filter_map, slice_get};
 ghost use Rattle.std.specs.Ordering.{nat_cmp};
 ghost use Rattle.desk_words.specs.Names.{same_name};
 ghost use Rattle.desk_words.specs.declared.records.Appointment.{Appointment};
@@ -9,42 +8,9 @@ ghost use Rattle.caller_view.specs.Views.{ended_at, given_in};
 ghost use Rattle.meeting_views.specs.Named.{given_kept, last_ended};
 
 use desk_words::{Appointment, Ending, Filed, Given, Listing, Moment, Party};
+use proxy_rules::{copies_at, given_by};
 use std::alloc::{AllocError, Global};
 use std::collections::BTreeMap;
-
-fn copy_appointment(appointment: &Appointment) -> Result<Appointment, AllocError>
-    ensures { IfOk result (λ a. a ≡ appointment.now) }
-{
-    appointment.clone()
-}
-
-/// Copies of the appointments at the places.
-fn copies_at(
-    alloc: Global,
-    appointments: &[Appointment],
-    places: &[usize],
-) -> Result<Listing<Appointment>, AllocError>
-    requires { All (λ place. place < length appointments.now) places.now }
-    ensures { IfOk result (λ copies. copies ≡ filter_map (slice_get appointments.now) places.now) }
-{
-    let mut copies = Listing::new(alloc);
-    for place in places {
-        copies.push(copy_appointment(&appointments[*place])?)?;
-    }
-    Ok(copies)
-}
-
-/// The appointments that a party gave, in order of receipt.
-fn given_by(
-    alloc: Global,
-    appointments: &Filed<Appointment>,
-    party: Party,
-) -> Result<Listing<Appointment>, AllocError>
-    ensures { IfOk result (λ given. given ≡ filter (λ (a : Appointment). same_name a.member party) appointments.now) }
-{
-    let places = appointments.places_by_first(party);
-    copies_at(alloc, appointments.as_slice(), places)
-}
 
 /// The appointments that name a party as their proxy, in order of receipt.
 pub(crate) fn naming(

@@ -29,7 +29,8 @@ pub(crate) fn persons_of(
     authorities: &Filed<Authority>,
     party: Party,
 ) -> Result<Vec<Authority>, AllocError>
-    ensures { IfOk result (λ persons. persons.items ≡ filter (λ (a : Authority). same_name a.corporation party) authorities.now) }
+    ensures { IfOk result (λ persons. persons.items
+        ≡ filter (λ (a : Authority). same_name a.corporation party) authorities.now) }
 {
     authorities.by_first(alloc, party)
 }
@@ -40,7 +41,8 @@ fn trusting(
     authorities: &Filed<Authority>,
     party: Party,
 ) -> Result<Vec<Authority>, AllocError>
-    ensures { IfOk result (λ given. given.items ≡ filter (λ (a : Authority). same_name a.person party) authorities.now) }
+    ensures { IfOk result (λ given. given.items ≡ filter
+        (λ (a : Authority). same_name a.person party) authorities.now) }
 {
     authorities.by_second(alloc, party)
 }
@@ -53,7 +55,9 @@ pub(crate) fn authorised_of(
     party: Party,
 ) -> Result<Listing<Authorised>, AllocError>
     requires { ascends_by member_before rows.now ≡ true }
-    ensures { IfOk result (λ authorised. authorised ≡ map (authorised_by rows.now) (filter (λ (a : Authority). same_name a.person party) authorities.now)) }
+    ensures { IfOk result (λ authorised. authorised
+        ≡ map (authorised_by rows.now) (filter (λ (a : Authority). same_name a.person party)
+        authorities.now)) }
 {
     let given = trusting(alloc, authorities, party)?;
     let mut authorised = Listing::new(alloc);

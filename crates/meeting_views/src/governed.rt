@@ -3,13 +3,13 @@
 ghost use Rattle.std.specs.Prelude.{◌≡◌, ℕ, List, IfOk, IsTrue, map, filter};
 ghost use Rattle.proxy_rules.specs.Cutoffs.{is_late_poll};
 ghost use Rattle.proxy_rules.specs.Runs.{runs_at};
-ghost use Rattle.meeting_views.specs.Governed.{AreFit, governed_at, is_among, poll_due, poll_kept, received_due, received_kept, runs_of};
+ghost use Rattle.meeting_views.specs.Governed.{AreFit, governed_at, is_among, poll_due, poll_kept, received_due, received_kept, runs_of, with_polls};
 
 use desk_words::{
-    Appointment, Listing, MeetingLists, Moment, Party, PollGoverned, Range, Received,
+    Appointment, Listing, Meeting, MeetingLists, Moment, Party, Poll, PollGoverned, Range, Received,
 };
 use office_days::Closed;
-use poll_rules::{Cutoffs, Holding, cutoffs, is_late_poll, runs_by_number};
+use proxy_rules::{Cutoffs, Holding, cutoffs, is_late_poll, runs_by_number};
 use std::alloc::{AllocError, Global};
 use std::collections::BTreeMap;
 
@@ -59,10 +59,11 @@ fn runs_for(
     Ok(runs)
 }
 
-/// The same for each late poll, by its own cutoffs, in the order of resolutions.
+/// The same for each of the polls that is late, by its own cutoffs.
 fn late_runs(
     alloc: Global,
-    lists: &MeetingLists,
+    meeting: &Meeting,
+    polls: &[Poll],
     closed: &Closed,
     now: Moment,
     named: &BTreeMap<Party, Holding>,
@@ -71,12 +72,12 @@ fn late_runs(
     requires { AreFit named.now }
     ensures { IfOk result (λ late. (member : List ℕ) (number : ℕ) → IsTrue (is_among member received.now)
         → map (poll_kept member number) late.items
-        ≡ map (poll_due named.now closed.now member number) (filter (is_late_poll closed.now) lists.now.polls)) }
+        ≡ map (poll_due named.now closed.now member number) (filter (is_late_poll closed.now) polls.now)) }
 {
     let mut late = Vec::new(alloc);
-    for poll in lists.polls.as_slice() {
+    for poll in polls {
         if is_late_poll(closed, poll) {
-            let cutoffs = cutoffs(&lists.meeting, Some(poll), closed, now);
+            let cutoffs = cutoffs(meeting, Some(poll), closed, now);
             late.push(PollRuns {
                 resolution: poll.resolution,
                 runs: runs_for(alloc, &cutoffs, named, received)?,
@@ -160,20 +161,30 @@ fn with_runs(
 }
 
 /// The appointments as their proxy knows them, each with what it governs of the holding that is
-/// kept of its member: for the meeting and the polls that are not late, and for each late poll.
+/// kept of its member: for the meeting and the polls that are not late, and for each of these polls
+/// that is late.
 pub(crate) fn received_with(
     alloc: Global,
     lists: &MeetingLists,
+    polls: &[Poll],
     closed: &Closed,
     now: Moment,
     named: &BTreeMap<Party, Holding>,
     received: Listing<Appointment>,
 ) -> Result<Listing<Received>, AllocError>
     requires { AreFit named.now }
-    ensures { IfOk result (λ all. all ≡ map (received_due lists.now closed.now now named.now) received) }
+    ensures { IfOk result (λ all. all ≡ map (received_due (with_polls lists.now polls.now) closed.now now named.now) received) }
 {
     let meeting = cutoffs(&lists.meeting, None, closed, now);
     let runs = runs_for(alloc, &meeting, named, received.as_slice())?;
-    let late = late_runs(alloc, lists, closed, now, named, received.as_slice())?;
+    let late = late_runs(
+        alloc,
+        &lists.meeting,
+        polls,
+        closed,
+        now,
+        named,
+        received.as_slice(),
+    )?;
     Ok(Listing::from_vec(with_runs(alloc, received, &runs, late.as_slice())?))
 }

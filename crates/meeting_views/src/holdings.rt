@@ -1,17 +1,16 @@
 //! The holdings of the members who named a party as their proxy.
-ghost use Rattle.std.specs.Prelude.{◌≡◌, List, ℕ, true, IfOk, filter, map};
+ghost use Rattle.std.specs.Prelude.{◌≡◌, List, ℕ, true, IfOk};
+ghost use Rattle.proxy_rules.specs.Shares.{shares_by};
 ghost use Rattle.std.specs.BTreeMap.{get};
 ghost use Rattle.std.specs.Option.{option_copied};
 ghost use Rattle.desk_words.specs.Names.{name_cmp};
 ghost use Rattle.desk_words.specs.Ordered.{ascends_by};
 ghost use Rattle.desk_words.specs.Registers.{member_before};
-ghost use Rattle.proxy_rules.specs.Governing.{shares_by};
-ghost use Rattle.proxy_rules.specs.Holdings.{appointed_by, is_given_by};
 ghost use Rattle.meeting_views.specs.Named.{holding_in, named_of};
 
 use crate::finding::find_row;
-use desk_words::{Appointment, Filed, HolderKind, Listing, MeetingLists, Party, RegisterRow};
-use poll_rules::{Appointed, Holding};
+use desk_words::{Appointment, HolderKind, Listing, MeetingLists, Party, RegisterRow};
+use proxy_rules::{Holding, given_by};
 use std::alloc::{AllocError, Global};
 use std::collections::BTreeMap;
 
@@ -29,22 +28,6 @@ fn shares_by(rows: &[RegisterRow], member: Party) -> u64
     }
 }
 
-/// What a member's appointments say of which shares they govern, in order of receipt.
-fn appointed_by(
-    alloc: Global,
-    appointments: &Filed<Appointment>,
-    member: Party,
-) -> Result<Listing<Appointed>, AllocError>
-    ensures { IfOk result (λ appointed. appointed ≡ map appointed_by (filter (is_given_by member) appointments.now)) }
-{
-    let given = appointments.as_slice();
-    let mut appointed = Listing::new(alloc);
-    for place in appointments.places_by_first(member) {
-        appointed.push(Appointed::of(&given[*place]))?;
-    }
-    Ok(appointed)
-}
-
 /// A member's shares, with its appointments and endings.
 fn holding_in(alloc: Global, lists: &MeetingLists, member: Party) -> Result<Holding, AllocError>
     requires { ascends_by member_before lists.now.register ≡ true }
@@ -53,7 +36,7 @@ fn holding_in(alloc: Global, lists: &MeetingLists, member: Party) -> Result<Hold
     let ended = lists.endings.by_first(alloc, member)?;
     Ok(Holding {
         shares: shares_by(lists.register.as_slice(), member),
-        appointed: appointed_by(alloc, &lists.appointments, member)?,
+        appointed: given_by(alloc, &lists.appointments, member)?,
         ended: Listing::from_vec(ended),
     })
 }

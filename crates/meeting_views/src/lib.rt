@@ -6,9 +6,9 @@ mod authorities;
 mod finding;
 mod governed;
 mod holdings;
-pub mod laws;
 mod own;
 mod reads;
+mod voting;
 
 pub use finding::{find_row, place_of_meeting};
 pub use own::{nothing_of, own_in};

@@ -12,6 +12,7 @@ ghost use Rattle.desk_words.specs.declared.records.CastMark.{CastMark};
 ghost use Rattle.desk_words.specs.declared.records.DemandMark.{DemandMark};
 ghost use Rattle.desk_words.specs.declared.records.PresenceMark.{PresenceMark};
 ghost use Rattle.proxy_rules.specs.Shares.{are_rows};
+ghost use Rattle.meeting_views.specs.Governed.{with_polls};
 
 use crate::appointments::{given_of, naming};
 use crate::authorities::{authorised_of, persons_of};
@@ -20,11 +21,29 @@ use crate::governed::received_with;
 use crate::holdings::holdings_of;
 use caller_view::OwnView;
 use desk_words::{
-    CastMark, DemandMark, Filed, Listing, MeetingLists, Moment, Party, PresenceMark, Received,
-    RegisterRow,
+    Appointment, CastMark, DemandMark, Filed, Listing, MeetingLists, Moment, Party, Poll,
+    PresenceMark, Received, RegisterRow,
 };
 use office_days::Closed;
 use std::alloc::{AllocError, Global};
+
+/// These appointments as their proxy knows them, each with what it governs for the meeting and for each
+/// of these polls that is late.
+pub(crate) fn received_for(
+    alloc: Global,
+    closed: &Closed,
+    lists: &MeetingLists,
+    polls: &[Poll],
+    received: Listing<Appointment>,
+    now: Moment,
+) -> Result<Listing<Received>, AllocError>
+    requires rows { are_rows lists.now.register ≡ true }
+    requires appointments { are_appointments (length lists.now.meeting.resolutions) lists.now.appointments ≡ true }
+    ensures { IfOk result (λ all. all ≡ map (received_in (with_polls lists.now polls.now) closed.now now) received) }
+{
+    let named = holdings_of(alloc, lists, received.as_slice())?;
+    received_with(alloc, lists, polls, closed, now, &named, received)
+}
 
 /// The appointments that name a party, each with what it governs, in order of receipt.
 pub(crate) fn received_of(
@@ -35,13 +54,14 @@ pub(crate) fn received_of(
     now: Moment,
 ) -> Result<Listing<Received>, AllocError>
     requires rows { are_rows lists.now.register ≡ true }
-    requires appointments { are_appointments (length lists.now.meeting.resolutions) lists.now.appointments ≡ true }
+    requires appointments { are_appointments (length lists.now.meeting.resolutions)
+        lists.now.appointments ≡ true }
     ensures { IfOk result (λ received. received
-        ≡ map (received_in lists.now closed.now now) (filter (λ (a : Appointment). same_name a.proxy party) lists.now.appointments)) }
+        ≡ map (received_in lists.now closed.now now)
+        (filter (λ (a : Appointment). same_name a.proxy party) lists.now.appointments)) }
 {
     let received = naming(alloc, &lists.appointments, party)?;
-    let named = holdings_of(alloc, lists, received.as_slice())?;
-    received_with(alloc, lists, closed, now, &named, received)
+    received_for(alloc, closed, lists, lists.polls.as_slice(), received, now)
 }
 
 pub(crate) fn is_present(presences: &Filed<PresenceMark>, party: Party) -> bool
@@ -55,7 +75,8 @@ pub(crate) fn demands_of(
     demands: &Filed<DemandMark>,
     party: Party,
 ) -> Result<Vec<DemandMark>, AllocError>
-    ensures { IfOk result (λ v. v.items ≡ filter (λ (d : DemandMark). same_name d.party party) demands.now) }
+    ensures { IfOk result (λ v. v.items ≡ filter (λ (d : DemandMark). same_name d.party party)
+        demands.now) }
 {
     demands.by_first(alloc, party)
 }
@@ -65,7 +86,8 @@ fn casts_of(
     casts: &Filed<CastMark>,
     party: Party,
 ) -> Result<Vec<CastMark>, AllocError>
-    ensures { IfOk result (λ v. v.items ≡ filter (λ (c : CastMark). same_name c.voter party) casts.now) }
+    ensures { IfOk result (λ v. v.items ≡ filter (λ (c : CastMark). same_name c.voter party)
+        casts.now) }
 {
     casts.by_first(alloc, party)
 }
@@ -92,7 +114,8 @@ pub fn own_in(
     now: Moment,
 ) -> Result<OwnView, AllocError>
     requires rows { are_rows lists.now.register ≡ true }
-    requires appointments { are_appointments (length lists.now.meeting.resolutions) lists.now.appointments ≡ true }
+    requires appointments { are_appointments (length lists.now.meeting.resolutions)
+        lists.now.appointments ≡ true }
     ensures { IfOk result (λ own. own ≡ own_in lists.now closed.now party now) }
 {
     let rows = lists.register.as_slice();

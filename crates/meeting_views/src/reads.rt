@@ -1,23 +1,21 @@
 //! What of a party's own things the answer to its request reads.
-ghost use Rattle.std.specs.Prelude.{◌≡◌, ◌==◌, [], true, IfOk, filter, length, map};
+ghost use Rattle.std.specs.Prelude.{◌≡◌, [], true, IfOk, filter, length, map};
 ghost use Rattle.std.specs.List.{list_any};
 ghost use Rattle.desk_words.specs.Names.{same_name};
 ghost use Rattle.desk_words.specs.Office.{are_appointments};
-ghost use Rattle.desk_words.specs.Ordered.{ascends_by};
-ghost use Rattle.desk_words.specs.Registers.{member_before};
 ghost use Rattle.desk_words.specs.declared.records.Appointment.{Appointment};
 ghost use Rattle.desk_words.specs.declared.records.Authority.{Authority};
-ghost use Rattle.desk_words.specs.declared.records.CastMark.{CastMark};
 ghost use Rattle.desk_words.specs.declared.records.PresenceMark.{PresenceMark};
 ghost use Rattle.caller_view.specs.Reads.{own_read};
-ghost use Rattle.caller_view.specs.Views.{given_in, nothing_of, own_in, row_of};
+ghost use Rattle.caller_view.specs.Views.{given_in, nothing_of, own_in};
 ghost use Rattle.proxy_rules.specs.Shares.{are_rows};
 
 use crate::appointments::given_of;
 use crate::authorities::{authorised_of, persons_of};
 use crate::own::{demands_of, is_present, nothing_of, own_in, received_of, row_in};
+use crate::voting::{for_cast, for_instructed};
 use caller_view::OwnView;
-use desk_words::{CastMark, Filed, Listing, MeetingLists, Moment, Party, Request};
+use desk_words::{Listing, MeetingLists, Moment, Party, PartyRequest};
 use office_days::Closed;
 use std::alloc::{AllocError, Global};
 
@@ -55,49 +53,6 @@ fn presence_alone(alloc: Global, lists: &MeetingLists, party: Party) -> OwnView
     }
 }
 
-/// The votes that a party cast on a resolution, in order of receipt.
-fn casts_on(
-    alloc: Global,
-    casts: &Filed<CastMark>,
-    party: Party,
-    resolution: u64,
-) -> Result<Vec<CastMark>, AllocError>
-    ensures { IfOk result (λ found. found.items
-        ≡ filter (λ (c : CastMark). c.resolution == resolution) (filter (λ (c : CastMark). same_name c.voter party) casts.now)) }
-{
-    let all = casts.as_slice();
-    let mut found = Vec::new(alloc);
-    for place in casts.places_by_first(party) {
-        let cast = &all[*place];
-        if cast.resolution == resolution {
-            found.push(*cast)?;
-        }
-    }
-    Ok(found)
-}
-
-/// The party's row and the votes that it cast on a resolution.
-fn row_and_casts(
-    alloc: Global,
-    lists: &MeetingLists,
-    party: Party,
-    resolution: u64,
-) -> Result<OwnView, AllocError>
-    requires { ascends_by member_before lists.now.register ≡ true }
-    ensures { IfOk result (λ own. own ≡ record (nothing_of party) {
-      row = row_of lists.now.register party;
-      casts = filter (λ (c : CastMark). c.resolution == resolution) (filter (λ (c : CastMark). same_name c.voter party) lists.now.casts);
-    }) }
-{
-    let row = row_in(lists.register.as_slice(), party)?;
-    let casts = casts_on(alloc, &lists.casts, party, resolution)?;
-    Ok(OwnView {
-        row,
-        casts: Listing::from_vec(casts),
-        ..nothing_of(alloc, party)
-    })
-}
-
 /// What the party may act by at the meeting, and the polls that it demanded.
 fn for_demand(
     alloc: Global,
@@ -132,19 +87,22 @@ pub fn own_for(
     lists: &MeetingLists,
     party: Party,
     now: Moment,
-    request: &Request,
+    asked: &PartyRequest,
 ) -> Result<OwnView, AllocError>
     requires rows { are_rows lists.now.register ≡ true }
     requires appointments { are_appointments (length lists.now.meeting.resolutions) lists.now.appointments ≡ true }
-    ensures { IfOk result (λ own. own ≡ own_read request.now (own_in lists.now closed.now party now)) }
+    ensures { IfOk result (λ own. own ≡ own_read asked.now (own_in lists.now closed.now party now)) }
 {
-    match request {
-        Request::Mine(_) => own_in(alloc, closed, lists, party, now),
-        Request::Appoint(_) | Request::End(_) => given_alone(alloc, lists, party),
-        Request::Authorise(_) => persons_alone(alloc, lists, party),
-        Request::Attend(_) => Ok(presence_alone(alloc, lists, party)),
-        Request::Demand(_) => for_demand(alloc, closed, lists, party, now),
-        Request::Cast(new) => row_and_casts(alloc, lists, party, new.resolution),
-        _ => Ok(nothing_of(alloc, party)),
+    match asked {
+        PartyRequest::Notice => Ok(nothing_of(alloc, party)),
+        PartyRequest::Mine => own_in(alloc, closed, lists, party, now),
+        PartyRequest::Appoint(_) | PartyRequest::End(_) => given_alone(alloc, lists, party),
+        PartyRequest::Authorise(_) => persons_alone(alloc, lists, party),
+        PartyRequest::Attend => Ok(presence_alone(alloc, lists, party)),
+        PartyRequest::Demand(_) => for_demand(alloc, closed, lists, party, now),
+        PartyRequest::Cast(new) => for_cast(alloc, closed, lists, party, now, new),
+        PartyRequest::Instructed(resolution) => {
+            for_instructed(alloc, closed, lists, party, now, *resolution)
+        }
     }
 }

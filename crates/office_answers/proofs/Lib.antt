@@ -1,3 +1,1 @@
-pub mod CastLemmas
 pub mod OfficeFacts
-pub mod RefusedAtOnce

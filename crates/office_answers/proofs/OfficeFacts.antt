@@ -4,6 +4,7 @@ use Rattle.std.specs.Prelude.{Some, None, IfSome, find, is_some, nat_le}
 use Rattle.std.specs.List.{list_all}
 use Rattle.std.specs.Cmp.{first_so, second_so}
 use Rattle.std.specs.Cmp.Derive.{both_true}
+use Rattle.desk_words.specs.Finding.{meeting_named}
 use Rattle.desk_words.specs.Names.{same_name}
 use Rattle.desk_words.specs.Ordered.{ascends_by, differ_by}
 use Rattle.desk_words.specs.Registers.{is_register, keep_limits, member_before}
@@ -12,7 +13,6 @@ use Rattle.desk_words.specs.Office.{are_numbered_after, is_appointment, implies,
 use Rattle.desk_words.specs.declared.office.OfficeLists.{OfficeLists}
 use Rattle.desk_words.specs.declared.office.MeetingLists.{MeetingLists}
 use Rattle.desk_words.specs.declared.records.RegisterRow.{RegisterRow}
-use Rattle.caller_view.specs.Views.{meeting_named}
 use Rattle.desk_lists.proofs.Truth.{either_second}
 use Rattle.proxy_rules.proofs.TagLemmas.{are_tags-appointments}
 use Rattle.proxy_rules.specs.Holdings.{are_tags}
@@ -141,12 +141,4 @@ found_meeting meetings id h =
     (elim (meeting_named meetings id) as (λ found. meeting_named meetings id ≡ found → IfSome found (λ m. is_meeting m ≡ true)) [
       | None ↦ λ e. tt
       | Some m ↦ λ e. find-passes (λ x. same_name x.meeting.id id) is_meeting meetings m h e
-    ]) refl
-
--- its rows are a register, or none
-pub found_rows : (meetings : List MeetingLists) (id : List ℕ) → list_all is_meeting meetings ≡ true → IfSome (meeting_named meetings id) (λ m. are_rows m.register ≡ true)
-found_rows meetings id h =
-    (elim (meeting_named meetings id) as (λ found. meeting_named meetings id ≡ found → IfSome found (λ m. are_rows m.register ≡ true)) [
-      | None ↦ λ e. tt
-      | Some m ↦ λ e. meeting_rows m (find-passes (λ x. same_name x.meeting.id id) is_meeting meetings m h e)
     ]) refl

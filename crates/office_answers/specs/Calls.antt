@@ -1,21 +1,24 @@
 -- The calling of a meeting, and the loading of its register.
-use Rattle.std.specs.Prelude.{ℕ, Bool, true, false, ◌==◌, not, ◌/◌, nat_lt, nat_le, List, [], ◌∷◌, length, Option, Some, None, is_some}
+use Rattle.std.specs.Prelude.{false, ◌==◌, not, ◌/◌, nat_lt, nat_le, List, [], ◌∷◌, length, Some, None, is_some}
+use Rattle.desk_words.specs.Finding.{meeting_named}
 use Rattle.desk_words.specs.Refusals.{Case}
 use Rattle.desk_words.specs.Rows.{same_rows}
+use Rattle.desk_words.specs.Rulings.{Ruling, loaded}
+use Rattle.desk_words.specs.Seen.{Day, Moment}
+use Rattle.desk_words.specs.declared.change.Change.{Change}
+use Rattle.desk_words.specs.declared.change.Change.TheVariants.{AddMeeting}
+use Rattle.desk_words.specs.declared.change.MeetingChange.{MeetingChange}
+use Rattle.desk_words.specs.declared.change.MeetingChange.TheVariants.{SetRegister}
 use Rattle.desk_words.specs.declared.office.MeetingLists.{MeetingLists}
 use Rattle.desk_words.specs.declared.records.Meeting.{Meeting}
+use Rattle.desk_words.specs.declared.reply.Reply.TheVariants.{Called}
 use Rattle.desk_words.specs.declared.request.NewMeeting.{NewMeeting}
 use Rattle.desk_words.specs.declared.request.NewRegister.{NewRegister}
-use Rattle.desk_words.specs.declared.request.Reply.TheVariants as reply
-use Rattle.desk_words.specs.declared.request.Change.TheVariants as change
-use Rattle.desk_terms.specs.declared.refusal.Refusal.TheVariants.{NoMeeting, Exists, ShortNotice, TooMany, OtherRecord, Opened, Early}
-use Rattle.caller_view.specs.declared.views.Answer.{Answer}
-use Rattle.caller_view.specs.Answers.{unless, refused, replied}
+use Rattle.desk_terms.specs.declared.refusal.Refusal.TheVariants.{Exists, ShortNotice, TooMany, OtherRecord, Opened, Early}
 use Rattle.office_days.specs.Notice.{is_enough_notice}
-use Rattle.caller_view.specs.Views.{meeting_named}
 
 -- the day of a moment
-abbrev pub day_of : ℕ → ℕ
+abbrev pub day_of : Moment → Day
 day_of moment = moment / 86400
 
 -- when a meeting is not called: one has that name, the notice is too short (sections 307 and 360), or there are 100
@@ -40,28 +43,24 @@ meeting_of new = record {
   opened = None;
 }
 
--- the answer to a call of a meeting, which adds the meeting
-abbrev pub call_answer : List MeetingLists → NewMeeting → Answer
-call_answer meetings new = unless (call_cases meetings new) (record { reply = reply.Called; change = Some (change.AddMeeting (meeting_of new)) })
+-- a meeting is called, which adds it
+abbrev pub call_ruling : List MeetingLists → NewMeeting → Ruling Change
+call_ruling meetings new = record {
+  cases = call_cases meetings new;
+  accepted = record { reply = Called; change = Some (AddMeeting (meeting_of new)) };
+}
 
 -- when a register is not loaded (section 113)
-abbrev pub load_cases : Meeting → ℕ → NewRegister → List Case
+abbrev pub load_cases : Meeting → Moment → NewRegister → List Case
 load_cases meeting now new =
     record { refusal = OtherRecord; holds = not (meeting.record_moment == new.record_moment) }
     ∷ record { refusal = Opened; holds = is_some meeting.opened }
     ∷ record { refusal = Early; holds = nat_lt now new.record_moment }
     ∷ []
 
--- Same where the rows are those held, else Loaded
-abbrev pub loads : Bool → NewRegister → Answer
-loads true new = replied reply.Same
-loads false new = record { reply = reply.Loaded; change = Some (change.SetRegister (record { meeting = new.meeting; rows = new.rows })) }
-
--- the answer to a register of a meeting that exists
-abbrev pub load_answer : ℕ → NewRegister → MeetingLists → Answer
-load_answer now new m = unless (load_cases m.meeting now new) (loads (same_rows m.register new.rows) new)
-
--- an answer in a meeting, or that there is none
-abbrev pub in_meeting : Option MeetingLists → (MeetingLists → Answer) → Answer
-in_meeting None f = refused NoMeeting
-in_meeting (Some m) f = f m
+-- a register is loaded, unless its rows are those that are held
+abbrev pub load_ruling : MeetingLists → Moment → NewRegister → Ruling MeetingChange
+load_ruling m now new = record {
+  cases = load_cases m.meeting now new;
+  accepted = loaded (same_rows m.register new.rows) (SetRegister new.rows);
+}

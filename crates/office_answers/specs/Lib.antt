@@ -1,6 +1,6 @@
 pub mod Answers
 pub mod Attendance
 pub mod Calls
-pub mod Closed
 pub mod Limits
+pub mod Lists
 pub mod Polls

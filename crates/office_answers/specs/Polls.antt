@@ -1,28 +1,29 @@
 -- The opening of a meeting, and the way of a poll: ordered, started, closed, declared.
-use Rattle.std.specs.Prelude.{ℕ, false, not, ◌&&◌, ◌-◌, nat_lt, List, [], ◌∷◌, length, Option, Some, None, is_some, is_none}
+use Rattle.std.specs.Prelude.{false, not, ◌&&◌, ◌-◌, nat_lt, List, [], ◌∷◌, Option, Some, None, is_some, is_none}
 use Rattle.std.specs.List.{slice_get}
-use Rattle.desk_words.specs.Office.{is_resolution}
+use Rattle.desk_words.specs.Finding.{poll_on}
+use Rattle.desk_words.specs.Polls.{there_is, is_started, is_waiting, is_closed, is_unclosed, is_declared, is_taken_after}
 use Rattle.desk_words.specs.Refusals.{Case}
-use Rattle.desk_terms.specs.declared.refusal.Refusal.TheVariants.{Exists, NoResolution, NoRegister, Opened, NotOpened, Early, NoQuorum, PollOrdered, NoPoll, DemandTooSmall, PollNotOpen, PollClosed, NotClosed, Declared}
+use Rattle.desk_words.specs.Rulings.{Ruling, no_resolution}
+use Rattle.desk_words.specs.Seen.{Day, Moment, Number}
+use Rattle.desk_terms.specs.declared.refusal.Refusal.TheVariants.{Exists, NoRegister, Opened, NotOpened, Early, NoQuorum, PollOrdered, NoPoll, DemandTooSmall, PollNotOpen, PollClosed, NotClosed, Declared}
+use Rattle.desk_words.specs.declared.change.MeetingChange.{MeetingChange}
+use Rattle.desk_words.specs.declared.change.MeetingChange.TheVariants.{SetOpened, AddPoll, SetPoll}
+use Rattle.desk_words.specs.declared.change.PollChange.TheVariants as poll
 use Rattle.desk_words.specs.declared.office.MeetingLists.{MeetingLists}
-use Rattle.desk_words.specs.declared.records.Meeting.{Meeting}
 use Rattle.desk_words.specs.declared.records.Poll.{Poll}
 use Rattle.desk_words.specs.declared.records.Resolution.{Resolution}
 use Rattle.desk_words.specs.declared.records.Tally.{Tally}
-use Rattle.desk_words.specs.declared.request.Change.TheVariants as change
-use Rattle.desk_words.specs.declared.request.Declaration.{Declaration}
+use Rattle.desk_words.specs.declared.reply.Declaration.{Declaration}
+use Rattle.desk_words.specs.declared.reply.Reply.TheVariants as reply
 use Rattle.desk_words.specs.declared.request.NewPoll.{NewPoll}
-use Rattle.desk_words.specs.declared.request.PollName.{PollName}
-use Rattle.desk_words.specs.declared.request.Reply.TheVariants as reply
-use Rattle.caller_view.specs.Answers.{unless}
 use Rattle.office_answers.specs.Attendance.{demand_in, quorum_in}
-use Rattle.caller_view.specs.Polls.{poll_on, there_is, is_started, is_waiting, is_closed, is_unclosed, is_declared, is_taken_after}
-use Rattle.caller_view.specs.declared.views.Answer.{Answer}
-use Rattle.poll_rules.specs.Tallies.{tally_of}
-use Rattle.poll_rules.specs.Majority.{result_of}
+use Rattle.proxy_rules.specs.Cutoffs.{cutoffs_of}
+use Rattle.vote_rules.specs.Tallies.{tally_of}
+use Rattle.desk_words.specs.Majority.{result_of}
 
 -- when a meeting is not opened (section 318)
-abbrev pub open_cases : MeetingLists → List ℕ → ℕ → List Case
+abbrev pub open_cases : MeetingLists → List Day → Moment → List Case
 open_cases m closed now =
     record { refusal = NoRegister; holds = not m.meeting.loaded }
     ∷ record { refusal = Opened; holds = is_some m.meeting.opened }
@@ -30,16 +31,15 @@ open_cases m closed now =
     ∷ record { refusal = NoQuorum; holds = not (quorum_in m closed now) }
     ∷ []
 
--- the answer to the opening of a meeting that exists
-abbrev pub open_answer : List ℕ → ℕ → List ℕ → MeetingLists → Answer
-open_answer closed now id m = unless (open_cases m closed now) (record { reply = reply.MeetingOpened; change = Some (change.SetOpened (record { meeting = id; moment = now })) })
-
--- no such resolution stands in the notice
-abbrev pub no_resolution : Meeting → ℕ → Case
-no_resolution meeting number = record { refusal = NoResolution; holds = not (is_resolution (length meeting.resolutions) number) }
+-- a meeting is opened
+abbrev pub open_ruling : MeetingLists → List Day → Moment → Ruling MeetingChange
+open_ruling m closed now = record {
+  cases = open_cases m closed now;
+  accepted = record { reply = reply.MeetingOpened; change = Some (SetOpened now) };
+}
 
 -- when a poll is not ordered (section 321); the chair may order it without a demand
-abbrev pub order_cases : MeetingLists → List ℕ → ℕ → NewPoll → List Case
+abbrev pub order_cases : MeetingLists → List Day → Moment → NewPoll → List Case
 order_cases m closed now new =
     no_resolution m.meeting new.resolution
     ∷ record { refusal = NotOpened; holds = is_none m.meeting.opened }
@@ -49,7 +49,7 @@ order_cases m closed now new =
     ∷ []
 
 -- the poll that is ordered at a moment (section 321)
-abbrev pub poll_of : ℕ → NewPoll → Poll
+abbrev pub poll_of : Moment → NewPoll → Poll
 poll_of now new = record {
   resolution = new.resolution;
   ordered = now;
@@ -60,49 +60,55 @@ poll_of now new = record {
   declared = None;
 }
 
--- the answer to the order of a poll in a meeting that exists
-abbrev pub order_answer : List ℕ → ℕ → NewPoll → MeetingLists → Answer
-order_answer closed now new m =
-    unless (order_cases m closed now new)
-    (record { reply = reply.Ordered; change = Some (change.AddPoll (record { meeting = new.meeting; poll = poll_of now new })) })
+-- a poll is ordered (section 321)
+abbrev pub order_ruling : MeetingLists → List Day → Moment → NewPoll → Ruling MeetingChange
+order_ruling m closed now new = record {
+  cases = order_cases m closed now new;
+  accepted = record { reply = reply.Ordered; change = Some (AddPoll (poll_of now new)) };
+}
 
 -- when a poll is not started
-abbrev pub start_cases : Meeting → Option Poll → ℕ → ℕ → List Case
-start_cases meeting poll now number =
-    record { refusal = Exists; holds = there_is is_started poll }
-    ∷ no_resolution meeting number
-    ∷ record { refusal = Early; holds = there_is (is_taken_after now) poll }
-    ∷ record { refusal = NoPoll; holds = is_none poll }
+abbrev pub start_cases : MeetingLists → Moment → Number → List Case
+start_cases m now resolution =
+    let found = poll_on m.polls resolution in
+    record { refusal = Exists; holds = there_is is_started found }
+    ∷ no_resolution m.meeting resolution
+    ∷ record { refusal = Early; holds = there_is (is_taken_after now) found }
+    ∷ record { refusal = NoPoll; holds = is_none found }
     ∷ []
 
--- the answer to the start of a poll in a meeting that exists
-abbrev pub start_answer : ℕ → PollName → MeetingLists → Answer
-start_answer now name m =
-    unless (start_cases m.meeting (poll_on m.polls name.resolution) now name.resolution)
-    (record { reply = reply.Started; change = Some (change.SetStarted (record { poll = name; moment = now })) })
+-- a poll is started
+abbrev pub start_ruling : MeetingLists → Moment → Number → Ruling MeetingChange
+start_ruling m now resolution = record {
+  cases = start_cases m now resolution;
+  accepted = record { reply = reply.Started; change = Some (SetPoll resolution (poll.Started now)) };
+}
 
 -- when the voting on a poll is not closed; how many have voted is not asked
-abbrev pub close_cases : Meeting → Option Poll → ℕ → List Case
-close_cases meeting poll number =
-    no_resolution meeting number
-    ∷ record { refusal = NoPoll; holds = is_none poll }
-    ∷ record { refusal = PollNotOpen; holds = there_is is_waiting poll }
-    ∷ record { refusal = PollClosed; holds = there_is is_closed poll }
+abbrev pub close_cases : MeetingLists → Number → List Case
+close_cases m resolution =
+    let found = poll_on m.polls resolution in
+    no_resolution m.meeting resolution
+    ∷ record { refusal = NoPoll; holds = is_none found }
+    ∷ record { refusal = PollNotOpen; holds = there_is is_waiting found }
+    ∷ record { refusal = PollClosed; holds = there_is is_closed found }
     ∷ []
 
--- the answer to the close of a poll in a meeting that exists
-abbrev pub close_answer : ℕ → PollName → MeetingLists → Answer
-close_answer now name m =
-    unless (close_cases m.meeting (poll_on m.polls name.resolution) name.resolution)
-    (record { reply = reply.VotingClosed; change = Some (change.SetClosed (record { poll = name; moment = now })) })
+-- the voting on a poll is closed
+abbrev pub close_ruling : MeetingLists → Moment → Number → Ruling MeetingChange
+close_ruling m now resolution = record {
+  cases = close_cases m resolution;
+  accepted = record { reply = reply.VotingClosed; change = Some (SetPoll resolution (poll.Closed now)) };
+}
 
 -- when the result of a poll is not declared
-abbrev pub declare_cases : Meeting → Option Poll → ℕ → List Case
-declare_cases meeting poll number =
-    no_resolution meeting number
-    ∷ record { refusal = NoPoll; holds = is_none poll }
-    ∷ record { refusal = NotClosed; holds = there_is is_unclosed poll }
-    ∷ record { refusal = Declared; holds = there_is is_declared poll }
+abbrev pub declare_cases : MeetingLists → Number → List Case
+declare_cases m resolution =
+    let found = poll_on m.polls resolution in
+    no_resolution m.meeting resolution
+    ∷ record { refusal = NoPoll; holds = is_none found }
+    ∷ record { refusal = NotClosed; holds = there_is is_unclosed found }
+    ∷ record { refusal = Declared; holds = there_is is_declared found }
     ∷ []
 
 -- the result of a poll by its count; where the resolution is not of the notice, it is not carried
@@ -110,13 +116,19 @@ abbrev pub result_on : Option Resolution → Tally → Declaration
 result_on None tally = record { tally = tally; carried = false }
 result_on (Some resolution) tally = result_of resolution.kind tally
 
--- the count of the votes on a resolution, and whether it is carried (sections 282 to 284)
-abbrev pub declaration_of : MeetingLists → ℕ → Declaration
-declaration_of m number = result_on (slice_get m.meeting.resolutions (number - 1)) (tally_of m.register m.casts number)
+-- the count of the votes on a resolution, by the cutoffs of its poll as the closed days stand (sections 284 and 327)
+abbrev pub tally_in : MeetingLists → List Day → Moment → Number → Tally
+tally_in m closed now resolution =
+    tally_of (cutoffs_of m.meeting (poll_on m.polls resolution) closed now) m.register m.appointments m.endings m.authorities m.casts resolution
 
--- the answer to the declaration of a poll in a meeting that exists
-abbrev pub declare_answer : List ℕ → ℕ → PollName → MeetingLists → Answer
-declare_answer closed now name m =
-    unless (declare_cases m.meeting (poll_on m.polls name.resolution) name.resolution)
-    (let declared = declaration_of m name.resolution in
-    record { reply = reply.Declared declared; change = Some (change.SetDeclared (record { poll = name; tally = declared.tally })) })
+-- that count, and whether it carries the resolution (sections 282 to 284)
+abbrev pub declaration_of : MeetingLists → List Day → Moment → Number → Declaration
+declaration_of m closed now resolution = result_on (slice_get m.meeting.resolutions (resolution - 1)) (tally_in m closed now resolution)
+
+-- the result of a poll is declared, by the closed days and the moment of the call
+abbrev pub declare_ruling : MeetingLists → List Day → Moment → Number → Ruling MeetingChange
+declare_ruling m closed now resolution = record {
+  cases = declare_cases m resolution;
+  accepted = let declared = declaration_of m closed now resolution in
+      record { reply = reply.Declared declared; change = Some (SetPoll resolution (poll.Declared declared.tally)) };
+}

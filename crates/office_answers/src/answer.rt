@@ -1,66 +1,75 @@
 //! The answer to the office.
-ghost use Rattle.std.specs.Prelude.{◌≡◌, true, IfOk, IsTrue, IsOk};
-ghost use Rattle.std.specs.List.{list_all};
+ghost use Rattle.std.specs.Prelude.{◌≡◌, true, IfOk, IfSome, IsOk};
+ghost use Rattle.std.specs.Option.{option_copied};
 ghost use Rattle.desk_words.specs.Office.{is_meeting};
-ghost use Rattle.office_answers.specs.Answers.{is_refused_at_once, office_answer, takes_no_memory};
-ghost use Rattle.office_answers.specs.Limits.{keeps_limits};
+ghost use Rattle.desk_words.specs.Rulings.{refuses, settled};
+ghost use Rattle.office_answers.specs.Answers.{desk_ruling, office_ruling, refuses_at_once, takes_no_memory};
+ghost use Rattle.office_answers.specs.Limits.{if_any, is_within_limits, keeps_limits};
 
 use crate::attendance::note_presence;
 use crate::calls::{call_meeting, load_register};
-use crate::closed::load_days;
+use crate::lists::{load_days, load_keys};
 use crate::polls::{close_poll, declare_poll, open_meeting, order_poll, start_poll};
-use caller_view::{Answer, find_meeting, refuse};
-use desk_words::{MeetingLists, Moment, Refusal, Request};
+use desk_words::{
+    Answer, Change, DeskRequest, KeyRows, MeetingChange, MeetingLists, Moment, OfficeRequest,
+    Refusal, refuse,
+};
 use office_days::Closed;
 use std::alloc::{AllocError, Global};
 
-/// The answer to the office, from the closed days and all its meetings. The error is want of memory; what
-/// `takes_no_memory` names, a presence, a start and a close among it, needs none, nor does a refusal
-/// other than `NoQuorum` and `DemandTooSmall`.
+/// The answer to what the office asks of the whole desk, from its keys, its closed days and its
+/// meetings. The error is want of memory; a refusal takes none.
+pub fn desk_answer(
+    keys: &KeyRows,
+    closed: &Closed,
+    meetings: &[MeetingLists],
+    asked: &DeskRequest,
+) -> Result<Answer<Change>, AllocError>
+    ensures answer { IfOk result (λ a. a ≡ settled
+        (desk_ruling keys.now closed.now meetings.now asked.now)) }
+    ensures limits { IfOk result (λ a. if_any keeps_limits a.change ≡ true) }
+    ensures refusals { refuses (desk_ruling keys.now closed.now meetings.now asked.now) ≡ true
+        → IsOk result }
+{
+    match asked {
+        DeskRequest::CallMeeting(new) => call_meeting(meetings, new),
+        DeskRequest::ClosedDays(days) => load_days(closed, days),
+        DeskRequest::Keys(rows) => load_keys(keys, rows),
+    }
+}
+
+/// The answer to what the office asks in a meeting, from the closed days, the moment and the
+/// meeting's lists. It is refused as `NoMeeting` where there is none, and else as its request is.
+/// The error is want of memory; what `takes_no_memory` names, a presence, a start and a close among
+/// it, needs none, nor does a refusal other than `NoQuorum` and `DemandTooSmall`.
 pub fn office_answer(
     alloc: Global,
     closed: &Closed,
-    meetings: &[MeetingLists],
+    found: Option<&MeetingLists>,
     now: Moment,
-    request: &Request,
-) -> Result<Answer, AllocError>
-    requires { list_all is_meeting meetings.now ≡ true }
-    ensures answer { IfOk result (λ a. a ≡ office_answer closed.now meetings.now now request.now) }
-    ensures limits { IfOk result (λ a. IsTrue (keeps_limits a.change)) }
-    ensures sure { takes_no_memory request.now ≡ true → IsOk result }
-    ensures refusals { is_refused_at_once (office_answer closed.now meetings.now now request.now) ≡ true → IsOk result }
+    asked: &OfficeRequest,
+) -> Result<Answer<MeetingChange>, AllocError>
+    requires { IfSome (option_copied found) (λ m. is_meeting m ≡ true) }
+    ensures answer { IfOk result (λ a. a
+        ≡ settled (office_ruling closed.now (option_copied found.entry) now asked.now)) }
+    ensures limits { IfOk result (λ a. if_any is_within_limits a.change ≡ true) }
+    ensures sure { takes_no_memory asked.now ≡ true → IsOk result }
+    ensures refusals { refuses_at_once (office_ruling closed.now
+        (option_copied found.entry) now asked.now)
+        ≡ true → IsOk result }
 {
-    match request {
-        Request::CallMeeting(new) => call_meeting(meetings, new),
-        Request::LoadRegister(new) => {
-            load_register(find_meeting(meetings, new.meeting), now, new)
+    let Some(lists) = found else {
+        return Ok(refuse(Refusal::NoMeeting));
+    };
+    match asked {
+        OfficeRequest::LoadRegister(new) => load_register(lists, now, new),
+        OfficeRequest::Presence(party) => Ok(note_presence(lists, now, *party)),
+        OfficeRequest::OpenMeeting => open_meeting(alloc, closed, lists, now),
+        OfficeRequest::Order(new) => order_poll(alloc, closed, lists, now, new),
+        OfficeRequest::Start(resolution) => Ok(start_poll(lists, now, *resolution)),
+        OfficeRequest::Close(resolution) => Ok(close_poll(lists, now, *resolution)),
+        OfficeRequest::Declare(resolution) => {
+            declare_poll(alloc, closed, lists, now, *resolution)
         }
-        Request::Presence(new) => Ok(note_presence(find_meeting(meetings, new.meeting), now, new)),
-        Request::OpenMeeting(id) => {
-            open_meeting(alloc, closed, find_meeting(meetings, *id), now, *id)
-        }
-        Request::Order(new) => {
-            order_poll(alloc, closed, find_meeting(meetings, new.meeting), now, new)
-        }
-        Request::Start(poll) => Ok(start_poll(find_meeting(meetings, poll.meeting), now, *poll)),
-        Request::Close(poll) => Ok(close_poll(find_meeting(meetings, poll.meeting), now, *poll)),
-        Request::Declare(poll) => {
-            declare_poll(
-                alloc,
-                closed,
-                find_meeting(meetings, poll.meeting),
-                now,
-                *poll,
-            )
-        }
-        Request::ClosedDays(days) => load_days(closed, days),
-        Request::Notice(_)
-        | Request::Mine(_)
-        | Request::Appoint(_)
-        | Request::End(_)
-        | Request::Authorise(_)
-        | Request::Attend(_)
-        | Request::Demand(_)
-        | Request::Cast(_) => Ok(refuse(Refusal::PartyOnly)),
     }
 }

@@ -1,14 +1,12 @@
 //! Who is present, whether they make a quorum, and whether enough shares demand a poll.
-ghost use Rattle.std.specs.Prelude.{◌≡◌, true, IfOk, IsTrue};
-ghost use Rattle.std.specs.Option.{option_copied};
+ghost use Rattle.std.specs.Prelude.{◌≡◌, true, IfOk};
 ghost use Rattle.desk_words.specs.Office.{is_meeting};
-ghost use Rattle.office_answers.specs.Attendance.{demand_in, is_marked, presence_answer, quorum_in};
-ghost use Rattle.office_answers.specs.Calls.{in_meeting};
-ghost use Rattle.office_answers.specs.Limits.{keeps_limits};
+ghost use Rattle.desk_words.specs.Rulings.{settled};
+ghost use Rattle.office_answers.specs.Attendance.{demand_in, is_marked, presence_ruling, quorum_in};
+ghost use Rattle.office_answers.specs.Limits.{if_any, is_within_limits};
 
-use caller_view::{Answer, noted, refuse};
 use desk_words::{
-    AddPresence, Change, Filed, MeetingLists, Moment, NewPresence, Party, PresenceMark, Refusal,
+    Answer, Entry, Filed, MeetingChange, MeetingLists, Moment, Party, PresenceMark, noted,
 };
 use office_days::Closed;
 use poll_rules::{Demand, Papers, cutoffs, demand_reached, quorum};
@@ -21,26 +19,20 @@ fn is_marked(presences: &Filed<PresenceMark>, party: Party) -> bool
     presences.has_first(party)
 }
 
-/// The answer to a presence that the office notes (section 318): `NoMeeting`, or else `Noted`, which adds
-/// the mark unless it stands already. It takes no memory.
-pub(crate) fn note_presence(found: Option<&MeetingLists>, now: Moment, new: &NewPresence) -> Answer
-    ensures answer { result ≡ in_meeting (option_copied found.entry) (presence_answer now new.now) }
-    ensures limits { IsTrue (keeps_limits result.change) }
+/// The answer to a presence that the office notes (section 318): `Noted`, which enters the mark
+/// unless it stands already. It takes no memory.
+pub(crate) fn note_presence(
+    lists: &MeetingLists,
+    now: Moment,
+    party: Party,
+) -> Answer<MeetingChange>
+    ensures answer { result ≡ settled (presence_ruling lists.now now party) }
+    ensures limits { if_any is_within_limits result.change ≡ true }
 {
-    let Some(lists) = found else {
-        return refuse(Refusal::NoMeeting);
-    };
-    let presence = PresenceMark {
-        party: new.party,
-        moment: now,
-    };
-    let added = AddPresence {
-        meeting: new.meeting,
-        presence,
-    };
+    let presence = PresenceMark { party, moment: now };
     noted(
-        is_marked(&lists.presences, new.party),
-        Change::AddPresence(added),
+        is_marked(&lists.presences, party),
+        MeetingChange::Enter(Entry::Presence(presence)),
     )
 }
 
@@ -56,12 +48,12 @@ pub(crate) fn papers_of(lists: &MeetingLists) -> Papers
 {
     Papers {
         register: lists.register.as_slice(),
-        appointments: lists.appointments.as_slice(),
-        endings: lists.endings.as_slice(),
-        authorities: lists.authorities.as_slice(),
-        presences: lists.presences.as_slice(),
-        demands: lists.demands.as_slice(),
-        casts: lists.casts.as_slice(),
+        appointments: &lists.appointments,
+        endings: &lists.endings,
+        authorities: &lists.authorities,
+        presences: &lists.presences,
+        demands: &lists.demands,
+        casts: &lists.casts,
     }
 }
 

@@ -1,16 +1,14 @@
 //! The calling of a meeting, and the loading of its register.
 ghost use Rattle.std.specs.Prelude.{◌≡◌, true, IfOk, IsOk, IsTrue};
-ghost use Rattle.std.specs.Option.{option_copied};
 ghost use Rattle.desk_words.specs.Refusals.{first_refusal};
+ghost use Rattle.desk_words.specs.Rulings.{refuses, settled};
 ghost use Rattle.desk_words.specs.Lists.{are_resolutions};
-ghost use Rattle.caller_view.specs.Answers.{is_refused};
-ghost use Rattle.office_answers.specs.Calls.{in_meeting, loads, call_cases, call_answer, load_cases, load_answer, meeting_of};
-ghost use Rattle.office_answers.specs.Limits.{keeps_limits};
+ghost use Rattle.office_answers.specs.Calls.{call_cases, call_ruling, load_cases, load_ruling, meeting_of};
+ghost use Rattle.office_answers.specs.Limits.{if_any, is_within_limits, keeps_limits};
 
-use caller_view::{Answer, find_meeting, refuse};
 use desk_words::{
-    Change, Meeting, MeetingLists, Moment, NewMeeting, NewRegister, Refusal, Reply, SetRegister,
-    same_rows,
+    Answer, Change, Meeting, MeetingChange, MeetingLists, Moment, NewMeeting, NewRegister, Refusal,
+    Reply, find_meeting, refuse, same_rows, tell,
 };
 use office_days::enough_notice;
 use std::alloc::AllocError;
@@ -51,10 +49,13 @@ fn new_meeting(new: &NewMeeting) -> Result<Meeting, AllocError>
 /// name, `ShortNotice` where the clear days between the notice and the appointed day are too few,
 /// `TooMany` where there are 100, and else `Called`, which adds the meeting. The error is
 /// want of memory; a refusal takes none.
-pub fn call_meeting(meetings: &[MeetingLists], new: &NewMeeting) -> Result<Answer, AllocError>
-    ensures answer { IfOk result (λ a. a ≡ call_answer meetings.now new.now) }
-    ensures limits { IfOk result (λ a. IsTrue (keeps_limits a.change)) }
-    ensures sure { is_refused (call_answer meetings.now new.now) ≡ true → IsOk result }
+pub(crate) fn call_meeting(
+    meetings: &[MeetingLists],
+    new: &NewMeeting,
+) -> Result<Answer<Change>, AllocError>
+    ensures answer { IfOk result (λ a. a ≡ settled (call_ruling meetings.now new.now)) }
+    ensures limits { IfOk result (λ a. if_any keeps_limits a.change ≡ true) }
+    ensures sure { refuses (call_ruling meetings.now new.now) ≡ true → IsOk result }
 {
     if let Some(refusal) = call_refusal(meetings, new) {
         return Ok(refuse(refusal));
@@ -80,43 +81,27 @@ fn load_refusal(meeting: &Meeting, now: Moment, new: &NewRegister) -> Option<Ref
     None
 }
 
-fn loaded(same: bool, new: &NewRegister) -> Result<Answer, AllocError>
-    ensures answer { IfOk result (λ a. a ≡ loads same new.now) }
-    ensures limits { IfOk result (λ a. IsTrue (keeps_limits a.change)) }
-{
-    if same {
-        return Ok(Answer {
-            reply: Reply::Same,
-            change: None,
-        });
-    }
-    Ok(Answer {
-        reply: Reply::Loaded,
-        change: Some(Change::SetRegister(SetRegister {
-            meeting: new.meeting,
-            rows: new.rows.copy()?,
-        })),
-    })
-}
-
-/// The answer to a register for a meeting (section 113): the first that holds of `NoMeeting`,
-/// `OtherRecord` where it is of another moment than the meeting's record moment, `Opened`, and `Early`
-/// before that moment; else `Same` where the rows are those that are held, and else `Loaded`, which sets
+/// The answer to a register for a meeting (section 113): the first that holds of `OtherRecord`
+/// where it is of another moment than the meeting's record moment, `Opened`, and `Early` before
+/// that moment; else `Same` where the rows are those that are held, and else `Loaded`, which sets
 /// the register. The error is want of memory; a refusal takes none.
-pub fn load_register(
-    found: Option<&MeetingLists>,
+pub(crate) fn load_register(
+    lists: &MeetingLists,
     now: Moment,
     new: &NewRegister,
-) -> Result<Answer, AllocError>
-    ensures answer { IfOk result (λ a. a ≡ in_meeting (option_copied found.entry) (load_answer now new.now)) }
-    ensures limits { IfOk result (λ a. IsTrue (keeps_limits a.change)) }
-    ensures sure { is_refused (in_meeting (option_copied found.entry) (load_answer now new.now)) ≡ true → IsOk result }
+) -> Result<Answer<MeetingChange>, AllocError>
+    ensures answer { IfOk result (λ a. a ≡ settled (load_ruling lists.now now new.now)) }
+    ensures limits { IfOk result (λ a. if_any is_within_limits a.change ≡ true) }
+    ensures sure { refuses (load_ruling lists.now now new.now) ≡ true → IsOk result }
 {
-    let Some(lists) = found else {
-        return Ok(refuse(Refusal::NoMeeting));
-    };
     if let Some(refusal) = load_refusal(&lists.meeting, now, new) {
         return Ok(refuse(refusal));
     }
-    loaded(same_rows(lists.register.as_slice(), new.rows.rows()), new)
+    if same_rows(lists.register.as_slice(), new.rows.rows()) {
+        return Ok(tell(Reply::Same));
+    }
+    Ok(Answer {
+        reply: Reply::Loaded,
+        change: Some(MeetingChange::SetRegister(new.rows.copy()?)),
+    })
 }

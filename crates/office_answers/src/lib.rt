@@ -4,7 +4,7 @@
 mod answer;
 mod attendance;
 mod calls;
-mod closed;
+mod lists;
 mod polls;
 
-pub use answer::office_answer;
+pub use answer::{desk_answer, office_answer};

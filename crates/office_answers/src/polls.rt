@@ -1,26 +1,22 @@
 //! The opening of a meeting, and the way of a poll: ordered, started, closed, declared.
-ghost use Rattle.std.specs.Prelude.{◌≡◌, ◌≤◌, ◌-◌, ◌&&◌, not, true, false, length, IfSome, IfOk, IsOk, IsTrue};
+ghost use Rattle.std.specs.Prelude.{◌≡◌, ◌≤◌, ◌-◌, ◌&&◌, not, true, IfOk, IsOk, IsTrue};
 ghost use Rattle.std.specs.List.{slice_get};
-ghost use Rattle.std.specs.Option.{option_copied, option_map_or};
-ghost use Rattle.desk_words.specs.Office.{is_meeting, is_resolution, is_tally};
+ghost use Rattle.desk_words.specs.Office.{is_meeting, is_tally};
+ghost use Rattle.desk_words.specs.Polls.{there_is, is_started};
 ghost use Rattle.desk_words.specs.Refusals.{first_refusal};
-ghost use Rattle.caller_view.specs.Answers.{is_refused};
-ghost use Rattle.caller_view.specs.Polls.{there_is, is_started};
-ghost use Rattle.proxy_rules.specs.Shares.{are_rows};
-ghost use Rattle.office_answers.specs.Answers.{is_at_once, is_refused_at_once};
+ghost use Rattle.desk_words.specs.Rulings.{refuses, settled};
+ghost use Rattle.office_answers.specs.Answers.{is_some_at_once, refuses_at_once};
 ghost use Rattle.office_answers.specs.Attendance.{demand_in, quorum_in};
-ghost use Rattle.office_answers.specs.Limits.{keeps_limits};
-ghost use Rattle.office_answers.specs.Calls.{in_meeting};
-ghost use Rattle.office_answers.specs.Polls.{open_cases, open_answer, order_cases, order_answer, poll_of, start_cases, start_answer, close_cases, close_answer, declare_cases, declare_answer, result_on, declaration_of};
+ghost use Rattle.office_answers.specs.Limits.{if_any, is_within_limits};
+ghost use Rattle.office_answers.specs.Polls.{open_cases, open_ruling, order_cases, order_ruling, poll_of, start_cases, start_ruling, close_cases, close_ruling, declare_cases, declare_ruling, result_on, declaration_of, tally_in};
 
 use crate::attendance::{demand_in, papers_of, quorum_in};
-use caller_view::{Answer, find_poll, refuse};
 use desk_words::{
-    AddPoll, Change, Declaration, Meeting, MeetingId, MeetingLists, Moment, NewPoll, Poll,
-    PollName, Refusal, Reply, SetOpened, SetPollMoment, SetTally, Tally,
+    Answer, Declaration, Meeting, MeetingChange, MeetingLists, Moment, NewPoll, Poll, PollChange,
+    Refusal, Reply, Tally, find_poll, refuse,
 };
 use office_days::Closed;
-use poll_rules::{result_of, tally};
+use poll_rules::{cutoffs, result_of, tally};
 use std::alloc::{AllocError, Global};
 
 fn open_refusal(
@@ -30,8 +26,10 @@ fn open_refusal(
     now: Moment,
 ) -> Result<Option<Refusal>, AllocError>
     requires { is_meeting lists.now ≡ true }
-    ensures refusal { IfOk result (λ refusal. refusal ≡ first_refusal (open_cases lists.now closed.now now)) }
-    ensures sure { option_map_or is_at_once (first_refusal (open_cases lists.now closed.now now)) false ≡ true → IsOk result }
+    ensures refusal { IfOk result (λ refusal. refusal
+        ≡ first_refusal (open_cases lists.now closed.now now)) }
+    ensures sure { is_some_at_once (first_refusal (open_cases lists.now closed.now now)) ≡ true
+        → IsOk result }
 {
     if !lists.meeting.loaded {
         return Ok(Some(Refusal::NoRegister));
@@ -48,41 +46,28 @@ fn open_refusal(
     Ok(None)
 }
 
-/// The answer to the opening of a meeting: the first that holds of `NoMeeting`, `NoRegister`, `Opened`,
-/// `Early` before the appointed time, and `NoQuorum` where those who are present make no quorum (section
-/// 318); and else `MeetingOpened`, which sets the moment. The error is want of memory; a refusal other
-/// than `NoQuorum` takes none. Its cost is that of `poll_rules::quorum`.
-pub fn open_meeting(
+/// The answer to the opening of a meeting: the first that holds of `NoRegister`, `Opened`, `Early`
+/// before the appointed time, and `NoQuorum` where those who are present make no quorum (section
+/// 318); and else `MeetingOpened`, which sets the moment. The error is want of memory; a refusal
+/// other than `NoQuorum` takes none. Its cost is that of `poll_rules::quorum`.
+pub(crate) fn open_meeting(
     alloc: Global,
     closed: &Closed,
-    found: Option<&MeetingLists>,
+    lists: &MeetingLists,
     now: Moment,
-    id: MeetingId,
-) -> Result<Answer, AllocError>
-    requires { IfSome (option_copied found) (λ m. is_meeting m ≡ true) }
-    ensures answer { IfOk result (λ a. a ≡ in_meeting (option_copied found.entry) (open_answer closed.now now id)) }
-    ensures limits { IfOk result (λ a. IsTrue (keeps_limits a.change)) }
-    ensures sure { is_refused_at_once (in_meeting (option_copied found.entry) (open_answer closed.now now id)) ≡ true → IsOk result }
+) -> Result<Answer<MeetingChange>, AllocError>
+    requires { is_meeting lists.now ≡ true }
+    ensures answer { IfOk result (λ a. a ≡ settled (open_ruling lists.now closed.now now)) }
+    ensures limits { IfOk result (λ a. if_any is_within_limits a.change ≡ true) }
+    ensures sure { refuses_at_once (open_ruling lists.now closed.now now) ≡ true → IsOk result }
 {
-    let Some(lists) = found else {
-        return Ok(refuse(Refusal::NoMeeting));
-    };
     if let Some(refusal) = open_refusal(alloc, closed, lists, now)? {
         return Ok(refuse(refusal));
     }
     Ok(Answer {
         reply: Reply::MeetingOpened,
-        change: Some(Change::SetOpened(SetOpened {
-            meeting: id,
-            moment: now,
-        })),
+        change: Some(MeetingChange::SetOpened(now)),
     })
-}
-
-fn has_resolution(meeting: &Meeting, number: u64) -> bool
-    ensures { result ≡ is_resolution (length meeting.now.resolutions) number }
-{
-    1 <= number && number <= meeting.resolutions.as_slice().len() as u64
 }
 
 /// Whether neither the chair nor enough shares want the poll.
@@ -94,7 +79,8 @@ fn is_unwanted(
     new: &NewPoll,
 ) -> Result<bool, AllocError>
     requires { is_meeting lists.now ≡ true }
-    ensures unwanted { IfOk result (λ b. b ≡ (not new.now.chair && not (demand_in lists.now closed.now now new.now.resolution).reached)) }
+    ensures unwanted { IfOk result (λ b. b ≡ (not new.now.chair && not
+        (demand_in lists.now closed.now now new.now.resolution).reached)) }
     ensures sure { new.now.chair ≡ true → IsOk result }
 {
     if new.chair {
@@ -111,11 +97,13 @@ fn order_refusal(
     new: &NewPoll,
 ) -> Result<Option<Refusal>, AllocError>
     requires { is_meeting lists.now ≡ true }
-    ensures refusal { IfOk result (λ refusal. refusal ≡ first_refusal (order_cases lists.now closed.now now new.now)) }
-    ensures sure { option_map_or is_at_once (first_refusal (order_cases lists.now closed.now now new.now)) false ≡ true → IsOk result }
+    ensures refusal { IfOk result (λ refusal. refusal
+        ≡ first_refusal (order_cases lists.now closed.now now new.now)) }
+    ensures sure { is_some_at_once (first_refusal (order_cases lists.now closed.now now new.now))
+        ≡ true → IsOk result }
     ensures chair { new.now.chair ≡ true → IsOk result }
 {
-    if !has_resolution(&lists.meeting, new.resolution) {
+    if !lists.meeting.has_resolution(new.resolution) {
         return Ok(Some(Refusal::NoResolution));
     }
     if lists.meeting.opened.is_none() {
@@ -133,32 +121,11 @@ fn order_refusal(
     Ok(None)
 }
 
-/// The answer to the order of a poll (section 321): the first that holds of `NoMeeting`, `NoResolution`,
-/// `NotOpened`, `Early` where the poll were taken before now, `PollOrdered`, and `DemandTooSmall`
-/// where neither the chair orders it nor enough shares demand it; and else `Ordered`, which adds the
-/// poll. The error is want of memory; an order by the chair takes none, nor does a refusal other than
-/// `DemandTooSmall`. Without the chair its cost is that of `poll_rules::demand_reached`.
-#[tactic(auto, using(crate::proofs::RefusedAtOnce::at_once_settled))]
-pub fn order_poll(
-    alloc: Global,
-    closed: &Closed,
-    found: Option<&MeetingLists>,
-    now: Moment,
-    new: &NewPoll,
-) -> Result<Answer, AllocError>
-    requires { IfSome (option_copied found) (λ m. is_meeting m ≡ true) }
-    ensures answer { IfOk result (λ a. a ≡ in_meeting (option_copied found.entry) (order_answer closed.now now new.now)) }
-    ensures limits { IfOk result (λ a. IsTrue (keeps_limits a.change)) }
-    ensures sure { is_refused_at_once (in_meeting (option_copied found.entry) (order_answer closed.now now new.now)) ≡ true → IsOk result }
-    ensures chair { new.now.chair ≡ true → IsOk result }
+/// The poll that is ordered.
+fn poll_of(now: Moment, new: &NewPoll) -> Poll
+    ensures { result ≡ poll_of now new.now }
 {
-    let Some(lists) = found else {
-        return Ok(refuse(Refusal::NoMeeting));
-    };
-    if let Some(refusal) = order_refusal(alloc, closed, lists, now, new)? {
-        return Ok(refuse(refusal));
-    }
-    let poll = Poll {
+    Poll {
         resolution: new.resolution,
         ordered: now,
         take: new.take,
@@ -166,13 +133,35 @@ pub fn order_poll(
         started: None,
         closed: None,
         declared: None,
-    };
+    }
+}
+
+/// The answer to the order of a poll (section 321): the first that holds of `NoResolution`,
+/// `NotOpened`, `Early` where the poll were taken before now, `PollOrdered`, and `DemandTooSmall`
+/// where neither the chair orders it nor enough shares demand it; and else `Ordered`, which adds
+/// the poll. The error is want of memory; an order by the chair takes none, nor does a refusal
+/// other than `DemandTooSmall`. Without the chair its cost is that of `poll_rules::demand_reached`.
+pub(crate) fn order_poll(
+    alloc: Global,
+    closed: &Closed,
+    lists: &MeetingLists,
+    now: Moment,
+    new: &NewPoll,
+) -> Result<Answer<MeetingChange>, AllocError>
+    requires { is_meeting lists.now ≡ true }
+    ensures answer { IfOk result (λ a. a ≡ settled
+        (order_ruling lists.now closed.now now new.now)) }
+    ensures limits { IfOk result (λ a. if_any is_within_limits a.change ≡ true) }
+    ensures sure { refuses_at_once (order_ruling lists.now closed.now now new.now) ≡ true
+        → IsOk result }
+    ensures chair { new.now.chair ≡ true → IsOk result }
+{
+    if let Some(refusal) = order_refusal(alloc, closed, lists, now, new)? {
+        return Ok(refuse(refusal));
+    }
     Ok(Answer {
         reply: Reply::Ordered,
-        change: Some(Change::AddPoll(AddPoll {
-            meeting: new.meeting,
-            poll,
-        })),
+        change: Some(MeetingChange::AddPoll(poll_of(now, new))),
     })
 }
 
@@ -185,13 +174,14 @@ fn has_started(poll: &Option<Poll>) -> bool
     }
 }
 
-fn start_refusal(meeting: &Meeting, poll: Option<Poll>, now: Moment, number: u64) -> Option<Refusal>
-    ensures { result ≡ first_refusal (start_cases meeting.now poll now number) }
+fn start_refusal(lists: &MeetingLists, now: Moment, resolution: u64) -> Option<Refusal>
+    ensures { result ≡ first_refusal (start_cases lists.now now resolution) }
 {
+    let poll = find_poll(lists.polls.as_slice(), resolution);
     if has_started(&poll) {
         return Some(Refusal::Exists);
     }
-    if !has_resolution(meeting, number) {
+    if !lists.meeting.has_resolution(resolution) {
         return Some(Refusal::NoResolution);
     }
     let Some(poll) = poll else {
@@ -203,36 +193,36 @@ fn start_refusal(meeting: &Meeting, poll: Option<Poll>, now: Moment, number: u64
     None
 }
 
-/// The answer to the start of a poll: the first that holds of `NoMeeting`, `Exists` where it is started
-/// already, `NoResolution`, `Early` before it is to be taken, and `NoPoll`; and else `Started`, which
-/// sets the moment. It takes no memory.
-pub fn start_poll(found: Option<&MeetingLists>, now: Moment, name: PollName) -> Answer
-    ensures answer { result ≡ in_meeting (option_copied found.entry) (start_answer now name) }
-    ensures limits { IsTrue (keeps_limits result.change) }
+/// The answer to the start of a poll: the first that holds of `Exists` where it is started already,
+/// `NoResolution`, `Early` before it is to be taken, and `NoPoll`; and else `Started`, which sets
+/// the moment. It takes no memory.
+pub(crate) fn start_poll(
+    lists: &MeetingLists,
+    now: Moment,
+    resolution: u64,
+) -> Answer<MeetingChange>
+    ensures answer { result ≡ settled (start_ruling lists.now now resolution) }
+    ensures limits { if_any is_within_limits result.change ≡ true }
 {
-    let Some(lists) = found else {
-        return refuse(Refusal::NoMeeting);
-    };
-    let poll = find_poll(lists.polls.as_slice(), name.resolution);
-    if let Some(refusal) = start_refusal(&lists.meeting, poll, now, name.resolution) {
+    if let Some(refusal) = start_refusal(lists, now, resolution) {
         return refuse(refusal);
     }
     Answer {
         reply: Reply::Started,
-        change: Some(Change::SetStarted(SetPollMoment {
-            poll: name,
-            moment: now,
-        })),
+        change: Some(MeetingChange::SetPoll {
+            resolution,
+            change: PollChange::Started(now),
+        }),
     }
 }
 
-fn close_refusal(meeting: &Meeting, poll: Option<Poll>, number: u64) -> Option<Refusal>
-    ensures { result ≡ first_refusal (close_cases meeting.now poll number) }
+fn close_refusal(lists: &MeetingLists, resolution: u64) -> Option<Refusal>
+    ensures { result ≡ first_refusal (close_cases lists.now resolution) }
 {
-    if !has_resolution(meeting, number) {
+    if !lists.meeting.has_resolution(resolution) {
         return Some(Refusal::NoResolution);
     }
-    let Some(poll) = poll else {
+    let Some(poll) = find_poll(lists.polls.as_slice(), resolution) else {
         return Some(Refusal::NoPoll);
     };
     if poll.started.is_none() {
@@ -244,36 +234,36 @@ fn close_refusal(meeting: &Meeting, poll: Option<Poll>, number: u64) -> Option<R
     None
 }
 
-/// The answer to the close of a poll: the first that holds of `NoMeeting`, `NoResolution`, `NoPoll`,
+/// The answer to the close of a poll: the first that holds of `NoResolution`, `NoPoll`,
 /// `PollNotOpen` and `PollClosed`; and else `VotingClosed`, which sets the moment. How many have
 /// voted makes no difference. It takes no memory.
-pub fn close_poll(found: Option<&MeetingLists>, now: Moment, name: PollName) -> Answer
-    ensures answer { result ≡ in_meeting (option_copied found.entry) (close_answer now name) }
-    ensures limits { IsTrue (keeps_limits result.change) }
+pub(crate) fn close_poll(
+    lists: &MeetingLists,
+    now: Moment,
+    resolution: u64,
+) -> Answer<MeetingChange>
+    ensures answer { result ≡ settled (close_ruling lists.now now resolution) }
+    ensures limits { if_any is_within_limits result.change ≡ true }
 {
-    let Some(lists) = found else {
-        return refuse(Refusal::NoMeeting);
-    };
-    let poll = find_poll(lists.polls.as_slice(), name.resolution);
-    if let Some(refusal) = close_refusal(&lists.meeting, poll, name.resolution) {
+    if let Some(refusal) = close_refusal(lists, resolution) {
         return refuse(refusal);
     }
     Answer {
         reply: Reply::VotingClosed,
-        change: Some(Change::SetClosed(SetPollMoment {
-            poll: name,
-            moment: now,
-        })),
+        change: Some(MeetingChange::SetPoll {
+            resolution,
+            change: PollChange::Closed(now),
+        }),
     }
 }
 
-fn declare_refusal(meeting: &Meeting, poll: Option<Poll>, number: u64) -> Option<Refusal>
-    ensures { result ≡ first_refusal (declare_cases meeting.now poll number) }
+fn declare_refusal(lists: &MeetingLists, resolution: u64) -> Option<Refusal>
+    ensures { result ≡ first_refusal (declare_cases lists.now resolution) }
 {
-    if !has_resolution(meeting, number) {
+    if !lists.meeting.has_resolution(resolution) {
         return Some(Refusal::NoResolution);
     }
-    let Some(poll) = poll else {
+    let Some(poll) = find_poll(lists.polls.as_slice(), resolution) else {
         return Some(Refusal::NoPoll);
     };
     if poll.closed.is_none() {
@@ -299,46 +289,67 @@ fn result_on(meeting: &Meeting, number: u64, tally: Tally) -> Declaration
     }
 }
 
-fn declaration(alloc: Global, lists: &MeetingLists, number: u64) -> Result<Declaration, AllocError>
+/// The count of the votes on a resolution, by the cutoffs of its poll.
+fn tally_in(
+    alloc: Global,
+    closed: &Closed,
+    lists: &MeetingLists,
+    now: Moment,
+    number: u64,
+) -> Result<Tally, AllocError>
+    requires { is_meeting lists.now ≡ true }
+    ensures { IfOk result (λ t. t ≡ tally_in lists.now closed.now now number) }
+{
+    let poll = find_poll(lists.polls.as_slice(), number);
+    let cutoffs = cutoffs(&lists.meeting, poll.as_ref(), closed, now);
+    tally(alloc, &cutoffs, &papers_of(lists), number)
+}
+
+fn declaration(
+    alloc: Global,
+    closed: &Closed,
+    lists: &MeetingLists,
+    now: Moment,
+    number: u64,
+) -> Result<Declaration, AllocError>
     requires number { 1 ≤ number }
-    requires rows { are_rows lists.now.register ≡ true }
-    ensures value { IfOk result (λ d. d ≡ declaration_of lists.now number) }
+    requires meeting { is_meeting lists.now ≡ true }
+    ensures value { IfOk result (λ d. d ≡ declaration_of lists.now closed.now now number) }
     ensures limits { IfOk result (λ d. IsTrue (is_tally d.tally)) }
 {
-    let tally = tally(alloc, &papers_of(lists), number)?;
+    let tally = tally_in(alloc, closed, lists, now, number)?;
     Ok(result_on(&lists.meeting, number, tally))
 }
 
-/// The answer to the declaration of a poll: the first that holds of `NoMeeting`, `NoResolution`, `NoPoll`,
-/// `NotClosed`, and the refusal `Declared` where it is declared already; and else the reply `Declared`,
-/// with the count of the votes and whether the resolution is carried (sections 282 to 284), which sets
-/// the count. The error is want of memory; a refusal takes none.
-/// Its cost is that of `poll_rules::tally`.
-pub fn declare_poll(
+/// The answer to the declaration of a poll: the first that holds of `NoResolution`, `NoPoll`,
+/// `NotClosed`, and the refusal `Declared` where it is declared already; and else the reply
+/// `Declared`, with the count of the votes and whether the resolution is carried (sections 282 to
+/// 284), which sets the count. The votes are counted by the cutoffs of the poll, by the closed days
+/// as they stand (section 327). The error is want of memory; a refusal takes none. Its cost is that
+/// of `poll_rules::tally`.
+pub(crate) fn declare_poll(
     alloc: Global,
     closed: &Closed,
-    found: Option<&MeetingLists>,
+    lists: &MeetingLists,
     now: Moment,
-    name: PollName,
-) -> Result<Answer, AllocError>
-    requires { IfSome (option_copied found) (λ m. are_rows m.register ≡ true) }
-    ensures answer { IfOk result (λ a. a ≡ in_meeting (option_copied found.entry) (declare_answer closed.now now name)) }
-    ensures limits { IfOk result (λ a. IsTrue (keeps_limits a.change)) }
-    ensures sure { is_refused (in_meeting (option_copied found.entry) (declare_answer closed.now now name)) ≡ true → IsOk result }
+    resolution: u64,
+) -> Result<Answer<MeetingChange>, AllocError>
+    requires { is_meeting lists.now ≡ true }
+    ensures answer { IfOk result (λ a. a ≡ settled
+        (declare_ruling lists.now closed.now now resolution)) }
+    ensures limits { IfOk result (λ a. if_any is_within_limits a.change ≡ true) }
+    ensures sure { refuses (declare_ruling lists.now closed.now now resolution) ≡ true
+        → IsOk result }
 {
-    let Some(lists) = found else {
-        return Ok(refuse(Refusal::NoMeeting));
-    };
-    let poll = find_poll(lists.polls.as_slice(), name.resolution);
-    if let Some(refusal) = declare_refusal(&lists.meeting, poll, name.resolution) {
+    if let Some(refusal) = declare_refusal(lists, resolution) {
         return Ok(refuse(refusal));
     }
-    let declaration = declaration(alloc, lists, name.resolution)?;
+    let declaration = declaration(alloc, closed, lists, now, resolution)?;
     Ok(Answer {
         reply: Reply::Declared(declaration),
-        change: Some(Change::SetDeclared(SetTally {
-            poll: name,
-            tally: declaration.tally,
-        })),
+        change: Some(MeetingChange::SetPoll {
+            resolution,
+            change: PollChange::Declared(declaration.tally),
+        }),
     })
 }

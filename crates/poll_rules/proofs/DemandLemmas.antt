@@ -4,7 +4,7 @@ use Rattle.std.specs.Prelude.{◌&&◌, ◌||◌, ◌==◌, nat_le, nat_lt, sum_
 use Rattle.std.specs.Cmp.{first_so, second_so}
 use Rattle.std.specs.Cmp.Lexicographic.{texts_ties}
 use Rattle.std.specs.Ordering.{is_eq}
-use Rattle.std.specs.List.{list_all, list_any}
+use Rattle.std.specs.List.{list_all}
 use Rattle.std.proofs.Math.Nat.{mul-le-mul_left}
 use Rattle.std.proofs.lemmas.Bool.Decides.{nat_tests}
 use Rattle.std.proofs.lemmas.List.Sums.{sum_by-cons, sum_by_more, sum_by_more_le, sum_by-take-le, sum_by-le-sum_by, count_by-le-length}
@@ -17,18 +17,18 @@ use Rattle.desk_words.specs.declared.records.Authority.{Authority}
 use Rattle.desk_words.specs.declared.records.Ending.{Ending}
 use Rattle.desk_words.specs.declared.records.RegisterRow.{RegisterRow}
 use Rattle.desk_words.specs.declared.register.TheConstants.{MOST_SHARES}
-use Rattle.proxy_rules.specs.Shares.{are_rows, is_corporation, is_individual, shares_of}
+use Rattle.proxy_rules.specs.Shares.{are_rows, shares_of}
 use Rattle.proxy_rules.specs.declared.papers.Cutoffs.{Cutoffs}
+use Rattle.proxy_rules.specs.declared.pieces.GovernedPiece.{GovernedPiece}
+use Rattle.proxy_rules.specs.Governing.{governing_in}
+use Rattle.proxy_rules.specs.Holdings.{holding_by}
+use Rattle.proxy_rules.specs.Tiles.{ArePieces, shares_if}
+use Rattle.proxy_rules.proofs.TileLemmas.{places_that-pieces}
 use Rattle.proxy_rules.proofs.ShareLemmas.{all_shares-le, shares_of-le}
 use Rattle.proxy_rules.proofs.Choices.{le_is, or-false}
-use Rattle.poll_rules.specs.Acting.{is_governed_in}
-use Rattle.poll_rules.specs.Demanding.{FitsRow, demanding_in, holder_demands, sums_by, with_row}
-use Rattle.poll_rules.specs.Demands.{paid_on, share_demands}
-use Rattle.poll_rules.specs.Gathered.{IsGathered}
-use Rattle.poll_rules.specs.declared.gathered.Gathered.{Gathered}
-use Rattle.poll_rules.proofs.ActingLemmas.{governed_in-gathered}
-use Rattle.poll_rules.proofs.CountLemmas.{places_that_le}
-use Rattle.poll_rules.proofs.GatherLemmas.{any-authorised}
+use Rattle.poll_rules.specs.DemandSums.{FitsRow, sums_by, with_row}
+use Rattle.poll_rules.specs.Demands.{by_a_representative, by_the_holder, names_one, paid_on, share_demands, shares_demanding}
+use Rattle.vote_rules.proofs.CountLemmas.{places_that_le}
 
 -- ---- the shares of a row that demand
 
@@ -36,29 +36,25 @@ all_places : (n : ℕ) → places_that (λ place. true) n ≡ n
 all_places zero = refl
 all_places (suc n) = omega (arith, all_places n)
 
-by_either : (b : Bool) (test : ℕ → Bool) (n : ℕ) → cond b n (places_that test n) ≡ places_that (λ place. b || test place) n
-by_either true test n = sym (all_places n)
-by_either false test n = refl
+-- where the holder demands it, all shares do
+pub all_demand : (demanded : List ℕ → Bool) (cutoffs : Cutoffs) (given : List Appointment) (ended : List Ending) (authorities : List Authority) (row : RegisterRow)
+    → (by_the_holder demanded row || by_a_representative demanded authorities row) ≡ true → shares_of row ≡ shares_demanding demanded cutoffs given ended authorities row
+all_demand demanded cutoffs given ended authorities row holder =
+    sym (all_places (shares_of row))
+    ∙ ap (λ b. places_that (λ place. b || names_one demanded (governing_in cutoffs (holding_by given ended row) place)) (shares_of row)) (sym holder)
 
-module _ (gathered : Gathered) (given : List Appointment) (endings : List Ending) (authorities : List Authority) (is : IsGathered gathered given endings authorities) (cutoffs : Cutoffs) where
-  -- they are those that the definition asks one by one
-  pub demanding-gathered : (demanded : List ℕ → Bool) (row : RegisterRow) → demanding_in demanded cutoffs gathered row ≡ places_that (share_demands demanded cutoffs given endings authorities row) (shares_of row)
-  demanding-gathered demanded row =
-      let own = is_individual row.kind && demanded row.member in
-      by_either (holder_demands demanded gathered row) (is_governed_in demanded cutoffs gathered row) (shares_of row)
-      ∙ ap (λ b. places_that (λ place. (own || (is_corporation row.kind && b)) || is_governed_in demanded cutoffs gathered row place) (shares_of row))
-      (ap (list_any demanded) (is.authorised row.member) ∙ any-authorised demanded authorities row.member)
-      ∙ ap (λ test. places_that test (shares_of row))
-      (λ k place. ap (λ b. (own || (is_corporation row.kind && list_any (λ (a : Authority). same_name a.corporation row.member && demanded a.person) authorities)) || b)
-      (governed_in-gathered gathered given endings authorities is cutoffs demanded row place) k)
+-- and else those of the pieces whose proxies do
+pub pieces_demand : (demanded : List ℕ → Bool) (cutoffs : Cutoffs) (given : List Appointment) (ended : List Ending) (authorities : List Authority) (row : RegisterRow) (pieces : List GovernedPiece)
+    → (by_the_holder demanded row || by_a_representative demanded authorities row) ≡ false → ArePieces cutoffs (holding_by given ended row) pieces
+    → sum_by (shares_if (names_one demanded) (holding_by given ended row)) pieces ≡ shares_demanding demanded cutoffs given ended authorities row
+pieces_demand demanded cutoffs given ended authorities row pieces holder are =
+    places_that-pieces (names_one demanded) cutoffs (holding_by given ended row) pieces are
+    ∙ ap (λ b. places_that (λ place. b || names_one demanded (governing_in cutoffs (holding_by given ended row) place)) (shares_of row)) (sym holder)
 
 -- no row has more shares that demand than shares
-pub demanding-le : (demanded : List ℕ → Bool) (cutoffs : Cutoffs) (gathered : Gathered) (row : RegisterRow) → demanding_in demanded cutoffs gathered row ≤ shares_of row
-demanding-le demanded cutoffs gathered row =
-    elim (holder_demands demanded gathered row) as (λ b. cond b (shares_of row) (places_that (is_governed_in demanded cutoffs gathered row) (shares_of row)) ≤ shares_of row) [
-      | true ↦ omega arith
-      | false ↦ places_that_le (is_governed_in demanded cutoffs gathered row) (shares_of row)
-    ]
+pub demanding-le : (demanded : List ℕ → Bool) (cutoffs : Cutoffs) (given : List Appointment) (ended : List Ending) (authorities : List Authority) (row : RegisterRow)
+    → shares_demanding demanded cutoffs given ended authorities row ≤ shares_of row
+demanding-le demanded cutoffs given ended authorities row = places_that_le (share_demands demanded cutoffs given ended authorities row) (shares_of row)
 
 -- ---- the limits of rows
 

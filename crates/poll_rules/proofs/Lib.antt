@@ -1,6 +1,4 @@
-pub mod ActingLemmas
-pub mod CastLemmas
-pub mod CountLemmas
+pub mod RoleLemmas
 pub mod DemandLemmas
 pub mod GatherLemmas
 pub mod PairLemmas

@@ -10,8 +10,9 @@ use Rattle.desk_words.proofs.RowLemmas.{same_name-true}
 use Rattle.desk_words.specs.declared.records.PresenceMark.{PresenceMark}
 use Rattle.desk_words.specs.declared.records.RegisterRow.{RegisterRow}
 use Rattle.proxy_rules.proofs.Choices.{first_of, second_of, neither_first, neither_second, neither_of}
-use Rattle.poll_rules.specs.Acting.{first_qualifying, is_second, two_with_the_first}
-use Rattle.poll_rules.specs.Quorum.{are_two, is_quorum, qualifies, same_capacity, same_role}
+use Rattle.poll_rules.specs.Pairs.{first_qualifying, is_second, two_with_the_first}
+use Rattle.poll_rules.specs.Quorum.{are_two, is_quorum, qualifies, same_role}
+use Rattle.vote_rules.specs.Casts.{same_capacity}
 use Rattle.poll_rules.specs.declared.roles.Role.{Role}
 use Rattle.poll_rules.proofs.GatherLemmas.{list_any-map}
 

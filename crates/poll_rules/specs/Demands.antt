@@ -1,5 +1,5 @@
 -- The demand of a poll (sections 321 and 329).
-use Rattle.std.specs.Prelude.{ℕ, Bool, false, ◌&&◌, ◌||◌, ◌==◌, ◌*◌, nat_le, nat_lt, List, count_by, sum_by}
+use Rattle.std.specs.Prelude.{ℕ, Bool, false, ◌&&◌, ◌||◌, ◌==◌, ◌*◌, nat_le, nat_lt, List, Option, count_by, sum_by}
 use Rattle.std.specs.List.{list_any}
 use Rattle.std.specs.Option.{option_map_or}
 use Rattle.desk_terms.specs.Names.{same_name}
@@ -9,7 +9,8 @@ use Rattle.desk_words.specs.declared.records.Authority.{Authority}
 use Rattle.desk_words.specs.declared.records.DemandMark.{DemandMark}
 use Rattle.desk_words.specs.declared.records.Ending.{Ending}
 use Rattle.desk_words.specs.declared.records.RegisterRow.{RegisterRow}
-use Rattle.proxy_rules.specs.Governing.{appointment_for}
+use Rattle.proxy_rules.specs.Governing.{governing_in}
+use Rattle.proxy_rules.specs.Holdings.{holding_by}
 use Rattle.proxy_rules.specs.Shares.{is_corporation, is_individual, shares_of}
 use Rattle.proxy_rules.specs.declared.papers.Cutoffs.{Cutoffs}
 use Rattle.poll_rules.specs.declared.demand.Demand.{Demand}
@@ -27,15 +28,19 @@ abbrev pub by_a_representative : (List ℕ → Bool) → List Authority → Regi
 by_a_representative demanded authorities row =
     is_corporation row.kind && list_any (λ (a : Authority). same_name a.corporation row.member && demanded a.person) authorities
 
--- the proxy who governs the place for the meeting demanded it (section 329)
-abbrev pub by_the_proxy : (List ℕ → Bool) → Cutoffs → List Appointment → List Ending → RegisterRow → ℕ → Bool
-by_the_proxy demanded cutoffs given ended row place =
-    option_map_or (λ (a : Appointment). demanded a.proxy) (appointment_for cutoffs given ended row.member place) false
+-- the appointment names a proxy who demanded it; where there is none, nobody did
+abbrev pub names_one : (List ℕ → Bool) → Option Appointment → Bool
+names_one demanded by = option_map_or (λ (a : Appointment). demanded a.proxy) by false
 
--- the share of the row at that place demands it
+-- the share of the row at that place demands it: its holder did, or a representative, or the proxy who governs it for the meeting (section 329)
 abbrev pub share_demands : (List ℕ → Bool) → Cutoffs → List Appointment → List Ending → List Authority → RegisterRow → ℕ → Bool
 share_demands demanded cutoffs given ended authorities row place =
-    by_the_holder demanded row || by_a_representative demanded authorities row || by_the_proxy demanded cutoffs given ended row place
+    (by_the_holder demanded row || by_a_representative demanded authorities row)
+    || names_one demanded (governing_in cutoffs (holding_by given ended row) place)
+
+-- how many shares of the row demand it
+abbrev pub shares_demanding : (List ℕ → Bool) → Cutoffs → List Appointment → List Ending → List Authority → RegisterRow → ℕ
+shares_demanding demanded cutoffs given ended authorities row = places_that (share_demands demanded cutoffs given ended authorities row) (shares_of row)
 
 -- the demanding shares have at least five holders, or are at least a tenth of all shares by number or by the sum paid up on them (the figures of section 321(2))
 abbrev pub is_enough : ℕ → ℕ → ℕ → ℕ → ℕ → Bool
@@ -62,4 +67,4 @@ demand_by demanding rows =
 -- the demand of a poll on a resolution, by its shares one by one
 abbrev pub demand_of : Cutoffs → List RegisterRow → List Appointment → List Ending → List Authority → List DemandMark → ℕ → Demand
 demand_of cutoffs register given ended authorities demands resolution =
-    demand_by (λ row. places_that (share_demands (has_demanded demands resolution) cutoffs given ended authorities row) (shares_of row)) register
+    demand_by (shares_demanding (has_demanded demands resolution) cutoffs given ended authorities) register

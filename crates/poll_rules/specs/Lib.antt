@@ -1,13 +1,7 @@
-pub mod Acting
-pub mod Casts
-pub mod Demanding
+pub mod DemandSums
 pub mod Demands
 pub mod Gathered
-pub mod Groups
 pub mod Laws
-pub mod Majority
+pub mod Pairs
 pub mod Quorum
 pub mod Roles
-pub mod Sums
-pub mod Tallies
-pub mod Votes

@@ -2,8 +2,6 @@
 use Rattle.std.specs.Prelude.{ℕ, Bool, true, false, not, ◌&&◌, List, [], ◌∷◌, map, filter}
 use Rattle.std.specs.List.{list_any}
 use Rattle.desk_terms.specs.Names.{same_name}
-use Rattle.desk_terms.specs.declared.kinds.Capacity.{Capacity}
-use Rattle.desk_terms.specs.declared.kinds.Capacity.TheVariants.{Member, Rep, Proxy}
 use Rattle.desk_words.specs.declared.records.Appointment.{Appointment}
 use Rattle.desk_words.specs.declared.records.Authority.{Authority}
 use Rattle.desk_words.specs.declared.records.Ending.{Ending}
@@ -11,19 +9,13 @@ use Rattle.desk_words.specs.declared.records.PresenceMark.{PresenceMark}
 use Rattle.desk_words.specs.declared.records.RegisterRow.{RegisterRow}
 use Rattle.proxy_rules.specs.Shares.{is_treasury}
 use Rattle.proxy_rules.specs.declared.papers.Cutoffs.{Cutoffs}
+use Rattle.vote_rules.specs.Casts.{same_capacity}
 use Rattle.poll_rules.specs.Roles.{roles_of}
 use Rattle.poll_rules.specs.declared.roles.Role.{Role}
 
 -- the row is counted: it is no treasury row (section 726)
 abbrev pub is_counted : RegisterRow → Bool
 is_counted row = not (is_treasury row.kind)
-
--- both are the same capacity
-abbrev pub same_capacity : Capacity → Capacity → Bool
-same_capacity Member Member = true
-same_capacity Rep Rep = true
-same_capacity Proxy Proxy = true
-same_capacity _ _ = false
 
 -- both are the same role: the same capacity for the same member
 abbrev pub same_role : Role → Role → Bool

@@ -1,20 +1,19 @@
 //! The demand of a poll.
-ghost use Rattle.std.specs.Prelude.{◌≡◌, ◌≤◌, ◌<◌, ◌*◌, ◌^◌, ℕ, List, [], true, IfOk, sum_by};
+ghost use Rattle.std.specs.Prelude.{◌≡◌, ◌≤◌, ◌<◌, ◌*◌, ◌^◌, ◌||◌, ℕ, List, [], true, IfOk, sum_by};
 ghost use Rattle.std.specs.List.{list_any};
+ghost use Rattle.std.specs.Option.{option_copied};
 ghost use Rattle.desk_words.specs.Office.{are_numbered_after};
 ghost use Rattle.proxy_rules.specs.Holdings.{are_tags};
-ghost use Rattle.proxy_rules.specs.Parts.{shares_if};
 ghost use Rattle.proxy_rules.specs.Shares.{are_rows};
-ghost use Rattle.poll_rules.specs.Demanding.{FitsRow, demand_from, demanding_in, holder_demands, is_one_of, sums_by, with_row};
-ghost use Rattle.poll_rules.specs.Demands.{demand_of, has_demanded, is_enough};
-ghost use Rattle.poll_rules.specs.Gathered.{AreNumbered};
+ghost use Rattle.proxy_rules.specs.Tiles.{shares_if};
+ghost use Rattle.poll_rules.specs.DemandSums.{FitsRow, demand_from, is_one_of, sums_by, with_row};
+ghost use Rattle.poll_rules.specs.Demands.{by_a_representative, by_the_holder, demand_of, has_demanded, is_enough, names_one, shares_demanding};
 
-use crate::gathered::{Gathered, gather, items_of};
-use crate::roles::parts;
-use desk_words::{DemandMark, HolderKind, Party, RegisterRow};
-use proxy_rules::{Cutoffs, Papers, Part, shares};
+use desk_words::{Appointment, Authority, DemandMark, Filed, HolderKind, Party, RegisterRow};
+use proxy_rules::{Cutoffs, GovernedPiece, Holding, Papers, shares};
 use std::alloc::{AllocError, Global};
 use std::collections::BTreeSet;
+use vote_rules::authorised_by;
 
 /// Which shares demand a poll, and whether they are enough (sections 321 and 329).
 #[derive(Clone, Copy, PartialEq, Eq)]
@@ -77,58 +76,81 @@ fn any_demands(demanders: &BTreeSet<Party>, persons: &[Party]) -> bool
 
 /// Whether the individual who holds the row demands it, or a representative of the corporation that
 /// does.
-fn holder_demands(demanders: &BTreeSet<Party>, gathered: &Gathered, row: &RegisterRow) -> bool
-    ensures { result ≡ holder_demands (is_one_of demanders.now) gathered.now row.now }
+fn holder_demands(
+    alloc: Global,
+    demanders: &BTreeSet<Party>,
+    authorities: &Filed<Authority>,
+    row: &RegisterRow,
+) -> Result<bool, AllocError>
+    ensures { IfOk result (λ demands. demands ≡ (by_the_holder (is_one_of demanders.now) row.now
+        || by_a_representative (is_one_of demanders.now) authorities.now row.now)) }
 {
     match row.kind {
-        HolderKind::Individual => demanders.contains(&row.member),
+        HolderKind::Individual => Ok(demanders.contains(&row.member)),
         HolderKind::Corporation => {
-            any_demands(demanders, items_of(&gathered.authorised, row.member))
+            let persons = authorised_by(alloc, authorities, row.member)?;
+            Ok(any_demands(demanders, persons.as_slice()))
         }
-        HolderKind::Treasury => false,
+        HolderKind::Treasury => Ok(false),
     }
 }
 
-/// The shares of the part, if its proxy demands.
-fn shares_if_demanded(part: &Part, demanders: &BTreeSet<Party>) -> u64
-    ensures { result ≡ shares_if (is_one_of demanders.now) part.now }
+/// Whether the appointment names a proxy who demands it.
+fn names_one(demanders: &BTreeSet<Party>, by: Option<&Appointment>) -> bool
+    ensures { result ≡ names_one (is_one_of demanders.now) (option_copied by.entry) }
 {
-    if demanders.contains(&part.proxy) {
-        part.shares
+    match by {
+        Some(appointment) => demanders.contains(&appointment.proxy),
+        None => false,
+    }
+}
+
+/// How many shares a piece of a holding has, if its proxy demands it.
+fn shares_if_demanded(demanders: &BTreeSet<Party>, holding: &Holding, piece: &GovernedPiece) -> u64
+    ensures { result ≡ shares_if (names_one (is_one_of demanders.now)) holding.now piece.now }
+{
+    if names_one(demanders, holding.appointment(piece)) {
+        piece.range.to() - piece.range.from() + 1
     } else {
         0
     }
 }
 
-/// How many shares the parts of those who demand have.
-fn shares_of_demanders(parts: &[Part], demanders: &BTreeSet<Party>) -> u64
-    requires { sum_by (shares_if (is_one_of demanders.now)) parts.now < 2 ^ 64 }
-    ensures { result ≡ sum_by (shares_if (is_one_of demanders.now)) parts.now }
+/// How many shares the pieces of those who demand have.
+fn shares_of_demanders(
+    demanders: &BTreeSet<Party>,
+    holding: &Holding,
+    pieces: &[GovernedPiece],
+) -> u64
+    requires { sum_by (shares_if (names_one (is_one_of demanders.now)) holding.now) pieces.now < 2 ^ 64 }
+    ensures { result ≡ sum_by (shares_if (names_one (is_one_of demanders.now)) holding.now) pieces.now }
 {
-    let mut shares = 0;
-    for part in parts {
-        shares += shares_if_demanded(part, demanders);
-    }
-    shares
+    pieces
+        .iter()
+        .map(|piece| shares_if_demanded(demanders, holding, piece))
+        .sum()
 }
 
 /// How many shares of the row demand it.
 fn demanding(
     alloc: Global,
     cutoffs: &Cutoffs,
-    gathered: &Gathered,
+    papers: &Papers,
     demanders: &BTreeSet<Party>,
     row: &RegisterRow,
 ) -> Result<u64, AllocError>
-    requires numbered { AreNumbered gathered.now }
+    requires tags { are_tags papers.now.appointments.now ≡ true }
+    requires numbered { are_numbered_after [] papers.now.appointments.now ≡ true }
     requires few { row.now.shares ≤ 10 ^ 12 }
-    ensures { IfOk result (λ shares. shares ≡ demanding_in (is_one_of demanders.now) cutoffs.now gathered.now row.now) }
+    ensures { IfOk result (λ shares. shares
+        ≡ shares_demanding (is_one_of demanders.now) cutoffs.now papers.now.appointments.now papers.now.endings.now papers.now.authorities.now row.now) }
 {
-    if holder_demands(demanders, gathered, row) {
+    if holder_demands(alloc, demanders, papers.authorities, row)? {
         return Ok(shares(row));
     }
-    let parts = parts(alloc, cutoffs, gathered, row)?;
-    Ok(shares_of_demanders(parts.as_slice(), demanders))
+    let holding = Holding::of_row(alloc, row, papers.appointments, papers.endings)?;
+    let pieces = holding.pieces(alloc, cutoffs)?;
+    Ok(shares_of_demanders(demanders, &holding, pieces.as_slice()))
 }
 
 /// Counts one row more, of which so many shares demand.
@@ -149,17 +171,18 @@ fn add_row(sums: &mut Sums, row: &RegisterRow, demanding: u64)
 fn sums_over(
     alloc: Global,
     cutoffs: &Cutoffs,
-    gathered: &Gathered,
+    papers: &Papers,
     demanders: &BTreeSet<Party>,
-    register: &[RegisterRow],
 ) -> Result<Sums, AllocError>
-    requires numbered { AreNumbered gathered.now }
-    requires rows { are_rows register.now ≡ true }
-    ensures { IfOk result (λ sums. sums ≡ sums_by (demanding_in (is_one_of demanders.now) cutoffs.now gathered.now) register.now) }
+    requires tags { are_tags papers.now.appointments.now ≡ true }
+    requires numbered { are_numbered_after [] papers.now.appointments.now ≡ true }
+    requires rows { are_rows papers.now.register.now ≡ true }
+    ensures { IfOk result (λ sums. sums ≡ sums_by
+        (shares_demanding (is_one_of demanders.now) cutoffs.now papers.now.appointments.now papers.now.endings.now papers.now.authorities.now) papers.now.register.now) }
 {
     let mut sums = NOTHING;
-    for row in register {
-        let demanding = demanding(alloc, cutoffs, gathered, demanders, row)?;
+    for row in papers.register {
+        let demanding = demanding(alloc, cutoffs, papers, demanders, row)?;
         add_row(&mut sums, row, demanding);
     }
     Ok(sums)
@@ -192,9 +215,8 @@ pub fn demand_reached(
     requires numbered { are_numbered_after [] papers.now.appointments.now ≡ true }
     ensures { IfOk result (λ demand. demand ≡ demand_of cutoffs.now papers.now.register.now papers.now.appointments.now papers.now.endings.now papers.now.authorities.now papers.now.demands.now resolution) }
 {
-    let gathered = gather(alloc, papers)?;
-    let demanders = demanders(alloc, papers.demands, resolution)?;
-    let sums = sums_over(alloc, cutoffs, &gathered, &demanders, papers.register)?;
+    let demanders = demanders(alloc, papers.demands.as_slice(), resolution)?;
+    let sums = sums_over(alloc, cutoffs, papers, &demanders)?;
     Ok(Demand {
         members: sums.members,
         shares: sums.shares,

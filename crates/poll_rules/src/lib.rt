@@ -1,20 +1,18 @@
-//! The rules of a poll: the valid vote of each share, the count of them, and the majority. The rules
-//! of proxies stand below it, and are handed on.
+//! The rules of a poll beside the count of its votes: the majority, the quorum of the meeting, and the
+//! demand of a poll. The count and the rules of proxies stand below it, and are handed on.
 #![tactic(auto)]
 
-mod counting;
 mod demand;
 mod gathered;
 pub mod laws;
-mod majority;
 mod qualifying;
 mod roles;
 
-pub use counting::tally;
 pub use demand::{Demand, demand_reached};
-pub use majority::{carried, result_of};
+pub use desk_words::{carried, result_of};
 pub use proxy_rules::{
-    Appointed, Cutoffs, Holding, Papers, cutoffs, governed, governing, is_late_poll,
-    runs_by_number, shares,
+    Cutoffs, GovernedPiece, Holding, Papers, copies_at, cutoffs, given_by, governed, governing,
+    is_late_poll, runs_by_number, shares,
 };
 pub use qualifying::quorum;
+pub use vote_rules::tally;

@@ -6,11 +6,11 @@ ghost use Rattle.desk_words.specs.Office.{are_numbered_after, same_presence};
 ghost use Rattle.desk_words.specs.declared.records.PresenceMark.{PresenceMark};
 ghost use Rattle.proxy_rules.specs.Holdings.{are_tags};
 ghost use Rattle.proxy_rules.specs.Shares.{are_rows};
-ghost use Rattle.poll_rules.specs.Acting.{first_qualifying, is_second, two_with_the_first};
+ghost use Rattle.poll_rules.specs.Pairs.{first_qualifying, is_second, two_with_the_first};
 ghost use Rattle.poll_rules.specs.Gathered.{items_at};
 ghost use Rattle.poll_rules.specs.Quorum.{are_as_one, are_two, is_counted, is_quorum, qualifies, quorum_of};
 
-use crate::gathered::{gather, items_of};
+use crate::gathered::items_of;
 use crate::roles::{Role, roles_by_person};
 use desk_words::{HolderKind, Party, PresenceMark, RegisterRow};
 use proxy_rules::{Cutoffs, Papers};
@@ -140,7 +140,6 @@ pub fn quorum(alloc: Global, cutoffs: &Cutoffs, papers: &Papers) -> Result<bool,
     requires present_once { differ_by same_presence papers.now.presences.now ≡ true }
     ensures { IfOk result (λ is_quorum. is_quorum ≡ quorum_of cutoffs.now papers.now.register.now papers.now.appointments.now papers.now.endings.now papers.now.authorities.now papers.now.presences.now) }
 {
-    let gathered = gather(alloc, papers)?;
-    let roles = roles_by_person(alloc, cutoffs, &gathered, papers.register)?;
-    Ok(make_quorum(papers.register, papers.presences, &roles))
+    let roles = roles_by_person(alloc, cutoffs, papers)?;
+    Ok(make_quorum(papers.register, papers.presences.as_slice(), &roles))
 }

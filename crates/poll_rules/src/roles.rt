@@ -1,22 +1,25 @@
 //! In which roles a person may act at a meeting.
-ghost use Rattle.std.specs.Prelude.{◌≡◌, ◌≤◌, ◌^◌, ◌++◌, ℕ, Bool, List, map, true, IfOk, OnOk, sum_by};
-ghost use Rattle.std.specs.List.{flat_map, list_all};
-ghost use Rattle.desk_terms.specs.Places.{places_that};
+ghost use Rattle.std.specs.Prelude.{◌≡◌, ◌≤◌, ◌^◌, ◌&&◌, ◌++◌, [], ℕ, List, filter, map, option_map, true, IfOk, OnOk};
+ghost use Rattle.std.specs.List.{filter_map, flat_map};
+ghost use Rattle.desk_terms.specs.Names.{same_name};
+ghost use Rattle.desk_words.specs.Office.{are_numbered_after};
 ghost use Rattle.desk_words.specs.Registers.{all_shares};
-ghost use Rattle.proxy_rules.specs.Parts.{has_shares, shares_if};
-ghost use Rattle.proxy_rules.specs.declared.parts.Part.{Part};
-ghost use Rattle.proxy_rules.specs.Shares.{shares_of};
-ghost use Rattle.poll_rules.specs.Acting.{is_governed_in, is_holder, is_proxy_for, represents, roles_in};
-ghost use Rattle.poll_rules.specs.Gathered.{AreNumbered, are_in, items_at};
+ghost use Rattle.desk_words.specs.declared.records.Appointment.{Appointment};
+ghost use Rattle.desk_words.specs.declared.records.Authority.{Authority};
+ghost use Rattle.proxy_rules.specs.Holdings.{IsKept, are_tags};
+ghost use Rattle.proxy_rules.specs.Shares.{is_corporation, is_individual};
+ghost use Rattle.proxy_rules.specs.Tiles.{appointment_of};
+ghost use Rattle.poll_rules.specs.Gathered.{are_in, items_at};
 ghost use Rattle.poll_rules.specs.Quorum.{same_role};
-ghost use Rattle.poll_rules.specs.Roles.{role_if};
+ghost use Rattle.poll_rules.specs.Roles.{has_authority, is_proxy_in, proxy_of, role_if, roles_by};
 
-use crate::gathered::{Gathered, add_to, items_of};
+use crate::gathered::add_to;
 use desk_lists::in_order_once;
-use desk_words::{Capacity, HolderKind, Party, RegisterRow};
-use proxy_rules::{Cutoffs, Part, parts_by_proxy, shares};
+use desk_words::{Authority, Capacity, Filed, HolderKind, Party, RegisterRow};
+use proxy_rules::{Cutoffs, GovernedPiece, Holding, Papers};
 use std::alloc::{AllocError, Global};
 use std::collections::BTreeMap;
+use vote_rules::authorised_by;
 
 /// A capacity in which a person acts, and the member for whose shares.
 #[derive(Clone, Copy, PartialEq, Eq)]
@@ -53,7 +56,7 @@ fn give_role(
 
 /// The individual who holds the row, if one does.
 fn holders(alloc: Global, row: &RegisterRow) -> Result<Vec<Party>, AllocError>
-    ensures { IfOk result (λ persons. (person : List ℕ) → are_in persons.items person ≡ is_holder row.now person) }
+    ensures { IfOk result (λ persons. (person : List ℕ) → are_in persons.items person ≡ (is_individual row.now.kind && same_name row.now.member person)) }
 {
     match row.kind {
         HolderKind::Individual => Ok(vec![in alloc; row.member]?),
@@ -64,58 +67,46 @@ fn holders(alloc: Global, row: &RegisterRow) -> Result<Vec<Party>, AllocError>
 /// The persons who may represent the corporation that holds the row (section 323).
 fn representatives(
     alloc: Global,
-    gathered: &Gathered,
+    authorities: &Filed<Authority>,
     row: &RegisterRow,
 ) -> Result<Vec<Party>, AllocError>
-    ensures { IfOk result (λ persons. (person : List ℕ) → are_in persons.items person ≡ represents gathered.now row.now person) }
+    ensures { IfOk result (λ persons. (person : List ℕ)
+        → are_in persons.items person ≡ (is_corporation row.now.kind && has_authority authorities.now row.now.member person)) }
 {
     match row.kind {
-        HolderKind::Corporation => items_of(&gathered.authorised, row.member)
-            .iter()
-            .copied()
-            .collect(alloc),
+        HolderKind::Corporation => authorised_by(alloc, authorities, row.member),
         HolderKind::Individual | HolderKind::Treasury => Ok(Vec::new(alloc)),
     }
 }
 
-/// What of the row's shares proxies govern, in parts (section 324).
-pub(crate) fn parts(
-    alloc: Global,
-    cutoffs: &Cutoffs,
-    gathered: &Gathered,
-    row: &RegisterRow,
-) -> Result<Vec<Part>, AllocError>
-    requires numbered { AreNumbered gathered.now }
-    requires few { row.now.shares ≤ 10 ^ 12 }
-    ensures counts { IfOk result (λ parts. (test : List ℕ → Bool)
-        → sum_by (shares_if test) parts.items ≡ places_that (is_governed_in test cutoffs.now gathered.now row.now) (shares_of row.now)) }
-    ensures held { IfOk result (λ parts. list_all has_shares parts.items ≡ true) }
+/// The proxy who governs a piece of a holding.
+fn proxy_of(holding: &Holding, piece: &GovernedPiece) -> Option<Party>
+    ensures { result ≡ proxy_of holding.now piece.now }
 {
-    let appointed = items_of(&gathered.appointed, row.member);
-    let ended = items_of(&gathered.ended, row.member);
-    parts_by_proxy(alloc, cutoffs, appointed, ended, shares(row))
+    Some(holding.appointment(piece)?.proxy)
 }
 
-/// The proxies of the parts.
-fn proxies_of(alloc: Global, parts: &[Part]) -> Result<Vec<Party>, AllocError>
-    ensures { IfOk result (λ persons. persons.items ≡ map (λ (part : Part). part.proxy) parts.now) }
-{
-    parts.iter().map(|part| part.proxy).collect(alloc)
-}
-
-/// The proxies who govern a share of the row.
-fn proxies(
+/// The proxies who govern the pieces of a holding.
+fn proxies_of(
     alloc: Global,
-    cutoffs: &Cutoffs,
-    gathered: &Gathered,
-    row: &RegisterRow,
+    holding: &Holding,
+    pieces: &[GovernedPiece],
 ) -> Result<Vec<Party>, AllocError>
-    requires numbered { AreNumbered gathered.now }
-    requires few { row.now.shares ≤ 10 ^ 12 }
-    ensures { IfOk result (λ persons. (person : List ℕ) → are_in persons.items person ≡ is_proxy_for cutoffs.now gathered.now row.now person) }
+    ensures { IfOk result (λ persons. persons.items ≡ filter_map (proxy_of holding.now) pieces.now) }
 {
-    let parts = parts(alloc, cutoffs, gathered, row)?;
-    proxies_of(alloc, parts.as_slice())
+    pieces
+        .iter()
+        .filter_map(|piece| proxy_of(holding, piece))
+        .collect(alloc)
+}
+
+/// The proxies who govern a share of a holding (section 324).
+fn proxies(alloc: Global, cutoffs: &Cutoffs, holding: &Holding) -> Result<Vec<Party>, AllocError>
+    requires { IsKept holding.now }
+    ensures { IfOk result (λ persons. (person : List ℕ) → are_in persons.items person ≡ is_proxy_in cutoffs.now holding.now person) }
+{
+    let pieces = holding.pieces(alloc, cutoffs)?;
+    proxies_of(alloc, holding, pieces.as_slice())
 }
 
 /// Gives the roles in which persons act for the row.
@@ -123,37 +114,41 @@ fn give_roles(
     alloc: Global,
     roles: &mut BTreeMap<Party, Vec<Role>>,
     cutoffs: &Cutoffs,
-    gathered: &Gathered,
+    papers: &Papers,
     row: &RegisterRow,
 ) -> Result<(), AllocError>
-    requires numbered { AreNumbered gathered.now }
+    requires tags { are_tags papers.now.appointments.now ≡ true }
+    requires numbered { are_numbered_after [] papers.now.appointments.now ≡ true }
     requires few { row.now.shares ≤ 10 ^ 12 }
-    ensures { OnOk result ((person : List ℕ) →
-        items_at roles.new person ≡ items_at roles.old person ++ roles_in cutoffs.now gathered.now person row.now) }
+    ensures { OnOk result ((person : List ℕ) → items_at roles.new person
+        ≡ items_at roles.old person ++ roles_by cutoffs.now papers.now.appointments.now papers.now.endings.now papers.now.authorities.now person row.now) }
 {
     let member = row.member;
     let own = holders(alloc, row)?;
     give_role(roles, own, Capacity::Member, member)?;
-    let representing = representatives(alloc, gathered, row)?;
+    let representing = representatives(alloc, papers.authorities, row)?;
     give_role(roles, representing, Capacity::Rep, member)?;
-    let governing = proxies(alloc, cutoffs, gathered, row)?;
+    let holding = Holding::of_row(alloc, row, papers.appointments, papers.endings)?;
+    let governing = proxies(alloc, cutoffs, &holding)?;
     give_role(roles, governing, Capacity::Proxy, member)
 }
 
-/// The roles of each person: each row is asked once. The error is want of memory.
+/// The roles of each person: each row is asked once, for what was received of its own member. The
+/// error is want of memory.
 pub(crate) fn roles_by_person(
     alloc: Global,
     cutoffs: &Cutoffs,
-    gathered: &Gathered,
-    register: &[RegisterRow],
+    papers: &Papers,
 ) -> Result<BTreeMap<Party, Vec<Role>>, AllocError>
-    requires numbered { AreNumbered gathered.now }
-    requires few { all_shares register.now ≤ 10 ^ 12 }
-    ensures { IfOk result (λ roles. (person : List ℕ) → items_at roles person ≡ flat_map (roles_in cutoffs.now gathered.now person) register.now) }
+    requires tags { are_tags papers.now.appointments.now ≡ true }
+    requires numbered { are_numbered_after [] papers.now.appointments.now ≡ true }
+    requires few { all_shares papers.now.register.now ≤ 10 ^ 12 }
+    ensures { IfOk result (λ roles. (person : List ℕ) → items_at roles person
+        ≡ flat_map (roles_by cutoffs.now papers.now.appointments.now papers.now.endings.now papers.now.authorities.now person) papers.now.register.now) }
 {
     let mut roles = BTreeMap::new(alloc);
-    for row in register {
-        give_roles(alloc, &mut roles, cutoffs, gathered, row)?;
+    for row in papers.register {
+        give_roles(alloc, &mut roles, cutoffs, papers, row)?;
     }
     Ok(roles)
 }

@@ -13,8 +13,7 @@ use Rattle.desk_terms.specs.declared.kinds.HolderKind.TheVariants.{Individual, C
 use Rattle.desk_words.specs.declared.records.RegisterRow.{RegisterRow}
 use Rattle.desk_words.specs.declared.register.TheConstants.{MOST_SHARES}
 use Rattle.desk_words.specs.Registers.{is_holding, all_shares, keep_limits, member_before}
-use Rattle.proxy_rules.specs.Governing.{shares_by}
-use Rattle.proxy_rules.specs.Shares.{are_rows, shares_held, shares_of}
+use Rattle.proxy_rules.specs.Shares.{are_rows, shares_held, shares_of, shares_by}
 
 shares_held-le : (kind : HolderKind) (n : ℕ) → shares_held kind n ≤ n
 shares_held-le Individual n = omega arith

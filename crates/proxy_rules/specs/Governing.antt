@@ -1,55 +1,51 @@
--- Which appointment of a proxy governs a share. Appointments and endings stand in order of receipt.
+-- Which appointment of a proxy governs a share. A member's appointments and endings stand in order of receipt.
 use Rattle.std.specs.Prelude.{ℕ, Bool, false, ◌&&◌, ◌==◌, nat_le, nat_lt, List, find, reverse, Option, Some, None, option_map, option_and_then, if◌then◌else◌}
 use Rattle.std.specs.List.{list_any}
 use Rattle.std.specs.Option.{option_map_or}
-use Rattle.desk_terms.specs.Names.{same_name}
 use Rattle.desk_terms.specs.Places.{Places, holds}
-use Rattle.desk_words.specs.Office.{is_ending_of}
 use Rattle.desk_words.specs.declared.records.Appointment.{Appointment}
 use Rattle.desk_words.specs.declared.records.Ending.{Ending}
-use Rattle.desk_words.specs.declared.records.RegisterRow.{RegisterRow}
+use Rattle.proxy_rules.specs.declared.holdings.Holding.{Holding}
 use Rattle.proxy_rules.specs.declared.papers.Cutoffs.{Cutoffs}
 use Rattle.proxy_rules.specs.Runs.{runs_that}
-use Rattle.proxy_rules.specs.Shares.{shares_of}
+use Rattle.proxy_rules.specs.Shares.{is_share}
 
--- given by the member, received in time to count, and holding the place (sections 324 and 327)
-abbrev pub is_for : Cutoffs → List ℕ → ℕ → Appointment → Bool
-is_for cutoffs member place a = same_name a.member member && nat_le a.moment cutoffs.appointments && holds a.range place
+-- received in time to count, and over the place (sections 324 and 327)
+abbrev pub is_over : Cutoffs → ℕ → Appointment → Bool
+is_over cutoffs place a = nat_le a.moment cutoffs.appointments && holds a.range place
 
--- the last received of the member's appointments that count and hold the place (section 324)
-abbrev pub last_for : Cutoffs → List Appointment → List ℕ → ℕ → Option Appointment
-last_for cutoffs given member place = find (is_for cutoffs member place) (reverse given)
+-- the last received of the appointments that count and hold the place (section 324)
+abbrev pub last_over : Cutoffs → Holding → ℕ → Option Appointment
+last_over cutoffs holding place = find (is_over cutoffs place) (reverse holding.appointed)
 
--- the ending names the appointment, in time to count (section 330)
-abbrev pub ends : Cutoffs → Appointment → Ending → Bool
-ends cutoffs a e = is_ending_of e a && nat_lt e.moment cutoffs.endings
+-- the ending names the appointment of that number, in time to count (section 330)
+abbrev pub ends : Cutoffs → ℕ → Ending → Bool
+ends cutoffs number e = e.number == number && nat_lt e.moment cutoffs.endings
 
--- the appointment, unless a counted ending names it (section 330)
-abbrev pub unended : Cutoffs → List Ending → Appointment → Option Appointment
-unended cutoffs ended a = if list_any (ends cutoffs a) ended then None else Some a
+-- a counted ending names the appointment (section 330)
+abbrev pub is_ended : Cutoffs → Holding → Appointment → Bool
+is_ended cutoffs holding a = list_any (ends cutoffs a.number) holding.ended
 
--- the appointment for a place of the member's: the last of those that count, and none where that one is ended; what it replaced is not revived (own, after section 330)
-abbrev pub appointment_for : Cutoffs → List Appointment → List Ending → List ℕ → ℕ → Option Appointment
-appointment_for cutoffs given ended member place = option_and_then (unended cutoffs ended) (last_for cutoffs given member place)
+-- the appointment, unless a counted ending names it
+abbrev pub unended : Cutoffs → Holding → Appointment → Option Appointment
+unended cutoffs holding a = if is_ended cutoffs holding a then None else Some a
 
--- how many shares the member has in the register; none where it has no row
-abbrev pub shares_by : List RegisterRow → List ℕ → ℕ
-shares_by register member = option_map_or shares_of (find (λ (row : RegisterRow). same_name row.member member) register) 0
+-- the place is that of a share of the holding
+abbrev pub has_share : Holding → ℕ → Bool
+has_share holding place = is_share holding.shares place
 
--- the place is that of a share of the member
-abbrev pub is_share : List RegisterRow → List ℕ → ℕ → Bool
-is_share register member place = nat_le 1 place && nat_le place (shares_by register member)
+-- the appointment that governs a share (section 324): none past the holding; else the last received that counts and holds its place, and none where a counted ending names that one; what it replaced is not revived (own, after section 330)
+abbrev pub governing_in : Cutoffs → Holding → ℕ → Option Appointment
+governing_in cutoffs holding place = if has_share holding place then option_and_then (unended cutoffs holding) (last_over cutoffs holding place) else None
 
--- the number of the appointment that governs a share (section 324)
-abbrev pub governing_of : Cutoffs → List RegisterRow → List Appointment → List Ending → List ℕ → ℕ → Option ℕ
-governing_of cutoffs register given ended member place =
-    if is_share register member place then option_map (λ (a : Appointment). a.number) (appointment_for cutoffs given ended member place) else None
+-- the number of the appointment that governs a share
+abbrev pub governing_number : Cutoffs → Holding → ℕ → Option ℕ
+governing_number cutoffs holding place = option_map (λ (a : Appointment). a.number) (governing_in cutoffs holding place)
 
--- the member's appointment of that number is the one for the place (section 324)
-abbrev pub governs : Cutoffs → List Appointment → List Ending → List ℕ → ℕ → ℕ → Bool
-governs cutoffs given ended member number place =
-    option_map_or (λ (a : Appointment). a.number == number) (appointment_for cutoffs given ended member place) false
+-- the appointment of that number is the one that governs the share
+abbrev pub governs : Cutoffs → Holding → ℕ → ℕ → Bool
+governs cutoffs holding number place = option_map_or (λ (a : Appointment). a.number == number) (governing_in cutoffs holding place) false
 
--- the shares that the member's appointment of that number governs, in runs in order, with gaps between them (section 324)
-abbrev pub governed_of : Cutoffs → List RegisterRow → List Appointment → List Ending → List ℕ → ℕ → List Places
-governed_of cutoffs register given ended member number = runs_that (governs cutoffs given ended member number) (shares_by register member)
+-- the shares of the holding that the appointment of that number governs, in runs in order, with gaps between them (section 324)
+abbrev pub governed_in : Cutoffs → Holding → ℕ → List Places
+governed_in cutoffs holding number = runs_that (governs cutoffs holding number) holding.shares

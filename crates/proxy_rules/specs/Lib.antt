@@ -1,8 +1,9 @@
-pub mod Covering
 pub mod Cutoffs
 pub mod Governing
 pub mod Holdings
+pub mod Instructions
 pub mod Laws
-pub mod Parts
 pub mod Runs
 pub mod Shares
+pub mod Tagging
+pub mod Tiles

@@ -1,5 +1,7 @@
 -- Shares. Those of a holding are numbered from 1, so a share is a row of the register and a place.
-use Rattle.std.specs.Prelude.{ℕ, Bool, true, false, ◌||◌, List}
+use Rattle.std.specs.Prelude.{ℕ, Bool, true, false, ◌&&◌, ◌||◌, nat_le, List, find}
+use Rattle.std.specs.Option.{option_map_or}
+use Rattle.desk_terms.specs.Names.{same_name}
 use Rattle.desk_terms.specs.declared.kinds.HolderKind.{HolderKind}
 use Rattle.desk_terms.specs.declared.kinds.HolderKind.TheVariants.{Individual, Corporation, Treasury}
 use Rattle.desk_words.specs.declared.records.RegisterRow.{RegisterRow}
@@ -19,6 +21,14 @@ shares_held Treasury shares = 0
 -- the shares of a row are its places 1 to this number (section 284)
 abbrev pub shares_of : RegisterRow → ℕ
 shares_of row = shares_held row.kind row.shares
+
+-- how many shares the member has in the register; none where it has no row
+abbrev pub shares_by : List RegisterRow → List ℕ → ℕ
+shares_by register member = option_map_or shares_of (find (λ (row : RegisterRow). same_name row.member member) register) 0
+
+-- the place is that of one of so many shares
+abbrev pub is_share : ℕ → ℕ → Bool
+is_share shares place = nat_le 1 place && nat_le place shares
 
 -- a person holds them
 abbrev pub is_individual : HolderKind → Bool

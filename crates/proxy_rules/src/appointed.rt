@@ -1,57 +1,108 @@
 //! Which appointment of a proxy governs a share.
-ghost use Rattle.std.specs.Prelude.{◌≡◌, find, option_map};
-ghost use Rattle.std.specs.List.{list_any};
-ghost use Rattle.std.specs.Option.{option_copied};
+ghost use Rattle.std.specs.Prelude.{◌≡◌, false, filter, find, option_and_then, reverse};
+ghost use Rattle.std.specs.List.{list_any, slice_get};
+ghost use Rattle.std.specs.Option.{option_copied, option_map_or};
 ghost use Rattle.desk_terms.specs.Names.{same_name};
-ghost use Rattle.desk_words.specs.declared.records.Appointment.{Appointment};
 ghost use Rattle.desk_words.specs.declared.records.RegisterRow.{RegisterRow};
-ghost use Rattle.proxy_rules.specs.Governing.{appointment_for, ends, governing_of, is_for, is_share, last_for, shares_by};
+ghost use Rattle.proxy_rules.specs.Governing.{ends, governing_number, is_over};
+ghost use Rattle.proxy_rules.specs.Holdings.{holding_of, is_ended_of, is_given_by};
+ghost use Rattle.proxy_rules.specs.Shares.{is_share, shares_by};
 
 use crate::papers::{Cutoffs, Papers};
 use crate::rows::shares;
-use desk_words::{Appointment, Ending, Party, RegisterRow};
+use desk_words::{Appointment, Ending, Filed, Party, RegisterRow};
 
-/// Whether an appointment is given by the member, was received in time to count, and holds the
-/// place.
-fn is_for(appointment: &Appointment, cutoffs: &Cutoffs, member: Party, place: u64) -> bool
-    ensures { result ≡ is_for cutoffs.now member place appointment.now }
+/// Whether an appointment was received in time to count, and is over the place.
+fn is_over(appointment: &Appointment, cutoffs: &Cutoffs, place: u64) -> bool
+    ensures { result ≡ is_over cutoffs.now place appointment.now }
 {
-    appointment.member.is(member)
-        && appointment.moment <= cutoffs.appointments
-        && appointment.range.has(place)
+    appointment.moment <= cutoffs.appointments && appointment.range.has(place)
 }
 
-/// The last of the appointments that are for the place.
-fn last_for<'a>(
-    given: &'a [Appointment],
-    cutoffs: &Cutoffs,
-    member: Party,
-    place: u64,
-) -> Option<&'a Appointment>
-    ensures { option_copied result ≡ last_for cutoffs.now given.now member place }
+/// Whether there is an appointment at the index, and it is over the place.
+fn is_over_at(appointments: &[Appointment], index: usize, cutoffs: &Cutoffs, place: u64) -> bool
+    ensures { result ≡ option_map_or (is_over cutoffs.now place) (slice_get appointments.now index) false }
 {
-    given
+    match appointments.get(index) {
+        Some(appointment) => is_over(appointment, cutoffs, place),
+        None => false,
+    }
+}
+
+/// The last of the indices at which there is an appointment over the place.
+fn index_over(
+    appointments: &[Appointment],
+    indices: &[usize],
+    cutoffs: &Cutoffs,
+    place: u64,
+) -> Option<usize>
+    ensures { result ≡ find (λ index. option_map_or (is_over cutoffs.now place) (slice_get appointments.now index) false) (reverse indices.now) }
+{
+    indices
         .iter()
         .rev()
-        .find(|appointment| is_for(appointment, cutoffs, member, place))
+        .copied()
+        .find(|index| is_over_at(appointments, *index, cutoffs, place))
 }
 
-/// Whether an ending names the appointment, in time to count.
-fn ends(ending: &Ending, cutoffs: &Cutoffs, appointment: &Appointment) -> bool
-    ensures { result ≡ ends cutoffs.now appointment.now ending.now }
+/// The last of the appointments at the indices that is over the place.
+fn last_at<'a>(
+    appointments: &'a [Appointment],
+    indices: &[usize],
+    cutoffs: &Cutoffs,
+    place: u64,
+) -> Option<&'a Appointment>
+    ensures { option_copied result ≡ option_and_then (slice_get appointments.now)
+        (find (λ index. option_map_or (is_over cutoffs.now place) (slice_get appointments.now index) false) (reverse indices.now)) }
 {
-    appointment.member.is(ending.member)
-        && appointment.number == ending.number
-        && ending.moment < cutoffs.endings
+    appointments.get(index_over(appointments, indices, cutoffs, place)?)
 }
 
-/// Whether a counted ending names the appointment.
-fn is_ended(ended: &[Ending], cutoffs: &Cutoffs, appointment: &Appointment) -> bool
-    ensures { result ≡ list_any (ends cutoffs.now appointment.now) ended.now }
+/// The last of the member's appointments that is over the place.
+fn last_over<'a>(
+    appointments: &'a Filed<Appointment>,
+    member: Party,
+    cutoffs: &Cutoffs,
+    place: u64,
+) -> Option<&'a Appointment>
+    ensures { option_copied result ≡ find (is_over cutoffs.now place) (reverse (filter (is_given_by member) appointments.now)) }
 {
-    ended
+    let indices = appointments.places_by_first(member);
+    last_at(appointments.as_slice(), indices, cutoffs, place)
+}
+
+/// Whether an ending names the appointment of that number, in time to count.
+fn ends(ending: &Ending, cutoffs: &Cutoffs, number: u64) -> bool
+    ensures { result ≡ ends cutoffs.now number ending.now }
+{
+    ending.number == number && ending.moment < cutoffs.endings
+}
+
+/// Whether there is an ending at the index, and it names the number, in time to count.
+fn ends_at(endings: &[Ending], index: usize, cutoffs: &Cutoffs, number: u64) -> bool
+    ensures { result ≡ option_map_or (ends cutoffs.now number) (slice_get endings.now index) false }
+{
+    match endings.get(index) {
+        Some(ending) => ends(ending, cutoffs, number),
+        None => false,
+    }
+}
+
+/// Whether one of the endings at the indices names the number, in time to count.
+fn any_ends(endings: &[Ending], indices: &[usize], cutoffs: &Cutoffs, number: u64) -> bool
+    ensures { result ≡ list_any (λ index. option_map_or (ends cutoffs.now number) (slice_get endings.now index) false) indices.now }
+{
+    indices
         .iter()
-        .any(|ending| ends(ending, cutoffs, appointment))
+        .any(|index| ends_at(endings, *index, cutoffs, number))
+}
+
+/// Whether a counted ending of the member's names the number.
+fn is_ended(endings: &Filed<Ending>, member: Party, cutoffs: &Cutoffs, number: u64) -> bool
+    ensures { result ≡ list_any (ends cutoffs.now number) (filter (is_ended_of member) endings.now) }
+{
+    let indices = endings.places_by_first(member);
+    any_ends(endings.as_slice(), indices, cutoffs, number)
 }
 
 /// The member's row.
@@ -73,22 +124,9 @@ pub(crate) fn shares_by(register: &[RegisterRow], member: Party) -> u64
 
 /// Whether the member has a share of that place.
 fn is_share(register: &[RegisterRow], member: Party, place: u64) -> bool
-    ensures { result ≡ is_share register.now member place }
+    ensures { result ≡ is_share (shares_by register.now member) place }
 {
     1 <= place && place <= shares_by(register, member)
-}
-
-/// The number of the appointment for a place of the member's.
-fn number_for(cutoffs: &Cutoffs, papers: &Papers, member: Party, place: u64) -> Option<u64>
-    ensures { result ≡ option_map (λ (a : Appointment). a.number)
-        (appointment_for cutoffs.now papers.now.appointments.now papers.now.endings.now member place) }
-{
-    let last = last_for(papers.appointments, cutoffs, member, place)?;
-    if is_ended(papers.endings, cutoffs, last) {
-        None
-    } else {
-        Some(last.number)
-    }
 }
 
 /// The number of the member's appointment of a proxy that governs a share, which is named by its
@@ -98,13 +136,18 @@ fn number_for(cutoffs: &Cutoffs, papers: &Papers, member: Party, place: u64) -> 
 /// was received before `cutoffs.endings`. The last received of the counted appointments that hold
 /// the place governs the share, unless a counted ending names it: then none does, since what it
 /// replaced is not revived. What is no place of the holding is governed by none, and treasury
-/// shares are no shares here. It takes no memory.
+/// shares are no shares here. It looks at the member's own appointments and endings, and takes no
+/// memory.
 pub fn governing(cutoffs: &Cutoffs, papers: &Papers, member: Party, place: u64) -> Option<u64>
-    ensures { result ≡ governing_of cutoffs.now papers.now.register.now papers.now.appointments.now papers.now.endings.now member place }
+    ensures { result ≡ governing_number cutoffs.now (holding_of papers.now.register.now papers.now.appointments.now papers.now.endings.now member) place }
 {
-    if is_share(papers.register, member, place) {
-        number_for(cutoffs, papers, member, place)
-    } else {
+    if !is_share(papers.register, member, place) {
+        return None;
+    }
+    let last = last_over(papers.appointments, member, cutoffs, place)?;
+    if is_ended(papers.endings, member, cutoffs, last.number) {
         None
+    } else {
+        Some(last.number)
     }
 }

@@ -1,38 +1,13 @@
 //! One member's shares, with what was received of its appointments.
-ghost use Rattle.std.specs.Prelude.{◌≡◌, IfOk, map, filter};
-ghost use Rattle.proxy_rules.specs.Holdings.{appointed_by, holding_of, is_ended_of, is_given_by};
+ghost use Rattle.std.specs.Prelude.{◌≡◌, ◌<◌, All, IfOk, filter, length};
+ghost use Rattle.std.specs.List.{filter_map, slice_get};
+ghost use Rattle.proxy_rules.specs.Holdings.{holding_by, holding_of, holding_with, is_ended_of, is_given_by};
 
 use crate::appointed::shares_by;
 use crate::papers::Papers;
-use desk_words::{Appointment, Ending, Listing, Moment, Party, Range};
+use crate::rows::shares;
+use desk_words::{Appointment, Ending, Filed, Listing, Party, RegisterRow};
 use std::alloc::{AllocError, Global};
-
-/// What an appointment says of which shares it governs, and for whom.
-#[derive(Clone, Copy, PartialEq, Eq)]
-pub struct Appointed {
-    /// The member's own count of its appointments.
-    pub number: u64,
-    /// Whom it names.
-    pub proxy: Party,
-    /// The places that it is over, which may reach past the holding.
-    pub range: Range,
-    /// When it was received.
-    pub moment: Moment,
-}
-
-impl Appointed {
-    /// What the appointment says of which shares it governs, and for whom.
-    pub fn of(appointment: &Appointment) -> Appointed
-        ensures { result ≡ appointed_by appointment.now }
-    {
-        Appointed {
-            number: appointment.number,
-            proxy: appointment.proxy,
-            range: appointment.range,
-            moment: appointment.moment,
-        }
-    }
-}
 
 /// One member's shares, its appointments of proxies and its endings of them.
 #[derive(Drop)]
@@ -40,47 +15,95 @@ pub struct Holding {
     /// How many shares the member has, treasury shares not among them.
     pub shares: u64,
     /// Its appointments, in order of receipt (section 324).
-    pub appointed: Listing<Appointed>,
+    pub appointed: Listing<Appointment>,
     /// Its endings, in order of receipt (section 330).
     pub ended: Listing<Ending>,
 }
 
-/// A member's appointments, in order of receipt.
-fn appointed_by(
-    alloc: Global,
-    given: &[Appointment],
-    member: Party,
-) -> Result<Vec<Appointed>, AllocError>
-    ensures { IfOk result (λ appointed. appointed.items ≡ map appointed_by (filter (is_given_by member) given.now)) }
+fn copy_appointment(appointment: &Appointment) -> Result<Appointment, AllocError>
+    ensures { IfOk result (λ copy. copy ≡ appointment.now) }
 {
-    given
-        .iter()
-        .filter(|appointment| appointment.member.is(member))
-        .map(Appointed::of)
-        .collect(alloc)
+    appointment.clone()
+}
+
+/// Copies of the appointments at the places. The error is want of memory.
+pub fn copies_at(
+    alloc: Global,
+    appointments: &[Appointment],
+    places: &[usize],
+) -> Result<Listing<Appointment>, AllocError>
+    requires { All (λ place. place < length appointments.now) places.now }
+    ensures { IfOk result (λ copies. copies ≡ filter_map (slice_get appointments.now) places.now) }
+{
+    let mut copies = Listing::new(alloc);
+    for place in places {
+        copies.push(copy_appointment(&appointments[*place])?)?;
+    }
+    Ok(copies)
+}
+
+/// A member's appointments, in order of receipt. The error is want of memory.
+pub fn given_by(
+    alloc: Global,
+    appointments: &Filed<Appointment>,
+    member: Party,
+) -> Result<Listing<Appointment>, AllocError>
+    ensures { IfOk result (λ given. given ≡ filter (is_given_by member) appointments.now) }
+{
+    let places = appointments.places_by_first(member);
+    copies_at(alloc, appointments.as_slice(), places)
 }
 
 /// A member's endings, in order of receipt.
-fn ended_by(alloc: Global, ended: &[Ending], member: Party) -> Result<Vec<Ending>, AllocError>
-    ensures { IfOk result (λ own. own.items ≡ filter (is_ended_of member) ended.now) }
+fn ended_by(
+    alloc: Global,
+    endings: &Filed<Ending>,
+    member: Party,
+) -> Result<Vec<Ending>, AllocError>
+    ensures { IfOk result (λ ended. ended.items ≡ filter (is_ended_of member) endings.now) }
 {
-    ended
-        .iter()
-        .copied()
-        .filter(|ending| ending.member.is(member))
-        .collect(alloc)
+    endings.by_first(alloc, member)
+}
+
+/// So many shares of a member, with its appointments and its endings.
+fn holding_with(
+    alloc: Global,
+    shares: u64,
+    appointments: &Filed<Appointment>,
+    endings: &Filed<Ending>,
+    member: Party,
+) -> Result<Holding, AllocError>
+    ensures { IfOk result (λ holding. holding ≡ holding_with shares appointments.now endings.now member) }
+{
+    let appointed = given_by(alloc, appointments, member)?;
+    let ended = ended_by(alloc, endings, member)?;
+    Ok(Holding {
+        shares,
+        appointed,
+        ended: Listing::from_vec(ended),
+    })
 }
 
 impl Holding {
-    /// A member's shares, its appointments and its endings, each of which is looked for once in the
-    /// meeting's lists. The error is want of memory.
+    /// The holding of a row of the register, with its member's appointments and endings, which are
+    /// looked up. The error is want of memory.
+    pub fn of_row(
+        alloc: Global,
+        row: &RegisterRow,
+        appointments: &Filed<Appointment>,
+        endings: &Filed<Ending>,
+    ) -> Result<Holding, AllocError>
+        ensures { IfOk result (λ holding. holding ≡ holding_by appointments.now endings.now row.now) }
+    {
+        holding_with(alloc, shares(row), appointments, endings, row.member)
+    }
+
+    /// The holding of a member, of no shares where it has no row in the register, with its
+    /// appointments and endings, which are looked up. The error is want of memory.
     pub fn of(alloc: Global, papers: &Papers, member: Party) -> Result<Holding, AllocError>
         ensures { IfOk result (λ holding. holding ≡ holding_of papers.now.register.now papers.now.appointments.now papers.now.endings.now member) }
     {
-        Ok(Holding {
-            shares: shares_by(papers.register, member),
-            appointed: Listing::from_vec(appointed_by(alloc, papers.appointments, member)?),
-            ended: Listing::from_vec(ended_by(alloc, papers.endings, member)?),
-        })
+        let shares = shares_by(papers.register, member);
+        holding_with(alloc, shares, papers.appointments, papers.endings, member)
     }
 }

@@ -1,5 +1,6 @@
 //! Laws of the definitions by which the contracts speak.
-ghost use Rattle.proxy_rules.specs.Laws.{EarlierTakeNothing, EndingsReviveNothing, GovernedByTheHolding, RunsAreParted, RunsHoldWhatGoverns, RunsHoldWhatPasses};
+ghost use Rattle.proxy_rules.specs.Laws.{EarlierTakeNothing, EndingsReviveNothing, RunsAreParted, RunsHoldWhatGoverns, RunsHoldWhatPasses};
+ghost use Rattle.proxy_rules.specs.Tiles.{PiecesCountShares, TilesCountPlaces};
 
 /// Of every test, the runs hold exactly the places that pass it.
 pub fn runs_hold_what_passes()
@@ -23,14 +24,19 @@ pub fn endings_revive_nothing()
     ensures { EndingsReviveNothing }
 {}
 
-/// What a member's appointments govern depends on the member's own shares, appointments and endings
-/// alone.
-pub fn governed_by_the_holding()
-    ensures { GovernedByTheHolding }
-{}
-
 /// What a member's appointment governs does not depend on those that were received before all of its
 /// number.
 pub fn earlier_take_nothing()
     ensures { EarlierTakeNothing }
+{}
+
+/// Over ranges that hold the places 1 to n in order, on each of which a test answers alike, the places
+/// that pass are those of the ranges that pass: how a count of shares goes over pieces.
+pub fn tiles_count_places()
+    ensures { TilesCountPlaces }
+{}
+
+/// The shares of a holding that are governed by what passes a test are those of the pieces that pass.
+pub fn pieces_count_shares()
+    ensures { PiecesCountShares }
 {}

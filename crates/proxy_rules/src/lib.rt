@@ -5,16 +5,18 @@
 mod appointed;
 mod counted;
 mod holdings;
+mod instructions;
 pub mod laws;
 mod papers;
-mod parts;
+mod pieces;
 mod rows;
 mod runs;
 
 pub use appointed::governing;
 pub use counted::{cutoffs, is_late_poll};
-pub use holdings::{Appointed, Holding};
+pub use holdings::{Holding, copies_at, given_by};
+pub use instructions::{allows, instructed_on};
 pub use papers::{Cutoffs, Papers};
-pub use parts::{Part, parts_by_proxy};
+pub use pieces::GovernedPiece;
 pub use rows::shares;
 pub use runs::{governed, runs_by_number};

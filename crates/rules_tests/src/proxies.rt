@@ -1,10 +1,13 @@
 //! Which appointment governs a share, asked for one share and for one appointment, as no request does.
-ghost use Rattle.std.specs.Prelude.{◌≡◌};
+ghost use Rattle.std.specs.Prelude.{◌≡◌, ◌==◌, [], suc, count_by};
+ghost use Rattle.desk_words.specs.Names.{same_name};
+ghost use Rattle.desk_words.specs.Office.{are_numbered_after};
+ghost use Rattle.desk_words.specs.declared.records.Appointment.{Appointment};
 ghost use Rattle.proxy_rules.specs.Holdings.{are_tags};
 
-use crate::papers::{moment, party, register};
-use desk_words::{Appointment, Ending, Listing, Range};
-use proxy_rules::{Cutoffs, Papers, governed, governing};
+use crate::papers::{Lists, moment, party, register};
+use desk_words::{Appointment, Ending, Filed, Listing, Party, Range};
+use proxy_rules::{Cutoffs, governed, governing};
 use std::alloc::Global;
 use std::test::Fail;
 
@@ -40,44 +43,37 @@ fn appointment(
 }
 
 /// Number 1 over all shares, 2 over 41 to 60, 3 over 55 to 200, and 4, which is late.
-fn appointments(alloc: Global) -> Result<[Appointment; 4], Fail> {
-    Ok([
-        appointment(alloc, 1, 1, 200, IN_TIME)?,
-        appointment(alloc, 2, 41, 60, IN_TIME)?,
-        appointment(alloc, 3, 55, 200, IN_TIME)?,
-        appointment(alloc, 4, 10, 20, LATE)?,
-    ])
+fn appointments(alloc: Global) -> Result<Filed<Appointment>, Fail> {
+    let mut given = Filed::new(alloc);
+    given.push(appointment(alloc, 1, 1, 200, IN_TIME)?)?;
+    given.push(appointment(alloc, 2, 41, 60, IN_TIME)?)?;
+    given.push(appointment(alloc, 3, 55, 200, IN_TIME)?)?;
+    given.push(appointment(alloc, 4, 10, 20, LATE)?)?;
+    Ok(given)
+}
+
+fn ending(number: u64, at: &str) -> Result<Ending, Fail> {
+    Ok(Ending {
+        member: party("M1")?,
+        number,
+        moment: moment(at)?,
+    })
 }
 
 /// Number 2 is ended before the opening, and number 3 at it, which is too late.
-fn endings() -> Result<[Ending; 2], Fail> {
-    let member = party("M1")?;
-    Ok([
-        Ending {
-            member,
-            number: 2,
-            moment: moment("2026-06-18T09:59:59")?,
-        },
-        Ending {
-            member,
-            number: 3,
-            moment: moment(OPENING)?,
-        },
-    ])
+fn lists(alloc: Global) -> Result<Lists, Fail> {
+    let mut lists = Lists::new(alloc);
+    lists.appointments = appointments(alloc)?;
+    lists.endings.push(ending(2, "2026-06-18T09:59:59")?)?;
+    lists.endings.push(ending(3, OPENING)?)?;
+    Ok(lists)
 }
 
 /// The number of the appointment that governs a share, or 0, where M1 holds 100 shares.
 fn number_for(alloc: Global, member: &str, place: u64) -> Result<u64, Fail> {
     let register = register(alloc, &[("M1", 100), ("M2", 50)])?;
-    let papers = Papers {
-        register: register.rows(),
-        appointments: &appointments(alloc)?,
-        endings: &endings()?,
-        authorities: &[],
-        presences: &[],
-        demands: &[],
-        casts: &[],
-    };
+    let lists = lists(alloc)?;
+    let papers = lists.papers(register.rows());
     Ok(governing(&cutoffs()?, &papers, party(member)?, place).unwrap_or(0))
 }
 
@@ -102,28 +98,49 @@ fn the_last_appointment_governs(rt: HostRuntime) -> Result<(), Fail> {
     Ok(())
 }
 
-fn all_tags(appointments: &[Appointment]) -> bool
+pub(crate) fn all_tags(appointments: &[Appointment]) -> bool
     ensures { result ≡ are_tags appointments.now }
 {
     appointments.iter().all(|appointment| 1 <= appointment.number && appointment.number <= 256)
 }
 
+/// How many of the appointments the member gave.
+fn count_by(earlier: &[Appointment], member: Party) -> usize
+    ensures { result ≡ count_by (λ (a : Appointment). same_name a.member member) earlier.now }
+{
+    earlier
+        .iter()
+        .filter(|appointment| appointment.member.is(member))
+        .count()
+}
+
+/// Whether the appointment has the next number of its member.
+fn is_next(earlier: &[Appointment], appointment: &Appointment) -> bool
+    ensures { result ≡ (appointment.now.number == suc (count_by (λ (a : Appointment). same_name a.member appointment.now.member) earlier.now)) }
+{
+    appointment.number > 0 && appointment.number - 1 == count_by(earlier, appointment.member) as u64
+}
+
+pub(crate) fn all_numbered(given: &[Appointment]) -> bool
+    ensures { result ≡ are_numbered_after [] given.now }
+{
+    for index in 0..given.len() {
+        if !is_next(&given[..index], &given[index]) {
+            return false;
+        }
+    }
+    true
+}
+
 /// The runs of shares that an appointment of M1 governs.
 fn runs(alloc: Global, number: u64) -> Result<Vec<Range>, Fail> {
     let register = register(alloc, &[("M1", 100)])?;
-    let given = appointments(alloc)?;
-    if !all_tags(&given) {
-        return Err("a number that is no tag".into());
+    let lists = lists(alloc)?;
+    let given = lists.appointments.as_slice();
+    if !all_tags(given) || !all_numbered(given) {
+        return Err("numbers that no member's appointments have".into());
     }
-    let papers = Papers {
-        register: register.rows(),
-        appointments: &given,
-        endings: &endings()?,
-        authorities: &[],
-        presences: &[],
-        demands: &[],
-        casts: &[],
-    };
+    let papers = lists.papers(register.rows());
     Ok(governed(alloc, &cutoffs()?, &papers, party("M1")?, number)?)
 }
 

@@ -1,7 +1,6 @@
-use Rattle.std.proofs.Common.{◌≤◌, ap, inl, inr}
+use Rattle.std.proofs.Common.{◌≤◌, inl, inr}
 use Rattle.std.proofs.lemmas.Bool.{cases_lt}
 use Rattle.desk_words.specs.Lists.{day_count}
-use Rattle.desk_bodies.specs.Answers.{readable}
 use Rattle.desk_bodies.proofs.DayLemmas.{day_list_of-is}
 use Rattle.desk_bodies.proofs.closed.day_list.Goals as goal
 
@@ -14,4 +13,4 @@ few c =
 
 pub returns-in-Ok : goal.returns-in-Ok
 returns-in-Ok c =
-    ap readable (day_list_of-is c.args.days.items c.in-Ok.days c.in-Ok.ensures.kept c.in-Ok.ensures.days (few c))
+    day_list_of-is c.args.days.items c.in-Ok.days c.in-Ok.ensures.kept c.in-Ok.ensures.days (few c)

@@ -8,7 +8,7 @@ use Rattle.desk_lines.specs.Reading.{Gives, unread}
 use Rattle.desk_lines.specs.declared.outcome.NextLine.{NextLine}
 use Rattle.desk_lines.proofs.Giving.{Keeps-same}
 use Rattle.desk_terms.specs.declared.refusal.Refusal.TheVariants.{TooLarge}
-use Rattle.desk_words.specs.declared.request.Reply.TheVariants.{Refused}
+use Rattle.desk_words.specs.declared.reply.Reply.TheVariants.{Refused}
 use Rattle.desk_replies.specs.Replies.{reply_bytes}
 use Rattle.desk_program.specs.Transcript.{as_line, unless_refused}
 use Rattle.desk_program.proofs.TurnLemmas.{at_end-rest, positive, stops-too_long, stops-whole}

@@ -5,9 +5,9 @@ use Rattle.serde_json.proofs.OnLiterals.{serde_json_on_literals}
 use Rattle.desk_terms.specs.Refusals.{number_of, name_of}
 use Rattle.desk_terms.specs.declared.refusal.Refusal.{Refusal}
 use Rattle.desk_terms.specs.declared.refusal.Refusal.TheVariants.{Key, Route, Method, TooLarge, Unreadable, OfficeOnly, PartyOnly, NoMeeting, Exists, ShortNotice, NoResolution, BadRange, SelfNamed, BadInstructions, TooMany, NoSuchNumber, AlreadyEnded, NoRegister, OtherRecord, Opened, NotOpened, Early, NoQuorum, NotPresent, NoRight, PollOrdered, NoPoll, DemandTooSmall, PollNotOpen, PollClosed, NotClosed, Declared, NotYours, AgainstInstruction}
-use Rattle.desk_words.specs.declared.request.AppointmentUse.TheVariants as counted
-use Rattle.desk_words.specs.declared.request.Reply.TheVariants as reply
-use Rattle.desk_words.specs.declared.request.Declaration.{Declaration}
+use Rattle.desk_words.specs.declared.reply.AppointmentUse.TheVariants as counted
+use Rattle.desk_words.specs.declared.reply.Reply.TheVariants as reply
+use Rattle.desk_words.specs.declared.reply.Declaration.{Declaration}
 use Rattle.desk_replies.specs.Letters.{truth, declaration_text}
 use Rattle.desk_replies.specs.Forms.{whole, with_members}
 use Rattle.desk_replies.specs.Replies.{reply_bytes}

@@ -1,16 +1,12 @@
-use Rattle.std.proofs.Common.{sym, ◌∙◌, ap, slice_set}
+use Rattle.std.proofs.Common.{Bool, ap, ◌∙◌}
 use Rattle.std.proofs.lemmas.Result.{on_ok_weaker}
-use Rattle.desk_words.specs.Names.{same_name}
-use Rattle.desk_lists.proofs.ChangeFirst.{change_first-some, change_first-none}
-use Rattle.meeting_core.specs.Office.{with_poll}
+use Rattle.desk_lists.specs.Sorting.{insert_by}
+use Rattle.desk_lists.proofs.Numbers.{is_lt-nat_cmp}
+use Rattle.desk_words.specs.declared.records.Poll.{Poll}
 use Rattle.meeting_core.proofs.changes.add_poll.Goals as goal
 
-pub returns-in-Some-clause-ok : goal.returns-in-Some-clause-ok
-returns-in-Some-clause-ok c =
-    let meetings = c.args.meetings.now in
-    let changed = change_first-some (λ m. same_name m.meeting.id c.args.added.meeting) _ (with_poll c.args.added.poll) meetings c.in-Some.i (sym c.place_of_meeting.ensures.first ∙ c.in-Some.is) in
-    on_ok_weaker c.put_poll.result (λ ok. ap (slice_set meetings c.in-Some.i) ok ∙ sym changed) c.put_poll.ensures.ok
-
-pub returns-in-None-clause-ok : goal.returns-in-None-clause-ok
-returns-in-None-clause-ok c =
-    sym (change_first-none (λ m. same_name m.meeting.id c.args.added.meeting) (with_poll c.args.added.poll) 0 c.args.meetings.now (sym c.place_of_meeting.ensures.first ∙ c.in-None.is))
+pub returns-clause-ok : goal.returns-clause-ok
+returns-clause-ok c =
+    on_ok_weaker c.insert_in_order.result (λ ok.
+    ok ∙ ap (λ (before : Poll → Poll → Bool). insert_by before c.args.poll c.args.polls.now) (λ i a b. is_lt-nat_cmp a.resolution b.resolution i))
+    c.insert_in_order.ensures.ok

@@ -1,4 +1,4 @@
-use Rattle.meeting_core.proofs.RefusedCalls.{no_change, office_left}
+use Rattle.meeting_core.proofs.StepLaws.{no_change, office_left}
 use Rattle.meeting_core.proofs.laws.refused_calls_change_nothing.Goals as goal
 
 pub returns-clause-change : goal.returns-clause-change

@@ -6,7 +6,7 @@ use Rattle.desk_words.specs.declared.records.Ending.{Ending}
 use Rattle.caller_view.specs.Views.{ended_at}
 use Rattle.meeting_views.specs.Named.{last_ended}
 use Rattle.meeting_views.proofs.MeetingLemmas.{last_ended-own}
-use Rattle.meeting_views.proofs.NameLemmas.{filter-named}
+use Rattle.proxy_rules.proofs.NameLemmas.{filter-named}
 use Rattle.meeting_views.proofs.appointments.ended_by.Goals as goal
 
 pub returns : goal.returns

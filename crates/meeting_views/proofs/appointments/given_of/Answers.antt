@@ -2,7 +2,7 @@ use Rattle.std.proofs.Common.{◌≡◌, List, map, filter, ap, ◌∙◌}
 use Rattle.std.proofs.lemmas.Result.{IfOk-weaker}
 use Rattle.desk_terms.specs.Names.{same_name}
 use Rattle.desk_words.specs.declared.records.Appointment.{Appointment}
-use Rattle.desk_words.specs.declared.request.Given.{Given}
+use Rattle.desk_words.specs.declared.own.Given.{Given}
 use Rattle.caller_view.specs.Views.{given_in}
 use Rattle.meeting_views.specs.Named.{given_kept}
 use Rattle.meeting_views.proofs.MeetingLemmas.{given-kept}

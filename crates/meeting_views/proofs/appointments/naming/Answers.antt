@@ -3,7 +3,7 @@ use Rattle.std.specs.List.{filter_map, slice_get}
 use Rattle.std.proofs.lemmas.Result.{IfOk-weaker}
 use Rattle.desk_terms.specs.Names.{same_name}
 use Rattle.desk_words.specs.declared.records.Appointment.{Appointment}
-use Rattle.meeting_views.proofs.NameLemmas.{filter-named}
+use Rattle.proxy_rules.proofs.NameLemmas.{filter-named}
 use Rattle.meeting_views.proofs.appointments.naming.Goals as goal
 
 pub returns : goal.returns

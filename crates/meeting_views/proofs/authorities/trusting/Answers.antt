@@ -1,5 +1,5 @@
 use Rattle.desk_words.specs.declared.records.Authority.{Authority}
-use Rattle.meeting_views.proofs.NameLemmas.{found-named}
+use Rattle.proxy_rules.proofs.NameLemmas.{found-named}
 use Rattle.meeting_views.proofs.authorities.trusting.Goals as goal
 
 pub returns : goal.returns

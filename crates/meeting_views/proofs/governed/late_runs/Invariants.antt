@@ -8,4 +8,4 @@ use Rattle.meeting_views.proofs.governed.late_runs.Given as goal
 abbrev pub invariant-loop-poll : goal.invariant-loop-poll
 invariant-loop-poll l =
     (member : List ℕ) (number : ℕ) → IsTrue (is_among member l.received)
-    → map (poll_kept member number) l.late.items ≡ map (poll_due l.named l.closed member number) (filter (is_late_poll l.closed) (take l.poll-index l.lists.polls))
+    → map (poll_kept member number) l.late.items ≡ map (poll_due l.named l.closed member number) (filter (is_late_poll l.closed) (take l.poll-index l.polls))

@@ -1,5 +1,5 @@
 use Rattle.desk_words.specs.declared.records.CastMark.{CastMark}
-use Rattle.meeting_views.proofs.NameLemmas.{found-named}
+use Rattle.proxy_rules.proofs.NameLemmas.{found-named}
 use Rattle.meeting_views.proofs.own.casts_of.Goals as goal
 
 pub returns : goal.returns

@@ -1,7 +1,7 @@
 use Rattle.std.proofs.Common.{Bool, ap, ◌∙◌}
 use Rattle.std.specs.List.{list_any}
 use Rattle.desk_words.specs.declared.records.PresenceMark.{PresenceMark}
-use Rattle.meeting_views.proofs.NameLemmas.{test-named}
+use Rattle.proxy_rules.proofs.NameLemmas.{test-named}
 use Rattle.meeting_views.proofs.own.is_present.Goals as goal
 
 pub returns : goal.returns

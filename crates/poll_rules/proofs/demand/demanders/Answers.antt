@@ -4,7 +4,7 @@ use Rattle.std.specs.Ordering.{is_eq}
 use Rattle.std.proofs.lemmas.List.Folds.{list_any_more}
 use Rattle.desk_terms.specs.Names.{same_name, name_cmp}
 use Rattle.desk_words.specs.declared.records.DemandMark.{DemandMark}
-use Rattle.poll_rules.specs.Demanding.{is_one_of}
+use Rattle.poll_rules.specs.DemandSums.{is_one_of}
 use Rattle.poll_rules.specs.Demands.{has_demanded}
 use Rattle.proxy_rules.proofs.Choices.{same_true}
 use Rattle.poll_rules.proofs.DemandLemmas.{apart_false, one_demander, no_demander}

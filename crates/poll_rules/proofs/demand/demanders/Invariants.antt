@@ -1,5 +1,5 @@
 use Rattle.std.proofs.Common.{◌≡◌, ℕ, List, take}
-use Rattle.poll_rules.specs.Demanding.{is_one_of}
+use Rattle.poll_rules.specs.DemandSums.{is_one_of}
 use Rattle.poll_rules.specs.Demands.{has_demanded}
 use Rattle.poll_rules.proofs.demand.demanders.Given as goal
 

@@ -5,7 +5,7 @@ use Rattle.desk_lists.specs.Ordered.{ascends_by}
 use Rattle.desk_terms.specs.Names.{same_name, name_cmp}
 use Rattle.poll_rules.specs.Gathered.{are_in, items_at}
 use Rattle.poll_rules.specs.Roles.{role_if}
-use Rattle.poll_rules.proofs.ActingLemmas.{are_in-is_member, given-more}
+use Rattle.poll_rules.proofs.RoleLemmas.{are_in-is_member, given-more}
 use Rattle.poll_rules.proofs.roles.give_role.Goals as goal
 
 pub loop-person-init : goal.loop-person-init

@@ -1,6 +1,6 @@
 use Rattle.std.proofs.Common.{ap, sym, ◌∙◌}
 use Rattle.desk_words.specs.declared.office.OfficeLists.{OfficeLists}
-use Rattle.caller_view.specs.Views.{meeting_named}
+use Rattle.desk_words.specs.Finding.{meeting_named}
 use Rattle.office_answers.proofs.OfficeFacts.{found_facts, meeting_from_facts, meeting_rows}
 use Rattle.meeting_core.proofs.book.Book.own_of.Goals as goal
 

@@ -1,6 +1,6 @@
 use Rattle.std.proofs.Common.{◌≡◌, true, false, Some, None, ap, sym, ◌∙◌}
-use Rattle.meeting_core.proofs.OfficeKept.{sets, sets_alone}
-use Rattle.meeting_core.proofs.RefusedCalls.{at_once_quiet}
+use Rattle.office_answers.specs.Limits.{if_any}
+use Rattle.meeting_core.proofs.StepLaws.{at_once_quiet, sets_alone}
 use Rattle.meeting_core.specs.Office.{sets_fields}
 use Rattle.meeting_core.proofs.book.Book.step.Goals as goal
 
@@ -9,7 +9,7 @@ pub returns-in_err-apply-clause-sure : goal.returns-in_err-apply-clause-sure
 returns-in_err-apply-clause-sure c = λ needless.
     let call = c.args.call in
     let fields : sets_fields c.in-Some.change ≡ true =
-    ap sets (sym c.in-Some.is ∙ c.in_ok-reply.ensures.change) ∙ sets_alone c.args.self.now call.moment call.caller call.request needless in
+    ap (if_any sets_fields) (sym c.in-Some.is ∙ c.in_ok-reply.ensures.change) ∙ sets_alone c.args.self.now call.moment call.caller call.request needless in
     let never : false ≡ true = c.in_err-apply.ensures.sure fields in
     absurd (cc)
 

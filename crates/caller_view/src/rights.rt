@@ -1,0 +1,230 @@
+//! On which shares a party may vote on a poll, and how, by its own things.
+ghost use Rattle.std.specs.Prelude.{◌≡◌, ◌==◌, false, None, IfSome, find};
+ghost use Rattle.std.specs.List.{list_any};
+ghost use Rattle.std.specs.Option.{option_copied};
+ghost use Rattle.desk_words.specs.Names.{same_name};
+ghost use Rattle.desk_words.specs.Places.{Places, holds};
+ghost use Rattle.desk_words.specs.declared.own.Authorised.{Authorised};
+ghost use Rattle.desk_words.specs.declared.own.PollGoverned.{PollGoverned};
+ghost use Rattle.caller_view.specs.Rights.{IsRunAt, forbids, governed_for, governed_late, governs_at, holds_as_individual, instructs, is_against, is_governed, is_not_own, is_past, is_uninstructed, may_vote_for, meets, represented, some_fail};
+
+use crate::views::OwnView;
+use desk_words::{
+    Authorised, Capacity, HolderKind, NewCast, Party, PollGoverned, Range, Received, RegisterRow,
+};
+use proxy_rules::{allows, instructed_on};
+
+/// Whether a row is an individual's.
+pub(crate) fn holds_as_individual(row: &Option<RegisterRow>) -> bool
+    ensures { result ≡ holds_as_individual row.now }
+{
+    match row {
+        None => false,
+        Some(row) => row.kind == HolderKind::Individual,
+    }
+}
+
+/// What the party knows of a corporation that authorised it.
+fn authorised_by(authorised: &[Authorised], member: Party) -> Option<Authorised>
+    ensures { result ≡ find (λ (a : Authorised). same_name a.corporation member) authorised.now }
+{
+    authorised
+        .iter()
+        .copied()
+        .find(|a| a.corporation.is(member))
+}
+
+/// The shares for which the party may act of a corporation that authorised it.
+fn represented(authorised: &[Authorised], member: Party) -> u64
+    ensures { result ≡ represented authorised.now member }
+{
+    match authorised_by(authorised, member) {
+        Some(authorised) => authorised.shares,
+        None => 0,
+    }
+}
+
+/// What is governed for the late poll on a resolution.
+fn late_poll(polls: &[PollGoverned], resolution: u64) -> Option<&PollGoverned>
+    ensures { option_copied result ≡ find (λ (p : PollGoverned). p.resolution == resolution) polls.now }
+{
+    polls.iter().find(|poll| poll.resolution == resolution)
+}
+
+/// The runs for the late poll on a resolution.
+fn governed_late(polls: &[PollGoverned], resolution: u64) -> &[Range]
+    ensures { result.now ≡ governed_late polls.now resolution }
+{
+    match late_poll(polls, resolution) {
+        Some(poll) => poll.governs.as_slice(),
+        None => &[],
+    }
+}
+
+/// What an appointment governs for the poll on a resolution.
+fn governed_for(received: &Received, late: bool, resolution: u64) -> &[Range]
+    ensures { result.now ≡ governed_for late resolution received.now }
+{
+    if late {
+        governed_late(received.polls.as_slice(), resolution)
+    } else {
+        received.governs.as_slice()
+    }
+}
+
+/// Whether the party may vote for the member in the capacity. Of a proxy only the places are asked.
+pub(crate) fn may_vote_for(own: &OwnView, member: Party, capacity: Capacity) -> bool
+    ensures { result ≡ may_vote_for own.now member capacity }
+{
+    match capacity {
+        Capacity::Member => member.is(own.party) && holds_as_individual(&own.row),
+        Capacity::Rep => represented(own.authorised.as_slice(), member) > 0,
+        Capacity::Proxy => true,
+    }
+}
+
+/// Whether some of the runs have the place.
+fn any_has(runs: &[Range], place: u64) -> bool
+    ensures { result ≡ list_any (λ (run : Places). holds run place) runs.now }
+{
+    runs.iter().any(|run| run.has(place))
+}
+
+/// Whether an appointment is the member's, and governs the place for the poll.
+fn governs_at(received: &Received, late: bool, new: &NewCast, place: u64) -> bool
+    ensures { result ≡ governs_at late new.now place received.now }
+{
+    received.member.is(new.member) && any_has(governed_for(received, late, new.resolution), place)
+}
+
+/// An appointment of the member that governs the place for the poll.
+fn appointment_at<'a>(
+    received: &'a [Received],
+    late: bool,
+    new: &NewCast,
+    place: u64,
+) -> Option<&'a Received>
+    ensures { option_copied result ≡ find (governs_at late new.now place) received.now }
+{
+    received.iter().find(|r| governs_at(r, late, new, place))
+}
+
+/// The run that has the place.
+fn run_with(runs: &[Range], place: u64) -> Option<Range>
+    ensures { result ≡ find (λ (run : Places). holds run place) runs.now }
+{
+    runs.iter().copied().find(|run| run.has(place))
+}
+
+/// A run that has the place, of what the party governs of the member's shares for the poll.
+fn run_at(received: &[Received], late: bool, new: &NewCast, place: u64) -> Option<Range>
+    ensures some { IfSome result (λ run. IsRunAt received.now late new.now place run) }
+    ensures none { result ≡ None → is_governed received.now late new.now place ≡ false }
+{
+    match appointment_at(received, late, new, place) {
+        Some(found) => run_with(governed_for(found, late, new.resolution), place),
+        None => None,
+    }
+}
+
+/// Whether the party does not govern, for the poll, some of the places. It goes from run to run.
+fn some_ungoverned(received: &[Received], late: bool, new: &NewCast) -> bool
+    ensures { result ≡ some_fail (is_governed received.now late new.now) new.now.from new.now.to }
+{
+    let mut next = new.from.max(1);
+    while next <= new.to {
+        match run_at(received, late, new, next) {
+            Some(run) => next = run.to() + 1,
+            None => return true,
+        }
+    }
+    false
+}
+
+fn is_past(row: &Option<RegisterRow>, place: u64) -> bool
+    ensures { result ≡ is_past row.now place }
+{
+    match row {
+        None => false,
+        Some(row) => place > row.shares,
+    }
+}
+
+/// Whether some place is not the party's to vote on in the capacity.
+pub(crate) fn is_not_own(own: &OwnView, late: bool, new: &NewCast, capacity: Capacity) -> bool
+    ensures { result ≡ is_not_own own.now late new.now capacity }
+{
+    match capacity {
+        Capacity::Member => is_past(&own.row, new.to),
+        Capacity::Rep => represented(own.authorised.as_slice(), new.member) < new.to,
+        Capacity::Proxy => some_ungoverned(own.received.as_slice(), late, new),
+    }
+}
+
+/// Whether a run has a place from the first to the last.
+fn meets(run: Range, from: u64, to: u64) -> bool
+    ensures { result ≡ meets from to run }
+{
+    run.from() <= to && from <= run.to()
+}
+
+fn any_meets(runs: &[Range], from: u64, to: u64) -> bool
+    ensures { result ≡ list_any (meets from to) runs.now }
+{
+    runs.iter().any(|run| meets(*run, from, to))
+}
+
+/// Whether an appointment of the member governs some of the places for the poll, and instructs
+/// otherwise.
+fn forbids(received: &Received, late: bool, new: &NewCast) -> bool
+    ensures { result ≡ forbids late new.now received.now }
+{
+    received.member.is(new.member)
+        && !allows(
+            instructed_on(received.instructions.as_slice(), new.resolution),
+            new.way,
+        )
+        && any_meets(
+            governed_for(received, late, new.resolution),
+            new.from,
+            new.to,
+        )
+}
+
+fn any_forbids(received: &[Received], late: bool, new: &NewCast) -> bool
+    ensures { result ≡ list_any (forbids late new.now) received.now }
+{
+    received.iter().any(|r| forbids(r, late, new))
+}
+
+/// Whether a vote is cast as proxy against an instruction of an appointment that governs some of the
+/// places.
+pub(crate) fn is_against(own: &OwnView, late: bool, new: &NewCast, capacity: Capacity) -> bool
+    ensures { result ≡ is_against own.now late new.now capacity }
+{
+    match capacity {
+        Capacity::Member | Capacity::Rep => false,
+        Capacity::Proxy => any_forbids(own.received.as_slice(), late, new),
+    }
+}
+
+/// Whether an appointment governs a share for the poll, and instructs its proxy on it.
+fn instructs(received: &Received, late: bool, resolution: u64) -> bool
+    ensures { result ≡ instructs late resolution received.now }
+{
+    instructed_on(received.instructions.as_slice(), resolution).is_some()
+        && !governed_for(received, late, resolution).is_empty()
+}
+
+fn any_instructs(received: &[Received], late: bool, resolution: u64) -> bool
+    ensures { result ≡ list_any (instructs late resolution) received.now }
+{
+    received.iter().any(|r| instructs(r, late, resolution))
+}
+
+/// Whether the party governs no share for the poll on which it is instructed.
+pub(crate) fn is_uninstructed(own: &OwnView, late: bool, resolution: u64) -> bool
+    ensures { result ≡ is_uninstructed own.now late resolution }
+{
+    !any_instructs(own.received.as_slice(), late, resolution)
+}

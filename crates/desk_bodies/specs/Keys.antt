@@ -1,0 +1,31 @@
+-- The loading of keys.
+use Rattle.std.specs.Prelude.{List, Option, Some, codes}
+use Rattle.serde_json.specs.Data.{Data}
+use Rattle.serde_json.specs.Find.{get, at}
+use Rattle.desk_terms.specs.Names.{key_of}
+use Rattle.desk_words.specs.Callers.{caller_of}
+use Rattle.desk_words.specs.Lists.{key_list_of}
+use Rattle.desk_words.specs.declared.caller.KeyRow.{KeyRow}
+use Rattle.desk_bodies.specs.Reads.{only, ◌>>=◌}
+use Rattle.desk_bodies.specs.Places.{has_fields, has_items, items_in, spelled, each}
+
+-- a row is a pair of a caller and its key
+unfoldable pub key_row_of : Data → Option KeyRow
+key_row_of d = do
+  pair ← only (has_items 2 d)
+  caller ← spelled caller_of (at 0 d)
+  secret ← spelled key_of (at 1 d)
+  Some (record { caller = caller; secret = secret })
+
+-- the list that the rows at a place make
+unfoldable pub key_rows_in : Option Data → Option (List KeyRow)
+key_rows_in place = do
+  items ← items_in place
+  rows ← each key_row_of items
+  key_list_of rows
+
+-- the keys that a value loads: one field alone
+unfoldable pub keys_in : Data → Option (List KeyRow)
+keys_in d = do
+  exactly ← only (has_fields 1 d)
+  key_rows_in (get (codes "rows") d)

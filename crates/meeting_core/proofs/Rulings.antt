@@ -1,0 +1,88 @@
+-- Each ruling refuses in the one order, and accepts by no refusal.
+use Rattle.std.proofs.Common.{◌≡◌, ℕ, true, List, refl}
+use Rattle.std.specs.Prelude.{None}
+use Rattle.desk_words.specs.Refusals.{are_in_order, ascend_from}
+use Rattle.desk_words.specs.Rows.{same_rows}
+use Rattle.desk_words.specs.Keys.{same_keys}
+use Rattle.desk_words.specs.Rulings.{refusal_in}
+use Rattle.desk_words.specs.declared.caller.Caller.{Caller}
+use Rattle.desk_words.specs.declared.caller.Caller.TheVariants as caller
+use Rattle.desk_words.specs.declared.caller.KeyRow.{KeyRow}
+use Rattle.desk_words.specs.declared.change.Change.TheVariants.{SetClosedDays, SetKeys, InMeeting}
+use Rattle.desk_words.specs.declared.change.MeetingChange.TheVariants.{SetRegister, Enter}
+use Rattle.desk_words.specs.declared.office.MeetingLists.{MeetingLists}
+use Rattle.desk_words.specs.declared.office.OfficeLists.{OfficeLists}
+use Rattle.desk_words.specs.declared.records.Meeting.{Meeting}
+use Rattle.desk_words.specs.declared.request.DeskRequest.{DeskRequest}
+use Rattle.desk_words.specs.declared.request.DeskRequest.TheVariants.{CallMeeting, ClosedDays, Keys}
+use Rattle.desk_words.specs.declared.request.OfficeRequest.{OfficeRequest}
+use Rattle.desk_words.specs.declared.request.OfficeRequest.TheVariants.{LoadRegister}
+use Rattle.desk_words.specs.declared.request.PartyRequest.{PartyRequest}
+use Rattle.desk_words.specs.declared.request.PartyRequest.TheVariants.{Notice}
+use Rattle.desk_words.specs.declared.request.Request.{Request}
+use Rattle.desk_words.specs.declared.request.Request.TheVariants as asked
+use Rattle.caller_view.specs.Answers.{party_ruling, ruling_in as party_in}
+use Rattle.caller_view.specs.Views.{meeting_at, own_of, public_of}
+use Rattle.caller_view.specs.declared.views.OwnView.{OwnView}
+use Rattle.caller_view.specs.declared.views.PublicRecord.{PublicRecord}
+use Rattle.office_answers.specs.Answers.{desk_ruling, office_ruling, ruling_in as office_in}
+use Rattle.office_answers.specs.Lists.{same_days}
+use Rattle.meeting_core.specs.Step.{ruling}
+use Rattle.meeting_core.proofs.RulingLemmas.{IsSound, loaded_accepted, order_in_found, sound_in_found, sound_within}
+
+-- ---- what is accepted is no refusal
+
+party_accepts : (public : PublicRecord) (own : OwnView) (now : ℕ) (what : PartyRequest) (meeting : Meeting)
+    → refusal_in (party_in public own now what meeting).accepted.reply ≡ None
+party_accepts public own now Notice meeting = refl
+party_accepts public own now what meeting = refl
+
+office_accepts : (closed : List ℕ) (now : ℕ) (what : OfficeRequest) (m : MeetingLists) → refusal_in (office_in closed now what m).accepted.reply ≡ None
+office_accepts closed now (LoadRegister new) m = loaded_accepted (same_rows m.register new.rows) (SetRegister new.rows)
+office_accepts closed now what m = refl
+
+desk_accepts : (keys : List KeyRow) (closed : List ℕ) (meetings : List MeetingLists) (what : DeskRequest)
+    → refusal_in (desk_ruling keys closed meetings what).accepted.reply ≡ None
+desk_accepts keys closed meetings (CallMeeting new) = refl
+desk_accepts keys closed meetings (ClosedDays days) = loaded_accepted (same_days closed days) (SetClosedDays days)
+desk_accepts keys closed meetings (Keys rows) = loaded_accepted (same_keys keys rows) (SetKeys rows)
+
+pub sound_ruling : (o : OfficeLists) (now : ℕ) (who : Caller) (request : Request) → IsSound (ruling o now who request)
+sound_ruling o now caller.Office (asked.Desk what) = record { sound = λ _. desk_accepts o.keys o.closed o.meetings what }
+sound_ruling o now caller.Office (asked.Office meeting what) =
+    let s = sound_within (InMeeting meeting) (office_ruling o.closed (meeting_at o meeting) now what)
+    (sound_in_found (meeting_at o meeting) (office_in o.closed now what) (office_accepts o.closed now what)) in
+    record { sound = s.sound }
+sound_ruling o now caller.Office (asked.Party meeting what) = record { sound = λ e. absurd (cc) }
+sound_ruling o now (caller.Party party) (asked.Party meeting what) =
+    let public = public_of o meeting in
+    let own = own_of o party meeting now in
+    let s = sound_within (λ entry. InMeeting meeting (Enter entry)) (party_ruling public own now what)
+    (sound_in_found public.meeting (party_in public own now what) (party_accepts public own now what)) in
+    record { sound = s.sound }
+sound_ruling o now (caller.Party party) request = record { sound = λ e. absurd (cc) }
+
+-- ---- the one order
+
+party_order : (public : PublicRecord) (own : OwnView) (now : ℕ) (what : PartyRequest) (meeting : Meeting)
+    → ascend_from 8 (party_in public own now what meeting).cases ≡ true
+party_order public own now Notice meeting = refl
+party_order public own now what meeting = refl
+
+office_order : (closed : List ℕ) (now : ℕ) (what : OfficeRequest) (m : MeetingLists) → ascend_from 8 (office_in closed now what m).cases ≡ true
+office_order closed now (LoadRegister new) m = refl
+office_order closed now what m = refl
+
+desk_order : (keys : List KeyRow) (closed : List ℕ) (meetings : List MeetingLists) (what : DeskRequest) → ascend_from 7 (desk_ruling keys closed meetings what).cases ≡ true
+desk_order keys closed meetings (CallMeeting new) = refl
+desk_order keys closed meetings what = refl
+
+pub ordered_ruling : (o : OfficeLists) (now : ℕ) (who : Caller) (request : Request) → are_in_order (ruling o now who request).cases ≡ true
+ordered_ruling o now caller.Office (asked.Desk what) = desk_order o.keys o.closed o.meetings what
+ordered_ruling o now caller.Office (asked.Office meeting what) = order_in_found (meeting_at o meeting) (office_in o.closed now what) (office_order o.closed now what)
+ordered_ruling o now caller.Office (asked.Party meeting what) = refl
+ordered_ruling o now (caller.Party party) (asked.Party meeting what) =
+    let public = public_of o meeting in
+    let own = own_of o party meeting now in
+    order_in_found public.meeting (party_in public own now what) (party_order public own now what)
+ordered_ruling o now (caller.Party party) request = refl

@@ -1,0 +1,36 @@
+use Rattle.std.proofs.Common.{◌≡◌, ℕ, List, true, subst, ap, sym, ◌∙◌}
+use Rattle.std.proofs.lemmas.Result.{IfOk-weaker}
+use Rattle.std.specs.Prelude.{Option, IfOk, IfSome}
+use Rattle.desk_words.specs.Finding.{meeting_named}
+use Rattle.desk_words.specs.Office.{is_meeting}
+use Rattle.desk_words.specs.declared.office.OfficeLists.{OfficeLists}
+use Rattle.desk_words.specs.declared.office.MeetingLists.{MeetingLists}
+use Rattle.desk_words.specs.Rulings.{settled}
+use Rattle.desk_words.specs.declared.answer.Answer.{Answer}
+use Rattle.desk_words.specs.declared.change.MeetingChange.{MeetingChange}
+use Rattle.std.specs.Option.{option_copied}
+use Rattle.office_answers.specs.Answers.{office_ruling}
+use Rattle.office_answers.proofs.OfficeFacts.{found_meeting, office_facts}
+use Rattle.meeting_core.proofs.book.Book.answer_to_office.Goals as goal
+
+-- what is found is a meeting
+pub office_answer-requires : goal.office_answer-requires
+office_answer-requires c =
+    let o : OfficeLists = record { keys = c.self.inside.keys; closed = c.self.inside.closed; meetings = c.self.inside.meetings.items } in
+    subst (λ (found : Option MeetingLists). IfSome found (λ m. is_meeting m ≡ true))
+    (ap (λ meetings. meeting_named meetings c.args.meeting) (sym c.deref.ensures.value) ∙ sym c.find_meeting-found.ensures)
+    (found_meeting o.meetings c.args.meeting (office_facts o c.self.invariant).each)
+
+-- the answer in the meeting that is found
+pub returns-clause-answer : goal.returns-clause-answer
+returns-clause-answer c =
+    let o : OfficeLists = record { keys = c.self.inside.keys; closed = c.self.inside.closed; meetings = c.self.inside.meetings.items } in
+    let found = option_copied c.find_meeting-found.result in
+    let now = c.args.now in
+    let asked = c.args.asked.now in
+    let same : found ≡ meeting_named o.meetings c.args.meeting = c.find_meeting-found.ensures ∙ ap (λ meetings. meeting_named meetings c.args.meeting) c.deref.ensures.value in
+    let ruled = λ (found : Option MeetingLists). settled (office_ruling o.closed found now asked) in
+    subst (λ (held : OfficeLists). IfOk c.office_answer.result (λ (a : Answer MeetingChange). a ≡ settled (office_ruling held.closed (meeting_named held.meetings c.args.meeting) now asked)))
+    c.self.view_is
+    (IfOk-weaker c.office_answer.result (λ (a : Answer MeetingChange). a ≡ ruled found) (λ (a : Answer MeetingChange). a ≡ ruled (meeting_named o.meetings c.args.meeting))
+    (λ a is. is ∙ ap ruled same) c.office_answer.ensures.answer)

@@ -1,0 +1,279 @@
+-- The right to demand a poll, capacity by capacity.
+use Rattle.std.proofs.Common.{◌≡◌, ℕ, Bool, true, false, not, ◌&&◌, ◌||◌, cond, List, [], ◌∷◌, ◌++◌, map, filter, length, refl, sym, ap, ◌∙◌}
+use Rattle.std.specs.Prelude.{nat_le, nat_lt, Option, Some, None, is_some}
+use Rattle.std.specs.List.{list_all, list_any, flat_map}
+use Rattle.std.specs.Option.{option_map_or}
+use Rattle.std.proofs.lemmas.List.Concat.{flat_map-cons}
+use Rattle.desk_lists.proofs.Truth.{either_second}
+use Rattle.desk_terms.specs.Names.{same_name}
+use Rattle.desk_terms.specs.declared.kinds.Capacity.{Capacity}
+use Rattle.desk_terms.specs.declared.kinds.Capacity.TheVariants.{Member, Rep, Proxy}
+use Rattle.desk_terms.specs.declared.kinds.HolderKind.{HolderKind}
+use Rattle.desk_terms.specs.declared.kinds.HolderKind.TheVariants.{Individual, Corporation, Treasury}
+use Rattle.desk_words.specs.Lists.{are_resolutions}
+use Rattle.desk_words.specs.Office.{are_numbered_after, implies, is_appointment, is_loaded_right, is_meeting, no_rows}
+use Rattle.desk_words.specs.Registers.{is_holding, is_register}
+use Rattle.desk_words.specs.declared.office.MeetingLists.{MeetingLists}
+use Rattle.desk_words.specs.declared.records.Appointment.{Appointment}
+use Rattle.desk_words.specs.declared.records.Authority.{Authority}
+use Rattle.desk_words.specs.declared.records.RegisterRow.{RegisterRow}
+use Rattle.desk_words.specs.declared.own.Authorised.{Authorised}
+use Rattle.desk_words.specs.declared.own.Received.{Received}
+use Rattle.proxy_rules.specs.Cutoffs.{meeting_cutoffs}
+use Rattle.proxy_rules.specs.Governing.{governed_in, governs}
+use Rattle.proxy_rules.specs.Holdings.{holding_by, holding_of, holding_with}
+use Rattle.proxy_rules.specs.Shares.{are_rows, is_corporation, is_individual, shares_of, shares_by}
+use Rattle.proxy_rules.specs.declared.papers.Cutoffs.{Cutoffs}
+use Rattle.proxy_rules.proofs.ListLemmas.{any-kept}
+use Rattle.proxy_rules.proofs.NameLemmas.{same_name-sym}
+use Rattle.share_blocks.proofs.Choices.{first_of, second_of, lt_true, le_is}
+use Rattle.poll_rules.specs.Quorum.{qualifies}
+use Rattle.poll_rules.specs.Roles.{has_authority, is_proxy_in, role_if, roles_by, roles_of}
+use Rattle.poll_rules.specs.declared.roles.Role.{Role}
+use Rattle.poll_rules.proofs.GatherLemmas.{list_any-map}
+use Rattle.caller_view.specs.Attendance.{governs_any, may_demand}
+use Rattle.caller_view.specs.Rights.{holds_as_individual, no_runs}
+use Rattle.caller_view.specs.Views.{authorised_by, own_in, received_in, row_of, shares_if, shares_in}
+use Rattle.meeting_laws.proofs.AnyLemmas.{and_turned, any-alike, any-and, any-either, any-turned}
+use Rattle.meeting_laws.proofs.MemberRows.{row_of-any, rows_differ, rows_held}
+use Rattle.meeting_laws.proofs.PlaceLemmas.{runs_that-some, some_place, some_place-and, some_place-any}
+use Rattle.meeting_laws.proofs.ProxyLemmas.{governing-named}
+
+-- ---- the capacities that a row gives
+
+-- the person is the individual who holds the row
+abbrev holds_row : List ℕ → RegisterRow → Bool
+holds_row person row = is_individual row.kind && same_name row.member person
+
+-- the person has the authority of the corporation that holds the row
+abbrev acts_for_row : List Authority → List ℕ → RegisterRow → Bool
+acts_for_row authorities person row = is_corporation row.kind && has_authority authorities row.member person
+
+-- a person has a capacity in two lists together exactly where it has one in either
+qualifies-append : (these those : List Role) → qualifies (these ++ those) ≡ (qualifies these || qualifies those)
+qualifies-append [] those = refl
+qualifies-append (role ∷ these) those = refl
+
+-- a capacity by one test
+qualifies-role_if : (has : Bool) (capacity : Capacity) (member : List ℕ) → qualifies (role_if has capacity member) ≡ has
+qualifies-role_if true capacity member = refl
+qualifies-role_if false capacity member = refl
+
+-- whoever has a capacity by three tests passes one of them
+qualifies-three : (a b c : Bool) (member : List ℕ)
+    → qualifies (role_if a Member member ++ role_if b Rep member ++ role_if c Proxy member) ≡ (a || b || c)
+qualifies-three true b c member = refl
+qualifies-three false true c member = refl
+qualifies-three false false c member = qualifies-role_if c Proxy member
+
+-- a person has a capacity exactly where some row gives one
+qualifies-any : {X : Type 0} (roles : X → List Role) (xs : List X) → qualifies (flat_map roles xs) ≡ list_any (λ x. qualifies (roles x)) xs
+qualifies-any roles [] = refl
+qualifies-any roles (x ∷ xs) =
+    ap qualifies (flat_map-cons roles x xs)
+    ∙ qualifies-append (roles x) (flat_map roles xs)
+    ∙ ap (λ b. qualifies (roles x) || b) (qualifies-any roles xs)
+
+-- ---- as a member
+
+-- a row, if there is one, is an individual's
+individual-if : (o : Option RegisterRow) → holds_as_individual o ≡ option_map_or (λ row. is_individual row.kind) o false
+individual-if None = refl
+individual-if (Some row) = refl
+
+-- a party's row is an individual's exactly where some row makes it a member
+as_member : (rows : List RegisterRow) (party : List ℕ) → are_rows rows ≡ true
+    → holds_as_individual (row_of rows party) ≡ list_any (holds_row party) rows
+as_member rows party h =
+    individual-if (row_of rows party)
+    ∙ row_of-any (λ row. is_individual row.kind) rows party (rows_differ rows h)
+    ∙ ap (λ test. list_any test rows) (λ i row. and_turned (same_name row.member party) (is_individual row.kind) i)
+
+-- ---- as a representative
+
+-- a row, if there is one, has a corporation's shares
+corporation-if : (o : Option RegisterRow) → nat_lt 0 (shares_in o) ≡ option_map_or (λ row. nat_lt 0 (shares_if row.kind row.shares)) o false
+corporation-if None = refl
+corporation-if (Some row) = refl
+
+-- a holding is of at least one share
+some_shares : (kind : HolderKind) (shares : ℕ) → nat_le 1 shares ≡ true → nat_lt 0 (shares_if kind shares) ≡ is_corporation kind
+some_shares Corporation shares some = lt_true 0 shares (le_is 1 shares some)
+some_shares Individual shares some = refl
+some_shares Treasury shares some = refl
+
+-- and so is a row of a register
+holding_some : (row : RegisterRow) → is_holding row ≡ true → nat_le 1 row.shares ≡ true
+holding_some row h =
+    let few = nat_le row.shares 1000000000000 in
+    first_of (nat_le 1 row.shares) few (first_of (nat_le 1 row.shares && few) (nat_le row.paid 1000000) h)
+
+-- the corporation of that name holds the row
+abbrev is_row_of : List ℕ → RegisterRow → Bool
+is_row_of corporation row = same_name row.member corporation && is_corporation row.kind
+
+-- a corporation has shares in the register exactly where some row is the corporation's
+in_register : (rows : List RegisterRow) (corporation : List ℕ) → are_rows rows ≡ true
+    → nat_lt 0 (shares_in (row_of rows corporation)) ≡ list_any (is_row_of corporation) rows
+in_register rows corporation h =
+    corporation-if (row_of rows corporation)
+    ∙ row_of-any (λ row. nat_lt 0 (shares_if row.kind row.shares)) rows corporation (rows_differ rows h)
+    ∙ any-alike is_holding
+    (λ row. same_name row.member corporation && nat_lt 0 (shares_if row.kind row.shares))
+    (is_row_of corporation) rows (rows_held rows h)
+    (λ row held. ap (λ b. same_name row.member corporation && b) (some_shares row.kind row.shares (holding_some row held)))
+
+-- three conditions, with the last first
+and_moved : (names same is : Bool) → (names && (same && is)) ≡ (is && (same && names))
+and_moved true true is = and_turned true is
+and_moved true false is = and_turned false is
+and_moved false true is = sym (and_turned is false)
+and_moved false false is = sym (and_turned is false)
+
+-- the authority names the person
+abbrev authorises : List ℕ → Authority → Bool
+authorises person a = same_name a.person person
+
+-- an authority that names the person is of the corporation that holds the row
+acts-any : (authorities : List Authority) (person : List ℕ) (row : RegisterRow)
+    → list_any (λ a. authorises person a && is_row_of a.corporation row) authorities ≡ acts_for_row authorities person row
+acts-any authorities person row =
+    ap (λ test. list_any test authorities)
+    (λ i (a : Authority). and_moved (authorises person a) (same_name row.member a.corporation) (is_corporation row.kind) i)
+    ∙ any-and (is_corporation row.kind) (λ (a : Authority). same_name row.member a.corporation && authorises person a) authorities
+    ∙ ap (λ test. is_corporation row.kind && list_any test authorities)
+    (λ i (a : Authority). same_name-sym row.member a.corporation i && authorises person a)
+
+-- a party has an authority of a corporation in the register exactly where some row makes it a representative
+as_representative : (rows : List RegisterRow) (authorities : List Authority) (party : List ℕ) → are_rows rows ≡ true
+    → list_any (λ (a : Authorised). nat_lt 0 a.shares) (map (authorised_by rows) (filter (authorises party) authorities))
+    ≡ list_any (acts_for_row authorities party) rows
+as_representative rows authorities party h =
+    list_any-map (λ (a : Authorised). nat_lt 0 a.shares) (authorised_by rows) (filter (authorises party) authorities)
+    ∙ any-kept (λ (a : Authority). nat_lt 0 (shares_in (row_of rows a.corporation))) (authorises party) authorities
+    ∙ ap (λ test. list_any test authorities)
+    (λ i (a : Authority).
+    (ap (λ b. authorises party a && b) (in_register rows a.corporation h)
+    ∙ sym (any-and (authorises party a) (is_row_of a.corporation) rows)) i)
+    ∙ any-turned (λ (a : Authority) row. authorises party a && is_row_of a.corporation row) authorities rows
+    ∙ ap (λ test. list_any test rows) (λ i row. acts-any authorities party row i)
+
+-- ---- as a proxy
+
+-- the appointment names the person
+abbrev names : List ℕ → Appointment → Bool
+names person a = same_name a.proxy person
+
+module _ (cutoffs : Cutoffs) (m : MeetingLists) (party : List ℕ) where
+  -- the party governs at least one share of the row
+  abbrev proxy_for_row : RegisterRow → Bool
+  proxy_for_row row = is_proxy_in cutoffs (holding_by m.appointments m.endings row) party
+
+  -- the appointment governs some share
+  abbrev governs_some : Appointment → Bool
+  governs_some a = not (no_runs (governed_in cutoffs (holding_of m.register m.appointments m.endings a.member) a.number))
+
+  -- the appointment governs that place of so many shares of its member
+  abbrev governs_place : Appointment → ℕ → ℕ → Bool
+  governs_place a shares place = governs cutoffs (holding_with shares m.appointments m.endings a.member) a.number place
+
+  -- the appointment governs some of so many shares of its member
+  abbrev governs_of : Appointment → ℕ → Bool
+  governs_of a shares = some_place (governs_place a shares) shares
+
+  -- the appointment governs some share of the row
+  abbrev governs_row : Appointment → RegisterRow → Bool
+  governs_row a row = same_name row.member a.member && governs_of a (shares_of row)
+
+  -- of a row, if there is one, some share is governed
+  governed-if : (a : Appointment) (o : Option RegisterRow) → governs_of a (option_map_or shares_of o 0) ≡ option_map_or (λ row. governs_of a (shares_of row)) o false
+  governed-if a None = refl
+  governed-if a (Some row) = refl
+
+  -- an appointment governs shares exactly where it governs some share of some row
+  governed-any : (a : Appointment) → are_rows m.register ≡ true
+      → governs_some a ≡ list_any (governs_row a) m.register
+  governed-any a rows =
+      runs_that-some (governs_place a (shares_by m.register a.member)) (shares_by m.register a.member)
+      ∙ governed-if a (row_of m.register a.member)
+      ∙ row_of-any (λ row. governs_of a (shares_of row)) m.register a.member (rows_differ m.register rows)
+
+  -- some appointment that names the party governs a share of the row exactly where the party is a proxy for it
+  proxy-any : (row : RegisterRow) → are_numbered_after [] m.appointments ≡ true
+      → list_any (λ a. names party a && governs_row a row) m.appointments ≡ proxy_for_row row
+  proxy-any row numbered =
+      let shares = shares_of row in
+      let of_member : Appointment → ℕ → Bool = λ a place. same_name row.member a.member && governs_place a shares place in
+      ap (λ test. list_any test m.appointments)
+      (λ i (a : Appointment).
+      (ap (λ b. names party a && b) (some_place-and (same_name row.member a.member) (governs_place a shares) shares)
+      ∙ some_place-and (names party a) (of_member a) shares) i)
+      ∙ some_place-any (λ a place. names party a && of_member a place) m.appointments shares
+      ∙ ap (λ test. some_place test shares)
+      (λ i place. governing-named cutoffs shares m.appointments m.endings row.member party place numbered i)
+
+  -- a party governs shares exactly where some row makes it a proxy
+  as_proxy : are_rows m.register ≡ true → are_numbered_after [] m.appointments ≡ true
+      → list_any (λ a. names party a && governs_some a) m.appointments ≡ list_any proxy_for_row m.register
+  as_proxy rows numbered =
+      ap (λ test. list_any test m.appointments)
+      (λ i (a : Appointment).
+      (ap (λ b. names party a && b) (governed-any a rows) ∙ sym (any-and (names party a) (governs_row a) m.register)) i)
+      ∙ any-turned (λ a row. names party a && governs_row a row) m.appointments m.register
+      ∙ ap (λ test. list_any test m.register) (λ i row. proxy-any row numbered i)
+
+  -- a party has a capacity exactly where some row gives it one of the three
+  by_capacity : qualifies (roles_of cutoffs m.register m.appointments m.endings m.authorities party)
+      ≡ (list_any (holds_row party) m.register || list_any (acts_for_row m.authorities party) m.register
+      || list_any proxy_for_row m.register)
+  by_capacity =
+      qualifies-any (roles_by cutoffs m.appointments m.endings m.authorities party) m.register
+      ∙ ap (λ test. list_any test m.register)
+      (λ i row. qualifies-three (holds_row party row) (acts_for_row m.authorities party row) (proxy_for_row row) row.member i)
+      ∙ any-either (λ row. holds_row party row || acts_for_row m.authorities party row) proxy_for_row m.register
+      ∙ ap (λ b. b || list_any proxy_for_row m.register) (any-either (holds_row party) (acts_for_row m.authorities party) m.register)
+
+-- whether a party governs shares, by its own things, is whether some appointment that names it does
+own_governs : (m : MeetingLists) (closed party : List ℕ) (now : ℕ) → governs_any (own_in m closed party now)
+    ≡ list_any (λ a. names party a && governs_some (meeting_cutoffs m.meeting closed now) m party a) m.appointments
+own_governs m closed party now =
+    list_any-map (λ (r : Received). not (no_runs r.governs)) (received_in m closed now) (filter (names party) m.appointments)
+    ∙ any-kept (governs_some (meeting_cutoffs m.meeting closed now) m party) (names party) m.appointments
+
+-- ---- a meeting's lists
+
+-- rows that stand where a register is loaded are a register, or none
+register_if : (loaded : Bool) (rows : List RegisterRow) → cond loaded (is_register rows) (no_rows rows) ≡ true → are_rows rows ≡ true
+register_if true rows h = either_second (no_rows rows) (is_register rows) h
+register_if false rows h = ap (λ b. b || is_register rows) h
+
+-- what of a meeting's lists the right rests on
+record Facts (m : MeetingLists) : Type 0 where
+  pub rows : are_rows m.register ≡ true
+  pub numbered : are_numbered_after [] m.appointments ≡ true
+
+-- they are among the second and the third of the nine conditions of a meeting
+facts : (m : MeetingLists) → is_meeting m ≡ true → Facts m
+facts m h =
+    let resolutions = length m.meeting.resolutions in
+    let three = first_of _ _ (first_of _ _ (first_of _ _ (first_of _ _ (first_of _ _ (first_of _ _ h))))) in
+    let loaded = second_of (are_resolutions m.meeting.resolutions) (is_loaded_right m) (first_of _ _ three) in
+    let rows = cond m.meeting.loaded (is_register m.register) (no_rows m.register) in
+    let stand = first_of rows (implies (is_some m.meeting.opened) m.meeting.loaded) loaded in
+    let given = second_of _ _ three in
+    record {
+      rows = register_if m.meeting.loaded m.register stand;
+      numbered = first_of (are_numbered_after [] m.appointments) (list_all (is_appointment resolutions) m.appointments) given;
+    }
+
+-- a party may demand a poll exactly where it has a capacity
+pub may_demand-qualifies : (m : MeetingLists) (closed party : List ℕ) (now : ℕ) → is_meeting m ≡ true
+    → may_demand (own_in m closed party now)
+    ≡ qualifies (roles_of (meeting_cutoffs m.meeting closed now) m.register m.appointments m.endings m.authorities party)
+may_demand-qualifies m closed party now h =
+    let f = facts m h in
+    let cutoffs = meeting_cutoffs m.meeting closed now in
+    let member = as_member m.register party f.rows in
+    let representative = as_representative m.register m.authorities party f.rows in
+    let proxy = own_governs m closed party now ∙ as_proxy cutoffs m party f.rows f.numbered in
+    (λ i. member i || representative i || proxy i) ∙ sym (by_capacity cutoffs m party)

@@ -1,0 +1,63 @@
+-- Whether any place of 1 to n passes a test.
+use Rattle.std.proofs.Common.{◌≡◌, ℕ, zero, suc, ◌+◌, Bool, true, false, not, ◌&&◌, ◌||◌, cond, List, [], ◌∷◌, refl, sym, ap, ◌∙◌, arith, add-zero}
+use Rattle.std.specs.Prelude.{nat_lt, ◌==◌}
+use Rattle.std.specs.List.{list_any}
+use Rattle.desk_terms.specs.Places.{Places, places_that}
+use Rattle.proxy_rules.specs.Runs.{joined, runs_that}
+use Rattle.share_blocks.proofs.Choices.{lt_true, or-true, or-false}
+use Rattle.caller_view.specs.Rights.{no_runs}
+use Rattle.meeting_laws.proofs.AnyLemmas.{any-none, any-either}
+
+-- some place of 1 to n passes
+abbrev pub some_place : (ℕ → Bool) → ℕ → Bool
+some_place test n = nat_lt 0 (places_that test n)
+
+-- some place of 1 to n + 1 passes where one before it does, or itself
+last_too : (count : ℕ) (b : Bool) → nat_lt 0 (count + cond b 1 0) ≡ (nat_lt 0 count || b)
+last_too count true = lt_true 0 (count + 1) (omega arith) ∙ sym (or-true (nat_lt 0 count))
+last_too count false = ap (nat_lt 0) (add-zero count) ∙ sym (or-false (nat_lt 0 count))
+
+-- a test that nothing passes
+no_place : (n : ℕ) → some_place (λ place. false) n ≡ false
+no_place zero = refl
+no_place (suc n) = last_too (places_that (λ place. false) n) false ∙ or-false (some_place (λ place. false) n) ∙ no_place n
+
+-- a condition that is the same of all places
+pub some_place-and : (b : Bool) (test : ℕ → Bool) (n : ℕ) → (b && some_place test n) ≡ some_place (λ place. b && test place) n
+some_place-and true test n = refl
+some_place-and false test n = sym (no_place n)
+
+-- of many tests one passes some place exactly where some place passes one of them
+pub some_place-any : {X : Type 0} (test : X → ℕ → Bool) (xs : List X) (n : ℕ)
+    → list_any (λ x. some_place (test x) n) xs ≡ some_place (λ place. list_any (λ x. test x place) xs) n
+some_place-any test xs zero = any-none xs
+some_place-any test xs (suc n) =
+    ap (λ passes. list_any passes xs) (λ i x. last_too (places_that (test x) n) (test x (suc n)) i)
+    ∙ any-either (λ x. some_place (test x) n) (λ x. test x (suc n)) xs
+    ∙ ap (λ b. b || list_any (λ x. test x (suc n)) xs) (some_place-any test xs n)
+    ∙ sym (last_too (places_that (λ place. list_any (λ x. test x place) xs) n) (list_any (λ x. test x (suc n)) xs))
+
+-- ---- runs
+
+-- what was joined to is some run
+joined-some : (runs : List Places) (run : Places) → no_runs (joined runs run) ≡ false
+joined-some [] run = refl
+joined-some (last ∷ []) run =
+    elim (last.to + 1 == run.from) as (λ b. no_runs (cond b (record { from = last.from; to = run.to } ∷ []) (last ∷ run ∷ [])) ≡ false) [
+      | true ↦ refl
+      | false ↦ refl
+    ]
+joined-some (first ∷ second ∷ runs) run = refl
+
+-- one run more, if it is put
+run_too : (b : Bool) (runs : List Places) (run : Places) → not (no_runs (cond b (joined runs run) runs)) ≡ (not (no_runs runs) || b)
+run_too true runs run = ap not (joined-some runs run) ∙ sym (or-true (not (no_runs runs)))
+run_too false runs run = sym (or-false (not (no_runs runs)))
+
+-- there is a run exactly where some place passes
+pub runs_that-some : (test : ℕ → Bool) (n : ℕ) → not (no_runs (runs_that test n)) ≡ some_place test n
+runs_that-some test zero = refl
+runs_that-some test (suc n) =
+    run_too (test (suc n)) (runs_that test n) (record { from = suc n; to = suc n })
+    ∙ ap (λ b. b || test (suc n)) (runs_that-some test n)
+    ∙ sym (last_too (places_that test n) (test (suc n)))

@@ -1,0 +1,30 @@
+use Rattle.std.proofs.Common.{◌≡◌, ◌-◌, Some, refl, ap, sym, ◌∙◌}
+use Rattle.std.specs.List.{slice_get}
+use Rattle.desk_words.specs.Finding.{poll_on}
+use Rattle.desk_words.specs.declared.change.MeetingChange.TheVariants.{SetPoll}
+use Rattle.desk_words.specs.declared.change.PollChange.TheVariants as poll
+use Rattle.desk_words.specs.declared.records.Tally.{Tally}
+use Rattle.desk_words.specs.declared.reply.Reply.TheVariants as reply
+use Rattle.desk_words.specs.declared.request.OfficeRequest.TheVariants.{LoadRegister, Declare}
+use Rattle.proxy_rules.specs.Cutoffs.{cutoffs_of}
+use Rattle.vote_rules.specs.Laws.{casts_on}
+use Rattle.office_answers.specs.Polls.{declare_cases, result_on}
+use Rattle.meeting_laws.proofs.SecrecyLemmas.{on-off}
+use Rattle.meeting_laws.specs.Secrecy.{TheOfficeIsToldOfNoVotes}
+use Rattle.vote_rules.specs.Laws.{TalliesReadTheirOwnCasts}
+use Rattle.meeting_laws.proofs.votes_are_secret.Goals as goal
+
+alike : TalliesReadTheirOwnCasts → TheOfficeIsToldOfNoVotes
+alike law m casts resolution closed now (LoadRegister new) same other = refl
+alike law m casts resolution closed now (Declare asked) same other =
+    let on = sym (on-off asked resolution casts other) ∙ ap (casts_on asked) same ∙ on-off asked resolution m.casts other in
+    let counted = law (cutoffs_of m.meeting (poll_on m.polls asked) closed now) m.register m.appointments m.endings m.authorities casts m.casts asked on in
+    let declared = λ (tally : Tally). result_on (slice_get m.meeting.resolutions (asked - 1)) tally in
+    ap (λ (tally : Tally). record {
+      cases = declare_cases m asked;
+      accepted = record { reply = reply.Declared (declared tally); change = Some (SetPoll asked (poll.Declared (declared tally).tally)) };
+    }) counted
+alike law m casts resolution closed now asked same other = refl
+
+pub returns-clause-office : goal.returns-clause-office
+returns-clause-office c = alike c.tallies_read_their_own_casts.ensures

@@ -1,0 +1,37 @@
+-- What is told of votes before they are declared: nothing.
+use Rattle.std.specs.Prelude.{◌≡◌, ℕ, Bool, true, false, not, ◌==◌, List, filter, Some}
+use Rattle.desk_words.specs.Seen.{Day, Moment, Number}
+use Rattle.desk_words.specs.declared.office.MeetingLists.{MeetingLists}
+use Rattle.desk_words.specs.declared.records.CastMark.{CastMark}
+use Rattle.desk_words.specs.declared.request.OfficeRequest.{OfficeRequest}
+use Rattle.desk_words.specs.declared.request.OfficeRequest.TheVariants.{Declare}
+use Rattle.office_answers.specs.Answers.{ruling_in}
+use Rattle.caller_view.specs.declared.views.PublicRecord.{PublicRecord}
+
+-- the votes on other resolutions
+abbrev pub casts_off : Number → List CastMark → List CastMark
+casts_off resolution casts = filter (λ (c : CastMark). not (c.resolution == resolution)) casts
+
+-- the request declares the resolution
+abbrev pub declares : Number → OfficeRequest → Bool
+declares resolution (Declare other) = other == resolution
+declares resolution other = false
+
+-- a meeting with these votes in place of its own
+abbrev pub with_casts : List CastMark → MeetingLists → MeetingLists
+with_casts casts m = record m { casts = casts }
+
+-- what is public of a meeting
+abbrev pub record_in : List Day → MeetingLists → PublicRecord
+record_in closed m = record { closed = closed; meeting = Some m.meeting; polls = m.polls }
+
+-- whatever the office asks in a meeting, but the declaration of a resolution, is decided alike whatever the votes on that resolution are
+abbrev pub TheOfficeIsToldOfNoVotes : Type 0
+TheOfficeIsToldOfNoVotes =
+    (m : MeetingLists) (casts : List CastMark) (resolution : Number) (closed : List Day) (now : Moment) (asked : OfficeRequest)
+    → casts_off resolution casts ≡ casts_off resolution m.casts → declares resolution asked ≡ false
+    → ruling_in closed now asked (with_casts casts m) ≡ ruling_in closed now asked m
+
+-- and votes stand in no public record
+abbrev pub VotesAreNotPublic : Type 0
+VotesAreNotPublic = (m : MeetingLists) (casts : List CastMark) (closed : List Day) → record_in closed (with_casts casts m) ≡ record_in closed m

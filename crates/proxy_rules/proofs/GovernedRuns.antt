@@ -1,0 +1,154 @@
+-- The runs of the shares that an appointment governs.
+use Rattle.std.proofs.Common.{◌≡◌, ℕ, suc, ◌+◌, ◌<◌, ◌≤◌, Bool, true, false, cond, List, [], ◌∷◌, ◌++◌, Vec, Global, refl, sym, ap, ◌∙◌, arith}
+use Rattle.std.specs.Prelude.{◌↔◌, ◌&&◌, ◌||◌, ◌==◌, nat_le, Option, Some, None, All, IsTrue, filter, find, fold, option_map, option_and_then, reverse}
+use Rattle.std.specs.List.{list_any}
+use Rattle.std.specs.Option.{option_map_or, option_or, unwrap_or}
+use Rattle.std.proofs.lemmas.Bool.{eq-eqb, eqb-true}
+use Rattle.std.proofs.lemmas.List.{reverse-append}
+use Rattle.std.proofs.lemmas.List.Elements.{All-head, All-tail, filter-append}
+use Rattle.std.proofs.lemmas.List.Folds.{find-append, list_any-append}
+use Rattle.desk_terms.specs.Places.{Places}
+use Rattle.desk_words.specs.declared.records.Appointment.{Appointment}
+use Rattle.desk_words.specs.declared.records.Ending.{Ending}
+use Rattle.proxy_rules.specs.declared.holdings.Holding.{Holding}
+use Rattle.proxy_rules.specs.declared.papers.Cutoffs.{Cutoffs}
+use Rattle.proxy_rules.specs.declared.pieces.GovernedPiece.{GovernedPiece}
+use Rattle.proxy_rules.specs.Governing.{ends, governed_in, governs, has_share, is_ended, is_over, last_over, unended}
+use Rattle.proxy_rules.specs.Holdings.{holding_of, is_ended_of}
+use Rattle.proxy_rules.specs.Laws.{EarlierTakeNothing, EndingsReviveNothing, RunsHoldWhatGoverns, has_number}
+use Rattle.proxy_rules.specs.Runs.{joined, runs_that}
+use Rattle.proxy_rules.specs.Tagging.{with_piece}
+use Rattle.proxy_rules.specs.Tiles.{ArePieces, IsGoverned, appointment_of, are_tiled, ranges_of}
+use Rattle.proxy_rules.proofs.RunLemmas.{are_in-runs_that, runs_that-stretch}
+use Rattle.proxy_rules.proofs.TileLemmas.{tiled}
+use Rattle.share_blocks.proofs.Choices.{both_of, le_true, neither_first, neither_second, same_is}
+
+-- ---- the runs that a look-up finds
+
+-- the runs that are found, and none where nothing is
+abbrev pub runs_in : Option (Vec Places Global) → List Places
+runs_in found = option_map_or (λ (runs : Vec Places Global). runs.items) found []
+
+-- a list that stands for nothing holds nothing
+pub runs_in-or : (found : Option (Vec Places Global)) (new : Vec Places Global) → new.items ≡ [] → (unwrap_or found new).items ≡ runs_in found
+runs_in-or None new none = none
+runs_in-or (Some runs) new none = refl
+
+-- ---- the runs of pieces
+
+module _ (cutoffs : Cutoffs) (holding : Holding) (number : ℕ) where
+  abbrev test : ℕ → Bool
+  test place = governs cutoffs holding number place
+
+  one_piece : (n : ℕ) (piece : GovernedPiece) → piece.range.from ≡ n + 1 → n + 1 ≤ piece.range.to → IsGoverned cutoffs holding piece
+      → with_piece holding number (runs_that test n) piece ≡ runs_that test piece.range.to
+  one_piece n piece begins within governed =
+      let by = option_map_or (λ (a : Appointment). a.number == number) (appointment_of holding piece) false in
+      let up : n < piece.range.to = omega arith in
+      let from : piece.range.from ≡ suc n = omega arith in
+      let stretch = runs_that-stretch test by n piece.range.to up
+      (λ place low high. ap (λ o. option_map_or (λ (a : Appointment). a.number == number) o false)
+      (governed place (both_of (nat_le piece.range.from place) (nat_le place piece.range.to) (le_true piece.range.from place (omega (arith, begins))) (le_true place piece.range.to high)))) in
+      ap (λ first. cond by (joined (runs_that test n) (record { from = first; to = piece.range.to })) (runs_that test n)) from
+      ∙ sym stretch
+
+  runs_from : (n : ℕ) (pieces : List GovernedPiece) (last : ℕ) → are_tiled (n + 1) (ranges_of pieces) last ≡ true → All (IsGoverned cutoffs holding) pieces
+      → fold (with_piece holding number) (runs_that test n) pieces ≡ runs_that test last
+  runs_from n [] last all governed = let e : n + 1 ≡ last + 1 = same_is (n + 1) (last + 1) all in let same : n ≡ last = omega arith in ap (runs_that test) same
+  runs_from n (piece ∷ pieces) last all governed =
+      let t = tiled (n + 1) piece.range (ranges_of pieces) last all in
+      ap (λ runs. fold (with_piece holding number) runs pieces) (one_piece n piece t.begins t.within (All-head (IsGoverned cutoffs holding) piece pieces governed))
+      ∙ runs_from piece.range.to pieces last t.rest (All-tail (IsGoverned cutoffs holding) piece pieces governed)
+
+  -- the runs of the pieces that an appointment governs are those of the shares that it governs
+  pub runs_of-pieces : (pieces : List GovernedPiece) → ArePieces cutoffs holding pieces → fold (with_piece holding number) [] pieces ≡ governed_in cutoffs holding number
+  runs_of-pieces pieces are = runs_from 0 pieces holding.shares are.tiled are.governed
+
+-- ---- the runs that an appointment governs, place by place
+
+-- the appointment found for a share has that number exactly where its number is the one that governs
+by_number : (share : Bool) (found : Option Appointment) (number : ℕ)
+    → IsTrue (share && option_map_or (λ (a : Appointment). a.number == number) (cond share found None) false) ↔ (option_map (λ (a : Appointment). a.number) (cond share found None) ≡ Some number)
+by_number false found number = (λ h. absurd (cc), λ h. absurd (cc))
+by_number true None number = (λ h. absurd (cc), λ h. absurd (cc))
+by_number true (Some a) number = (λ h. ap (λ n. Some n) (eqb-true a.number number h), λ h. eq-eqb a.number number (cc))
+
+pub runs_hold : RunsHoldWhatGoverns
+runs_hold cutoffs holding number place =
+    let same = are_in-runs_that (governs cutoffs holding number) holding.shares place in
+    let either = by_number (has_share holding place) (option_and_then (unended cutoffs holding) (last_over cutoffs holding place)) number in
+    (λ h. either.0 (sym same ∙ h), λ h. same ∙ either.1 h)
+
+-- ---- an ending more
+
+less_ended : (either more : Bool) (a b : Appointment) → cond (either || more) None (Some a) ≡ Some b → cond either None (Some a) ≡ Some b
+less_ended true more a b h = absurd (cc)
+less_ended false true a b h = absurd (cc)
+less_ended false false a b h = h
+
+no_revival : (test : Appointment → Ending → Bool) (ended more : List Ending) (o : Option Appointment) (b : Appointment)
+    → option_and_then (λ a. cond (list_any (test a) (ended ++ more)) None (Some a)) o ≡ Some b → option_and_then (λ a. cond (list_any (test a) ended) None (Some a)) o ≡ Some b
+no_revival test ended more None b h = h
+no_revival test ended more (Some a) b h =
+    less_ended (list_any (test a) ended) (list_any (test a) more) a b (sym (ap (λ c. cond c None (Some a)) (list_any-append (test a) ended more)) ∙ h)
+
+share_alone : (share : Bool) (o other : Option Appointment) (b : Appointment) → (o ≡ Some b → other ≡ Some b) → cond share o None ≡ Some b → cond share other None ≡ Some b
+share_alone true o other b so h = so h
+share_alone false o other b so h = h
+
+pub revive_nothing : EndingsReviveNothing
+revive_nothing cutoffs register given ended ending member place a h =
+    let holding = holding_of register given ended member in
+    let last = last_over cutoffs holding place in
+    let test = λ (x : Appointment) (e : Ending). ends cutoffs x.number e in
+    share_alone (has_share holding place)
+    (option_and_then (λ x. cond (list_any (test x) (filter (is_ended_of member) ended ++ filter (is_ended_of member) (ending ∷ []))) None (Some x)) last)
+    (option_and_then (unended cutoffs holding) last) a
+    (no_revival test (filter (is_ended_of member) ended) (filter (is_ended_of member) (ending ∷ [])) last a)
+    (ap (λ l. cond (has_share holding place) (option_and_then (λ x. cond (list_any (test x) l) None (Some x)) last) None) (sym (filter-append (is_ended_of member) ended (ending ∷ []))) ∙ h)
+
+-- ---- appointments received earlier
+
+not_found : (p : Appointment → Bool) (number : ℕ) (xs : List Appointment) → list_any (has_number number) xs ≡ false
+    → option_map_or (has_number number) (find p xs) false ≡ false
+not_found p number [] none = refl
+not_found p number (x ∷ xs) none =
+    let here = neither_first (x.number == number) (list_any (has_number number) xs) none in
+    let rest = neither_second (x.number == number) (list_any (has_number number) xs) none in
+    elim (p x) as (λ b. option_map_or (has_number number) (cond b (Some x) (find p xs)) false ≡ false) [ true ↦ here | false ↦ not_found p number xs rest ]
+
+any-reversed : (number : ℕ) (xs : List Appointment) → list_any (has_number number) xs ≡ false → list_any (has_number number) (reverse xs) ≡ false
+any-reversed number [] none = refl
+any-reversed number (x ∷ xs) none =
+    let here = neither_first (x.number == number) (list_any (has_number number) xs) none in
+    let rest = neither_second (x.number == number) (list_any (has_number number) xs) none in
+    ap (list_any (has_number number)) (reverse-append (x ∷ []) xs)
+    ∙ list_any-append (has_number number) (reverse xs) (x ∷ [])
+    ∙ ap (λ b. b || list_any (has_number number) (x ∷ [])) (any-reversed number xs rest)
+    ∙ ap (λ b. b || false) here
+
+ended_or_not : (share is_ended : Bool) (number : ℕ) (a : Appointment) → has_number number a ≡ false → option_map_or (has_number number) (cond share (cond is_ended None (Some a)) None) false ≡ false
+ended_or_not true true number a none = refl
+ended_or_not true false number a none = none
+ended_or_not false is_ended number a none = refl
+
+none_past : (share : Bool) (number : ℕ) → false ≡ option_map_or (has_number number) (cond share None None) false
+none_past true number = refl
+none_past false number = refl
+
+or_else : (has_ended : Appointment → Bool) (share : Bool) (number : ℕ) (o other : Option Appointment) → option_map_or (has_number number) other false ≡ false
+    → option_map_or (has_number number) (cond share (option_and_then (λ a. cond (has_ended a) None (Some a)) (option_or o other)) None) false
+    ≡ option_map_or (has_number number) (cond share (option_and_then (λ a. cond (has_ended a) None (Some a)) o) None) false
+or_else has_ended share number None None none = refl
+or_else has_ended share number None (Some a) none = ended_or_not share (has_ended a) number a none ∙ none_past share number
+or_else has_ended share number (Some a) other none = refl
+
+pub earlier_nothing : EarlierTakeNothing
+earlier_nothing cutoffs shares earlier later ended number none =
+    let holding : Holding = record { shares = shares; appointed = later; ended = ended } in
+    ap (λ test. runs_that test shares)
+    (λ i place. (
+    ap (λ o. option_map_or (has_number number) (cond (has_share holding place) (option_and_then (unended cutoffs holding) o) None) false)
+    (ap (find (is_over cutoffs place)) (reverse-append earlier later) ∙ find-append (is_over cutoffs place) (reverse later) (reverse earlier))
+    ∙ or_else (is_ended cutoffs holding) (has_share holding place) number (find (is_over cutoffs place) (reverse later)) (find (is_over cutoffs place) (reverse earlier))
+    (not_found (is_over cutoffs place) number (reverse earlier) (any-reversed number earlier none))) i)

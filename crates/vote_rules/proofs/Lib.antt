@@ -1,0 +1,9 @@
+pub mod CastLemmas
+pub mod CountLemmas
+pub mod CoverLemmas
+pub mod LastInstructed
+pub mod ListLemmas
+pub mod PartingLemmas
+pub mod RowLemmas
+pub mod TallyLemmas
+pub mod VoteLemmas

@@ -1,0 +1,240 @@
+//! The valid vote of a place, by the casts of each voter who may vote for it.
+ghost use Rattle.std.specs.Prelude.{◌≡◌, ℕ, IfOk, None, Some, map, filter};
+ghost use Rattle.std.specs.BTreeMap.{get};
+ghost use Rattle.std.specs.List.{filter_map, list_all, slice_get};
+ghost use Rattle.desk_terms.specs.Names.{name_cmp};
+ghost use Rattle.desk_terms.specs.declared.kinds.Capacity.TheVariants.{Proxy};
+ghost use Rattle.desk_words.specs.declared.records.Appointment.{Appointment};
+ghost use Rattle.vote_rules.specs.Ballots.{capacity_for, governing_at, piece_at, vote_by, vote_by_governing, vote_if, voters_for, ways_at};
+ghost use Rattle.vote_rules.specs.Covers.{pieces_by, way_at};
+ghost use Rattle.proxy_rules.specs.Instructions.{same_way};
+ghost use Rattle.vote_rules.specs.Votes.{authorised_by, common_way, is_authority_of};
+
+use crate::covers::{pieces_by, way_at};
+use crate::received::BlockCast;
+use desk_words::{Appointment, Authority, Capacity, Filed, HolderKind, Party, RegisterRow, Way};
+use proxy_rules::{GovernedPiece, allows, instructed_on};
+use share_blocks::Blocks;
+use std::alloc::{AllocError, Global};
+use std::collections::BTreeMap;
+
+/// What is cast on the shares of one row by those who may vote for them.
+#[derive(Drop)]
+pub(crate) struct Ballots<B: Blocks> {
+    /// The casts of the individual who holds the row, or of each representative of the corporation
+    /// that does.
+    pub(crate) holders: Vec<B>,
+    /// The casts of the proxy of each of the member's appointments, in the order of these.
+    pub(crate) proxies: Vec<B>,
+}
+
+/// The authorities that a corporation gave.
+fn authorities_of(
+    alloc: Global,
+    authorities: &Filed<Authority>,
+    corporation: Party,
+) -> Result<Vec<Authority>, AllocError>
+    ensures { IfOk result (λ own. own.items ≡ filter (is_authority_of corporation) authorities.now) }
+{
+    authorities.by_first(alloc, corporation)
+}
+
+/// The persons whom a corporation authorised, in order of receipt (section 323). The error is want of
+/// memory.
+pub fn authorised_by(
+    alloc: Global,
+    authorities: &Filed<Authority>,
+    corporation: Party,
+) -> Result<Vec<Party>, AllocError>
+    ensures { IfOk result (λ persons. persons.items ≡ authorised_by authorities.now corporation) }
+{
+    let own = authorities_of(alloc, authorities, corporation)?;
+    own.iter().map(|authority| authority.person).collect(alloc)
+}
+
+/// Those who vote for the holder of the row: the individual itself, or the representatives of the
+/// corporation. For treasury shares nobody does.
+fn voters_for(
+    alloc: Global,
+    authorities: &Filed<Authority>,
+    row: &RegisterRow,
+) -> Result<Vec<Party>, AllocError>
+    ensures { IfOk result (λ voters. voters.items ≡ voters_for authorities.now row.now.kind row.now.member) }
+{
+    match row.kind {
+        HolderKind::Individual => Ok(vec![in alloc; row.member]?),
+        HolderKind::Corporation => authorised_by(alloc, authorities, row.member),
+        HolderKind::Treasury => Ok(Vec::new(alloc)),
+    }
+}
+
+/// The capacity in which they vote.
+fn capacity_for(kind: HolderKind) -> Capacity
+    ensures { result ≡ capacity_for kind }
+{
+    match kind {
+        HolderKind::Individual | HolderKind::Treasury => Capacity::Member,
+        HolderKind::Corporation => Capacity::Rep,
+    }
+}
+
+/// The proxies whom the appointments name, one for each.
+fn proxies_of(alloc: Global, appointed: &[Appointment]) -> Result<Vec<Party>, AllocError>
+    ensures { IfOk result (λ proxies. proxies.items ≡ map (λ (a : Appointment). a.proxy) appointed.now) }
+{
+    appointed
+        .iter()
+        .map(|appointment| appointment.proxy)
+        .collect(alloc)
+}
+
+/// What the casts of each of these voters leave of the places of a member's shares.
+fn pieces_by_each<B: Blocks>(
+    alloc: Global,
+    casts: &[BlockCast],
+    instructed: &BTreeMap<Party, usize>,
+    capacity: Capacity,
+    voters: &[Party],
+) -> Result<Vec<B>, AllocError>
+    ensures { IfOk result (λ each. map B.pieces each.items ≡ map (pieces_by casts.now (get name_cmp instructed.now) capacity) voters.now) }
+{
+    let mut each = Vec::new(alloc);
+    for voter in voters {
+        let blocks = pieces_by(alloc, casts, instructed, capacity, *voter)?;
+        each.push(blocks)?;
+    }
+    Ok(each)
+}
+
+impl<B: Blocks> Ballots<B> {
+    /// What is cast on the shares of a row, of whose member these are the appointments; the casts are
+    /// the blocks that are cast on its shares. The error is want of memory.
+    pub(crate) fn of_row(
+        alloc: Global,
+        casts: &[BlockCast],
+        instructed: &BTreeMap<Party, usize>,
+        authorities: &Filed<Authority>,
+        appointed: &[Appointment],
+        row: &RegisterRow,
+    ) -> Result<Ballots<B>, AllocError>
+        ensures holders { IfOk result (λ ballots. map B.pieces ballots.holders.items
+            ≡ map (pieces_by casts.now (get name_cmp instructed.now) (capacity_for row.now.kind)) (voters_for authorities.now row.now.kind row.now.member)) }
+        ensures proxies { IfOk result (λ ballots. map B.pieces ballots.proxies.items
+            ≡ map (pieces_by casts.now (get name_cmp instructed.now) Proxy) (map (λ (a : Appointment). a.proxy) appointed.now)) }
+    {
+        let voters = voters_for(alloc, authorities, row)?;
+        let proxies = proxies_of(alloc, appointed)?;
+        let capacity = capacity_for(row.kind);
+        Ok(Ballots {
+            holders: pieces_by_each(alloc, casts, instructed, capacity, voters.as_slice())?,
+            proxies: pieces_by_each(
+                alloc,
+                casts,
+                instructed,
+                Capacity::Proxy,
+                proxies.as_slice(),
+            )?,
+        })
+    }
+}
+
+/// The way, if a proxy who is so instructed, or free, may vote it.
+fn vote_if(told: Option<Way>, way: Way) -> Option<Way>
+    ensures { result ≡ vote_if told way }
+{
+    if allows(told, way) { Some(way) } else { None }
+}
+
+/// The vote by the proxy of the appointment that stands there among the member's.
+fn vote_by_governing<B: Blocks>(
+    proxies: &[B],
+    appointed: &[Appointment],
+    by: Option<usize>,
+    resolution: u64,
+    place: u64,
+) -> Option<Way>
+    ensures { result ≡ vote_by_governing resolution place appointed.now (map B.pieces proxies.now) by }
+{
+    let at = by?;
+    let appointment = appointed.get(at)?;
+    let blocks = proxies.get(at)?;
+    let told = instructed_on(appointment.instructions.as_slice(), resolution);
+    let way = way_at(blocks, place, told)?;
+    vote_if(told, way)
+}
+
+/// The ways in which the holder's voters cast on the place.
+#[tactic(auto, using(crate::proofs::ListLemmas::filter_map_mapped))]
+fn ways_at<B: Blocks>(alloc: Global, holders: &[B], place: u64) -> Result<Vec<Way>, AllocError>
+    ensures { IfOk result (λ ways. ways.items ≡ ways_at (map B.pieces holders.now) place) }
+{
+    holders
+        .iter()
+        .filter_map(|blocks| way_at(blocks, place, None))
+        .collect(alloc)
+}
+
+/// Whether both are the same way.
+fn same_way(way: Way, other: Way) -> bool
+    ensures { result ≡ same_way way other }
+{
+    way == other
+}
+
+/// The first of the ways.
+fn first_of(ways: &[Way]) -> Option<Way>
+    ensures { result ≡ slice_get ways.now 0 }
+{
+    ways.first().copied()
+}
+
+/// Whether all of the ways are that one.
+fn are_all(ways: &[Way], way: Way) -> bool
+    ensures { result ≡ list_all (same_way way) ways.now }
+{
+    ways.iter().all(|other| same_way(way, *other))
+}
+
+/// The common way of casts, where there are any. Casts that differ are no vote.
+fn common_way(ways: &[Way]) -> Option<Option<Way>>
+    ensures { result ≡ common_way ways.now }
+{
+    let way = first_of(ways)?;
+    Some(if are_all(ways, way) { Some(way) } else { None })
+}
+
+/// The piece that holds the place.
+fn piece_at(governed: &[GovernedPiece], place: u64) -> Option<GovernedPiece>
+    ensures { result ≡ piece_at governed.now place }
+{
+    governed
+        .iter()
+        .copied()
+        .find(|piece| piece.range.has(place))
+}
+
+/// Where the appointment stands that governs the place.
+pub(crate) fn governing_at(governed: &[GovernedPiece], place: u64) -> Option<usize>
+    ensures { result ≡ governing_at governed.now place }
+{
+    piece_at(governed, place)?.by
+}
+
+/// The valid vote of a place: that of the holder's voters, where any of them has a cast on it, and else
+/// that of the proxy whose appointment stands there. The error is want of memory.
+pub(crate) fn vote_by<B: Blocks>(
+    alloc: Global,
+    ballots: &Ballots<B>,
+    appointed: &[Appointment],
+    by: Option<usize>,
+    resolution: u64,
+    place: u64,
+) -> Result<Option<Way>, AllocError>
+    ensures { IfOk result (λ vote. vote ≡ vote_by (map B.pieces ballots.now.holders.items) (map B.pieces ballots.now.proxies.items) appointed.now by resolution place) }
+{
+    let ways = ways_at(alloc, ballots.holders.as_slice(), place)?;
+    match common_way(ways.as_slice()) {
+        Some(vote) => Ok(vote),
+        None => Ok(vote_by_governing(ballots.proxies.as_slice(), appointed, by, resolution, place)),
+    }
+}

@@ -1,0 +1,178 @@
+//! The count of a poll, by lengths: each holding is parted where what governs it changes and where a
+//! cast on it begins or has just ended, and the valid vote is asked once a part.
+ghost use Rattle.std.specs.Prelude.{◌≡◌, ◌≤◌, ◌<◌, ◌^◌, ℕ, List, [], true, IfOk, filter, map, sum_by};
+ghost use Rattle.std.specs.BTreeMap.{get};
+ghost use Rattle.desk_terms.specs.Names.{name_cmp};
+ghost use Rattle.desk_words.specs.Office.{are_numbered_after};
+ghost use Rattle.desk_words.specs.Registers.{all_shares};
+ghost use Rattle.desk_words.specs.declared.records.RegisterRow.{RegisterRow};
+ghost use Rattle.proxy_rules.specs.Holdings.{IsKept, are_tags, holding_by};
+ghost use Rattle.proxy_rules.specs.Shares.{are_rows, shares_of};
+ghost use Rattle.proxy_rules.specs.Tiles.{places_in};
+ghost use Rattle.vote_rules.specs.Ballots.{governing_at, vote_by};
+ghost use Rattle.vote_rules.specs.Covers.{vote_among};
+ghost use Rattle.vote_rules.specs.Received.{is_on_shares_of};
+ghost use Rattle.vote_rules.specs.Sums.{FitsBoth, FitsMore, joined, tally_over, tally_to, with_votes};
+ghost use Rattle.vote_rules.specs.Tallies.{share_at, tally_by, tally_of};
+
+use crate::ballots::{Ballots, governing_at, vote_by};
+use crate::parting::parted;
+use crate::received::PollCasts;
+use desk_words::{Appointment, Range, RegisterRow, Tally, Way};
+use proxy_rules::{Cutoffs, GovernedPiece, Holding, Papers};
+use share_blocks::{Blocks, PlainBlocks};
+use std::alloc::{AllocError, Global};
+
+const NOTHING: Tally = Tally {
+    votes_for: 0,
+    votes_against: 0,
+    withheld: 0,
+    eligible: 0,
+};
+
+/// How many places a range holds.
+fn places_in(range: Range) -> u64
+    ensures { result ≡ places_in range }
+{
+    range.to() - range.from() + 1
+}
+
+/// Counts so many shares more, which vote alike.
+fn add_shares(tally: &mut Tally, vote: Option<Way>, shares: u64)
+    requires { FitsMore tally.old shares }
+    ensures { tally.new ≡ with_votes vote shares tally.old }
+{
+    match vote {
+        Some(Way::For) => tally.votes_for += shares,
+        Some(Way::Against) => tally.votes_against += shares,
+        Some(Way::Withheld) => tally.withheld += shares,
+        None => {}
+    }
+    tally.eligible += shares;
+}
+
+/// The count of the ranges, on each of which the valid vote is asked at its first place.
+fn tally_over<B: Blocks>(
+    alloc: Global,
+    ballots: &Ballots<B>,
+    appointed: &[Appointment],
+    governed: &[GovernedPiece],
+    resolution: u64,
+    ranges: &[Range],
+) -> Result<Tally, AllocError>
+    requires { sum_by places_in ranges.now ≤ 10 ^ 12 }
+    ensures { IfOk result (λ tally. tally ≡ tally_over (λ place. vote_by (map B.pieces ballots.now.holders.items) (map B.pieces ballots.now.proxies.items) appointed.now (governing_at governed.now place) resolution place) ranges.now) }
+{
+    let mut tally = NOTHING;
+    for range in ranges {
+        let by = governing_at(governed, range.from());
+        let vote = vote_by(alloc, ballots, appointed, by, resolution, range.from())?;
+        add_shares(&mut tally, vote, places_in(*range));
+    }
+    Ok(tally)
+}
+
+/// The count of one holding.
+fn tally_row<B: Blocks>(
+    alloc: Global,
+    cutoffs: &Cutoffs,
+    papers: &Papers,
+    casts: &PollCasts,
+    resolution: u64,
+    row: &RegisterRow,
+) -> Result<Tally, AllocError>
+    requires { IsKept (holding_by papers.now.appointments.now papers.now.endings.now row.now) }
+    ensures { IfOk result (λ tally. tally ≡ tally_to
+        (λ place. vote_among (filter (is_on_shares_of row.now.member) casts.now.by_member) (get name_cmp casts.now.instructed) papers.now.authorities.now resolution row.now
+        (share_at cutoffs.now (holding_by papers.now.appointments.now papers.now.endings.now row.now) row.now.member place)) (shares_of row.now)) }
+{
+    let holding = Holding::of_row(alloc, row, papers.appointments, papers.endings)?;
+    let appointed = holding.appointed.as_slice();
+    let governed = holding.pieces(alloc, cutoffs)?;
+    let on_row = casts.on_shares_of(alloc, row.member)?;
+    let ballots: Ballots<B> = Ballots::of_row(
+        alloc,
+        on_row.as_slice(),
+        &casts.instructed,
+        papers.authorities,
+        appointed,
+        row,
+    )?;
+    let ranges = parted::<B>(
+        alloc,
+        governed.as_slice(),
+        on_row.as_slice(),
+        holding.shares,
+    )?;
+    tally_over(
+        alloc,
+        &ballots,
+        appointed,
+        governed.as_slice(),
+        resolution,
+        ranges.as_slice(),
+    )
+}
+
+/// Both counts together.
+fn join(a: Tally, b: Tally) -> Tally
+    requires { FitsBoth a b }
+    ensures { result ≡ joined a b }
+{
+    Tally {
+        votes_for: a.votes_for + b.votes_for,
+        votes_against: a.votes_against + b.votes_against,
+        withheld: a.withheld + b.withheld,
+        eligible: a.eligible + b.eligible,
+    }
+}
+
+/// The count of the holdings, with what is cast on the resolution.
+fn tally_rows<B: Blocks>(
+    alloc: Global,
+    cutoffs: &Cutoffs,
+    papers: &Papers,
+    casts: &PollCasts,
+    resolution: u64,
+) -> Result<Tally, AllocError>
+    requires rows { are_rows papers.now.register.now ≡ true }
+    requires tags { are_tags papers.now.appointments.now ≡ true }
+    requires numbered { are_numbered_after [] papers.now.appointments.now ≡ true }
+    ensures { IfOk result (λ tally. tally ≡ tally_by
+        (λ (row : RegisterRow) place. vote_among (filter (is_on_shares_of row.member) casts.now.by_member) (get name_cmp casts.now.instructed) papers.now.authorities.now resolution row
+        (share_at cutoffs.now (holding_by papers.now.appointments.now papers.now.endings.now row) row.member place)) papers.now.register.now) }
+{
+    let mut tally = NOTHING;
+    for row in papers.register {
+        let more = tally_row::<B>(alloc, cutoffs, papers, casts, resolution, row)?;
+        tally = join(tally, more);
+    }
+    Ok(tally)
+}
+
+/// The count of a poll on a resolution, in shares: for each way the number of shares whose valid vote
+/// it is, and the number of all shares, treasury shares not among them (sections 284, 322 and 726).
+///
+/// The valid vote of a share is that of the individual who holds it; for a corporation's share that of
+/// its representatives, and none where they differ (section 323); and where none of these has a cast
+/// on it, that of the proxy who governs it by these cutoffs, unless it is against the instruction
+/// (sections 324 and 324A). The cutoffs are those of the poll. The lists are those of an office. The
+/// error is want of memory.
+///
+/// What is cast is grouped once by the member on whose shares it is cast, and what a member appointed
+/// and cast is looked up. A holding is counted by the parts into which its own appointments and casts
+/// divide it, so the cost does not depend on how many shares there are.
+pub fn tally(
+    alloc: Global,
+    cutoffs: &Cutoffs,
+    papers: &Papers,
+    resolution: u64,
+) -> Result<Tally, AllocError>
+    requires rows { are_rows papers.now.register.now ≡ true }
+    requires tags { are_tags papers.now.appointments.now ≡ true }
+    requires numbered { are_numbered_after [] papers.now.appointments.now ≡ true }
+    ensures { IfOk result (λ tally. tally ≡ tally_of cutoffs.now papers.now.register.now papers.now.appointments.now papers.now.endings.now papers.now.authorities.now papers.now.casts.now resolution) }
+{
+    let casts = PollCasts::on(alloc, papers.casts.as_slice(), resolution)?;
+    tally_rows::<PlainBlocks>(alloc, cutoffs, papers, &casts, resolution)
+}
