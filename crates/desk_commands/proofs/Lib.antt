@@ -1,0 +1,2 @@
+pub mod AppLemmas
+pub mod PlanLemmas

@@ -1,0 +1,152 @@
+-- What the words of the program ask for.
+use Rattle.std.specs.Prelude.{◌≡◌, ⊤, ℕ, List, Option, Some, None, Result, Ok, Err, ok_or, bytes_eq, codes, is_some, if◌then◌else◌}
+use Rattle.clap.specs.declared.error.kind.ErrorKind.{ErrorKind}
+use Rattle.clap.specs.declared.error.kind.ErrorKind.TheVariants as kind
+use Rattle.clap.specs.Faults.{fault_of}
+use Rattle.clap.specs.Simple.{subcommand_of}
+use Rattle.clap.specs.Walk.{Row, Text, first_of, is_empty}
+use Rattle.desk_calendar.specs.Texts.{moment_of}
+use Rattle.desk_terms.specs.Names.{meeting_of}
+use Rattle.jiff_tz.specs.PosixReader.{read_whole}
+use Rattle.jiff.specs.Placed.{IsPosixZone}
+use Rattle.jiff.specs.ZoneView.{plain_zone}
+use Rattle.desk_commands.specs.App.{desk}
+use Rattle.desk_commands.specs.declared.zone.Zone.{Zone as ZoneOfPlan}
+use Rattle.desk_commands.specs.declared.plan.Plan.{Plan}
+use Rattle.desk_commands.specs.declared.plan.Plan.TheVariants as plan
+use Rattle.desk_commands.specs.declared.plan.WordsFault.{WordsFault}
+use Rattle.desk_commands.specs.declared.plan.WordsFault.TheVariants as fault
+
+-- a command, with the texts of its files and of its zone, its meeting and its record moment
+pub data Asked : Type 0 where
+  Init : Text → Asked
+  Keys : Text → Text → Text → Asked
+  Days : Text → Text → Text → Asked
+  Register : Text → List ℕ → ℕ → Text → Text → Asked
+  Results : Text → List ℕ → Asked
+  Replay : Asked
+
+-- why the words ask for nothing
+pub data Wrong : Type 0 where
+  Words : Wrong
+  Meeting : Wrong
+  Record : Wrong
+  Zone : Wrong
+
+-- a plan, as contracts see it
+abbrev pub plan_view : Plan → Asked
+plan_view (plan.Init file) = Init file.now
+plan_view (plan.Keys file csv zone) = Keys file.now csv.now zone.rule.now
+plan_view (plan.Days file txt zone) = Days file.now txt.now zone.rule.now
+plan_view (plan.Register file meeting record_moment csv zone) = Register file.now meeting record_moment csv.now zone.rule.now
+plan_view (plan.Results file meeting) = Results file.now meeting
+plan_view plan.Replay = Replay
+
+-- the zone is that of its rule
+abbrev pub IsOfItsRule : ZoneOfPlan → Type 0
+IsOfItsRule zone = IsPosixZone zone.rule.now (plain_zone zone.zone)
+
+-- the zone of the plan, where it has one, is that of its rule
+abbrev pub HasZoneOfRule : Plan → Type 0
+HasZoneOfRule (plan.Init file) = ⊤
+HasZoneOfRule (plan.Keys file csv zone) = IsOfItsRule zone
+HasZoneOfRule (plan.Days file txt zone) = IsOfItsRule zone
+HasZoneOfRule (plan.Register file meeting record_moment csv zone) = IsOfItsRule zone
+HasZoneOfRule (plan.Results file meeting) = ⊤
+HasZoneOfRule plan.Replay = ⊤
+
+-- the answer is that fault; of want of memory nothing is said
+abbrev pub IsWrong : {Y : Type 0} → WordsFault → Result Y Wrong → Type 0
+IsWrong (fault.Words text) answer = answer ≡ Err Words
+IsWrong fault.Meeting answer = answer ≡ Err Meeting
+IsWrong fault.Record answer = answer ≡ Err Record
+IsWrong fault.Zone answer = answer ≡ Err Zone
+IsWrong fault.Memory answer = ⊤
+
+-- what was returned, as contracts see it, is the answer, unless memory ran out
+abbrev pub Gives : {X Y : Type 0} → (X → Y) → Result X WordsFault → Result Y Wrong → Type 0
+Gives seen (Ok x) answer = answer ≡ Ok (seen x)
+Gives seen (Err wrong) answer = IsWrong wrong answer
+
+-- the fault of words that `clap` refuses for this cause: their text, or want of memory
+abbrev pub IsRefused : ErrorKind → WordsFault → Type 0
+IsRefused cause (fault.Words text) = cause ≡ kind.OutOfMemory → ⊥
+IsRefused cause fault.Memory = ⊤
+IsRefused cause fault.Meeting = ⊥
+IsRefused cause fault.Record = ⊥
+IsRefused cause fault.Zone = ⊥
+
+-- one reading after another, up to the first fault
+infixl 10 ◌>>=◌
+abbrev pub ◌>>=◌ : {A B : Type 0} → Result A Wrong → (A → Result B Wrong) → Result B Wrong
+(Ok x) >>= next = next x
+(Err wrong) >>= next = Err wrong
+
+-- the word that is given for an id
+abbrev pub word_in : Text → List Row → Result Text Wrong
+word_in id rows = ok_or (first_of id rows) Words
+
+-- the rule of a zone, if it is a POSIX rule
+abbrev pub rule_of : Text → Option Text
+rule_of text = if is_some (read_whole text) then Some text else None
+
+unfoldable pub init_in : List Row → Result Asked Wrong
+init_in rows = do
+  file ← word_in (codes "FILE") rows
+  Ok (Init file)
+
+unfoldable pub keys_in : List Row → Result Asked Wrong
+keys_in rows = do
+  file ← word_in (codes "FILE") rows
+  csv ← word_in (codes "CSV") rows
+  zone ← word_in (codes "zone") rows
+  rule ← ok_or (rule_of zone) Zone
+  Ok (Keys file csv rule)
+
+unfoldable pub days_in : List Row → Result Asked Wrong
+days_in rows = do
+  file ← word_in (codes "FILE") rows
+  txt ← word_in (codes "TXT") rows
+  zone ← word_in (codes "zone") rows
+  rule ← ok_or (rule_of zone) Zone
+  Ok (Days file txt rule)
+
+-- all words are there first; then the meeting is read, the record moment, and the zone
+unfoldable pub register_in : List Row → Result Asked Wrong
+register_in rows = do
+  file ← word_in (codes "FILE") rows
+  meeting_word ← word_in (codes "MEETING") rows
+  record_word ← word_in (codes "RECORD") rows
+  csv ← word_in (codes "CSV") rows
+  zone ← word_in (codes "zone") rows
+  meeting ← ok_or (meeting_of meeting_word) Meeting
+  record_moment ← ok_or (moment_of record_word) Record
+  rule ← ok_or (rule_of zone) Zone
+  Ok (Register file meeting record_moment csv rule)
+
+unfoldable pub results_in : List Row → Result Asked Wrong
+results_in rows = do
+  file ← word_in (codes "FILE") rows
+  meeting_word ← word_in (codes "MEETING") rows
+  meeting ← ok_or (meeting_of meeting_word) Meeting
+  Ok (Results file meeting)
+
+-- what a command of that name asks
+abbrev pub asked_by : Text → List Row → Result Asked Wrong
+asked_by name rows =
+    if bytes_eq name (codes "init") then init_in rows
+    else if bytes_eq name (codes "keys") then keys_in rows
+    else if bytes_eq name (codes "days") then days_in rows
+    else if bytes_eq name (codes "register") then register_in rows
+    else if bytes_eq name (codes "results") then results_in rows
+    else if bytes_eq name (codes "replay") then Ok Replay
+    else Err Words
+
+-- what the command that the words name asks
+abbrev pub asked_in : Option (Text × List Row) → Result Asked Wrong
+asked_in None = Err Words
+asked_in (Some named) = asked_by named.0 named.1
+
+-- what the words ask for, where `clap` finds no fault in them
+unfoldable pub asked : List Text → Result Asked Wrong
+asked words = if is_empty (fault_of desk words) then asked_in (subcommand_of desk words) else Err Words

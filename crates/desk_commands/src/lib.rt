@@ -1,0 +1,10 @@
+//! The words of the program: which command they name, its files, and the values that it takes.
+#![tactic(auto)]
+
+mod app;
+mod help;
+mod plan;
+mod zone;
+
+pub use plan::{Plan, WordsFault, read_words};
+pub use zone::Zone;

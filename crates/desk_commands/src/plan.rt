@@ -1,0 +1,204 @@
+//! What the words ask for.
+ghost use Rattle.std.specs.Prelude.{◌≡◌, map, string_bytes, option_map, IfOk, IfSome};
+ghost use Rattle.clap.specs.Matches.{found_of};
+ghost use Rattle.clap.specs.Values.{kind_of};
+ghost use Rattle.clap.specs.Simple.{subcommand_rows_of};
+ghost use Rattle.clap.specs.Walk.{rows_of};
+ghost use Rattle.desk_commands.specs.Plans.{Gives, IsRefused, IsOfItsRule, HasZoneOfRule, plan_view, word_in, rule_of, init_in, keys_in, days_in, register_in, results_in, asked_by, asked_in, asked};
+
+use crate::app::desk_matches;
+use crate::zone::Zone;
+use clap::error::ErrorKind;
+use clap::{ArgMatches, Error};
+use desk_words::{MeetingId, Moment, read_meeting, read_moment};
+use jiff::tz::TimeZone;
+use std::alloc::Global;
+
+/// The command that the words name, with its files and its values.
+#[derive(Drop)]
+pub enum Plan<'a> {
+    /// A new desk is made in the file.
+    Init {
+        file: &'a str,
+    },
+    /// Keys are loaded from a key file.
+    Keys {
+        file: &'a str,
+        csv: &'a str,
+        zone: Zone<'a>,
+    },
+    /// Closed days are loaded from a day file.
+    Days {
+        file: &'a str,
+        txt: &'a str,
+        zone: Zone<'a>,
+    },
+    /// A register is loaded for a meeting from a register file.
+    Register {
+        file: &'a str,
+        meeting: MeetingId,
+        record_moment: Moment,
+        csv: &'a str,
+        zone: Zone<'a>,
+    },
+    /// The results of a meeting are printed.
+    Results {
+        file: &'a str,
+        meeting: MeetingId,
+    },
+    /// A script is answered, on a desk in memory.
+    Replay,
+}
+
+/// Why the words ask for nothing. The faults are found in this order.
+#[derive(Drop)]
+pub enum WordsFault {
+    /// The words are not those of a command, or they ask for help. It holds the text to print, which
+    /// ends with a line feed.
+    Words(String),
+    /// The word for the meeting is not the name of one.
+    Meeting,
+    /// The word for the record moment is no moment.
+    Record,
+    /// The zone is no POSIX rule.
+    Zone,
+    /// An allocation was refused.
+    Memory,
+}
+
+/// The zone that a POSIX rule spells, or none exactly where the text is no rule.
+fn read_zone(rule: &str) -> Option<Zone<'_>>
+    ensures rule { option_map (λ z. z.rule.now) result ≡ rule_of rule.now }
+    ensures zone { IfSome result IsOfItsRule }
+{
+    match TimeZone::posix(rule) {
+        Ok(zone) => Some(Zone { rule, zone }),
+        Err(_) => None,
+    }
+}
+
+/// The word that is given for an id. `clap` gives no matches without each word that is wanted.
+fn word<'a>(alloc: Global, matches: &ArgMatches<'a>, id: &str) -> Result<&'a str, WordsFault>
+    ensures { Gives (λ s. s.now) result (word_in id.now (rows_of (found_of matches.now))) }
+{
+    match matches.get_str(id) {
+        Some(word) => Ok(word),
+        None => Err(WordsFault::Words(String::new(alloc))),
+    }
+}
+
+#[tactic(auto, unfolding(crate::specs::Plans::init_in))]
+fn init_in<'a>(alloc: Global, matches: &ArgMatches<'a>) -> Result<Plan<'a>, WordsFault>
+    ensures asked { Gives plan_view result (init_in (rows_of (found_of matches.now))) }
+    ensures zone { IfOk result HasZoneOfRule }
+{
+    let file = word(alloc, matches, "FILE")?;
+    Ok(Plan::Init { file })
+}
+
+#[tactic(auto, unfolding(crate::specs::Plans::keys_in))]
+fn keys_in<'a>(alloc: Global, matches: &ArgMatches<'a>) -> Result<Plan<'a>, WordsFault>
+    ensures asked { Gives plan_view result (keys_in (rows_of (found_of matches.now))) }
+    ensures zone { IfOk result HasZoneOfRule }
+{
+    let file = word(alloc, matches, "FILE")?;
+    let csv = word(alloc, matches, "CSV")?;
+    let rule = word(alloc, matches, "zone")?;
+    let zone = read_zone(rule).ok_or(WordsFault::Zone)?;
+    Ok(Plan::Keys { file, csv, zone })
+}
+
+#[tactic(auto, unfolding(crate::specs::Plans::days_in))]
+fn days_in<'a>(alloc: Global, matches: &ArgMatches<'a>) -> Result<Plan<'a>, WordsFault>
+    ensures asked { Gives plan_view result (days_in (rows_of (found_of matches.now))) }
+    ensures zone { IfOk result HasZoneOfRule }
+{
+    let file = word(alloc, matches, "FILE")?;
+    let txt = word(alloc, matches, "TXT")?;
+    let rule = word(alloc, matches, "zone")?;
+    let zone = read_zone(rule).ok_or(WordsFault::Zone)?;
+    Ok(Plan::Days { file, txt, zone })
+}
+
+#[tactic(auto, unfolding(crate::specs::Plans::register_in))]
+fn register_in<'a>(alloc: Global, matches: &ArgMatches<'a>) -> Result<Plan<'a>, WordsFault>
+    ensures asked { Gives plan_view result (register_in (rows_of (found_of matches.now))) }
+    ensures zone { IfOk result HasZoneOfRule }
+{
+    let file = word(alloc, matches, "FILE")?;
+    let meeting_word = word(alloc, matches, "MEETING")?;
+    let record_word = word(alloc, matches, "RECORD")?;
+    let csv = word(alloc, matches, "CSV")?;
+    let rule = word(alloc, matches, "zone")?;
+    let meeting = read_meeting(meeting_word.as_bytes()).ok_or(WordsFault::Meeting)?;
+    let record_moment = read_moment(record_word.as_bytes()).ok_or(WordsFault::Record)?;
+    let zone = read_zone(rule).ok_or(WordsFault::Zone)?;
+    Ok(Plan::Register {
+        file,
+        meeting,
+        record_moment,
+        csv,
+        zone,
+    })
+}
+
+#[tactic(auto, unfolding(crate::specs::Plans::results_in))]
+fn results_in<'a>(alloc: Global, matches: &ArgMatches<'a>) -> Result<Plan<'a>, WordsFault>
+    ensures asked { Gives plan_view result (results_in (rows_of (found_of matches.now))) }
+    ensures zone { IfOk result HasZoneOfRule }
+{
+    let file = word(alloc, matches, "FILE")?;
+    let meeting = word(alloc, matches, "MEETING")?;
+    let meeting = read_meeting(meeting.as_bytes()).ok_or(WordsFault::Meeting)?;
+    Ok(Plan::Results { file, meeting })
+}
+
+fn plan_by<'a>(alloc: Global, name: &str, matches: &ArgMatches<'a>) -> Result<Plan<'a>, WordsFault>
+    ensures asked { Gives plan_view result (asked_by name.now (rows_of (found_of matches.now))) }
+    ensures zone { IfOk result HasZoneOfRule }
+{
+    match name {
+        "init" => init_in(alloc, matches),
+        "keys" => keys_in(alloc, matches),
+        "days" => days_in(alloc, matches),
+        "register" => register_in(alloc, matches),
+        "results" => results_in(alloc, matches),
+        "replay" => Ok(Plan::Replay),
+        _ => Err(WordsFault::Words(String::new(alloc))),
+    }
+}
+
+fn plan_in<'a>(alloc: Global, matches: &ArgMatches<'a>) -> Result<Plan<'a>, WordsFault>
+    ensures asked { Gives plan_view result (asked_in (subcommand_rows_of matches.now)) }
+    ensures zone { IfOk result HasZoneOfRule }
+{
+    match matches.subcommand() {
+        Some((name, under)) => plan_by(alloc, name, under),
+        None => Err(WordsFault::Words(String::new(alloc))),
+    }
+}
+
+/// The fault of words that `clap` does not take.
+fn refused(alloc: Global, error: &Error) -> WordsFault
+    ensures { IsRefused (kind_of error.now) result }
+{
+    if error.kind() == ErrorKind::OutOfMemory {
+        return WordsFault::Memory;
+    }
+    match format!(in alloc; "{error}") {
+        Ok(text) => WordsFault::Words(text),
+        Err(_) => WordsFault::Memory,
+    }
+}
+
+/// What the words of the program ask for, its own name not among them: a command with its files and its
+/// values. The faults are found in their order: the words, the meeting, the record moment, the zone.
+pub fn read_words<'a>(alloc: Global, words: &'a [String]) -> Result<Plan<'a>, WordsFault>
+    ensures asked { Gives plan_view result (asked (map string_bytes words.entry.now)) }
+    ensures zone { IfOk result HasZoneOfRule }
+{
+    match desk_matches(alloc, words) {
+        Ok(matches) => plan_in(alloc, &matches),
+        Err(error) => Err(refused(alloc, &error)),
+    }
+}

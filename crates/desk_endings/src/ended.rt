@@ -1,0 +1,135 @@
+//! How the program ends.
+ghost use Rattle.std.specs.Prelude.{◌≡◌};
+ghost use Rattle.desk_endings.specs.Endings.{ended_view, done, fault_word, ended_by, ended_by_refusal, ended_by_file, ended_by_print, ended_by_words};
+
+use crate::line::Line;
+use desk_commands::WordsFault;
+use desk_papers::{FileFault, PrintFault};
+use desk_terms::Refusal;
+
+/// How the program ends: its status, and the line that it prints on standard error, if any.
+#[derive(Drop)]
+pub struct Ended {
+    pub status: u8,
+    pub line: Option<Line>,
+}
+
+/// What fails of the desk's file and of the devices that the program works with.
+#[derive(Clone, Copy, PartialEq, Eq)]
+pub enum Fault {
+    /// The desk's file cannot be opened, read or written.
+    Store,
+    /// An allocation was refused.
+    Memory,
+    /// The file is no desk.
+    NotADesk,
+    /// The desk was written by a later version of the program.
+    NewerVersion,
+    /// The file of a new desk is not empty.
+    NotEmpty,
+    /// A file or standard input cannot be read, or has more bytes than it may have.
+    ReadFault,
+    /// Standard output cannot be written.
+    WriteFault,
+    /// A socket fails.
+    Socket,
+    /// The clock cannot be read, or shows a moment before 1900 or after 2999.
+    Clock,
+}
+
+impl Fault {
+    /// The word for it.
+    pub fn word(self) -> &'static str
+        ensures { result.now ≡ fault_word self }
+    {
+        match self {
+            Fault::Store => "Store",
+            Fault::Memory => "Memory",
+            Fault::NotADesk => "NotADesk",
+            Fault::NewerVersion => "NewerVersion",
+            Fault::NotEmpty => "NotEmpty",
+            Fault::ReadFault => "ReadFault",
+            Fault::WriteFault => "WriteFault",
+            Fault::Socket => "Socket",
+            Fault::Clock => "Clock",
+        }
+    }
+}
+
+impl Ended {
+    /// The end of a command that did its work: status 0, and no line.
+    pub fn done() -> Ended
+        ensures { ended_view result ≡ done }
+    {
+        Ended {
+            status: 0,
+            line: None,
+        }
+    }
+
+    /// A fault ends with status 3 and its word.
+    pub fn by(fault: Fault) -> Ended
+        ensures { ended_view result ≡ ended_by fault }
+    {
+        Ended {
+            status: 3,
+            line: Some(Line::Name(fault.word())),
+        }
+    }
+
+    /// A refusal ends with status 1, and `refused` with its number and its name.
+    pub fn by_refusal(refusal: Refusal) -> Ended
+        ensures { ended_view result ≡ ended_by_refusal refusal }
+    {
+        Ended {
+            status: 1,
+            line: Some(Line::Refused(refusal)),
+        }
+    }
+
+    /// A fault of a file that is handed in ends with status 3, and its line and cause.
+    pub fn by_file(fault: FileFault) -> Ended
+        ensures { ended_view result ≡ ended_by_file fault }
+    {
+        match fault {
+            FileFault::BadRow { line, why } => Ended {
+                status: 3,
+                line: Some(Line::BadRow { line, why }),
+            },
+            FileFault::Twice { line } => Ended {
+                status: 3,
+                line: Some(Line::Twice { line }),
+            },
+            FileFault::ReadFault => Ended::by(Fault::ReadFault),
+            FileFault::Memory => Ended::by(Fault::Memory),
+        }
+    }
+
+    /// A fault of the printing of results ends with status 3 and its word.
+    pub fn by_print(fault: PrintFault) -> Ended
+        ensures { ended_view result ≡ ended_by_print fault }
+    {
+        match fault {
+            PrintFault::WriteFault => Ended::by(Fault::WriteFault),
+            PrintFault::Memory => Ended::by(Fault::Memory),
+        }
+    }
+
+    /// Words that ask for nothing end with status 2, and the text of their reader, or `meeting`, `record`
+    /// or `zone`; want of memory ends with status 3.
+    pub fn by_words(fault: WordsFault) -> Ended
+        ensures { ended_view result ≡ ended_by_words fault }
+    {
+        let line = match fault {
+            WordsFault::Memory => return Ended::by(Fault::Memory),
+            WordsFault::Words(text) => Line::Words(text),
+            WordsFault::Meeting => Line::Name("meeting"),
+            WordsFault::Record => Line::Name("record"),
+            WordsFault::Zone => Line::Name("zone"),
+        };
+        Ended {
+            status: 2,
+            line: Some(line),
+        }
+    }
+}

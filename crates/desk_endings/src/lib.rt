@@ -1,0 +1,8 @@
+//! How the program ends: its status, and the line that it prints on standard error.
+#![tactic(auto)]
+
+mod ended;
+mod line;
+
+pub use ended::{Ended, Fault};
+pub use line::Line;

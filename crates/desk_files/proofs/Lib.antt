@@ -1,0 +1,5 @@
+pub mod DayLemmas
+pub mod FieldLemmas
+pub mod GatheredLemmas
+pub mod RecordLemmas
+pub mod RowLemmas

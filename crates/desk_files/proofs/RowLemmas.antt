@@ -1,0 +1,60 @@
+-- The rows of records in turn.
+use Rattle.std.proofs.Common.{◌≡◌, ℕ, Bool, List, [], ◌∷◌, ◌++◌, Option, None, Result, Ok, Err, refl, ap, ◌∙◌, fold}
+use Rattle.std.proofs.lemmas.List.Sums.{fold_push}
+use Rattle.csv.specs.Machine.{next_record}
+use Rattle.csv.specs.Reading.{Reached, default_config, strip_bom}
+use Rattle.csv.specs.declared.parser.State.{State}
+use Rattle.csv.specs.declared.parser.State.TheVariants as st
+use Rattle.desk_files.specs.declared.fault.FileFault.{FileFault}
+use Rattle.desk_files.specs.declared.fault.FileFault.TheVariants.{BadRow, Twice, ReadFault, Memory}
+use Rattle.desk_files.specs.Faults.{Gives, ◌>>=◌}
+use Rattle.desk_files.specs.Tables.{one_record_more, rows_in, records_of}
+use Rattle.desk_files.proofs.RecordLemmas.{records-begin, records-are}
+
+module _ {Row : Type 0} (is_header : List (List ℕ) → Bool) (next_row : ℕ → List Row → List (List ℕ) → Result Row FileFault) where
+  abbrev after_record : Result (Option (List Row)) FileFault → List (List ℕ) → Result (Option (List Row)) FileFault
+  after_record so_far fields = so_far >>= λ found. one_record_more is_header next_row found fields
+
+  -- one record more
+  pub rows_in-more : (rs : List (List (List ℕ))) (r : List (List ℕ)) (found : Option (List Row)) → rows_in is_header next_row rs ≡ Ok found
+      → rows_in is_header next_row (rs ++ r ∷ []) ≡ one_record_more is_header next_row found r
+  rows_in-more rs r found h = fold_push after_record (Ok None) rs r ∙ ap (λ so_far. after_record so_far r) h
+
+  after-fault : (fault : FileFault) (rs : List (List (List ℕ))) → fold after_record (Err fault) rs ≡ Err fault
+  after-fault fault [] = refl
+  after-fault fault (r ∷ rs) = after-fault fault rs
+
+  fold-more : (so_far : Result (Option (List Row)) FileFault) (rs more : List (List (List ℕ))) → fold after_record so_far (rs ++ more) ≡ fold after_record (fold after_record so_far rs) more
+  fold-more so_far [] more = refl
+  fold-more so_far (r ∷ rs) more = fold-more (after_record so_far r) rs more
+
+  -- nothing behind a fault is looked at
+  pub rows_in-fault : (fault : FileFault) (rs more : List (List (List ℕ))) → rows_in is_header next_row rs ≡ Err fault → rows_in is_header next_row (rs ++ more) ≡ Err fault
+  rows_in-fault fault rs more h = fold-more (Ok None) rs more ∙ ap (λ so_far. fold after_record so_far more) h ∙ after-fault fault more
+
+  -- the rows of a text, all of whose records were reached
+  pub rows-whole : (text : List ℕ) (rs : List (List (List ℕ))) (s : State) (ys : List ℕ) (found : Option (List Row)) → Reached default_config st.StartRecord (strip_bom text) rs s ys
+      → next_record default_config s [] [] ys ≡ None → rows_in is_header next_row rs ≡ Ok found → rows_in is_header next_row (records_of text) ≡ Ok found
+  rows-whole text rs s ys found reached ends h = ap (rows_in is_header next_row) (records-are default_config (strip_bom text) rs s ys reached ends) ∙ h
+
+  -- the fault of a text, at a record that was reached
+  pub rows-faulty : (text : List ℕ) (rs : List (List (List ℕ))) (s : State) (ys : List ℕ) (fault : FileFault) → Reached default_config st.StartRecord (strip_bom text) rs s ys
+      → rows_in is_header next_row rs ≡ Err fault → rows_in is_header next_row (records_of text) ≡ Err fault
+  rows-faulty text rs s ys fault reached h =
+      ap (rows_in is_header next_row) (records-begin default_config (strip_bom text) rs s ys reached) ∙ rows_in-fault fault rs _ h
+
+-- a fault is given whatever the reading was to give
+pub gives-fault : {X Y Z W : Type 0} (seen : X → Y) (other : Z → W) (fault : FileFault) (answer : Result W FileFault) (whole : Result Y FileFault)
+    → Gives other (Err fault) answer → (answer ≡ Err fault → whole ≡ Err fault) → Gives seen (Err fault) whole
+gives-fault seen other (BadRow line why) answer whole given so = so given
+gives-fault seen other (Twice line) answer whole given so = so given
+gives-fault seen other ReadFault answer whole given so = given
+gives-fault seen other Memory answer whole given so = tt
+
+-- what is given of an answer is given of one that is the same
+pub gives-same : {X Y : Type 0} (seen : X → Y) (returned : Result X FileFault) (answer whole : Result Y FileFault) → Gives seen returned answer → whole ≡ answer → Gives seen returned whole
+gives-same seen (Ok x) answer whole given same = same ∙ given
+gives-same seen (Err (BadRow line why)) answer whole given same = same ∙ given
+gives-same seen (Err (Twice line)) answer whole given same = same ∙ given
+gives-same seen (Err ReadFault) answer whole given same = given
+gives-same seen (Err Memory) answer whole given same = tt

@@ -1,0 +1,56 @@
+-- What reading gives: a thing, or the first fault.
+use Rattle.std.specs.Prelude.{◌≡◌, ℕ, ⊤, Bool, true, false, List, Result, Ok, Err, codes}
+use Rattle.desk_files.specs.declared.fault.Why.{Why}
+use Rattle.desk_files.specs.declared.fault.Why.TheVariants as why
+use Rattle.desk_files.specs.declared.fault.FileFault.{FileFault}
+use Rattle.desk_files.specs.declared.fault.FileFault.TheVariants.{BadRow, Twice, ReadFault, Memory}
+
+-- the word for what is wrong
+abbrev pub why_word : Why → List ℕ
+why_word why.Header = codes "header"
+why_word why.Rows = codes "rows"
+why_word why.Fields = codes "fields"
+why_word why.Member = codes "member"
+why_word why.Kind = codes "kind"
+why_word why.Name = codes "name"
+why_word why.Shares = codes "shares"
+why_word why.Paid = codes "paid"
+why_word why.Party = codes "party"
+why_word why.Key = codes "key"
+why_word why.Total = codes "total"
+why_word why.Day = codes "day"
+
+-- one reading after another, up to the first fault
+infixl 10 ◌>>=◌
+abbrev pub ◌>>=◌ : {A B : Type 0} → Result A FileFault → (A → Result B FileFault) → Result B FileFault
+(Ok x) >>= next = next x
+(Err fault) >>= next = Err fault
+
+-- a fault where the test fails
+abbrev pub only : Bool → FileFault → Result (Unit {0}) FileFault
+only true fault = Ok tt
+only false fault = Err fault
+
+-- what was returned, as contracts see it, is the answer; of want of memory nothing is said, and no read can have failed
+abbrev pub Gives : {X Y : Type 0} → (X → Y) → Result X FileFault → Result Y FileFault → Type 0
+Gives seen (Ok x) answer = answer ≡ Ok (seen x)
+Gives seen (Err (BadRow line why)) answer = answer ≡ Err (BadRow line why)
+Gives seen (Err (Twice line)) answer = answer ≡ Err (Twice line)
+Gives seen (Err ReadFault) answer = ⊥
+Gives seen (Err Memory) answer = ⊤
+
+-- as it is
+abbrev pub itself : {X : Type 0} → X → X
+itself x = x
+
+-- the fault is of the file's own records
+abbrev pub IsOfRecords : FileFault → Type 0 → Type 0
+IsOfRecords (BadRow line why) P = P
+IsOfRecords (Twice line) P = P
+IsOfRecords ReadFault P = ⊤
+IsOfRecords Memory P = ⊤
+
+-- if the file was read and its records looked at, whether they are rows or have a fault
+abbrev pub IfJudged : {X : Type 0} → Result X FileFault → Type 0 → Type 0
+IfJudged (Ok x) P = P
+IfJudged (Err fault) P = IsOfRecords fault P

@@ -1,0 +1,36 @@
+-- Files of records: a header, and rows under it.
+use Rattle.std.specs.Prelude.{ℕ, ◌+◌, Bool, List, [], ◌∷◌, ◌++◌, length, fold, Option, Some, None, Result, Ok, Err, if◌then◌else◌}
+use Rattle.std.specs.Option.{unwrap_or}
+use Rattle.csv.specs.Reading.{default_config, records, strip_bom}
+use Rattle.csv.specs.Records.{field_at}
+use Rattle.desk_files.specs.declared.fault.FileFault.{FileFault}
+use Rattle.desk_files.specs.declared.fault.FileFault.TheVariants.{BadRow}
+use Rattle.desk_files.specs.declared.fault.Why.TheVariants as why
+use Rattle.desk_files.specs.Faults.{◌>>=◌}
+
+-- the records of a text, as `csv` reads them, a byte order mark at its front dropped
+abbrev pub records_of : List ℕ → List (List (List ℕ))
+records_of text = records default_config (strip_bom text)
+
+-- the field of a record in a column, counted from 0; nothing where the record has no such field
+abbrev pub column : ℕ → List (List ℕ) → List ℕ
+column place fields = unwrap_or (field_at fields place) []
+
+-- the rows so far, and that of one record more, which stands on the line after theirs; the header is line 1
+abbrev pub one_row_more : {Row : Type 0} → (ℕ → List Row → List (List ℕ) → Result Row FileFault) → List Row → List (List ℕ) → Result (List Row) FileFault
+one_row_more next_row found fields = next_row (length found + 2) found fields >>= λ row. Ok (found ++ row ∷ [])
+
+module _ {Row : Type 0} (is_header : List (List ℕ) → Bool) (next_row : ℕ → List Row → List (List ℕ) → Result Row FileFault) where
+  -- one record more: the header first, and then a row
+  abbrev pub one_record_more : Option (List Row) → List (List ℕ) → Result (Option (List Row)) FileFault
+  one_record_more None fields = if is_header fields then Ok (Some []) else Err (BadRow 1 why.Header)
+  one_record_more (Some found) fields = one_row_more next_row found fields >>= λ rows. Ok (Some rows)
+
+  -- the rows of the records in turn, up to the first fault; none before the header
+  abbrev pub rows_in : List (List (List ℕ)) → Result (Option (List Row)) FileFault
+  rows_in table = fold (λ so_far fields. so_far >>= λ found. one_record_more found fields) (Ok None) table
+
+-- the rows under the header, and a fault where there is not even a header
+abbrev pub under_header : {Row : Type 0} → Option (List Row) → Result (List Row) FileFault
+under_header None = Err (BadRow 1 why.Header)
+under_header (Some rows) = Ok rows

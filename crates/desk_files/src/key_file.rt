@@ -1,0 +1,188 @@
+//! Key files.
+ghost use Rattle.std.specs.Prelude.{◌≡◌, ◌+◌, ◌≤◌, [], IfErr, IfSome};
+ghost use Rattle.csv.specs.Records.{fields_of};
+ghost use Rattle.desk_files.specs.Faults.{Gives, IfJudged, itself};
+ghost use Rattle.desk_files.specs.Keys.{is_key_header, key_in, next_key, as_key_list, key_file};
+ghost use Rattle.desk_files.specs.Tables.{one_record_more, one_row_more};
+ghost use Rattle.desk_files.specs.Whole.{HasCause, IsReadWhole};
+
+use crate::columns::column;
+use crate::fault::{FileFault, Why};
+use crate::whole::{FILE_LIMIT, read_whole};
+use csv::{ByteRecord, ReaderBuilder};
+use desk_devices::Source;
+use desk_words::{KeyRow, KeyRows, ListFault, Party, SecretKey, read_caller, read_key};
+use std::alloc::Global;
+use std::collections::BTreeSet;
+use std::marker::Model;
+
+fn is_key_header(fields: &ByteRecord) -> bool
+    ensures { result ≡ is_key_header (fields_of fields.now) }
+{
+    fields.len() == 2
+        && column(fields, 0) == b"party".as_slice()
+        && column(fields, 1) == b"key".as_slice()
+}
+
+/// The key that a record spells by itself.
+#[tactic(auto, unfolding(crate::specs::Keys::key_in))]
+fn key_in(line: u64, fields: &ByteRecord) -> Result<KeyRow, FileFault>
+    ensures { Gives itself result (key_in line (fields_of fields.now)) }
+{
+    let bad = |why| FileFault::BadRow { line, why };
+    if fields.len() != 2 {
+        return Err(bad(Why::Fields));
+    }
+    let caller = read_caller(column(fields, 0)).ok_or(bad(Why::Party))?;
+    let secret = read_key(column(fields, 1)).ok_or(bad(Why::Key))?;
+    Ok(KeyRow { caller, secret })
+}
+
+/// The keys so far, and the callers and the keys that they name.
+#[derive(Drop)]
+struct KeysSoFar {
+    rows: Vec<KeyRow>,
+    callers: BTreeSet<Option<Party>>,
+    secrets: BTreeSet<SecretKey>,
+}
+
+impl Model for KeysSoFar {
+    ghost use Rattle.std.specs.Prelude.{List};
+    ghost use Rattle.desk_words.specs.declared.caller.KeyRow.{KeyRow};
+    ghost use Rattle.desk_files.specs.Gathered.{AreKeysSoFar};
+
+    ghost Value = { List KeyRow };
+
+    ghost view = { λ a. a.rows.items };
+
+    ghost invariant = { λ a. AreKeysSoFar a.rows.items a.callers a.secrets };
+}
+
+impl KeysSoFar {
+    fn new(alloc: Global) -> KeysSoFar
+        ensures { result ≡ [] }
+    {
+        KeysSoFar {
+            rows: Vec::new(alloc),
+            callers: BTreeSet::new(alloc),
+            secrets: BTreeSet::new(alloc),
+        }
+    }
+}
+
+/// The keys so far, and that of one record more.
+#[tactic(auto, unfolding(crate::specs::Keys::next_key))]
+fn with_key(so_far: KeysSoFar, fields: &ByteRecord) -> Result<KeysSoFar, FileFault>
+    ensures { Gives itself result (one_row_more next_key so_far (fields_of fields.now)) }
+{
+    let KeysSoFar {
+        mut rows,
+        mut callers,
+        mut secrets,
+    } = so_far;
+    let line = rows.len() as u64 + 2;
+    if rows.len() >= 40_000 {
+        return Err(FileFault::BadRow {
+            line,
+            why: Why::Rows,
+        });
+    }
+    let row = key_in(line, fields)?;
+    if !callers.insert(row.caller.party())? {
+        return Err(FileFault::Twice { line });
+    }
+    if !secrets.insert(row.secret)? {
+        return Err(FileFault::Twice { line });
+    }
+    rows.push(row)?;
+    Ok(KeysSoFar {
+        rows,
+        callers,
+        secrets,
+    })
+}
+
+fn one_record_more(
+    alloc: Global,
+    found: Option<KeysSoFar>,
+    fields: &ByteRecord,
+) -> Result<Option<KeysSoFar>, FileFault>
+    ensures { Gives itself result (one_record_more is_key_header next_key found (fields_of fields.now)) }
+{
+    match found {
+        None => {
+            if !is_key_header(fields) {
+                return Err(FileFault::BadRow {
+                    line: 1,
+                    why: Why::Header,
+                });
+            }
+            Ok(Some(KeysSoFar::new(alloc)))
+        }
+        Some(so_far) => Ok(Some(with_key(so_far, fields)?)),
+    }
+}
+
+fn as_key_list(found: Option<KeysSoFar>) -> Result<KeyRows, FileFault>
+    ensures { Gives itself result (as_key_list found) }
+{
+    let Some(KeysSoFar { rows, .. }) = found else {
+        return Err(FileFault::BadRow {
+            line: 1,
+            why: Why::Header,
+        });
+    };
+    match KeyRows::new(rows) {
+        Ok(keys) => Ok(keys),
+        // No key of those so far breaks a limit or stands twice.
+        Err(ListFault::Limit) => Err(FileFault::BadRow {
+            line: 1,
+            why: Why::Rows,
+        }),
+        Err(ListFault::Memory) => Err(FileFault::Memory),
+    }
+}
+
+/// The keys that the bytes of a file spell, or its first fault.
+fn keys_in(alloc: Global, bytes: &[u8]) -> Result<KeyRows, FileFault>
+    ensures { Gives itself result (key_file bytes.now) }
+{
+    let reader = ReaderBuilder::new()
+        .has_headers(false)
+        .flexible(true)
+        .from_reader(alloc, bytes);
+    let mut found = None;
+    for step in reader.into_byte_records() {
+        // Over a slice no read fails, so an error is of memory.
+        let Ok(fields) = step else {
+            return Err(FileFault::Memory);
+        };
+        found = match one_record_more(alloc, found, &fields) {
+            Ok(more) => more,
+            Err(fault) => return Err(fault),
+        };
+    }
+    as_key_list(found)
+}
+
+/// Reads the keys that a file spells: a header `party,key`, and under it a row for each party, or for
+/// `OFFICE`, with its key, in the form of CSV. There may be no row.
+///
+/// The file has at most 16,777,216 bytes. The first fault of the first faulty record is answered, and
+/// of a record in this order: `Rows` for the row after the 40,000th, then `Fields`, `Party`, `Key`, and
+/// `Twice`, where the party or the key stands in an earlier record. `ReadFault` says that a read failed
+/// or that more bytes came, of which it takes one; `Memory`, that an allocation was refused.
+pub fn read_keys<S: Source>(alloc: Global, source: &mut S) -> Result<KeyRows, FileFault>
+    ensures spelled { IfJudged result (IfSome (S.remaining source.old) (λ bytes. Gives itself result (key_file bytes))) }
+    ensures whole { IfJudged result (IsReadWhole FILE_LIMIT (S.remaining source.old) (S.remaining source.new)
+        (S.passed source.old) (S.passed source.new) (S.failures source.old) (S.failures source.new)) }
+    ensures cause { IfErr result (λ fault. HasCause fault FILE_LIMIT (S.passed source.old) (S.passed source.new)
+        (S.failures source.old) (S.failures source.new)) }
+    ensures bound { S.passed source.new ≤ S.passed source.old + FILE_LIMIT + 1 }
+{
+    let bytes = match read_whole(alloc, source, FILE_LIMIT) {
+        Ok(bytes) => bytes,
+        Err(fault) => return Err(fault),
+    };
+    keys_in(alloc, &bytes)
+}

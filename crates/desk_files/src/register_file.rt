@@ -1,0 +1,234 @@
+//! Register files.
+ghost use Rattle.std.specs.Prelude.{◌≡◌, ◌+◌, ◌≤◌, [], IfOk, IfErr, IfSome, IsTrue, ok_or};
+ghost use Rattle.csv.specs.Records.{fields_of};
+ghost use Rattle.desk_terms.specs.Kinds.{holder_kind_of};
+ghost use Rattle.desk_words.specs.Registers.{is_holding};
+ghost use Rattle.desk_files.specs.Faults.{Gives, IfJudged, itself};
+ghost use Rattle.desk_files.specs.Registers.{is_register_header, text_of, row_in, next_row, registered, register_file};
+ghost use Rattle.desk_files.specs.Tables.{one_record_more, one_row_more};
+ghost use Rattle.desk_files.specs.Whole.{HasCause, IsReadWhole};
+
+use crate::columns::column;
+use crate::fault::{FileFault, Why};
+use crate::number::{read_number, within};
+use crate::whole::{FILE_LIMIT, read_whole};
+use csv::{ByteRecord, ReaderBuilder};
+use desk_devices::Source;
+use desk_words::{
+    HolderKind, ListFault, MOST_SHARES, Party, Register, RegisterRow, Text, TextFault, read_party,
+};
+use std::alloc::Global;
+use std::collections::BTreeSet;
+use std::marker::Model;
+
+fn is_register_header(fields: &ByteRecord) -> bool
+    ensures { result ≡ is_register_header (fields_of fields.now) }
+{
+    fields.len() == 5
+        && column(fields, 0) == b"member".as_slice()
+        && column(fields, 1) == b"kind".as_slice()
+        && column(fields, 2) == b"name".as_slice()
+        && column(fields, 3) == b"shares".as_slice()
+        && column(fields, 4) == b"paid".as_slice()
+}
+
+fn read_kind(bytes: &[u8]) -> Option<HolderKind>
+    ensures { result ≡ holder_kind_of bytes.now }
+{
+    match str::from_utf8(bytes) {
+        Ok(word) => HolderKind::of_word(word),
+        Err(_) => None,
+    }
+}
+
+fn read_text(alloc: Global, line: u64, bytes: &[u8]) -> Result<Text, FileFault>
+    ensures { Gives itself result (ok_or (text_of bytes.now) (FileFault.BadRow line Why.Name)) }
+{
+    match Text::new(alloc, bytes) {
+        Ok(text) => Ok(text),
+        Err(TextFault::Form) => Err(FileFault::BadRow {
+            line,
+            why: Why::Name,
+        }),
+        Err(TextFault::Memory) => Err(FileFault::Memory),
+    }
+}
+
+/// The row that a record spells by itself.
+#[tactic(auto, unfolding(crate::specs::Registers::row_in))]
+fn row_in(alloc: Global, line: u64, fields: &ByteRecord) -> Result<RegisterRow, FileFault>
+    ensures row { Gives itself result (row_in line (fields_of fields.now)) }
+    ensures holding { IfOk result (λ row. IsTrue (is_holding row)) }
+{
+    let bad = |why| FileFault::BadRow { line, why };
+    if fields.len() != 5 {
+        return Err(bad(Why::Fields));
+    }
+    let member = read_party(column(fields, 0)).ok_or(bad(Why::Member))?;
+    let kind = read_kind(column(fields, 1)).ok_or(bad(Why::Kind))?;
+    let name = read_text(alloc, line, column(fields, 2))?;
+    let shares = within(1, 1_000_000_000_000, read_number(column(fields, 3))).ok_or(bad(
+        Why::Shares,
+    ))?;
+    let paid = within(0, 1_000_000, read_number(column(fields, 4))).ok_or(bad(Why::Paid))?;
+    Ok(RegisterRow {
+        member,
+        kind,
+        name,
+        shares,
+        paid,
+    })
+}
+
+/// The rows of a register so far, the members that they name, and all their shares.
+#[derive(Drop)]
+struct RowsSoFar {
+    rows: Vec<RegisterRow>,
+    members: BTreeSet<Party>,
+    total: u64,
+}
+
+impl Model for RowsSoFar {
+    ghost use Rattle.std.specs.Prelude.{List};
+    ghost use Rattle.desk_words.specs.declared.records.RegisterRow.{RegisterRow};
+    ghost use Rattle.desk_files.specs.Gathered.{AreRowsSoFar};
+
+    ghost Value = { List RegisterRow };
+
+    ghost view = { λ a. a.rows.items };
+
+    ghost invariant = { λ a. AreRowsSoFar a.rows.items a.members a.total };
+}
+
+impl RowsSoFar {
+    fn new(alloc: Global) -> RowsSoFar
+        ensures { result ≡ [] }
+    {
+        RowsSoFar {
+            rows: Vec::new(alloc),
+            members: BTreeSet::new(alloc),
+            total: 0,
+        }
+    }
+}
+
+/// The rows so far, and that of one record more.
+#[tactic(auto, unfolding(crate::specs::Registers::next_row))]
+fn with_row(alloc: Global, so_far: RowsSoFar, fields: &ByteRecord) -> Result<RowsSoFar, FileFault>
+    ensures { Gives itself result (one_row_more next_row so_far (fields_of fields.now)) }
+{
+    let RowsSoFar {
+        mut rows,
+        mut members,
+        total,
+    } = so_far;
+    let line = rows.len() as u64 + 2;
+    if rows.len() >= 20_000 {
+        return Err(FileFault::BadRow {
+            line,
+            why: Why::Rows,
+        });
+    }
+    let row = row_in(alloc, line, fields)?;
+    if !members.insert(row.member)? {
+        return Err(FileFault::Twice { line });
+    }
+    let total = total + row.shares;
+    if total > MOST_SHARES {
+        return Err(FileFault::BadRow {
+            line,
+            why: Why::Total,
+        });
+    }
+    rows.push(row)?;
+    Ok(RowsSoFar {
+        rows,
+        members,
+        total,
+    })
+}
+
+fn one_record_more(
+    alloc: Global,
+    found: Option<RowsSoFar>,
+    fields: &ByteRecord,
+) -> Result<Option<RowsSoFar>, FileFault>
+    ensures { Gives itself result (one_record_more is_register_header next_row found (fields_of fields.now)) }
+{
+    match found {
+        None => {
+            if !is_register_header(fields) {
+                return Err(FileFault::BadRow {
+                    line: 1,
+                    why: Why::Header,
+                });
+            }
+            Ok(Some(RowsSoFar::new(alloc)))
+        }
+        Some(so_far) => Ok(Some(with_row(alloc, so_far, fields)?)),
+    }
+}
+
+fn registered(found: Option<RowsSoFar>) -> Result<Register, FileFault>
+    ensures { Gives itself result (registered found) }
+{
+    let Some(RowsSoFar { rows, .. }) = found else {
+        return Err(FileFault::BadRow {
+            line: 1,
+            why: Why::Header,
+        });
+    };
+    match Register::new(rows) {
+        Ok(register) => Ok(register),
+        Err(ListFault::Limit) => Err(FileFault::BadRow {
+            line: 1,
+            why: Why::Rows,
+        }),
+        Err(ListFault::Memory) => Err(FileFault::Memory),
+    }
+}
+
+/// The register that the bytes of a file spell, or its first fault.
+fn register_in(alloc: Global, bytes: &[u8]) -> Result<Register, FileFault>
+    ensures { Gives itself result (register_file bytes.now) }
+{
+    let reader = ReaderBuilder::new()
+        .has_headers(false)
+        .flexible(true)
+        .from_reader(alloc, bytes);
+    let mut found = None;
+    for step in reader.into_byte_records() {
+        // Over a slice no read fails, so an error is of memory.
+        let Ok(fields) = step else {
+            return Err(FileFault::Memory);
+        };
+        found = match one_record_more(alloc, found, &fields) {
+            Ok(more) => more,
+            Err(fault) => return Err(fault),
+        };
+    }
+    registered(found)
+}
+
+/// Reads the register that a file spells: a header `member,kind,name,shares,paid`, and under it a row
+/// for each holding (section 113), in the form of CSV.
+///
+/// The file has at most 16,777,216 bytes. The first fault of the first faulty record is answered, and
+/// of a record in the order of `Why`: `Rows` for the row after the 20,000th, then `Fields`, `Member`,
+/// `Kind`, `Name`, `Shares`, `Paid`, `Twice`, and `Total`. `Rows` at line 1 says that there is no row.
+/// `ReadFault` says that a read failed or that more bytes came, of which it takes one; `Memory`, that an
+/// allocation was refused.
+pub fn read_register<S: Source>(alloc: Global, source: &mut S) -> Result<Register, FileFault>
+    ensures spelled { IfJudged result (IfSome (S.remaining source.old) (λ bytes. Gives itself result (register_file bytes))) }
+    ensures whole { IfJudged result (IsReadWhole FILE_LIMIT (S.remaining source.old) (S.remaining source.new)
+        (S.passed source.old) (S.passed source.new) (S.failures source.old) (S.failures source.new)) }
+    ensures cause { IfErr result (λ fault. HasCause fault FILE_LIMIT (S.passed source.old) (S.passed source.new)
+        (S.failures source.old) (S.failures source.new)) }
+    ensures bound { S.passed source.new ≤ S.passed source.old + FILE_LIMIT + 1 }
+{
+    let bytes = match read_whole(alloc, source, FILE_LIMIT) {
+        Ok(bytes) => bytes,
+        Err(fault) => return Err(fault),
+    };
+    register_in(alloc, &bytes)
+}

@@ -1,0 +1,12 @@
+//! The papers of the office: the files that it hands in, and the results that it prints.
+#![tactic(auto)]
+
+mod number;
+mod print;
+mod state;
+mod text;
+
+pub use desk_files::{
+    DAY_FILE_LIMIT, FILE_LIMIT, FileFault, Why, read_days, read_keys, read_register,
+};
+pub use print::{PrintFault, print_results};
