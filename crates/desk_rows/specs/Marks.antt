@@ -1,0 +1,111 @@
+-- What a row of presences, demands, polls and casts means.
+use Rattle.std.specs.Prelude.{ℕ, ◌+◌, Bool, ◌&&◌, List, Option, Some, None, bytes_eq, codes, if◌then◌else◌}
+use Rattle.sqlite.specs.declared.types.Value.{Value}
+use Rattle.sqlite.specs.Order.{Row, column}
+use Rattle.desk_terms.specs.Kinds.{capacity_of, way_of}
+use Rattle.desk_terms.specs.Names.{party_of, meeting_of}
+use Rattle.desk_terms.specs.Places.{range_of}
+use Rattle.desk_words.specs.declared.records.PresenceMark.{PresenceMark}
+use Rattle.desk_words.specs.declared.records.DemandMark.{DemandMark}
+use Rattle.desk_words.specs.declared.records.Poll.{Poll}
+use Rattle.desk_words.specs.declared.records.Tally.{Tally}
+use Rattle.desk_words.specs.declared.records.Block.{Block}
+use Rattle.desk_words.specs.declared.records.CastKind.{CastKind}
+use Rattle.desk_words.specs.declared.records.CastKind.TheVariants as kind
+use Rattle.desk_words.specs.declared.records.CastMark.{CastMark}
+use Rattle.desk_rows.specs.declared.kept.InMeeting.{InMeeting}
+use Rattle.desk_rows.specs.Meanings.{◌>>=◌}
+use Rattle.desk_rows.specs.Columns.{spelled, spelled_of, worded_of, number_in, number_of, flag_in, moment_in, some_moment_in, is_null}
+
+-- a party that is present at a meeting: meeting, party, moment (section 318)
+unfoldable pub presence_in : Row → Option (InMeeting PresenceMark)
+presence_in cells = do
+  meeting ← spelled meeting_of cells 0
+  party ← spelled party_of cells 1
+  moment ← moment_in cells 2
+  Some (record { meeting = meeting; item = record { party = party; moment = moment } })
+
+-- a demand of a poll: meeting, resolution, party, moment (sections 321 and 329)
+unfoldable pub demand_in : Row → Option (InMeeting DemandMark)
+demand_in cells = do
+  meeting ← spelled meeting_of cells 0
+  resolution ← number_in cells 1
+  party ← spelled party_of cells 2
+  moment ← moment_in cells 3
+  Some (record { meeting = meeting; item = record { resolution = resolution; party = party; moment = moment } })
+
+-- the count in four columns, of which none is NULL
+abbrev pub tally_of : Value → Value → Value → Value → Option Tally
+tally_of a b c d = do
+  votes_for ← number_of a
+  votes_against ← number_of b
+  withheld ← number_of c
+  eligible ← number_of d
+  Some (record { votes_for = votes_for; votes_against = votes_against; withheld = withheld; eligible = eligible })
+
+-- the count that is declared, or none where the four columns are all NULL
+abbrev pub declared_of : Value → Value → Value → Value → Option (Option Tally)
+declared_of a b c d = if is_null a && is_null b && is_null c && is_null d then Some None else tally_of a b c d >>= λ tally. Some (Some tally)
+
+-- the count that is declared, in the four columns from a place on
+unfoldable pub declared_in : Row → ℕ → Option (Option Tally)
+declared_in cells at = declared_of (column cells at) (column cells (at + 1)) (column cells (at + 2)) (column cells (at + 3))
+
+-- a poll: meeting, resolution, when it was ordered, when it is to be taken, whether by the chair, when it was
+-- started and closed, and the four figures of its count (section 321)
+unfoldable pub poll_in : Row → Option (InMeeting Poll)
+poll_in cells = do
+  meeting ← spelled meeting_of cells 0
+  resolution ← number_in cells 1
+  ordered ← moment_in cells 2
+  take ← moment_in cells 3
+  chair ← flag_in cells 4
+  started ← some_moment_in cells 5
+  closed ← some_moment_in cells 6
+  declared ← declared_in cells 7
+  Some (record {
+    meeting = meeting;
+    item = record { resolution = resolution; ordered = ordered; take = take; chair = chair; started = started; closed = closed; declared = declared };
+  })
+
+-- a vote on some shares (section 322): capacity, member, first and last place, way
+abbrev pub block_of : Value → Value → Value → Value → Value → Option Block
+block_of a b c d e = do
+  capacity ← worded_of capacity_of a
+  member ← spelled_of party_of b
+  first ← number_of c
+  last ← number_of d
+  range ← range_of first last
+  way ← worded_of way_of e
+  Some (record { capacity = capacity; member = member; range = range; way = way })
+
+-- the word in the column of capacities for a vote as the voter is instructed (section 324A)
+abbrev pub instructed_word : List ℕ
+instructed_word = codes "instructed"
+
+-- whether the column has that word
+abbrev pub is_instructed : Value → Option Bool
+is_instructed value = worded_of (λ word. Some (bytes_eq word instructed_word)) value
+
+-- the vote as instructed, with the four other columns NULL
+abbrev pub as_instructed_of : Value → Value → Value → Value → Option CastKind
+as_instructed_of b c d e = if is_null b && is_null c && is_null d && is_null e then Some kind.AsInstructed else None
+
+-- what is cast: as instructed, or a vote on some shares
+abbrev pub cast_kind_of : Value → Value → Value → Value → Value → Option CastKind
+cast_kind_of a b c d e = is_instructed a >>= λ instructed.
+    if instructed then as_instructed_of b c d e else block_of a b c d e >>= λ block. Some (kind.Block block)
+
+-- what is cast, in the five columns from a place on
+unfoldable pub cast_kind_in : Row → ℕ → Option CastKind
+cast_kind_in cells at = cast_kind_of (column cells at) (column cells (at + 1)) (column cells (at + 2)) (column cells (at + 3)) (column cells (at + 4))
+
+-- a vote that is cast: meeting, resolution, voter, what is cast, moment (sections 284 and 322)
+unfoldable pub cast_in : Row → Option (InMeeting CastMark)
+cast_in cells = do
+  meeting ← spelled meeting_of cells 0
+  resolution ← number_in cells 1
+  voter ← spelled party_of cells 2
+  what ← cast_kind_in cells 3
+  moment ← moment_in cells 8
+  Some (record { meeting = meeting; item = record { resolution = resolution; voter = voter; what = what; moment = moment } })

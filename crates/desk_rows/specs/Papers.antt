@@ -1,0 +1,48 @@
+-- What a row of appointments, endings and authorities means.
+use Rattle.std.specs.Prelude.{Option, Some}
+use Rattle.sqlite.specs.Order.{Row}
+use Rattle.desk_terms.specs.Names.{party_of, meeting_of}
+use Rattle.desk_terms.specs.Places.{range_of}
+use Rattle.desk_words.specs.declared.records.Appointment.{Appointment}
+use Rattle.desk_words.specs.declared.records.Ending.{Ending}
+use Rattle.desk_words.specs.declared.records.Authority.{Authority}
+use Rattle.desk_rows.specs.declared.kept.InMeeting.{InMeeting}
+use Rattle.desk_rows.specs.Meanings.{◌>>=◌}
+use Rattle.desk_rows.specs.Columns.{spelled, number_in, moment_in}
+use Rattle.desk_rows.specs.Instructions.{instructions_of}
+
+-- an appointment of a proxy: meeting, member, number, proxy, first and last place, instructions, moment
+-- (section 324)
+unfoldable pub appointment_in : Row → Option (InMeeting Appointment)
+appointment_in cells = do
+  meeting ← spelled meeting_of cells 0
+  member ← spelled party_of cells 1
+  number ← number_in cells 2
+  proxy ← spelled party_of cells 3
+  first ← number_in cells 4
+  last ← number_in cells 5
+  range ← range_of first last
+  instructions ← spelled instructions_of cells 6
+  moment ← moment_in cells 7
+  Some (record {
+    meeting = meeting;
+    item = record { member = member; number = number; proxy = proxy; range = range; instructions = instructions; moment = moment };
+  })
+
+-- an ending of an appointment: meeting, member, number, moment (section 330)
+unfoldable pub ending_in : Row → Option (InMeeting Ending)
+ending_in cells = do
+  meeting ← spelled meeting_of cells 0
+  member ← spelled party_of cells 1
+  number ← number_in cells 2
+  moment ← moment_in cells 3
+  Some (record { meeting = meeting; item = record { member = member; number = number; moment = moment } })
+
+-- an authority of a representative: meeting, corporation, person, moment (section 323)
+unfoldable pub authority_in : Row → Option (InMeeting Authority)
+authority_in cells = do
+  meeting ← spelled meeting_of cells 0
+  corporation ← spelled party_of cells 1
+  person ← spelled party_of cells 2
+  moment ← moment_in cells 3
+  Some (record { meeting = meeting; item = record { corporation = corporation; person = person; moment = moment } })

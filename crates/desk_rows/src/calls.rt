@@ -1,0 +1,82 @@
+//! Rows of meetings, of their resolutions and of their registers.
+ghost use Rattle.std.specs.Prelude.{◌≡◌};
+ghost use Rattle.desk_rows.specs.Meanings.{Gives, itself};
+ghost use Rattle.desk_rows.specs.Meetings.{meeting_in, resolution_in, holding_in};
+
+use crate::column::{
+    company_in, day_in, flag_in, holder_kind_in, meeting_in, meeting_kind_in, moment_in, number_in,
+    party_in, resolution_kind_in, some_moment_in, text_in,
+};
+use crate::fault::RowFault;
+use crate::kept::{InMeeting, MeetingRow, NumberedResolution};
+use crate::list::FromRow;
+use desk_words::{RegisterRow, Resolution};
+use sqlite::Row;
+use std::alloc::Global;
+
+impl FromRow for MeetingRow {
+    ghost means = { meeting_in };
+
+    #[tactic(auto, unfolding(crate::specs::Meetings::meeting_in))]
+    fn from_row(_: Global, row: &Row) -> Result<MeetingRow, RowFault> {
+        let id = meeting_in(row, 0)?;
+        let company = company_in(row, 1)?;
+        let kind = meeting_kind_in(row, 2)?;
+        let given = day_in(row, 3)?;
+        let appointed = moment_in(row, 4)?;
+        let record_moment = moment_in(row, 5)?;
+        let loaded = flag_in(row, 6)?;
+        let opened = some_moment_in(row, 7)?;
+        Ok(MeetingRow {
+            id,
+            company,
+            kind,
+            given,
+            appointed,
+            record_moment,
+            loaded,
+            opened,
+        })
+    }
+}
+
+impl FromRow for InMeeting<NumberedResolution> {
+    ghost means = { resolution_in };
+
+    #[tactic(auto, unfolding(crate::specs::Meetings::resolution_in))]
+    fn from_row(alloc: Global, row: &Row) -> Result<InMeeting<NumberedResolution>, RowFault> {
+        let meeting = meeting_in(row, 0)?;
+        let number = number_in(row, 1)?;
+        let kind = resolution_kind_in(row, 2)?;
+        let text = text_in(alloc, row, 3)?;
+        let resolution = Resolution { kind, text };
+        Ok(InMeeting {
+            meeting,
+            item: NumberedResolution { number, resolution },
+        })
+    }
+}
+
+impl FromRow for InMeeting<RegisterRow> {
+    ghost means = { holding_in };
+
+    #[tactic(auto, unfolding(crate::specs::Meetings::holding_in))]
+    fn from_row(alloc: Global, row: &Row) -> Result<InMeeting<RegisterRow>, RowFault> {
+        let meeting = meeting_in(row, 0)?;
+        let member = party_in(row, 1)?;
+        let kind = holder_kind_in(row, 2)?;
+        let name = text_in(alloc, row, 3)?;
+        let shares = number_in(row, 4)?;
+        let paid = number_in(row, 5)?;
+        Ok(InMeeting {
+            meeting,
+            item: RegisterRow {
+                member,
+                kind,
+                name,
+                shares,
+                paid,
+            },
+        })
+    }
+}

@@ -1,0 +1,237 @@
+//! What stands in a column of a row.
+ghost use Rattle.std.specs.Prelude.{◌≡◌, ℤ, Option, Some, IfSome, ◌+ℤ◌, pos};
+ghost use Rattle.sqlite.specs.Order.{column};
+ghost use Rattle.sqlite.specs.Value.{owned};
+ghost use Rattle.desk_terms.specs.Kinds.{company_of, meeting_kind_of, resolution_kind_of, holder_kind_of, capacity_of, way_of};
+ghost use Rattle.desk_terms.specs.Names.{party_of, meeting_of, key_of};
+ghost use Rattle.desk_words.specs.Callers.{caller_of};
+ghost use Rattle.desk_rows.specs.Meanings.{Gives, itself};
+ghost use Rattle.desk_rows.specs.Columns.{bytes_of, integer_of, natural_of, string_of, flag_of, word_of, text_of, day_of, moment_of, some_moment_of, is_null, spelled, worded, number_in, flag_in, day_in, moment_in, some_moment_in};
+
+use crate::fault::RowFault;
+use desk_words::{
+    Caller, Capacity, Company, Day, HolderKind, MeetingId, MeetingKind, Moment, Party, ResKind,
+    SecretKey, Text, TextFault, Way, read_caller, read_key, read_meeting, read_party,
+};
+use sqlite::Row;
+use sqlite::types::ValueRef;
+use std::alloc::Global;
+
+/// 1970-01-01, in days since 1900-01-01.
+const UNIX_DAY: i64 = 25_567;
+
+/// 1970-01-01T00:00:00, in seconds since 1900-01-01T00:00:00.
+const UNIX_SECOND: i64 = 2_208_988_800;
+
+fn value_in(row: &Row, at: usize) -> ValueRef<'_>
+    ensures { owned result ≡ column row.now at }
+{
+    row.get_ref(at).unwrap_or(ValueRef::Null)
+}
+
+/// The bytes of the text in a column.
+pub(crate) fn bytes_in(row: &Row, at: usize) -> Result<&[u8], RowFault>
+    ensures { Gives (λ b. b.now) result (bytes_of (column row.now at)) }
+{
+    match row.get_ref(at) {
+        Ok(ValueRef::Text(bytes)) => Ok(bytes),
+        _ => Err(RowFault::Unreadable),
+    }
+}
+
+/// The whole number in a column.
+pub(crate) fn integer_in(row: &Row, at: usize) -> Result<i64, RowFault>
+    ensures { Gives itself result (integer_of (column row.now at)) }
+{
+    match row.get_ref(at) {
+        Ok(ValueRef::Int(n)) => Ok(n),
+        _ => Err(RowFault::Unreadable),
+    }
+}
+
+/// Whether a column is NULL, or there is none.
+pub(crate) fn is_null(row: &Row, at: usize) -> bool
+    ensures { result ≡ is_null (column row.now at) }
+{
+    matches!(value_in(row, at), ValueRef::Null)
+}
+
+#[tactic(auto, using(crate::proofs::ColumnLemmas::string_is, crate::proofs::ColumnLemmas::no_string))]
+fn string_of(bytes: &[u8]) -> Result<&str, RowFault>
+    ensures { Gives (λ s. s.now) result (string_of bytes.now) }
+{
+    match str::from_utf8(bytes) {
+        Ok(string) => Ok(string),
+        Err(_) => Err(RowFault::Unreadable),
+    }
+}
+
+pub(crate) fn word_in(row: &Row, at: usize) -> Result<&str, RowFault>
+    ensures { Gives (λ s. s.now) result (word_of (column row.now at)) }
+{
+    string_of(bytes_in(row, at)?)
+}
+
+fn natural_of(n: i64) -> Result<u64, RowFault>
+    ensures { Gives itself result (natural_of n) }
+{
+    u64::try_from(n).map_err(|_| RowFault::Unreadable)
+}
+
+/// The number in a column, which is not negative.
+#[tactic(auto, unfolding(crate::specs::Columns::number_in))]
+pub(crate) fn number_in(row: &Row, at: usize) -> Result<u64, RowFault>
+    ensures { Gives itself result (number_in row.now at) }
+{
+    natural_of(integer_in(row, at)?)
+}
+
+/// No or yes, which is 0 or 1.
+#[tactic(auto, unfolding(crate::specs::Columns::flag_in))]
+pub(crate) fn flag_in(row: &Row, at: usize) -> Result<bool, RowFault>
+    ensures { Gives itself result (flag_in row.now at) }
+{
+    match number_in(row, at)? {
+        0 => Ok(false),
+        1 => Ok(true),
+        _ => Err(RowFault::Unreadable),
+    }
+}
+
+fn day_of(days: i64) -> Result<Day, RowFault>
+    ensures { Gives itself result (day_of days) }
+{
+    let since_1900 = days
+        .checked_add(UNIX_DAY)
+        .and_then(|n| u32::try_from(n).ok());
+    since_1900.and_then(Day::new).ok_or(RowFault::Unreadable)
+}
+
+fn moment_of(seconds: i64) -> Result<Moment, RowFault>
+    ensures { Gives itself result (moment_of seconds) }
+{
+    let since_1900 = seconds
+        .checked_add(UNIX_SECOND)
+        .and_then(|n| u64::try_from(n).ok());
+    since_1900.and_then(Moment::new).ok_or(RowFault::Unreadable)
+}
+
+/// The day in a column.
+#[tactic(auto, unfolding(crate::specs::Columns::day_in))]
+pub(crate) fn day_in(row: &Row, at: usize) -> Result<Day, RowFault>
+    ensures { Gives itself result (day_in row.now at) }
+{
+    day_of(integer_in(row, at)?)
+}
+
+/// The moment in a column.
+#[tactic(auto, unfolding(crate::specs::Columns::moment_in))]
+pub(crate) fn moment_in(row: &Row, at: usize) -> Result<Moment, RowFault>
+    ensures { Gives itself result (moment_in row.now at) }
+{
+    moment_of(integer_in(row, at)?)
+}
+
+/// The moment in a column, or none where it is NULL.
+#[tactic(auto, unfolding(crate::specs::Columns::some_moment_in))]
+pub(crate) fn some_moment_in(row: &Row, at: usize) -> Result<Option<Moment>, RowFault>
+    ensures { Gives itself result (some_moment_in row.now at) }
+{
+    match value_in(row, at) {
+        ValueRef::Null => Ok(None),
+        ValueRef::Int(seconds) => Ok(Some(moment_of(seconds)?)),
+        _ => Err(RowFault::Unreadable),
+    }
+}
+
+/// The meeting that a column names.
+#[tactic(auto, unfolding(crate::specs::Columns::spelled))]
+pub(crate) fn meeting_in(row: &Row, at: usize) -> Result<MeetingId, RowFault>
+    ensures { Gives itself result (spelled meeting_of row.now at) }
+{
+    read_meeting(bytes_in(row, at)?).ok_or(RowFault::Unreadable)
+}
+
+/// The party that a column names.
+#[tactic(auto, unfolding(crate::specs::Columns::spelled))]
+pub(crate) fn party_in(row: &Row, at: usize) -> Result<Party, RowFault>
+    ensures { Gives itself result (spelled party_of row.now at) }
+{
+    read_party(bytes_in(row, at)?).ok_or(RowFault::Unreadable)
+}
+
+/// The caller that a column names.
+#[tactic(auto, unfolding(crate::specs::Columns::spelled))]
+pub(crate) fn caller_in(row: &Row, at: usize) -> Result<Caller, RowFault>
+    ensures { Gives itself result (spelled caller_of row.now at) }
+{
+    read_caller(bytes_in(row, at)?).ok_or(RowFault::Unreadable)
+}
+
+/// The key in a column.
+#[tactic(auto, unfolding(crate::specs::Columns::spelled))]
+pub(crate) fn key_in(row: &Row, at: usize) -> Result<SecretKey, RowFault>
+    ensures { Gives itself result (spelled key_of row.now at) }
+{
+    read_key(bytes_in(row, at)?).ok_or(RowFault::Unreadable)
+}
+
+#[tactic(auto, unfolding(crate::specs::Columns::worded))]
+pub(crate) fn company_in(row: &Row, at: usize) -> Result<Company, RowFault>
+    ensures { Gives itself result (worded company_of row.now at) }
+{
+    Company::of_word(word_in(row, at)?).ok_or(RowFault::Unreadable)
+}
+
+#[tactic(auto, unfolding(crate::specs::Columns::worded))]
+pub(crate) fn meeting_kind_in(row: &Row, at: usize) -> Result<MeetingKind, RowFault>
+    ensures { Gives itself result (worded meeting_kind_of row.now at) }
+{
+    MeetingKind::of_word(word_in(row, at)?).ok_or(RowFault::Unreadable)
+}
+
+#[tactic(auto, unfolding(crate::specs::Columns::worded))]
+pub(crate) fn resolution_kind_in(row: &Row, at: usize) -> Result<ResKind, RowFault>
+    ensures { Gives itself result (worded resolution_kind_of row.now at) }
+{
+    ResKind::of_word(word_in(row, at)?).ok_or(RowFault::Unreadable)
+}
+
+#[tactic(auto, unfolding(crate::specs::Columns::worded))]
+pub(crate) fn holder_kind_in(row: &Row, at: usize) -> Result<HolderKind, RowFault>
+    ensures { Gives itself result (worded holder_kind_of row.now at) }
+{
+    HolderKind::of_word(word_in(row, at)?).ok_or(RowFault::Unreadable)
+}
+
+#[tactic(auto, unfolding(crate::specs::Columns::worded))]
+pub(crate) fn capacity_in(row: &Row, at: usize) -> Result<Capacity, RowFault>
+    ensures { Gives itself result (worded capacity_of row.now at) }
+{
+    Capacity::of_word(word_in(row, at)?).ok_or(RowFault::Unreadable)
+}
+
+#[tactic(auto, unfolding(crate::specs::Columns::worded))]
+pub(crate) fn way_in(row: &Row, at: usize) -> Result<Way, RowFault>
+    ensures { Gives itself result (worded way_of row.now at) }
+{
+    Way::of_word(word_in(row, at)?).ok_or(RowFault::Unreadable)
+}
+
+fn text_of(alloc: Global, string: &str) -> Result<Text, RowFault>
+    ensures { Gives itself result (text_of string.now) }
+{
+    match Text::new(alloc, string.as_bytes()) {
+        Ok(text) => Ok(text),
+        Err(TextFault::Form) => Err(RowFault::Unreadable),
+        Err(TextFault::Memory) => Err(RowFault::Memory),
+    }
+}
+
+/// The text in a column.
+#[tactic(auto, unfolding(crate::specs::Columns::worded))]
+pub(crate) fn text_in(alloc: Global, row: &Row, at: usize) -> Result<Text, RowFault>
+    ensures { Gives itself result (worded text_of row.now at) }
+{
+    text_of(alloc, word_in(row, at)?)
+}

@@ -1,0 +1,38 @@
+//! The records that rows keep, where an office keeps them otherwise.
+use desk_words::{Company, Day, MeetingId, MeetingKind, Moment, Resolution};
+
+/// A record of a meeting, and the meeting.
+#[derive(Clone, Drop)]
+pub struct InMeeting<T> {
+    pub meeting: MeetingId,
+    pub item: T,
+}
+
+/// The version of a desk's tables, from 1.
+#[derive(Clone, Copy, PartialEq, Eq)]
+pub struct Version {
+    pub number: u64,
+}
+
+/// A meeting (section 307) without its resolutions, which have rows of their own.
+#[derive(Clone, Copy, PartialEq, Eq)]
+pub struct MeetingRow {
+    pub id: MeetingId,
+    pub company: Company,
+    pub kind: MeetingKind,
+    /// The day on which notice is given.
+    pub given: Day,
+    /// The appointed time.
+    pub appointed: Moment,
+    /// The moment as of which the register is taken.
+    pub record_moment: Moment,
+    pub loaded: bool,
+    pub opened: Option<Moment>,
+}
+
+/// A resolution (section 283(6)), and its number in its meeting, from 1.
+#[derive(Clone, Drop)]
+pub struct NumberedResolution {
+    pub number: u64,
+    pub resolution: Resolution,
+}

@@ -1,0 +1,166 @@
+//! Rows of presences, demands, polls and casts.
+ghost use Rattle.std.specs.Prelude.{◌≡◌};
+ghost use Rattle.sqlite.specs.Order.{column};
+ghost use Rattle.desk_rows.specs.Meanings.{Gives, itself};
+ghost use Rattle.desk_rows.specs.Marks.{presence_in, demand_in, tally_of, declared_in, poll_in, block_of, is_instructed, cast_kind_in, cast_in};
+
+use crate::column::{
+    capacity_in, flag_in, is_null, meeting_in, moment_in, number_in, party_in, some_moment_in,
+    way_in, word_in,
+};
+use crate::fault::RowFault;
+use crate::kept::InMeeting;
+use crate::list::FromRow;
+use crate::papers::range_of;
+use desk_words::{Block, CastKind, CastMark, DemandMark, Poll, PresenceMark, Tally};
+use sqlite::Row;
+use std::alloc::Global;
+
+impl FromRow for InMeeting<PresenceMark> {
+    ghost means = { presence_in };
+
+    #[tactic(auto, unfolding(crate::specs::Marks::presence_in))]
+    fn from_row(_: Global, row: &Row) -> Result<InMeeting<PresenceMark>, RowFault> {
+        let meeting = meeting_in(row, 0)?;
+        let party = party_in(row, 1)?;
+        let moment = moment_in(row, 2)?;
+        Ok(InMeeting {
+            meeting,
+            item: PresenceMark { party, moment },
+        })
+    }
+}
+
+impl FromRow for InMeeting<DemandMark> {
+    ghost means = { demand_in };
+
+    #[tactic(auto, unfolding(crate::specs::Marks::demand_in))]
+    fn from_row(_: Global, row: &Row) -> Result<InMeeting<DemandMark>, RowFault> {
+        let meeting = meeting_in(row, 0)?;
+        let resolution = number_in(row, 1)?;
+        let party = party_in(row, 2)?;
+        let moment = moment_in(row, 3)?;
+        Ok(InMeeting {
+            meeting,
+            item: DemandMark {
+                resolution,
+                party,
+                moment,
+            },
+        })
+    }
+}
+
+#[tactic(auto, unfolding(crate::specs::Columns::number_in))]
+fn tally_in(row: &Row) -> Result<Tally, RowFault>
+    ensures { Gives itself result (tally_of (column row.now 7) (column row.now 8) (column row.now 9) (column row.now 10)) }
+{
+    let votes_for = number_in(row, 7)?;
+    let votes_against = number_in(row, 8)?;
+    let withheld = number_in(row, 9)?;
+    let eligible = number_in(row, 10)?;
+    Ok(Tally {
+        votes_for,
+        votes_against,
+        withheld,
+        eligible,
+    })
+}
+
+#[tactic(auto, unfolding(crate::specs::Marks::declared_in))]
+fn declared_in(row: &Row) -> Result<Option<Tally>, RowFault>
+    ensures { Gives itself result (declared_in row.now 7) }
+{
+    if is_null(row, 7) && is_null(row, 8) && is_null(row, 9) && is_null(row, 10) {
+        return Ok(None);
+    }
+    Ok(Some(tally_in(row)?))
+}
+
+impl FromRow for InMeeting<Poll> {
+    ghost means = { poll_in };
+
+    #[tactic(auto, unfolding(crate::specs::Marks::poll_in))]
+    fn from_row(_: Global, row: &Row) -> Result<InMeeting<Poll>, RowFault> {
+        let meeting = meeting_in(row, 0)?;
+        let resolution = number_in(row, 1)?;
+        let ordered = moment_in(row, 2)?;
+        let take = moment_in(row, 3)?;
+        let chair = flag_in(row, 4)?;
+        let started = some_moment_in(row, 5)?;
+        let closed = some_moment_in(row, 6)?;
+        let declared = declared_in(row)?;
+        Ok(InMeeting {
+            meeting,
+            item: Poll {
+                resolution,
+                ordered,
+                take,
+                chair,
+                started,
+                closed,
+                declared,
+            },
+        })
+    }
+}
+
+#[tactic(auto, unfolding(crate::specs::Columns::number_in, crate::specs::Columns::spelled, crate::specs::Columns::worded))]
+fn block_in(row: &Row) -> Result<Block, RowFault>
+    ensures { Gives itself result (block_of (column row.now 3) (column row.now 4) (column row.now 5) (column row.now 6) (column row.now 7)) }
+{
+    let capacity = capacity_in(row, 3)?;
+    let member = party_in(row, 4)?;
+    let first = number_in(row, 5)?;
+    let last = number_in(row, 6)?;
+    let range = range_of(first, last)?;
+    let way = way_in(row, 7)?;
+    Ok(Block {
+        capacity,
+        member,
+        range,
+        way,
+    })
+}
+
+fn is_instructed(row: &Row) -> Result<bool, RowFault>
+    ensures { Gives itself result (is_instructed (column row.now 3)) }
+{
+    Ok(word_in(row, 3)? == "instructed")
+}
+
+#[tactic(auto, unfolding(crate::specs::Marks::cast_kind_in))]
+fn cast_kind_in(row: &Row) -> Result<CastKind, RowFault>
+    ensures { Gives itself result (cast_kind_in row.now 3) }
+{
+    if !is_instructed(row)? {
+        return Ok(CastKind::Block(block_in(row)?));
+    }
+    if is_null(row, 4) && is_null(row, 5) && is_null(row, 6) && is_null(row, 7) {
+        Ok(CastKind::AsInstructed)
+    } else {
+        Err(RowFault::Unreadable)
+    }
+}
+
+impl FromRow for InMeeting<CastMark> {
+    ghost means = { cast_in };
+
+    #[tactic(auto, unfolding(crate::specs::Marks::cast_in))]
+    fn from_row(_: Global, row: &Row) -> Result<InMeeting<CastMark>, RowFault> {
+        let meeting = meeting_in(row, 0)?;
+        let resolution = number_in(row, 1)?;
+        let voter = party_in(row, 2)?;
+        let what = cast_kind_in(row)?;
+        let moment = moment_in(row, 8)?;
+        Ok(InMeeting {
+            meeting,
+            item: CastMark {
+                resolution,
+                voter,
+                what,
+                moment,
+            },
+        })
+    }
+}

@@ -1,0 +1,45 @@
+//! Rows of the desk's version, the keys and the closed days.
+ghost use Rattle.std.specs.Prelude.{◌≡◌};
+ghost use Rattle.desk_rows.specs.Meanings.{Gives, itself};
+ghost use Rattle.desk_rows.specs.Office.{version_in, key_in, closed_in};
+
+use crate::column::{caller_in, day_in, key_in, number_in};
+use crate::fault::RowFault;
+use crate::kept::Version;
+use crate::list::FromRow;
+use desk_words::{Day, KeyRow};
+use sqlite::Row;
+use std::alloc::Global;
+
+impl FromRow for Version {
+    ghost means = { version_in };
+
+    #[tactic(auto, unfolding(crate::specs::Office::version_in))]
+    fn from_row(_: Global, row: &Row) -> Result<Version, RowFault> {
+        if number_in(row, 0)? != 1 {
+            return Err(RowFault::Unreadable);
+        }
+        let number = number_in(row, 1)?;
+        Ok(Version { number })
+    }
+}
+
+impl FromRow for KeyRow {
+    ghost means = { key_in };
+
+    #[tactic(auto, unfolding(crate::specs::Office::key_in))]
+    fn from_row(_: Global, row: &Row) -> Result<KeyRow, RowFault> {
+        let caller = caller_in(row, 0)?;
+        let secret = key_in(row, 1)?;
+        Ok(KeyRow { caller, secret })
+    }
+}
+
+impl FromRow for Day {
+    ghost means = { closed_in };
+
+    #[tactic(auto, unfolding(crate::specs::Office::closed_in))]
+    fn from_row(_: Global, row: &Row) -> Result<Day, RowFault> {
+        day_in(row, 0)
+    }
+}

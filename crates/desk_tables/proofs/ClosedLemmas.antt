@@ -1,0 +1,112 @@
+-- What the statements on `closed` do.
+use Rattle.std.proofs.Common.{◌≡◌, ℕ, ℤ, List, [], ◌∷◌, codes, false, Some, Ok, Err, Result, OnOk, IfOk, IfErr, IsTrue, ◌⊎◌, refl, nat_lt}
+use Rattle.sqlite.specs.declared.types.Value.TheVariants.{Null, Int}
+use Rattle.sqlite.specs.Order.{Row}
+use Rattle.sqlite.specs.Term.{Term, lit, col}
+use Rattle.sqlite.specs.Source.TheVariants.{Values}
+use Rattle.sqlite.specs.Command.TheVariants.{Insert, Select, Delete, CreateTable}
+use Rattle.sqlite.specs.Change.{created}
+use Rattle.sqlite.specs.Compile.{table_defined_by}
+use Rattle.sqlite.specs.Does.{lacks_sequence}
+use Rattle.sqlite_tied.specs.Compute.{everything}
+use Rattle.sqlite.specs.declared.error.Error.{Error}
+use Rattle.sqlite.specs.Listing.{understood, reads_listing}
+use Rattle.sqlite.specs.State.{State, ExecutesInside, Shown, IsUnchanged, FailsToQuery, IsTooLate, KeepsCommit}
+use Rattle.sqlite.proofs.Callers.{IsPlain, command_of, statement_of}
+use Rattle.desk_rows.specs.Columns.{day_of, day_in}
+use Rattle.desk_rows.specs.Office.{closed_in}
+use Rattle.desk_tables.proofs.GivenNumbers.{days_below}
+use Rattle.desk_tables.specs.Tables.{desk_schema, with_keys, with_closed, closed as table}
+use Rattle.desk_tables.specs.Contents.{closed}
+use Rattle.desk_tables.specs.Statements.{IsDesk, Empties, AddsAfter, AreEmpty, rows_of}
+use Rattle.desk_tables.proofs.Adding.{adds_numbered, means_more}
+use Rattle.desk_tables.proofs.Commits.{query_keeps}
+use Rattle.desk_tables.proofs.Deleting.{chosen}
+use Rattle.desk_tables.proofs.Emptying.{empties, leaves_rows}
+use Rattle.desk_tables.proofs.Making.{made}
+use Rattle.desk_tables.proofs.Reading.{whole, reads_whole}
+use Rattle.desk_tables.proofs.Values.{cast_null, cast_int}
+
+abbrev make_text : List ℕ
+make_text = codes "CREATE TABLE closed (day INTEGER NOT NULL PRIMARY KEY) STRICT"
+
+make_is : (command_of (understood with_keys make_text) ≡ CreateTable) × (statement_of make_text (understood with_keys make_text) ≡ make_text) × (table_defined_by make_text ≡ Ok table)
+unfolding understood everything
+make_is = (refl, refl, refl)
+
+make_plain : IsPlain (understood with_keys make_text)
+unfolding understood everything
+make_plain = (refl, refl)
+
+make_full : lacks_sequence (created with_keys table) ≡ false
+unfolding Rattle.sqlite_schema.specs.Names.same_name
+make_full = refl
+
+pub makes : (old new : State) (r : Result ℕ Error) → AreEmpty with_keys old → IsTrue old.in_transaction → ExecutesInside 0 make_text [] old new r
+    → OnOk r (AreEmpty with_closed new × IsTrue new.in_transaction)
+makes old new r = made old new with_keys make_text table r make_is.0 make_is.1 make_plain make_is.2 make_full
+
+abbrev add_text : List ℕ
+add_text = codes "INSERT INTO closed (day) VALUES (?1)"
+
+abbrev terms : List Term
+terms = col 0 0 ∷ lit Null ∷ []
+
+add_is : command_of (understood desk_schema add_text) ≡ Insert 2 (Values terms 2)
+unfolding understood everything
+add_is = refl
+
+add_plain : IsPlain (understood desk_schema add_text)
+unfolding understood everything
+add_plain = (refl, refl)
+
+means : (n : ℤ) (day : ℕ) → day_of n ≡ Some day → closed_in (Int n ∷ []) ≡ Some day
+unfolding closed_in day_in
+means n day is = is
+
+pub adds_day : (day : ℕ) (n : ℤ) → day_of n ≡ Some day → (old new : State) (r : Result ℕ Error) → IsDesk old → IsTrue old.in_transaction → ExecutesInside 0 add_text (Int n ∷ []) old new r
+    → OnOk r (AddsAfter (λ earlier. nat_lt earlier day) closed day old new)
+adds_day day n is old new (Err e) was inside h = tt
+adds_day day n is old new (Ok count) was inside h = λ records known passed.
+    let row = adds_numbered 2 (record table { tree = 4 }) terms 2 add_text (Int n ∷ []) n (Null ∷ []) add_is add_plain refl refl (rw (cast_null, cast_int n) refl) old new (Ok count) was inside
+    (days_below (old.now.trees 4) records n day (was.rising 4 refl) is known passed) h in
+    means_more closed (Null ∷ []) day old new row.0 (rw row.1 (means n day is))
+
+abbrev all_text : List ℕ
+all_text = codes "SELECT day FROM closed ORDER BY day"
+
+abbrev shows : List Term
+shows = col 1 0 ∷ []
+
+abbrev names : List (List ℕ)
+names = codes "day" ∷ []
+
+all_is : (command_of (understood desk_schema all_text) ≡ Select (record { lets = []; body = whole 4 shows }) names) × (reads_listing desk_schema all_text ≡ false)
+unfolding understood everything
+all_is = (refl, refl)
+
+all_plain : IsPlain (understood desk_schema all_text)
+unfolding understood everything
+all_plain = (refl, refl)
+
+pub reads : {V : Type 0} (items : V → List Row) (old new : State) (r : Result V Error) → IsDesk old → IfOk r (λ v. Shown all_text [] old new (items v))
+    → IfOk r (λ v. (items v ≡ rows_of closed old.now.trees) × IsUnchanged old new)
+reads items = reads_whole items closed shows names all_text all_is.0 all_plain all_is.1 refl refl (λ row. refl)
+
+pub reads_keeps : {V : Type 0} (items : V → List Row) (old new : State) (r : Result V Error) → IsDesk old → IfOk r (λ v. Shown all_text [] old new (items v))
+    → IfErr r (λ e. FailsToQuery all_text [] old new e ⊎ IsTooLate all_text [] old new e) → KeepsCommit old new
+reads_keeps items old new r was = query_keeps items all_text [] old new desk_schema all_plain r was.schema
+
+abbrev empty_text : List ℕ
+empty_text = codes "DELETE FROM closed"
+
+empty_is : command_of (understood desk_schema empty_text) ≡ Delete 2 (record { lets = []; body = chosen 4 [] })
+unfolding understood everything
+empty_is = refl
+
+empty_plain : IsPlain (understood desk_schema empty_text)
+unfolding understood everything
+empty_plain = (refl, refl)
+
+pub empties_all : (old new : State) (r : Result ℕ Error) → IsDesk old → IsTrue old.in_transaction → ExecutesInside 0 empty_text [] old new r → OnOk r (Empties closed old new)
+empties_all old new r was inside h = empties closed old new r (leaves_rows 2 (record table { tree = 4 }) [] empty_text [] empty_is empty_plain refl refl refl old new r was inside h)

@@ -1,0 +1,156 @@
+-- What the statements on `keys` do.
+use Rattle.std.proofs.Common.{◌≡◌, ℕ, List, [], ◌∷◌, codes, false, Some, Ok, Result, OnOk, IfOk, IfErr, IsTrue, ◌⊎◌, refl, ◌∙◌, filter}
+use Rattle.sqlite.specs.declared.types.Value.TheVariants.{Null, Text}
+use Rattle.sqlite.specs.Order.{Row, column}
+use Rattle.sqlite.specs.Term.{Term, lit, col, op2}
+use Rattle.sqlite.specs.Collation.TheVariants.{Binary}
+use Rattle.sqlite_sql.specs.declared.ops.BinaryOp.TheVariants.{Compare}
+use Rattle.sqlite_sql.specs.declared.ops.CompareOp.TheVariants.{Eq}
+use Rattle.sqlite.specs.Source.TheVariants.{Values}
+use Rattle.sqlite.specs.Command.TheVariants.{Insert, Select, Delete, CreateTable}
+use Rattle.sqlite.specs.Change.{created}
+use Rattle.sqlite.specs.Compile.{table_defined_by}
+use Rattle.sqlite.specs.Does.{lacks_sequence}
+use Rattle.sqlite_tied.specs.Compute.{everything}
+use Rattle.sqlite.specs.declared.error.Error.{Error}
+use Rattle.sqlite.specs.Listing.{understood, reads_listing}
+use Rattle.sqlite.specs.State.{State, ExecutesInside, Shown, IsUnchanged, FailsToQuery, IsTooLate, KeepsCommit}
+use Rattle.sqlite.proofs.Callers.{IsPlain, command_of, statement_of}
+use Rattle.desk_words.specs.declared.caller.KeyRow.{KeyRow}
+use Rattle.desk_rows.specs.Columns.{spelled}
+use Rattle.desk_rows.specs.Office.{key_in}
+use Rattle.desk_terms.specs.Names.{key_of, same_name}
+use Rattle.desk_words.specs.Callers.{caller_of}
+use Rattle.desk_tables.specs.Tables.{desk_schema, with_desk, with_keys, keys as table}
+use Rattle.desk_tables.specs.Contents.{keys}
+use Rattle.desk_tables.specs.Statements.{IsDesk, columns_of, records_in, Adds, Empties, AreEmpty, rows_of}
+use Rattle.desk_tables.proofs.Adding.{adds_row, adds}
+use Rattle.desk_tables.proofs.Commits.{query_keeps}
+use Rattle.desk_tables.proofs.Deleting.{chosen, passes}
+use Rattle.desk_tables.proofs.Emptying.{empties, leaves_rows}
+use Rattle.desk_tables.proofs.Making.{made}
+use Rattle.desk_tables.proofs.Reading.{whole, reads_whole, sought, finds}
+use Rattle.desk_rows.specs.Meanings.{all_mean}
+use Rattle.desk_tables.proofs.Tests.{bound, option_ap, keys_tell, and_true}
+use Rattle.desk_tables.proofs.Values.{cast_null}
+
+abbrev make_text : List ℕ
+make_text = codes "CREATE TABLE keys (party TEXT NOT NULL PRIMARY KEY, secret TEXT NOT NULL UNIQUE) STRICT"
+
+make_is : (command_of (understood with_desk make_text) ≡ CreateTable) × (statement_of make_text (understood with_desk make_text) ≡ make_text) × (table_defined_by make_text ≡ Ok table)
+unfolding understood everything
+make_is = (refl, refl, refl)
+
+make_plain : IsPlain (understood with_desk make_text)
+unfolding understood everything
+make_plain = (refl, refl)
+
+make_full : lacks_sequence (created with_desk table) ≡ false
+unfolding Rattle.sqlite_schema.specs.Names.same_name
+make_full = refl
+
+pub makes : (old new : State) (r : Result ℕ Error) → AreEmpty with_desk old → IsTrue old.in_transaction → ExecutesInside 0 make_text [] old new r
+    → OnOk r (AreEmpty with_keys new × IsTrue new.in_transaction)
+makes old new r = made old new with_desk make_text table r make_is.0 make_is.1 make_plain make_is.2 make_full
+
+abbrev add_text : List ℕ
+add_text = codes "INSERT INTO keys (party, secret) VALUES (?1, ?2)"
+
+abbrev terms : List Term
+terms = lit Null ∷ col 0 0 ∷ col 0 1 ∷ []
+
+add_is : command_of (understood desk_schema add_text) ≡ Insert 1 (Values terms 3)
+unfolding understood everything
+add_is = refl
+
+add_plain : IsPlain (understood desk_schema add_text)
+unfolding understood everything
+add_plain = (refl, refl)
+
+module _ (k : KeyRow) (party : List ℕ) (secret : List ℕ) where
+  abbrev pub values : Row
+  values = Text party ∷ Text secret ∷ []
+
+  means : caller_of party ≡ Some k.caller → key_of secret ≡ Some k.secret → key_in values ≡ Some (k)
+  unfolding key_in spelled
+  means party_is secret_is = rw (party_is, secret_is) refl
+
+  pub adds_key : caller_of party ≡ Some k.caller → key_of secret ≡ Some k.secret
+      → (old new : State) (r : Result ℕ Error) → IsDesk old → IsTrue old.in_transaction → ExecutesInside 0 add_text values old new r → OnOk r (Adds keys (k) old new)
+  adds_key party_is secret_is old new r was inside h =
+      let cells = values in
+      adds keys cells (k) old new r
+      (adds_row 1 (record table { tree = 1 }) terms 3 add_text values cells add_is add_plain refl refl (rw (cast_null) refl) old new r was inside h)
+      (λ id. means party_is secret_is)
+
+abbrev all_text : List ℕ
+all_text = codes "SELECT party, secret FROM keys ORDER BY rowid"
+
+abbrev shows : List Term
+shows = col 1 1 ∷ col 1 2 ∷ []
+
+abbrev names : List (List ℕ)
+names = codes "party" ∷ codes "secret" ∷ []
+
+all_is : (command_of (understood desk_schema all_text) ≡ Select (record { lets = []; body = whole 1 shows }) names) × (reads_listing desk_schema all_text ≡ false)
+unfolding understood everything
+all_is = (refl, refl)
+
+all_plain : IsPlain (understood desk_schema all_text)
+unfolding understood everything
+all_plain = (refl, refl)
+
+pub reads : {V : Type 0} (items : V → List Row) (old new : State) (r : Result V Error) → IsDesk old → IfOk r (λ v. Shown all_text [] old new (items v))
+    → IfOk r (λ v. (items v ≡ rows_of keys old.now.trees) × IsUnchanged old new)
+reads items = reads_whole items keys shows names all_text all_is.0 all_plain all_is.1 refl refl (λ cells. refl)
+
+pub reads_keeps : {V : Type 0} (items : V → List Row) (old new : State) (r : Result V Error) → IsDesk old → IfOk r (λ v. Shown all_text [] old new (items v))
+    → IfErr r (λ e. FailsToQuery all_text [] old new e ⊎ IsTooLate all_text [] old new e) → KeepsCommit old new
+reads_keeps items old new r was = query_keeps items all_text [] old new desk_schema all_plain r was.schema
+
+abbrev empty_text : List ℕ
+empty_text = codes "DELETE FROM keys"
+
+empty_is : command_of (understood desk_schema empty_text) ≡ Delete 1 (record { lets = []; body = chosen 1 [] })
+unfolding understood everything
+empty_is = refl
+
+empty_plain : IsPlain (understood desk_schema empty_text)
+unfolding understood everything
+empty_plain = (refl, refl)
+
+pub empties_all : (old new : State) (r : Result ℕ Error) → IsDesk old → IsTrue old.in_transaction → ExecutesInside 0 empty_text [] old new r → OnOk r (Empties keys old new)
+empties_all old new r was inside h = empties keys old new r (leaves_rows 1 (record table { tree = 1 }) [] empty_text [] empty_is empty_plain refl refl refl old new r was inside h)
+
+abbrev find_text : List ℕ
+find_text = codes "SELECT party, secret FROM keys WHERE secret = ?1 ORDER BY rowid"
+
+abbrev with_secret : List Term
+with_secret = op2 (Compare Eq Binary) (col 1 2) (col 0 0) ∷ []
+
+find_is : (command_of (understood desk_schema find_text) ≡ Select (record { lets = []; body = sought 1 with_secret shows }) names) × (reads_listing desk_schema find_text ≡ false)
+unfolding understood everything
+find_is = (refl, refl)
+
+find_plain : IsPlain (understood desk_schema find_text)
+unfolding understood everything
+find_plain = (refl, refl)
+
+secret_is : (cells : Row) (x : KeyRow) → key_in cells ≡ Some x → spelled key_of cells 1 ≡ Some x.secret
+unfolding key_in
+secret_is cells x h =
+    let caller = bound (spelled caller_of cells 0) _ x h in
+    let secret = bound (spelled key_of cells 1) _ x caller.2 in
+    secret.1 ∙ option_ap (λ (y : KeyRow). y.secret) secret.2
+
+chosen_so : (s secret : List ℕ) → key_of secret ≡ Some s → (cells : Row) (x : KeyRow) → keys.means (columns_of keys cells) ≡ Some x → passes with_secret (Text secret ∷ []) cells ≡ same_name x.secret s
+unfolding spelled
+chosen_so s secret is cells x h = and_true _ ∙ keys_tell (column cells 2) secret x.secret s (secret_is (columns_of keys cells) x h) is
+
+pub finds_secret : {V : Type 0} (items : V → List Row) (s secret : List ℕ) → key_of secret ≡ Some s → (old new : State) (r : Result V Error) → IsDesk old → IfOk r (λ v. Shown find_text (Text secret ∷ []) old new (items v))
+    → IfOk r (λ v. ((was : List KeyRow) → records_in keys old.now.trees ≡ Some was → all_mean keys.means (items v) ≡ Some (filter (λ x. same_name x.secret s) was)) × IsUnchanged old new)
+finds_secret items s secret is = finds items keys with_secret shows names find_text (Text secret ∷ []) (λ x. same_name x.secret s) find_is.0 find_plain find_is.1 refl refl (λ cells. refl) (chosen_so s secret is)
+
+pub find_keeps : {V : Type 0} (items : V → List Row) (secret : List ℕ) (old new : State) (r : Result V Error) → IsDesk old → IfOk r (λ v. Shown find_text (Text secret ∷ []) old new (items v))
+    → IfErr r (λ e. FailsToQuery find_text (Text secret ∷ []) old new e ⊎ IsTooLate find_text (Text secret ∷ []) old new e) → KeepsCommit old new
+find_keeps items secret old new r was = query_keeps items find_text (Text secret ∷ []) old new desk_schema find_plain r was.schema

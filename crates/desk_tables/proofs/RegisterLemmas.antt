@@ -1,0 +1,143 @@
+-- What the statements on `register` do.
+use Rattle.std.proofs.Common.{◌≡◌, ℕ, ℤ, List, [], ◌∷◌, codes, false, Some, Ok, Result, OnOk, IfOk, IfErr, IsTrue, ◌⊎◌, refl, ◌∙◌}
+use Rattle.sqlite.specs.declared.types.Value.TheVariants.{Null, Int, Text}
+use Rattle.sqlite.specs.Order.{Row, column}
+use Rattle.sqlite.specs.Term.{Term, lit, col, op2}
+use Rattle.sqlite.specs.Collation.TheVariants.{Binary}
+use Rattle.sqlite_sql.specs.declared.ops.BinaryOp.TheVariants.{Compare}
+use Rattle.sqlite_sql.specs.declared.ops.CompareOp.TheVariants.{Eq}
+use Rattle.sqlite.specs.Source.TheVariants.{Values}
+use Rattle.sqlite.specs.Command.TheVariants.{Insert, Select, Delete, CreateTable}
+use Rattle.sqlite.specs.Change.{created}
+use Rattle.sqlite.specs.Compile.{table_defined_by}
+use Rattle.sqlite.specs.Does.{lacks_sequence}
+use Rattle.sqlite_tied.specs.Compute.{everything}
+use Rattle.sqlite.specs.declared.error.Error.{Error}
+use Rattle.sqlite.specs.Listing.{understood, reads_listing}
+use Rattle.sqlite.specs.State.{State, ExecutesInside, Shown, IsUnchanged, FailsToQuery, IsTooLate, KeepsCommit}
+use Rattle.sqlite.proofs.Callers.{IsPlain, command_of, statement_of}
+use Rattle.desk_rows.specs.declared.kept.InMeeting.{InMeeting}
+use Rattle.desk_words.specs.declared.records.RegisterRow.{RegisterRow}
+use Rattle.desk_rows.specs.Columns.{natural_of, number_in, read_word, spelled, text_of, worded}
+use Rattle.desk_rows.specs.Meetings.{holding_in}
+use Rattle.desk_terms.specs.Kinds.{holder_kind_of}
+use Rattle.desk_terms.specs.Names.{meeting_of, party_of, same_name}
+use Rattle.desk_tables.specs.Tables.{desk_schema, with_resolutions, with_register, register as table}
+use Rattle.desk_tables.specs.Contents.{register}
+use Rattle.desk_tables.specs.Statements.{IsDesk, Adds, TakesOut, columns_of, AreEmpty, rows_of}
+use Rattle.desk_tables.proofs.Adding.{adds_row, adds}
+use Rattle.desk_tables.proofs.Commits.{query_keeps}
+use Rattle.desk_tables.proofs.Deleting.{chosen, passes}
+use Rattle.desk_tables.proofs.Emptying.{takes_out, leaves_rows}
+use Rattle.desk_tables.proofs.Making.{made}
+use Rattle.desk_tables.proofs.Reading.{whole, reads_whole}
+use Rattle.desk_tables.proofs.Tests.{bound, option_ap, names_tell, and_true}
+use Rattle.desk_tables.proofs.Values.{cast_int, cast_null}
+
+abbrev make_text : List ℕ
+make_text = codes "CREATE TABLE register (meeting TEXT NOT NULL REFERENCES meetings (meeting), member TEXT NOT NULL, kind TEXT NOT NULL, name TEXT NOT NULL, shares INTEGER NOT NULL, paid INTEGER NOT NULL, PRIMARY KEY (meeting, member)) STRICT"
+
+make_is : (command_of (understood with_resolutions make_text) ≡ CreateTable) × (statement_of make_text (understood with_resolutions make_text) ≡ make_text) × (table_defined_by make_text ≡ Ok table)
+unfolding understood everything
+make_is = (refl, refl, refl)
+
+make_plain : IsPlain (understood with_resolutions make_text)
+unfolding understood everything
+make_plain = (refl, refl)
+
+make_full : lacks_sequence (created with_resolutions table) ≡ false
+unfolding Rattle.sqlite_schema.specs.Names.same_name
+make_full = refl
+
+pub makes : (old new : State) (r : Result ℕ Error) → AreEmpty with_resolutions old → IsTrue old.in_transaction → ExecutesInside 0 make_text [] old new r
+    → OnOk r (AreEmpty with_register new × IsTrue new.in_transaction)
+makes old new r = made old new with_resolutions make_text table r make_is.0 make_is.1 make_plain make_is.2 make_full
+
+abbrev add_text : List ℕ
+add_text = codes "INSERT INTO register (meeting, member, kind, name, shares, paid) VALUES (?1, ?2, ?3, ?4, ?5, ?6)"
+
+abbrev terms : List Term
+terms = lit Null ∷ col 0 0 ∷ col 0 1 ∷ col 0 2 ∷ col 0 3 ∷ col 0 4 ∷ col 0 5 ∷ []
+
+add_is : command_of (understood desk_schema add_text) ≡ Insert 6 (Values terms 7)
+unfolding understood everything
+add_is = refl
+
+add_plain : IsPlain (understood desk_schema add_text)
+unfolding understood everything
+add_plain = (refl, refl)
+
+module _ (m : List ℕ) (x : RegisterRow) (meeting : List ℕ) (member : List ℕ) (kind : List ℕ) (name : List ℕ) (shares : ℤ) (paid : ℤ) where
+  abbrev pub values : Row
+  values = Text meeting ∷ Text member ∷ Text kind ∷ Text name ∷ Int shares ∷ Int paid ∷ []
+
+  means : meeting_of meeting ≡ Some m → party_of member ≡ Some x.member → read_word holder_kind_of kind ≡ Some x.kind → read_word text_of name ≡ Some x.name → natural_of shares ≡ Some x.shares → natural_of paid ≡ Some x.paid → holding_in values ≡ Some (record { meeting = m; item = x })
+  unfolding holding_in number_in spelled worded
+  means meeting_is member_is kind_is name_is shares_is paid_is = rw (meeting_is, member_is, kind_is, name_is, shares_is, paid_is) refl
+
+  pub adds_register : meeting_of meeting ≡ Some m → party_of member ≡ Some x.member → read_word holder_kind_of kind ≡ Some x.kind → read_word text_of name ≡ Some x.name → natural_of shares ≡ Some x.shares → natural_of paid ≡ Some x.paid
+      → (old new : State) (r : Result ℕ Error) → IsDesk old → IsTrue old.in_transaction → ExecutesInside 0 add_text values old new r → OnOk r (Adds register (record { meeting = m; item = x }) old new)
+  adds_register meeting_is member_is kind_is name_is shares_is paid_is old new r was inside h =
+      let cells = values in
+      adds register cells (record { meeting = m; item = x }) old new r
+      (adds_row 6 (record table { tree = 10 }) terms 7 add_text values cells add_is add_plain refl refl (rw (cast_null, cast_int shares, cast_int paid) refl) old new r was inside h)
+      (λ id. means meeting_is member_is kind_is name_is shares_is paid_is)
+
+abbrev all_text : List ℕ
+all_text = codes "SELECT meeting, member, kind, name, shares, paid FROM register ORDER BY rowid"
+
+abbrev shows : List Term
+shows = col 1 1 ∷ col 1 2 ∷ col 1 3 ∷ col 1 4 ∷ col 1 5 ∷ col 1 6 ∷ []
+
+abbrev names : List (List ℕ)
+names = codes "meeting" ∷ codes "member" ∷ codes "kind" ∷ codes "name" ∷ codes "shares" ∷ codes "paid" ∷ []
+
+all_is : (command_of (understood desk_schema all_text) ≡ Select (record { lets = []; body = whole 10 shows }) names) × (reads_listing desk_schema all_text ≡ false)
+unfolding understood everything
+all_is = (refl, refl)
+
+all_plain : IsPlain (understood desk_schema all_text)
+unfolding understood everything
+all_plain = (refl, refl)
+
+pub reads : {V : Type 0} (items : V → List Row) (old new : State) (r : Result V Error) → IsDesk old → IfOk r (λ v. Shown all_text [] old new (items v))
+    → IfOk r (λ v. (items v ≡ rows_of register old.now.trees) × IsUnchanged old new)
+reads items = reads_whole items register shows names all_text all_is.0 all_plain all_is.1 refl refl (λ cells. refl)
+
+pub reads_keeps : {V : Type 0} (items : V → List Row) (old new : State) (r : Result V Error) → IsDesk old → IfOk r (λ v. Shown all_text [] old new (items v))
+    → IfErr r (λ e. FailsToQuery all_text [] old new e ⊎ IsTooLate all_text [] old new e) → KeepsCommit old new
+reads_keeps items old new r was = query_keeps items all_text [] old new desk_schema all_plain r was.schema
+
+abbrev empty_text : List ℕ
+empty_text = codes "DELETE FROM register WHERE meeting = ?1"
+
+empty_is : command_of (understood desk_schema empty_text) ≡ Delete 6 (record { lets = []; body = chosen 10 (op2 (Compare Eq Binary) (col 1 1) (col 0 0) ∷ []) })
+unfolding understood everything
+empty_is = refl
+
+empty_plain : IsPlain (understood desk_schema empty_text)
+unfolding understood everything
+empty_plain = (refl, refl)
+
+-- the meeting of a holding
+meeting_is : (cells : Row) (x : InMeeting RegisterRow) → holding_in cells ≡ Some x → spelled meeting_of cells 0 ≡ Some x.meeting
+unfolding holding_in
+meeting_is cells x h =
+    let meeting = bound (spelled meeting_of cells 0) _ x h in
+    let member = bound (spelled party_of cells 1) _ x meeting.2 in
+    let kind = bound (worded holder_kind_of cells 2) _ x member.2 in
+    let name = bound (worded text_of cells 3) _ x kind.2 in
+    let shares = bound (number_in cells 4) _ x name.2 in
+    let paid = bound (number_in cells 5) _ x shares.2 in
+    meeting.1 ∙ option_ap (λ (y : InMeeting RegisterRow). y.meeting) paid.2
+
+chosen_so : (m meeting : List ℕ) → meeting_of meeting ≡ Some m → (cells : Row) (x : InMeeting RegisterRow) → register.means (columns_of register cells) ≡ Some x
+    → passes (op2 (Compare Eq Binary) (col 1 1) (col 0 0) ∷ []) (Text meeting ∷ []) cells ≡ same_name x.meeting m
+unfolding spelled
+chosen_so m meeting is cells x h = and_true _ ∙ names_tell (column cells 1) meeting x.meeting m (meeting_is (columns_of register cells) x h) is
+
+pub empties_meeting : (m meeting : List ℕ) → meeting_of meeting ≡ Some m → (old new : State) (r : Result ℕ Error) → IsDesk old → IsTrue old.in_transaction
+    → ExecutesInside 0 empty_text (Text meeting ∷ []) old new r → OnOk r (TakesOut register (λ x. same_name x.meeting m) old new)
+empties_meeting m meeting is old new r was inside h =
+    takes_out register (passes (op2 (Compare Eq Binary) (col 1 1) (col 0 0) ∷ []) (Text meeting ∷ [])) (λ x. same_name x.meeting m) (chosen_so m meeting is) old new r
+    (leaves_rows 6 (record table { tree = 10 }) (op2 (Compare Eq Binary) (col 1 1) (col 0 0) ∷ []) empty_text (Text meeting ∷ []) empty_is empty_plain refl refl refl old new r was inside h)

@@ -1,0 +1,10 @@
+use Rattle.std.proofs.Common.{◌≡◌, w64, rules, to_z, of_z}
+use Rattle.sqlite.specs.Held.{state}
+use Rattle.desk_tables.proofs.ClosedLemmas.{adds_day}
+use Rattle.desk_tables.proofs.closed.add.Goals as goal
+
+pub returns-clause-added : goal.returns-clause-added
+returns-clause-added g c = λ clean inside desk.
+    let same : to_z w64 (of_z w64 c.day_number.result) ≡ c.day_number.result = search rules in
+    adds_day c.args.day c.day_number.result c.day_number.ensures (state g.S.Store c.args.tx.now.conn.now) (state g.S.Store c.execute.new.self.conn.now) c.execute.result desk inside
+    (rw (c.params-to_sql.ensures, same) at (c.execute.ensures.runs clean inside))

@@ -1,0 +1,10 @@
+use Rattle.sqlite.specs.Held.{state}
+use Rattle.desk_tables.proofs.KeyLemmas.{adds_key}
+use Rattle.desk_tables.proofs.keys.add.Goals as goal
+
+pub returns-clause-added : goal.returns-clause-added
+returns-clause-added g c = λ clean inside desk.
+    adds_key c.args.key.now c.caller_text.result.now c.key_text.result.now
+    c.caller_text.ensures c.key_text.ensures
+    (state g.S.Store c.args.tx.now.conn.now) (state g.S.Store c.execute.new.self.conn.now) c.execute.result desk inside
+    (rw (c.params-to_sql.ensures, c.params-to_sql-2.ensures) at (c.execute.ensures.runs clean inside))

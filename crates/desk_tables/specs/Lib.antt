@@ -1,0 +1,4 @@
+pub mod Contents
+pub mod Office
+pub mod Statements
+pub mod Tables

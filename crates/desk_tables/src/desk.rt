@@ -1,0 +1,37 @@
+//! The table `desk`: the version of the tables.
+ghost use Rattle.std.specs.Prelude.{◌≡◌, IfOk};
+ghost use Rattle.desk_tables.specs.Contents.{desk};
+ghost use Rattle.desk_tables.specs.Statements.{AddsFirst, ChangesNothing, CommitsNothing, Does, IsRead, Makes, Reads};
+ghost use Rattle.desk_tables.specs.Tables.{no_schema, with_desk};
+
+use sqlite::{Alter, Error, Row, Transaction};
+
+/// Makes the table, the first of all.
+pub fn make<S: Alter>(tx: &mut Transaction<'_, S>) -> Result<usize, Error>
+    ensures same_reference { tx.new.conn.ghost_name ≡ tx.old.conn.ghost_name }
+    ensures made { Makes S.Store tx.old.conn.now tx.new.conn.now result no_schema with_desk }
+    ensures commits { CommitsNothing S.Store tx.old.conn.now tx.new.conn.now }
+{
+    tx.execute(
+        "CREATE TABLE desk (one INTEGER NOT NULL PRIMARY KEY, version INTEGER NOT NULL) STRICT",
+        &[],
+    )
+}
+
+/// Notes that the tables are of version 1.
+pub fn add<S: Alter>(tx: &mut Transaction<'_, S>) -> Result<usize, Error>
+    ensures same_reference { tx.new.conn.ghost_name ≡ tx.old.conn.ghost_name }
+    ensures added { Does S.Store tx.old.conn.now tx.new.conn.now result (AddsFirst desk (record { number = 1 })) }
+    ensures commits { CommitsNothing S.Store tx.old.conn.now tx.new.conn.now }
+{
+    tx.execute("INSERT INTO desk (one, version) VALUES (1, 1)", &[])
+}
+
+/// The rows, of which there is one.
+pub fn all<S: Alter>(tx: &mut Transaction<'_, S>) -> Result<Vec<Row>, Error>
+    ensures same_reference { tx.new.conn.ghost_name ≡ tx.old.conn.ghost_name }
+    ensures rows { IsRead S.Store tx.old.conn.now tx.new.conn.now → IfOk result (λ rows. Reads S.Store tx.old.conn.now tx.new.conn.now desk rows.items) }
+    ensures changes { ChangesNothing S.Store tx.old.conn.now tx.new.conn.now }
+{
+    tx.query_all("SELECT one, version FROM desk ORDER BY one", &[])
+}
