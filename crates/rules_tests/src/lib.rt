@@ -13,5 +13,3 @@ mod papers;
 mod polls;
 #[cfg(test)]
 mod proxies;
-#[cfg(test)]
-mod votes;

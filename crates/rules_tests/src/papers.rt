@@ -58,10 +58,10 @@ pub(crate) fn moment(text: &str) -> Result<Moment, Fail> {
     Ok(read_moment(text.as_bytes()).ok_or("a moment")?)
 }
 
-fn row(alloc: Global, member: &str, kind: HolderKind, shares: u64) -> Result<RegisterRow, Fail> {
+fn row(alloc: Global, member: &str, shares: u64) -> Result<RegisterRow, Fail> {
     Ok(RegisterRow {
         member: party(member)?,
-        kind,
+        kind: HolderKind::Individual,
         name: Text::new(alloc, b"Ada").ok().ok_or("a text")?,
         shares,
         paid: 100,
@@ -72,15 +72,7 @@ fn row(alloc: Global, member: &str, kind: HolderKind, shares: u64) -> Result<Reg
 pub(crate) fn register(alloc: Global, holdings: &[(&str, u64)]) -> Result<Register, Fail> {
     let mut rows = Vec::new(alloc);
     for (member, shares) in holdings {
-        rows.push(row(alloc, member, HolderKind::Individual, *shares)?)?;
+        rows.push(row(alloc, member, *shares)?)?;
     }
-    Ok(Register::new(rows).ok().ok_or("a register")?)
-}
-
-/// M1, who holds so many shares, and the company itself with 40.
-pub(crate) fn one_holder(alloc: Global, kind: HolderKind, shares: u64) -> Result<Register, Fail> {
-    let mut rows = Vec::new(alloc);
-    rows.push(row(alloc, "M1", kind, shares)?)?;
-    rows.push(row(alloc, "T", HolderKind::Treasury, 40)?)?;
     Ok(Register::new(rows).ok().ok_or("a register")?)
 }

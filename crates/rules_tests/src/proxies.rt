@@ -98,7 +98,7 @@ fn the_last_appointment_governs(rt: HostRuntime) -> Result<(), Fail> {
     Ok(())
 }
 
-pub(crate) fn all_tags(appointments: &[Appointment]) -> bool
+fn all_tags(appointments: &[Appointment]) -> bool
     ensures { result ≡ are_tags appointments.now }
 {
     appointments.iter().all(|appointment| 1 <= appointment.number && appointment.number <= 256)
@@ -121,7 +121,7 @@ fn is_next(earlier: &[Appointment], appointment: &Appointment) -> bool
     appointment.number > 0 && appointment.number - 1 == count_by(earlier, appointment.member) as u64
 }
 
-pub(crate) fn all_numbered(given: &[Appointment]) -> bool
+fn all_numbered(given: &[Appointment]) -> bool
     ensures { result ≡ are_numbered_after [] given.now }
 {
     for index in 0..given.len() {
