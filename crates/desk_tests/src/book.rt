@@ -6,7 +6,7 @@ use meeting_core::Book;
 use std::alloc::Global;
 use std::test::Fail;
 
-pub(crate) const CALLING: &str =
+const CALLING: &str =
     r#"2026-06-01T09:00:00 OFFICE G1 call {"company":"private","kind":"general","given":"2026-06-01","appointed":"2026-06-18T10:00:00","record":"2026-06-16T18:00:00","resolutions":[["ordinary","Accounts"],["special","New articles"]]}"#;
 
 /// What opens the poll, and a vote of Bo.
@@ -20,7 +20,7 @@ const OPENING: [&str; 7] = [
     r#"2026-06-18T10:05:30 M2 G1 cast {"resolution":1,"as":"member","member":"M2","from":1,"to":50,"way":"against"}"#,
 ];
 
-pub(crate) fn call(alloc: Global, line: &str) -> Result<Call, Fail> {
+fn call(alloc: Global, line: &str) -> Result<Call, Fail> {
     Ok(call_of(alloc, line.as_bytes()).ok().ok_or("a call")?)
 }
 

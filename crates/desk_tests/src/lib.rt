@@ -1,5 +1,5 @@
 //! Tests of the upper crates, of what no line of a replay reaches: devices that fail, ends of an input,
-//! and the calls between the words and the program, each by itself with ample memory.
+//! the calls of a book that no replay makes, and the text of a failure of a store.
 #![tactic(auto)]
 
 #[cfg(test)]
@@ -7,10 +7,8 @@ mod book;
 #[cfg(test)]
 mod calls;
 #[cfg(test)]
-mod commands;
-#[cfg(test)]
 mod devices;
 #[cfg(test)]
-mod replies;
+mod endings;
 #[cfg(test)]
 mod script;
