@@ -1,6 +1,5 @@
 mod BodyLemmas
 mod CallLemmas
-mod DayLemmas
 mod ItemLemmas
 mod LawLemmas
 mod ReadUpTo

@@ -1,29 +1,26 @@
 -- Appointments of proxies, and their endings.
-use Rattle.std.specs.Prelude.{ℕ, nat_le, List, Option, Some, codes}
+use Rattle.std.specs.Prelude.{nat_le, List, Option, Some, codes}
 use Rattle.serde_json.specs.Data.{Data}
 use Rattle.serde_json.specs.Events.{items_len}
 use Rattle.serde_json.specs.Find.{get}
 use Rattle.desk_terms.specs.declared.kinds.Instr.{Instr}
 use Rattle.desk_terms.specs.Kinds.{instruction_of}
 use Rattle.desk_terms.specs.Names.{party_of}
+use Rattle.desk_words.specs.declared.limits.TheConstants.{MOST_RESOLUTIONS}
 use Rattle.desk_words.specs.declared.request.PartyRequest.{PartyRequest}
 use Rattle.desk_words.specs.declared.request.PartyRequest.TheVariants.{Appoint, End}
 use Rattle.desk_bodies.specs.Reads.{only, ◌>>=◌}
 use Rattle.desk_bodies.specs.Places.{has_fields, items_in, number_in, spelled, each}
 
--- the most instructions of an appointment, which are as many as the most resolutions of a meeting
-abbrev pub most_instructions : ℕ
-most_instructions = 50
-
 -- a value is the word for an instruction
 unfoldable pub instruction_at : Data → Option Instr
 instruction_at d = spelled instruction_of (Some d)
 
--- the instructions at a place: 0 to 50 words
+-- the instructions at a place: 0 to `MOST_RESOLUTIONS` words
 unfoldable pub instructions_in : Option Data → Option (List Instr)
 instructions_in place = do
   items ← items_in place
-  few ← only (nat_le (items_len items) most_instructions)
+  few ← only (nat_le (items_len items) MOST_RESOLUTIONS)
   each instruction_at items
 
 -- the appointment that a value gives (section 324): four fields, each of its form

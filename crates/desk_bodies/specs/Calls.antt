@@ -9,7 +9,8 @@ use Rattle.desk_words.specs.declared.records.Resolution.{Resolution}
 use Rattle.desk_words.specs.Seen.{MeetingName}
 use Rattle.desk_words.specs.declared.request.NewMeeting.{NewMeeting}
 use Rattle.desk_bodies.specs.Reads.{only, ◌>>=◌}
-use Rattle.desk_bodies.specs.Places.{has_fields, has_items, items_in, spelled, text_of, each}
+use Rattle.desk_terms.specs.Texts.{text_of}
+use Rattle.desk_bodies.specs.Places.{has_fields, has_items, items_in, spelled, each}
 
 -- a resolution is a pair of its kind and its text
 unfoldable pub resolution_of : Data → Option Resolution
@@ -19,7 +20,7 @@ resolution_of d = do
   text ← spelled text_of (at 1 d)
   Some (record { kind = kind; text = text })
 
--- 1 to 50 resolutions
+-- 1 to `MOST_RESOLUTIONS` resolutions
 abbrev pub counted : List Resolution → Option (List Resolution)
 counted resolutions = if are_resolutions resolutions then Some resolutions else None
 

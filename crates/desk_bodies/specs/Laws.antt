@@ -18,11 +18,16 @@ WordsReadBack = (verb : Verb) → verb_of (verb_word verb) ≡ Some verb
 -- every refusal is one of two
 abbrev pub RefusalsAreTwo : Type 0
 RefusalsAreTwo =
-    (meeting verb body : List ℕ) (refusal : Refusal) → request_of meeting verb body ≡ Err refusal → (refusal ≡ Route) ⊎ (refusal ≡ Unreadable)
+    (meeting verb body : List ℕ) (refusal : Refusal)
+    → request_of meeting verb body ≡ Err refusal
+    → (refusal ≡ Route) ⊎ (refusal ≡ Unreadable)
 
 -- what has no route has none with any other body
 abbrev pub RouteComesFirst : Type 0
-RouteComesFirst = (meeting verb body other : List ℕ) → request_of meeting verb body ≡ Err Route → request_of meeting verb other ≡ Err Route
+RouteComesFirst =
+    (meeting verb body other : List ℕ)
+    → request_of meeting verb body ≡ Err Route
+    → request_of meeting verb other ≡ Err Route
 
 -- the meeting that is called; what else is asked of the whole desk is of none
 abbrev pub meeting_called : DeskRequest → Option (List ℕ)
@@ -38,4 +43,6 @@ meeting_in (Party meeting what) = Some meeting
 -- a request is of the meeting that was named, and one of the whole desk of none
 abbrev pub RequestsKeepTheMeeting : Type 0
 RequestsKeepTheMeeting =
-    (meeting verb body : List ℕ) (request : Request) → request_of meeting verb body ≡ Ok request → meeting_of meeting ≡ meeting_in request
+    (meeting verb body : List ℕ) (request : Request)
+    → request_of meeting verb body ≡ Ok request
+    → meeting_of meeting ≡ meeting_in request

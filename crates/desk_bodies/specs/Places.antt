@@ -1,5 +1,5 @@
 -- What stands at a place in a JSON value: at a name in an object, or at an index in an array.
-use Rattle.std.specs.Prelude.{ℕ, Bool, false, bytes_eq, ◌==◌, List, [], ◌∷◌, Option, Some, None, option_map, option_and_then, if◌then◌else◌}
+use Rattle.std.specs.Prelude.{ℕ, Bool, false, bytes_eq, ◌==◌, List, [], ◌∷◌, Option, Some, None, option_map, option_and_then}
 use Rattle.std.specs.Borrow.{Bor}
 use Rattle.std.specs.Option.{option_map_or}
 use Rattle.serde_json.specs.Data.{Data, Items, no_items, item}
@@ -7,7 +7,6 @@ use Rattle.serde_json.specs.View.{view}
 use Rattle.serde_json.specs.declared.value.Value.{Value}
 use Rattle.serde_json.specs.Find.{as_number, as_u64, as_bool, as_str, as_object, as_array}
 use Rattle.serde_json.specs.Events.{members_len, items_len}
-use Rattle.desk_terms.specs.Texts.{is_plain_text}
 use Rattle.desk_bodies.specs.Reads.{only, ◌>>=◌}
 
 -- the value at a place, if there is one
@@ -41,10 +40,6 @@ items_in place = option_and_then as_array place
 -- what the string at a place spells
 unfoldable pub spelled : {A : Type 0} → (List ℕ → Option A) → Option Data → Option A
 spelled reading place = string_in place >>= reading
-
--- the text that a string is, if it has the form of one
-abbrev pub text_of : List ℕ → Option (List ℕ)
-text_of string = if is_plain_text string then Some string else None
 
 -- what each of the items is
 abbrev pub each : {A : Type 0} → (Data → Option A) → Items → Option (List A)

@@ -62,7 +62,16 @@ cast_in d = do
   from ← number_in (get (codes "from") d)
   to ← number_in (get (codes "to") d)
   way ← spelled way_of (get (codes "way") d)
-  Some (Cast (record { resolution = resolution; capacity = capacity; member = member; from = from; to = to; way = way }))
+  Some
+      (Cast
+      (record {
+        resolution = resolution;
+        capacity = capacity;
+        member = member;
+        from = from;
+        to = to;
+        way = way;
+      }))
 
 -- what is cast as instructed (section 324A)
 unfoldable pub instructed_in : Data → Option PartyRequest

@@ -10,7 +10,8 @@ use Rattle.desk_words.specs.declared.records.RegisterRow.{RegisterRow}
 use Rattle.desk_words.specs.declared.request.OfficeRequest.{OfficeRequest}
 use Rattle.desk_words.specs.declared.request.OfficeRequest.TheVariants.{LoadRegister}
 use Rattle.desk_bodies.specs.Reads.{only, ◌>>=◌}
-use Rattle.desk_bodies.specs.Places.{has_fields, has_items, items_in, number_in, spelled, text_of, each}
+use Rattle.desk_terms.specs.Texts.{text_of}
+use Rattle.desk_bodies.specs.Places.{has_fields, has_items, items_in, number_in, spelled, each}
 
 -- a row is a member, its kind, its name, its shares and what is paid up on each of them
 unfoldable pub row_of : Data → Option RegisterRow

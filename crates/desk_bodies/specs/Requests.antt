@@ -66,11 +66,19 @@ in_no_meeting meeting asking = routed (unnamed meeting) >>= λ nothing. readable
 
 -- what a verb asks, and where
 abbrev pub asked : Verb → List ℕ → List ℕ → Result Request Refusal
-asked Call meeting body = in_named meeting (λ m. option_map (λ new. request.Desk (desk.CallMeeting new)) (read_by (call_in m) body))
-asked Closed meeting body = in_no_meeting meeting (option_map (λ days. request.Desk (desk.ClosedDays days)) (read_by closed_in body))
-asked Keys meeting body = in_no_meeting meeting (option_map (λ rows. request.Desk (desk.Keys rows)) (read_by keys_in body))
-asked (Office verb) meeting body = in_named meeting (λ m. option_map (λ what. request.Office m what) (office_asks verb body))
-asked (Party verb) meeting body = in_named meeting (λ m. option_map (λ what. request.Party m what) (party_asks verb body))
+asked Call meeting body =
+    in_named meeting
+    (λ m. option_map (λ new. request.Desk (desk.CallMeeting new)) (read_by (call_in m) body))
+asked Closed meeting body =
+    in_no_meeting meeting
+    (option_map (λ days. request.Desk (desk.ClosedDays days)) (read_by closed_in body))
+asked Keys meeting body =
+    in_no_meeting meeting
+    (option_map (λ rows. request.Desk (desk.Keys rows)) (read_by keys_in body))
+asked (Office verb) meeting body =
+    in_named meeting (λ m. option_map (λ what. request.Office m what) (office_asks verb body))
+asked (Party verb) meeting body =
+    in_named meeting (λ m. option_map (λ what. request.Party m what) (party_asks verb body))
 
 -- what the bytes ask: of a verb that is listed and a meeting's name, and only then of the body
 unfoldable pub request_of : List ℕ → List ℕ → List ℕ → Result Request Refusal

@@ -4,17 +4,15 @@ ghost use Rattle.serde_json.specs.Events.{items_len};
 ghost use Rattle.serde_json.specs.View.{view, items_view};
 ghost use Rattle.desk_bodies.specs.Answers.{itself};
 ghost use Rattle.desk_bodies.specs.Reads.{Reads, only};
-ghost use Rattle.desk_bodies.specs.Appointments.{most_instructions, instruction_at, instructions_in, appoint_in, end_in};
+ghost use Rattle.desk_bodies.specs.Appointments.{instruction_at, instructions_in, appoint_in, end_in};
 ghost use Rattle.desk_bodies.specs.Places.{there, each};
 
 use crate::ask::Unread;
 use crate::place::{exactly_fields, instruction_in, items_in, number_in, party_in};
+use desk_words::limits::MOST_RESOLUTIONS;
 use desk_words::{Instr, Listing, NewAppointment, PartyRequest};
 use serde_json::Value;
 use std::alloc::Global;
-
-/// The most instructions of an appointment, which are as many as the most resolutions of a meeting.
-const MOST_INSTRUCTIONS: usize = 50;
 
 #[tactic(auto, unfolding(crate::specs::Appointments::instruction_at))]
 fn instruction(value: &Value) -> Result<Instr, Unread>
@@ -23,13 +21,14 @@ fn instruction(value: &Value) -> Result<Instr, Unread>
     instruction_in(Some(value))
 }
 
-/// Refuses more items than an appointment may have instructions.
+/// Refuses more items than an appointment may have instructions, which are as many as the most
+/// resolutions of a meeting.
 #[tactic(auto, using(crate::proofs::ItemLemmas::items_seen))]
 fn few(items: &[Value]) -> Result<(), Unread>
     ensures { Reads itself result
-        (only (nat_le (items_len (items_view items.now)) most_instructions)) }
+        (only (nat_le (items_len (items_view items.now)) MOST_RESOLUTIONS)) }
 {
-    if items.len() <= MOST_INSTRUCTIONS {
+    if items.len() <= MOST_RESOLUTIONS {
         Ok(())
     } else {
         Err(Unread::Unreadable)
@@ -57,7 +56,8 @@ fn instructions_in(alloc: Global, place: Option<&Value>) -> Result<Listing<Instr
 }
 
 /// The appointment that a value gives. It has the fields `proxy` (a party), `from` and `to`
-/// (numbers), and `instructions` (0 to 50 of the words `for`, `against`, `withheld` and `free`).
+/// (numbers), and `instructions` (0 to `MOST_RESOLUTIONS` of the words `for`, `against`, `withheld`
+/// and `free`).
 #[tactic(auto, unfolding(crate::specs::Appointments::appoint_in))]
 pub(crate) fn appoint(alloc: Global, value: &Value) -> Result<PartyRequest, Unread>
     ensures { Reads itself result (appoint_in (view value.now)) }

@@ -56,7 +56,8 @@ fn resolutions_in(alloc: Global, place: Option<&Value>) -> Result<Resolutions, U
 
 /// The meeting that a value calls. It has the fields `company` (`private` or `public`), `kind`
 /// (`annual` or `general`), `given` (the day of the notice), `appointed` and `record` (moments),
-/// and `resolutions` (1 to 50 pairs of a kind, `ordinary` or `special`, and a text).
+/// and `resolutions` (1 to `MOST_RESOLUTIONS` pairs of a kind, `ordinary` or `special`, and a
+/// text).
 #[tactic(auto, unfolding(crate::specs::Calls::call_in))]
 pub(crate) fn call(alloc: Global, meeting: MeetingId, value: &Value) -> Result<NewMeeting, Unread>
     ensures { Reads itself result (call_in meeting (view value.now)) }

@@ -2,7 +2,8 @@
 ghost use Rattle.serde_json.specs.View.{view, items_view};
 ghost use Rattle.desk_bodies.specs.Answers.{itself};
 ghost use Rattle.desk_bodies.specs.Reads.{Reads};
-ghost use Rattle.desk_bodies.specs.Days.{day_at, day_list_of, days_in, closed_in};
+ghost use Rattle.desk_bodies.specs.Days.{day_at, days_in, closed_in};
+ghost use Rattle.desk_words.specs.Lists.{day_list_of};
 ghost use Rattle.desk_bodies.specs.Places.{there, each};
 
 use crate::ask::Unread;
@@ -48,7 +49,7 @@ fn days_in(alloc: Global, place: Option<&Value>) -> Result<DayList, Unread>
 }
 
 /// The closed days that a value loads. It has the field `days`, an array of days, of which at most
-/// 2,000 are different.
+/// `MOST_CLOSED_DAYS` are different.
 #[tactic(auto, unfolding(crate::specs::Days::closed_in))]
 pub(crate) fn closed(alloc: Global, value: &Value) -> Result<DayList, Unread>
     ensures { Reads itself result (closed_in (view value.now)) }

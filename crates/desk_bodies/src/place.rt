@@ -7,7 +7,8 @@ ghost use Rattle.desk_terms.specs.Names.{key_of, party_of};
 ghost use Rattle.desk_words.specs.Callers.{caller_of};
 ghost use Rattle.desk_bodies.specs.Answers.{itself};
 ghost use Rattle.desk_bodies.specs.Reads.{Reads, only};
-ghost use Rattle.desk_bodies.specs.Places.{there, has_fields, has_items, string_in, number_in, flag_in, items_in, spelled, text_of};
+ghost use Rattle.desk_bodies.specs.Places.{there, has_fields, has_items, string_in, number_in, flag_in, items_in, spelled};
+ghost use Rattle.desk_terms.specs.Texts.{text_of};
 
 use crate::ask::Unread;
 use desk_words::{

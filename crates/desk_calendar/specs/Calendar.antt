@@ -28,9 +28,11 @@ days_of_months y (suc n) = days_of_months y n + days_in_month y (suc n)
 -- whether the calendar has this date, in the years 1900 to 2999
 abbrev pub is_date : ℕ → ℕ → ℕ → Bool
 is_date y m d =
-    nat_le 1900 y && nat_le y 2999 && nat_le 1 m && nat_le m 12 && nat_le 1 d && nat_le d (days_in_month y m)
+    nat_le 1900 y && nat_le y 2999 && nat_le 1 m && nat_le m 12 && nat_le 1 d
+    && nat_le d (days_in_month y m)
 
--- the days from 1900-01-01 to a date: of the years before it, of the months before it in its year, of its month before it
+-- the days from 1900-01-01 to a date: of the years before it, of the months before it in its year,
+-- of its month before it
 unfoldable pub day_number : ℕ → ℕ → ℕ → ℕ
 day_number y m d = days_of_years (y - 1900) + days_of_months y (m - 1) + (d - 1)
 
@@ -45,7 +47,8 @@ is_time hour minute second = nat_le hour 23 && nat_le minute 59 && nat_le second
 -- how many of the first n periods are over by a time, where the nth ends at the time `ends n`
 unfoldable pub periods_over : (ℕ → ℕ) → ℕ → ℕ → ℕ
 periods_over ends zero time = 0
-periods_over ends (suc n) time = periods_over ends n time + (if nat_le (ends (suc n)) time then 1 else 0)
+periods_over ends (suc n) time =
+    periods_over ends n time + (if nat_le (ends (suc n)) time then 1 else 0)
 
 -- the year that a day lies in: as many years from 1900 on are over by then
 abbrev pub year_of : ℕ → ℕ

@@ -13,7 +13,8 @@ fits sign byte = if sign == 48 then is_digit byte else sign == byte
 
 -- whether a text is as long as a form and fits it at each place
 abbrev pub has_form : List ℕ → List ℕ → Bool
-has_form form text = (length form == length text) && list_all (λ pair. fits pair.0 pair.1) (zip form text)
+has_form form text =
+    (length form == length text) && list_all (λ pair. fits pair.0 pair.1) (zip form text)
 
 abbrev pub day_form : List ℕ
 day_form = codes "0000-00-00"
@@ -27,7 +28,8 @@ two_digits text place = 10 * (slice_index text place - 48) + (slice_index text (
 
 -- the day of the date at the head of a text, if the calendar has it
 abbrev pub date_of : List ℕ → Option ℕ
-date_of text = civil_day (100 * two_digits text 0 + two_digits text 2) (two_digits text 5) (two_digits text 8)
+date_of text =
+    civil_day (100 * two_digits text 0 + two_digits text 2) (two_digits text 5) (two_digits text 8)
 
 -- the seconds from midnight to the time of day in a moment's text, if a clock shows it
 abbrev pub time_of : List ℕ → Option ℕ
@@ -45,7 +47,8 @@ day_of text = if has_form day_form text then date_of text else None
 unfoldable pub moment_of : List ℕ → Option ℕ
 moment_of text =
     if has_form moment_form text
-    then option_and_then (λ day. option_map (λ second. 86400 * day + second) (time_of text)) (date_of text)
+    then option_and_then (λ day. option_map (λ second. 86400 * day + second) (time_of text))
+    (date_of text)
     else None
 
 -- the two digits of a number below 100

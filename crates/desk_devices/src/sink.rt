@@ -47,7 +47,8 @@ pub fn write_all<W: Sink>(sink: &mut W, bytes: &[u8]) -> Result<(), DeviceFailed
     ensures written { OnOk result (Appends (W.contents sink.old) (W.contents sink.new) bytes.now) }
     ensures works { OnOk result (W.failures sink.new ≡ W.failures sink.old) }
     ensures failed { OnErr result (W.failures sink.new ≡ one_more (W.failures sink.old)) }
-    ensures partly { OnErr result (AppendsPrefix (W.contents sink.old) (W.contents sink.new) bytes.now) }
+    ensures partly { OnErr result
+        (AppendsPrefix (W.contents sink.old) (W.contents sink.new) bytes.now) }
 {
     let mut rest = bytes;
     while !rest.is_empty() {

@@ -51,8 +51,8 @@ impl<S: Source> Source for &mut S {
 /// Reads until the buffer is full or the source has ended, and returns how many bytes it read.
 ///
 /// An error is one failed call of the source, and says how many bytes came before it. They stand at
-/// the front of the buffer, and all others are still to come: a caller that goes on behind them loses
-/// nothing.
+/// the front of the buffer, and all others are still to come: a caller that goes on behind them
+/// loses nothing.
 pub fn read_to_fill<S: Source>(source: &mut S, buffer: &mut [u8]) -> Result<usize, FillFailed>
     // What was read, before a failure too.
     ensures bound { count_read result ≤ length buffer.new }

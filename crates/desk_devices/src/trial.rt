@@ -59,7 +59,8 @@ impl<S: Source> Source for FailAt<S> {
         ensures bound { IfOk result (λ n. n ≤ length buffer.new) }
         ensures count { IfOk result (λ n. S.passed self.new.inner ≡ S.passed self.old.inner + n) }
         ensures bytes { IfOk result
-            (λ n. Consumes (S.remaining self.old.inner) (S.remaining self.new.inner) (take n buffer.new)) }
+            (λ n. Consumes (S.remaining self.old.inner) (S.remaining self.new.inner)
+            (take n buffer.new)) }
         ensures end { IfOk result
             (λ n. n ≡ 0 → 0 < length buffer.old → IsAtEnd (S.remaining self.new.inner)) }
         ensures works { OnOk result
@@ -75,7 +76,8 @@ impl<S: Source> Source for FailAt<S> {
         // The chosen call fails, and does not reach the inner source.
         ensures fails { self.old.failing_call ≡ 1 → IsErr result }
         ensures stopped { self.old.failing_call ≡ 1 → self.new.inner ≡ self.old.inner }
-        ensures passed_on { self.old.failing_call ≢ 1 → self.new.own_failures ≡ self.old.own_failures }
+        ensures passed_on { self.old.failing_call ≢ 1
+            → self.new.own_failures ≡ self.old.own_failures }
         ensures counts_down { self.new.failing_call ≡ self.old.failing_call - 1 }
     {
         if self.count_call() {
@@ -93,7 +95,8 @@ impl<W: Sink> Sink for FailAt<W> {
     fn write(&mut self, bytes: &[u8]) -> Result<usize, DeviceFailed>
         ensures bound { IfOk result (λ n. n ≤ length bytes.now) }
         ensures written { IfOk result
-            (λ n. Appends (W.contents self.old.inner) (W.contents self.new.inner) (take n bytes.now)) }
+            (λ n. Appends (W.contents self.old.inner) (W.contents self.new.inner)
+            (take n bytes.now)) }
         ensures moves { IfOk result (λ n. 0 < length bytes.now → 0 < n) }
         ensures works { OnOk result
             (total_count self.new.own_failures (W.failures self.new.inner)
@@ -107,7 +110,8 @@ impl<W: Sink> Sink for FailAt<W> {
         // The chosen call fails, and does not reach the inner sink.
         ensures fails { self.old.failing_call ≡ 1 → IsErr result }
         ensures stopped { self.old.failing_call ≡ 1 → self.new.inner ≡ self.old.inner }
-        ensures passed_on { self.old.failing_call ≢ 1 → self.new.own_failures ≡ self.old.own_failures }
+        ensures passed_on { self.old.failing_call ≢ 1
+            → self.new.own_failures ≡ self.old.own_failures }
         ensures counts_down { self.new.failing_call ≡ self.old.failing_call - 1 }
     {
         if self.count_call() {
@@ -147,7 +151,8 @@ impl<S: Source> Source for ShortReads<S> {
         ensures bound { IfOk result (λ n. n ≤ length buffer.new) }
         ensures count { IfOk result (λ n. S.passed self.new.inner ≡ S.passed self.old.inner + n) }
         ensures bytes { IfOk result
-            (λ n. Consumes (S.remaining self.old.inner) (S.remaining self.new.inner) (take n buffer.new)) }
+            (λ n. Consumes (S.remaining self.old.inner) (S.remaining self.new.inner)
+            (take n buffer.new)) }
         ensures end { IfOk result
             (λ n. n ≡ 0 → 0 < length buffer.old → IsAtEnd (S.remaining self.new.inner)) }
         ensures works { OnOk result (S.failures self.new.inner ≡ S.failures self.old.inner) }

@@ -21,12 +21,16 @@ has_second cmp second wanted item = is_key cmp (second item) wanted
 -- the places of the items that pass, ascending
 abbrev pub places_that : {A : Type 0} → (A → Bool) → List A → List ℕ
 places_that test [] = []
-places_that test (x ∷ xs) = if test x then 0 ∷ map suc (places_that test xs) else map suc (places_that test xs)
+places_that test (x ∷ xs) =
+    if test x then 0 ∷ map suc (places_that test xs) else map suc (places_that test xs)
 
 -- the places that a map keeps for a key
 abbrev pub places_at : {K : Type 0} → (K → K → Ordering) → BTreeMap K (Vec ℕ Global) → K → List ℕ
-places_at cmp filed key = option_map_or (λ (places : Vec ℕ Global). places.items) (get cmp filed key) []
+places_at cmp filed key =
+    option_map_or (λ (places : Vec ℕ Global). places.items) (get cmp filed key) []
 
 -- the places that are kept for each key are those of the items that have it
-abbrev pub AreFiled : {T K : Type 0} → (K → K → Ordering) → (K → T → Bool) → List T → BTreeMap K (Vec ℕ Global) → Type 0
-AreFiled {T} {K} cmp has items filed = (key : K) → places_at cmp filed key ≡ places_that (has key) items
+abbrev pub AreFiled : {T K : Type 0} → (K → K → Ordering) → (K → T → Bool) → List T
+    → BTreeMap K (Vec ℕ Global) → Type 0
+AreFiled {T} {K} cmp has items filed =
+    (key : K) → places_at cmp filed key ≡ places_that (has key) items

@@ -70,9 +70,11 @@ impl<T: FiledBy> Filed<T> {
     /// The places of the items whose first key it is, in order of receipt, found in about as many
     /// steps as the number of keys has binary digits.
     pub fn places_by_first(&self, key: T::Key) -> &[usize]
-        ensures places { result.now ≡ places_that (has_first T.Key.cmp T.first_key_of key) self.now }
+        ensures places { result.now
+            ≡ places_that (has_first T.Key.cmp T.first_key_of key) self.now }
         ensures within { All (λ place. place < length self.now) result.now }
-        ensures picked { filter_map (slice_get self.now) result.now ≡ filter (has_first T.Key.cmp T.first_key_of key) self.now }
+        ensures picked { filter_map (slice_get self.now) result.now
+            ≡ filter (has_first T.Key.cmp T.first_key_of key) self.now }
     {
         places_of(&self.by_first, key)
     }
@@ -80,9 +82,11 @@ impl<T: FiledBy> Filed<T> {
     /// The places of the items whose second key it is, in order of receipt, found in about as many
     /// steps as the number of keys has binary digits.
     pub fn places_by_second(&self, key: T::Key) -> &[usize]
-        ensures places { result.now ≡ places_that (has_second T.Key.cmp T.second_key_of key) self.now }
+        ensures places { result.now
+            ≡ places_that (has_second T.Key.cmp T.second_key_of key) self.now }
         ensures within { All (λ place. place < length self.now) result.now }
-        ensures picked { filter_map (slice_get self.now) result.now ≡ filter (has_second T.Key.cmp T.second_key_of key) self.now }
+        ensures picked { filter_map (slice_get self.now) result.now
+            ≡ filter (has_second T.Key.cmp T.second_key_of key) self.now }
     {
         places_of(&self.by_second, key)
     }
@@ -98,14 +102,16 @@ impl<T: FiledBy> Filed<T> {
 impl<T: FiledBy + Copy> Filed<T> {
     /// The items whose first key it is, in order of receipt.
     pub fn by_first(&self, alloc: Global, key: T::Key) -> Result<Vec<T>, AllocError>
-        ensures { IfOk result (λ found. found.items ≡ filter (has_first T.Key.cmp T.first_key_of key) self.now) }
+        ensures { IfOk result
+            (λ found. found.items ≡ filter (has_first T.Key.cmp T.first_key_of key) self.now) }
     {
         items_at(alloc, self.as_slice(), self.places_by_first(key))
     }
 
     /// The items whose second key it is, in order of receipt.
     pub fn by_second(&self, alloc: Global, key: T::Key) -> Result<Vec<T>, AllocError>
-        ensures { IfOk result (λ found. found.items ≡ filter (has_second T.Key.cmp T.second_key_of key) self.now) }
+        ensures { IfOk result
+            (λ found. found.items ≡ filter (has_second T.Key.cmp T.second_key_of key) self.now) }
     {
         items_at(alloc, self.as_slice(), self.places_by_second(key))
     }

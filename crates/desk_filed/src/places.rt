@@ -13,8 +13,13 @@ fn file<K: Ord + Drop>(
     key: K,
     place: usize,
 ) -> Result<(), AllocError>
-    ensures ok { OnOk result ((wanted : K) → places_at K.cmp filed.new wanted ≡ places_at K.cmp filed.old wanted ++ (if is_eq (K.cmp key wanted) then place ∷ [] else [])) }
-    ensures err { OnErr result ((wanted : K) → places_at K.cmp filed.new wanted ≡ places_at K.cmp filed.old wanted) }
+    ensures ok { OnOk result
+        ((wanted : K)
+        → places_at K.cmp filed.new wanted
+        ≡ places_at K.cmp filed.old wanted
+        ++ (if is_eq (K.cmp key wanted) then place ∷ [] else [])) }
+    ensures err { OnErr result
+        ((wanted : K) → places_at K.cmp filed.new wanted ≡ places_at K.cmp filed.old wanted) }
 {
     filed.entry(key)?.or_default().push(place)?;
     Ok(())
@@ -22,8 +27,13 @@ fn file<K: Ord + Drop>(
 
 /// Takes back the last place that was kept for a key.
 fn take_back<K: Ord + Copy>(filed: &mut BTreeMap<K, Vec<usize>>, key: K)
-    ensures { (wanted : K) → places_at K.cmp filed.new wanted
-        ≡ (if is_eq (K.cmp key wanted) then take (length (places_at K.cmp filed.old wanted) - 1) (places_at K.cmp filed.old wanted) else places_at K.cmp filed.old wanted) }
+    ensures { (wanted : K)
+        → places_at K.cmp filed.new wanted
+        ≡
+        (if is_eq (K.cmp key wanted)
+        then take (length (places_at K.cmp filed.old wanted) - 1)
+        (places_at K.cmp filed.old wanted)
+        else places_at K.cmp filed.old wanted) }
 {
     if let Some(places) = filed.get_mut(&key) {
         let _ = places.pop();
@@ -39,10 +49,21 @@ pub(crate) fn file_under<K: Ord + Copy>(
     second: Option<K>,
     place: usize,
 ) -> Result<(), AllocError>
-    ensures first { OnOk result ((wanted : K) → places_at K.cmp by_first.new wanted ≡ places_at K.cmp by_first.old wanted ++ (if is_eq (K.cmp first wanted) then place ∷ [] else [])) }
-    ensures second { OnOk result ((wanted : K) → places_at K.cmp by_second.new wanted ≡ places_at K.cmp by_second.old wanted ++ (if is_key K.cmp second wanted then place ∷ [] else [])) }
-    ensures err { OnErr result ((wanted : K) → places_at K.cmp by_first.new wanted ≡ places_at K.cmp by_first.old wanted) }
-    ensures err_second { OnErr result ((wanted : K) → places_at K.cmp by_second.new wanted ≡ places_at K.cmp by_second.old wanted) }
+    ensures first { OnOk result
+        ((wanted : K)
+        → places_at K.cmp by_first.new wanted
+        ≡ places_at K.cmp by_first.old wanted
+        ++ (if is_eq (K.cmp first wanted) then place ∷ [] else [])) }
+    ensures second { OnOk result
+        ((wanted : K)
+        → places_at K.cmp by_second.new wanted
+        ≡ places_at K.cmp by_second.old wanted
+        ++ (if is_key K.cmp second wanted then place ∷ [] else [])) }
+    ensures err { OnErr result
+        ((wanted : K) → places_at K.cmp by_first.new wanted ≡ places_at K.cmp by_first.old wanted) }
+    ensures err_second { OnErr result
+        ((wanted : K)
+        → places_at K.cmp by_second.new wanted ≡ places_at K.cmp by_second.old wanted) }
 {
     file(by_first, first, place)?;
     if let Some(second) = second

@@ -9,14 +9,17 @@ use Rattle.desk_lines.specs.declared.outcome.NextLine.TheVariants.{Whole, TooLon
 use Rattle.desk_lines.specs.declared.reader.Front.{Front}
 use Rattle.desk_lines.specs.declared.reader.Front.TheVariants.{Feed, Long, Ended}
 
--- the pending bytes hold a line feed, or they begin a line that is too long, or they are the last ones
+-- the pending bytes hold a line feed, or they begin a line that is too long, or they are the last
+-- ones
 abbrev pub IsFront : Front → List ℕ → Option (List ℕ) → Type 0
 IsFront (Feed place) pending remaining = (place ≡ feed_place pending) × (place < length pending)
 IsFront Long pending remaining = (feed_place pending ≡ length pending) × (65538 ≤ length pending)
-IsFront Ended pending remaining = (feed_place pending ≡ length pending) × (length pending < 65538) × IsAtEnd remaining
+IsFront Ended pending remaining =
+    (feed_place pending ≡ length pending) × (length pending < 65538) × IsAtEnd remaining
 
 -- the reader read on, and gave nothing
-pub record ReadsOn (old new : Reading) (remaining left : Option (List ℕ)) (passed passed' : ℕ) : Type 0 where
+pub record ReadsOn (old new : Reading) (remaining left : Option (List ℕ)) (passed passed' : ℕ)
+    : Type 0 where
   pub unread_kept : Keeps (unread old.pending remaining) (unread new.pending left)
   pub counted : new.taken + passed ≡ old.taken + passed'
   pub whole : SameWhole old.taken remaining new.taken left
@@ -24,8 +27,10 @@ pub record ReadsOn (old new : Reading) (remaining left : Option (List ℕ)) (pas
 
 -- the first line of the pending bytes was given, and they lost it
 abbrev pub GivesFirst : NextLine → List ℕ → List ℕ → List ℕ → Type 0
-GivesFirst Whole old new line = (length line ≤ longest_line) × (line ≡ first_line old) × (new ≡ after_line old)
-GivesFirst TooLong old new line = (line ≡ []) × (longest_line < length (first_line old)) × (new ≡ after_line old)
+GivesFirst Whole old new line =
+    (length line ≤ longest_line) × (line ≡ first_line old) × (new ≡ after_line old)
+GivesFirst TooLong old new line =
+    (line ≡ []) × (longest_line < length (first_line old)) × (new ≡ after_line old)
 GivesFirst End old new line = ⊥
 
 -- the first line is too long, before and after, and what stands behind it is the same
@@ -34,7 +39,8 @@ pub record StaysTooLong (bytes rest : List ℕ) : Type 0 where
   pub long_after : longest_line < length (first_line rest)
   pub same_behind : after_line rest ≡ after_line bytes
 
--- the same lines are still to come: the known bytes are the same, or lost some of a first line that is too long
+-- the same lines are still to come: the known bytes are the same, or lost some of a first line that
+-- is too long
 abbrev pub SameLines : Option (List ℕ) → Option (List ℕ) → Type 0
 SameLines None new = ⊤
 SameLines (Some bytes) None = ⊥
@@ -44,7 +50,8 @@ SameLines (Some bytes) (Some rest) = (rest ≡ bytes) ⊎ StaysTooLong bytes res
 abbrev pub StaysInLine : Option (List ℕ) → Option (List ℕ) → Type 0
 StaysInLine None new = ⊤
 StaysInLine (Some bytes) None = ⊥
-StaysInLine (Some bytes) (Some rest) = (lost : List ℕ) × (bytes ≡ lost ++ rest) × (feed_place lost ≡ length lost)
+StaysInLine (Some bytes) (Some rest) =
+    (lost : List ℕ) × (bytes ≡ lost ++ rest) × (feed_place lost ≡ length lost)
 
 -- the known bytes lost their first line
 abbrev pub LosesLine : Option (List ℕ) → Option (List ℕ) → Type 0

@@ -21,21 +21,31 @@ HasFeed bytes = feed_place bytes < length bytes
 
 -- the bytes, less one carriage return at their end
 abbrev pub without_return : List ℕ → List ℕ
-without_return bytes = if slice_index bytes (length bytes - 1) == 13 then take (length bytes - 1) bytes else bytes
+without_return bytes =
+    if slice_index bytes (length bytes - 1) == 13 then take (length bytes - 1) bytes else bytes
 
--- what stands before the first line feed, less one carriage return right before it; all bytes where there is no line feed
+-- what stands before the first line feed, less one carriage return right before it; all bytes where
+-- there is no line feed
 abbrev pub first_line : List ℕ → List ℕ
-first_line bytes = if nat_lt (feed_place bytes) (length bytes) then without_return (before_first is_feed bytes) else bytes
+first_line bytes =
+    if nat_lt (feed_place bytes) (length bytes)
+    then without_return (before_first is_feed bytes)
+    else bytes
 
 -- what stands after the first line feed
 abbrev pub after_line : List ℕ → List ℕ
 after_line bytes = after_first is_feed bytes
 
--- all lines of an input, in order: its first line, and then those of what stands after it, until nothing is left
+-- all lines of an input, in order: its first line, and then those of what stands after it, until
+-- nothing is left
 abbrev pub lines_of : List ℕ → List (List ℕ)
 lines_of bytes = lines bytes
 
--- nothing has no lines, and other bytes have their first line and then the lines of what stands after it
+-- nothing has no lines, and other bytes have their first line and then the lines of what stands
+-- after it
 abbrev pub TakesLinesFromFront : Type 0
 TakesLinesFromFront =
-    (lines_of [] ≡ []) × ((bytes : List ℕ) → 0 < length bytes → lines_of bytes ≡ first_line bytes ∷ lines_of (after_line bytes))
+    (lines_of [] ≡ [])
+    ×
+    ((bytes : List ℕ) → 0 < length bytes
+    → lines_of bytes ≡ first_line bytes ∷ lines_of (after_line bytes))

@@ -17,7 +17,8 @@ longest_line = 65536
 abbrev pub longest_input : ℕ
 longest_input = 2 ^ 24
 
--- the bytes that are still to be given as lines: those that were read ahead, and then those that the source has left
+-- the bytes that are still to be given as lines: those that were read ahead, and then those that
+-- the source has left
 abbrev pub unread : List ℕ → Option (List ℕ) → Option (List ℕ)
 unread pending remaining = prepend_known pending remaining
 
@@ -25,7 +26,8 @@ unread pending remaining = prepend_known pending remaining
 abbrev pub TakesLine : Option (List ℕ) → Option (List ℕ) → (List ℕ → Type 0) → Type 0
 TakesLine None new IsGiven = ⊤
 TakesLine (Some bytes) None IsGiven = ⊥
-TakesLine (Some bytes) (Some rest) IsGiven = (0 < length bytes) × (rest ≡ after_line bytes) × IsGiven (first_line bytes)
+TakesLine (Some bytes) (Some rest) IsGiven =
+    (0 < length bytes) × (rest ≡ after_line bytes) × IsGiven (first_line bytes)
 
 -- what a call gave of the unread bytes, and the line that the reader shows after it
 abbrev pub Gives : NextLine → Option (List ℕ) → Option (List ℕ) → List ℕ → Type 0

@@ -80,18 +80,19 @@ impl LineReader {
 
     /// Takes the next line of the input from its front, and shows a whole one by `line`.
     ///
-    /// A line that is too long is passed over. An input that is too long is a fault once no
-    /// whole line is left of its first 16,777,217 bytes. Where the end of a line was read ahead,
-    /// the source is not touched. After an error the same lines are still to come: a later call goes on
-    /// where this one stood. Of a line that is too long some bytes may be lost then, and it is still
-    /// too long.
+    /// A line that is too long is passed over. An input that is too long is a fault once no whole
+    /// line is left of its first 16,777,217 bytes. Where the end of a line was read ahead, the
+    /// source is not touched. After an error the same lines are still to come: a later call goes on
+    /// where this one stood. Of a line that is too long some bytes may be lost then, and it is
+    /// still too long.
     pub fn next_line<S: Source>(&mut self, source: &mut S) -> Result<NextLine, ReadFault>
         ensures given { IfOk result (λ next. Gives next
             (unread self.old.pending (S.remaining source.old))
             (unread self.new.pending (S.remaining source.new)) self.new.line) }
         ensures works { OnOk result (S.failures source.new ≡ S.failures source.old) }
 
-        // Why it fails, and what is left then: the same lines, and no end of a line came or is pending.
+        // Why it fails, and what is left then: the same lines, and no end of a line came or is
+        // pending.
         ensures fault { IfErr result
             (λ e. HasCause e (S.failures source.old) (S.failures source.new) self.new.taken) }
         ensures same { OnErr result (SameLines
@@ -106,7 +107,8 @@ impl LineReader {
             (λ bytes. longest_input < self.old.taken + length bytes) }
 
         // What is counted.
-        ensures counted { self.new.taken + S.passed source.old ≡ self.old.taken + S.passed source.new }
+        ensures counted { self.new.taken + S.passed source.old
+            ≡ self.old.taken + S.passed source.new }
         ensures whole { SameWhole self.old.taken (S.remaining source.old)
             self.new.taken (S.remaining source.new) }
 
@@ -175,8 +177,8 @@ impl LineReader {
         self.window.pending().len() >= FRONT
     }
 
-    /// Reads until the pending bytes hold a line feed, or begin a line that is too long, or the source
-    /// has ended.
+    /// Reads until the pending bytes hold a line feed, or begin a line that is too long, or the
+    /// source has ended.
     fn read_on<S: Source>(&mut self, source: &mut S) -> Result<Front, ReadFault>
         requires { feed_place self.old.pending ≡ length self.old.pending }
         ensures front { IfOk result
@@ -276,8 +278,8 @@ impl LineReader {
         self.searched = FRONT;
     }
 
-    /// Passes over the line that is too long, up to its line feed or the end of the source. Its front
-    /// stays pending until then.
+    /// Passes over the line that is too long, up to its line feed or the end of the source. Its
+    /// front stays pending until then.
     fn skip_line<S: Source>(&mut self, source: &mut S) -> Result<(), ReadFault>
         requires long { FRONT ≤ length self.old.pending }
         requires unfed { feed_place self.old.pending ≡ length self.old.pending }
@@ -288,7 +290,8 @@ impl LineReader {
             (unread self.new.pending (S.remaining source.new))) }
         ensures unfed { OnErr result (StaysInLine (unread self.old.pending (S.remaining source.old))
             (S.remaining source.new)) }
-        ensures counted { self.new.taken + S.passed source.old ≡ self.old.taken + S.passed source.new }
+        ensures counted { self.new.taken + S.passed source.old
+            ≡ self.old.taken + S.passed source.new }
         ensures whole { SameWhole self.old.taken (S.remaining source.old)
             self.new.taken (S.remaining source.new) }
         ensures works { OnOk result (S.failures source.new ≡ S.failures source.old) }
@@ -321,7 +324,8 @@ impl LineReader {
             (unread self.new.pending (S.remaining source.new))) }
         ensures unfed { OnErr result (StaysInLine (unread self.old.pending (S.remaining source.old))
             (S.remaining source.new)) }
-        ensures counted { self.new.taken + S.passed source.old ≡ self.old.taken + S.passed source.new }
+        ensures counted { self.new.taken + S.passed source.old
+            ≡ self.old.taken + S.passed source.new }
         ensures whole { SameWhole self.old.taken (S.remaining source.old)
             self.new.taken (S.remaining source.new) }
         ensures works { OnOk result (S.failures source.new ≡ S.failures source.old) }

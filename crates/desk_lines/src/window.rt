@@ -7,8 +7,8 @@ ghost use Rattle.desk_lines.specs.Window.{Arrives};
 use desk_devices::{DeviceFailed, Source};
 use std::marker::Model;
 
-/// So many bytes with no line feed begin a line that is too long: the longest line, a carriage return
-/// and one byte more.
+/// So many bytes with no line feed begin a line that is too long: the longest line, a carriage
+/// return and one byte more.
 pub const FRONT: usize = 65_538;
 
 /// How many bytes the buffer holds: such a front, and 16,384 bytes behind it.

@@ -11,9 +11,10 @@ use Rattle.std.proofs.lemmas.List.Kept.{IsStrictlySortedBy-filter}
 use Rattle.std.proofs.lemmas.List.Sorted.{Contains-permutation, IsPermutation-sym}
 use Rattle.std.proofs.lemmas.Map.Keys.{IsDistinct-cons, IsDistinct-head, IsDistinct-tail, IsDistinct-IsPermutation, IsDistinct-from_sorted, sorted_head}
 use Rattle.std.proofs.lemmas.Map.Made.{Contains-tail}
+use Rattle.desk_lists.proofs.Booleans.{less_is}
+use Rattle.std.proofs.lemmas.Bool.{and_from, and_right, not-true, or_parts}
 use Rattle.desk_lists.specs.Lists.{change_first}
 use Rattle.desk_lists.specs.Ordered.{ascends_by, differ_by, key_before, same_key}
-use Rattle.desk_lists.proofs.Truth.{both_true, not_either, not_true, less_is}
 
 -- ---- tests of each value
 
@@ -23,7 +24,7 @@ all_weaker P Q more (x ∷ xs) all = (more x all.0, all_weaker P Q more xs all.1
 
 none_from_any : {X : Type 0} (test : X → Bool) (xs : List X) → list_any test xs ≡ false → AllByRecursion (λ x. test x ≡ false) xs
 none_from_any test [] none = tt
-none_from_any test (x ∷ xs) none = let both = not_either (test x) (list_any test xs) none in (both.0, none_from_any test xs both.1)
+none_from_any test (x ∷ xs) none = let both = or_parts (test x) (list_any test xs) none in (both.0, none_from_any test xs both.1)
 
 any_from_none : {X : Type 0} (test : X → Bool) (xs : List X) → AllByRecursion (λ x. test x ≡ false) xs → list_any test xs ≡ false
 any_from_none test [] none = refl
@@ -36,13 +37,13 @@ unfolding IsDistinct
 IsDistinct-from_differ alike [] differ = tt
 IsDistinct-from_differ alike (x ∷ xs) differ =
     IsDistinct-cons alike x xs
-    (none_from_any (alike x) xs (not_true _ (first_so (not (list_any (alike x) xs)) (differ_by alike xs) differ)))
+    (none_from_any (alike x) xs (not-true _ (first_so (not (list_any (alike x) xs)) (differ_by alike xs) differ)))
     (IsDistinct-from_differ alike xs (second_so (not (list_any (alike x) xs)) (differ_by alike xs) differ))
 
 pub differ-from_IsDistinct : {X : Type 0} (alike : X → X → Bool) (xs : List X) → IsDistinct alike xs → differ_by alike xs ≡ true
 differ-from_IsDistinct alike [] apart = refl
 differ-from_IsDistinct alike (x ∷ xs) apart =
-    both_true _ _
+    and_from _ _
     (ap not (any_from_none (alike x) xs (IsDistinct-head alike x xs apart)))
     (differ-from_IsDistinct alike xs (IsDistinct-tail alike x xs apart))
 
@@ -59,7 +60,7 @@ pub ascends-from_sorted : {X : Type 0} (order : X → X → Ordering) (xs : List
 unfolding IsStrictlySortedBy
 ascends-from_sorted order [] up = refl
 ascends-from_sorted order (x ∷ []) up = refl
-ascends-from_sorted order (x ∷ y ∷ rest) up = both_true _ _ (ap is_lt up.0.0) (ascends-from_sorted order (y ∷ rest) up.1)
+ascends-from_sorted order (x ∷ y ∷ rest) up = and_from _ _ (ap is_lt up.0.0) (ascends-from_sorted order (y ∷ rest) up.1)
 
 pub sorted-from_ascends : {X : Type 0} (order : X → X → Ordering) → IsTotalOrder order → (xs : List X) → ascends_by (λ a b. is_lt (order a b)) xs ≡ true → IsStrictlySortedBy order xs
 unfolding IsStrictlySortedBy
@@ -85,10 +86,10 @@ ascends-from_differ : {X : Type 0} (order : X → X → Ordering) → IsTotalOrd
 ascends-from_differ order total [] sorted differ = refl
 ascends-from_differ order total (x ∷ []) sorted differ = refl
 ascends-from_differ order total (x ∷ y ∷ rest) sorted differ =
-    let alone = not_true _ (first_so (not (list_any (eq_by_cmp order x) (y ∷ rest))) (differ_by (eq_by_cmp order) (y ∷ rest)) differ) in
-    let apart = not_either (eq_by_cmp order x y) (list_any (eq_by_cmp order x) rest) alone in
+    let alone = not-true _ (first_so (not (list_any (eq_by_cmp order x) (y ∷ rest))) (differ_by (eq_by_cmp order) (y ∷ rest)) differ) in
+    let apart = or_parts (eq_by_cmp order x y) (list_any (eq_by_cmp order x) rest) alone in
     let later = second_so (not (list_any (eq_by_cmp order x) (y ∷ rest))) (differ_by (eq_by_cmp order) (y ∷ rest)) differ in
-    both_true _ _
+    and_from _ _
     (less-from_apart (order x y) (order y x) (total.antisymm x y) apart.0 (sorted 0 x (omega arith) (omega arith)))
     (ascends-from_differ order total (y ∷ rest) (IsSortedBy-tail (λ a b. is_lt (order a b)) x (y ∷ rest) sorted) later)
 
@@ -101,18 +102,14 @@ ascends-from_neighbours : {X : Type 0} (before : X → X → Bool) (xs : List X)
 ascends-from_neighbours before [] each = refl
 ascends-from_neighbours before (x ∷ []) each = refl
 ascends-from_neighbours before (x ∷ y ∷ rest) each =
-    both_true _ _ (sym (each 0 x (omega arith))) (ascends-from_neighbours before (y ∷ rest) (IsAdjacent-tail before x (y ∷ rest) each))
-
-and_false : (a b : Bool) → b ≡ false → (a && b) ≡ false
-and_false true b h = h
-and_false false b h = refl
+    and_from _ _ (sym (each 0 x (omega arith))) (ascends-from_neighbours before (y ∷ rest) (IsAdjacent-tail before x (y ∷ rest) each))
 
 falls-from_neighbours : {X : Type 0} (before : X → X → Bool) (xs : List X) (k : ℕ) → k + 1 < length xs → ((d : X) → false ≡ before (get_or xs k d) (get_or xs (k + 1) d)) → ascends_by before xs ≡ false
 falls-from_neighbours before [] k within fall = absurd (omega arith)
 falls-from_neighbours before (x ∷ []) k within fall = absurd (omega arith)
 falls-from_neighbours before (x ∷ y ∷ rest) zero within fall = ap (λ b. b && ascends_by before (y ∷ rest)) (sym (fall x))
 falls-from_neighbours before (x ∷ y ∷ rest) (suc k) within fall =
-    and_false (before x y) _ (falls-from_neighbours before (y ∷ rest) k (omega arith) (λ d. rw add-one (rw add-one at (fall d))))
+    and_right (before x y) _ (falls-from_neighbours before (y ∷ rest) k (omega arith) (λ d. rw add-one (rw add-one at (fall d))))
 
 -- a test of each value and the next, up to the first that fails, tells whether the list ascends
 pub ascends-from_answer : {X : Type 0} (before : X → X → Bool) (xs : List X) (answer : Bool) → IsAllAdjacentAnswer (λ a b t. t ≡ before a b) xs answer → answer ≡ ascends_by before xs
@@ -178,19 +175,19 @@ module _ {X K : Type 0} {cmp : K → K → Ordering} (total : IsTotalOrder cmp) 
   ascends_by-take (suc zero) (x ∷ xs) up = refl
   ascends_by-take (suc (suc n)) (x ∷ []) up = refl
   ascends_by-take (suc (suc n)) (x ∷ y ∷ rest) up =
-      both_true _ _ (first_so (key_before key cmp x y) (ascends_by (key_before key cmp) (y ∷ rest)) up)
+      and_from _ _ (first_so (key_before key cmp x y) (ascends_by (key_before key cmp) (y ∷ rest)) up)
       (ascends_by-take (suc n) (y ∷ rest) (ascends_by-tail x (y ∷ rest) up))
 
   -- one value more, which comes after the last
   pub ascends_by-push : (xs : List X) (y : X) → ascends_by (key_before key cmp) xs ≡ true → IfSome (slice_get xs (length xs - 1)) (λ x. key_before key cmp x y ≡ true) → ascends_by (key_before key cmp) (xs ++ y ∷ []) ≡ true
   ascends_by-push [] y up after = refl
-  ascends_by-push (x ∷ []) y up after = both_true _ _ after refl
+  ascends_by-push (x ∷ []) y up after = and_from _ _ after refl
   ascends_by-push (x ∷ z ∷ rest) y up after =
       let P : Option X → Type 0 = λ last. IfSome last (λ w. key_before key cmp w y ≡ true) in
       let count : suc (suc (length rest)) - 1 ≡ suc (length rest) = omega arith in
       let count' : suc (length rest) - 1 ≡ length rest = omega arith in
       let after' : P (slice_get (z ∷ rest) (suc (length rest) - 1)) = subst (λ n. P (slice_get (z ∷ rest) n)) (sym count') (subst (λ n. P (slice_get (x ∷ z ∷ rest) n)) count after) in
-      both_true _ _ (first_so (key_before key cmp x z) (ascends_by (key_before key cmp) (z ∷ rest)) up)
+      and_from _ _ (first_so (key_before key cmp x z) (ascends_by (key_before key cmp) (z ∷ rest)) up)
       (ascends_by-push (z ∷ rest) y (ascends_by-tail x (z ∷ rest) up) after')
 
   -- ---- two lists in order that hold the same values

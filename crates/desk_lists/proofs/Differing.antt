@@ -1,36 +1,26 @@
 -- What adding a value, and changing the first value that passes a test, leave true of a list.
 use Rattle.std.proofs.Common.{◌≡◌, ◌+◌, Bool, true, false, not, ◌&&◌, ◌||◌, cond, List, [], ◌∷◌, ◌++◌, length, refl, ap, sym, ◌∙◌, arith}
-use Rattle.std.specs.Prelude.{Some, None, find, filter, count_by}
+use Rattle.std.specs.Prelude.{Some, find, filter, count_by}
 use Rattle.std.specs.List.{list_any, list_all}
 use Rattle.std.specs.Cmp.{first_so, second_so}
 use Rattle.std.proofs.lemmas.List.Sums.{sum_by-cons, sum_by_push}
+use Rattle.std.proofs.Math.Bool.{and-true}
+use Rattle.std.proofs.lemmas.Bool.{and_from, not-true, or_parts, or_right}
 use Rattle.desk_lists.specs.Lists.{change_first}
 use Rattle.desk_lists.specs.Ordered.{differ_by}
-use Rattle.desk_lists.proofs.Truth.{both_true, either_second, not_either, not_true}
-
-and_true : (a : Bool) → (a && true) ≡ a
-and_true true = refl
-and_true false = refl
-
--- where nothing is found, no value passes
-pub find_none : {X : Type 0} (p : X → Bool) (xs : List X) → find p xs ≡ None → list_any p xs ≡ false
-find_none p [] = λ _. refl
-find_none p (x ∷ xs) =
-    elim (p x) as (λ b. cond b (Some x) (find p xs) ≡ None → (b || list_any p xs) ≡ false)
-    [ true ↦ λ h. absurd (cc) | false ↦ λ h. find_none p xs h ]
 
 -- a value that fails the test, added at the end of values that fail it
 any_snoc : {X : Type 0} (p : X → Bool) (xs : List X) (y : X) → list_any p xs ≡ false → p y ≡ false → list_any p (xs ++ y ∷ []) ≡ false
 any_snoc p [] y h k = ap (λ b. b || false) k
-any_snoc p (x ∷ xs) y h k = let both = not_either (p x) (list_any p xs) h in ap (λ b. b || list_any p (xs ++ y ∷ [])) both.0 ∙ any_snoc p xs y both.1 k
+any_snoc p (x ∷ xs) y h k = let both = or_parts (p x) (list_any p xs) h in ap (λ b. b || list_any p (xs ++ y ∷ [])) both.0 ∙ any_snoc p xs y both.1 k
 
 -- a value that is unlike each of them may be added at the end
 pub differ_snoc : {X : Type 0} (e : X → X → Bool) (xs : List X) (y : X) → differ_by e xs ≡ true → list_any (λ x. e x y) xs ≡ false → differ_by e (xs ++ y ∷ []) ≡ true
 differ_snoc e [] y h k = refl
 differ_snoc e (x ∷ xs) y h k =
-    let both = not_either (e x y) (list_any (λ z. e z y) xs) k in
-    let alone = not_true (list_any (e x) xs) (first_so (not (list_any (e x) xs)) (differ_by e xs) h) in
-    both_true _ _ (ap not (any_snoc (e x) xs y alone both.0)) (differ_snoc e xs y (second_so (not (list_any (e x) xs)) (differ_by e xs) h) both.1)
+    let both = or_parts (e x y) (list_any (λ z. e z y) xs) k in
+    let alone = not-true (list_any (e x) xs) (first_so (not (list_any (e x) xs)) (differ_by e xs) h) in
+    and_from _ _ (ap not (any_snoc (e x) xs y alone both.0)) (differ_snoc e xs y (second_so (not (list_any (e x) xs)) (differ_by e xs) h) both.1)
 
 -- a change keeps the length
 pub length-change_first : {X : Type 0} (p : X → Bool) (f : X → X) (xs : List X) → length (change_first p f xs) ≡ length xs
@@ -44,8 +34,8 @@ pub all_changed : {X : Type 0} (q p : X → Bool) (f : X → X) (xs : List X) �
 all_changed q p f [] k = λ h. h
 all_changed q p f (x ∷ xs) k =
     elim (p x) as (λ b. (q x && list_all q xs) ≡ true → list_all q (cond b (f x ∷ xs) (x ∷ change_first p f xs)) ≡ true) [
-      | true ↦ λ h. both_true _ _ (k x (first_so (q x) (list_all q xs) h)) (second_so (q x) (list_all q xs) h)
-      | false ↦ λ h. both_true _ _ (first_so (q x) (list_all q xs) h) (all_changed q p f xs k (second_so (q x) (list_all q xs) h))
+      | true ↦ λ h. and_from _ _ (k x (first_so (q x) (list_all q xs) h)) (second_so (q x) (list_all q xs) h)
+      | false ↦ λ h. and_from _ _ (first_so (q x) (list_all q xs) h) (all_changed q p f xs k (second_so (q x) (list_all q xs) h))
     ]
 
 -- whether any passes stays so after a change that the test does not see
@@ -69,8 +59,8 @@ pub all_changed_found : {X : Type 0} (q p : X → Bool) (f : X → X) (xs : List
 all_changed_found q p f [] x h = λ found good. absurd (cc)
 all_changed_found q p f (y ∷ ys) x h =
     elim (p y) as (λ b. cond b (Some y) (find p ys) ≡ Some x → q (f x) ≡ true → list_all q (cond b (f y ∷ ys) (y ∷ change_first p f ys)) ≡ true) [
-      | true ↦ λ found good. (let same : y ≡ x = cc in both_true _ _ (ap (λ z. q (f z)) same ∙ good) (second_so (q y) (list_all q ys) h))
-      | false ↦ λ found good. both_true _ _ (first_so (q y) (list_all q ys) h) (all_changed_found q p f ys x (second_so (q y) (list_all q ys) h) found good)
+      | true ↦ λ found good. (let same : y ≡ x = cc in and_from _ _ (ap (λ z. q (f z)) same ∙ good) (second_so (q y) (list_all q ys) h))
+      | false ↦ λ found good. and_from _ _ (first_so (q y) (list_all q ys) h) (all_changed_found q p f ys x (second_so (q y) (list_all q ys) h) found good)
     ]
 
 -- where some value passes, one still does after a change that keeps what passes
@@ -80,7 +70,7 @@ any_kept q p f (x ∷ xs) k =
     elim (p x) as (λ b. (q x || list_any q xs) ≡ true → list_any q (cond b (f x ∷ xs) (x ∷ change_first p f xs)) ≡ true) [
       | true ↦ (elim (q x) as (λ c. q x ≡ c → (c || list_any q xs) ≡ true → (q (f x) || list_any q xs) ≡ true) [
         | true ↦ λ e _. ap (λ c. c || list_any q xs) (k x e)
-        | false ↦ λ e h. either_second (q (f x)) (list_any q xs) h
+        | false ↦ λ e h. or_right (q (f x)) (list_any q xs) h
       ]) refl
       | false ↦ (elim (q x) as (λ c. (c || list_any q xs) ≡ true → (c || list_any q (change_first p f xs)) ≡ true) [
         | true ↦ λ _. refl
@@ -91,7 +81,7 @@ any_kept q p f (x ∷ xs) k =
 -- what all values pass they pass by a weaker test
 pub all_weaker : {X : Type 0} (q r : X → Bool) (xs : List X) → ((x : X) → q x ≡ true → r x ≡ true) → list_all q xs ≡ true → list_all r xs ≡ true
 all_weaker q r [] k h = refl
-all_weaker q r (x ∷ xs) k h = both_true _ _ (k x (first_so (q x) (list_all q xs) h)) (all_weaker q r xs k (second_so (q x) (list_all q xs) h))
+all_weaker q r (x ∷ xs) k h = and_from _ _ (k x (first_so (q x) (list_all q xs) h)) (all_weaker q r xs k (second_so (q x) (list_all q xs) h))
 
 count_cons : {X : Type 0} (p : X → Bool) (x : X) (xs : List X) → count_by p (x ∷ xs) ≡ cond (p x) 1 0 + count_by p xs
 count_cons p x xs = sum_by-cons (λ y. cond (p y) 1 0) x xs
@@ -101,7 +91,7 @@ pub count_filter : {X : Type 0} (p q : X → Bool) (xs : List X) → count_by p 
 count_filter p q [] = refl
 count_filter p q (x ∷ xs) =
     (elim (q x) as (λ b. count_by p (cond b (x ∷ filter q xs) (filter q xs)) ≡ cond (p x && b) 1 0 + count_by (λ y. p y && q y) xs) [
-      | true ↦ count_cons p x (filter q xs) ∙ ap (λ n. cond (p x) 1 0 + n) (count_filter p q xs) ∙ ap (λ b. cond b 1 0 + count_by (λ y. p y && q y) xs) (sym (and_true (p x)))
+      | true ↦ count_cons p x (filter q xs) ∙ ap (λ n. cond (p x) 1 0 + n) (count_filter p q xs) ∙ ap (λ b. cond b 1 0 + count_by (λ y. p y && q y) xs) (sym (and-true (p x)))
       | false ↦ (elim (p x) as (λ c. count_by p (filter q xs) ≡ cond (c && false) 1 0 + count_by (λ y. p y && q y) xs)
           [ true ↦ omega (arith, count_filter p q xs) | false ↦ omega (arith, count_filter p q xs) ])
     ]) ∙ sym (count_cons (λ y. p y && q y) x xs)

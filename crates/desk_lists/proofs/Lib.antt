@@ -5,5 +5,6 @@ pub mod Finding
 pub mod Inserting
 pub mod Numbers
 pub mod Once
-pub mod Truth
+pub mod Booleans
+pub mod Kept
 pub mod SortingLemmas

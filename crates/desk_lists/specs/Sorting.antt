@@ -11,7 +11,8 @@ abbrev pub sort_by : {X : Type 0} → (X → X → Bool) → List X → List X
 sort_by before [] = []
 sort_by before (x ∷ xs) = insert_by before x (sort_by before xs)
 
--- how many values stand before the place of a value that goes before the first one that it comes before
+-- how many values stand before the place of a value that goes before the first one that it comes
+-- before
 abbrev pub place_by : {X : Type 0} → (X → X → Bool) → X → List X → ℕ
 place_by before x [] = 0
 place_by before x (y ∷ ys) = if before x y then 0 else suc (place_by before x ys)

@@ -16,7 +16,8 @@ pub fn in_order_once<T: Ord + Drop>(mut values: Vec<T>) -> Vec<T>
     ensures count { vec_len result ≡ distinct_count (eq_by_cmp T.cmp) values.items }
 
     // Where equal values are the same, as numbers and days, it holds exactly the list's.
-    ensures same_values { IsExact T.cmp → (x : T) → Contains result.items x ↔ Contains values.items x }
+    ensures same_values { IsExact T.cmp → (x : T)
+        → Contains result.items x ↔ Contains values.items x }
 {
     values.sort_unstable();
     values.dedup();

@@ -78,7 +78,8 @@ impl<T: Keyed + Drop> Listing<T> {
     /// order. With `AllocError`, where no memory is left for it, the list stays as it was and the
     /// value is dropped.
     pub fn insert_in_order(&mut self, value: T) -> Result<(), AllocError>
-        ensures ok { OnOk result (self.new ≡ insert_by (key_before T.key_of T.Key.cmp) value self.old) }
+        ensures ok { OnOk result
+            (self.new ≡ insert_by (key_before T.key_of T.Key.cmp) value self.old) }
         ensures err { OnErr result (self.new ≡ self.old) }
     {
         let place = place_for(self.as_slice(), &value);

@@ -1,4 +1,5 @@
--- Appointments of proxies as JSON. The members of an object stand in the order of the bytes of their keys.
+-- Appointments of proxies as JSON. The members of an object stand in the order of the bytes of
+-- their keys.
 use Rattle.std.specs.Prelude.{ℕ, List, [], ◌∷◌, codes}
 use Rattle.serde_json.specs.Data.{Data, string, array}
 use Rattle.serde_json.specs.View.{items_of}
@@ -26,7 +27,8 @@ use_word LaterPolls = codes "later polls only"
 abbrev pub run_data : Places → Data
 run_data run = array (items_of (whole run.from ∷ whole run.to ∷ []))
 
--- an appointment that the party gave; `received` is the moment of its receipt, and `use` what it counts for
+-- an appointment that the party gave; `received` is the moment of its receipt, and `use` what it
+-- counts for
 abbrev pub given_data : GivenUse → Data
 given_data g = with_members (
     (codes "ended", or_null moment_data g.given.ended)
@@ -46,7 +48,8 @@ poll_governed_data p = with_members (
     ∷ (codes "resolution", whole p.resolution)
     ∷ [])
 
--- an appointment that names the party; `received` is the moment of its receipt, `governs` has the places that it governs for the meeting, in runs in order, and `polls` those for each late poll
+-- an appointment that names the party; `received` is the moment of its receipt, `governs` has the
+-- places that it governs for the meeting, in runs in order, and `polls` those for each late poll
 abbrev pub received_data : Received → Data
 received_data r = with_members (
     (codes "from", whole r.range.from)
@@ -68,4 +71,5 @@ appointed_data r = with_members (
 
 -- the number of the appointment that is ended
 abbrev pub ended_data : ℕ → Data
-ended_data number = with_members ((codes "number", whole number) ∷ (codes "ok", string (codes "ended")) ∷ [])
+ended_data number =
+    with_members ((codes "number", whole number) ∷ (codes "ok", string (codes "ended")) ∷ [])

@@ -35,9 +35,18 @@ pub record RepliesAreSpelled : Type 0 where
   pub noted : reply_bytes Noted ≡ codes "{\"ok\":\"noted\"}"
   pub recorded : reply_bytes Recorded ≡ codes "{\"ok\":\"recorded\"}"
   pub declared : (d : Declaration) → reply_bytes (Declared d) ≡ declaration_text d
-  pub appointed : (n : ℕ) → reply_bytes (Appointed (record { number = n; used = Meeting })) ≡ codes "{\"number\":" ++ decimal n ++ codes ",\"ok\":\"appointed\",\"use\":\"meeting\"}"
-  pub appointed_late : (n : ℕ) → reply_bytes (Appointed (record { number = n; used = LaterPolls })) ≡ codes "{\"number\":" ++ decimal n ++ codes ",\"ok\":\"appointed\",\"use\":\"later polls only\"}"
-  pub ended : (n : ℕ) → reply_bytes (Ended n) ≡ codes "{\"number\":" ++ decimal n ++ codes ",\"ok\":\"ended\"}"
-  pub refused : (r : Refusal) → reply_bytes (Refused r) ≡ codes "{\"code\":" ++ decimal (number_of r) ++ codes ",\"refused\":\"" ++ name_of r ++ codes "\"}"
+  pub appointed : (n : ℕ)
+      → reply_bytes (Appointed (record { number = n; used = Meeting }))
+      ≡ codes "{\"number\":" ++ decimal n ++ codes ",\"ok\":\"appointed\",\"use\":\"meeting\"}"
+  pub appointed_late : (n : ℕ)
+      → reply_bytes (Appointed (record { number = n; used = LaterPolls }))
+      ≡ codes "{\"number\":" ++ decimal n
+      ++ codes ",\"ok\":\"appointed\",\"use\":\"later polls only\"}"
+  pub ended : (n : ℕ)
+      → reply_bytes (Ended n) ≡ codes "{\"number\":" ++ decimal n ++ codes ",\"ok\":\"ended\"}"
+  pub refused : (r : Refusal)
+      → reply_bytes (Refused r)
+      ≡ codes "{\"code\":" ++ decimal (number_of r)
+      ++ codes ",\"refused\":\"" ++ name_of r ++ codes "\"}"
   pub store : failure_bytes Store ≡ codes "{\"failed\":\"Store\"}"
   pub memory : failure_bytes Memory ≡ codes "{\"failed\":\"Memory\"}"

@@ -1,4 +1,5 @@
--- The notice of a meeting as JSON. The members of an object stand in the order of the bytes of their keys.
+-- The notice of a meeting as JSON. The members of an object stand in the order of the bytes of
+-- their keys.
 use Rattle.std.specs.Prelude.{[], ◌∷◌, codes}
 use Rattle.serde_json.specs.Data.{Data, boolean, string}
 use Rattle.desk_terms.specs.Kinds.{company_word, meeting_kind_word, resolution_kind_word}
@@ -18,7 +19,8 @@ result_data d = with_members (
     ∷ (codes "withheld", whole d.tally.withheld)
     ∷ [])
 
--- a poll; `cutoff` is the last moment at which an appointment for it counts, `take` when it is to be taken, and `result` null before its declaration
+-- a poll; `cutoff` is the last moment at which an appointment for it counts, `take` when it is to
+-- be taken, and `result` null before its declaration
 abbrev pub noticed_poll_data : NoticedPoll → Data
 noticed_poll_data p = with_members (
     (codes "chair", boolean p.chair)
@@ -40,7 +42,8 @@ noticed_resolution_data r = with_members (
     ∷ (codes "text", string r.text)
     ∷ [])
 
--- the notice of a meeting; `record` is the moment as of which the register is taken, and `register` whether one is loaded
+-- the notice of a meeting; `record` is the moment as of which the register is taken, and `register`
+-- whether one is loaded
 abbrev pub notice_data : Notice → Data
 notice_data n = with_members (
     (codes "appointed", moment_data n.appointed)

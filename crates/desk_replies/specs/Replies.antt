@@ -1,4 +1,5 @@
--- Replies as JSON, over the words of `serde_json`. The members of an object stand in the order of the bytes of their keys.
+-- Replies as JSON, over the words of `serde_json`. The members of an object stand in the order of
+-- the bytes of their keys.
 use Rattle.std.specs.Prelude.{ℕ, List, [], ◌∷◌, codes}
 use Rattle.serde_json.specs.Data.{Data, boolean, string}
 use Rattle.serde_json.specs.Written.{compact_text}
@@ -41,7 +42,9 @@ person_data authority = name_data authority.person
 
 -- a corporation that authorised the party, and its shares
 abbrev pub authorised_data : Authorised → Data
-authorised_data a = with_members ((codes "corporation", name_data a.corporation) ∷ (codes "shares", whole a.shares) ∷ [])
+authorised_data a =
+    with_members
+    ((codes "corporation", name_data a.corporation) ∷ (codes "shares", whole a.shares) ∷ [])
 
 -- the number of the resolution on which a poll was demanded
 abbrev pub demand_data : DemandMark → Data
@@ -57,7 +60,9 @@ cast_kind_data resolution (cast.Block b) = with_members (
     ∷ (codes "to", whole b.range.to)
     ∷ (codes "way", string (way_word b.way))
     ∷ [])
-cast_kind_data resolution cast.AsInstructed = with_members ((codes "as", string (codes "instructed")) ∷ (codes "resolution", whole resolution) ∷ [])
+cast_kind_data resolution cast.AsInstructed =
+    with_members
+    ((codes "as", string (codes "instructed")) ∷ (codes "resolution", whole resolution) ∷ [])
 
 -- a vote cast on a poll
 abbrev pub cast_data : CastMark → Data
@@ -78,7 +83,8 @@ mine_data m = with_members (
     ∷ (codes "row", or_null row_data m.row)
     ∷ [])
 
--- what is declared of a poll: its count, and whether the resolution is carried (sections 282 and 283)
+-- what is declared of a poll: its count, and whether the resolution is carried (sections 282 and
+-- 283)
 abbrev pub declaration_data : Declaration → Data
 declaration_data d = with_members (
     (codes "against", whole d.tally.votes_against)
@@ -91,7 +97,8 @@ declaration_data d = with_members (
 
 -- the refusal's number and its name
 abbrev pub refusal_data : Refusal → Data
-refusal_data r = with_members ((codes "code", whole (number_of r)) ∷ (codes "refused", string (name_of r)) ∷ [])
+refusal_data r =
+    with_members ((codes "code", whole (number_of r)) ∷ (codes "refused", string (name_of r)) ∷ [])
 
 -- what a reply says
 abbrev pub reply_data : Reply → Data

@@ -32,7 +32,11 @@ demand_in cells = do
   resolution ← number_in cells 1
   party ← spelled party_of cells 2
   moment ← moment_in cells 3
-  Some (record { meeting = meeting; item = record { resolution = resolution; party = party; moment = moment } })
+  Some
+      (record {
+        meeting = meeting;
+        item = record { resolution = resolution; party = party; moment = moment };
+      })
 
 -- the count in four columns, of which none is NULL
 abbrev pub tally_of : Value → Value → Value → Value → Option Tally
@@ -41,18 +45,29 @@ tally_of a b c d = do
   votes_against ← number_of b
   withheld ← number_of c
   eligible ← number_of d
-  Some (record { votes_for = votes_for; votes_against = votes_against; withheld = withheld; eligible = eligible })
+  Some
+      (record {
+        votes_for = votes_for;
+        votes_against = votes_against;
+        withheld = withheld;
+        eligible = eligible;
+      })
 
 -- the count that is declared, or none where the four columns are all NULL
 abbrev pub declared_of : Value → Value → Value → Value → Option (Option Tally)
-declared_of a b c d = if is_null a && is_null b && is_null c && is_null d then Some None else tally_of a b c d >>= λ tally. Some (Some tally)
+declared_of a b c d =
+    if is_null a && is_null b && is_null c && is_null d
+    then Some None
+    else tally_of a b c d >>= λ tally. Some (Some tally)
 
 -- the count that is declared, in the four columns from a place on
 unfoldable pub declared_in : Row → ℕ → Option (Option Tally)
-declared_in cells at = declared_of (column cells at) (column cells (at + 1)) (column cells (at + 2)) (column cells (at + 3))
+declared_in cells at =
+    declared_of (column cells at) (column cells (at + 1)) (column cells (at + 2))
+    (column cells (at + 3))
 
--- a poll: meeting, resolution, when it was ordered, when it is to be taken, whether by the chair, when it was
--- started and closed, and the four figures of its count (section 321)
+-- a poll: meeting, resolution, when it was ordered, when it is to be taken, whether by the chair,
+-- when it was started and closed, and the four figures of its count (section 321)
 unfoldable pub poll_in : Row → Option (InMeeting Poll)
 poll_in cells = do
   meeting ← spelled meeting_of cells 0
@@ -63,10 +78,11 @@ poll_in cells = do
   started ← some_moment_in cells 5
   closed ← some_moment_in cells 6
   declared ← declared_in cells 7
-  Some (record {
-    meeting = meeting;
-    item = record { resolution = resolution; ordered = ordered; take = take; chair = chair; started = started; closed = closed; declared = declared };
-  })
+  Some
+      (record {
+        meeting = meeting;
+        item = record { resolution = resolution; ordered = ordered; take = take; chair = chair; started = started; closed = closed; declared = declared };
+      })
 
 -- a vote on some shares (section 322): capacity, member, first and last place, way
 abbrev pub block_of : Value → Value → Value → Value → Value → Option Block
@@ -89,16 +105,23 @@ is_instructed value = worded_of (λ word. Some (bytes_eq word instructed_word)) 
 
 -- the vote as instructed, with the four other columns NULL
 abbrev pub as_instructed_of : Value → Value → Value → Value → Option CastKind
-as_instructed_of b c d e = if is_null b && is_null c && is_null d && is_null e then Some kind.AsInstructed else None
+as_instructed_of b c d e =
+    if is_null b && is_null c && is_null d && is_null e then Some kind.AsInstructed else None
 
 -- what is cast: as instructed, or a vote on some shares
 abbrev pub cast_kind_of : Value → Value → Value → Value → Value → Option CastKind
-cast_kind_of a b c d e = is_instructed a >>= λ instructed.
-    if instructed then as_instructed_of b c d e else block_of a b c d e >>= λ block. Some (kind.Block block)
+cast_kind_of a b c d e =
+    is_instructed a
+    >>=
+    λ instructed. if instructed
+    then as_instructed_of b c d e
+    else block_of a b c d e >>= λ block. Some (kind.Block block)
 
 -- what is cast, in the five columns from a place on
 unfoldable pub cast_kind_in : Row → ℕ → Option CastKind
-cast_kind_in cells at = cast_kind_of (column cells at) (column cells (at + 1)) (column cells (at + 2)) (column cells (at + 3)) (column cells (at + 4))
+cast_kind_in cells at =
+    cast_kind_of (column cells at) (column cells (at + 1)) (column cells (at + 2))
+    (column cells (at + 3)) (column cells (at + 4))
 
 -- a vote that is cast: meeting, resolution, voter, what is cast, moment (sections 284 and 322)
 unfoldable pub cast_in : Row → Option (InMeeting CastMark)
@@ -108,4 +131,8 @@ cast_in cells = do
   voter ← spelled party_of cells 2
   what ← cast_kind_in cells 3
   moment ← moment_in cells 8
-  Some (record { meeting = meeting; item = record { resolution = resolution; voter = voter; what = what; moment = moment } })
+  Some
+      (record {
+        meeting = meeting;
+        item = record { resolution = resolution; voter = voter; what = what; moment = moment };
+      })

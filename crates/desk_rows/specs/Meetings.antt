@@ -10,8 +10,8 @@ use Rattle.desk_rows.specs.declared.kept.NumberedResolution.{NumberedResolution}
 use Rattle.desk_rows.specs.Meanings.{◌>>=◌}
 use Rattle.desk_rows.specs.Columns.{spelled, worded, number_in, flag_in, day_in, moment_in, some_moment_in, text_of}
 
--- a meeting: its name, company, kind, the day of the notice, the appointed time, the moment as of which its
--- register is taken, whether that is loaded, and when it opened (section 307)
+-- a meeting: its name, company, kind, the day of the notice, the appointed time, the moment as of
+-- which its register is taken, whether that is loaded, and when it opened (section 307)
 unfoldable pub meeting_in : Row → Option MeetingRow
 meeting_in cells = do
   id ← spelled meeting_of cells 0
@@ -22,7 +22,17 @@ meeting_in cells = do
   record_moment ← moment_in cells 5
   loaded ← flag_in cells 6
   opened ← some_moment_in cells 7
-  Some (record { id = id; company = company; kind = kind; given = given; appointed = appointed; record_moment = record_moment; loaded = loaded; opened = opened })
+  Some
+      (record {
+        id = id;
+        company = company;
+        kind = kind;
+        given = given;
+        appointed = appointed;
+        record_moment = record_moment;
+        loaded = loaded;
+        opened = opened;
+      })
 
 -- a resolution: meeting, number, kind, text (section 283(6))
 unfoldable pub resolution_in : Row → Option (InMeeting NumberedResolution)
@@ -31,7 +41,11 @@ resolution_in cells = do
   number ← number_in cells 1
   kind ← worded resolution_kind_of cells 2
   text ← worded text_of cells 3
-  Some (record { meeting = meeting; item = record { number = number; resolution = record { kind = kind; text = text } } })
+  Some
+      (record {
+        meeting = meeting;
+        item = record { number = number; resolution = record { kind = kind; text = text } };
+      })
 
 -- a holding: meeting, member, kind of holder, name, shares, pence paid up on each (section 113)
 unfoldable pub holding_in : Row → Option (InMeeting RegisterRow)
@@ -42,4 +56,8 @@ holding_in cells = do
   name ← worded text_of cells 3
   shares ← number_in cells 4
   paid ← number_in cells 5
-  Some (record { meeting = meeting; item = record { member = member; kind = kind; name = name; shares = shares; paid = paid } })
+  Some
+      (record {
+        meeting = meeting;
+        item = record { member = member; kind = kind; name = name; shares = shares; paid = paid };
+      })

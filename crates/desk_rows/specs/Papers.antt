@@ -11,8 +11,8 @@ use Rattle.desk_rows.specs.Meanings.{◌>>=◌}
 use Rattle.desk_rows.specs.Columns.{spelled, number_in, moment_in}
 use Rattle.desk_rows.specs.Instructions.{instructions_of}
 
--- an appointment of a proxy: meeting, member, number, proxy, first and last place, instructions, moment
--- (section 324)
+-- an appointment of a proxy: meeting, member, number, proxy, first and last place, instructions,
+-- moment (section 324)
 unfoldable pub appointment_in : Row → Option (InMeeting Appointment)
 appointment_in cells = do
   meeting ← spelled meeting_of cells 0
@@ -24,10 +24,11 @@ appointment_in cells = do
   range ← range_of first last
   instructions ← spelled instructions_of cells 6
   moment ← moment_in cells 7
-  Some (record {
-    meeting = meeting;
-    item = record { member = member; number = number; proxy = proxy; range = range; instructions = instructions; moment = moment };
-  })
+  Some
+      (record {
+        meeting = meeting;
+        item = record { member = member; number = number; proxy = proxy; range = range; instructions = instructions; moment = moment };
+      })
 
 -- an ending of an appointment: meeting, member, number, moment (section 330)
 unfoldable pub ending_in : Row → Option (InMeeting Ending)
@@ -36,7 +37,9 @@ ending_in cells = do
   member ← spelled party_of cells 1
   number ← number_in cells 2
   moment ← moment_in cells 3
-  Some (record { meeting = meeting; item = record { member = member; number = number; moment = moment } })
+  Some
+      (record
+      { meeting = meeting; item = record { member = member; number = number; moment = moment } })
 
 -- an authority of a representative: meeting, corporation, person, moment (section 323)
 unfoldable pub authority_in : Row → Option (InMeeting Authority)
@@ -45,4 +48,8 @@ authority_in cells = do
   corporation ← spelled party_of cells 1
   person ← spelled party_of cells 2
   moment ← moment_in cells 3
-  Some (record { meeting = meeting; item = record { corporation = corporation; person = person; moment = moment } })
+  Some
+      (record {
+        meeting = meeting;
+        item = record { corporation = corporation; person = person; moment = moment };
+      })

@@ -18,11 +18,12 @@ fn letter(instruction: Instr) -> char
     }
 }
 
-/// The letters of some instructions: `F`, `A` and `W` for the ways, and `-` for a free one. The error
-/// is want of memory.
+/// The letters of some instructions: `F`, `A` and `W` for the ways, and `-` for a free one. The
+/// error is want of memory.
 pub fn letters_of(alloc: Global, instructions: &[Instr]) -> Result<String, AllocError>
     ensures letters { IfOk result (λ s. string_bytes s ≡ map instruction_letter instructions.now) }
-    ensures read_back { IfOk result (λ s. instructions_of (string_bytes s) ≡ Some instructions.now) }
+    ensures read_back { IfOk result
+        (λ s. instructions_of (string_bytes s) ≡ Some instructions.now) }
 {
     let mut letters = String::new(alloc);
     for instruction in instructions {

@@ -53,7 +53,8 @@ impl FromRow for InMeeting<DemandMark> {
 
 #[tactic(auto, unfolding(crate::specs::Columns::number_in))]
 fn tally_in(row: &Row) -> Result<Tally, RowFault>
-    ensures { Gives itself result (tally_of (column row.now 7) (column row.now 8) (column row.now 9) (column row.now 10)) }
+    ensures { Gives itself result
+        (tally_of (column row.now 7) (column row.now 8) (column row.now 9) (column row.now 10)) }
 {
     let votes_for = number_in(row, 7)?;
     let votes_against = number_in(row, 8)?;
@@ -107,7 +108,9 @@ impl FromRow for InMeeting<Poll> {
 
 #[tactic(auto, unfolding(crate::specs::Columns::number_in, crate::specs::Columns::spelled, crate::specs::Columns::worded))]
 fn block_in(row: &Row) -> Result<Block, RowFault>
-    ensures { Gives itself result (block_of (column row.now 3) (column row.now 4) (column row.now 5) (column row.now 6) (column row.now 7)) }
+    ensures { Gives itself result
+        (block_of (column row.now 3) (column row.now 4) (column row.now 5) (column row.now 6)
+        (column row.now 7)) }
 {
     let capacity = capacity_in(row, 3)?;
     let member = party_in(row, 4)?;

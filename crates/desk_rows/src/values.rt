@@ -164,7 +164,10 @@ pub struct TallyColumns {
 
 /// The values of the columns of what is declared, or none where a figure is above 2^63 - 1.
 pub fn tally_columns(declared: Option<Tally>) -> Option<TallyColumns>
-    ensures { IfSome result (λ t. declared_of (or_null Int t.votes_for) (or_null Int t.votes_against) (or_null Int t.withheld) (or_null Int t.eligible) ≡ Some declared) }
+    ensures { IfSome result
+        (λ t. declared_of (or_null Int t.votes_for) (or_null Int t.votes_against)
+        (or_null Int t.withheld) (or_null Int t.eligible)
+        ≡ Some declared) }
 {
     let Some(tally) = declared else {
         return Some(TallyColumns {
@@ -198,7 +201,10 @@ pub struct CastColumns<'a> {
 
 /// The values of the columns of what is cast.
 pub fn cast_columns(what: &CastKind) -> CastColumns<'_>
-    ensures { cast_kind_of (Words result.capacity.now) (or_null (λ s. Words s.now) result.member) (or_null Int result.first) (or_null Int result.last) (or_null (λ s. Words s.now) result.way) ≡ Some what.now }
+    ensures { cast_kind_of (Words result.capacity.now) (or_null (λ s. Words s.now) result.member)
+        (or_null Int result.first) (or_null Int result.last)
+        (or_null (λ s. Words s.now) result.way)
+        ≡ Some what.now }
 {
     match what {
         CastKind::Block(block) => CastColumns {

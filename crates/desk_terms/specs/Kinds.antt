@@ -31,7 +31,9 @@ meeting_kind_word meeting_kind.General = codes "general"
 
 -- the one whose word it is
 abbrev pub meeting_kind_of : List ℕ → Option MeetingKind
-meeting_kind_of word = find (λ x. bytes_eq word (meeting_kind_word x)) (meeting_kind.Annual ∷ meeting_kind.General ∷ [])
+meeting_kind_of word =
+    find (λ x. bytes_eq word (meeting_kind_word x))
+    (meeting_kind.Annual ∷ meeting_kind.General ∷ [])
 
 -- the word for a kind of resolution
 abbrev pub resolution_kind_word : ResKind → List ℕ
@@ -40,7 +42,9 @@ resolution_kind_word resolution_kind.Special = codes "special"
 
 -- the one whose word it is
 abbrev pub resolution_kind_of : List ℕ → Option ResKind
-resolution_kind_of word = find (λ x. bytes_eq word (resolution_kind_word x)) (resolution_kind.Ordinary ∷ resolution_kind.Special ∷ [])
+resolution_kind_of word =
+    find (λ x. bytes_eq word (resolution_kind_word x))
+    (resolution_kind.Ordinary ∷ resolution_kind.Special ∷ [])
 
 -- the word for a kind of holder
 abbrev pub holder_kind_word : HolderKind → List ℕ
@@ -50,7 +54,9 @@ holder_kind_word holder_kind.Treasury = codes "treasury"
 
 -- the one whose word it is
 abbrev pub holder_kind_of : List ℕ → Option HolderKind
-holder_kind_of word = find (λ x. bytes_eq word (holder_kind_word x)) (holder_kind.Individual ∷ holder_kind.Corporation ∷ holder_kind.Treasury ∷ [])
+holder_kind_of word =
+    find (λ x. bytes_eq word (holder_kind_word x))
+    (holder_kind.Individual ∷ holder_kind.Corporation ∷ holder_kind.Treasury ∷ [])
 
 -- the word for a capacity
 abbrev pub capacity_word : Capacity → List ℕ
@@ -60,7 +66,9 @@ capacity_word capacity.Proxy = codes "proxy"
 
 -- the one whose word it is
 abbrev pub capacity_of : List ℕ → Option Capacity
-capacity_of word = find (λ x. bytes_eq word (capacity_word x)) (capacity.Member ∷ capacity.Rep ∷ capacity.Proxy ∷ [])
+capacity_of word =
+    find (λ x. bytes_eq word (capacity_word x))
+    (capacity.Member ∷ capacity.Rep ∷ capacity.Proxy ∷ [])
 
 -- the word for a way
 abbrev pub way_word : Way → List ℕ
@@ -81,7 +89,9 @@ instruction_word instruction.Free = codes "free"
 
 -- the one whose word it is
 abbrev pub instruction_of : List ℕ → Option Instr
-instruction_of word = find (λ x. bytes_eq word (instruction_word x)) (instruction.For ∷ instruction.Against ∷ instruction.Withheld ∷ instruction.Free ∷ [])
+instruction_of word =
+    find (λ x. bytes_eq word (instruction_word x))
+    (instruction.For ∷ instruction.Against ∷ instruction.Withheld ∷ instruction.Free ∷ [])
 
 -- each word reads back as what it was written for
 pub record WordsReadBack : Type 0 where

@@ -1,18 +1,15 @@
 -- Places, which are the numbers of a member's shares, and ranges of them.
 use Rattle.std.specs.Prelude.{ℕ, zero, suc, ◌+◌, Bool, ◌&&◌, nat_le, Option, Some, None, if◌then◌else◌}
+use Rattle.desk_terms.specs.declared.range.TheConstants.{MOST_PLACES}
 
 -- the places from the first to the last, both included
 pub record Places : Type 0 where
   pub from : ℕ
   pub to : ℕ
 
--- the highest place
-abbrev pub most_places : ℕ
-most_places = 1000000000000
-
--- whether these are the ends of a range: from 1, and in order
+-- whether these are the ends of a range: from 1, in order, and up to the highest place
 abbrev pub is_range : ℕ → ℕ → Bool
-is_range from to = nat_le 1 from && nat_le from to && nat_le to most_places
+is_range from to = nat_le 1 from && nat_le from to && nat_le to MOST_PLACES
 
 -- the range with these ends, if they are those of a range
 abbrev pub range_of : ℕ → ℕ → Option Places

@@ -90,7 +90,8 @@ first_refusal (case ∷ cases) = if case.holds then Some case.refusal else first
 -- each case has a higher number than the one before it, the first one than the number given
 abbrev pub ascend_from : ℕ → List Case → Bool
 ascend_from n [] = true
-ascend_from n (case ∷ cases) = nat_lt n (number_of case.refusal) && ascend_from (number_of case.refusal) cases
+ascend_from n (case ∷ cases) =
+    nat_lt n (number_of case.refusal) && ascend_from (number_of case.refusal) cases
 
 -- the cases stand in the one order, so that the first whose condition holds has the lowest number
 abbrev pub are_in_order : List Case → Bool

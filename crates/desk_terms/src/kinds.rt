@@ -92,7 +92,8 @@ impl ResKind {
     }
 }
 
-/// Who holds the shares of a row: a person, a corporation (section 323), or the company itself (section 724).
+/// Who holds the shares of a row: a person, a corporation (section 323), or the company itself
+/// (section 724).
 #[derive(Clone, Copy, PartialEq, Eq)]
 pub enum HolderKind {
     Individual,
@@ -125,7 +126,8 @@ impl HolderKind {
     }
 }
 
-/// In what capacity a vote is cast: as the member (section 284), as a representative of a corporation (section 323), or as a proxy (section 324).
+/// In what capacity a vote is cast: as the member (section 284), as a representative of a
+/// corporation (section 323), or as a proxy (section 324).
 #[derive(Clone, Copy, PartialEq, Eq)]
 pub enum Capacity {
     Member,

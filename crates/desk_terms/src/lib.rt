@@ -10,6 +10,6 @@ mod text;
 
 pub use kinds::{Capacity, Company, HolderKind, Instr, MeetingKind, ResKind, Way};
 pub use names::{MeetingId, Party, SecretKey, read_key, read_meeting, read_party};
-pub use range::Range;
+pub use range::{MOST_PLACES, Range};
 pub use refusal::Refusal;
-pub use text::{Text, TextFault};
+pub use text::{LONGEST_TEXT, Text, TextFault};

@@ -4,8 +4,8 @@ ghost use Rattle.desk_terms.specs.Places.{holds, is_range, range_of};
 
 use std::marker::Model;
 
-/// The highest place.
-const MOST_PLACES: u64 = 1_000_000_000_000;
+/// The highest place, and so the most shares of a member, and of a register.
+pub const MOST_PLACES: u64 = 1_000_000_000_000;
 
 /// Places of a member's shares, from the first to the last: `1 <= from <= to <= 10^12`. A range
 /// may reach past the holding; places past it are nothing.
@@ -38,6 +38,14 @@ impl Range {
         } else {
             None
         }
+    }
+
+    /// The range with these ends, which are known to be those of a range.
+    pub fn with_ends(from: u64, to: u64) -> Range
+        requires { IsTrue (is_range from to) }
+        ensures { result ≡ record { from = from; to = to } }
+    {
+        Range { from, to }
     }
 
     /// The first place.

@@ -47,8 +47,8 @@ pub enum Refusal {
     Opened = 20,
     /// The meeting is not opened.
     NotOpened = 21,
-    /// A register before the record moment, an opening before the appointed time, a taking before the
-    /// call, or a start before the taking.
+    /// A register before the record moment, an opening before the appointed time, a taking before
+    /// the call, or a start before the taking.
     Early = 22,
     /// No quorum is present (section 318).
     NoQuorum = 23,

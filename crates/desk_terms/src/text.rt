@@ -8,7 +8,10 @@ ghost use Rattle.desk_terms.specs.declared.text.TextFault.TheVariants.{Form, Mem
 use std::alloc::{AllocError, Global};
 use std::marker::Model;
 
-/// A text of 1 to 200 bytes of UTF-8, with no byte below 32 and no byte 127.
+/// The most bytes of a text.
+pub const LONGEST_TEXT: usize = 200;
+
+/// A text of 1 to `LONGEST_TEXT` bytes of UTF-8, with no byte below 32 and no byte 127.
 #[derive(Clone, Drop)]
 pub struct Text {
     text: String,
@@ -57,7 +60,7 @@ fn are_plain(bytes: &[u8]) -> bool
 fn has_form(bytes: &[u8]) -> bool
     ensures { result ≡ is_plain_text bytes.now }
 {
-    !bytes.is_empty() && bytes.len() <= 200 && are_plain(bytes)
+    !bytes.is_empty() && bytes.len() <= LONGEST_TEXT && are_plain(bytes)
 }
 
 impl Text {

@@ -10,14 +10,15 @@ use Rattle.desk_lists.specs.Sorting.{sort_by}
 use Rattle.desk_lists.proofs.Ascending.{differ_by_key-IsPermutation, differs-from_ascends_by}
 use Rattle.desk_lists.proofs.SortingLemmas.{sort_by-ascending}
 use Rattle.desk_words.specs.Callers.{party_in}
+use Rattle.desk_words.specs.declared.limits.TheConstants.{MOST_KEYS}
 use Rattle.desk_words.specs.declared.caller.KeyRow.{KeyRow}
 use Rattle.desk_words.specs.Lists.{keep_keys, same_secret, same_caller, caller_before, are_keys, is_key_list, key_list_of}
 
 -- the limits of keys do not depend on their order
 keep_keys-permutation : (xs ys : List KeyRow) → IsPermutation xs ys → keep_keys xs ≡ true → keep_keys ys ≡ true
 keep_keys-permutation xs ys moved h =
-    both_true (ap (λ n. nat_le n 40000) (length_permutation xs ys moved) ∙ first_so (nat_le (length xs) 40000) (differ_by same_secret xs) h)
-    (differ_by_key-IsPermutation nat_list_cmp_total (λ (row : KeyRow). row.secret) xs ys moved ∙ second_so (nat_le (length xs) 40000) (differ_by same_secret xs) h)
+    both_true (ap (λ n. nat_le n MOST_KEYS) (length_permutation xs ys moved) ∙ first_so (nat_le (length xs) MOST_KEYS) (differ_by same_secret xs) h)
+    (differ_by_key-IsPermutation nat_list_cmp_total (λ (row : KeyRow). row.secret) xs ys moved ∙ second_so (nat_le (length xs) MOST_KEYS) (differ_by same_secret xs) h)
 
 -- whether each key is of another caller does not depend on the order
 callers-permutation : (xs ys : List KeyRow) → IsPermutation xs ys → differ_by same_caller ys ≡ differ_by same_caller xs

@@ -6,7 +6,8 @@ use Rattle.desk_words.specs.declared.caller.Caller.TheVariants.{Office, Party}
 
 -- the caller that the bytes name
 abbrev pub caller_of : List ℕ → Option Caller
-caller_of bytes = if bytes_eq bytes office_name then Some Office else option_map (λ p. Party p) (party_of bytes)
+caller_of bytes =
+    if bytes_eq bytes office_name then Some Office else option_map (λ p. Party p) (party_of bytes)
 
 -- the party that calls, or none for the office
 abbrev pub party_in : Caller → Option (List ℕ)

@@ -1,18 +1,21 @@
 -- The lists of resolutions, keys and closed days.
 use Rattle.std.specs.Prelude.{ℕ, Bool, ◌&&◌, nat_eq, nat_le, List, length, Option, Some, None, if◌then◌else◌}
 use Rattle.std.specs.Ordering.{nat_cmp}
-use Rattle.std.specs.Set.{distinct_count}
+use Rattle.std.specs.Set.{distinct_count, unique_keys}
 use Rattle.desk_terms.specs.Names.{name_cmp}
 use Rattle.desk_lists.specs.Ordered.{differ_by, ascends_by, same_key, key_before}
 use Rattle.std.specs.Option.{option_cmp}
 use Rattle.desk_words.specs.Callers.{party_in}
+use Rattle.desk_words.specs.Seen.{Day}
 use Rattle.desk_lists.specs.Sorting.{sort_by}
+use Rattle.desk_words.specs.declared.limits.TheConstants.{MOST_CLOSED_DAYS, MOST_KEYS, MOST_RESOLUTIONS}
 use Rattle.desk_words.specs.declared.caller.KeyRow.{KeyRow}
 use Rattle.desk_words.specs.declared.records.Resolution.{Resolution}
 
--- 1 to 50 resolutions
+-- 1 to `MOST_RESOLUTIONS` resolutions
 abbrev pub are_resolutions : List Resolution → Bool
-are_resolutions resolutions = nat_le 1 (length resolutions) && nat_le (length resolutions) 50
+are_resolutions resolutions =
+    nat_le 1 (length resolutions) && nat_le (length resolutions) MOST_RESOLUTIONS
 
 -- both keys are of one caller
 abbrev pub same_caller : KeyRow → KeyRow → Bool
@@ -26,9 +29,9 @@ caller_before = key_before (λ (row : KeyRow). party_in row.caller) (option_cmp 
 abbrev pub same_secret : KeyRow → KeyRow → Bool
 same_secret = same_key (λ (row : KeyRow). row.secret) name_cmp
 
--- at most 40,000 keys, no two of them the same
+-- at most `MOST_KEYS` keys, no two of them the same
 abbrev pub keep_keys : List KeyRow → Bool
-keep_keys rows = nat_le (length rows) 40000 && differ_by same_secret rows
+keep_keys rows = nat_le (length rows) MOST_KEYS && differ_by same_secret rows
 
 -- such keys, each of another caller
 abbrev pub are_keys : List KeyRow → Bool
@@ -43,13 +46,21 @@ abbrev pub key_list_of : List KeyRow → Option (List KeyRow)
 key_list_of rows = if are_keys rows then Some (sort_by caller_before rows) else None
 
 -- how many different days there are in the list
-abbrev pub day_count : List ℕ → ℕ
+abbrev pub day_count : List Day → ℕ
 day_count days = distinct_count nat_eq days
 
 -- the first day is earlier
-abbrev pub day_before : ℕ → ℕ → Bool
-day_before = key_before (λ (day : ℕ). day) nat_cmp
+abbrev pub day_before : Day → Day → Bool
+day_before = key_before (λ (day : Day). day) nat_cmp
 
--- at most 2,000 days in order, each once (section 1173)
-abbrev pub is_day_list : List ℕ → Bool
-is_day_list days = nat_le (length days) 2000 && ascends_by day_before days
+-- at most `MOST_CLOSED_DAYS` days in order, each once (section 1173)
+abbrev pub is_day_list : List Day → Bool
+is_day_list days = nat_le (length days) MOST_CLOSED_DAYS && ascends_by day_before days
+
+-- the days, in order, each once
+unfoldable pub each_once : List Day → List Day
+each_once days = sort_by day_before (unique_keys nat_eq days)
+
+-- the list of these days, if there are at most `MOST_CLOSED_DAYS` different ones
+abbrev pub day_list_of : List Day → Option (List Day)
+day_list_of days = if nat_le (day_count days) MOST_CLOSED_DAYS then Some (each_once days) else None

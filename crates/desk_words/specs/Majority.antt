@@ -5,12 +5,17 @@ use Rattle.desk_terms.specs.declared.kinds.ResKind.TheVariants.{Ordinary, Specia
 use Rattle.desk_words.specs.declared.records.Tally.{Tally}
 use Rattle.desk_words.specs.declared.reply.Declaration.{Declaration}
 
--- whether a resolution is carried: an ordinary one by more votes for than against (section 282), a special one by at least three quarters of the votes (section 283), and neither without votes
+-- whether a resolution is carried: an ordinary one by more votes for than against (section 282), a
+-- special one by at least three quarters of the votes (section 283), and neither without votes
 abbrev pub is_carried : ResKind → ℕ → ℕ → Bool
 is_carried Ordinary votes_for votes_against = nat_lt votes_against votes_for
 is_carried Special votes_for votes_against =
     nat_lt 0 (votes_for + votes_against) && nat_le (3 * (votes_for + votes_against)) (4 * votes_for)
 
--- the result of a poll on a resolution of this kind: its count, and whether that carries the resolution (sections 282 and 283)
+-- the result of a poll on a resolution of this kind: its count, and whether that carries the
+-- resolution (sections 282 and 283)
 abbrev pub result_of : ResKind → Tally → Declaration
-result_of kind tally = record { tally = tally; carried = is_carried kind tally.votes_for tally.votes_against }
+result_of kind tally = record {
+  tally = tally;
+  carried = is_carried kind tally.votes_for tally.votes_against;
+}

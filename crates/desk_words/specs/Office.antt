@@ -3,6 +3,8 @@ use Rattle.std.specs.Prelude.{ℕ, suc, ◌+◌, Bool, true, false, ◌&&◌, �
 use Rattle.std.specs.List.{list_all, list_any}
 use Rattle.desk_terms.specs.Names.{same_name}
 use Rattle.desk_lists.specs.Ordered.{differ_by, ascends_by}
+use Rattle.desk_terms.specs.declared.range.TheConstants.{MOST_PLACES}
+use Rattle.desk_words.specs.declared.limits.TheConstants.{MOST_APPOINTMENTS, MOST_AUTHORITIES, MOST_CASTS, MOST_MEETINGS}
 use Rattle.desk_words.specs.declared.office.OfficeLists.{OfficeLists}
 use Rattle.desk_words.specs.declared.office.MeetingLists.{MeetingLists}
 use Rattle.desk_words.specs.declared.records.RegisterRow.{RegisterRow}
@@ -37,19 +39,24 @@ is_loaded_right m =
     (if m.meeting.loaded then is_register m.register else no_rows m.register)
     && implies (is_some m.meeting.opened) m.meeting.loaded
 
--- after the earlier ones, the appointments of each member are numbered on, 1, 2, .. in order of receipt
+-- after the earlier ones, the appointments of each member are numbered on, 1, 2, .. in order of
+-- receipt
 abbrev pub are_numbered_after : List Appointment → List Appointment → Bool
 are_numbered_after earlier [] = true
 are_numbered_after earlier (a ∷ rest) =
-    a.number == suc (count_by (λ (b : Appointment). same_name b.member a.member) earlier) && are_numbered_after (earlier ++ a ∷ []) rest
+    a.number == suc (count_by (λ (b : Appointment). same_name b.member a.member) earlier)
+    && are_numbered_after (earlier ++ a ∷ []) rest
 
--- at most 256 of a member, with one instruction for each resolution (sections 324 and 324A)
+-- at most `MOST_APPOINTMENTS` of a member, with one instruction for each resolution (sections 324
+-- and 324A)
 abbrev pub is_appointment : ℕ → Appointment → Bool
-is_appointment resolutions a = nat_le a.number 256 && length a.instructions == resolutions
+is_appointment resolutions a =
+    nat_le a.number MOST_APPOINTMENTS && length a.instructions == resolutions
 
 -- the appointments of a meeting, in order of receipt
 abbrev pub are_appointments : ℕ → List Appointment → Bool
-are_appointments resolutions given = are_numbered_after [] given && list_all (is_appointment resolutions) given
+are_appointments resolutions given =
+    are_numbered_after [] given && list_all (is_appointment resolutions) given
 
 -- the ending names the appointment (section 330)
 abbrev pub is_ending_of : Ending → Appointment → Bool
@@ -61,16 +68,20 @@ same_ending d e = same_name d.member e.member && d.number == e.number
 
 -- each names an appointment of its member, and none is named twice (section 330)
 abbrev pub are_endings : List Appointment → List Ending → Bool
-are_endings given ended = list_all (λ e. list_any (is_ending_of e) given) ended && differ_by same_ending ended
+are_endings given ended =
+    list_all (λ e. list_any (is_ending_of e) given) ended && differ_by same_ending ended
 
 -- both authorise one person to act for one corporation (section 323)
 abbrev pub same_authority : Authority → Authority → Bool
 same_authority a b = same_name a.corporation b.corporation && same_name a.person b.person
 
--- at most 64 of a party, none of them twice (section 323)
+-- at most `MOST_AUTHORITIES` of a party, none of them twice (section 323)
 abbrev pub are_authorities : List Authority → Bool
 are_authorities given =
-    list_all (λ (a : Authority). nat_le (count_by (λ (b : Authority). same_name b.corporation a.corporation) given) 64) given
+    list_all
+    (λ (a : Authority). nat_le
+    (count_by (λ (b : Authority). same_name b.corporation a.corporation) given) MOST_AUTHORITIES)
+    given
     && differ_by same_authority given
 
 -- both are marks of one party
@@ -83,11 +94,14 @@ same_demand a b = a.resolution == b.resolution && same_name a.party b.party
 
 -- demands of resolutions of the meeting, none of them twice (sections 321 and 329)
 abbrev pub are_demands : ℕ → List DemandMark → Bool
-are_demands resolutions demands = list_all (λ (d : DemandMark). is_resolution resolutions d.resolution) demands && differ_by same_demand demands
+are_demands resolutions demands =
+    list_all (λ (d : DemandMark). is_resolution resolutions d.resolution) demands
+    && differ_by same_demand demands
 
--- the votes are those of some shares, and the shares are at most 10^12 (section 284)
+-- the votes are those of some shares, and the shares are at most `MOST_PLACES` (section 284)
 abbrev pub is_tally : Tally → Bool
-is_tally t = nat_le (t.votes_for + t.votes_against + t.withheld) t.eligible && nat_le t.eligible 1000000000000
+is_tally t =
+    nat_le (t.votes_for + t.votes_against + t.withheld) t.eligible && nat_le t.eligible MOST_PLACES
 
 -- nothing is declared, or a tally
 abbrev pub is_declared_right : Option Tally → Bool
@@ -104,10 +118,12 @@ is_poll resolutions p =
 abbrev pub poll_before : Poll → Poll → Bool
 poll_before a b = nat_lt a.resolution b.resolution
 
--- polls of an opened meeting, at most one on a resolution, in the order of resolutions (section 321)
+-- polls of an opened meeting, at most one on a resolution, in the order of resolutions (section
+-- 321)
 abbrev pub are_polls : Bool → ℕ → List Poll → Bool
 are_polls opened resolutions [] = true
-are_polls opened resolutions (p ∷ ps) = opened && list_all (is_poll resolutions) (p ∷ ps) && ascends_by poll_before (p ∷ ps)
+are_polls opened resolutions (p ∷ ps) =
+    opened && list_all (is_poll resolutions) (p ∷ ps) && ascends_by poll_before (p ∷ ps)
 
 -- the cast is on that poll, and the poll is started
 abbrev pub is_cast_on : CastMark → Poll → Bool
@@ -117,25 +133,29 @@ is_cast_on c p = p.resolution == c.resolution && is_some p.started
 abbrev pub same_ballot : CastMark → CastMark → Bool
 same_ballot a b = a.resolution == b.resolution && same_name a.voter b.voter
 
--- casts on started polls, at most 1,024 of a voter on one of them (sections 284 and 322)
+-- casts on started polls, at most `MOST_CASTS` of a voter on one of them (sections 284 and 322)
 abbrev pub are_casts : List Poll → List CastMark → Bool
-are_casts polls casts = list_all (λ c. list_any (is_cast_on c) polls) casts && list_all (λ c. nat_le (count_by (λ d. same_ballot d c) casts) 1024) casts
+are_casts polls casts =
+    list_all (λ c. list_any (is_cast_on c) polls) casts
+    && list_all (λ c. nat_le (count_by (λ d. same_ballot d c) casts) MOST_CASTS) casts
 
 -- the lists of a meeting
 abbrev pub is_meeting : MeetingLists → Bool
 is_meeting m =
-    let resolutions = length m.meeting.resolutions in
-    are_resolutions m.meeting.resolutions && is_loaded_right m && are_appointments resolutions m.appointments
-    && are_endings m.appointments m.endings && are_authorities m.authorities && differ_by same_presence m.presences
-    && are_demands resolutions m.demands && are_polls (is_some m.meeting.opened) resolutions m.polls && are_casts m.polls m.casts
+    let resolutions = length m.meeting.resolutions in are_resolutions m.meeting.resolutions
+    && is_loaded_right m && are_appointments resolutions m.appointments
+    && are_endings m.appointments m.endings && are_authorities m.authorities
+    && differ_by same_presence m.presences && are_demands resolutions m.demands
+    && are_polls (is_some m.meeting.opened) resolutions m.polls && are_casts m.polls m.casts
 
 -- both meetings have one name
 abbrev pub same_meeting : MeetingLists → MeetingLists → Bool
 same_meeting a b = same_name a.meeting.id b.meeting.id
 
--- at most 100 meetings, each with a name of its own
+-- at most `MOST_MEETINGS` meetings, each with a name of its own
 abbrev pub are_meetings : List MeetingLists → Bool
-are_meetings ms = nat_le (length ms) 100 && differ_by same_meeting ms && list_all is_meeting ms
+are_meetings ms =
+    nat_le (length ms) MOST_MEETINGS && differ_by same_meeting ms && list_all is_meeting ms
 
 -- the lists of an office
 abbrev pub is_office : OfficeLists → Bool

@@ -2,14 +2,16 @@
 use Rattle.std.specs.Prelude.{ℕ, Bool, ◌&&◌, nat_le, List, length, sum_by, Option, Some, None, if◌then◌else◌}
 use Rattle.std.specs.List.{list_all}
 use Rattle.desk_terms.specs.Names.{name_cmp}
+use Rattle.desk_terms.specs.declared.range.TheConstants.{MOST_PLACES}
 use Rattle.desk_lists.specs.Ordered.{differ_by, ascends_by, same_key, key_before}
 use Rattle.desk_lists.specs.Sorting.{sort_by}
 use Rattle.desk_words.specs.declared.records.RegisterRow.{RegisterRow}
-use Rattle.desk_words.specs.declared.register.TheConstants.{MOST_SHARES}
+use Rattle.desk_words.specs.declared.limits.TheConstants.{MOST_PENCE, MOST_ROWS, MOST_SHARES}
 
--- a holding within its limits: 1 to 10^12 shares, and at most 1,000,000 pence paid up on each (section 113)
+-- a holding within its limits: 1 to `MOST_PLACES` shares, and at most `MOST_PENCE` paid up on each
+-- (section 113)
 abbrev pub is_holding : RegisterRow → Bool
-is_holding row = nat_le 1 row.shares && nat_le row.shares 1000000000000 && nat_le row.paid 1000000
+is_holding row = nat_le 1 row.shares && nat_le row.shares MOST_PLACES && nat_le row.paid MOST_PENCE
 
 -- all shares, treasury shares among them
 abbrev pub all_shares : List RegisterRow → ℕ
@@ -23,10 +25,13 @@ same_member = same_key (λ (row : RegisterRow). row.member) name_cmp
 abbrev pub member_before : RegisterRow → RegisterRow → Bool
 member_before = key_before (λ (row : RegisterRow). row.member) name_cmp
 
--- 1 to 20,000 holdings, each within its limits, and at most `MOST_SHARES` shares in all
+-- 1 to `MOST_ROWS` holdings, each within its limits, and at most `MOST_SHARES` shares in all
 abbrev pub keep_limits : List RegisterRow → Bool
 keep_limits rows =
-    nat_le 1 (length rows) && nat_le (length rows) 20000 && list_all is_holding rows && nat_le (all_shares rows) MOST_SHARES
+    nat_le 1 (length rows)
+    && nat_le (length rows) MOST_ROWS
+    && list_all is_holding rows
+    && nat_le (all_shares rows) MOST_SHARES
 
 -- holdings of different members that keep the limits
 abbrev pub are_holdings : List RegisterRow → Bool

@@ -10,7 +10,8 @@ use Rattle.desk_words.specs.declared.records.Meeting.{Meeting}
 use Rattle.desk_words.specs.declared.reply.Reply.{Reply}
 use Rattle.desk_words.specs.declared.reply.Reply.TheVariants as reply
 
--- the conditions under which a call is refused, in the one order, and what is answered where none of them holds
+-- the conditions under which a call is refused, in the one order, and what is answered where none
+-- of them holds
 pub record Ruling (C : Type 0) : Type 0 where
   pub cases : List Case
   pub accepted : Answer C
@@ -28,7 +29,8 @@ abbrev pub unless : {C : Type 0} → Option Refusal → Answer C → Answer C
 unless (Some r) accepted = refused r
 unless None accepted = accepted
 
--- the answer: the first refusal whose condition holds, which is the lowest, or else what is accepted
+-- the answer: the first refusal whose condition holds, which is the lowest, or else what is
+-- accepted
 abbrev pub settled : {C : Type 0} → Ruling C → Answer C
 settled ruling = unless (first_refusal ruling.cases) ruling.accepted
 
@@ -62,14 +64,21 @@ loaded false change = record { reply = reply.Loaded; change = Some change }
 abbrev pub asked_first : {C : Type 0} → Case → Ruling C → Ruling C
 asked_first case ruling = record { cases = case ∷ ruling.cases; accepted = ruling.accepted }
 
--- where a meeting is found, that there is one, and then what is ruled in it; else that there is none
+-- where a meeting is found, that there is one, and then what is ruled in it; else that there is
+-- none
 abbrev pub in_found : {X C : Type 0} → Option X → (X → Ruling C) → Ruling C
-in_found None ruling = record { cases = record { refusal = NoMeeting; holds = true } ∷ []; accepted = refused NoMeeting }
+in_found None ruling = record {
+  cases = record { refusal = NoMeeting; holds = true } ∷ [];
+  accepted = refused NoMeeting;
+}
 in_found (Some x) ruling = asked_first (record { refusal = NoMeeting; holds = false }) (ruling x)
 
 -- no such resolution stands in the notice
 abbrev pub no_resolution : Meeting → Number → Case
-no_resolution meeting number = record { refusal = NoResolution; holds = not (is_resolution (length meeting.resolutions) number) }
+no_resolution meeting number = record {
+  refusal = NoResolution;
+  holds = not (is_resolution (length meeting.resolutions) number);
+}
 
 -- an answer whose change is made in something larger, as a meeting's in the office
 abbrev pub within : {C D : Type 0} → (C → D) → Answer C → Answer D
@@ -77,4 +86,7 @@ within larger answer = record { reply = answer.reply; change = option_map larger
 
 -- a ruling whose change is made in something larger
 abbrev pub ruled_within : {C D : Type 0} → (C → D) → Ruling C → Ruling D
-ruled_within larger ruling = record { cases = ruling.cases; accepted = within larger ruling.accepted }
+ruled_within larger ruling = record {
+  cases = ruling.cases;
+  accepted = within larger ruling.accepted;
+}

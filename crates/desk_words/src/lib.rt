@@ -6,6 +6,7 @@ mod caller;
 mod change;
 mod finding;
 pub mod laws;
+pub mod limits;
 mod lists;
 mod majority;
 mod office;
@@ -23,8 +24,8 @@ pub use desk_devices::{FailAt, Sink, Source};
 pub use desk_filed::Filed;
 pub use desk_lists::Listing;
 pub use desk_terms::{
-    Capacity, Company, HolderKind, Instr, MeetingId, MeetingKind, Party, Range, Refusal, ResKind,
-    SecretKey, Text, TextFault, Way, read_key, read_meeting, read_party,
+    Capacity, Company, HolderKind, Instr, MOST_PLACES, MeetingId, MeetingKind, Party, Range,
+    Refusal, ResKind, SecretKey, Text, TextFault, Way, read_key, read_meeting, read_party,
 };
 pub use finding::{find_meeting, find_poll};
 pub use lists::{DayList, KeyRows, ListFault, Resolutions, same_keys};
@@ -35,7 +36,7 @@ pub use records::{
     Appointment, Authority, Block, CastKind, CastMark, DemandMark, Ending, Meeting, Poll,
     PresenceMark, RegisterRow, Resolution, Tally,
 };
-pub use register::{MOST_SHARES, Register, same_rows};
+pub use register::{Register, same_rows};
 pub use reply::{
     AppointmentReceipt, AppointmentUse, Declaration, Failure, GivenUse, Mine, Notice, NoticedPoll,
     NoticedResolution, Reply,

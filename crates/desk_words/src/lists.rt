@@ -7,6 +7,7 @@ ghost use Rattle.desk_words.specs.Lists.{same_secret};
 ghost use Rattle.desk_words.specs.declared.lists.ListFault.TheVariants.{Limit, Memory};
 
 use crate::caller::KeyRow;
+use crate::limits::{MOST_CLOSED_DAYS, MOST_KEYS, MOST_RESOLUTIONS};
 use crate::records::Resolution;
 use desk_calendar::Day;
 use desk_lists::{ascend, in_order_once, into_order};
@@ -18,11 +19,12 @@ use std::marker::Model;
 pub enum ListFault {
     /// The list breaks the limits of its type.
     Limit,
-    /// An allocation was refused. The lists of this crate take no memory, so none of them answers it.
+    /// An allocation was refused. The lists of this crate take no memory, so none of them answers
+    /// it.
     Memory,
 }
 
-/// The resolutions of a meeting, numbered from 1: 1 to 50 of them.
+/// The resolutions of a meeting, numbered from 1: 1 to `MOST_RESOLUTIONS` of them.
 #[derive(Clone, Drop)]
 pub struct Resolutions {
     resolutions: Vec<Resolution>,
@@ -44,13 +46,14 @@ impl Model for Resolutions {
 impl Resolutions {
     ghost use Rattle.desk_words.specs.Lists.{are_resolutions};
 
-    /// The list of these resolutions. The fault is `Limit` exactly where they are not 1 to 50.
+    /// The list of these resolutions. The fault is `Limit` exactly where they are not
+    /// 1 to `MOST_RESOLUTIONS`.
     pub fn new(resolutions: Vec<Resolution>) -> Result<Resolutions, ListFault>
         ensures value { IfOk result (λ r. r ≡ resolutions.items) }
         ensures limit { (result ≡ Err Limit) ↔ (are_resolutions resolutions.items ≡ false) }
         ensures no_memory { (result ≡ Err Memory) → ⊥ }
     {
-        if resolutions.is_empty() || resolutions.len() > 50 {
+        if resolutions.is_empty() || resolutions.len() > MOST_RESOLUTIONS {
             return Err(ListFault::Limit);
         }
         Ok(Resolutions { resolutions })
@@ -75,7 +78,8 @@ impl Resolutions {
     }
 }
 
-/// The keys of a desk, in the order of callers: at most 40,000, with no caller and no key twice.
+/// The keys of a desk, in the order of callers: at most `MOST_KEYS`, with no caller and no key
+/// twice.
 #[derive(Clone, Drop)]
 pub struct KeyRows {
     rows: Vec<KeyRow>,
@@ -94,7 +98,8 @@ impl Model for KeyRows {
     ghost invariant = { λ a. IsTrue (is_key_list a.rows.items) };
 }
 
-/// The closed days, in order, each once: at most 2,000 of them (section 1173).
+/// The closed days, in order, each once: at most `MOST_CLOSED_DAYS` of them (section
+/// 1173).
 #[derive(Clone, Drop)]
 pub struct DayList {
     days: Vec<Day>,
@@ -113,18 +118,19 @@ impl Model for DayList {
 }
 
 impl DayList {
-    ghost use Rattle.desk_words.specs.Lists.{is_day_list, day_count};
+    ghost use Rattle.desk_words.specs.Lists.{is_day_list, day_count, day_list_of};
 
     /// The days, in order, each once. The fault is `Limit` exactly where there are more than
-    /// 2,000 different days.
+    /// `MOST_CLOSED_DAYS` different days.
     pub fn new(days: Vec<Day>) -> Result<DayList, ListFault>
+        ensures value { IfOk result (λ r. day_list_of days.items ≡ Some r) }
         ensures days { IfOk result (λ r. (day : ℕ) → Contains r day ↔ Contains days.items day) }
         ensures kept { IfOk result (λ r. IsTrue (is_day_list r)) }
-        ensures limit { (result ≡ Err Limit) ↔ (2000 < day_count days.items) }
+        ensures limit { (result ≡ Err Limit) ↔ (MOST_CLOSED_DAYS < day_count days.items) }
         ensures no_memory { (result ≡ Err Memory) → ⊥ }
     {
         let days = in_order_once(days);
-        if days.len() > 2_000 {
+        if days.len() > MOST_CLOSED_DAYS {
             return Err(ListFault::Limit);
         }
         Ok(DayList { days })
@@ -169,8 +175,8 @@ fn secrets_differ(rows: &mut Vec<KeyRow>) -> bool
 impl KeyRows {
     ghost use Rattle.desk_words.specs.Lists.{is_key_list, key_list_of};
 
-    /// The list of these keys. The fault is `Limit` exactly where there are more than 40,000, or a
-    /// caller or a key stands twice. It takes no memory.
+    /// The list of these keys. The fault is `Limit` exactly where there are more than
+    /// `MOST_KEYS`, or a caller or a key stands twice. It takes no memory.
     pub fn new(rows: Vec<KeyRow>) -> Result<KeyRows, ListFault>
         ensures value { IfOk result (λ r. key_list_of rows.items ≡ Some r) }
         ensures rows { IfOk result (λ r. IsPermutation rows.items r) }
@@ -179,7 +185,7 @@ impl KeyRows {
         ensures no_memory { (result ≡ Err Memory) → ⊥ }
     {
         let mut rows = rows;
-        if rows.len() > 40_000 || !secrets_differ(&mut rows) {
+        if rows.len() > MOST_KEYS || !secrets_differ(&mut rows) {
             return Err(ListFault::Limit);
         }
         into_order(&mut rows);

@@ -4,18 +4,17 @@ ghost use Rattle.std.specs.List.{list_all, zip};
 ghost use Rattle.desk_words.specs.Rows.{same_row, same_rows};
 ghost use Rattle.desk_words.specs.declared.lists.ListFault.TheVariants.{Limit, Memory};
 
+use crate::limits::{MOST_PENCE, MOST_ROWS, MOST_SHARES};
 use crate::lists::ListFault;
 use crate::records::RegisterRow;
 use desk_lists::{Listing, ascend, into_order};
+use desk_terms::MOST_PLACES;
 use std::alloc::AllocError;
 use std::marker::Model;
 
-/// The most shares of a register, treasury shares among them.
-pub const MOST_SHARES: u64 = 100_000;
-
-/// The rows of a register of members (section 113), in the order of members: 1 to 20,000 rows of
-/// different members, each of 1 to 10^12 shares with at most 1,000,000 pence paid up, and no more
-/// than `MOST_SHARES` in all.
+/// The rows of a register of members (section 113), in the order of members: 1 to `MOST_ROWS` rows
+/// of different members, each of 1 to `MOST_PLACES` shares with at most `MOST_PENCE` paid up, and
+/// no more than `MOST_SHARES` in all.
 #[derive(Clone, Drop)]
 pub struct Register {
     rows: Vec<RegisterRow>,
@@ -40,7 +39,7 @@ impl Register {
     fn has_limits(row: &RegisterRow) -> bool
         ensures { result ≡ is_holding row.now }
     {
-        1 <= row.shares && row.shares <= 1_000_000_000_000 && row.paid <= 1_000_000
+        1 <= row.shares && row.shares <= MOST_PLACES && row.paid <= MOST_PENCE
     }
 
     fn have_limits(rows: &[RegisterRow]) -> bool
@@ -50,7 +49,7 @@ impl Register {
     }
 
     fn total(rows: &[RegisterRow]) -> u64
-        requires few { length rows.now ≤ 20000 }
+        requires few { length rows.now ≤ MOST_ROWS }
         requires small { IsTrue (list_all is_holding rows.now) }
         ensures { result ≡ all_shares rows.now }
     {
@@ -65,13 +64,13 @@ impl Register {
         ensures { result ≡ keep_limits rows.now }
     {
         1 <= rows.len()
-            && rows.len() <= 20_000
+            && rows.len() <= MOST_ROWS
             && Register::have_limits(rows)
             && Register::total(rows) <= MOST_SHARES
     }
 
-    /// The register of these rows. The fault is `Limit` exactly where they are not 1 to 20,000 rows
-    /// of different members that keep the limits. It takes no memory.
+    /// The register of these rows. The fault is `Limit` exactly where they are not 1 to `MOST_ROWS`
+    /// rows of different members that keep the limits. It takes no memory.
     pub fn new(rows: Vec<RegisterRow>) -> Result<Register, ListFault>
         ensures value { IfOk result (λ r. register_of rows.items ≡ Some r) }
         ensures rows { IfOk result (λ r. IsPermutation rows.items r) }

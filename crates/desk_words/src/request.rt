@@ -52,8 +52,8 @@ pub struct NewAppointment {
     pub instructions: Listing<Instr>,
 }
 
-/// A vote that is to be cast on some of a member's shares: by the member itself, by a representative of
-/// it or by its proxy (sections 284, 322, 323 and 324).
+/// A vote that is to be cast on some of a member's shares: by the member itself, by a
+/// representative of it or by its proxy (sections 284, 322, 323 and 324).
 #[derive(Clone, Copy, PartialEq, Eq)]
 pub struct NewCast {
     /// The resolution's number, from 1.
@@ -118,8 +118,8 @@ pub enum PartyRequest {
     Demand(u64),
     /// It votes on some of a member's shares.
     Cast(NewCast),
-    /// As a proxy it votes as it is instructed on the resolution of that number, from 1, wherever it is
-    /// (section 324A).
+    /// As a proxy it votes as it is instructed on the resolution of that number, from 1, wherever
+    /// it is (section 324A).
     Instructed(u64),
 }
 

@@ -3,15 +3,15 @@ use Rattle.std.proofs.Common.{◌≡◌, ◌≢◌, ℕ, zero, suc, ◌+◌, ◌
 use Rattle.std.specs.Prelude.{◌==◌, count_by, is_ok, MatchResult}
 use Rattle.std.specs.List.Sorted.{IsNonDecreasingBy}
 use Rattle.std.specs.Ordering.{is_lt}
-use Rattle.std.proofs.lemmas.Bool.{cases_lt, le-leb, lt-leb, lt-ltb, le-ltb, eq-eqb, ne_eqb, ltb-true, and_parts, and_right, and_left}
+use Rattle.std.proofs.lemmas.Bool.{cases_lt, le-leb, lt-leb, lt-ltb, le-ltb, eq-eqb, ne_eqb, ltb-true, and_parts, and_right, and_left, not-true}
 use Rattle.std.proofs.lemmas.Cmp.{nat_cmp_total}
 use Rattle.std.proofs.lemmas.List.Sorted.{IsNonDecreasingBy-from_default}
 use Rattle.std.proofs.lemmas.List.Sums.{sum_by-cons}
+use Rattle.std.proofs.Math.Bool.{and-true}
 use Rattle.desk_lists.specs.Ordered.{differ_by}
 use Rattle.desk_lists.proofs.Ascending.{differs-from_ascends_by}
 use Rattle.desk_lists.proofs.Finding.{before-from_ascends}
 use Rattle.desk_lists.proofs.Numbers.{is_lt-nat_cmp, differ_by-numbers}
-use Rattle.desk_lists.proofs.Truth.{not_true}
 use Rattle.desk_words.specs.Lists.{is_day_list}
 use Rattle.office_days.specs.Days.{numbers_that, is_closed}
 use Rattle.office_days.proofs.Counting.{numbers_that-none, numbers_that-none_between, numbers_that-suc, numbers_that-split}
@@ -101,19 +101,15 @@ numbers_that-one_more p more x from to same fails =
 count_by-cons : (p : ℕ → Bool) (x : ℕ) (xs : List ℕ) → count_by p (x ∷ xs) ≡ cond (p x) 1 0 + count_by p xs
 count_by-cons p x xs = sum_by-cons (λ y. cond (p y) 1 0) x xs
 
-and_true : (b : Bool) → (b && true) ≡ b
-and_true true = refl
-and_true false = refl
-
 -- of days that differ, those between two days that pass a test are as many as the days between that pass it and are among them
 pub numbers_that-closed : (p : ℕ → Bool) (closed : List ℕ) (from to : ℕ) → differ_by (λ a b. a == b) closed ≡ true
     → numbers_that (λ day. p day && is_closed closed day) from to ≡ count_by (λ day. leb from day && ltb day to && p day) closed
 numbers_that-closed p [] from to differ = numbers_that-none (λ day. p day && false) from to (λ n above below. and_right (p n) false refl)
 numbers_that-closed p (x ∷ xs) from to differ =
     let parts = and_parts _ _ differ in
-    let once : is_closed xs x ≡ false = not_true _ parts.0 in
+    let once : is_closed xs x ≡ false = not-true _ parts.0 in
     let more : ℕ → Bool = λ day. p day && is_closed (x ∷ xs) day in
-    let itself : more x ≡ p x = rw (eq-eqb x x refl) (and_true (p x)) in
+    let itself : more x ≡ p x = rw (eq-eqb x x refl) (and-true (p x)) in
     let one = numbers_that-one_more (λ day. p day && is_closed xs day) more x from to
     (λ n other. ap (λ b. p n && (b || is_closed xs n)) (ne_eqb n x other))
     (ap (λ b. p x && b) once ∙ and_right (p x) false refl) in

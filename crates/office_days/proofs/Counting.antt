@@ -1,6 +1,7 @@
 -- Counting the numbers that pass a test.
 use Rattle.std.proofs.Common.{◌≡◌, ℕ, zero, suc, ◌+◌, ◌*◌, ◌/◌, ◌%◌, ◌<◌, ◌≤◌, Bool, true, false, not, ◌&&◌, cond, Some, None, refl, sym, ap, ◌∙◌, arith, inl, inr, min}
 use Rattle.std.proofs.lemmas.Bool.{cases_lt, cases_Bool, le-leb, lt-leb, lt-ltb, le-ltb}
+use Rattle.desk_lists.proofs.Booleans.{one_at_most}
 use Rattle.office_days.specs.Days.{numbers_that, greatest_that, is_weekday}
 
 -- no number lies from one up to and without a lower one
@@ -47,17 +48,13 @@ numbers_that-none test from (suc n) none =
           omega (arith, numbers_that-none test from n (λ k low high. none k low (omega arith)), numbers_that-suc test from n inside, ap {B = ℕ} (λ b. cond b 1 0) (none n inside (omega arith)))
     ]
 
-cond-le_one : (b : Bool) → cond b 1 0 ≤ 1
-cond-le_one true = omega arith
-cond-le_one false = omega arith
-
 -- no more numbers pass than there are
 pub numbers_that-bound : (test : ℕ → Bool) (from to : ℕ) → from ≤ to → numbers_that test from to + from ≤ to
 numbers_that-bound test from zero h = omega (arith, numbers_that-none_between test from 0 (omega arith))
 numbers_that-bound test from (suc n) h =
     elim (cases_lt n from) [
       | inl last ↦ omega (arith, numbers_that-none_between test from (suc n) (omega arith))
-      | inr inside ↦ omega (arith, numbers_that-bound test from n inside, numbers_that-suc test from n inside, cond-le_one (test n))
+      | inr inside ↦ omega (arith, numbers_that-bound test from n inside, numbers_that-suc test from n inside, one_at_most (test n))
     ]
 
 two_parts : (p q : Bool) → cond (p && not q) 1 0 + cond (p && q) 1 0 ≡ cond p 1 0

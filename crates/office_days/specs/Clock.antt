@@ -1,6 +1,7 @@
 -- The office's wall clock, over the words of `jiff`.
-use Rattle.std.specs.Prelude.{ℕ, ℤ, pos, ◌+ℤ◌, ◌-ℤ◌, ◌*ℤ◌, ◌≤ℤ◌, ◌<ℤ◌}
+use Rattle.std.specs.Prelude.{ℤ, pos, ◌+ℤ◌, ◌-ℤ◌, ◌*ℤ◌, ◌≤ℤ◌, ◌<ℤ◌}
 use Rattle.jiff.specs.Words.{nanos_of_seconds, offset_at}
+use Rattle.desk_words.specs.Seen.{Moment}
 use Rattle.jiff_tz.specs.declared.timezone.TimeZone.{TimeZone}
 
 -- the whole second that these nanoseconds lie in
@@ -13,9 +14,9 @@ abbrev pub Shows : TimeZone → ℤ → ℤ → Type 0
 Shows zone nanos second = IsSecondOf (nanos +ℤ nanos_of_seconds (offset_at zone nanos)) second
 
 -- the seconds from 1970-01-01T00:00:00 to a moment, negative before it
-abbrev pub unix_seconds : ℕ → ℤ
+abbrev pub unix_seconds : Moment → ℤ
 unix_seconds moment = pos moment -ℤ pos 2_208_988_800
 
 -- 2999-12-31T23:59:59
-abbrev pub last_moment : ℕ
+abbrev pub last_moment : Moment
 last_moment = 34712668799

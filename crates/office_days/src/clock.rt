@@ -45,9 +45,12 @@ fn second_shown(instant: Timestamp, zone: &TimeZone<'_>) -> i64
 /// The two instants of an hour that is repeated give one moment. The fault is `OutOfRange` exactly
 /// where the clock shows a second outside the years 1900 to 2999, and never `Memory`.
 pub fn wall_clock(instant: Timestamp, zone: &TimeZone<'_>) -> Result<Moment, ClockFault>
-    ensures shows { IfOk result (λ moment. Shows (plain_zone zone.now) instant.nanosecond (unix_seconds moment)) }
-    ensures out_of_range { (result ≡ Err OutOfRange) ↔
-        ((moment : ℕ) → moment ≤ last_moment → Shows (plain_zone zone.now) instant.nanosecond (unix_seconds moment) → ⊥) }
+    ensures shows { IfOk result
+        (λ moment. Shows (plain_zone zone.now) instant.nanosecond (unix_seconds moment)) }
+    ensures out_of_range { (result ≡ Err OutOfRange)
+        ↔
+        ((moment : ℕ) → moment ≤ last_moment
+        → Shows (plain_zone zone.now) instant.nanosecond (unix_seconds moment) → ⊥) }
     ensures no_memory { (result ≡ Err Memory) → ⊥ }
 {
     let second = second_shown(instant, zone);

@@ -7,6 +7,7 @@ ghost use Rattle.office_days.specs.Days.{IsBack};
 ghost use Rattle.office_days.specs.declared.closed.DaysFault.TheVariants.{TooMany, Memory};
 
 use crate::working;
+use desk_words::limits::{HOURS_UNTIL_LATE, MOST_CLOSED_DAYS};
 use desk_words::{Day, DayList, ListFault, Moment};
 use std::alloc::{AllocError, Global};
 use std::marker::Model;
@@ -14,7 +15,7 @@ use std::marker::Model;
 /// Why a set of closed days was not made.
 #[derive(Clone, Copy, PartialEq, Eq)]
 pub enum DaysFault {
-    /// There are more than 2,000 different days.
+    /// There are more than `MOST_CLOSED_DAYS` different days.
     TooMany,
     /// An allocation was refused.
     Memory,
@@ -48,13 +49,14 @@ impl Model for Closed {
 }
 
 impl Closed {
-    /// The set of these days. The fault is `TooMany` only where there are more than 2,000
-    /// different days, and `Memory` only where an allocation was refused.
+    /// The set of these days. The fault is `TooMany` only where there are more than
+    /// `MOST_CLOSED_DAYS` different days, and `Memory` only where an allocation was refused.
     pub fn from_days(alloc: Global, days: &[Day]) -> Result<Closed, DaysFault>
-        ensures days { IfOk result (λ closed. (day : ℕ) → Contains closed day ↔ Contains days.now day) }
+        ensures days { IfOk result
+            (λ closed. (day : ℕ) → Contains closed day ↔ Contains days.now day) }
         ensures kept { IfOk result (λ closed. IsTrue (is_day_list closed)) }
-        ensures few { OnOk result (day_count days.now ≤ 2000) }
-        ensures too_many { result ≡ Err TooMany → 2000 < day_count days.now }
+        ensures few { OnOk result (day_count days.now ≤ MOST_CLOSED_DAYS) }
+        ensures too_many { result ≡ Err TooMany → MOST_CLOSED_DAYS < day_count days.now }
     {
         let days = Vec::from_slice(alloc, days)?;
         match DayList::new(days) {
@@ -95,11 +97,11 @@ impl Closed {
     }
 
     /// Whether a poll is late, by the moments at which it is ordered and taken: whether more than
-    /// 48 hours of working time lie between them (section 327(3)).
+    /// `HOURS_UNTIL_LATE` hours of working time lie between them (section 327(3)).
     pub fn is_late(&self, ordered: Moment, take: Moment) -> bool
         ensures { result ≡ office.is_late self.now ordered take }
     {
-        self.work_between(ordered, take) > 48 * 3_600
+        self.work_between(ordered, take) > 3_600 * HOURS_UNTIL_LATE
     }
 
     /// The greatest moment, at or before another, that leaves at least so many hours of working

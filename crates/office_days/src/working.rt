@@ -56,7 +56,9 @@ fn count_weekdays(days: &[Day]) -> usize
 fn closed_weekdays(closed: &[Day], from: u64, to: u64) -> u64
     requires sorted { IsTrue (is_day_list closed.now) }
     requires ordered { from ≤ to }
-    ensures { result ≡ office.numbers_that (λ day. office.is_weekday day && office.is_closed closed.now day) from to }
+    ensures { result
+        ≡ office.numbers_that (λ day. office.is_weekday day && office.is_closed closed.now day)
+        from to }
 {
     let first = place_of(closed, from);
     let end = place_of(closed, to);
@@ -103,7 +105,8 @@ pub fn latest_that_leaves(closed: &[Day], wanted: u64, end: u64) -> u64
     requires enough { wanted ≤ office.work closed.now 0 end }
     ensures within { result ≤ end }
     ensures leaves { wanted ≤ office.work closed.now result end }
-    ensures latest { (later : ℕ) → result < later → later ≤ end → office.work closed.now later end < wanted }
+    ensures latest { (later : ℕ) → result < later → later ≤ end
+        → office.work closed.now later end < wanted }
 {
     let mut leaves = 0;
     let mut too_late = end + 1;

@@ -3,9 +3,13 @@ use Rattle.std.proofs.Common.{◌≡◌, ℕ, ◌+◌, ◌-◌, ◌≤◌, Bool,
 use Rattle.std.specs.Prelude.{nat_le, nat_lt, ◌==◌}
 use Rattle.std.specs.List.{list_any}
 use Rattle.std.proofs.lemmas.Bool.Decides.{nat_tests}
-use Rattle.desk_words.specs.Places.{Places, holds, most_places}
+use Rattle.desk_terms.specs.declared.range.TheConstants.{MOST_PLACES}
+use Rattle.desk_lists.proofs.Booleans.{choose_either, neither_first, neither_second}
+use Rattle.std.proofs.Math.Bool.{or-true, or_assoc}
+use Rattle.std.proofs.lemmas.Bool.{eqb-true, le-leb, leb-false, leb-true, or_from}
+use Rattle.std.specs.Cmp.{first_so, second_so}
+use Rattle.desk_words.specs.Places.{Places, holds}
 use Rattle.share_blocks.specs.Pieces.{Piece, ranges_of, tags_at, straddles, halves, cut_at, tagged, covered, follow_from, begin_at}
-use Rattle.share_blocks.proofs.Choices.{first_of, second_of, neither_first, neither_second, neither_of, or-true, or_assoc, le_true, le_is, above_is, same_is, choose_either}
 
 -- whether a piece holds a place and the one before it
 abbrev astride : ℕ → Piece → Bool
@@ -85,8 +89,8 @@ list_any-cut_at_there : (x : ℕ) (ps : List Piece) → list_any (astride x) (cu
 list_any-cut_at_there x [] = refl
 list_any-cut_at_there x (p ∷ ps) =
     (elim (straddles x p.range) as (λ b. straddles x p.range ≡ b → list_any (astride x) (cond b (halves x p) (p ∷ []) ++ cut_at x ps) ≡ false) [
-      | true ↦ λ h. neither_of _ _ (first_half p.range.from x) (neither_of _ _ (second_half x p.range.to) (list_any-cut_at_there x ps))
-      | false ↦ λ h. neither_of _ _ h (list_any-cut_at_there x ps)
+      | true ↦ λ h. or_from _ _ (first_half p.range.from x) (or_from _ _ (second_half x p.range.to) (list_any-cut_at_there x ps))
+      | false ↦ λ h. or_from _ _ h (list_any-cut_at_there x ps)
     ]) refl
 
 -- nor does a further cut make one
@@ -96,8 +100,8 @@ list_any-cut_at x y (p ∷ ps) none =
     let here = neither_first (straddles x p.range) (list_any (astride x) ps) none in
     let later = list_any-cut_at x y ps (neither_second (straddles x p.range) (list_any (astride x) ps) none) in
     (elim (straddles y p.range) as (λ b. straddles y p.range ≡ b → list_any (astride x) (cond b (halves y p) (p ∷ []) ++ cut_at y ps) ≡ false) [
-      | true ↦ λ h. neither_of _ _ (first_part p.range.from p.range.to x y h here) (neither_of _ _ (second_part p.range.from p.range.to x y h here) later)
-      | false ↦ λ h. neither_of _ _ here later
+      | true ↦ λ h. or_from _ _ (first_part p.range.from p.range.to x y h here) (or_from _ _ (second_part p.range.from p.range.to x y h here) later)
+      | false ↦ λ h. or_from _ _ here later
     ]) refl
 
 -- ---- pieces that hold all places in order
@@ -113,22 +117,22 @@ pub record Follows (first : ℕ) (range : Places) (ranges : List Places) : Type 
 
 pub follows : (first : ℕ) (range : Places) (ranges : List Places) → follow_from first (range ∷ ranges) ≡ true → Follows first range ranges
 follows first range ranges h =
-    let front = first_of ((range.from == first) && nat_le first range.to) (follow_from (range.to + 1) ranges) h in
+    let front = first_so ((range.from == first) && nat_le first range.to) (follow_from (range.to + 1) ranges) h in
     record {
-      begins = same_is range.from first (first_of (range.from == first) (nat_le first range.to) front);
-      within = le_is first range.to (second_of (range.from == first) (nat_le first range.to) front);
-      rest = second_of ((range.from == first) && nat_le first range.to) (follow_from (range.to + 1) ranges) h;
+      begins = eqb-true range.from first (first_so (range.from == first) (nat_le first range.to) front);
+      within = leb-true first range.to (second_so (range.from == first) (nat_le first range.to) front);
+      rest = second_so ((range.from == first) && nat_le first range.to) (follow_from (range.to + 1) ranges) h;
     }
 
 -- each place from the first on is held
-pub held_from : (first : ℕ) (ps : List Piece) (x : ℕ) → follow_from first (ranges_of ps) ≡ true → first ≤ x → x ≤ most_places → held ps x ≡ true
-held_from first [] x all low high = let e : first ≡ most_places + 1 = same_is first (most_places + 1) all in absurd (omega arith)
+pub held_from : (first : ℕ) (ps : List Piece) (x : ℕ) → follow_from first (ranges_of ps) ≡ true → first ≤ x → x ≤ MOST_PLACES → held ps x ≡ true
+held_from first [] x all low high = let e : first ≡ MOST_PLACES + 1 = eqb-true first (MOST_PLACES + 1) all in absurd (omega arith)
 held_from first (p ∷ ps) x all low high =
     let f = follows first p.range (ranges_of ps) all in
     (elim (nat_le x p.range.to) as (λ b. nat_le x p.range.to ≡ b → ((nat_le p.range.from x && b) || held ps x) ≡ true) [
-      | true ↦ λ h. let lower : nat_le p.range.from x ≡ true = le_true p.range.from x (omega (arith, f.begins)) in ap (λ b. (b && true) || held ps x) lower
+      | true ↦ λ h. let lower : nat_le p.range.from x ≡ true = le-leb p.range.from x (omega (arith, f.begins)) in ap (λ b. (b && true) || held ps x) lower
       | false ↦ λ h.
-          let later = held_from (p.range.to + 1) ps x f.rest (omega (arith, above_is x p.range.to h)) high in
+          let later = held_from (p.range.to + 1) ps x f.rest (omega (arith, leb-false x p.range.to h)) high in
           ap (λ b. (nat_le p.range.from x && false) || b) later ∙ or-true (nat_le p.range.from x && false)
     ]) refl
 
@@ -162,7 +166,7 @@ begin_at-cut_at x ps q h =
     begin_at-cut_piece x ps q
     ∙ (elim (x == q) as (λ b. (x == q) ≡ b → (begin_at (ranges_of ps) q || (b && list_any (astride x) ps)) ≡ (begin_at (ranges_of ps) q || b)) [
       | true ↦ λ e.
-          ap (λ y. begin_at (ranges_of ps) q || list_any (astride y) ps) (same_is x q e)
+          ap (λ y. begin_at (ranges_of ps) q || list_any (astride y) ps) (eqb-true x q e)
           ∙ begins_or_astride ps q h
           ∙ sym (or-true (begin_at (ranges_of ps) q))
       | false ↦ λ e. refl
@@ -201,7 +205,7 @@ holds_all range tag ps first =
     ∙ follow_from-cut_at (range.to + 1) (cut_at range.from ps) first
     ∙ follow_from-cut_at range.from ps first
 
-module _ (range : Places) (tag : ℕ) (ps : List Piece) (all : follow_from 1 (ranges_of ps) ≡ true) (i : ℕ) (low : 1 ≤ i) (high : i ≤ most_places) where
+module _ (range : Places) (tag : ℕ) (ps : List Piece) (all : follow_from 1 (ranges_of ps) ≡ true) (i : ℕ) (low : 1 ≤ i) (high : i ≤ MOST_PLACES) where
   once : held (cut_at range.from ps) i ≡ true
   once = held_from 1 (cut_at range.from ps) i (follow_from-cut_at range.from ps 1 ∙ all) low high
 

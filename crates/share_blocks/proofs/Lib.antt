@@ -1,4 +1,3 @@
-pub mod Choices
 pub mod CutLemmas
 pub mod CoverLemmas
 pub mod MarkLemmas

@@ -7,8 +7,11 @@ use Rattle.std.specs.Ordering.{nat_cmp, eq_by_cmp}
 use Rattle.std.proofs.lemmas.Bool.Decides.{nat_tests}
 use Rattle.std.proofs.lemmas.Cmp.{nat_cmp_total}
 use Rattle.std.proofs.lemmas.List.{get_or-replicate}
-use Rattle.share_blocks.specs.Tags.{is_tag, marked_from, most_tags}
-use Rattle.share_blocks.proofs.Choices.{first_of, second_of, le_is, same_true, same_false, same_false_above}
+use Rattle.share_blocks.specs.declared.tag.TheConstants.{MOST_TAGS}
+use Rattle.desk_lists.proofs.Booleans.{same_false, same_false_above}
+use Rattle.std.proofs.lemmas.Bool.{eq-eqb, leb-true}
+use Rattle.std.specs.Cmp.{first_so, second_so}
+use Rattle.share_blocks.specs.Tags.{is_tag, marked_from}
 
 -- whether a number is marked
 abbrev is_marked : ℕ → List Bool → ℕ → Bool
@@ -22,7 +25,7 @@ unmarked_before first (false ∷ marks) q low = unmarked_before (first + 1) mark
 -- a number is marked where its mark stands
 is_marked-at : (first : ℕ) (marks : List Bool) (k q : ℕ) → first + k ≡ q → is_marked first marks q ≡ get_or marks k false
 is_marked-at first [] k q is = refl
-is_marked-at first (true ∷ marks) zero q is = ap (λ b. b || is_marked (first + 1) marks q) (same_true first q (omega (arith, is)))
+is_marked-at first (true ∷ marks) zero q is = ap (λ b. b || is_marked (first + 1) marks q) (eq-eqb first q (omega (arith, is)))
 is_marked-at first (true ∷ marks) (suc k) q is =
     ap (λ b. b || is_marked (first + 1) marks q) (same_false first q (omega (arith, is))) ∙ is_marked-at (first + 1) marks k q (omega (arith, is))
 is_marked-at first (false ∷ marks) zero q is = unmarked_before (first + 1) marks q (omega (arith, is))
@@ -75,8 +78,8 @@ marked_set-set marks k t within is =
     ∙ sym (contains-insert nat_cmp_total (marked_set marks) t q))
 
 -- where all are marked, the set holds each tag
-pub contains-all_marked : (n t : ℕ) → n ≡ most_tags → is_tag t ≡ true → contains (marked_set (replicate n true)) t ≡ true
+pub contains-all_marked : (n t : ℕ) → n ≡ MOST_TAGS → is_tag t ≡ true → contains (marked_set (replicate n true)) t ≡ true
 contains-all_marked n t all tag =
-    let low = le_is 1 t (first_of (nat_le 1 t) (nat_le t most_tags) tag) in
-    let high = le_is t most_tags (second_of (nat_le 1 t) (nat_le t most_tags) tag) in
+    let low = leb-true 1 t (first_so (nat_le 1 t) (nat_le t MOST_TAGS) tag) in
+    let high = leb-true t MOST_TAGS (second_so (nat_le 1 t) (nat_le t MOST_TAGS) tag) in
     contains-marked_set (replicate n true) (t - 1) t (omega (arith, low)) ∙ get_or-replicate n (t - 1) true false (omega (arith, all, low, high))

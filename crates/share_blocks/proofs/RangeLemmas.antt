@@ -5,20 +5,24 @@ use Rattle.std.specs.List.{list_any, flat_map}
 use Rattle.std.specs.Ordering.{is_lt, nat_cmp, eq_by_cmp}
 use Rattle.std.specs.Set.{is_member}
 use Rattle.std.proofs.lemmas.Bool.Decides.{nat_tests}
-use Rattle.desk_words.specs.Places.{Places, most_places}
+use Rattle.desk_terms.specs.declared.range.TheConstants.{MOST_PLACES}
+use Rattle.desk_lists.proofs.Booleans.{same_false, same_false_above}
+use Rattle.std.proofs.Math.Bool.{and-false, or-true, or_assoc}
+use Rattle.std.proofs.lemmas.Bool.{and_from, eq-eqb, eqb-true, le-leb, leb-true, lt-ltb, ltb-true}
+use Rattle.std.specs.Cmp.{first_so, second_so}
+use Rattle.desk_words.specs.Places.{Places}
 use Rattle.desk_lists.specs.Ordered.{ascends_by}
 use Rattle.share_blocks.specs.Pieces.{follow_from, begin_at, ranges_of}
 use Rattle.share_blocks.specs.Covers.{Cover, is_cut, pieces_after}
 use Rattle.share_blocks.specs.Cuts.{is_inner, inner, ranges_between, rise_from}
-use Rattle.share_blocks.proofs.Choices.{and-false, or-true, first_of, second_of, both_of, or_assoc, le_true, le_is, lt_is, lt_true, same_is, same_true, same_false, same_false_above}
 use Rattle.share_blocks.proofs.CutLemmas.{follows}
 use Rattle.share_blocks.proofs.CoverLemmas.{follow_from-bound, follow_from-pieces_after, begin_at-pieces_after}
 
 -- ---- where ranges begin
 
-first_begins : (first : ℕ) (rs : List Places) → follow_from first rs ≡ true → first ≤ most_places → begin_at rs first ≡ true
-first_begins first [] all high = let e : first ≡ most_places + 1 = same_is first (most_places + 1) all in absurd (omega arith)
-first_begins first (r ∷ rs) all high = ap (λ b. b || begin_at rs first) (same_true r.from first (follows first r rs all).begins)
+first_begins : (first : ℕ) (rs : List Places) → follow_from first rs ≡ true → first ≤ MOST_PLACES → begin_at rs first ≡ true
+first_begins first [] all high = let e : first ≡ MOST_PLACES + 1 = eqb-true first (MOST_PLACES + 1) all in absurd (omega arith)
+first_begins first (r ∷ rs) all high = ap (λ b. b || begin_at rs first) (eq-eqb r.from first (follows first r rs all).begins)
 
 none_before : (first : ℕ) (rs : List Places) (q : ℕ) → follow_from first rs ≡ true → q < first → begin_at rs q ≡ false
 none_before first [] q all low = refl
@@ -29,11 +33,11 @@ none_before first (r ∷ rs) q all low =
 
 -- a range that ends sooner is followed by one that begins within the other
 ends_sooner : (first : ℕ) (r : Places) (rs : List Places) (s : Places) (ss : List Places) → follow_from first (r ∷ rs) ≡ true → follow_from first (s ∷ ss) ≡ true
-    → ((q : ℕ) → first < q → q ≤ most_places → begin_at (r ∷ rs) q ≡ begin_at (s ∷ ss) q) → r.to < s.to → ⊥
+    → ((q : ℕ) → first < q → q ≤ MOST_PLACES → begin_at (r ∷ rs) q ≡ begin_at (s ∷ ss) q) → r.to < s.to → ⊥
 ends_sooner first r rs s ss all all' same sooner =
     let f = follows first r rs all in
     let g = follows first s ss all' in
-    let bound : s.to ≤ most_places = omega (arith, follow_from-bound (s.to + 1) ss g.rest) in
+    let bound : s.to ≤ MOST_PLACES = omega (arith, follow_from-bound (s.to + 1) ss g.rest) in
     let here : begin_at (r ∷ rs) (r.to + 1) ≡ true =
     ap (λ b. b || begin_at rs (r.to + 1)) (same_false r.from (r.to + 1) (omega (arith, f.begins, f.within)))
     ∙ first_begins (r.to + 1) rs f.rest (omega arith) in
@@ -47,15 +51,15 @@ same_places r s from to = λ i. record { from = from i; to = to i }
 
 -- ranges that hold the same places in order and begin at the same places are the same
 pub same_ranges : (first : ℕ) (rs ss : List Places) → follow_from first rs ≡ true → follow_from first ss ≡ true
-    → ((q : ℕ) → first < q → q ≤ most_places → begin_at rs q ≡ begin_at ss q) → rs ≡ ss
+    → ((q : ℕ) → first < q → q ≤ MOST_PLACES → begin_at rs q ≡ begin_at ss q) → rs ≡ ss
 same_ranges first [] [] all all' same = refl
 same_ranges first [] (s ∷ ss) all all' same =
     let g = follows first s ss all' in
-    let e : first ≡ most_places + 1 = same_is first (most_places + 1) all in
+    let e : first ≡ MOST_PLACES + 1 = eqb-true first (MOST_PLACES + 1) all in
     absurd (omega (arith, g.within, follow_from-bound (s.to + 1) ss g.rest))
 same_ranges first (r ∷ rs) [] all all' same =
     let f = follows first r rs all in
-    let e : first ≡ most_places + 1 = same_is first (most_places + 1) all' in
+    let e : first ≡ MOST_PLACES + 1 = eqb-true first (MOST_PLACES + 1) all' in
     absurd (omega (arith, f.within, follow_from-bound (r.to + 1) rs f.rest))
 same_ranges first (r ∷ rs) (s ∷ ss) all all' same =
     let f = follows first r rs all in
@@ -65,7 +69,7 @@ same_ranges first (r ∷ rs) (s ∷ ss) all all' same =
     let to : r.to ≡ s.to = same_end r.to s.to longer shorter in
     let from : r.from ≡ s.from = f.begins ∙ sym g.begins in
     let rest : follow_from (r.to + 1) ss ≡ true = ap (λ n. follow_from (n + 1) ss) to ∙ g.rest in
-    let later : (q : ℕ) → r.to + 1 < q → q ≤ most_places → begin_at rs q ≡ begin_at ss q =
+    let later : (q : ℕ) → r.to + 1 < q → q ≤ MOST_PLACES → begin_at rs q ≡ begin_at ss q =
     λ q low high.
     ap (λ b. b || begin_at rs q) (sym (same_false r.from q (omega (arith, f.begins, f.within))))
     ∙ same q (omega (arith, f.within)) high
@@ -79,30 +83,30 @@ same_ranges first (r ∷ rs) (s ∷ ss) all all' same =
 
 pub record Rises (first cut : ℕ) (cuts : List ℕ) : Type 0 where
   pub after : first < cut
-  pub place : cut ≤ most_places
+  pub place : cut ≤ MOST_PLACES
   pub rest : rise_from cut cuts ≡ true
 
 pub rises : (first cut : ℕ) (cuts : List ℕ) → rise_from first (cut ∷ cuts) ≡ true → Rises first cut cuts
 rises first cut cuts h =
-    let front = first_of (nat_lt first cut && nat_le cut most_places) (rise_from cut cuts) h in
+    let front = first_so (nat_lt first cut && nat_le cut MOST_PLACES) (rise_from cut cuts) h in
     record {
-      after = lt_is first cut (first_of (nat_lt first cut) (nat_le cut most_places) front);
-      place = le_is cut most_places (second_of (nat_lt first cut) (nat_le cut most_places) front);
-      rest = second_of (nat_lt first cut && nat_le cut most_places) (rise_from cut cuts) h;
+      after = ltb-true first cut (first_so (nat_lt first cut) (nat_le cut MOST_PLACES) front);
+      place = leb-true cut MOST_PLACES (second_so (nat_lt first cut) (nat_le cut MOST_PLACES) front);
+      rest = second_so (nat_lt first cut && nat_le cut MOST_PLACES) (rise_from cut cuts) h;
     }
 
 same_self : (a : ℕ) → (a == a) ≡ true
 same_self a = grind (arith, nat_tests)
 
-pub follow_from-ranges_between : (first : ℕ) (cuts : List ℕ) → rise_from first cuts ≡ true → first ≤ most_places → follow_from first (ranges_between first cuts) ≡ true
+pub follow_from-ranges_between : (first : ℕ) (cuts : List ℕ) → rise_from first cuts ≡ true → first ≤ MOST_PLACES → follow_from first (ranges_between first cuts) ≡ true
 follow_from-ranges_between first [] up high =
-    both_of ((first == first) && nat_le first most_places) (most_places + 1 == most_places + 1)
-    (both_of (first == first) (nat_le first most_places) (same_self first) (le_true first most_places high)) refl
+    and_from ((first == first) && nat_le first MOST_PLACES) (MOST_PLACES + 1 == MOST_PLACES + 1)
+    (and_from (first == first) (nat_le first MOST_PLACES) (same_self first) (le-leb first MOST_PLACES high)) refl
 follow_from-ranges_between first (cut ∷ cuts) up high =
     let r = rises first cut cuts up in
     let next : cut - 1 + 1 ≡ cut = omega (arith, r.after) in
-    both_of ((first == first) && nat_le first (cut - 1)) (follow_from (cut - 1 + 1) (ranges_between cut cuts))
-    (both_of (first == first) (nat_le first (cut - 1)) (same_self first) (le_true first (cut - 1) (omega (arith, r.after))))
+    and_from ((first == first) && nat_le first (cut - 1)) (follow_from (cut - 1 + 1) (ranges_between cut cuts))
+    (and_from (first == first) (nat_le first (cut - 1)) (same_self first) (le-leb first (cut - 1) (omega (arith, r.after))))
     (ap (λ n. follow_from n (ranges_between cut cuts)) next ∙ follow_from-ranges_between cut cuts r.rest r.place)
 
 begin_at-ranges_between : (first : ℕ) (cuts : List ℕ) (q : ℕ) → begin_at (ranges_between first cuts) q ≡ ((first == q) || list_any (λ cut. cut == q) cuts)
@@ -118,7 +122,7 @@ ranges_between-cuts covers cuts up are =
     begin_at-ranges_between 1 cuts q
     ∙ ap (λ b. b || list_any (λ cut. cut == q) cuts) (same_false 1 q low)
     ∙ are q
-    ∙ ap (λ b. b && is_cut covers q) (both_of (nat_lt 1 q) (nat_le q most_places) (lt_true 1 q low) (le_true q most_places high))
+    ∙ ap (λ b. b && is_cut covers q) (and_from (nat_lt 1 q) (nat_le q MOST_PLACES) (lt-ltb 1 q low) (le-leb q MOST_PLACES high))
     ∙ sym (begin_at-pieces_after covers q low high))
 
 pub ruleset parted_at_cuts = (ranges_between-cuts)
@@ -141,7 +145,7 @@ is_among-inner : (x q : ℕ) → is_among (inner x) q ≡ (is_inner q && (x == q
 is_among-inner x q =
     (elim (x == q) as (λ b. (x == q) ≡ b → is_among (inner x) q ≡ (is_inner q && b)) [
       | true ↦ λ e.
-          ap (λ y. is_among (inner y) q) (same_is x q e)
+          ap (λ y. is_among (inner y) q) (eqb-true x q e)
           ∙ (elim (is_inner q) as (λ d. is_among (cond d (q ∷ []) []) q ≡ (d && true)) [ true ↦ ap (λ b. b || false) (same_self q) | false ↦ refl ])
       | false ↦ λ e.
           (elim (is_inner x) as (λ d. is_among (cond d (x ∷ []) []) q ≡ false) [ true ↦ ap (λ b. b || false) e | false ↦ refl ])
@@ -176,17 +180,17 @@ less_same a b h = grind (arith, nat_tests)
 pub rise_from-ascending : (first : ℕ) (cuts : List ℕ) → ascends_by (λ a b. is_lt (nat_cmp a b)) (first ∷ cuts) ≡ true → ((q : ℕ) → is_among cuts q ≡ true → is_inner q ≡ true) → rise_from first cuts ≡ true
 rise_from-ascending first [] up inside = refl
 rise_from-ascending first (cut ∷ cuts) up inside =
-    let place = second_of (nat_lt 1 cut) (nat_le cut most_places) (inside cut (ap (λ b. b || is_among cuts cut) (same_self cut))) in
-    let less = less_same first cut (first_of (is_lt (nat_cmp first cut)) (ascends_by (λ a b. is_lt (nat_cmp a b)) (cut ∷ cuts)) up) in
-    both_of (nat_lt first cut && nat_le cut most_places) (rise_from cut cuts)
-    (both_of (nat_lt first cut) (nat_le cut most_places) (lt_true first cut less) place)
-    (rise_from-ascending cut cuts (second_of (is_lt (nat_cmp first cut)) (ascends_by (λ a b. is_lt (nat_cmp a b)) (cut ∷ cuts)) up) (λ q among. inside q (ap (λ b. (cut == q) || b) among ∙ or-true (cut == q))))
+    let place = second_so (nat_lt 1 cut) (nat_le cut MOST_PLACES) (inside cut (ap (λ b. b || is_among cuts cut) (same_self cut))) in
+    let less = less_same first cut (first_so (is_lt (nat_cmp first cut)) (ascends_by (λ a b. is_lt (nat_cmp a b)) (cut ∷ cuts)) up) in
+    and_from (nat_lt first cut && nat_le cut MOST_PLACES) (rise_from cut cuts)
+    (and_from (nat_lt first cut) (nat_le cut MOST_PLACES) (lt-ltb first cut less) place)
+    (rise_from-ascending cut cuts (second_so (is_lt (nat_cmp first cut)) (ascends_by (λ a b. is_lt (nat_cmp a b)) (cut ∷ cuts)) up) (λ q among. inside q (ap (λ b. (cut == q) || b) among ∙ or-true (cut == q))))
 
 pub rise_from_one : (cuts : List ℕ) → ascends_by (λ a b. is_lt (nat_cmp a b)) cuts ≡ true → ((q : ℕ) → is_among cuts q ≡ true → is_inner q ≡ true) → rise_from 1 cuts ≡ true
 rise_from_one [] up inside = refl
 rise_from_one (cut ∷ cuts) up inside =
     let here = inside cut (ap (λ b. b || is_among cuts cut) (same_self cut)) in
-    rise_from-ascending 1 (cut ∷ cuts) (both_of (is_lt (nat_cmp 1 cut)) (ascends_by (λ a b. is_lt (nat_cmp a b)) (cut ∷ cuts)) (less_is 1 cut (lt_is 1 cut (first_of (nat_lt 1 cut) (nat_le cut most_places) here))) up) inside
+    rise_from-ascending 1 (cut ∷ cuts) (and_from (is_lt (nat_cmp 1 cut)) (ascends_by (λ a b. is_lt (nat_cmp a b)) (cut ∷ cuts)) (less_is 1 cut (ltb-true 1 cut (first_so (nat_lt 1 cut) (nat_le cut MOST_PLACES) here))) up) inside
   where
     less_is : (a b : ℕ) → a < b → is_lt (nat_cmp a b) ≡ true
     less_is a b h = grind (arith, nat_tests)
@@ -198,4 +202,4 @@ module _ (covers : List Cover) (cuts : List ℕ) (same : (q : ℕ) → is_member
   cuts_are q = sym (is_member-numbers cuts q) ∙ same q ∙ is_member-numbers (flat_map ends_of covers) q ∙ is_among-ends_of covers q
 
   pub cuts_rise : ascends_by (λ a b. is_lt (nat_cmp a b)) cuts ≡ true → rise_from 1 cuts ≡ true
-  cuts_rise up = rise_from_one cuts up (λ q among. first_of (is_inner q) (is_cut covers q) (sym (cuts_are q) ∙ among))
+  cuts_rise up = rise_from_one cuts up (λ q among. first_so (is_inner q) (is_cut covers q) (sym (cuts_are q) ∙ among))

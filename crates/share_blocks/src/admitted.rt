@@ -63,7 +63,7 @@ impl Admitted {
 /// Where the mark of a tag stands.
 fn place_of(tag: Tag) -> usize
     ensures place { result + 1 ≡ tag }
-    ensures bound { result < 256 }
+    ensures bound { result < MOST_TAGS }
 {
     tag.number() as usize - 1
 }

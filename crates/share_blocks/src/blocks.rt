@@ -1,16 +1,16 @@
 //! What covers the places of a member's shares.
 ghost use Rattle.std.specs.Prelude.{◌≡◌, ℕ, Bool, List, ◌<◌, ◌≤◌, All, IsTrue, IfOk, OnOk, OnErr, find};
 ghost use Rattle.std.specs.FinSet as set;
-ghost use Rattle.desk_words.specs.Places.{most_places};
 ghost use Rattle.share_blocks.specs.Covers.{is_cut, newest_of, pieces_after, tags_of};
 ghost use Rattle.share_blocks.specs.Pieces.{AreAlike, Piece, begin_at, covered, follow_from, is_place, ranges_of, tags_at, uncovered};
 
 use crate::admitted::Admitted;
 use crate::tag::Tag;
-use desk_words::Range;
+use desk_words::{MOST_PLACES, Range};
 use std::alloc::{AllocError, Global};
 
-/// The places 1 to 10^12 of a member's shares, and the tags that cover each, the newest first.
+/// The places 1 to `MOST_PLACES` of a member's shares, and the tags that cover each, the newest
+/// first.
 ///
 /// Contracts see it as the list of its pieces in order, however it is kept. The pieces are parted
 /// at the cuts: the places after the first where a covered range begins or has just ended.
@@ -54,8 +54,9 @@ pub fn run<B: Blocks>(alloc: Global, covers: &[(Range, Tag)]) -> Result<B, Alloc
     ensures newest { IfOk result (λ blocks. (place : ℕ) (test : ℕ → Bool) → IsTrue (is_place place)
         → find test (tags_at (B.pieces blocks) place) ≡ newest_of test covers.now place) }
 
-    ensures in_order { IfOk result (λ blocks. IsTrue (follow_from 1 (ranges_of (B.pieces blocks)))) }
-    ensures cuts { IfOk result (λ blocks. (place : ℕ) → 1 < place → place ≤ most_places
+    ensures in_order { IfOk result
+        (λ blocks. IsTrue (follow_from 1 (ranges_of (B.pieces blocks)))) }
+    ensures cuts { IfOk result (λ blocks. (place : ℕ) → 1 < place → place ≤ MOST_PLACES
         → begin_at (ranges_of (B.pieces blocks)) place ≡ is_cut covers.now place) }
 {
     let mut blocks = B::new(alloc);

@@ -2,8 +2,9 @@
 //! place, the newest first.
 //!
 //! A member may appoint several proxies, each for other shares (section 324(2) of the Act), and may
-//! appoint anew for shares that are appointed for. Covered in order of receipt, each range under the
-//! number of its appointment, the newest tag of a place tells which appointment is the last for it.
+//! appoint anew for shares that are appointed for. Covered in order of receipt, each range under
+//! the number of its appointment, the newest tag of a place tells which appointment is the last for
+//! it.
 #![tactic(auto)]
 
 mod admitted;

@@ -2,7 +2,7 @@
 ghost use Rattle.std.specs.Prelude.{◌≡◌, ◌++◌, ◌&&◌, ◌==◌, ℕ, IsTrue, IfOk, OnOk, find};
 ghost use Rattle.std.specs.FinSet as set;
 ghost use Rattle.std.specs.List.{list_any};
-ghost use Rattle.desk_words.specs.Places.{holds, is_range, most_places};
+ghost use Rattle.desk_words.specs.Places.{holds};
 ghost use Rattle.share_blocks.specs.Covers.{is_cut, newest_of, pieces_after};
 ghost use Rattle.share_blocks.specs.Cuts.{inner, is_inner, ranges_between, rise_from};
 ghost use Rattle.share_blocks.specs.Pieces.{ranges_of, tags_at};
@@ -11,11 +11,8 @@ use crate::admitted::Admitted;
 use crate::blocks::Blocks;
 use crate::tag::Tag;
 use desk_lists::in_order_once;
-use desk_words::Range;
+use desk_words::{MOST_PLACES, Range};
 use std::alloc::{AllocError, Global};
-
-/// The highest place.
-const MOST_PLACES: u64 = 1_000_000_000_000;
 
 /// The ranges as they were covered, the newest last.
 ///
@@ -112,17 +109,6 @@ fn pieces_of(alloc: Global, covers: &[(Range, Tag)]) -> Result<Vec<Range>, Alloc
     parted_at(alloc, cuts.as_slice())
 }
 
-/// The range with these ends.
-fn range_with(from: u64, to: u64) -> Range
-    requires { IsTrue (is_range from to) }
-    ensures { result ≡ record { from = from; to = to } }
-{
-    match Range::new(from, to) {
-        Some(range) => range,
-        None => unreachable!(),
-    }
-}
-
 /// All places, parted at the cuts.
 fn parted_at(alloc: Global, cuts: &[u64]) -> Result<Vec<Range>, AllocError>
     requires { IsTrue (rise_from 1 cuts.now) }
@@ -131,9 +117,9 @@ fn parted_at(alloc: Global, cuts: &[u64]) -> Result<Vec<Range>, AllocError>
     let mut ranges = Vec::new(alloc);
     let mut from = 1;
     for cut in cuts {
-        ranges.push(range_with(from, *cut - 1))?;
+        ranges.push(Range::with_ends(from, *cut - 1))?;
         from = *cut;
     }
-    ranges.push(range_with(from, MOST_PLACES))?;
+    ranges.push(Range::with_ends(from, MOST_PLACES))?;
     Ok(ranges)
 }

@@ -2,12 +2,13 @@
 ghost use Rattle.std.specs.Prelude.{◌≡◌, IsTrue};
 ghost use Rattle.share_blocks.specs.Tags.{is_tag, tag_of};
 
+use desk_words::limits::MOST_APPOINTMENTS;
 use std::marker::Model;
 
-/// How many tags there are.
-pub const MOST_TAGS: usize = 256;
+/// How many tags there are: as many as a member may give appointments.
+pub const MOST_TAGS: usize = MOST_APPOINTMENTS;
 
-/// What a range is covered with: a number from 1 to 256, as that of a member's appointment.
+/// What a range is covered with: a number from 1 to `MOST_TAGS`, as that of a member's appointment.
 #[derive(Clone, Copy, PartialEq, Eq)]
 pub struct Tag {
     number: u16,
@@ -27,7 +28,8 @@ impl Model for Tag {
 }
 
 impl Tag {
-    /// The tag of a number, or none exactly where it is not from 1 to 256.
+    /// The tag of a number, or none exactly where it is not from 1 to
+    /// `MOST_TAGS`.
     pub fn new(number: u64) -> Option<Tag>
         ensures { result ≡ tag_of number }
     {
@@ -40,7 +42,7 @@ impl Tag {
         }
     }
 
-    /// Its number, from 1 to 256.
+    /// Its number, from 1 to `MOST_TAGS`.
     pub fn number(self) -> u64
         ensures value { result ≡ self }
         ensures kept { IsTrue (is_tag self) }

@@ -1,5 +1,5 @@
 use Rattle.std.proofs.Common.{◌≡◌, ◌++◌, ◌≤◌, drop, true}
-use Rattle.desk_words.specs.Places.{most_places}
+use Rattle.desk_terms.specs.declared.range.TheConstants.{MOST_PLACES}
 use Rattle.share_blocks.specs.Cuts.{ranges_between, rise_from}
 use Rattle.share_blocks.proofs.plain.parted_at.Given as goal
 
@@ -9,6 +9,6 @@ invariant-loop-cut l =
     record {
       all : l.ranges.items ++ ranges_between l.from (drop l.cut-index l.cuts) ≡ ranges_between 1 l.cuts;
       low : 1 ≤ l.from;
-      high : l.from ≤ most_places;
+      high : l.from ≤ MOST_PLACES;
       up : rise_from l.from (drop l.cut-index l.cuts) ≡ true;
     }

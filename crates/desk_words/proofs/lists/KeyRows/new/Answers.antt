@@ -6,12 +6,13 @@ use Rattle.std.proofs.lemmas.List.Sorted.{IsPermutation-trans}
 use Rattle.desk_lists.specs.Ordered.{ascends_by}
 use Rattle.desk_words.specs.Lists.{caller_before, keep_keys, is_key_list, key_list_of}
 use Rattle.desk_words.proofs.KeyLimits.{is_key_list-sorted, key_list_of-sorted, key_list_of-repeated}
+use Rattle.desk_words.specs.declared.limits.TheConstants.{MOST_KEYS}
 use Rattle.desk_words.proofs.lists.KeyRows.new.Goals as goal
 
 module _ (c : goal.Else-not-ascend) where
   limits : keep_keys c.args.rows.items ≡ true
   limits =
-      let few : nat_le (length c.args.rows.items) 40000 ≡ true = grind (arith, nat_tests) in
+      let few : nat_le (length c.args.rows.items) MOST_KEYS ≡ true = grind (arith, nat_tests) in
       both_true few (sym c.secrets_differ.ensures.differ ∙ c.if-not-secrets_differ.false)
 
   moved : IsPermutation c.args.rows.items c.into_order.new.values.items
@@ -28,7 +29,7 @@ module _ (c : goal.Else-not-ascend) where
 
 pub returns-then-not-ascend-clause-limit : goal.returns-then-not-ascend-clause-limit
 returns-then-not-ascend-clause-limit c =
-    let few : nat_le (length c.args.rows.items) 40000 ≡ true = grind (arith, nat_tests) in
+    let few : nat_le (length c.args.rows.items) MOST_KEYS ≡ true = grind (arith, nat_tests) in
     let kept = both_true few (sym c.secrets_differ.ensures.differ ∙ c.if-not-secrets_differ.false) in
     let falls : ascends_by caller_before c.into_order.new.values.items ≡ false =
     ap (ascends_by caller_before) (sym c.deref.ensures.value) ∙ sym c.ascend.ensures ∙ c.if-not-ascend.true in

@@ -2,7 +2,7 @@
 use Rattle.std.proofs.Common.{◌≡◌, ℕ, ◌≤◌, Bool, true, false, not, ◌||◌, cond, List, [], ◌∷◌, Some, refl, sym, ap, ◌∙◌}
 use Rattle.std.specs.Prelude.{Contains, ◌↔◌, nat_eq}
 use Rattle.std.specs.Set.{is_member, unique_keys}
-use Rattle.std.proofs.lemmas.Bool.{le-leb, and_parts}
+use Rattle.std.proofs.lemmas.Bool.{and_from, and_parts, le-leb}
 use Rattle.std.proofs.lemmas.Bool.Decides.{Decides-eqb}
 use Rattle.std.proofs.lemmas.Cmp.{nat_cmp_total}
 use Rattle.std.proofs.lemmas.List.Sorted.{Contains-permutation, IsPermutation-sym}
@@ -11,9 +11,9 @@ use Rattle.desk_lists.specs.Ordered.{ascends_by, differ_by}
 use Rattle.desk_lists.proofs.Ascending.{same_list-from_Contains}
 use Rattle.desk_lists.proofs.Numbers.{differ_by-numbers}
 use Rattle.desk_lists.proofs.SortingLemmas.{IsPermutation-sort_by, ascends-sort_by}
-use Rattle.desk_lists.proofs.Truth.{both_true}
-use Rattle.desk_words.specs.Lists.{day_before, day_count, is_day_list}
-use Rattle.desk_bodies.specs.Days.{each_once, day_list_of}
+use Rattle.desk_words.specs.Lists.{day_before, day_count, day_list_of, each_once, is_day_list}
+use Rattle.desk_words.specs.Seen.{Day}
+use Rattle.desk_words.specs.declared.limits.TheConstants.{MOST_CLOSED_DAYS}
 
 -- ---- the different days
 
@@ -33,20 +33,20 @@ differ_by-unique_keys (x ∷ xs) = by (is_member nat_eq xs x) refl (differ_by-un
   where
     by : (b : Bool) → is_member nat_eq xs x ≡ b → differ_by nat_eq (unique_keys nat_eq xs) ≡ true → differ_by nat_eq (cond b (unique_keys nat_eq xs) (x ∷ unique_keys nat_eq xs)) ≡ true
     by true m r = r
-    by false m r = both_true _ _ (ap not (is_member-unique_keys xs x ∙ m)) r
+    by false m r = and_from _ _ (ap not (is_member-unique_keys xs x ∙ m)) r
 
 member_tells : (xs : List ℕ) (x : ℕ) → (is_member nat_eq xs x ≡ true) ↔ Contains xs x
 member_tells xs x = is_member-Decides Decides-eqb xs x
 
 -- ---- each once and in order
 
-ascends-each_once : (days : List ℕ) → ascends_by day_before (each_once days) ≡ true
+ascends-each_once : (days : List Day) → ascends_by day_before (each_once days) ≡ true
 unfolding each_once
 ascends-each_once days =
-    ascends-sort_by nat_cmp_total (λ (day : ℕ). day) (unique_keys nat_eq days)
-    (differ_by-numbers (λ (day : ℕ). day) (unique_keys nat_eq days) ∙ differ_by-unique_keys days)
+    ascends-sort_by nat_cmp_total (λ (day : Day). day) (unique_keys nat_eq days)
+    (differ_by-numbers (λ (day : Day). day) (unique_keys nat_eq days) ∙ differ_by-unique_keys days)
 
-Contains-each_once : (days : List ℕ) (day : ℕ) → Contains (each_once days) day ↔ Contains days day
+Contains-each_once : (days : List Day) (day : Day) → Contains (each_once days) day ↔ Contains days day
 unfolding each_once
 Contains-each_once days day =
     let moved = IsPermutation-sort_by day_before (unique_keys nat_eq days) in (
@@ -55,13 +55,13 @@ Contains-each_once days day =
     )
 
 -- a list in order that has the same days is the list of the days
-pub each_once-is : (days listed : List ℕ) → ascends_by day_before listed ≡ true → ((day : ℕ) → Contains listed day ↔ Contains days day) → each_once days ≡ listed
+pub each_once-is : (days listed : List Day) → ascends_by day_before listed ≡ true → ((day : Day) → Contains listed day ↔ Contains days day) → each_once days ≡ listed
 each_once-is days listed up same =
-    same_list-from_Contains nat_cmp_total (λ (day : ℕ). day) (each_once days) listed (ascends-each_once days) up
+    same_list-from_Contains nat_cmp_total (λ (day : Day). day) (each_once days) listed (ascends-each_once days) up
     (λ day has. (same day).1 ((Contains-each_once days day).0 has))
     (λ day has. (Contains-each_once days day).1 ((same day).0 has))
 
--- so it is, if there are at most 2,000 different ones
-pub day_list_of-is : (days listed : List ℕ) → is_day_list listed ≡ true → ((day : ℕ) → Contains listed day ↔ Contains days day) → day_count days ≤ 2000 → day_list_of days ≡ Some listed
+-- so it is, if there are at most `MOST_CLOSED_DAYS` different ones
+pub day_list_of-is : (days listed : List Day) → is_day_list listed ≡ true → ((day : Day) → Contains listed day ↔ Contains days day) → day_count days ≤ MOST_CLOSED_DAYS → day_list_of days ≡ Some listed
 day_list_of-is days listed is same few =
-    rw (le-leb (day_count days) 2000 few) (ap (λ l. Some l) (each_once-is days listed (and_parts _ _ is).1 same))
+    rw (le-leb (day_count days) MOST_CLOSED_DAYS few) (ap (λ l. Some l) (each_once-is days listed (and_parts _ _ is).1 same))
