@@ -1,1 +1,1 @@
-pub mod OfficeFacts
+pub mod MeetingRules

@@ -20,13 +20,15 @@ use Rattle.office_answers.specs.Calls.{call_ruling, load_ruling}
 use Rattle.office_answers.specs.Lists.{closed_ruling, keys_ruling}
 use Rattle.office_answers.specs.Polls.{open_ruling, order_ruling, start_ruling, close_ruling, declare_ruling}
 
--- what decides what the office asks of the whole desk, from its keys, its closed days and its meetings
+-- what decides what the office asks of the whole desk, from its keys, its closed days and its
+-- meetings
 abbrev pub desk_ruling : List KeyRow → List Day → List MeetingLists → DeskRequest → Ruling Change
 desk_ruling keys closed meetings (desk.CallMeeting new) = call_ruling meetings new
 desk_ruling keys closed meetings (desk.ClosedDays days) = closed_ruling closed days
 desk_ruling keys closed meetings (desk.Keys rows) = keys_ruling keys rows
 
--- what decides what the office asks in a meeting, from the closed days, the moment and the meeting's lists
+-- what decides what the office asks in a meeting, from the closed days, the moment and the
+-- meeting's lists
 abbrev pub ruling_in : List Day → Moment → OfficeRequest → MeetingLists → Ruling MeetingChange
 ruling_in closed now (LoadRegister new) m = load_ruling m now new
 ruling_in closed now (Presence party) m = presence_ruling m now party
@@ -37,7 +39,8 @@ ruling_in closed now (Close resolution) m = close_ruling m now resolution
 ruling_in closed now (Declare resolution) m = declare_ruling m closed now resolution
 
 -- that there is no such meeting, and else what is ruled in it
-abbrev pub office_ruling : List Day → Option MeetingLists → Moment → OfficeRequest → Ruling MeetingChange
+abbrev pub office_ruling : List Day → Option MeetingLists → Moment → OfficeRequest
+    → Ruling MeetingChange
 office_ruling closed found now asked = in_found found (ruling_in closed now asked)
 
 -- what is asked and answered without memory: a presence, an order by the chair, a start and a close
@@ -48,7 +51,8 @@ takes_no_memory (Start resolution) = true
 takes_no_memory (Close resolution) = true
 takes_no_memory other = false
 
--- a refusal that is decided before any memory is taken: all but those for which it is counted who is present (section 318), or which shares demand a poll (section 321)
+-- a refusal that is decided before any memory is taken: all but those for which it is counted who
+-- is present (section 318), or which shares demand a poll (section 321)
 abbrev pub is_at_once : Refusal → Bool
 is_at_once NoQuorum = false
 is_at_once DemandTooSmall = false

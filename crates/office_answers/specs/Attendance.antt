@@ -1,5 +1,5 @@
 -- Who is present, whether they make a quorum, and whether enough shares demand a poll.
-use Rattle.std.specs.Prelude.{Bool, List, []}
+use Rattle.std.specs.Prelude.{Bool, List, [], None}
 use Rattle.std.specs.List.{list_any}
 use Rattle.desk_words.specs.Names.{same_name}
 use Rattle.desk_words.specs.Rulings.{Ruling, noted}
@@ -12,7 +12,7 @@ use Rattle.desk_words.specs.declared.change.MeetingChange.TheVariants.{Enter}
 use Rattle.poll_rules.specs.Demands.{demand_of}
 use Rattle.poll_rules.specs.Quorum.{quorum_of}
 use Rattle.poll_rules.specs.declared.demand.Demand.{Demand}
-use Rattle.proxy_rules.specs.Cutoffs.{meeting_cutoffs}
+use Rattle.proxy_rules.specs.Cutoffs.{cutoffs_of}
 
 -- the party's presence is marked
 abbrev pub is_marked : List PresenceMark → Party → Bool
@@ -20,16 +20,20 @@ is_marked presences party = list_any (λ (mark : PresenceMark). same_name mark.p
 
 -- a presence is noted (section 318)
 abbrev pub presence_ruling : MeetingLists → Moment → Party → Ruling MeetingChange
-presence_ruling m now party = record {
-  cases = [];
-  accepted = noted (is_marked m.presences party) (Enter (Presence (record { party = party; moment = now })));
-}
+presence_ruling m now party =
+    record {
+      cases = [];
+      accepted = noted (is_marked m.presences party) (Enter (Presence (record { party = party; moment = now })));
+    }
 
 -- whether those who are present make a quorum, by the closed days as they stand (section 318)
 abbrev pub quorum_in : MeetingLists → List Day → Moment → Bool
-quorum_in m closed now = quorum_of (meeting_cutoffs m.meeting closed now) m.register m.appointments m.endings m.authorities m.presences
+quorum_in m closed now =
+    let cutoffs = cutoffs_of m.meeting None closed now in
+    quorum_of cutoffs m.register m.appointments m.endings m.authorities m.presences
 
 -- the demand of a poll on a resolution, by the closed days as they stand (section 321)
 abbrev pub demand_in : MeetingLists → List Day → Moment → Number → Demand
 demand_in m closed now resolution =
-    demand_of (meeting_cutoffs m.meeting closed now) m.register m.appointments m.endings m.authorities m.demands resolution
+    let cutoffs = cutoffs_of m.meeting None closed now in
+    demand_of cutoffs m.register m.appointments m.endings m.authorities m.demands resolution

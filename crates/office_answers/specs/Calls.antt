@@ -5,6 +5,7 @@ use Rattle.desk_words.specs.Refusals.{Case}
 use Rattle.desk_words.specs.Rows.{same_rows}
 use Rattle.desk_words.specs.Rulings.{Ruling, loaded}
 use Rattle.desk_words.specs.Seen.{Day, Moment}
+use Rattle.desk_words.specs.declared.limits.TheConstants.{MOST_MEETINGS}
 use Rattle.desk_words.specs.declared.change.Change.{Change}
 use Rattle.desk_words.specs.declared.change.Change.TheVariants.{AddMeeting}
 use Rattle.desk_words.specs.declared.change.MeetingChange.{MeetingChange}
@@ -21,13 +22,16 @@ use Rattle.office_days.specs.Notice.{is_enough_notice}
 abbrev pub day_of : Moment → Day
 day_of moment = moment / 86400
 
--- when a meeting is not called: one has that name, the notice is too short (sections 307 and 360), or there are 100
+-- when a meeting is not called: one has that name, the notice is too short (sections 307 and 360),
+-- or there are `MOST_MEETINGS`
 abbrev pub call_cases : List MeetingLists → NewMeeting → List Case
 call_cases meetings new =
     record { refusal = Exists; holds = is_some (meeting_named meetings new.meeting) }
-    ∷ record { refusal = ShortNotice; holds = not (is_enough_notice new.company new.kind new.given (day_of new.appointed)) }
-    ∷ record { refusal = TooMany; holds = nat_le 100 (length meetings) }
-    ∷ []
+    ∷ record {
+      refusal = ShortNotice;
+      holds = not (is_enough_notice new.company new.kind new.given (day_of new.appointed));
+    }
+    ∷ record { refusal = TooMany; holds = nat_le MOST_MEETINGS (length meetings) } ∷ []
 
 -- the meeting that is called (sections 302 and 307)
 abbrev pub meeting_of : NewMeeting → Meeting

@@ -14,8 +14,14 @@ same_days a b = pointwise nat_eq a b
 
 -- the closed days are loaded, unless they are those that are held (section 1173)
 abbrev pub closed_ruling : List Day → List Day → Ruling Change
-closed_ruling held days = record { cases = []; accepted = loaded (same_days held days) (SetClosedDays days) }
+closed_ruling held days = record {
+  cases = [];
+  accepted = loaded (same_days held days) (SetClosedDays days);
+}
 
 -- the keys are loaded, unless they are those that are held
 abbrev pub keys_ruling : List KeyRow → List KeyRow → Ruling Change
-keys_ruling held rows = record { cases = []; accepted = loaded (same_keys held rows) (SetKeys rows) }
+keys_ruling held rows = record {
+  cases = [];
+  accepted = loaded (same_keys held rows) (SetKeys rows);
+}

@@ -45,7 +45,10 @@ order_cases m closed now new =
     ∷ record { refusal = NotOpened; holds = is_none m.meeting.opened }
     ∷ record { refusal = Early; holds = nat_lt new.take now }
     ∷ record { refusal = PollOrdered; holds = is_some (poll_on m.polls new.resolution) }
-    ∷ record { refusal = DemandTooSmall; holds = not new.chair && not (demand_in m closed now new.resolution).reached }
+    ∷ record {
+      refusal = DemandTooSmall;
+      holds = not new.chair && not (demand_in m closed now new.resolution).reached;
+    }
     ∷ []
 
 -- the poll that is ordered at a moment (section 321)
@@ -79,10 +82,11 @@ start_cases m now resolution =
 
 -- a poll is started
 abbrev pub start_ruling : MeetingLists → Moment → Number → Ruling MeetingChange
-start_ruling m now resolution = record {
-  cases = start_cases m now resolution;
-  accepted = record { reply = reply.Started; change = Some (SetPoll resolution (poll.Started now)) };
-}
+start_ruling m now resolution =
+    record {
+      cases = start_cases m now resolution;
+      accepted = record { reply = reply.Started; change = Some (SetPoll resolution (poll.Started now)) };
+    }
 
 -- when the voting on a poll is not closed; how many have voted is not asked
 abbrev pub close_cases : MeetingLists → Number → List Case
@@ -96,10 +100,11 @@ close_cases m resolution =
 
 -- the voting on a poll is closed
 abbrev pub close_ruling : MeetingLists → Moment → Number → Ruling MeetingChange
-close_ruling m now resolution = record {
-  cases = close_cases m resolution;
-  accepted = record { reply = reply.VotingClosed; change = Some (SetPoll resolution (poll.Closed now)) };
-}
+close_ruling m now resolution =
+    record {
+      cases = close_cases m resolution;
+      accepted = record { reply = reply.VotingClosed; change = Some (SetPoll resolution (poll.Closed now)) };
+    }
 
 -- when the result of a poll is not declared
 abbrev pub declare_cases : MeetingLists → Number → List Case
@@ -116,19 +121,22 @@ abbrev pub result_on : Option Resolution → Tally → Declaration
 result_on None tally = record { tally = tally; carried = false }
 result_on (Some resolution) tally = result_of resolution.kind tally
 
--- the count of the votes on a resolution, by the cutoffs of its poll as the closed days stand (sections 284 and 327)
+-- the count of the votes on a resolution, by the cutoffs of its poll as the closed days stand
+-- (sections 284 and 327)
 abbrev pub tally_in : MeetingLists → List Day → Moment → Number → Tally
 tally_in m closed now resolution =
-    tally_of (cutoffs_of m.meeting (poll_on m.polls resolution) closed now) m.register m.appointments m.endings m.authorities m.casts resolution
+    tally_of (cutoffs_of m.meeting (poll_on m.polls resolution) closed now) m.register
+    m.appointments m.endings m.authorities m.casts resolution
 
 -- that count, and whether it carries the resolution (sections 282 to 284)
 abbrev pub declaration_of : MeetingLists → List Day → Moment → Number → Declaration
-declaration_of m closed now resolution = result_on (slice_get m.meeting.resolutions (resolution - 1)) (tally_in m closed now resolution)
+declaration_of m closed now resolution =
+    result_on (slice_get m.meeting.resolutions (resolution - 1)) (tally_in m closed now resolution)
 
 -- the result of a poll is declared, by the closed days and the moment of the call
 abbrev pub declare_ruling : MeetingLists → List Day → Moment → Number → Ruling MeetingChange
-declare_ruling m closed now resolution = record {
-  cases = declare_cases m resolution;
-  accepted = let declared = declaration_of m closed now resolution in
-      record { reply = reply.Declared declared; change = Some (SetPoll resolution (poll.Declared declared.tally)) };
-}
+declare_ruling m closed now resolution =
+    record {
+      cases = declare_cases m resolution;
+      accepted = let declared = declaration_of m closed now resolution in record { reply = reply.Declared declared; change = Some (SetPoll resolution (poll.Declared declared.tally)) };
+    }

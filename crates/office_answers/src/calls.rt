@@ -6,6 +6,7 @@ ghost use Rattle.desk_words.specs.Lists.{are_resolutions};
 ghost use Rattle.office_answers.specs.Calls.{call_cases, call_ruling, load_cases, load_ruling, meeting_of};
 ghost use Rattle.office_answers.specs.Limits.{if_any, is_within_limits, keeps_limits};
 
+use desk_words::limits::MOST_MEETINGS;
 use desk_words::{
     Answer, Change, Meeting, MeetingChange, MeetingLists, Moment, NewMeeting, NewRegister, Refusal,
     Reply, find_meeting, refuse, same_rows, tell,
@@ -22,7 +23,7 @@ fn call_refusal(meetings: &[MeetingLists], new: &NewMeeting) -> Option<Refusal>
     if !enough_notice(new.company, new.kind, new.given, new.appointed.day()) {
         return Some(Refusal::ShortNotice);
     }
-    if meetings.len() >= 100 {
+    if meetings.len() >= MOST_MEETINGS {
         return Some(Refusal::TooMany);
     }
     None
@@ -47,8 +48,8 @@ fn new_meeting(new: &NewMeeting) -> Result<Meeting, AllocError>
 
 /// The answer to a call of a meeting (sections 302 and 307): `Exists` where a meeting has that
 /// name, `ShortNotice` where the clear days between the notice and the appointed day are too few,
-/// `TooMany` where there are 100, and else `Called`, which adds the meeting. The error is
-/// want of memory; a refusal takes none.
+/// `TooMany` where there are `MOST_MEETINGS`, and else `Called`, which adds the meeting. The error
+/// is want of memory; a refusal takes none.
 pub(crate) fn call_meeting(
     meetings: &[MeetingLists],
     new: &NewMeeting,

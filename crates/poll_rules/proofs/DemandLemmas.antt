@@ -1,13 +1,14 @@
 -- Sums of a demand.
-use Rattle.std.proofs.Common.{◌≡◌, ℕ, zero, suc, ◌+◌, ◌*◌, ◌^◌, ◌<◌, ◌≤◌, Bool, true, false, cond, List, [], ◌∷◌, length, get_or, take, refl, sym, ap, ◌∙◌, arith}
-use Rattle.std.specs.Prelude.{◌&&◌, ◌||◌, ◌==◌, nat_le, nat_lt, sum_by, count_by}
+use Rattle.std.proofs.Common.{◌≡◌, ℕ, ◌+◌, ◌*◌, ◌^◌, ◌<◌, ◌≤◌, Bool, true, false, cond, List, [], ◌∷◌, length, get_or, take, refl, sym, ap, ◌∙◌, arith}
+use Rattle.std.specs.Prelude.{◌&&◌, ◌||◌, nat_le, nat_lt, sum_by, count_by}
 use Rattle.std.specs.Cmp.{first_so, second_so}
 use Rattle.std.specs.Cmp.Lexicographic.{texts_ties}
 use Rattle.std.specs.Ordering.{is_eq}
 use Rattle.std.specs.List.{list_all}
 use Rattle.std.proofs.Math.Nat.{mul-le-mul_left}
-use Rattle.std.proofs.lemmas.Bool.Decides.{nat_tests}
 use Rattle.std.proofs.lemmas.List.Sums.{sum_by-cons, sum_by_more, sum_by_more_le, sum_by-take-le, sum_by-le-sum_by, count_by-le-length}
+use Rattle.std.proofs.Math.Bool.{or-false}
+use Rattle.std.proofs.lemmas.Bool.{leb-true}
 use Rattle.desk_lists.specs.Ordered.{ascends_by}
 use Rattle.desk_terms.specs.Names.{same_name, name_cmp}
 use Rattle.desk_terms.specs.Places.{places_that}
@@ -16,7 +17,7 @@ use Rattle.desk_words.specs.declared.records.Appointment.{Appointment}
 use Rattle.desk_words.specs.declared.records.Authority.{Authority}
 use Rattle.desk_words.specs.declared.records.Ending.{Ending}
 use Rattle.desk_words.specs.declared.records.RegisterRow.{RegisterRow}
-use Rattle.desk_words.specs.declared.register.TheConstants.{MOST_SHARES}
+use Rattle.desk_words.specs.declared.limits.TheConstants.{MOST_SHARES}
 use Rattle.proxy_rules.specs.Shares.{are_rows, shares_of}
 use Rattle.proxy_rules.specs.declared.papers.Cutoffs.{Cutoffs}
 use Rattle.proxy_rules.specs.declared.pieces.GovernedPiece.{GovernedPiece}
@@ -25,22 +26,17 @@ use Rattle.proxy_rules.specs.Holdings.{holding_by}
 use Rattle.proxy_rules.specs.Tiles.{ArePieces, shares_if}
 use Rattle.proxy_rules.proofs.TileLemmas.{places_that-pieces}
 use Rattle.proxy_rules.proofs.ShareLemmas.{all_shares-le, shares_of-le}
-use Rattle.proxy_rules.proofs.Choices.{le_is, or-false}
 use Rattle.poll_rules.specs.DemandSums.{FitsRow, sums_by, with_row}
 use Rattle.poll_rules.specs.Demands.{by_a_representative, by_the_holder, names_one, paid_on, share_demands, shares_demanding}
-use Rattle.vote_rules.proofs.CountLemmas.{places_that_le}
+use Rattle.vote_rules.proofs.CountLemmas.{every_place, places_that_le}
 
 -- ---- the shares of a row that demand
-
-all_places : (n : ℕ) → places_that (λ place. true) n ≡ n
-all_places zero = refl
-all_places (suc n) = omega (arith, all_places n)
 
 -- where the holder demands it, all shares do
 pub all_demand : (demanded : List ℕ → Bool) (cutoffs : Cutoffs) (given : List Appointment) (ended : List Ending) (authorities : List Authority) (row : RegisterRow)
     → (by_the_holder demanded row || by_a_representative demanded authorities row) ≡ true → shares_of row ≡ shares_demanding demanded cutoffs given ended authorities row
 all_demand demanded cutoffs given ended authorities row holder =
-    sym (all_places (shares_of row))
+    sym (every_place (shares_of row))
     ∙ ap (λ b. places_that (λ place. b || names_one demanded (governing_in cutoffs (holding_by given ended row) place)) (shares_of row)) (sym holder)
 
 -- and else those of the pieces whose proxies do
@@ -70,13 +66,13 @@ limits (row ∷ rows) h =
     let front = first_so (nat_le 1 (length (row ∷ rows)) && nat_le (length (row ∷ rows)) 20000 && list_all is_holding (row ∷ rows)) (nat_le (all_shares (row ∷ rows)) MOST_SHARES) kept in
     let sizes = first_so (nat_le 1 (length (row ∷ rows)) && nat_le (length (row ∷ rows)) 20000) (list_all is_holding (row ∷ rows)) front in
     record {
-      few = le_is (length (row ∷ rows)) 20000 (second_so (nat_le 1 (length (row ∷ rows))) (nat_le (length (row ∷ rows)) 20000) sizes);
+      few = leb-true (length (row ∷ rows)) 20000 (second_so (nat_le 1 (length (row ∷ rows))) (nat_le (length (row ∷ rows)) 20000) sizes);
       each = second_so (nat_le 1 (length (row ∷ rows)) && nat_le (length (row ∷ rows)) 20000) (list_all is_holding (row ∷ rows)) front;
       shares = all_shares-le (row ∷ rows) h;
     }
 
 paid_le : (row : RegisterRow) → is_holding row ≡ true → row.paid ≤ 1000000
-paid_le row h = le_is row.paid 1000000 (second_so (nat_le 1 row.shares && nat_le row.shares 1000000000000) (nat_le row.paid 1000000) h)
+paid_le row h = leb-true row.paid 1000000 (second_so (nat_le 1 row.shares && nat_le row.shares 1000000000000) (nat_le row.paid 1000000) h)
 
 one_paid : (shares paid held : ℕ) → shares ≤ held → paid ≤ 1000000 → shares * paid ≤ 1000000 * held
 one_paid shares paid held few small = omega (arith, mul-le-mul_left shares small)
@@ -155,6 +151,3 @@ one_demander after so_far right party person put is =
 -- one on another resolution
 pub no_demander : (so_far right same : Bool) → right ≡ false → so_far ≡ (so_far || (right && same))
 no_demander so_far right same not_right = sym (ap (λ b. so_far || (b && same)) not_right ∙ or-false so_far)
-
-pub apart_false : (a b : ℕ) → (a ≡ b → ⊥) → (a == b) ≡ false
-apart_false a b apart = grind (arith, nat_tests)

@@ -5,10 +5,10 @@ use Rattle.std.specs.Cmp.Lexicographic.{texts_ties}
 use Rattle.std.specs.List.{list_any}
 use Rattle.std.specs.Option.{option_map_or, UnwrapsOrElse}
 use Rattle.std.specs.Ordering.{is_eq}
+use Rattle.desk_lists.proofs.Kept.{any-filter}
 use Rattle.desk_terms.specs.Names.{same_name, name_cmp}
 use Rattle.desk_words.proofs.RowLemmas.{same_name-true}
 use Rattle.desk_words.specs.declared.records.Authority.{Authority}
-use Rattle.proxy_rules.proofs.ListLemmas.{any-kept}
 use Rattle.vote_rules.specs.Votes.{is_authority_of}
 
 -- ---- a value more
@@ -45,4 +45,4 @@ pub any-authorised : (p : List ℕ → Bool) (authorities : List Authority) (cor
     → list_any p (map (λ (a : Authority). a.person) (filter (is_authority_of corporation) authorities)) ≡ list_any (λ (a : Authority). same_name a.corporation corporation && p a.person) authorities
 any-authorised p authorities corporation =
     list_any-map p (λ (a : Authority). a.person) (filter (is_authority_of corporation) authorities)
-    ∙ any-kept (λ (a : Authority). p a.person) (is_authority_of corporation) authorities
+    ∙ any-filter (λ (a : Authority). p a.person) (is_authority_of corporation) authorities

@@ -1,15 +1,17 @@
 -- Two persons who qualify.
-use Rattle.std.proofs.Common.{◌≡◌, ℕ, Bool, true, false, cond, List, [], ◌∷◌, map, length, refl, sym, ap, ◌∙◌, arith, true≢false}
-use Rattle.std.specs.Prelude.{Option, Some, None, ◌&&◌, ◌||◌, not, find}
+use Rattle.std.proofs.Common.{◌≡◌, ℕ, Bool, true, false, List, [], ◌∷◌, map, length, refl, sym, ap, ◌∙◌, arith, true≢false}
+use Rattle.std.specs.Prelude.{Option, Some, None, ◌&&◌, not, find}
 use Rattle.std.specs.List.{list_any}
 use Rattle.std.specs.Option.{option_map_or}
+use Rattle.desk_lists.proofs.Kept.{found-any, found-passes, none-found, none-narrower}
+use Rattle.std.proofs.lemmas.Bool.{not-false}
+use Rattle.std.specs.Cmp.{first_so, second_so}
 use Rattle.desk_terms.specs.Names.{same_name}
 use Rattle.desk_terms.specs.declared.kinds.Capacity.{Capacity}
 use Rattle.desk_terms.specs.declared.kinds.Capacity.TheVariants.{Member, Rep, Proxy}
 use Rattle.desk_words.proofs.RowLemmas.{same_name-true}
 use Rattle.desk_words.specs.declared.records.PresenceMark.{PresenceMark}
 use Rattle.desk_words.specs.declared.records.RegisterRow.{RegisterRow}
-use Rattle.proxy_rules.proofs.Choices.{first_of, second_of, neither_first, neither_second, neither_of}
 use Rattle.poll_rules.specs.Pairs.{first_qualifying, is_second, two_with_the_first}
 use Rattle.poll_rules.specs.Quorum.{are_two, is_quorum, qualifies, same_role}
 use Rattle.vote_rules.specs.Casts.{same_capacity}
@@ -31,18 +33,14 @@ same_capacity-true Proxy Rep h = absurd (cc)
 
 same_role-true : (a b : Role) → same_role a b ≡ true → a ≡ b
 same_role-true a b h =
-    let capacity = same_capacity-true a.capacity b.capacity (first_of (same_capacity a.capacity b.capacity) (same_name a.member b.member) h) in
-    let member = same_name-true a.member b.member (second_of (same_capacity a.capacity b.capacity) (same_name a.member b.member) h) in
+    let capacity = same_capacity-true a.capacity b.capacity (first_so (same_capacity a.capacity b.capacity) (same_name a.member b.member) h) in
+    let member = same_name-true a.member b.member (second_so (same_capacity a.capacity b.capacity) (same_name a.member b.member) h) in
     λ i. record { capacity = capacity i; member = member i }
 
 -- ---- those who are no pair with the first
 
-not_false : (a : Bool) → not a ≡ false → a ≡ true
-not_false true h = refl
-not_false false h = absurd (cc)
-
 same_sole : (x y : Role) → are_two (x ∷ []) (y ∷ []) ≡ false → x ≡ y
-same_sole x y h = same_role-true x y (not_false (same_role x y) h)
+same_sole x y h = same_role-true x y (not-false (same_role x y) h)
 
 pub no_pair : (first one other : List Role) → qualifies first ≡ true → are_two first one ≡ false → are_two first other ≡ false → are_two one other ≡ false
 no_pair [] one other some h k = absurd (true≢false (sym some))
@@ -69,39 +67,6 @@ not_qualified (x ∷ xs) other h = absurd (true≢false h)
 
 -- ---- a pair among persons
 
-any_weaker : {X : Type 0} (p q : X → Bool) (xs : List X) → ((x : X) → p x ≡ false → q x ≡ false) → list_any p xs ≡ false → list_any q xs ≡ false
-any_weaker p q [] weaker none = refl
-any_weaker p q (x ∷ xs) weaker none =
-    neither_of (q x) (list_any q xs) (weaker x (neither_first (p x) (list_any p xs) none)) (any_weaker p q xs weaker (neither_second (p x) (list_any p xs) none))
-
-any_found : {X : Type 0} (p q : X → Bool) (xs : List X) (x : X) → find p xs ≡ Some x → q x ≡ true → list_any q xs ≡ true
-any_found p q [] x found good = absurd (cc)
-any_found p q (y ∷ ys) x found good =
-    (elim (p y) as (λ b. cond b (Some y) (find p ys) ≡ Some x → (q y || list_any q ys) ≡ true) [
-      | true ↦ λ h. ap (λ b. b || list_any q ys) (ap q (ap (λ o. option_map_or (λ z. z) o y) h) ∙ good)
-      | false ↦ λ h. either (q y) (any_found p q ys x h good)
-    ]) found
-  where
-    either : (a : Bool) {b : Bool} → b ≡ true → (a || b) ≡ true
-    either true h = refl
-    either false h = h
-
-found-passes : {X : Type 0} (p : X → Bool) (xs : List X) (x : X) → find p xs ≡ Some x → p x ≡ true
-found-passes p [] x h = absurd (cc)
-found-passes p (y ∷ ys) x h =
-    (elim (p y) as (λ b. p y ≡ b → cond b (Some y) (find p ys) ≡ Some x → p x ≡ true) [
-      | true ↦ λ e found. ap p (sym (ap (λ o. option_map_or (λ z. z) o y) found)) ∙ e
-      | false ↦ λ e found. found-passes p ys x found
-    ]) refl h
-
-none_found : {X : Type 0} (p : X → Bool) (xs : List X) → find p xs ≡ None → list_any p xs ≡ false
-none_found p [] h = refl
-none_found p (x ∷ xs) h =
-    (elim (p x) as (λ b. cond b (Some x) (find p xs) ≡ None → (b || list_any p xs) ≡ false) [
-      | true ↦ λ none. absurd (cc)
-      | false ↦ λ none. none_found p xs none
-    ]) h
-
 module _ (roles : List ℕ → List Role) where
   abbrev pair : List ℕ → List ℕ → Bool
   pair person other = not (same_name person other) && are_two (roles person) (roles other)
@@ -124,9 +89,9 @@ module _ (roles : List ℕ → List Role) where
   any_pair : (present : List PresenceMark) (o : Option PresenceMark) → find (λ (mark : PresenceMark). qualifies (roles mark.party)) present ≡ o
       → list_any (λ (mark : PresenceMark). list_any (is_second roles mark.party) present) present ≡ option_map_or (λ (first : PresenceMark). list_any (is_second roles first.party) present) o false
   any_pair present None none =
-      any_weaker (λ (mark : PresenceMark). qualifies (roles mark.party)) (λ (mark : PresenceMark). list_any (is_second roles mark.party) present) present
-      (λ mark not_one. any_weaker (λ (other : PresenceMark). false) (is_second roles mark.party) present (λ other _. unpaired mark other not_one) (all_false present))
-      (none_found (λ (mark : PresenceMark). qualifies (roles mark.party)) present none)
+      none-narrower (λ (mark : PresenceMark). qualifies (roles mark.party)) (λ (mark : PresenceMark). list_any (is_second roles mark.party) present) present
+      (λ mark not_one. none-narrower (λ (other : PresenceMark). false) (is_second roles mark.party) present (λ other _. unpaired mark other not_one) (all_false present))
+      (none-found (λ (mark : PresenceMark). qualifies (roles mark.party)) present none)
     where
       all_false : (xs : List PresenceMark) → list_any (λ (other : PresenceMark). false) xs ≡ false
       all_false [] = refl
@@ -140,10 +105,10 @@ module _ (roles : List ℕ → List Role) where
           and_false false h = refl
   any_pair present (Some first) found =
       (elim (list_any (is_second roles first.party) present) as (λ b. list_any (is_second roles first.party) present ≡ b → list_any (λ (mark : PresenceMark). list_any (is_second roles mark.party) present) present ≡ b) [
-        | true ↦ λ some. any_found (λ (mark : PresenceMark). qualifies (roles mark.party)) (λ (mark : PresenceMark). list_any (is_second roles mark.party) present) present first found some
+        | true ↦ λ some. found-any (λ (mark : PresenceMark). qualifies (roles mark.party)) (λ (mark : PresenceMark). list_any (is_second roles mark.party) present) present first found some
         | false ↦ λ none.
-            any_weaker (is_second roles first.party) (λ (mark : PresenceMark). list_any (is_second roles mark.party) present) present
-            (λ one h. any_weaker (is_second roles first.party) (is_second roles one.party) present
+            none-narrower (is_second roles first.party) (λ (mark : PresenceMark). list_any (is_second roles mark.party) present) present
+            (λ one h. none-narrower (is_second roles first.party) (is_second roles one.party) present
             (λ other k. none_without first.party one.party other.party (found-passes (λ (mark : PresenceMark). qualifies (roles mark.party)) present first found) h k) none)
             none
       ]) refl

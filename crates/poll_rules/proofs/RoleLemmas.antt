@@ -11,6 +11,10 @@ use Rattle.std.proofs.lemmas.List.{append-nil, take_more}
 use Rattle.std.proofs.lemmas.List.Concat.{flat_map-append}
 use Rattle.std.proofs.lemmas.List.Folds.{list_any_more}
 use Rattle.std.proofs.lemmas.List.Sums.{sum_by-cons, get_or-le-sum_by}
+use Rattle.desk_lists.proofs.Booleans.{neither_first, neither_second}
+use Rattle.std.proofs.Math.Bool.{or-false}
+use Rattle.std.proofs.lemmas.Bool.{not-true, or_from}
+use Rattle.std.specs.Cmp.{first_so, second_so}
 use Rattle.desk_lists.proofs.Ascending.{differs-from_ascends_by}
 use Rattle.desk_lists.specs.Ordered.{ascends_by, differ_by}
 use Rattle.desk_terms.specs.Names.{same_name, name_cmp}
@@ -25,7 +29,6 @@ use Rattle.proxy_rules.specs.declared.papers.Cutoffs.{Cutoffs}
 use Rattle.proxy_rules.specs.declared.pieces.GovernedPiece.{GovernedPiece}
 use Rattle.proxy_rules.proofs.NameLemmas.{same_name-sym}
 use Rattle.proxy_rules.proofs.TileLemmas.{places_that-pieces}
-use Rattle.proxy_rules.proofs.Choices.{first_of, second_of, neither_first, neither_second, neither_of, or-false}
 use Rattle.poll_rules.specs.Gathered.{are_in}
 use Rattle.poll_rules.specs.Roles.{is_proxy_in, proxy_of, role_if}
 use Rattle.poll_rules.specs.declared.roles.Role.{Role}
@@ -37,17 +40,13 @@ fails_at p [] i d none lt = absurd (omega arith)
 fails_at p (x ∷ xs) zero d none lt = neither_first (p x) (list_any p xs) none
 fails_at p (x ∷ xs) (suc i) d none lt = fails_at p xs i d (neither_second (p x) (list_any p xs) none) (omega arith)
 
-not_true : (a : Bool) → not a ≡ true → a ≡ false
-not_true true h = absurd (cc)
-not_true false h = refl
-
 none_before : {X : Type 0} (same : X → X → Bool) (xs : List X) (i : ℕ) (d : X) → differ_by same xs ≡ true → i < length xs → list_any (λ x. same x (get_or xs i d)) (take i xs) ≡ false
 none_before same [] i d differ lt = absurd (omega arith)
 none_before same (x ∷ xs) zero d differ lt = refl
 none_before same (x ∷ xs) (suc i) d differ lt =
-    neither_of (same x (get_or xs i d)) (list_any (λ y. same y (get_or xs i d)) (take i xs))
-    (fails_at (same x) xs i d (not_true (list_any (same x) xs) (first_of (not (list_any (same x) xs)) (differ_by same xs) differ)) (omega arith))
-    (none_before same xs i d (second_of (not (list_any (same x) xs)) (differ_by same xs) differ) (omega arith))
+    or_from (same x (get_or xs i d)) (list_any (λ y. same y (get_or xs i d)) (take i xs))
+    (fails_at (same x) xs i d (not-true (list_any (same x) xs) (first_so (not (list_any (same x) xs)) (differ_by same xs) differ)) (omega arith))
+    (none_before same xs i d (second_so (not (list_any (same x) xs)) (differ_by same xs) differ) (omega arith))
 
 -- in order no person stands before itself
 pub not_before : (xs : List (List ℕ)) (i : ℕ) (x : List ℕ) → ascends_by (λ a b. is_lt (name_cmp a b)) xs ≡ true → i < length xs → x ≡ get_or xs i x → are_in (take i xs) x ≡ false

@@ -1,21 +1,25 @@
--- A pair of qualifying persons, by the first who qualifies.
-use Rattle.std.specs.Prelude.{ℕ, Bool, false, not, ◌&&◌, List, find, Option}
+-- A pair of qualifying persons, by the first who qualifies. For private contracts.
+use Rattle.std.specs.Prelude.{Bool, false, not, ◌&&◌, List, find, Option}
 use Rattle.std.specs.List.{list_any}
 use Rattle.std.specs.Option.{option_map_or}
 use Rattle.desk_terms.specs.Names.{same_name}
+use Rattle.desk_words.specs.Seen.{Party}
 use Rattle.desk_words.specs.declared.records.PresenceMark.{PresenceMark}
 use Rattle.poll_rules.specs.Quorum.{are_two, qualifies}
 use Rattle.poll_rules.specs.declared.roles.Role.{Role}
 
 -- the person marked is another than the first, and the two are two qualifying persons
-abbrev pub is_second : (List ℕ → List Role) → List ℕ → PresenceMark → Bool
-is_second roles first mark = not (same_name first mark.party) && are_two (roles first) (roles mark.party)
+abbrev pub is_second : (Party → List Role) → Party → PresenceMark → Bool
+is_second roles first mark =
+    not (same_name first mark.party) && are_two (roles first) (roles mark.party)
 
 -- the first marked who qualifies
-abbrev pub first_qualifying : (List ℕ → List Role) → List PresenceMark → Option PresenceMark
-first_qualifying roles present = find (λ (mark : PresenceMark). qualifies (roles mark.party)) present
+abbrev pub first_qualifying : (Party → List Role) → List PresenceMark → Option PresenceMark
+first_qualifying roles present =
+    find (λ (mark : PresenceMark). qualifies (roles mark.party)) present
 
 -- the first who qualifies and some other are two qualifying persons
-abbrev pub two_with_the_first : (List ℕ → List Role) → List PresenceMark → Bool
+abbrev pub two_with_the_first : (Party → List Role) → List PresenceMark → Bool
 two_with_the_first roles present =
-    option_map_or (λ (first : PresenceMark). list_any (is_second roles first.party) present) (first_qualifying roles present) false
+    option_map_or (λ (first : PresenceMark). list_any (is_second roles first.party) present)
+    (first_qualifying roles present) false

@@ -1,7 +1,8 @@
 -- The quorum of a meeting (section 318).
-use Rattle.std.specs.Prelude.{ℕ, Bool, true, false, not, ◌&&◌, List, [], ◌∷◌, map, filter}
+use Rattle.std.specs.Prelude.{Bool, true, false, not, ◌&&◌, List, [], ◌∷◌, map, filter}
 use Rattle.std.specs.List.{list_any}
 use Rattle.desk_terms.specs.Names.{same_name}
+use Rattle.desk_words.specs.Seen.{Party}
 use Rattle.desk_words.specs.declared.records.Appointment.{Appointment}
 use Rattle.desk_words.specs.declared.records.Authority.{Authority}
 use Rattle.desk_words.specs.declared.records.Ending.{Ending}
@@ -40,14 +41,20 @@ are_as_one _ others = false
 abbrev pub are_two : List Role → List Role → Bool
 are_two one other = qualifies one && qualifies other && not (are_as_one one other)
 
--- with no row that is counted there is no quorum; with one, one qualifying person makes it; with more, two different persons
-abbrev pub is_quorum : List RegisterRow → (List ℕ → List Role) → List (List ℕ) → Bool
+-- with no row that is counted there is no quorum; with one, one qualifying person makes it; with
+-- more, two different persons
+abbrev pub is_quorum : List RegisterRow → (Party → List Role) → List Party → Bool
 is_quorum [] roles present = false
 is_quorum (only ∷ []) roles present = list_any (λ person. qualifies (roles person)) present
 is_quorum (first ∷ second ∷ rows) roles present =
-    list_any (λ person. list_any (λ other. not (same_name person other) && are_two (roles person) (roles other)) present) present
+    list_any
+    (λ person. list_any
+    (λ other. not (same_name person other) && are_two (roles person) (roles other)) present)
+    present
 
 -- whether those who are present make a quorum
-abbrev pub quorum_of : Cutoffs → List RegisterRow → List Appointment → List Ending → List Authority → List PresenceMark → Bool
+abbrev pub quorum_of : Cutoffs → List RegisterRow → List Appointment → List Ending → List Authority
+    → List PresenceMark → Bool
 quorum_of cutoffs register given ended authorities presences =
-    is_quorum (filter is_counted register) (roles_of cutoffs register given ended authorities) (map (λ (mark : PresenceMark). mark.party) presences)
+    is_quorum (filter is_counted register) (roles_of cutoffs register given ended authorities)
+    (map (λ (mark : PresenceMark). mark.party) presences)

@@ -56,7 +56,9 @@ fn demanders(
     demands: &[DemandMark],
     resolution: u64,
 ) -> Result<BTreeSet<Party>, AllocError>
-    ensures { IfOk result (λ persons. (person : List ℕ) → is_one_of persons person ≡ has_demanded demands.now resolution person) }
+    ensures { IfOk result
+        (λ persons. (person : List ℕ)
+        → is_one_of persons person ≡ has_demanded demands.now resolution person) }
 {
     let mut persons = BTreeSet::new(alloc);
     for demand in demands {
@@ -122,8 +124,10 @@ fn shares_of_demanders(
     holding: &Holding,
     pieces: &[GovernedPiece],
 ) -> u64
-    requires { sum_by (shares_if (names_one (is_one_of demanders.now)) holding.now) pieces.now < 2 ^ 64 }
-    ensures { result ≡ sum_by (shares_if (names_one (is_one_of demanders.now)) holding.now) pieces.now }
+    requires { sum_by (shares_if (names_one (is_one_of demanders.now)) holding.now) pieces.now
+        < 2 ^ 64 }
+    ensures { result
+        ≡ sum_by (shares_if (names_one (is_one_of demanders.now)) holding.now) pieces.now }
 {
     pieces
         .iter()
@@ -142,8 +146,10 @@ fn demanding(
     requires tags { are_tags papers.now.appointments.now ≡ true }
     requires numbered { are_numbered_after [] papers.now.appointments.now ≡ true }
     requires few { row.now.shares ≤ 10 ^ 12 }
-    ensures { IfOk result (λ shares. shares
-        ≡ shares_demanding (is_one_of demanders.now) cutoffs.now papers.now.appointments.now papers.now.endings.now papers.now.authorities.now row.now) }
+    ensures { IfOk result
+        (λ shares. shares
+        ≡ shares_demanding (is_one_of demanders.now) cutoffs.now papers.now.appointments.now
+        papers.now.endings.now papers.now.authorities.now row.now) }
 {
     if holder_demands(alloc, demanders, papers.authorities, row)? {
         return Ok(shares(row));
@@ -177,8 +183,12 @@ fn sums_over(
     requires tags { are_tags papers.now.appointments.now ≡ true }
     requires numbered { are_numbered_after [] papers.now.appointments.now ≡ true }
     requires rows { are_rows papers.now.register.now ≡ true }
-    ensures { IfOk result (λ sums. sums ≡ sums_by
-        (shares_demanding (is_one_of demanders.now) cutoffs.now papers.now.appointments.now papers.now.endings.now papers.now.authorities.now) papers.now.register.now) }
+    ensures { IfOk result
+        (λ sums. sums
+        ≡ sums_by
+        (shares_demanding (is_one_of demanders.now) cutoffs.now
+        papers.now.appointments.now papers.now.endings.now papers.now.authorities.now)
+        papers.now.register.now) }
 {
     let mut sums = NOTHING;
     for row in papers.register {
@@ -188,12 +198,14 @@ fn sums_over(
     Ok(sums)
 }
 
-/// Whether the shares that demand have at least five holders, or are a tenth of all shares by number
-/// or by what is paid up on them.
+/// Whether the shares that demand have at least five holders, or are a tenth of all shares by
+/// number or by what is paid up on them.
 fn is_enough(sums: &Sums) -> bool
     requires shares { 10 * sums.now.shares < 2 ^ 64 }
     requires paid { 10 * sums.now.paid < 2 ^ 64 }
-    ensures { result ≡ is_enough sums.now.members sums.now.shares sums.now.paid sums.now.all_shares sums.now.all_paid }
+    ensures { result
+        ≡ is_enough sums.now.members sums.now.shares sums.now.paid sums.now.all_shares
+        sums.now.all_paid }
 {
     sums.shares > 0
         && (sums.members >= 5
@@ -202,8 +214,9 @@ fn is_enough(sums: &Sums) -> bool
 }
 
 /// The demand of a poll on a resolution: a share demands it if the individual who holds it, a
-/// representative of the corporation that holds it, or the proxy who governs it by these cutoffs has
-/// demanded it (sections 321, 323 and 329). Treasury shares are none. The error is want of memory.
+/// representative of the corporation that holds it, or the proxy who governs it by these cutoffs
+/// has demanded it (sections 321, 323 and 329). Treasury shares are none. The error is want of
+/// memory.
 pub fn demand_reached(
     alloc: Global,
     cutoffs: &Cutoffs,
@@ -213,7 +226,11 @@ pub fn demand_reached(
     requires rows { are_rows papers.now.register.now ≡ true }
     requires tags { are_tags papers.now.appointments.now ≡ true }
     requires numbered { are_numbered_after [] papers.now.appointments.now ≡ true }
-    ensures { IfOk result (λ demand. demand ≡ demand_of cutoffs.now papers.now.register.now papers.now.appointments.now papers.now.endings.now papers.now.authorities.now papers.now.demands.now resolution) }
+    ensures { IfOk result
+        (λ demand. demand
+        ≡ demand_of cutoffs.now papers.now.register.now papers.now.appointments.now
+        papers.now.endings.now papers.now.authorities.now papers.now.demands.now
+        resolution) }
 {
     let demanders = demanders(alloc, papers.demands.as_slice(), resolution)?;
     let sums = sums_over(alloc, cutoffs, papers, &demanders)?;

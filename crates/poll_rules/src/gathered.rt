@@ -13,8 +13,13 @@ pub(crate) fn add_to<T: Drop>(
     party: Party,
     value: T,
 ) -> Result<(), AllocError>
-    ensures { OnOk result ((other : List ℕ) →
-        items_at groups.new other ≡ (if same_name party other then items_at groups.old other ++ value ∷ [] else items_at groups.old other)) }
+    ensures { OnOk result
+        ((other : List ℕ)
+        → items_at groups.new other
+        ≡
+        (if same_name party other
+        then items_at groups.old other ++ value ∷ []
+        else items_at groups.old other)) }
 {
     groups.entry(party)?.or_default().push(value)?;
     Ok(())

@@ -1,5 +1,5 @@
-//! The rules of a poll beside the count of its votes: the majority, the quorum of the meeting, and the
-//! demand of a poll. The count and the rules of proxies stand below it, and are handed on.
+//! The rules of a poll beside the count of its votes: the majority, the quorum of the meeting, and
+//! the demand of a poll. The count and the rules of proxies stand below it, and are handed on.
 #![tactic(auto)]
 
 mod demand;

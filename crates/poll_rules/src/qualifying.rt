@@ -61,7 +61,9 @@ fn are_two(one: &[Role], other: &[Role]) -> bool
 
 /// Whether someone who is present qualifies.
 fn someone_qualifies(presences: &[PresenceMark], roles: &BTreeMap<Party, Vec<Role>>) -> bool
-    ensures { result ≡ list_any (λ (mark : PresenceMark). qualifies (items_at roles.now mark.party)) presences.now }
+    ensures { result
+        ≡ list_any (λ (mark : PresenceMark). qualifies (items_at roles.now mark.party))
+        presences.now }
 {
     presences
         .iter()
@@ -113,7 +115,9 @@ fn make_quorum(
     presences: &[PresenceMark],
     roles: &BTreeMap<Party, Vec<Role>>,
 ) -> bool
-    ensures { result ≡ is_quorum (filter is_counted register.now) (items_at roles.now) (map (λ (mark : PresenceMark). mark.party) presences.now) }
+    ensures { result
+        ≡ is_quorum (filter is_counted register.now) (items_at roles.now)
+        (map (λ (mark : PresenceMark). mark.party) presences.now) }
 {
     let rows = counted_rows(register);
     if rows == 0 {
@@ -131,14 +135,17 @@ fn make_quorum(
 /// of the register (section 323), or as a proxy who governs at least one share of a member by these
 /// cutoffs (section 324). Where one row alone is no treasury row, one such person makes the quorum;
 /// where there are more, two different ones do, but not two who both act for one corporation alone
-/// or both for one member as proxies alone. With no such row there is no quorum. The error is want of
-/// memory.
+/// or both for one member as proxies alone. With no such row there is no quorum. The error is want
+/// of memory.
 pub fn quorum(alloc: Global, cutoffs: &Cutoffs, papers: &Papers) -> Result<bool, AllocError>
     requires rows { are_rows papers.now.register.now ≡ true }
     requires tags { are_tags papers.now.appointments.now ≡ true }
     requires numbered { are_numbered_after [] papers.now.appointments.now ≡ true }
     requires present_once { differ_by same_presence papers.now.presences.now ≡ true }
-    ensures { IfOk result (λ is_quorum. is_quorum ≡ quorum_of cutoffs.now papers.now.register.now papers.now.appointments.now papers.now.endings.now papers.now.authorities.now papers.now.presences.now) }
+    ensures { IfOk result
+        (λ is_quorum. is_quorum
+        ≡ quorum_of cutoffs.now papers.now.register.now papers.now.appointments.now
+        papers.now.endings.now papers.now.authorities.now papers.now.presences.now) }
 {
     let roles = roles_by_person(alloc, cutoffs, papers)?;
     Ok(make_quorum(papers.register, papers.presences.as_slice(), &roles))

@@ -44,8 +44,11 @@ fn give_role(
     capacity: Capacity,
     member: Party,
 ) -> Result<(), AllocError>
-    ensures { OnOk result ((person : List ℕ) →
-        items_at roles.new person ≡ items_at roles.old person ++ role_if (are_in persons.items person) capacity member) }
+    ensures { OnOk result
+        ((person : List ℕ)
+        → items_at roles.new person
+        ≡ items_at roles.old person
+        ++ role_if (are_in persons.items person) capacity member) }
 {
     let each = in_order_once(persons);
     for person in &each {
@@ -56,7 +59,10 @@ fn give_role(
 
 /// The individual who holds the row, if one does.
 fn holders(alloc: Global, row: &RegisterRow) -> Result<Vec<Party>, AllocError>
-    ensures { IfOk result (λ persons. (person : List ℕ) → are_in persons.items person ≡ (is_individual row.now.kind && same_name row.now.member person)) }
+    ensures { IfOk result
+        (λ persons. (person : List ℕ)
+        → are_in persons.items person
+        ≡ (is_individual row.now.kind && same_name row.now.member person)) }
 {
     match row.kind {
         HolderKind::Individual => Ok(vec![in alloc; row.member]?),
@@ -70,8 +76,12 @@ fn representatives(
     authorities: &Filed<Authority>,
     row: &RegisterRow,
 ) -> Result<Vec<Party>, AllocError>
-    ensures { IfOk result (λ persons. (person : List ℕ)
-        → are_in persons.items person ≡ (is_corporation row.now.kind && has_authority authorities.now row.now.member person)) }
+    ensures { IfOk result
+        (λ persons. (person : List ℕ)
+        → are_in persons.items person
+        ≡
+        (is_corporation row.now.kind
+        && has_authority authorities.now row.now.member person)) }
 {
     match row.kind {
         HolderKind::Corporation => authorised_by(alloc, authorities, row.member),
@@ -92,7 +102,8 @@ fn proxies_of(
     holding: &Holding,
     pieces: &[GovernedPiece],
 ) -> Result<Vec<Party>, AllocError>
-    ensures { IfOk result (λ persons. persons.items ≡ filter_map (proxy_of holding.now) pieces.now) }
+    ensures { IfOk result
+        (λ persons. persons.items ≡ filter_map (proxy_of holding.now) pieces.now) }
 {
     pieces
         .iter()
@@ -103,7 +114,9 @@ fn proxies_of(
 /// The proxies who govern a share of a holding (section 324).
 fn proxies(alloc: Global, cutoffs: &Cutoffs, holding: &Holding) -> Result<Vec<Party>, AllocError>
     requires { IsKept holding.now }
-    ensures { IfOk result (λ persons. (person : List ℕ) → are_in persons.items person ≡ is_proxy_in cutoffs.now holding.now person) }
+    ensures { IfOk result
+        (λ persons. (person : List ℕ)
+        → are_in persons.items person ≡ is_proxy_in cutoffs.now holding.now person) }
 {
     let pieces = holding.pieces(alloc, cutoffs)?;
     proxies_of(alloc, holding, pieces.as_slice())
@@ -120,8 +133,12 @@ fn give_roles(
     requires tags { are_tags papers.now.appointments.now ≡ true }
     requires numbered { are_numbered_after [] papers.now.appointments.now ≡ true }
     requires few { row.now.shares ≤ 10 ^ 12 }
-    ensures { OnOk result ((person : List ℕ) → items_at roles.new person
-        ≡ items_at roles.old person ++ roles_by cutoffs.now papers.now.appointments.now papers.now.endings.now papers.now.authorities.now person row.now) }
+    ensures { OnOk result
+        ((person : List ℕ)
+        → items_at roles.new person
+        ≡ items_at roles.old person
+        ++ roles_by cutoffs.now papers.now.appointments.now papers.now.endings.now
+        papers.now.authorities.now person row.now) }
 {
     let member = row.member;
     let own = holders(alloc, row)?;
@@ -143,8 +160,13 @@ pub(crate) fn roles_by_person(
     requires tags { are_tags papers.now.appointments.now ≡ true }
     requires numbered { are_numbered_after [] papers.now.appointments.now ≡ true }
     requires few { all_shares papers.now.register.now ≤ 10 ^ 12 }
-    ensures { IfOk result (λ roles. (person : List ℕ) → items_at roles person
-        ≡ flat_map (roles_by cutoffs.now papers.now.appointments.now papers.now.endings.now papers.now.authorities.now person) papers.now.register.now) }
+    ensures { IfOk result
+        (λ roles. (person : List ℕ)
+        → items_at roles person
+        ≡ flat_map
+        (roles_by cutoffs.now papers.now.appointments.now papers.now.endings.now
+        papers.now.authorities.now person)
+        papers.now.register.now) }
 {
     let mut roles = BTreeMap::new(alloc);
     for row in papers.register {

@@ -3,10 +3,11 @@ use Rattle.std.proofs.Common.{◌≡◌, ℕ, suc, ◌+◌, ◌<◌, ◌≤◌, 
 use Rattle.std.specs.Prelude.{◌↔◌, ◌&&◌, ◌||◌, ◌==◌, nat_le, Option, Some, None, All, IsTrue, filter, find, fold, option_map, option_and_then, reverse}
 use Rattle.std.specs.List.{list_any}
 use Rattle.std.specs.Option.{option_map_or, option_or, unwrap_or}
-use Rattle.std.proofs.lemmas.Bool.{eq-eqb, eqb-true}
+use Rattle.std.proofs.lemmas.Bool.{eq-eqb, eqb-true, and_from, le-leb}
 use Rattle.std.proofs.lemmas.List.{reverse-append}
 use Rattle.std.proofs.lemmas.List.Elements.{All-head, All-tail, filter-append}
 use Rattle.std.proofs.lemmas.List.Folds.{find-append, list_any-append}
+use Rattle.desk_lists.proofs.Booleans.{neither_first, neither_second}
 use Rattle.desk_terms.specs.Places.{Places}
 use Rattle.desk_words.specs.declared.records.Appointment.{Appointment}
 use Rattle.desk_words.specs.declared.records.Ending.{Ending}
@@ -21,7 +22,6 @@ use Rattle.proxy_rules.specs.Tagging.{with_piece}
 use Rattle.proxy_rules.specs.Tiles.{ArePieces, IsGoverned, appointment_of, are_tiled, ranges_of}
 use Rattle.proxy_rules.proofs.RunLemmas.{are_in-runs_that, runs_that-stretch}
 use Rattle.proxy_rules.proofs.TileLemmas.{tiled}
-use Rattle.share_blocks.proofs.Choices.{both_of, le_true, neither_first, neither_second, same_is}
 
 -- ---- the runs that a look-up finds
 
@@ -48,13 +48,13 @@ module _ (cutoffs : Cutoffs) (holding : Holding) (number : ℕ) where
       let from : piece.range.from ≡ suc n = omega arith in
       let stretch = runs_that-stretch test by n piece.range.to up
       (λ place low high. ap (λ o. option_map_or (λ (a : Appointment). a.number == number) o false)
-      (governed place (both_of (nat_le piece.range.from place) (nat_le place piece.range.to) (le_true piece.range.from place (omega (arith, begins))) (le_true place piece.range.to high)))) in
+      (governed place (and_from (nat_le piece.range.from place) (nat_le place piece.range.to) (le-leb piece.range.from place (omega (arith, begins))) (le-leb place piece.range.to high)))) in
       ap (λ first. cond by (joined (runs_that test n) (record { from = first; to = piece.range.to })) (runs_that test n)) from
       ∙ sym stretch
 
   runs_from : (n : ℕ) (pieces : List GovernedPiece) (last : ℕ) → are_tiled (n + 1) (ranges_of pieces) last ≡ true → All (IsGoverned cutoffs holding) pieces
       → fold (with_piece holding number) (runs_that test n) pieces ≡ runs_that test last
-  runs_from n [] last all governed = let e : n + 1 ≡ last + 1 = same_is (n + 1) (last + 1) all in let same : n ≡ last = omega arith in ap (runs_that test) same
+  runs_from n [] last all governed = let e : n + 1 ≡ last + 1 = eqb-true (n + 1) (last + 1) all in let same : n ≡ last = omega arith in ap (runs_that test) same
   runs_from n (piece ∷ pieces) last all governed =
       let t = tiled (n + 1) piece.range (ranges_of pieces) last all in
       ap (λ runs. fold (with_piece holding number) runs pieces) (one_piece n piece t.begins t.within (All-head (IsGoverned cutoffs holding) piece pieces governed))

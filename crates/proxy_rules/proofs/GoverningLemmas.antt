@@ -4,11 +4,13 @@ use Rattle.std.specs.Prelude.{◌&&◌, ◌==◌, nat_le, Option, Some, None, Al
 use Rattle.std.specs.List.{filter_map, cons_option, list_all, list_any, slice_get}
 use Rattle.std.specs.Option.{option_map_or, option_or}
 use Rattle.std.proofs.Math.Nat.{min-le_left, min-le_right}
-use Rattle.std.proofs.lemmas.Bool.{cases_lt}
+use Rattle.std.proofs.lemmas.Bool.{cases_lt, and_from, eqb-true, le-leb, leb-true}
 use Rattle.std.proofs.lemmas.List.{reverse-append}
 use Rattle.std.proofs.lemmas.List.Elements.{All-nil, All-cons, All-head, All-tail}
 use Rattle.std.proofs.lemmas.List.Folds.{find-append, list_all-append}
-use Rattle.desk_terms.specs.Places.{Places, holds, most_places}
+use Rattle.std.specs.Cmp.{first_so, second_so}
+use Rattle.desk_terms.specs.declared.range.TheConstants.{MOST_PLACES}
+use Rattle.desk_terms.specs.Places.{Places, holds}
 use Rattle.desk_words.specs.declared.records.Appointment.{Appointment}
 use Rattle.proxy_rules.specs.declared.holdings.Holding.{Holding}
 use Rattle.proxy_rules.specs.declared.papers.Cutoffs.{Cutoffs}
@@ -22,7 +24,6 @@ use Rattle.proxy_rules.proofs.TurnedLists.{filter_map-reverse}
 use Rattle.share_blocks.specs.Covers.{Cover, newest_of}
 use Rattle.share_blocks.specs.Pieces.{AreAlike, Piece, follow_from, is_place, tags_at}
 use Rattle.share_blocks.specs.Tags.{is_tag}
-use Rattle.share_blocks.proofs.Choices.{both_of, first_of, le_is, le_true, same_is, second_of}
 use Rattle.share_blocks.proofs.CutLemmas.{follows}
 
 -- ---- the newest tag of a place
@@ -35,8 +36,8 @@ tags-reversed [] all = refl
 tags-reversed (x ∷ xs) all =
     ap (list_all is_tagged) (reverse-append (x ∷ []) xs)
     ∙ list_all-append is_tagged (reverse xs) (x ∷ [])
-    ∙ ap (λ b. b && list_all is_tagged (x ∷ [])) (tags-reversed xs (second_of (is_tagged x) (list_all is_tagged xs) all))
-    ∙ ap (λ b. b && true) (first_of (is_tagged x) (list_all is_tagged xs) all)
+    ∙ ap (λ b. b && list_all is_tagged (x ∷ [])) (tags-reversed xs (second_so (is_tagged x) (list_all is_tagged xs) all))
+    ∙ ap (λ b. b && true) (first_so (is_tagged x) (list_all is_tagged xs) all)
 
 module _ (passes : ℕ → Bool) (tags_pass : (tag : ℕ) → is_tag tag ≡ true → passes tag ≡ true) (cutoffs : Cutoffs) (place : ℕ) where
   abbrev covers_place : Cover → Bool
@@ -56,10 +57,10 @@ module _ (passes : ℕ → Bool) (tags_pass : (tag : ℕ) → is_tag tag ≡ tru
       → option_map (λ (cover : Cover). cover.1) (find covers_place (filter_map (cover_by cutoffs) xs)) ≡ option_map (λ (a : Appointment). a.number) (find (is_over cutoffs place) xs)
   newest_among [] all = refl
   newest_among (a ∷ xs) all =
-      let tag : is_tag a.number ≡ true = first_of (is_tagged a) (list_all is_tagged xs) all in
+      let tag : is_tag a.number ≡ true = first_so (is_tagged a) (list_all is_tagged xs) all in
       ap (λ b. option_map (λ (cover : Cover). cover.1) (find covers_place (cons_option (cond (nat_le a.moment cutoffs.appointments) (option_map (λ t. (a.range, t)) (cond b (Some a.number) None)) None) (filter_map (cover_by cutoffs) xs)))) tag
       ∙ one_over a (nat_le a.moment cutoffs.appointments) (holds a.range place) (filter_map (cover_by cutoffs) xs) (find (is_over cutoffs place) xs)
-      (tags_pass a.number tag) refl (newest_among xs (second_of (is_tagged a) (list_all is_tagged xs) all))
+      (tags_pass a.number tag) refl (newest_among xs (second_so (is_tagged a) (list_all is_tagged xs) all))
 
   newest_over : (holding : Holding) → are_tags holding.appointed ≡ true → newest_of passes (covers_by cutoffs holding.appointed) place ≡ option_map (λ (a : Appointment). a.number) (last_over cutoffs holding place)
   newest_over holding all =
@@ -80,11 +81,11 @@ found_placed : (p : Appointment → Bool) (n : ℕ) (xs : List Appointment) (a :
     → (n < a.number) × (slice_get xs (a.number - suc n) ≡ Some a)
 found_placed p n [] a all found = absurd (cc)
 found_placed p n (x ∷ xs) a all found =
-    let here : x.number ≡ suc n = same_is x.number (suc n) (first_of (x.number == suc n) (are_numbered_from (suc n) xs) all) in
+    let here : x.number ≡ suc n = eqb-true x.number (suc n) (first_so (x.number == suc n) (are_numbered_from (suc n) xs) all) in
     let parts : option_or (find p (reverse xs)) (find p (x ∷ [])) ≡ Some a = sym (ap (find p) (reverse-append (x ∷ []) xs) ∙ find-append p (reverse xs) (x ∷ [])) ∙ found in
     (elim (find p (reverse xs)) as (λ o. find p (reverse xs) ≡ o → option_or o (find p (x ∷ [])) ≡ Some a → (n < a.number) × (slice_get (x ∷ xs) (a.number - suc n) ≡ Some a)) [
       | Some b ↦ λ later is.
-          (let rest = found_placed p (suc n) xs a (second_of (x.number == suc n) (are_numbered_from (suc n) xs) all) (later ∙ is) in
+          (let rest = found_placed p (suc n) xs a (second_so (x.number == suc n) (are_numbered_from (suc n) xs) all) (later ∙ is) in
           let next : a.number - suc n ≡ suc (a.number - suc (suc n)) = omega (arith, rest.0) in (
             omega (arith, rest.0),
             ap (slice_get (x ∷ xs)) next ∙ rest.1,
@@ -102,8 +103,8 @@ found_tag : (p : Appointment → Bool) (xs : List Appointment) (a : Appointment)
 found_tag p [] a all found = absurd (cc)
 found_tag p (x ∷ xs) a all found =
     (elim (p x) as (λ b. cond b (Some x) (find p xs) ≡ Some a → is_tag a.number ≡ true) [
-      | true ↦ λ h. ap is_tagged (sym (ap (λ o. option_map_or (λ y. y) o x) h)) ∙ first_of (is_tagged x) (list_all is_tagged xs) all
-      | false ↦ λ h. found_tag p xs a (second_of (is_tagged x) (list_all is_tagged xs) all) h
+      | true ↦ λ h. ap is_tagged (sym (ap (λ o. option_map_or (λ y. y) o x) h)) ∙ first_so (is_tagged x) (list_all is_tagged xs) all
+      | false ↦ λ h. found_tag p xs a (second_so (is_tagged x) (list_all is_tagged xs) all) h
     ]) found
 
 -- ---- the appointment that governs a place, by its tag
@@ -131,25 +132,25 @@ module _ (admitted has_ended : ℕ → Bool) (tags_pass : (tag : ℕ) → is_tag
   governing_tag : (place : ℕ) → 1 ≤ place → place ≤ holding.shares → governing_in cutoffs holding place ≡ at_tag holding (tag_over admitted has_ended pieces place)
   governing_tag place low high =
       ap (λ b. cond b (option_and_then (unended cutoffs holding) (last_over cutoffs holding place)) None)
-      (both_of (nat_le 1 place) (nat_le place holding.shares) (le_true 1 place low) (le_true place holding.shares high))
+      (and_from (nat_le 1 place) (nat_le place holding.shares) (le-leb 1 place low) (le-leb place holding.shares high))
       ∙ by_tag cutoffs holding has_ended (last_over cutoffs holding place)
       (λ a found. record {
         ended = ended a.number (found_tag (is_over cutoffs place) (reverse holding.appointed) a (tags-reversed holding.appointed kept.tagged) found);
         placed = (found_placed (is_over cutoffs place) 0 holding.appointed a kept.numbered found).1;
       })
       ∙ ap (λ o. at_tag holding (option_and_then (if_unended has_ended) o))
-      (sym (newest place (both_of (nat_le 1 place) (nat_le place most_places) (le_true 1 place low) (le_true place most_places (omega (arith, high, kept.few))))
+      (sym (newest place (and_from (nat_le 1 place) (nat_le place MOST_PLACES) (le-leb 1 place low) (le-leb place MOST_PLACES (omega (arith, high, kept.few))))
       ∙ newest_over admitted tags_pass cutoffs place holding kept.tagged))
 
   -- one appointment governs all that the holding has of a range whose places have the same tags
   one_governed : (range : Places) (to : ℕ) → 1 ≤ range.from → to ≤ holding.shares → to ≤ range.to → AreAlike pieces range
       → IsGoverned cutoffs holding (record { range = record { from = range.from; to = to }; by = option_map (λ number. number - 1) (tag_over admitted has_ended pieces range.from) })
   one_governed range to low few within alike = λ place is.
-      let lower = le_is range.from place (first_of (nat_le range.from place) (nat_le place to) is) in
-      let upper = le_is place to (second_of (nat_le range.from place) (nat_le place to) is) in
+      let lower = leb-true range.from place (first_so (nat_le range.from place) (nat_le place to) is) in
+      let upper = leb-true place to (second_so (nat_le range.from place) (nat_le place to) is) in
       governing_tag place (omega (arith, lower)) (omega (arith, upper))
       ∙ ap (λ tags. at_tag holding (option_and_then (if_unended has_ended) (find admitted tags)))
-      (alike place (both_of (nat_le range.from place) (nat_le place range.to) (le_true range.from place lower) (le_true place range.to (omega (arith, upper)))))
+      (alike place (and_from (nat_le range.from place) (nat_le place range.to) (le-leb range.from place lower) (le-leb place range.to (omega (arith, upper)))))
 
   all_governed : (first : ℕ) (ranges : List Places) → 1 ≤ first → follow_from first ranges ≡ true → All (AreAlike pieces) ranges
       → All (IsGoverned cutoffs holding) (filter_map (piece_over admitted has_ended pieces holding.shares) ranges)

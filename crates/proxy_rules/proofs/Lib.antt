@@ -9,4 +9,3 @@ pub mod ShareLemmas
 pub mod TagLemmas
 pub mod TileLemmas
 pub mod TurnedLists
-pub use Rattle.share_blocks.proofs.Choices

@@ -1,10 +1,8 @@
 -- Lists: what a test keeps, and what stands at places.
 use Rattle.std.proofs.Common.{◌≡◌, ℕ, Bool, true, false, cond, List, [], ◌∷◌, ◌++◌, refl, sym, ap, ◌∙◌}
-use Rattle.std.specs.Prelude.{◌&&◌, ◌||◌, Option, Some, None, find, filter, reverse, option_and_then}
-use Rattle.std.specs.Cmp.{first_so, second_so}
-use Rattle.std.specs.List.{cons_option, filter_map, list_any, list_all, slice_get}
+use Rattle.std.specs.Prelude.{◌||◌, Option, Some, None, find, filter, reverse, option_and_then}
+use Rattle.std.specs.List.{cons_option, filter_map, list_any, slice_get}
 use Rattle.std.specs.Option.{option_map_or}
-use Rattle.std.specs.Cmp.Derive.{both_true}
 use Rattle.std.proofs.lemmas.List.{reverse-append, append-nil}
 use Rattle.std.proofs.lemmas.List.Elements.{filter-append}
 
@@ -20,35 +18,6 @@ reverse-filter q (x ∷ xs) =
     reverse-one_kept (q x) x (filter q xs)
     ∙ ap (λ ys. ys ++ cond (q x) (x ∷ []) []) (reverse-filter q xs)
     ∙ sym (ap (filter q) (reverse-append (x ∷ []) xs) ∙ filter-append q (reverse xs) (x ∷ []))
-
-pub any-kept : {X : Type 0} (p q : X → Bool) (xs : List X) → list_any p (filter q xs) ≡ list_any (λ x. q x && p x) xs
-any-kept p q [] = refl
-any-kept p q (x ∷ xs) =
-    elim (q x) as (λ b. list_any p (cond b (x ∷ filter q xs) (filter q xs)) ≡ ((b && p x) || list_any (λ x. q x && p x) xs)) [
-      | true ↦ ap (λ b. p x || b) (any-kept p q xs)
-      | false ↦ any-kept p q xs
-    ]
-
--- what is found passes
-pub found-passes : {X : Type 0} (p : X → Bool) (xs : List X) (x : X) → find p xs ≡ Some x → p x ≡ true
-found-passes p [] x h = absurd (cc)
-found-passes p (y ∷ ys) x h =
-    (elim (p y) as (λ b. p y ≡ b → cond b (Some y) (find p ys) ≡ Some x → p x ≡ true) [
-      | true ↦ λ e found. ap p (sym (some_same y x found)) ∙ e
-      | false ↦ λ e found. found-passes p ys x found
-    ]) refl h
-  where
-    some_same : {X : Type 0} (a b : X) → Some a ≡ Some b → a ≡ b
-    some_same a b e = ap (λ o. option_map_or (λ x. x) o a) e
-
-pub all-kept : {X : Type 0} (p q : X → Bool) (xs : List X) → list_all p xs ≡ true → list_all p (filter q xs) ≡ true
-all-kept p q [] all = refl
-all-kept p q (x ∷ xs) all =
-    let rest = all-kept p q xs (second_so (p x) (list_all p xs) all) in
-    elim (q x) as (λ b. list_all p (cond b (x ∷ filter q xs) (filter q xs)) ≡ true) [
-      | true ↦ both_true (first_so (p x) (list_all p xs) all) rest
-      | false ↦ rest
-    ]
 
 -- ---- what stands at places
 

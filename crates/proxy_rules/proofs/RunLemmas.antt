@@ -3,11 +3,11 @@ use Rattle.std.proofs.Common.{◌≡◌, ℕ, zero, suc, ◌+◌, ◌<◌, ◌�
 use Rattle.std.specs.Prelude.{◌&&◌, ◌||◌, ◌==◌, nat_le, ⊤}
 use Rattle.std.specs.List.{list_any}
 use Rattle.std.specs.Cmp.Derive.{both_true}
-use Rattle.std.proofs.lemmas.Bool.{cases_lt}
+use Rattle.std.proofs.lemmas.Bool.{cases_lt, eq-eqb, le-leb, lt-ltb, ne_eqb}
 use Rattle.std.proofs.lemmas.Bool.Decides.{nat_tests}
+use Rattle.std.proofs.Math.Bool.{or-false, or_assoc}
 use Rattle.desk_terms.specs.Places.{Places, holds}
 use Rattle.proxy_rules.specs.Runs.{joined, runs_that, are_parted}
-use Rattle.share_blocks.proofs.Choices.{le_true, lt_true, same_is, same_true}
 
 -- ---- one run more
 
@@ -23,24 +23,17 @@ pub set-joined : (runs : List Places) (last run longer : Places) (n : ℕ) → l
 set-joined [] last run longer n len is meets made = absurd (omega arith)
 set-joined (r ∷ []) last run longer zero len is meets made =
     ap (λ l. l ∷ []) (made ∙ ap (λ (p : Places). record { from = p.from; to = run.to }) is)
-    ∙ sym (ap (λ b. cond b (record { from = r.from; to = run.to } ∷ []) (r ∷ run ∷ [])) (sym (ap (λ (p : Places). p.to + 1 == run.from) is) ∙ same_true (last.to + 1) run.from meets))
+    ∙ sym (ap (λ b. cond b (record { from = r.from; to = run.to } ∷ []) (r ∷ run ∷ [])) (sym (ap (λ (p : Places). p.to + 1 == run.from) is) ∙ eq-eqb (last.to + 1) run.from meets))
 set-joined (r ∷ []) last run longer (suc n) len is meets made = absurd (omega arith)
 set-joined (r ∷ s ∷ runs) last run longer zero len is meets made = absurd (omega arith)
 set-joined (r ∷ s ∷ runs) last run longer (suc n) len is meets made = ap (λ l. r ∷ l) (set-joined (s ∷ runs) last run longer n (omega (arith, len)) is meets made)
-
-different : (a b : ℕ) → (a ≡ b → ⊥) → (a == b) ≡ false
-different a b apart =
-    (elim (a == b) as (λ c. (a == b) ≡ c → c ≡ false) [
-      | true ↦ λ e. absurd (apart (same_is a b e))
-      | false ↦ λ e. refl
-    ]) refl
 
 -- a run behind a gap
 pub push-joined : (runs : List Places) (last run : Places) (n : ℕ) → length runs ≡ n + 1 → last ≡ get_or runs n last → (last.to + 1 ≡ run.from → ⊥)
     → runs ++ run ∷ [] ≡ joined runs run
 push-joined [] last run n len is apart = absurd (omega arith)
 push-joined (r ∷ []) last run zero len is apart =
-    sym (ap (λ b. cond b (record { from = r.from; to = run.to } ∷ []) (r ∷ run ∷ [])) (sym (ap (λ (p : Places). p.to + 1 == run.from) is) ∙ different (last.to + 1) run.from apart))
+    sym (ap (λ b. cond b (record { from = r.from; to = run.to } ∷ []) (r ∷ run ∷ [])) (sym (ap (λ (p : Places). p.to + 1 == run.from) is) ∙ ne_eqb (last.to + 1) run.from apart))
 push-joined (r ∷ []) last run (suc n) len is apart = absurd (omega arith)
 push-joined (r ∷ s ∷ runs) last run zero len is apart = absurd (omega arith)
 push-joined (r ∷ s ∷ runs) last run (suc n) len is apart = ap (λ l. r ∷ l) (push-joined (s ∷ runs) last run n (omega (arith, len)) is apart)
@@ -63,7 +56,7 @@ joined-cons first (second ∷ third ∷ runs) run next = refl
 -- two runs that meet are put one by one or as one
 joined-joined : (runs : List Places) (f m t : ℕ) → joined (joined runs (record { from = f; to = m })) (record { from = suc m; to = t }) ≡ joined runs (record { from = f; to = t })
 joined-joined [] f m t =
-    ap (λ b. cond b (record { from = f; to = t } ∷ []) (record { from = f; to = m } ∷ record { from = suc m; to = t } ∷ [])) (same_true (m + 1) (suc m) (omega arith))
+    ap (λ b. cond b (record { from = f; to = t } ∷ []) (record { from = f; to = m } ∷ record { from = suc m; to = t } ∷ [])) (eq-eqb (m + 1) (suc m) (omega arith))
 joined-joined (last ∷ []) f m t =
     elim (last.to + 1 == f) as (λ b. joined (cond b (record { from = last.from; to = m } ∷ []) (last ∷ record { from = f; to = m } ∷ [])) (record { from = suc m; to = t }) ≡ cond b (record { from = last.from; to = t } ∷ []) (last ∷ record { from = f; to = t } ∷ [])) [
       | true ↦ joined-joined [] last.from m t
@@ -138,10 +131,10 @@ runs_that-parted test (suc n) =
 
 are_parted-from : (low n : ℕ) (runs : List Places) → Parted low n runs → are_parted runs ≡ true
 are_parted-from low n [] h = refl
-are_parted-from low n (run ∷ []) h = le_true run.from run.to h.0.1
+are_parted-from low n (run ∷ []) h = le-leb run.from run.to h.0.1
 are_parted-from low n (run ∷ next ∷ runs) h =
     both_true
-    (both_true (le_true run.from run.to h.0.1) (lt_true (run.to + 1) next.from (omega (arith, h.2.0.0))))
+    (both_true (le-leb run.from run.to h.0.1) (lt-ltb (run.to + 1) next.from (omega (arith, h.2.0.0))))
     (are_parted-from (run.to + 2) n (next ∷ runs) h.2)
 
 -- runs are in order, with gaps
@@ -152,14 +145,6 @@ are_parted-runs_that test n = are_parted-from 1 n (runs_that test n) (runs_that-
 
 abbrev are_in : List Places → ℕ → Bool
 are_in runs place = list_any (λ (run : Places). holds run place) runs
-
-or_assoc : (a b c : Bool) → (a || (b || c)) ≡ ((a || b) || c)
-or_assoc true b c = refl
-or_assoc false b c = refl
-
-or_false : (a : Bool) → (a || false) ≡ a
-or_false true = refl
-or_false false = refl
 
 last_place : (n place : ℕ) → ((nat_le (suc n) place && nat_le place (suc n)) || false) ≡ (place == suc n)
 last_place n place = grind (arith, nat_tests)
@@ -175,11 +160,11 @@ are_in-joined low n [] place h = last_place n place
 are_in-joined low n (run ∷ []) place h =
     (elim (run.to + 1 == suc n) as (λ b. (run.to + 1 == suc n) ≡ b → are_in (cond b (record { from = run.from; to = suc n } ∷ []) (run ∷ record { from = suc n; to = suc n } ∷ [])) place ≡ (are_in (run ∷ []) place || (place == suc n))) [
       | true ↦ λ e. grown run.from run.to n place h.0.1 (is_suc run.to n e)
-      | false ↦ λ e. ap (λ b. holds run place || b) (last_place n place) ∙ ap (λ b. b || (place == suc n)) (sym (or_false (holds run place)))
+      | false ↦ λ e. ap (λ b. holds run place || b) (last_place n place) ∙ ap (λ b. b || (place == suc n)) (sym (or-false (holds run place)))
     ]) refl
 are_in-joined low n (run ∷ next ∷ runs) place h =
     ap (λ b. holds run place || b) (are_in-joined (run.to + 2) n (next ∷ runs) place h.2)
-    ∙ or_assoc (holds run place) (are_in (next ∷ runs) place) (place == suc n)
+    ∙ sym (or_assoc (holds run place) (are_in (next ∷ runs) place) (place == suc n))
 
 no_place : (place : ℕ) (b : Bool) → false ≡ (nat_le 1 place && nat_le place zero && b)
 no_place place b = grind (arith, nat_tests)

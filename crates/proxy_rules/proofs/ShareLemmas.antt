@@ -11,7 +11,7 @@ use Rattle.desk_terms.specs.Names.{same_name}
 use Rattle.desk_terms.specs.declared.kinds.HolderKind.{HolderKind}
 use Rattle.desk_terms.specs.declared.kinds.HolderKind.TheVariants.{Individual, Corporation, Treasury}
 use Rattle.desk_words.specs.declared.records.RegisterRow.{RegisterRow}
-use Rattle.desk_words.specs.declared.register.TheConstants.{MOST_SHARES}
+use Rattle.desk_words.specs.declared.limits.TheConstants.{MOST_SHARES}
 use Rattle.desk_words.specs.Registers.{is_holding, all_shares, keep_limits, member_before}
 use Rattle.proxy_rules.specs.Shares.{are_rows, shares_held, shares_of, shares_by}
 

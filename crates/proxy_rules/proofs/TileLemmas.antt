@@ -2,10 +2,13 @@
 use Rattle.std.proofs.Common.{◌≡◌, ℕ, zero, suc, ◌+◌, ◌-◌, ◌<◌, ◌≤◌, min, Bool, true, false, cond, List, [], ◌∷◌, refl, sym, ap, ◌∙◌, arith, inl, inr}
 use Rattle.std.specs.Prelude.{◌&&◌, ◌==◌, nat_le, Option, Some, None, All, sum_by}
 use Rattle.std.specs.List.{filter_map, cons_option}
-use Rattle.std.proofs.lemmas.Bool.{cases_lt}
+use Rattle.std.proofs.lemmas.Bool.{cases_lt, and_from, eq-eqb, eqb-true, le-leb, leb-true, lt-leb}
 use Rattle.std.proofs.lemmas.List.Elements.{All-nil, All-cons, All-head, All-tail}
 use Rattle.std.proofs.lemmas.List.Sums.{sum_by-cons}
-use Rattle.desk_terms.specs.Places.{Places, holds, most_places, places_that, range_of}
+use Rattle.std.proofs.Math.Bool.{and-false}
+use Rattle.std.specs.Cmp.{first_so, second_so}
+use Rattle.desk_terms.specs.declared.range.TheConstants.{MOST_PLACES}
+use Rattle.desk_terms.specs.Places.{Places, holds, places_that, range_of}
 use Rattle.desk_words.specs.declared.records.Appointment.{Appointment}
 use Rattle.proxy_rules.specs.Governing.{governing_in}
 use Rattle.proxy_rules.specs.Tagging.{held_of}
@@ -14,7 +17,6 @@ use Rattle.proxy_rules.specs.declared.holdings.Holding.{Holding}
 use Rattle.proxy_rules.specs.declared.papers.Cutoffs.{Cutoffs}
 use Rattle.proxy_rules.specs.declared.pieces.GovernedPiece.{GovernedPiece}
 use Rattle.share_blocks.specs.Pieces.{follow_from}
-use Rattle.share_blocks.proofs.Choices.{and-false, both_of, first_of, le_false, le_is, le_true, same_is, same_true, second_of}
 use Rattle.share_blocks.proofs.CutLemmas.{follows}
 
 -- ---- the first of ranges that hold places in order
@@ -26,22 +28,22 @@ pub record Tiled (first : ℕ) (range : Places) (ranges : List Places) (last : �
 
 pub tiled : (first : ℕ) (range : Places) (ranges : List Places) (last : ℕ) → are_tiled first (range ∷ ranges) last ≡ true → Tiled first range ranges last
 tiled first range ranges last h =
-    let front = first_of ((range.from == first) && nat_le first range.to) (are_tiled (range.to + 1) ranges last) h in
+    let front = first_so ((range.from == first) && nat_le first range.to) (are_tiled (range.to + 1) ranges last) h in
     record {
-      begins = same_is range.from first (first_of (range.from == first) (nat_le first range.to) front);
-      within = le_is first range.to (second_of (range.from == first) (nat_le first range.to) front);
-      rest = second_of ((range.from == first) && nat_le first range.to) (are_tiled (range.to + 1) ranges last) h;
+      begins = eqb-true range.from first (first_so (range.from == first) (nat_le first range.to) front);
+      within = leb-true first range.to (second_so (range.from == first) (nat_le first range.to) front);
+      rest = second_so ((range.from == first) && nat_le first range.to) (are_tiled (range.to + 1) ranges last) h;
     }
 
 pub tile_more : (first : ℕ) (range : Places) (ranges : List Places) (last : ℕ) → Tiled first range ranges last → are_tiled first (range ∷ ranges) last ≡ true
 tile_more first range ranges last t =
-    both_of ((range.from == first) && nat_le first range.to) (are_tiled (range.to + 1) ranges last)
-    (both_of (range.from == first) (nat_le first range.to) (same_true range.from first t.begins) (le_true first range.to t.within))
+    and_from ((range.from == first) && nat_le first range.to) (are_tiled (range.to + 1) ranges last)
+    (and_from (range.from == first) (nat_le first range.to) (eq-eqb range.from first t.begins) (le-leb first range.to t.within))
     t.rest
 
 -- a range holds its own first place
 pub holds-first : (range : Places) → range.from ≤ range.to → holds range range.from ≡ true
-holds-first range up = both_of (nat_le range.from range.from) (nat_le range.from range.to) (le_true range.from range.from (omega arith)) (le_true range.from range.to up)
+holds-first range up = and_from (nat_le range.from range.from) (nat_le range.from range.to) (le-leb range.from range.from (omega arith)) (le-leb range.from range.to up)
 
 -- ---- places that pass alike
 
@@ -79,14 +81,14 @@ count_more : (test : ℕ → Bool) (n : ℕ) (range : Places) → range.from ≡
 count_more test n range begins within alike =
     let up : n < range.to = past n range.to within in
     let stretch = places_that-run test (test range.from) n range.to up
-    (λ place low high. alike place (both_of (nat_le range.from place) (nat_le place range.to) (le_true range.from place (omega (arith, begins))) (le_true place range.to high))) in
+    (λ place low high. alike place (and_from (nat_le range.from place) (nat_le place range.to) (le-leb range.from place (omega (arith, begins))) (le-leb place range.to high))) in
     ap (λ k. places_that test n + cond (test range.from) k 0) (length_is range.to n range.from up begins)
     ∙ sym stretch
 
 count_from : (test : ℕ → Bool) (n : ℕ) (ranges : List Places) (last : ℕ) → are_tiled (n + 1) ranges last ≡ true → All (IsAlike test) ranges
     → places_that test n + sum_by (places_if test) ranges ≡ places_that test last
 count_from test n [] last all alike =
-    let e : n + 1 ≡ last + 1 = same_is (n + 1) (last + 1) all in
+    let e : n + 1 ≡ last + 1 = eqb-true (n + 1) (last + 1) all in
     let same : n ≡ last = omega arith in
     let none : places_that test n + 0 ≡ places_that test n = omega arith in
     none ∙ ap (places_that test) same
@@ -134,15 +136,15 @@ module _ (passes : Option Appointment → Bool) (cutoffs : Cutoffs) (holding : H
 
 -- ---- what a holding has of ranges that hold all places
 
-pub within_range : (from to : ℕ) → 1 ≤ from → from ≤ to → to ≤ most_places → range_of from to ≡ Some (record { from = from; to = to })
+pub within_range : (from to : ℕ) → 1 ≤ from → from ≤ to → to ≤ MOST_PLACES → range_of from to ≡ Some (record { from = from; to = to })
 within_range from to low up high =
     ap (λ b. cond b (Some (record { from = from; to = to })) None)
-    (both_of (nat_le 1 from && nat_le from to) (nat_le to most_places) (both_of (nat_le 1 from) (nat_le from to) (le_true 1 from low) (le_true from to up)) (le_true to most_places high))
+    (and_from (nat_le 1 from && nat_le from to) (nat_le to MOST_PLACES) (and_from (nat_le 1 from) (nat_le from to) (le-leb 1 from low) (le-leb from to up)) (le-leb to MOST_PLACES high))
 
 pub no_range : (from to : ℕ) → to < from → range_of from to ≡ None
 no_range from to less =
-    ap (λ b. cond ((nat_le 1 from && b) && nat_le to most_places) (Some (record { from = from; to = to })) None) (le_false from to less)
-    ∙ ap (λ b. cond (b && nat_le to most_places) (Some (record { from = from; to = to })) None) (and-false (nat_le 1 from))
+    ap (λ b. cond ((nat_le 1 from && b) && nat_le to MOST_PLACES) (Some (record { from = from; to = to })) None) (lt-leb from to less)
+    ∙ ap (λ b. cond (b && nat_le to MOST_PLACES) (Some (record { from = from; to = to })) None) (and-false (nat_le 1 from))
 
 -- nothing of what lies past its shares
 nothing_held : (shares first : ℕ) (ranges : List Places) → shares < first → follow_from first ranges ≡ true → filter_map (held_of shares) ranges ≡ []
@@ -152,9 +154,9 @@ nothing_held shares first (range ∷ ranges) less all =
     ap (λ o. cons_option o (filter_map (held_of shares) ranges)) (no_range range.from (min shares range.to) (omega (arith, f.begins)))
     ∙ nothing_held shares (range.to + 1) ranges (omega (arith, f.within)) f.rest
 
-tiled_from : (shares first : ℕ) (ranges : List Places) → 1 ≤ first → first ≤ shares → shares ≤ most_places → follow_from first ranges ≡ true
+tiled_from : (shares first : ℕ) (ranges : List Places) → 1 ≤ first → first ≤ shares → shares ≤ MOST_PLACES → follow_from first ranges ≡ true
     → are_tiled first (filter_map (held_of shares) ranges) shares ≡ true
-tiled_from shares first [] low here few all = let e = same_is first (most_places + 1) all in absurd (omega (arith, e))
+tiled_from shares first [] low here few all = let e = eqb-true first (MOST_PLACES + 1) all in absurd (omega (arith, e))
 tiled_from shares first (range ∷ ranges) low here few all =
     let f = follows first range ranges all in
     let to = min shares range.to in
@@ -168,16 +170,16 @@ tiled_from shares first (range ∷ ranges) low here few all =
           let e : to ≡ shares = omega arith in
           ap (λ k. are_tiled (k + 1) others shares) e
           ∙ ap (λ l. are_tiled (shares + 1) l shares) (nothing_held shares (range.to + 1) ranges (omega arith) f.rest)
-          ∙ same_true (shares + 1) (shares + 1) refl
+          ∙ eq-eqb (shares + 1) (shares + 1) refl
     ] in
     ap (λ o. are_tiled first (cons_option o others) shares) (within_range range.from to (omega (arith, f.begins)) (omega (arith, f.begins)) (omega arith))
     ∙ tile_more first (record { from = range.from; to = to }) others shares (record { begins = f.begins; within = up; rest = rest })
 
 -- what it has of them are its shares, in order
-pub tiled-held : (shares : ℕ) (ranges : List Places) → shares ≤ most_places → follow_from 1 ranges ≡ true → are_tiled 1 (filter_map (held_of shares) ranges) shares ≡ true
+pub tiled-held : (shares : ℕ) (ranges : List Places) → shares ≤ MOST_PLACES → follow_from 1 ranges ≡ true → are_tiled 1 (filter_map (held_of shares) ranges) shares ≡ true
 tiled-held shares ranges few all = elim (cases_lt 0 shares) [
   | inl some ↦ tiled_from shares 1 ranges (omega arith) (omega arith) few all
   | inr none ↦
       let e : shares ≡ 0 = omega arith in
-      ap (λ l. are_tiled 1 l shares) (nothing_held shares 1 ranges (omega arith) all) ∙ same_true 1 (shares + 1) (omega arith)
+      ap (λ l. are_tiled 1 l shares) (nothing_held shares 1 ranges (omega arith) all) ∙ eq-eqb 1 (shares + 1) (omega arith)
 ]

@@ -1,28 +1,43 @@
 -- Cutoffs: until when appointments and endings count (own, after sections 327 and 330).
 use Rattle.std.specs.Prelude.{ℕ, Bool, List, Option, Some, None, if◌then◌else◌}
 use Rattle.std.specs.Option.{unwrap_or}
+use Rattle.desk_words.specs.Seen.{Day, Moment}
+use Rattle.desk_words.specs.declared.limits.TheConstants.{HOURS_BEFORE_LATE_POLL, HOURS_BEFORE_MEETING}
 use Rattle.desk_words.specs.declared.records.Meeting.{Meeting}
 use Rattle.desk_words.specs.declared.records.Poll.{Poll}
 use Rattle.office_days.specs.Days.{back, is_late}
 use Rattle.proxy_rules.specs.declared.papers.Cutoffs.{Cutoffs}
 
--- the moment so many hours of working time before another, or the first moment of all where there is none
-abbrev pub back_or_first : List ℕ → ℕ → ℕ → ℕ
+-- the moment so many hours of working time before another, or the first moment of all where there
+-- is none
+abbrev pub back_or_first : List Day → ℕ → Moment → Moment
 back_or_first closed hours moment = unwrap_or (back closed hours moment) 0
 
 -- the poll is late, by the closed days as they stand (sections 327 and 330)
-abbrev pub is_late_poll : List ℕ → Poll → Bool
+abbrev pub is_late_poll : List Day → Poll → Bool
 is_late_poll closed poll = is_late closed poll.ordered poll.take
 
--- for a meeting, and for a poll that is not late: an appointment counts up to 48 hours of working time before the appointed time, an ending before the opening, or before now where the meeting is not opened (sections 327 and 330)
-abbrev pub meeting_cutoffs : Meeting → List ℕ → ℕ → Cutoffs
-meeting_cutoffs meeting closed now = record { appointments = back_or_first closed 48 meeting.appointed; endings = unwrap_or meeting.opened now }
+-- for a meeting, and for a poll that is not late: an appointment counts up to
+-- `HOURS_BEFORE_MEETING` hours of working time before the appointed time, an ending before the
+-- opening, or before now where the meeting is not opened (sections 327 and 330)
+abbrev pub meeting_cutoffs : Meeting → List Day → Moment → Cutoffs
+meeting_cutoffs meeting closed now = record {
+  appointments = back_or_first closed HOURS_BEFORE_MEETING meeting.appointed;
+  endings = unwrap_or meeting.opened now;
+}
 
--- for a late poll: an appointment counts up to 24 hours of working time before the taking, an ending before the taking (sections 327 and 330)
-abbrev pub late_cutoffs : Poll → List ℕ → Cutoffs
-late_cutoffs poll closed = record { appointments = back_or_first closed 24 poll.take; endings = poll.take }
+-- for a late poll: an appointment counts up to `HOURS_BEFORE_LATE_POLL` hours of working time
+-- before the taking, an ending before the taking (sections 327 and 330)
+abbrev pub late_cutoffs : Poll → List Day → Cutoffs
+late_cutoffs poll closed = record {
+  appointments = back_or_first closed HOURS_BEFORE_LATE_POLL poll.take;
+  endings = poll.take;
+}
 
--- the cutoffs for the meeting, or for a poll
-abbrev pub cutoffs_of : Meeting → Option Poll → List ℕ → ℕ → Cutoffs
+-- the cutoffs for the meeting, or for a poll; all rules name cutoffs by this alone
+abbrev pub cutoffs_of : Meeting → Option Poll → List Day → Moment → Cutoffs
 cutoffs_of meeting None closed now = meeting_cutoffs meeting closed now
-cutoffs_of meeting (Some poll) closed now = if is_late_poll closed poll then late_cutoffs poll closed else meeting_cutoffs meeting closed now
+cutoffs_of meeting (Some poll) closed now =
+    if is_late_poll closed poll
+    then late_cutoffs poll closed
+    else meeting_cutoffs meeting closed now

@@ -21,9 +21,13 @@ way_named instruction.Against = Some Against
 way_named instruction.Withheld = Some Withheld
 way_named instruction.Free = None
 
--- the way in which instructions, one for each resolution, tell the proxy to vote on a resolution, of which the first is number 1, or none where they leave it free
+-- the way in which instructions, one for each resolution, tell the proxy to vote on a resolution,
+-- of which the first is number 1, or none where they leave it free
 abbrev pub instructed_on : ℕ → List Instr → Option Way
-instructed_on resolution instructions = if nat_lt 0 resolution then option_and_then way_named (slice_get instructions (resolution - 1)) else None
+instructed_on resolution instructions =
+    if nat_lt 0 resolution
+    then option_and_then way_named (slice_get instructions (resolution - 1))
+    else None
 
 -- a proxy who is so instructed, or free, may vote that way
 abbrev pub allows : Option Way → Way → Bool

@@ -3,6 +3,7 @@ pub mod Governing
 pub mod Holdings
 pub mod Instructions
 pub mod Laws
+pub mod Parties
 pub mod Runs
 pub mod Shares
 pub mod Tagging

@@ -1,12 +1,14 @@
 -- Shares. Those of a holding are numbered from 1, so a share is a row of the register and a place.
-use Rattle.std.specs.Prelude.{ℕ, Bool, true, false, ◌&&◌, ◌||◌, nat_le, List, find}
+use Rattle.std.specs.Prelude.{ℕ, Bool, true, false, ◌&&◌, ◌||◌, nat_le, List, find, Option}
 use Rattle.std.specs.Option.{option_map_or}
 use Rattle.desk_terms.specs.Names.{same_name}
 use Rattle.desk_terms.specs.declared.kinds.HolderKind.{HolderKind}
 use Rattle.desk_terms.specs.declared.kinds.HolderKind.TheVariants.{Individual, Corporation, Treasury}
+use Rattle.desk_words.specs.Seen.{Party, Place}
 use Rattle.desk_words.specs.declared.records.RegisterRow.{RegisterRow}
 use Rattle.desk_words.specs.Office.{no_rows}
 use Rattle.desk_words.specs.Registers.{is_register}
+use Rattle.desk_words.specs.Seen.{Party, Place}
 
 -- the rows of a meeting: a register, or none where no register is loaded
 abbrev pub are_rows : List RegisterRow → Bool
@@ -22,12 +24,16 @@ shares_held Treasury shares = 0
 abbrev pub shares_of : RegisterRow → ℕ
 shares_of row = shares_held row.kind row.shares
 
+-- a member's row in the register, if it has one (section 113)
+abbrev pub row_of : List RegisterRow → Party → Option RegisterRow
+row_of register member = find (λ (row : RegisterRow). same_name row.member member) register
+
 -- how many shares the member has in the register; none where it has no row
-abbrev pub shares_by : List RegisterRow → List ℕ → ℕ
-shares_by register member = option_map_or shares_of (find (λ (row : RegisterRow). same_name row.member member) register) 0
+abbrev pub shares_by : List RegisterRow → Party → ℕ
+shares_by register member = option_map_or shares_of (row_of register member) 0
 
 -- the place is that of one of so many shares
-abbrev pub is_share : ℕ → ℕ → Bool
+abbrev pub is_share : ℕ → Place → Bool
 is_share shares place = nat_le 1 place && nat_le place shares
 
 -- a person holds them

@@ -1,12 +1,13 @@
 //! One member's shares, with what was received of its appointments.
-ghost use Rattle.std.specs.Prelude.{◌≡◌, ◌<◌, All, IfOk, filter, length};
+ghost use Rattle.std.specs.Prelude.{◌≡◌, ◌<◌, true, All, IfOk, filter, length, nat_le};
 ghost use Rattle.std.specs.List.{filter_map, slice_get};
-ghost use Rattle.proxy_rules.specs.Holdings.{holding_by, holding_of, holding_with, is_ended_of, is_given_by};
+ghost use Rattle.proxy_rules.specs.Holdings.{IsKept, are_numbered_from, are_tags, holding_by, holding_of, holding_with, is_ended_of, is_given_by, is_kept};
 
-use crate::appointed::shares_by;
+use crate::governor::shares_by;
 use crate::papers::Papers;
 use crate::rows::shares;
-use desk_words::{Appointment, Ending, Filed, Listing, Party, RegisterRow};
+use desk_words::{Appointment, Ending, Filed, Listing, MOST_PLACES, Party, RegisterRow};
+use share_blocks::Tag;
 use std::alloc::{AllocError, Global};
 
 /// One member's shares, its appointments of proxies and its endings of them.
@@ -65,26 +66,58 @@ fn ended_by(
     endings.by_first(alloc, member)
 }
 
-/// So many shares of a member, with its appointments and its endings.
-fn holding_with(
-    alloc: Global,
-    shares: u64,
-    appointments: &Filed<Appointment>,
-    endings: &Filed<Ending>,
-    member: Party,
-) -> Result<Holding, AllocError>
-    ensures { IfOk result (λ holding. holding ≡ holding_with shares appointments.now endings.now member) }
+/// Whether the appointments are numbered 1, 2, .. in order of receipt.
+fn are_numbered(appointed: &[Appointment]) -> bool
+    ensures { result ≡ are_numbered_from 0 appointed.now }
 {
-    let appointed = given_by(alloc, appointments, member)?;
-    let ended = ended_by(alloc, endings, member)?;
-    Ok(Holding {
-        shares,
-        appointed,
-        ended: Listing::from_vec(ended),
-    })
+    let mut number = 0;
+    for appointment in appointed {
+        number += 1;
+        if appointment.number != number {
+            return false;
+        }
+    }
+    true
+}
+
+/// Whether the numbers of the appointments are tags.
+fn are_tags(appointed: &[Appointment]) -> bool
+    ensures { result ≡ are_tags appointed.now }
+{
+    appointed
+        .iter()
+        .all(|appointment| Tag::new(appointment.number).is_some())
+}
+
+/// Whether each of so many shares has a place.
+fn have_places(shares: u64) -> bool
+    ensures { result ≡ nat_le shares MOST_PLACES }
+{
+    shares <= MOST_PLACES
 }
 
 impl Holding {
+    /// So many shares of a member, with its appointments and its endings, which are looked up. The
+    /// error is want of memory.
+    pub fn with_shares(
+        alloc: Global,
+        shares: u64,
+        appointments: &Filed<Appointment>,
+        endings: &Filed<Ending>,
+        member: Party,
+    ) -> Result<Holding, AllocError>
+        ensures { IfOk result (λ holding. holding
+            ≡ holding_with shares appointments.now endings.now member) }
+    {
+        let appointed = given_by(alloc, appointments, member)?;
+        let ended = ended_by(alloc, endings, member)?;
+        Ok(Holding {
+            shares,
+            appointed,
+            ended: Listing::from_vec(ended),
+        })
+    }
+
     /// The holding of a row of the register, with its member's appointments and endings, which are
     /// looked up. The error is want of memory.
     pub fn of_row(
@@ -93,17 +126,31 @@ impl Holding {
         appointments: &Filed<Appointment>,
         endings: &Filed<Ending>,
     ) -> Result<Holding, AllocError>
-        ensures { IfOk result (λ holding. holding ≡ holding_by appointments.now endings.now row.now) }
+        ensures { IfOk result
+            (λ holding. holding ≡ holding_by appointments.now endings.now row.now) }
     {
-        holding_with(alloc, shares(row), appointments, endings, row.member)
+        Holding::with_shares(alloc, shares(row), appointments, endings, row.member)
     }
 
     /// The holding of a member, of no shares where it has no row in the register, with its
     /// appointments and endings, which are looked up. The error is want of memory.
     pub fn of(alloc: Global, papers: &Papers, member: Party) -> Result<Holding, AllocError>
-        ensures { IfOk result (λ holding. holding ≡ holding_of papers.now.register.now papers.now.appointments.now papers.now.endings.now member) }
+        ensures { IfOk result
+            (λ holding. holding
+            ≡ holding_of papers.now.register.now papers.now.appointments.now
+            papers.now.endings.now member) }
     {
         let shares = shares_by(papers.register, member);
-        holding_with(alloc, shares, papers.appointments, papers.endings, member)
+        Holding::with_shares(alloc, shares, papers.appointments, papers.endings, member)
+    }
+
+    /// Whether an office keeps such a holding: its appointments are numbered 1, 2, .. up to 256,
+    /// and its shares have places. It takes no memory.
+    pub fn is_kept(&self) -> bool
+        ensures value { result ≡ is_kept self.now }
+        ensures kept { result ≡ true → IsKept self.now }
+    {
+        let appointed = self.appointed.as_slice();
+        are_numbered(appointed) && are_tags(appointed) && have_places(self.shares)
     }
 }

@@ -12,8 +12,8 @@ pub fn runs_are_parted()
     ensures { RunsAreParted }
 {}
 
-/// The runs of the shares that an appointment governs hold exactly the places of which it is the one that
-/// governs (section 324): what `governed` and `governing` answer is one rule.
+/// The runs of the shares that an appointment governs hold exactly the places of which it is the
+/// one that governs (section 324): what `governed` and `governing` answer is one rule.
 pub fn runs_hold_what_governs()
     ensures { RunsHoldWhatGoverns }
 {}
@@ -24,19 +24,20 @@ pub fn endings_revive_nothing()
     ensures { EndingsReviveNothing }
 {}
 
-/// What a member's appointment governs does not depend on those that were received before all of its
-/// number.
+/// What a member's appointment governs does not depend on those that were received before all of
+/// its number.
 pub fn earlier_take_nothing()
     ensures { EarlierTakeNothing }
 {}
 
-/// Over ranges that hold the places 1 to n in order, on each of which a test answers alike, the places
-/// that pass are those of the ranges that pass: how a count of shares goes over pieces.
+/// Over ranges that hold the places 1 to n in order, on each of which a test answers alike, the
+/// places that pass are those of the ranges that pass: how a count of shares goes over pieces.
 pub fn tiles_count_places()
     ensures { TilesCountPlaces }
 {}
 
-/// The shares of a holding that are governed by what passes a test are those of the pieces that pass.
+/// The shares of a holding that are governed by what passes a test are those of the pieces that
+/// pass.
 pub fn pieces_count_shares()
     ensures { PiecesCountShares }
 {}

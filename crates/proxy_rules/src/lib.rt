@@ -2,8 +2,8 @@
 //! share.
 #![tactic(auto)]
 
-mod appointed;
-mod counted;
+mod cutoff;
+mod governor;
 mod holdings;
 mod instructions;
 pub mod laws;
@@ -12,11 +12,11 @@ mod pieces;
 mod rows;
 mod runs;
 
-pub use appointed::governing;
-pub use counted::{cutoffs, is_late_poll};
+pub use cutoff::{cutoffs, is_late_poll};
+pub use governor::governing;
 pub use holdings::{Holding, copies_at, given_by};
 pub use instructions::{allows, instructed_on};
 pub use papers::{Cutoffs, Papers};
-pub use pieces::GovernedPiece;
-pub use rows::shares;
+pub use pieces::{GovernedPiece, held};
+pub use rows::{find_row, shares};
 pub use runs::{governed, runs_by_number};

@@ -3,8 +3,8 @@ use desk_words::{
     Appointment, Authority, CastMark, DemandMark, Ending, Filed, Moment, PresenceMark, RegisterRow,
 };
 
-/// The lists of a meeting by which its shares are governed and its polls counted, filed by the parties
-/// that each record names. Where no register is loaded there are no rows.
+/// The lists of a meeting by which its shares are governed and its polls counted, filed by the
+/// parties that each record names. Where no register is loaded there are no rows.
 #[derive(Clone, Copy)]
 pub struct Papers<'a> {
     /// The register of members, in the order of members (section 113).

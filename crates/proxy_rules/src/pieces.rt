@@ -1,12 +1,11 @@
 //! The places of a holding in pieces, each of which one appointment governs, or none.
-ghost use Rattle.std.specs.Prelude.{◌≡◌, ◌-◌, ℕ, IsTrue, IfOk, min, option_map};
+ghost use Rattle.std.specs.Prelude.{◌≡◌, ◌-◌, ℕ, IsTrue, IfOk, option_map};
 ghost use Rattle.std.specs.FinSet as set;
 ghost use Rattle.std.specs.List.{filter_map, list_any};
 ghost use Rattle.std.specs.Option.{option_copied};
-ghost use Rattle.desk_words.specs.Places.{range_of};
 ghost use Rattle.proxy_rules.specs.Governing.{ends};
 ghost use Rattle.proxy_rules.specs.Holdings.{IsKept};
-ghost use Rattle.proxy_rules.specs.Tagging.{cover_by, covers_by, piece_over, tag_ended, tag_over};
+ghost use Rattle.proxy_rules.specs.Tagging.{cover_by, covers_by, held_of, piece_over, tag_ended, tag_over};
 ghost use Rattle.proxy_rules.specs.Tiles.{ArePieces, appointment_of};
 ghost use Rattle.share_blocks.specs.Pieces.{ranges_of};
 ghost use Rattle.share_blocks.specs.Tags.{is_tag};
@@ -65,7 +64,8 @@ fn tag_ended(cutoffs: &Cutoffs, ending: &Ending) -> Option<Tag>
 
 /// The numbers that counted endings name.
 pub(crate) fn ended_numbers(cutoffs: &Cutoffs, ended: &[Ending]) -> Admitted
-    ensures { (tag : ℕ) → IsTrue (is_tag tag) → set.contains result tag ≡ list_any (ends cutoffs.now tag) ended.now }
+    ensures { (tag : ℕ) → IsTrue (is_tag tag)
+        → set.contains result tag ≡ list_any (ends cutoffs.now tag) ended.now }
 {
     let mut numbers = Admitted::none();
     for ending in ended {
@@ -76,9 +76,9 @@ pub(crate) fn ended_numbers(cutoffs: &Cutoffs, ended: &[Ending]) -> Admitted
     numbers
 }
 
-/// What of a range of places a holding of so many shares has.
-pub(crate) fn held(range: Range, shares: u64) -> Option<Range>
-    ensures { result ≡ range_of range.from (min shares range.to) }
+/// What of a range of places a holding of so many shares has, or none where the range lies past it.
+pub fn held(range: Range, shares: u64) -> Option<Range>
+    ensures { result ≡ held_of shares range }
 {
     Range::new(range.from(), shares.min(range.to()))
 }
@@ -90,7 +90,9 @@ pub(crate) fn tag_over<B: Blocks>(
     admitted: &Admitted,
     ended: &Admitted,
 ) -> Option<Tag>
-    ensures { result ≡ tag_over (set.contains admitted.now) (set.contains ended.now) (B.pieces blocks.now) place }
+    ensures { result
+        ≡ tag_over (set.contains admitted.now) (set.contains ended.now) (B.pieces blocks.now)
+        place }
 {
     let tag = blocks.first_where(place, admitted)?;
     if ended.has(tag) { None } else { Some(tag) }
@@ -111,7 +113,9 @@ fn piece_over<B: Blocks>(
     shares: u64,
     range: Range,
 ) -> Option<GovernedPiece>
-    ensures { result ≡ piece_over (set.contains admitted.now) (set.contains ended.now) (B.pieces blocks.now) shares range }
+    ensures { result
+        ≡ piece_over (set.contains admitted.now) (set.contains ended.now) (B.pieces blocks.now)
+        shares range }
 {
     let held = held(range, shares)?;
     let tag = tag_over(blocks, range.from(), admitted, ended);
@@ -129,8 +133,12 @@ fn pieces_of<B: Blocks>(
     ended: &Admitted,
     shares: u64,
 ) -> Result<Vec<GovernedPiece>, AllocError>
-    ensures { IfOk result (λ pieces. pieces.items ≡ filter_map
-        (piece_over (set.contains admitted.now) (set.contains ended.now) (B.pieces blocks.now) shares) (ranges_of (B.pieces blocks.now))) }
+    ensures { IfOk result
+        (λ pieces. pieces.items
+        ≡ filter_map
+        (piece_over (set.contains admitted.now) (set.contains ended.now)
+        (B.pieces blocks.now) shares)
+        (ranges_of (B.pieces blocks.now))) }
 {
     let ranges = blocks.pieces()?;
     ranges
@@ -144,8 +152,8 @@ impl Holding {
     /// that governs all of it, or none (sections 324, 327 and 330). The holding is one that an
     /// office keeps. The error is want of memory.
     ///
-    /// It asks each piece which appointment is over it: its cost grows with the square of the number
-    /// of appointments, and not with the shares.
+    /// It asks each piece which appointment is over it: its cost grows with the square of the
+    /// number of appointments, and not with the shares.
     pub fn pieces(&self, alloc: Global, cutoffs: &Cutoffs) -> Result<Vec<GovernedPiece>, AllocError>
         requires { IsKept self.now }
         ensures { IfOk result (λ pieces. ArePieces cutoffs.now self.now pieces.items) }

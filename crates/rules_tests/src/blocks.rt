@@ -17,7 +17,8 @@ fn newest<B: Blocks>(
     admitted: &Admitted,
 ) -> Result<Option<Tag>, AllocError>
     requires { IsTrue (is_place place) }
-    ensures { IfOk result (λ tag. tag ≡ find (set.contains admitted.now) (tags_of covers.now place)) }
+    ensures { IfOk result
+        (λ tag. tag ≡ find (set.contains admitted.now) (tags_of covers.now place)) }
 {
     let blocks: B = run(alloc, covers)?;
     Ok(blocks.first_where(place, admitted))

@@ -1,4 +1,5 @@
-//! Which appointment governs a share, asked for one share and for one appointment, as no request does.
+//! Which appointment governs a share, asked for one share and for one appointment, as no request
+//! does.
 ghost use Rattle.std.specs.Prelude.{◌≡◌, ◌==◌, [], suc, count_by};
 ghost use Rattle.desk_words.specs.Names.{same_name};
 ghost use Rattle.desk_words.specs.Office.{are_numbered_after};
@@ -116,7 +117,12 @@ fn count_by(earlier: &[Appointment], member: Party) -> usize
 
 /// Whether the appointment has the next number of its member.
 fn is_next(earlier: &[Appointment], appointment: &Appointment) -> bool
-    ensures { result ≡ (appointment.now.number == suc (count_by (λ (a : Appointment). same_name a.member appointment.now.member) earlier.now)) }
+    ensures { result
+        ≡
+        (appointment.now.number
+        == suc
+        (count_by (λ (a : Appointment). same_name a.member appointment.now.member)
+        earlier.now)) }
 {
     appointment.number > 0 && appointment.number - 1 == count_by(earlier, appointment.member) as u64
 }

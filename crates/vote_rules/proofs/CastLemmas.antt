@@ -20,7 +20,7 @@ use Rattle.share_blocks.specs.Covers.{Cover, tags_of}
 use Rattle.share_blocks.specs.Pieces.{is_place}
 use Rattle.share_blocks.proofs.CoverLemmas.{tags_at-place}
 use Rattle.vote_rules.specs.Casts.{Share, find_map, instructed_way, last_cast, same_capacity, way_cast, way_over}
-use Rattle.vote_rules.specs.Covers.{as_proxy, cast_among, cover_of, covers_by, everywhere, number_of, way_tagged}
+use Rattle.vote_rules.specs.Covers.{as_proxy, cast_among, cover_of, covers_by, everywhere, way_number, way_tagged}
 use Rattle.vote_rules.specs.Received.{Entry, is_as_instructed, block_by, block_on, blocks_on, is_after, is_before, is_instructed_on, is_on_shares_of, last_instructed}
 use Rattle.vote_rules.specs.declared.received.BlockCast.{BlockCast}
 use Rattle.vote_rules.proofs.ListLemmas.{find_map-append, find_map-filter, find_map-filter_map}
@@ -42,7 +42,7 @@ way_of_covers instructed covers place =
     find_map-map (way_tagged instructed) (λ (c : Cover). c.1) (filter (λ (c : Cover). holds c.0 place) (reverse covers))
     ∙ find_map-filter (λ (c : Cover). way_tagged instructed c.1) (λ (c : Cover). holds c.0 place) (reverse covers)
 
-way_of_tag : (instructed : Option Way) (way : Way) → way_tagged instructed (number_of way) ≡ Some way
+way_of_tag : (instructed : Option Way) (way : Way) → way_tagged instructed (way_number way) ≡ Some way
 way_of_tag instructed For = refl
 way_of_tag instructed Against = refl
 way_of_tag instructed Withheld = refl
@@ -119,7 +119,7 @@ module _ (resolution : ℕ) (share : Share) (capacity : Capacity) (voter : List 
       let on = same_name block.member share.member in
       let held = holds block.range share.place in
       ap (λ p. cond on (cond p (way_of_block (record { order = order; voter = by; block = block })) None) None) (is block)
-      ∙ ap (λ o. cond on (cond passes o None) None) (and_then_if (cover_way instructed share.place) (mine && own) (block.range, number_of block.way))
+      ∙ ap (λ o. cond on (cond passes o None) None) (and_then_if (cover_way instructed share.place) (mine && own) (block.range, way_number block.way))
       ∙ ap (λ o. cond on (cond passes (cond (mine && own) (cond held o None) None) None) None) (way_of_tag instructed block.way)
       ∙ with_tests own mine on held passes (Some block.way)
   entry_block test order by true cast.AsInstructed passes is =

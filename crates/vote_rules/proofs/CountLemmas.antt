@@ -1,10 +1,11 @@
 -- Counts of shares.
 use Rattle.std.proofs.Common.{◌≡◌, ℕ, zero, suc, ◌+◌, ◌<◌, ◌≤◌, Bool, true, false, cond, List, [], ◌∷◌, length, get_or, take, refl, sym, ap, ◌∙◌, arith, add-one}
-use Rattle.std.specs.Prelude.{Option, Some, None, All, nat_le, sum_by}
+use Rattle.std.specs.Prelude.{Option, Some, None, All, sum_by}
 use Rattle.std.specs.Cmp.Derive.{both_true}
-use Rattle.std.proofs.lemmas.Bool.Decides.{nat_tests}
 use Rattle.std.proofs.lemmas.List.Sums.{sum_by-cons, sum_by_more, sum_by_more_le, sum_by_more_le_part, sum_by-le-sum_by}
 use Rattle.std.proofs.lemmas.List.Elements.{All-cons, All-head, All-nil, All-tail}
+use Rattle.desk_lists.proofs.Booleans.{one_at_most}
+use Rattle.std.proofs.lemmas.Bool.{eqb-true, le-leb}
 use Rattle.desk_terms.specs.Places.{Places, places_that}
 use Rattle.desk_terms.specs.declared.kinds.Way.{Way}
 use Rattle.desk_terms.specs.declared.kinds.Way.TheVariants.{For, Against, Withheld}
@@ -12,16 +13,11 @@ use Rattle.desk_words.specs.declared.records.RegisterRow.{RegisterRow}
 use Rattle.desk_words.specs.Office.{is_tally}
 use Rattle.desk_words.specs.Registers.{all_shares}
 use Rattle.proxy_rules.specs.Shares.{are_rows, shares_of}
-use Rattle.vote_rules.specs.Sums.{FitsBoth, FitsMore, joined, tally_over, tally_to, votes_over}
+use Rattle.vote_rules.specs.Sums.{FitsBoth, FitsMore, added, tally_over, tally_to, votes_over}
 use Rattle.vote_rules.specs.Tallies.{is_vote, votes_to, votes, tally_by}
 use Rattle.proxy_rules.specs.Tiles.{are_tiled, places_if, places_in}
 use Rattle.proxy_rules.proofs.TileLemmas.{places_that-tiles, tiled}
-use Rattle.share_blocks.proofs.Choices.{same_is}
 use Rattle.proxy_rules.proofs.ShareLemmas.{shares_of-le, all_shares-le}
-
-one_at_most : (b : Bool) → cond b 1 0 ≤ 1
-one_at_most true = omega arith
-one_at_most false = omega arith
 
 -- of n places at most n pass
 pub places_that_le : (test : ℕ → Bool) (n : ℕ) → places_that test n ≤ n
@@ -60,9 +56,9 @@ sum_by-next : (f : RegisterRow → ℕ) (rows : List RegisterRow) (i : ℕ) (row
 sum_by-next f rows i row lt is = ap (λ r. sum_by f (take i rows) + f r) is ∙ sym (sum_by_more f rows i row lt)
 
 -- one row more
-pub joined-next : (vote : RegisterRow → ℕ → Option Way) (rows : List RegisterRow) (i : ℕ) (row : RegisterRow) → i < length rows → row ≡ get_or rows i row
-    → joined (tally_by vote (take i rows)) (tally_to (vote row) (shares_of row)) ≡ tally_by vote (take (i + 1) rows)
-joined-next vote rows i row lt is =
+pub added-next : (vote : RegisterRow → ℕ → Option Way) (rows : List RegisterRow) (i : ℕ) (row : RegisterRow) → i < length rows → row ≡ get_or rows i row
+    → added (tally_by vote (take i rows)) (tally_to (vote row) (shares_of row)) ≡ tally_by vote (take (i + 1) rows)
+added-next vote rows i row lt is =
     let next : (way : Way) → votes vote way (take i rows) + votes_to (vote row) way (shares_of row) ≡ votes vote way (take (i + 1) rows) =
     λ way. sum_by-next (λ r. votes_to (vote r) way (shares_of r)) rows i row lt is in
     let shares = sum_by-next shares_of rows i row lt is in
@@ -99,14 +95,11 @@ votes-le vote rows =
 shares-le : (rows : List RegisterRow) → sum_by shares_of rows ≤ all_shares rows
 shares-le rows = sum_by-le-sum_by shares_of (λ (row : RegisterRow). row.shares) rows shares_of-le
 
-nat_le-true : (m n : ℕ) → m ≤ n → nat_le m n ≡ true
-nat_le-true m n h = grind (arith, nat_tests)
-
 -- whatever the votes of the shares, the tally of a register is one
 pub is_tally-tally_by : (vote : RegisterRow → ℕ → Option Way) (rows : List RegisterRow) → are_rows rows ≡ true → is_tally (tally_by vote rows) ≡ true
 is_tally-tally_by vote rows h =
     let few : sum_by shares_of rows ≤ 1000000000000 = omega (arith, shares-le rows, all_shares-le rows h) in
-    both_true (nat_le-true (votes vote For rows + votes vote Against rows + votes vote Withheld rows) (sum_by shares_of rows) (votes-le vote rows)) (nat_le-true (sum_by shares_of rows) 1000000000000 few)
+    both_true (le-leb (votes vote For rows + votes vote Against rows + votes vote Withheld rows) (sum_by shares_of rows) (votes-le vote rows)) (le-leb (sum_by shares_of rows) 1000000000000 few)
 
 -- ---- ranges
 
@@ -137,7 +130,7 @@ places_that-alike test other (suc n) alike =
     ap (λ b. places_that test n + cond b 1 0) (alike (suc n) (omega arith) (omega arith))
     ∙ ap (λ k. k + cond (other (suc n)) 1 0) (places_that-alike test other n (λ place low high. alike place low (omega arith)))
 
-every_place : (n : ℕ) → places_that (λ place. true) n ≡ n
+pub every_place : (n : ℕ) → places_that (λ place. true) n ≡ n
 every_place zero = refl
 every_place (suc n) = let e = every_place n in omega (arith, e)
 
@@ -147,7 +140,7 @@ places_in-tiles ranges n all = places_that-tiles (λ place. true) ranges n all (
 
 -- the ranges hold the places from one on, to the last
 tiled_bound : (first last : ℕ) (ranges : List Places) → are_tiled first ranges last ≡ true → first ≤ last + 1
-tiled_bound first last [] all = let e : first ≡ last + 1 = same_is first (last + 1) all in omega arith
+tiled_bound first last [] all = let e : first ≡ last + 1 = eqb-true first (last + 1) all in omega arith
 tiled_bound first last (range ∷ ranges) all = let t = tiled first range ranges last all in omega (arith, tiled_bound (range.to + 1) last ranges t.rest, t.within)
 
 -- a fact of each range that lies in the places 1 to n

@@ -3,8 +3,8 @@ use Rattle.std.proofs.Common.{◌≡◌, ℕ, ◌+◌, ◌<◌, ◌≤◌, Bool,
 use Rattle.std.specs.Prelude.{Option, Some, None, nat_lt, reverse}
 use Rattle.std.specs.List.{enumerate_from}
 use Rattle.std.specs.Option.{option_or, option_map_or}
-use Rattle.share_blocks.proofs.Choices.{lt_true}
 use Rattle.std.proofs.lemmas.Bool.Decides.{nat_tests}
+use Rattle.std.proofs.lemmas.Bool.{lt-ltb}
 use Rattle.vote_rules.specs.Casts.{find_map}
 use Rattle.vote_rules.proofs.ListLemmas.{find_map-turned, or_assoc, or_none}
 
@@ -45,7 +45,7 @@ module _ {X Y : Type 0} (f b : X → Option Y) (test : X → Bool) (same : Optio
   after_all k n [] less = refl
   after_all k n (x ∷ xs) less =
       find_map-turned (λ (e : ℕ × X). cond (nat_lt k e.0) (b e.1) None) (n, x) (enumerate_from (n + 1) xs)
-      ∙ ap (λ t. option_or (last_after k (n + 1) xs) (cond t (b x) None)) (lt_true k n less)
+      ∙ ap (λ t. option_or (last_after k (n + 1) xs) (cond t (b x) None)) (lt-ltb k n less)
       ∙ ap (λ o. option_or o (b x)) (after_all k (n + 1) xs (omega arith))
       ∙ sym (find_map-turned (λ (e : ℕ × X). b e.1) (n, x) (enumerate_from (n + 1) xs))
 
@@ -83,7 +83,7 @@ module _ {X Y : Type 0} (f b : X → Option Y) (test : X → Bool) (same : Optio
       ∙ or_none (last_after k (n + 1) xs) in
       let before : last_before k n (x ∷ xs) ≡ option_or (last_before k (n + 1) xs) (b x) =
       find_map-turned (λ (e : ℕ × X). cond (nat_lt e.0 k) (b e.1) None) (n, x) (enumerate_from (n + 1) xs)
-      ∙ ap (λ t. option_or (last_before k (n + 1) xs) (cond t (b x) None)) (lt_true n k (omega arith)) in
+      ∙ ap (λ t. option_or (last_before k (n + 1) xs) (cond t (b x) None)) (lt-ltb n k (omega arith)) in
       ap (λ o. option_or o (f x)) rest
       ∙ ap (option_or (option_or (last_after k (n + 1) xs) (option_or same (last_before k (n + 1) xs)))) (splits x)
       ∙ or_assoc (last_after k (n + 1) xs) (option_or same (last_before k (n + 1) xs)) (cond (test x) same (b x))

@@ -2,16 +2,18 @@
 use Rattle.std.proofs.Common.{◌≡◌, ℕ, zero, suc, ◌+◌, ◌<◌, ◌≤◌, min, Bool, true, false, ◌&&◌, ◌||◌, cond, List, [], ◌∷◌, refl, sym, ap, ◌∙◌, arith, inl, inr}
 use Rattle.std.specs.Prelude.{nat_le, ◌==◌, All, Some, None}
 use Rattle.std.specs.List.{AllByRecursion, cons_option, filter_map}
-use Rattle.std.proofs.lemmas.Bool.{cases_lt}
+use Rattle.std.proofs.lemmas.Bool.{cases_lt, and_from, le-leb, leb-true, or_from}
 use Rattle.std.proofs.lemmas.Bool.Decides.{nat_tests}
 use Rattle.std.proofs.lemmas.List.Elements.{All-cons, All-from_recursion, All-head, All-nil, All-tail}
-use Rattle.desk_terms.specs.Places.{Places, holds, most_places, is_range}
+use Rattle.desk_terms.specs.declared.range.TheConstants.{MOST_PLACES}
+use Rattle.desk_lists.proofs.Booleans.{neither_first, neither_second, same_false}
+use Rattle.std.specs.Cmp.{first_so, second_so}
+use Rattle.desk_terms.specs.Places.{Places, holds, is_range}
 use Rattle.proxy_rules.specs.Tagging.{held_of}
 use Rattle.share_blocks.specs.Covers.{Cover, is_cut, pieces_after}
 use Rattle.share_blocks.specs.Pieces.{begin_at, follow_from, ranges_of}
-use Rattle.share_blocks.proofs.Choices.{both_of, first_of, le_is, le_true, neither_first, neither_of, neither_second, same_false, same_is, second_of}
 use Rattle.share_blocks.proofs.CutLemmas.{follows}
-use Rattle.share_blocks.proofs.CoverLemmas.{begin_at-pieces_after, follow_from-pieces_after}
+use Rattle.share_blocks.proofs.CoverLemmas.{begin_at-pieces_after, follow_from-bound, follow_from-pieces_after}
 use Rattle.vote_rules.specs.Ballots.{IsUncut}
 
 -- ---- inside of a range none begins
@@ -21,16 +23,12 @@ begin_late : (first : ℕ) (ranges : List Places) (place : ℕ) → follow_from 
 begin_late first [] place all less = refl
 begin_late first (range ∷ ranges) place all less =
     let f = follows first range ranges all in
-    neither_of (range.from == place) (begin_at ranges place) (grind (arith, nat_tests, f.begins)) (begin_late (range.to + 1) ranges place f.rest (omega (arith, f.within)))
+    or_from (range.from == place) (begin_at ranges place) (grind (arith, nat_tests, f.begins)) (begin_late (range.to + 1) ranges place f.rest (omega (arith, f.within)))
 
 pub record IsInner (first : ℕ) (all : List Places) (range : Places) : Type 0 where
   pub after : first ≤ range.from
-  pub high : range.to ≤ most_places
+  pub high : range.to ≤ MOST_PLACES
   pub none : (place : ℕ) → range.from < place → place ≤ range.to → begin_at all place ≡ false
-
-within : (first : ℕ) (ranges : List Places) → follow_from first ranges ≡ true → first ≤ most_places + 1
-within first [] all = let e = same_is first (most_places + 1) all in omega (arith, e)
-within first (range ∷ ranges) all = let f = follows first range ranges all in omega (arith, within (range.to + 1) ranges f.rest, f.within)
 
 later : (first next : ℕ) (range : Places) (ranges : List Places) → range.from ≡ first → first < next → (xs : List Places) → AllByRecursion (IsInner next ranges) xs → AllByRecursion (IsInner first (range ∷ ranges)) xs
 later first next range ranges begins less [] all = tt
@@ -38,7 +36,7 @@ later first next range ranges begins less (x ∷ xs) all = (
   record {
     after = omega (arith, all.0.after);
     high = all.0.high;
-    none = λ place low up. neither_of (range.from == place) (begin_at ranges place) (same_false range.from place (omega (arith, all.0.after))) (all.0.none place low up);
+    none = λ place low up. or_from (range.from == place) (begin_at ranges place) (same_false range.from place (omega (arith, all.0.after))) (all.0.none place low up);
   },
   later first next range ranges begins less xs all.1,
 )
@@ -47,11 +45,11 @@ inner : (first : ℕ) (ranges : List Places) → follow_from first ranges ≡ tr
 inner first [] all = tt
 inner first (range ∷ ranges) all =
     let f = follows first range ranges all in
-    let bound : range.to + 1 ≤ most_places + 1 = within (range.to + 1) ranges f.rest in (
+    let bound : range.to + 1 ≤ MOST_PLACES + 1 = follow_from-bound (range.to + 1) ranges f.rest in (
       record {
         after = omega (arith, f.begins);
         high = omega (arith, bound);
-        none = λ place low up. neither_of (range.from == place) (begin_at ranges place) (same_false range.from place low) (begin_late (range.to + 1) ranges place f.rest (omega arith));
+        none = λ place low up. or_from (range.from == place) (begin_at ranges place) (same_false range.from place low) (begin_late (range.to + 1) ranges place f.rest (omega arith));
       },
       later first (range.to + 1) range ranges f.begins (omega (arith, f.within)) ranges (inner (range.to + 1) ranges f.rest),
     )
@@ -83,9 +81,9 @@ uncut_each : (covers : List Cover) (xs : List Places) → AllByRecursion (IsInne
 uncut_each covers [] all = tt
 uncut_each covers (x ∷ xs) all = (
   λ place held.
-      all_alike covers x.from place (le_is x.from place (first_of (nat_le x.from place) (nat_le place x.to) held))
+      all_alike covers x.from place (leb-true x.from place (first_so (nat_le x.from place) (nat_le place x.to) held))
       (λ p low high.
-      let below : place ≤ x.to = le_is place x.to (second_of (nat_le x.from place) (nat_le place x.to) held) in
+      let below : place ≤ x.to = leb-true place x.to (second_so (nat_le x.from place) (nat_le place x.to) held) in
       sym (begin_at-pieces_after covers p (omega (arith, all.0.after)) (omega (arith, all.0.high, below)))
       ∙ all.0.none p low (omega (arith, below))),
   uncut_each covers xs all.1,
@@ -103,9 +101,9 @@ held_cases : (covers : List Cover) (shares : ℕ) (range : Places) (held : List 
 held_cases covers shares range held one rest true =
     All-cons (IsUncut covers) (record { from = range.from; to = min shares range.to }) held
     (λ place in_it. one place
-    (both_of (nat_le range.from place) (nat_le place range.to)
-    (first_of (nat_le range.from place) (nat_le place (min shares range.to)) in_it)
-    (le_true place range.to (let h : place ≤ min shares range.to = le_is place (min shares range.to) (second_of (nat_le range.from place) (nat_le place (min shares range.to)) in_it) in omega (arith, h)))))
+    (and_from (nat_le range.from place) (nat_le place range.to)
+    (first_so (nat_le range.from place) (nat_le place (min shares range.to)) in_it)
+    (le-leb place range.to (let h : place ≤ min shares range.to = leb-true place (min shares range.to) (second_so (nat_le range.from place) (nat_le place (min shares range.to)) in_it) in omega (arith, h)))))
     rest
 held_cases covers shares range held one rest false = rest
 

@@ -1,7 +1,10 @@
 -- The count of one holding.
 use Rattle.std.proofs.Common.{◌≡◌, ℕ, ◌≤◌, true, List, sym, ap, ◌∙◌, arith}
 use Rattle.std.specs.Prelude.{All, Option, nat_le}
-use Rattle.desk_terms.specs.Places.{Places, most_places}
+use Rattle.std.proofs.lemmas.Bool.{leb-true}
+use Rattle.std.specs.Cmp.{first_so, second_so}
+use Rattle.desk_terms.specs.declared.range.TheConstants.{MOST_PLACES}
+use Rattle.desk_terms.specs.Places.{Places}
 use Rattle.desk_terms.specs.declared.kinds.Way.{Way}
 use Rattle.desk_terms.specs.declared.kinds.Way.TheVariants.{For, Against, Withheld}
 use Rattle.desk_words.specs.declared.records.Authority.{Authority}
@@ -11,7 +14,6 @@ use Rattle.proxy_rules.specs.declared.holdings.Holding.{Holding}
 use Rattle.proxy_rules.specs.declared.papers.Cutoffs.{Cutoffs}
 use Rattle.proxy_rules.specs.declared.pieces.GovernedPiece.{GovernedPiece}
 use Rattle.proxy_rules.proofs.TileLemmas.{places_that-tiles}
-use Rattle.share_blocks.proofs.Choices.{first_of, le_is, second_of}
 use Rattle.vote_rules.specs.Ballots.{IsUncut, cuts_of}
 use Rattle.vote_rules.specs.Sums.{tally_over, tally_to, votes_over}
 use Rattle.vote_rules.specs.Tallies.{is_vote, votes_to}
@@ -19,7 +21,7 @@ use Rattle.vote_rules.specs.declared.received.BlockCast.{BlockCast}
 use Rattle.vote_rules.proofs.CountLemmas.{of_tiles, places_in-tiles, places_that-alike}
 use Rattle.vote_rules.proofs.VoteLemmas.{asked_is_meant, asked_vote, meant_vote, votes_alike}
 
-module _ (cutoffs : Cutoffs) (holding : Holding) (authorities : List Authority) (casts : List BlockCast) (last : List ℕ → Option ℕ) (resolution : ℕ) (row : RegisterRow) (governed : List GovernedPiece) (are : ArePieces cutoffs holding governed) (few : holding.shares ≤ most_places) where
+module _ (cutoffs : Cutoffs) (holding : Holding) (authorities : List Authority) (casts : List BlockCast) (last : List ℕ → Option ℕ) (resolution : ℕ) (row : RegisterRow) (governed : List GovernedPiece) (are : ArePieces cutoffs holding governed) (few : holding.shares ≤ MOST_PLACES) where
   abbrev asked : ℕ → Option Way
   asked = asked_vote cutoffs holding authorities casts last resolution row governed
 
@@ -31,8 +33,8 @@ module _ (cutoffs : Cutoffs) (holding : Holding) (authorities : List Authority) 
 
   range_alike : (way : Way) (range : Places) → 1 ≤ range.from → range.from ≤ range.to → range.to ≤ holding.shares → IsUncut (cuts_of governed casts) range → IsAlike (λ place. is_vote way (asked place)) range
   range_alike way range low up high uncut place held =
-      let after : range.from ≤ place = le_is range.from place (first_of (nat_le range.from place) (nat_le place range.to) held) in
-      let before : place ≤ range.to = le_is place range.to (second_of (nat_le range.from place) (nat_le place range.to) held) in
+      let after : range.from ≤ place = leb-true range.from place (first_so (nat_le range.from place) (nat_le place range.to) held) in
+      let before : place ≤ range.to = leb-true place range.to (second_so (nat_le range.from place) (nat_le place range.to) held) in
       let first : range.from ≤ holding.shares = omega arith in
       ap (is_vote way)
       (is_meant place (omega (arith, after)) (omega (arith, before))

@@ -3,7 +3,8 @@ use Rattle.std.proofs.Common.{◌≡◌, ℕ, ◌≤◌, List, [], ◌∷◌, fi
 use Rattle.std.specs.Prelude.{All, Option, nat_le, sum_by}
 use Rattle.std.proofs.lemmas.List.Elements.{All-cons, All-nil, All-weaker}
 use Rattle.std.proofs.lemmas.List.Sums.{sum_by-cons}
-use Rattle.desk_terms.specs.Places.{most_places}
+use Rattle.std.proofs.lemmas.Bool.{and_from, le-leb}
+use Rattle.desk_terms.specs.declared.range.TheConstants.{MOST_PLACES}
 use Rattle.desk_terms.specs.declared.kinds.Way.{Way}
 use Rattle.desk_terms.specs.declared.kinds.Way.TheVariants.{For, Against, Withheld}
 use Rattle.desk_words.specs.Registers.{all_shares}
@@ -16,7 +17,6 @@ use Rattle.proxy_rules.specs.Holdings.{holding_by}
 use Rattle.proxy_rules.specs.Shares.{shares_of}
 use Rattle.proxy_rules.specs.declared.papers.Cutoffs.{Cutoffs}
 use Rattle.proxy_rules.proofs.ShareLemmas.{shares_of-le}
-use Rattle.share_blocks.proofs.Choices.{both_of, le_true}
 use Rattle.vote_rules.specs.Covers.{vote_among}
 use Rattle.vote_rules.specs.Received.{blocks_on, is_on_shares_of, last_instructed}
 use Rattle.vote_rules.specs.Tallies.{is_vote, share_at, tally_by, votes, votes_to, vote_at}
@@ -25,36 +25,36 @@ use Rattle.vote_rules.proofs.CastLemmas.{cast_among-last_cast}
 use Rattle.vote_rules.proofs.CountLemmas.{places_that-alike}
 use Rattle.vote_rules.proofs.ListLemmas.{sum_by-agree}
 
-few_each : (rows : List RegisterRow) → all_shares rows ≤ most_places → All (λ (row : RegisterRow). row.shares ≤ most_places) rows
-few_each [] few = All-nil (λ (row : RegisterRow). row.shares ≤ most_places)
+few_each : (rows : List RegisterRow) → all_shares rows ≤ MOST_PLACES → All (λ (row : RegisterRow). row.shares ≤ MOST_PLACES) rows
+few_each [] few = All-nil (λ (row : RegisterRow). row.shares ≤ MOST_PLACES)
 few_each (row ∷ rows) few =
     let cons = sum_by-cons (λ (r : RegisterRow). r.shares) row rows in
-    All-cons (λ (r : RegisterRow). r.shares ≤ most_places) row rows (omega (arith, cons, few)) (few_each rows (omega (arith, cons, few)))
+    All-cons (λ (r : RegisterRow). r.shares ≤ MOST_PLACES) row rows (omega (arith, cons, few)) (few_each rows (omega (arith, cons, few)))
 
 module _ (cutoffs : Cutoffs) (given : List Appointment) (ended : List Ending) (authorities : List Authority) (casts : List CastMark) (resolution : ℕ) where
   -- the vote by what is cast on the shares of the row's member
   abbrev pub vote_on : RegisterRow → ℕ → Option Way
   vote_on row place = vote_among (filter (is_on_shares_of row.member) (blocks_on resolution casts)) (last_instructed resolution casts) authorities resolution row (share_at cutoffs (holding_by given ended row) row.member place)
 
-  vote_is : (row : RegisterRow) (place : ℕ) → 1 ≤ place → place ≤ most_places → vote_on row place ≡ vote_at cutoffs given ended authorities casts resolution row place
+  vote_is : (row : RegisterRow) (place : ℕ) → 1 ≤ place → place ≤ MOST_PLACES → vote_on row place ≡ vote_at cutoffs given ended authorities casts resolution row place
   vote_is row place low high =
       let share = share_at cutoffs (holding_by given ended row) row.member place in
       ap (λ (cast : Casts). valid_vote cast authorities resolution row share.governing)
-      (λ i capacity voter. cast_among-last_cast resolution share capacity voter casts (both_of (nat_le 1 place) (nat_le place most_places) (le_true 1 place low) (le_true place most_places high)) i)
+      (λ i capacity voter. cast_among-last_cast resolution share capacity voter casts (and_from (nat_le 1 place) (nat_le place MOST_PLACES) (le-leb 1 place low) (le-leb place MOST_PLACES high)) i)
 
-  row_votes : (way : Way) (row : RegisterRow) → row.shares ≤ most_places → votes_to (vote_on row) way (shares_of row) ≡ votes_to (vote_at cutoffs given ended authorities casts resolution row) way (shares_of row)
+  row_votes : (way : Way) (row : RegisterRow) → row.shares ≤ MOST_PLACES → votes_to (vote_on row) way (shares_of row) ≡ votes_to (vote_at cutoffs given ended authorities casts resolution row) way (shares_of row)
   row_votes way row few =
       places_that-alike (λ place. is_vote way (vote_on row place)) (λ place. is_vote way (vote_at cutoffs given ended authorities casts resolution row place)) (shares_of row)
       (λ place low high. ap (is_vote way) (vote_is row place low (omega (arith, high, few, shares_of-le row))))
 
-  all_votes : (way : Way) (rows : List RegisterRow) → all_shares rows ≤ most_places → votes vote_on way rows ≡ votes (vote_at cutoffs given ended authorities casts resolution) way rows
+  all_votes : (way : Way) (rows : List RegisterRow) → all_shares rows ≤ MOST_PLACES → votes vote_on way rows ≡ votes (vote_at cutoffs given ended authorities casts resolution) way rows
   all_votes way rows few =
       sum_by-agree (λ (row : RegisterRow). votes_to (vote_on row) way (shares_of row)) (λ (row : RegisterRow). votes_to (vote_at cutoffs given ended authorities casts resolution row) way (shares_of row)) rows
-      (All-weaker (λ (row : RegisterRow). row.shares ≤ most_places) (λ (row : RegisterRow). votes_to (vote_on row) way (shares_of row) ≡ votes_to (vote_at cutoffs given ended authorities casts resolution row) way (shares_of row))
+      (All-weaker (λ (row : RegisterRow). row.shares ≤ MOST_PLACES) (λ (row : RegisterRow). votes_to (vote_on row) way (shares_of row) ≡ votes_to (vote_at cutoffs given ended authorities casts resolution row) way (shares_of row))
       (λ row. row_votes way row) rows (few_each rows few))
 
   -- the count by these votes is the count by the valid votes
-  pub tallies_agree : (rows : List RegisterRow) → all_shares rows ≤ most_places → tally_by vote_on rows ≡ tally_by (vote_at cutoffs given ended authorities casts resolution) rows
+  pub tallies_agree : (rows : List RegisterRow) → all_shares rows ≤ MOST_PLACES → tally_by vote_on rows ≡ tally_by (vote_at cutoffs given ended authorities casts resolution) rows
   tallies_agree rows few = λ k. record {
     votes_for = all_votes For rows few k;
     votes_against = all_votes Against rows few k;

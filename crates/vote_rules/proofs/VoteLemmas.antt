@@ -4,8 +4,11 @@ use Rattle.std.specs.Prelude.{All, Option, Some, None, nat_le, filter, reverse, 
 use Rattle.std.specs.List.{cons_option, filter_map, slice_get}
 use Rattle.std.proofs.lemmas.List.Elements.{All-append, All-cons, All-filter, All-head, All-nil, All-tail, All-weaker}
 use Rattle.std.proofs.lemmas.Option.{slice_get-map}
+use Rattle.std.proofs.Math.Bool.{and-false}
+use Rattle.std.proofs.lemmas.Bool.{and_from, eqb-true, le-leb, leb-false}
+use Rattle.desk_terms.specs.declared.range.TheConstants.{MOST_PLACES}
 use Rattle.desk_terms.specs.Names.{same_name}
-use Rattle.desk_terms.specs.Places.{holds, most_places}
+use Rattle.desk_terms.specs.Places.{holds}
 use Rattle.desk_terms.specs.declared.kinds.Capacity.{Capacity}
 use Rattle.desk_terms.specs.declared.kinds.Capacity.TheVariants.{Member, Rep, Proxy}
 use Rattle.desk_terms.specs.declared.kinds.HolderKind.{HolderKind}
@@ -25,12 +28,11 @@ use Rattle.proxy_rules.specs.declared.pieces.GovernedPiece.{GovernedPiece}
 use Rattle.proxy_rules.proofs.TileLemmas.{tiled}
 use Rattle.share_blocks.specs.Covers.{Cover}
 use Rattle.share_blocks.specs.Pieces.{is_place}
-use Rattle.share_blocks.proofs.Choices.{above_is, and-false, both_of, le_true, same_is}
 use Rattle.share_blocks.proofs.CoverLemmas.{tags_at-place}
 use Rattle.vote_rules.specs.Ballots.{capacity_for, cuts_of, governing_at, piece_at, vote_by, vote_by_governing, vote_by_proxy, vote_if, voters_for}
 use Rattle.vote_rules.specs.Casts.{Share, find_map, instructed_way, same_capacity}
 use Rattle.proxy_rules.specs.Instructions.{instructed_on, same_way}
-use Rattle.vote_rules.specs.Covers.{as_proxy, cast_among, cover_of, covers_by, everywhere, number_of, pieces_by, vote_among, way_at, way_tagged}
+use Rattle.vote_rules.specs.Covers.{as_proxy, cast_among, cover_of, covers_by, everywhere, way_number, pieces_by, vote_among, way_at, way_tagged}
 use Rattle.vote_rules.specs.Received.{is_after, is_before}
 use Rattle.vote_rules.specs.Tallies.{share_at}
 use Rattle.vote_rules.specs.Votes.{Casts, authorised_by, common_way, first_that_applies, valid_vote}
@@ -91,17 +93,17 @@ module _ (cutoffs : Cutoffs) (holding : Holding) (authorities : List Authority) 
 
   governed_from : (pieces : List GovernedPiece) (first place : ℕ) → are_tiled first (ranges_of pieces) holding.shares ≡ true → All (IsGoverned cutoffs holding) pieces → first ≤ place → place ≤ holding.shares
       → option_and_then (slice_get holding.appointed) (governing_at pieces place) ≡ governing_in cutoffs holding place
-  governed_from [] first place all each low high = let e : first ≡ holding.shares + 1 = same_is first (holding.shares + 1) all in absurd (omega arith)
+  governed_from [] first place all each low high = let e : first ≡ holding.shares + 1 = eqb-true first (holding.shares + 1) all in absurd (omega arith)
   governed_from (piece ∷ pieces) first place all each low high =
       let t = tiled first piece.range (ranges_of pieces) holding.shares all in
       (elim (nat_le place piece.range.to) as (λ b. nat_le place piece.range.to ≡ b → option_and_then (slice_get holding.appointed) (governing_at (piece ∷ pieces) place) ≡ governing_in cutoffs holding place) [
         | true ↦ λ e.
-            let held : holds piece.range place ≡ true = both_of (nat_le piece.range.from place) (nat_le place piece.range.to) (le_true piece.range.from place (omega (arith, t.begins))) e in
+            let held : holds piece.range place ≡ true = and_from (nat_le piece.range.from place) (nat_le place piece.range.to) (le-leb piece.range.from place (omega (arith, t.begins))) e in
             ap (λ b. option_and_then (slice_get holding.appointed) (option_and_then (λ (p : GovernedPiece). p.by) (cond b (Some piece) (piece_at pieces place)))) held
             ∙ sym (All-head (IsGoverned cutoffs holding) piece pieces each place held)
         | false ↦ λ e.
             let past : holds piece.range place ≡ false = ap (λ b. nat_le piece.range.from place && b) e ∙ and-false (nat_le piece.range.from place) in
-            let above : piece.range.to < place = above_is place piece.range.to e in
+            let above : piece.range.to < place = leb-false place piece.range.to e in
             ap (λ b. option_and_then (slice_get holding.appointed) (option_and_then (λ (p : GovernedPiece). p.by) (cond b (Some piece) (piece_at pieces place)))) past
             ∙ governed_from pieces (piece.range.to + 1) place t.rest (All-tail (IsGoverned cutoffs holding) piece pieces each) (omega (arith, above)) high
       ]) refl
@@ -163,8 +165,8 @@ module _ (cutoffs : Cutoffs) (holding : Holding) (authorities : List Authority) 
   HoldAlike place other c = holds c.block.range place ≡ holds c.block.range other
 
   cover_alike : (place other : ℕ) (c : BlockCast) (b : Bool) (covers : List Cover) → HoldAlike place other c → All (AreAlike place other) covers
-      → All (AreAlike place other) (cons_option (cond b (Some (c.block.range, number_of c.block.way)) None) covers)
-  cover_alike place other c true covers one rest = All-cons (AreAlike place other) (c.block.range, number_of c.block.way) covers one rest
+      → All (AreAlike place other) (cons_option (cond b (Some (c.block.range, way_number c.block.way)) None) covers)
+  cover_alike place other c true covers one rest = All-cons (AreAlike place other) (c.block.range, way_number c.block.way) covers one rest
   cover_alike place other c false covers one rest = rest
 
   blocks_alike : (place other : ℕ) (capacity : Capacity) (voter : List ℕ) (blocks : List BlockCast) → All (HoldAlike place other) blocks → All (AreAlike place other) (filter_map (cover_of capacity voter) blocks)
@@ -223,11 +225,11 @@ module _ (cutoffs : Cutoffs) (holding : Holding) (authorities : List Authority) 
       (find-agree (λ (piece : GovernedPiece). holds piece.range place) (λ (piece : GovernedPiece). holds piece.range other) governed all)
       ∙ governed_from governed 1 other are.tiled are.governed first end
 
-  place_is : (place : ℕ) → holding.shares ≤ most_places → 1 ≤ place → place ≤ holding.shares → is_place place ≡ true
-  place_is place few low high = both_of (nat_le 1 place) (nat_le place most_places) (le_true 1 place low) (le_true place most_places (omega arith))
+  place_is : (place : ℕ) → holding.shares ≤ MOST_PLACES → 1 ≤ place → place ≤ holding.shares → is_place place ≡ true
+  place_is place few low high = and_from (nat_le 1 place) (nat_le place MOST_PLACES) (le-leb 1 place low) (le-leb place MOST_PLACES (omega arith))
 
   -- two places that each piece and each cast hold alike have one vote
-  pub votes_alike : (place other : ℕ) → ArePieces cutoffs holding governed → holding.shares ≤ most_places → 1 ≤ place → place ≤ holding.shares → 1 ≤ other → other ≤ holding.shares
+  pub votes_alike : (place other : ℕ) → ArePieces cutoffs holding governed → holding.shares ≤ MOST_PLACES → 1 ≤ place → place ≤ holding.shares → 1 ≤ other → other ≤ holding.shares
       → All (AreAlike place other) (cuts_of governed casts) → meant_vote place ≡ meant_vote other
   votes_alike place other are few low high first end all =
       let blocks = map (λ (c : BlockCast). (c.block.range, 4)) casts in

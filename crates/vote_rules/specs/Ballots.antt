@@ -1,4 +1,5 @@
--- The valid vote of a place, by the pieces that the casts of each voter leave.
+-- The valid vote of a place, by the pieces that the casts of each voter leave. For private
+-- contracts.
 use Rattle.std.specs.Prelude.{◌≡◌, ℕ, IsTrue, List, [], ◌∷◌, ◌++◌, All, map, find, Option, Some, None, option_and_then, if◌then◌else◌}
 use Rattle.std.specs.List.{filter_map, slice_get}
 use Rattle.desk_terms.specs.Places.{Places, holds}
@@ -7,6 +8,7 @@ use Rattle.desk_terms.specs.declared.kinds.Capacity.TheVariants.{Member, Rep}
 use Rattle.desk_terms.specs.declared.kinds.HolderKind.{HolderKind}
 use Rattle.desk_terms.specs.declared.kinds.HolderKind.TheVariants.{Individual, Corporation, Treasury}
 use Rattle.desk_terms.specs.declared.kinds.Way.{Way}
+use Rattle.desk_words.specs.Seen.{Number, Party, Place}
 use Rattle.desk_words.specs.declared.records.Appointment.{Appointment}
 use Rattle.desk_words.specs.declared.records.Authority.{Authority}
 use Rattle.proxy_rules.specs.declared.pieces.GovernedPiece.{GovernedPiece}
@@ -17,8 +19,9 @@ use Rattle.vote_rules.specs.Covers.{way_at}
 use Rattle.vote_rules.specs.Votes.{authorised_by, common_way, first_that_applies}
 use Rattle.vote_rules.specs.declared.received.BlockCast.{BlockCast}
 
--- those who vote for the holder: the individual itself, or the representatives of the corporation (sections 284 and 323)
-abbrev pub voters_for : List Authority → HolderKind → List ℕ → List (List ℕ)
+-- those who vote for the holder: the individual itself, or the representatives of the corporation
+-- (sections 284 and 323)
+abbrev pub voters_for : List Authority → HolderKind → Party → List Party
 voters_for authorities Individual member = member ∷ []
 voters_for authorities Corporation member = authorised_by authorities member
 voters_for authorities Treasury member = []
@@ -34,37 +37,54 @@ abbrev pub vote_if : Option Way → Way → Option Way
 vote_if told way = if allows told way then Some way else None
 
 -- the vote by the proxy of an appointment, whose casts leave these pieces
-abbrev pub vote_by_proxy : ℕ → ℕ → Appointment → List Piece → Option Way
+abbrev pub vote_by_proxy : Number → Place → Appointment → List Piece → Option Way
 vote_by_proxy resolution place a pieces =
     let told = instructed_on resolution a.instructions in
     option_and_then (vote_if told) (way_at told pieces place)
 
--- the vote by the proxy of the appointment that stands at a place of a list, with the pieces that stand there too
-abbrev pub vote_by_governing : ℕ → ℕ → List Appointment → List (List Piece) → Option ℕ → Option Way
+-- the vote by the proxy of the appointment that stands at a place of a list, with the pieces that
+-- stand there too
+abbrev pub vote_by_governing : Number → Place → List Appointment → List (List Piece) → Option ℕ
+    → Option Way
 vote_by_governing resolution place appointed proxies by =
-    option_and_then (λ at. option_and_then (λ (a : Appointment). option_and_then (vote_by_proxy resolution place a) (slice_get proxies at)) (slice_get appointed at)) by
+    option_and_then
+    (λ at. option_and_then
+    (λ (a : Appointment). option_and_then (vote_by_proxy resolution place a)
+    (slice_get proxies at))
+    (slice_get appointed at))
+    by
 
 -- the ways in which the holder's voters cast on the place
-abbrev pub ways_at : List (List Piece) → ℕ → List Way
+abbrev pub ways_at : List (List Piece) → Place → List Way
 ways_at holders place = filter_map (λ pieces. way_at None pieces place) holders
 
--- the valid vote of the place: that of the holder's voters, and else that of the proxy who governs it
-abbrev pub vote_by : List (List Piece) → List (List Piece) → List Appointment → Option ℕ → ℕ → ℕ → Option Way
+-- the valid vote of the place: that of the holder's voters, and else that of the proxy who governs
+-- it
+abbrev pub vote_by : List (List Piece) → List (List Piece) → List Appointment → Option ℕ → Number
+    → Place → Option Way
 vote_by holders proxies appointed by resolution place =
-    first_that_applies (common_way (ways_at holders place) ∷ Some (vote_by_governing resolution place appointed proxies by) ∷ [])
+    first_that_applies
+    (common_way (ways_at holders place)
+    ∷ Some (vote_by_governing resolution place appointed proxies by) ∷ [])
 
 -- the piece that holds the place
-abbrev pub piece_at : List GovernedPiece → ℕ → Option GovernedPiece
+abbrev pub piece_at : List GovernedPiece → Place → Option GovernedPiece
 piece_at governed place = find (λ (piece : GovernedPiece). holds piece.range place) governed
 
 -- where the appointment stands that governs the place
-abbrev pub governing_at : List GovernedPiece → ℕ → Option ℕ
-governing_at governed place = option_and_then (λ (piece : GovernedPiece). piece.by) (piece_at governed place)
+abbrev pub governing_at : List GovernedPiece → Place → Option ℕ
+governing_at governed place =
+    option_and_then (λ (piece : GovernedPiece). piece.by) (piece_at governed place)
 
 -- where what governs changes, and where casts begin or have just ended
 abbrev pub cuts_of : List GovernedPiece → List BlockCast → List Cover
-cuts_of governed casts = map (λ (piece : GovernedPiece). (piece.range, 4)) governed ++ map (λ (c : BlockCast). (c.block.range, 4)) casts
+cuts_of governed casts =
+    map (λ (piece : GovernedPiece). (piece.range, 4)) governed
+    ++ map (λ (c : BlockCast). (c.block.range, 4)) casts
 
 -- each of the covers holds all places of the range or none
 abbrev pub IsUncut : List Cover → Places → Type 0
-IsUncut covers range = (place : ℕ) → IsTrue (holds range place) → All (λ (cover : Cover). holds cover.0 place ≡ holds cover.0 range.from) covers
+IsUncut covers range =
+    (place : Place)
+    → IsTrue (holds range place)
+    → All (λ (cover : Cover). holds cover.0 place ≡ holds cover.0 range.from) covers

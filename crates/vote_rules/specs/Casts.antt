@@ -1,13 +1,12 @@
 -- Casts on a share of a poll. The records of all casts stand in order of receipt.
-use Rattle.std.specs.Prelude.{ℕ, ◌-◌, Bool, true, false, ◌&&◌, ◌==◌, nat_lt, List, [], ◌∷◌, reverse, Option, Some, None, option_and_then, if◌then◌else◌}
-use Rattle.std.specs.List.{slice_get}
+use Rattle.std.specs.Prelude.{Bool, true, false, ◌&&◌, ◌==◌, List, [], ◌∷◌, reverse, Option, Some, None, option_and_then, if◌then◌else◌}
 use Rattle.std.specs.Option.{option_or}
 use Rattle.desk_terms.specs.Names.{same_name}
 use Rattle.desk_terms.specs.Places.{holds}
 use Rattle.desk_terms.specs.declared.kinds.Capacity.{Capacity}
 use Rattle.desk_terms.specs.declared.kinds.Capacity.TheVariants.{Member, Rep, Proxy}
 use Rattle.desk_terms.specs.declared.kinds.Way.{Way}
-use Rattle.desk_terms.specs.declared.kinds.Way.TheVariants.{For, Against, Withheld}
+use Rattle.desk_words.specs.Seen.{Number, Party, Place}
 use Rattle.desk_words.specs.declared.records.Appointment.{Appointment}
 use Rattle.desk_words.specs.declared.records.CastKind.{CastKind}
 use Rattle.desk_words.specs.declared.records.CastKind.TheVariants as cast
@@ -26,28 +25,45 @@ same_capacity Rep Rep = true
 same_capacity Proxy Proxy = true
 same_capacity _ _ = false
 
--- a share in a poll: who holds it, its place in the holding, and the appointment that governs it (section 324)
+-- a share in a poll: who holds it, its place in the holding, and the appointment that governs it
+-- (section 324)
 pub record Share : Type 0 where
-  pub member : List ℕ
-  pub place : ℕ
+  pub member : Party
+  pub place : Place
   pub governing : Option Appointment
 
--- the way in which a voter is instructed on the share: that of the appointment that governs it, where it names the voter (section 324A)
-abbrev pub instructed_way : ℕ → Share → List ℕ → Option Way
+-- the way in which a voter is instructed on the share: that of the appointment that governs it,
+-- where it names the voter (section 324A)
+abbrev pub instructed_way : Number → Share → Party → Option Way
 instructed_way resolution share voter =
-    option_and_then (λ (a : Appointment). if same_name a.proxy voter then instructed_on resolution a.instructions else None) share.governing
+    option_and_then
+    (λ (a : Appointment). if same_name a.proxy voter
+    then instructed_on resolution a.instructions
+    else None)
+    share.governing
 
--- the way in which what is cast covers the share in a capacity, or none where it does not cover it: a block covers, in its own capacity, the places of its range of the member that it names (section 322); what is cast as instructed covers, as proxy, what the voter is instructed on (section 324A)
+-- the way in which what is cast covers the share in a capacity, or none where it does not cover it:
+-- a block covers, in its own capacity, the places of its range of the member that it names (section
+-- 322); what is cast as instructed covers, as proxy, what the voter is instructed on (section 324A)
 abbrev pub way_over : Capacity → Share → Option Way → CastKind → Option Way
 way_over capacity share instructed (cast.Block block) =
-    if same_capacity block.capacity capacity && same_name block.member share.member && holds block.range share.place then Some block.way else None
-way_over capacity share instructed cast.AsInstructed = if same_capacity Proxy capacity then instructed else None
+    if same_capacity block.capacity capacity
+    && same_name block.member share.member
+    && holds block.range share.place
+    then Some block.way
+    else None
+way_over capacity share instructed cast.AsInstructed =
+    if same_capacity Proxy capacity then instructed else None
 
--- the way in which a record casts on the share, for a voter in a capacity, or none where it does not cover the share
-abbrev pub way_cast : ℕ → Share → Capacity → List ℕ → CastMark → Option Way
+-- the way in which a record casts on the share, for a voter in a capacity, or none where it does
+-- not cover the share
+abbrev pub way_cast : Number → Share → Capacity → Party → CastMark → Option Way
 way_cast resolution share capacity voter mark =
-    if mark.resolution == resolution && same_name mark.voter voter then way_over capacity share (instructed_way resolution share voter) mark.what else None
+    if mark.resolution == resolution && same_name mark.voter voter
+    then way_over capacity share (instructed_way resolution share voter) mark.what
+    else None
 
 -- a voter's cast on the share in a capacity: the last of its records that covers the share
-abbrev pub last_cast : List CastMark → ℕ → Share → Capacity → List ℕ → Option Way
-last_cast casts resolution share capacity voter = find_map (way_cast resolution share capacity voter) (reverse casts)
+abbrev pub last_cast : List CastMark → Number → Share → Capacity → Party → Option Way
+last_cast casts resolution share capacity voter =
+    find_map (way_cast resolution share capacity voter) (reverse casts)

@@ -2,6 +2,7 @@
 use Rattle.std.specs.Prelude.{ℕ, Bool, true, false, ◌&&◌, ◌==◌, nat_lt, List, reverse, Option, Some, None, if◌then◌else◌}
 use Rattle.std.specs.List.{enumerate_from, filter_map}
 use Rattle.desk_terms.specs.Names.{same_name}
+use Rattle.desk_words.specs.Seen.{Number, Party}
 use Rattle.desk_words.specs.declared.records.CastKind.{CastKind}
 use Rattle.desk_words.specs.declared.records.CastKind.TheVariants as cast
 use Rattle.desk_words.specs.declared.records.CastMark.{CastMark}
@@ -13,20 +14,22 @@ abbrev pub Entry : Type 0
 Entry = ℕ × CastMark
 
 -- a block that a voter casts, if it is on the right resolution
-abbrev pub block_by : ℕ → List ℕ → Bool → CastKind → Option BlockCast
-block_by order voter right (cast.Block block) = if right then Some (record { order = order; voter = voter; block = block }) else None
+abbrev pub block_by : ℕ → Party → Bool → CastKind → Option BlockCast
+block_by order voter right (cast.Block block) =
+    if right then Some (record { order = order; voter = voter; block = block }) else None
 block_by order voter right cast.AsInstructed = None
 
 -- the block that a record casts on the resolution, if it does
-abbrev pub block_on : ℕ → Entry → Option BlockCast
-block_on resolution entry = block_by entry.0 entry.1.voter (entry.1.resolution == resolution) entry.1.what
+abbrev pub block_on : Number → Entry → Option BlockCast
+block_on resolution entry =
+    block_by entry.0 entry.1.voter (entry.1.resolution == resolution) entry.1.what
 
 -- the blocks that are cast on the resolution, in order of receipt
-abbrev pub blocks_on : ℕ → List CastMark → List BlockCast
+abbrev pub blocks_on : Number → List CastMark → List BlockCast
 blocks_on resolution casts = filter_map (block_on resolution) (enumerate_from 0 casts)
 
 -- the block is cast on the member's shares
-abbrev pub is_on_shares_of : List ℕ → BlockCast → Bool
+abbrev pub is_on_shares_of : Party → BlockCast → Bool
 is_on_shares_of member cast = same_name cast.block.member member
 
 -- as instructed
@@ -35,16 +38,20 @@ is_as_instructed (cast.Block block) = false
 is_as_instructed cast.AsInstructed = true
 
 -- cast on the resolution as instructed
-abbrev pub is_instructed_on : ℕ → CastMark → Bool
+abbrev pub is_instructed_on : Number → CastMark → Bool
 is_instructed_on resolution mark = mark.resolution == resolution && is_as_instructed mark.what
 
 -- the place of a record that the voter casts on the resolution as instructed
-abbrev pub instructed_by : ℕ → List ℕ → Entry → Option ℕ
-instructed_by resolution voter entry = if is_instructed_on resolution entry.1 && same_name entry.1.voter voter then Some entry.0 else None
+abbrev pub instructed_by : Number → Party → Entry → Option ℕ
+instructed_by resolution voter entry =
+    if is_instructed_on resolution entry.1 && same_name entry.1.voter voter
+    then Some entry.0
+    else None
 
 -- the place of the last such record
-abbrev pub last_instructed : ℕ → List CastMark → List ℕ → Option ℕ
-last_instructed resolution casts voter = find_map (instructed_by resolution voter) (reverse (enumerate_from 0 casts))
+abbrev pub last_instructed : Number → List CastMark → Party → Option ℕ
+last_instructed resolution casts voter =
+    find_map (instructed_by resolution voter) (reverse (enumerate_from 0 casts))
 
 -- received before the record at that place, and after it
 abbrev pub is_before : ℕ → BlockCast → Bool

@@ -3,6 +3,7 @@ use Rattle.std.specs.Prelude.{ℕ, ◌+◌, ◌<◌, ◌^◌, List, Option, sum_
 use Rattle.desk_terms.specs.Places.{Places}
 use Rattle.desk_terms.specs.declared.kinds.Way.{Way}
 use Rattle.desk_terms.specs.declared.kinds.Way.TheVariants.{For, Against, Withheld}
+use Rattle.desk_words.specs.Seen.{Place}
 use Rattle.desk_words.specs.declared.records.Tally.{Tally}
 use Rattle.proxy_rules.specs.Tiles.{places_if, places_in}
 use Rattle.vote_rules.specs.Tallies.{is_vote, votes_to}
@@ -24,11 +25,11 @@ with_votes vote shares t = record {
 }
 
 -- how many places of the ranges vote that way, where those of each range vote alike
-abbrev pub votes_over : (ℕ → Option Way) → Way → List Places → ℕ
+abbrev pub votes_over : (Place → Option Way) → Way → List Places → ℕ
 votes_over vote way ranges = sum_by (places_if (λ place. is_vote way (vote place))) ranges
 
 -- the count of the ranges, the places of each of which vote alike
-abbrev pub tally_over : (ℕ → Option Way) → List Places → Tally
+abbrev pub tally_over : (Place → Option Way) → List Places → Tally
 tally_over vote ranges = record {
   votes_for = votes_over vote For ranges;
   votes_against = votes_over vote Against ranges;
@@ -37,7 +38,7 @@ tally_over vote ranges = record {
 }
 
 -- the count of the places 1 to n
-abbrev pub tally_to : (ℕ → Option Way) → ℕ → Tally
+abbrev pub tally_to : (Place → Option Way) → ℕ → Tally
 tally_to vote n = record {
   votes_for = votes_to vote For n;
   votes_against = votes_to vote Against n;
@@ -53,8 +54,8 @@ pub record FitsBoth (a b : Tally) : Type 0 where
   pub eligible : a.eligible + b.eligible < 2 ^ 64
 
 -- both counts together
-abbrev pub joined : Tally → Tally → Tally
-joined a b = record {
+abbrev pub added : Tally → Tally → Tally
+added a b = record {
   votes_for = a.votes_for + b.votes_for;
   votes_against = a.votes_against + b.votes_against;
   withheld = a.withheld + b.withheld;

@@ -34,13 +34,14 @@ fn authorities_of(
     authorities: &Filed<Authority>,
     corporation: Party,
 ) -> Result<Vec<Authority>, AllocError>
-    ensures { IfOk result (λ own. own.items ≡ filter (is_authority_of corporation) authorities.now) }
+    ensures { IfOk result
+        (λ own. own.items ≡ filter (is_authority_of corporation) authorities.now) }
 {
     authorities.by_first(alloc, corporation)
 }
 
-/// The persons whom a corporation authorised, in order of receipt (section 323). The error is want of
-/// memory.
+/// The persons whom a corporation authorised, in order of receipt (section 323). The error is want
+/// of memory.
 pub fn authorised_by(
     alloc: Global,
     authorities: &Filed<Authority>,
@@ -59,7 +60,8 @@ fn voters_for(
     authorities: &Filed<Authority>,
     row: &RegisterRow,
 ) -> Result<Vec<Party>, AllocError>
-    ensures { IfOk result (λ voters. voters.items ≡ voters_for authorities.now row.now.kind row.now.member) }
+    ensures { IfOk result
+        (λ voters. voters.items ≡ voters_for authorities.now row.now.kind row.now.member) }
 {
     match row.kind {
         HolderKind::Individual => Ok(vec![in alloc; row.member]?),
@@ -80,7 +82,8 @@ fn capacity_for(kind: HolderKind) -> Capacity
 
 /// The proxies whom the appointments name, one for each.
 fn proxies_of(alloc: Global, appointed: &[Appointment]) -> Result<Vec<Party>, AllocError>
-    ensures { IfOk result (λ proxies. proxies.items ≡ map (λ (a : Appointment). a.proxy) appointed.now) }
+    ensures { IfOk result
+        (λ proxies. proxies.items ≡ map (λ (a : Appointment). a.proxy) appointed.now) }
 {
     appointed
         .iter()
@@ -96,7 +99,9 @@ fn pieces_by_each<B: Blocks>(
     capacity: Capacity,
     voters: &[Party],
 ) -> Result<Vec<B>, AllocError>
-    ensures { IfOk result (λ each. map B.pieces each.items ≡ map (pieces_by casts.now (get name_cmp instructed.now) capacity) voters.now) }
+    ensures { IfOk result
+        (λ each. map B.pieces each.items
+        ≡ map (pieces_by casts.now (get name_cmp instructed.now) capacity) voters.now) }
 {
     let mut each = Vec::new(alloc);
     for voter in voters {
@@ -107,8 +112,8 @@ fn pieces_by_each<B: Blocks>(
 }
 
 impl<B: Blocks> Ballots<B> {
-    /// What is cast on the shares of a row, of whose member these are the appointments; the casts are
-    /// the blocks that are cast on its shares. The error is want of memory.
+    /// What is cast on the shares of a row, of whose member these are the appointments; the casts
+    /// are the blocks that are cast on its shares. The error is want of memory.
     pub(crate) fn of_row(
         alloc: Global,
         casts: &[BlockCast],
@@ -117,10 +122,15 @@ impl<B: Blocks> Ballots<B> {
         appointed: &[Appointment],
         row: &RegisterRow,
     ) -> Result<Ballots<B>, AllocError>
-        ensures holders { IfOk result (λ ballots. map B.pieces ballots.holders.items
-            ≡ map (pieces_by casts.now (get name_cmp instructed.now) (capacity_for row.now.kind)) (voters_for authorities.now row.now.kind row.now.member)) }
-        ensures proxies { IfOk result (λ ballots. map B.pieces ballots.proxies.items
-            ≡ map (pieces_by casts.now (get name_cmp instructed.now) Proxy) (map (λ (a : Appointment). a.proxy) appointed.now)) }
+        ensures holders { IfOk result
+            (λ ballots. map B.pieces ballots.holders.items
+            ≡ map
+            (pieces_by casts.now (get name_cmp instructed.now) (capacity_for row.now.kind))
+            (voters_for authorities.now row.now.kind row.now.member)) }
+        ensures proxies { IfOk result
+            (λ ballots. map B.pieces ballots.proxies.items
+            ≡ map (pieces_by casts.now (get name_cmp instructed.now) Proxy)
+            (map (λ (a : Appointment). a.proxy) appointed.now)) }
     {
         let voters = voters_for(alloc, authorities, row)?;
         let proxies = proxies_of(alloc, appointed)?;
@@ -153,7 +163,8 @@ fn vote_by_governing<B: Blocks>(
     resolution: u64,
     place: u64,
 ) -> Option<Way>
-    ensures { result ≡ vote_by_governing resolution place appointed.now (map B.pieces proxies.now) by }
+    ensures { result
+        ≡ vote_by_governing resolution place appointed.now (map B.pieces proxies.now) by }
 {
     let at = by?;
     let appointment = appointed.get(at)?;
@@ -220,8 +231,8 @@ pub(crate) fn governing_at(governed: &[GovernedPiece], place: u64) -> Option<usi
     piece_at(governed, place)?.by
 }
 
-/// The valid vote of a place: that of the holder's voters, where any of them has a cast on it, and else
-/// that of the proxy whose appointment stands there. The error is want of memory.
+/// The valid vote of a place: that of the holder's voters, where any of them has a cast on it, and
+/// else that of the proxy whose appointment stands there. The error is want of memory.
 pub(crate) fn vote_by<B: Blocks>(
     alloc: Global,
     ballots: &Ballots<B>,
@@ -230,7 +241,10 @@ pub(crate) fn vote_by<B: Blocks>(
     resolution: u64,
     place: u64,
 ) -> Result<Option<Way>, AllocError>
-    ensures { IfOk result (λ vote. vote ≡ vote_by (map B.pieces ballots.now.holders.items) (map B.pieces ballots.now.proxies.items) appointed.now by resolution place) }
+    ensures { IfOk result
+        (λ vote. vote
+        ≡ vote_by (map B.pieces ballots.now.holders.items)
+        (map B.pieces ballots.now.proxies.items) appointed.now by resolution place) }
 {
     let ways = ways_at(alloc, ballots.holders.as_slice(), place)?;
     match common_way(ways.as_slice()) {

@@ -1,5 +1,5 @@
-//! The count of a poll, by lengths: each holding is parted where what governs it changes and where a
-//! cast on it begins or has just ended, and the valid vote is asked once a part.
+//! The count of a poll, by lengths: each holding is parted where what governs it changes and where
+//! a cast on it begins or has just ended, and the valid vote is asked once a part.
 ghost use Rattle.std.specs.Prelude.{◌≡◌, ◌≤◌, ◌<◌, ◌^◌, ℕ, List, [], true, IfOk, filter, map, sum_by};
 ghost use Rattle.std.specs.BTreeMap.{get};
 ghost use Rattle.desk_terms.specs.Names.{name_cmp};
@@ -12,7 +12,7 @@ ghost use Rattle.proxy_rules.specs.Tiles.{places_in};
 ghost use Rattle.vote_rules.specs.Ballots.{governing_at, vote_by};
 ghost use Rattle.vote_rules.specs.Covers.{vote_among};
 ghost use Rattle.vote_rules.specs.Received.{is_on_shares_of};
-ghost use Rattle.vote_rules.specs.Sums.{FitsBoth, FitsMore, joined, tally_over, tally_to, with_votes};
+ghost use Rattle.vote_rules.specs.Sums.{FitsBoth, FitsMore, added, tally_over, tally_to, with_votes};
 ghost use Rattle.vote_rules.specs.Tallies.{share_at, tally_by, tally_of};
 
 use crate::ballots::{Ballots, governing_at, vote_by};
@@ -61,7 +61,13 @@ fn tally_over<B: Blocks>(
     ranges: &[Range],
 ) -> Result<Tally, AllocError>
     requires { sum_by places_in ranges.now ≤ 10 ^ 12 }
-    ensures { IfOk result (λ tally. tally ≡ tally_over (λ place. vote_by (map B.pieces ballots.now.holders.items) (map B.pieces ballots.now.proxies.items) appointed.now (governing_at governed.now place) resolution place) ranges.now) }
+    ensures { IfOk result
+        (λ tally. tally
+        ≡ tally_over
+        (λ place. vote_by (map B.pieces ballots.now.holders.items)
+        (map B.pieces ballots.now.proxies.items) appointed.now
+        (governing_at governed.now place) resolution place)
+        ranges.now) }
 {
     let mut tally = NOTHING;
     for range in ranges {
@@ -82,9 +88,16 @@ fn tally_row<B: Blocks>(
     row: &RegisterRow,
 ) -> Result<Tally, AllocError>
     requires { IsKept (holding_by papers.now.appointments.now papers.now.endings.now row.now) }
-    ensures { IfOk result (λ tally. tally ≡ tally_to
-        (λ place. vote_among (filter (is_on_shares_of row.now.member) casts.now.by_member) (get name_cmp casts.now.instructed) papers.now.authorities.now resolution row.now
-        (share_at cutoffs.now (holding_by papers.now.appointments.now papers.now.endings.now row.now) row.now.member place)) (shares_of row.now)) }
+    ensures { IfOk result
+        (λ tally. tally
+        ≡ tally_to
+        (λ place. vote_among (filter (is_on_shares_of row.now.member) casts.now.by_member)
+        (get name_cmp casts.now.instructed) papers.now.authorities.now resolution
+        row.now
+        (share_at cutoffs.now
+        (holding_by papers.now.appointments.now papers.now.endings.now row.now)
+        row.now.member place))
+        (shares_of row.now)) }
 {
     let holding = Holding::of_row(alloc, row, papers.appointments, papers.endings)?;
     let appointed = holding.appointed.as_slice();
@@ -115,9 +128,9 @@ fn tally_row<B: Blocks>(
 }
 
 /// Both counts together.
-fn join(a: Tally, b: Tally) -> Tally
+fn add(a: Tally, b: Tally) -> Tally
     requires { FitsBoth a b }
-    ensures { result ≡ joined a b }
+    ensures { result ≡ added a b }
 {
     Tally {
         votes_for: a.votes_for + b.votes_for,
@@ -138,30 +151,38 @@ fn tally_rows<B: Blocks>(
     requires rows { are_rows papers.now.register.now ≡ true }
     requires tags { are_tags papers.now.appointments.now ≡ true }
     requires numbered { are_numbered_after [] papers.now.appointments.now ≡ true }
-    ensures { IfOk result (λ tally. tally ≡ tally_by
-        (λ (row : RegisterRow) place. vote_among (filter (is_on_shares_of row.member) casts.now.by_member) (get name_cmp casts.now.instructed) papers.now.authorities.now resolution row
-        (share_at cutoffs.now (holding_by papers.now.appointments.now papers.now.endings.now row) row.member place)) papers.now.register.now) }
+    ensures { IfOk result
+        (λ tally. tally
+        ≡ tally_by
+        (λ (row : RegisterRow) place. vote_among
+        (filter (is_on_shares_of row.member) casts.now.by_member)
+        (get name_cmp casts.now.instructed) papers.now.authorities.now resolution row
+        (share_at cutoffs.now
+        (holding_by papers.now.appointments.now papers.now.endings.now row)
+        row.member place))
+        papers.now.register.now) }
 {
     let mut tally = NOTHING;
     for row in papers.register {
         let more = tally_row::<B>(alloc, cutoffs, papers, casts, resolution, row)?;
-        tally = join(tally, more);
+        tally = add(tally, more);
     }
     Ok(tally)
 }
 
-/// The count of a poll on a resolution, in shares: for each way the number of shares whose valid vote
-/// it is, and the number of all shares, treasury shares not among them (sections 284, 322 and 726).
+/// The count of a poll on a resolution, in shares: for each way the number of shares whose valid
+/// vote it is, and the number of all shares, treasury shares not among them (sections 284, 322 and
+/// 726).
 ///
-/// The valid vote of a share is that of the individual who holds it; for a corporation's share that of
-/// its representatives, and none where they differ (section 323); and where none of these has a cast
-/// on it, that of the proxy who governs it by these cutoffs, unless it is against the instruction
-/// (sections 324 and 324A). The cutoffs are those of the poll. The lists are those of an office. The
-/// error is want of memory.
+/// The valid vote of a share is that of the individual who holds it; for a corporation's share that
+/// of its representatives, and none where they differ (section 323); and where none of these has a
+/// cast on it, that of the proxy who governs it by these cutoffs, unless it is against the
+/// instruction (sections 324 and 324A). The cutoffs are those of the poll. The lists are those of
+/// an office. The error is want of memory.
 ///
-/// What is cast is grouped once by the member on whose shares it is cast, and what a member appointed
-/// and cast is looked up. A holding is counted by the parts into which its own appointments and casts
-/// divide it, so the cost does not depend on how many shares there are.
+/// What is cast is grouped once by the member on whose shares it is cast, and what a member
+/// appointed and cast is looked up. A holding is counted by the parts into which its own
+/// appointments and casts divide it, so the cost does not depend on how many shares there are.
 pub fn tally(
     alloc: Global,
     cutoffs: &Cutoffs,
@@ -171,7 +192,10 @@ pub fn tally(
     requires rows { are_rows papers.now.register.now ≡ true }
     requires tags { are_tags papers.now.appointments.now ≡ true }
     requires numbered { are_numbered_after [] papers.now.appointments.now ≡ true }
-    ensures { IfOk result (λ tally. tally ≡ tally_of cutoffs.now papers.now.register.now papers.now.appointments.now papers.now.endings.now papers.now.authorities.now papers.now.casts.now resolution) }
+    ensures { IfOk result
+        (λ tally. tally
+        ≡ tally_of cutoffs.now papers.now.register.now papers.now.appointments.now
+        papers.now.endings.now papers.now.authorities.now papers.now.casts.now resolution) }
 {
     let casts = PollCasts::on(alloc, papers.casts.as_slice(), resolution)?;
     tally_rows::<PlainBlocks>(alloc, cutoffs, papers, &casts, resolution)

@@ -5,21 +5,18 @@ ghost use Rattle.std.specs.FinSet as set;
 ghost use Rattle.std.specs.List.{filter_map};
 ghost use Rattle.desk_terms.specs.Names.{name_cmp};
 ghost use Rattle.share_blocks.specs.Tags.{is_tag};
-ghost use Rattle.vote_rules.specs.Covers.{cover_of, covers_by, everywhere, number_of, pieces_by, way_at, way_tagged};
+ghost use Rattle.vote_rules.specs.Covers.{cover_of, covers_by, everywhere, pieces_by, way_at, way_number, way_tagged};
 ghost use Rattle.vote_rules.specs.Received.{is_after, is_before};
 
 use crate::received::BlockCast;
-use desk_words::{Capacity, Party, Range, Way};
+use desk_words::{Capacity, MOST_PLACES, Party, Range, Way};
 use share_blocks::{Admitted, Blocks, Tag};
 use std::alloc::{AllocError, Global};
 use std::collections::BTreeMap;
 
-/// The highest place of a holding.
-const MOST_PLACES: u64 = 1_000_000_000_000;
-
 /// The number of the tag of a way.
-fn number_of(way: Way) -> u64
-    ensures { result ≡ number_of way }
+fn way_number(way: Way) -> u64
+    ensures { result ≡ way_number way }
 {
     match way {
         Way::For => 1,
@@ -54,9 +51,9 @@ fn tag_with(number: u64) -> Tag
 
 /// The tag of a way.
 fn tag_of(way: Way) -> Tag
-    ensures { result ≡ number_of way }
+    ensures { result ≡ way_number way }
 {
-    tag_with(number_of(way))
+    tag_with(way_number(way))
 }
 
 /// The tag of what is cast as instructed.
@@ -81,10 +78,7 @@ fn cover_of(cast: &BlockCast, capacity: Capacity, voter: Party) -> Option<(Range
 fn everywhere() -> (Range, Tag)
     ensures { result ≡ everywhere }
 {
-    match Range::new(1, MOST_PLACES) {
-        Some(range) => (range, instructed_tag()),
-        None => unreachable!(),
-    }
+    (Range::with_ends(1, MOST_PLACES), instructed_tag())
 }
 
 /// The covers of the voter's blocks.
@@ -94,7 +88,8 @@ fn covers_of(
     capacity: Capacity,
     voter: Party,
 ) -> Result<Vec<(Range, Tag)>, AllocError>
-    ensures { IfOk result (λ covers. covers.items ≡ filter_map (cover_of capacity voter) casts.now) }
+    ensures { IfOk result
+        (λ covers. covers.items ≡ filter_map (cover_of capacity voter) casts.now) }
 {
     casts
         .iter()
@@ -110,7 +105,9 @@ fn covers_before(
     voter: Party,
     order: usize,
 ) -> Result<Vec<(Range, Tag)>, AllocError>
-    ensures { IfOk result (λ covers. covers.items ≡ filter_map (cover_of capacity voter) (filter (is_before order) casts.now)) }
+    ensures { IfOk result
+        (λ covers. covers.items
+        ≡ filter_map (cover_of capacity voter) (filter (is_before order) casts.now)) }
 {
     casts
         .iter()
@@ -127,7 +124,9 @@ fn covers_after(
     voter: Party,
     order: usize,
 ) -> Result<Vec<(Range, Tag)>, AllocError>
-    ensures { IfOk result (λ covers. covers.items ≡ filter_map (cover_of capacity voter) (filter (is_after order) casts.now)) }
+    ensures { IfOk result
+        (λ covers. covers.items
+        ≡ filter_map (cover_of capacity voter) (filter (is_after order) casts.now)) }
 {
     casts
         .iter()
@@ -159,8 +158,8 @@ fn covers_by(
     }
 }
 
-/// What a voter's casts leave of the places of a member's shares, of which these are the blocks that
-/// are cast on them. The error is want of memory.
+/// What a voter's casts leave of the places of a member's shares, of which these are the blocks
+/// that are cast on them. The error is want of memory.
 pub(crate) fn pieces_by<B: Blocks>(
     alloc: Global,
     casts: &[BlockCast],
@@ -168,7 +167,9 @@ pub(crate) fn pieces_by<B: Blocks>(
     capacity: Capacity,
     voter: Party,
 ) -> Result<B, AllocError>
-    ensures { IfOk result (λ blocks. B.pieces blocks ≡ pieces_by casts.now (get name_cmp instructed.now) capacity voter) }
+    ensures { IfOk result
+        (λ blocks. B.pieces blocks
+        ≡ pieces_by casts.now (get name_cmp instructed.now) capacity voter) }
 {
     let order = instructed.get(&voter).copied();
     let covers = covers_by(alloc, casts, capacity, voter, order)?;

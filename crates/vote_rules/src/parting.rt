@@ -1,7 +1,6 @@
 //! A holding in ranges on each of which every share votes alike.
-ghost use Rattle.std.specs.Prelude.{◌≡◌, ◌≤◌, true, All, IfOk, min};
+ghost use Rattle.std.specs.Prelude.{◌≡◌, ◌≤◌, true, All, IfOk};
 ghost use Rattle.std.specs.List.{filter_map};
-ghost use Rattle.desk_words.specs.Places.{most_places};
 ghost use Rattle.proxy_rules.specs.Tagging.{held_of};
 ghost use Rattle.proxy_rules.specs.Tiles.{are_tiled};
 ghost use Rattle.share_blocks.specs.Pieces.{ranges_of};
@@ -9,13 +8,13 @@ ghost use Rattle.vote_rules.specs.Ballots.{IsUncut, cuts_of};
 
 use crate::covers::instructed_tag;
 use crate::received::BlockCast;
-use desk_words::Range;
-use proxy_rules::GovernedPiece;
+use desk_words::{MOST_PLACES, Range};
+use proxy_rules::{GovernedPiece, held};
 use share_blocks::{Blocks, Tag};
 use std::alloc::{AllocError, Global};
 
-/// What part a holding: the pieces of what governs it, and the blocks that are cast on it. What they
-/// are tagged with is not asked.
+/// What part a holding: the pieces of what governs it, and the blocks that are cast on it. What
+/// they are tagged with is not asked.
 fn cuts_of(
     alloc: Global,
     governed: &[GovernedPiece],
@@ -27,13 +26,6 @@ fn cuts_of(
     let pieces = governed.iter().map(|piece| (piece.range, tag));
     let blocks = casts.iter().map(|cast| (cast.block.range, tag));
     pieces.chain(blocks).collect(alloc)
-}
-
-/// What of a range a holding of so many shares has.
-fn held(range: Range, shares: u64) -> Option<Range>
-    ensures { result ≡ held_of shares range }
-{
-    Range::new(range.from(), shares.min(range.to()))
 }
 
 /// What of the ranges a holding of so many shares has.
@@ -54,9 +46,10 @@ pub(crate) fn parted<B: Blocks>(
     casts: &[BlockCast],
     shares: u64,
 ) -> Result<Vec<Range>, AllocError>
-    requires { shares ≤ most_places }
+    requires { shares ≤ MOST_PLACES }
     ensures tiled { IfOk result (λ ranges. are_tiled 1 ranges.items shares ≡ true) }
-    ensures uncut { IfOk result (λ ranges. All (IsUncut (cuts_of governed.now casts.now)) ranges.items) }
+    ensures uncut { IfOk result
+        (λ ranges. All (IsUncut (cuts_of governed.now casts.now)) ranges.items) }
 {
     let cuts = cuts_of(alloc, governed, casts)?;
     let blocks: B = share_blocks::run(alloc, cuts.as_slice())?;

@@ -92,7 +92,9 @@ fn last_instructed(
     casts: &[CastMark],
     resolution: u64,
 ) -> Result<BTreeMap<Party, usize>, AllocError>
-    ensures { IfOk result (λ last. (voter : List ℕ) → get name_cmp last voter ≡ last_instructed resolution casts.now voter) }
+    ensures { IfOk result
+        (λ last. (voter : List ℕ)
+        → get name_cmp last voter ≡ last_instructed resolution casts.now voter) }
 {
     let mut last = BTreeMap::new(alloc);
     for (order, cast) in casts.iter().enumerate() {
@@ -104,15 +106,17 @@ fn last_instructed(
 }
 
 impl PollCasts {
-    /// What is cast on the resolution: the records are walked twice, whatever they name. The error is
-    /// want of memory.
+    /// What is cast on the resolution: the records are walked twice, whatever they name. The error
+    /// is want of memory.
     pub(crate) fn on(
         alloc: Global,
         casts: &[CastMark],
         resolution: u64,
     ) -> Result<PollCasts, AllocError>
         ensures blocks { IfOk result (λ on. on.by_member ≡ blocks_on resolution casts.now) }
-        ensures instructed { IfOk result (λ on. (voter : List ℕ) → get name_cmp on.instructed voter ≡ last_instructed resolution casts.now voter) }
+        ensures instructed { IfOk result
+            (λ on. (voter : List ℕ)
+            → get name_cmp on.instructed voter ≡ last_instructed resolution casts.now voter) }
     {
         Ok(PollCasts {
             by_member: blocks_on(alloc, casts, resolution)?,
@@ -120,13 +124,15 @@ impl PollCasts {
         })
     }
 
-    /// The blocks that are cast on a member's shares, in order of receipt. The error is want of memory.
+    /// The blocks that are cast on a member's shares, in order of receipt. The error is want of
+    /// memory.
     pub(crate) fn on_shares_of(
         &self,
         alloc: Global,
         member: Party,
     ) -> Result<Vec<BlockCast>, AllocError>
-        ensures { IfOk result (λ casts. casts.items ≡ filter (is_on_shares_of member) self.now.by_member) }
+        ensures { IfOk result
+            (λ casts. casts.items ≡ filter (is_on_shares_of member) self.now.by_member) }
     {
         self.by_member.by_first(alloc, member)
     }

@@ -6,7 +6,8 @@ use Rattle.proxy_rules.specs.Shares.{are_rows}
 use Rattle.poll_rules.specs.Demands.{demand_of}
 use Rattle.poll_rules.specs.declared.demand.Demand.{Demand}
 use Rattle.office_answers.specs.Attendance.{demand_in}
-use Rattle.office_answers.proofs.OfficeFacts.{meeting_numbered, meeting_rows, meeting_tags}
+use Rattle.desk_words.proofs.OfficeFacts.{meeting_numbered}
+use Rattle.office_answers.proofs.MeetingRules.{meeting_rows, meeting_tags}
 use Rattle.office_answers.proofs.attendance.demand_in.Goals as goal
 
 pub demand_reached-requires-clause-rows : goal.demand_reached-requires-clause-rows

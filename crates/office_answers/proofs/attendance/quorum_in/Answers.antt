@@ -3,7 +3,8 @@ use Rattle.desk_lists.specs.Ordered.{differ_by}
 use Rattle.desk_words.specs.Office.{are_numbered_after, same_presence}
 use Rattle.proxy_rules.specs.Holdings.{are_tags}
 use Rattle.proxy_rules.specs.Shares.{are_rows}
-use Rattle.office_answers.proofs.OfficeFacts.{meeting_facts, meeting_numbered, meeting_rows, meeting_tags}
+use Rattle.desk_words.proofs.OfficeFacts.{meeting_facts, meeting_numbered}
+use Rattle.office_answers.proofs.MeetingRules.{meeting_rows, meeting_tags}
 use Rattle.office_answers.proofs.attendance.quorum_in.Goals as goal
 
 pub quorum-requires-clause-rows : goal.quorum-requires-clause-rows

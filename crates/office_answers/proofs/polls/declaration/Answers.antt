@@ -7,7 +7,7 @@ use Rattle.desk_words.specs.Finding.{poll_on}
 use Rattle.vote_rules.specs.Tallies.{vote_at}
 use Rattle.vote_rules.proofs.CountLemmas.{is_tally-tally_by}
 use Rattle.office_answers.specs.Polls.{result_on}
-use Rattle.office_answers.proofs.OfficeFacts.{meeting_rows}
+use Rattle.office_answers.proofs.MeetingRules.{meeting_rows}
 use Rattle.office_answers.proofs.polls.declaration.Goals as goal
 
 pub returns-clause-value : goal.returns-clause-value

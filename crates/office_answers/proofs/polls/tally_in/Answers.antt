@@ -8,7 +8,8 @@ use Rattle.proxy_rules.specs.Shares.{are_rows}
 use Rattle.desk_words.specs.Finding.{poll_on}
 use Rattle.vote_rules.specs.Tallies.{tally_of}
 use Rattle.office_answers.specs.Polls.{tally_in}
-use Rattle.office_answers.proofs.OfficeFacts.{meeting_numbered, meeting_rows, meeting_tags}
+use Rattle.desk_words.proofs.OfficeFacts.{meeting_numbered}
+use Rattle.office_answers.proofs.MeetingRules.{meeting_rows, meeting_tags}
 use Rattle.office_answers.proofs.polls.tally_in.Goals as goal
 
 pub tally-requires-clause-rows : goal.tally-requires-clause-rows

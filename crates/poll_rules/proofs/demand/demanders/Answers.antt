@@ -2,12 +2,12 @@ use Rattle.std.proofs.Common.{true, cond, take, ap, sym, ◌∙◌}
 use Rattle.std.specs.Prelude.{◌&&◌, ◌||◌, ◌==◌}
 use Rattle.std.specs.Ordering.{is_eq}
 use Rattle.std.proofs.lemmas.List.Folds.{list_any_more}
+use Rattle.std.proofs.lemmas.Bool.{eq-eqb, ne_eqb}
 use Rattle.desk_terms.specs.Names.{same_name, name_cmp}
 use Rattle.desk_words.specs.declared.records.DemandMark.{DemandMark}
 use Rattle.poll_rules.specs.DemandSums.{is_one_of}
 use Rattle.poll_rules.specs.Demands.{has_demanded}
-use Rattle.proxy_rules.proofs.Choices.{same_true}
-use Rattle.poll_rules.proofs.DemandLemmas.{apart_false, one_demander, no_demander}
+use Rattle.poll_rules.proofs.DemandLemmas.{one_demander, no_demander}
 use Rattle.poll_rules.proofs.demand.demanders.Goals as goal
 use Rattle.poll_rules.proofs.demand.demanders.Goals.{then-demand-resolution+in_ok-insert, else-demand-resolution}
 
@@ -22,11 +22,11 @@ loop-demand-preserved c = λ person.
           ap (λ persons. is_one_of persons person) w.persons-is
           ∙ one_demander (is_one_of w.insert.new.self person) so_far (d.resolution == c.args.resolution) d.party person
           (w.in_ok-insert.ensures.updates.0 person ∙ ap (cond (is_eq (name_cmp d.party person)) true) (c.loop-demand.invariant person))
-          (same_true d.resolution c.args.resolution w.if-demand-resolution.true)
+          (eq-eqb d.resolution c.args.resolution w.if-demand-resolution.true)
           ∙ more
       | else-demand-resolution w ↦
           ap (λ persons. is_one_of persons person) w.persons-is
           ∙ c.loop-demand.invariant person
-          ∙ no_demander so_far (d.resolution == c.args.resolution) (same_name d.party person) (apart_false d.resolution c.args.resolution w.if-demand-resolution.false)
+          ∙ no_demander so_far (d.resolution == c.args.resolution) (same_name d.party person) (ne_eqb d.resolution c.args.resolution w.if-demand-resolution.false)
           ∙ more
     ]

@@ -4,9 +4,10 @@ use Rattle.std.specs.List.{list_any}
 use Rattle.std.specs.Ordering.{eq_by_cmp, nat_cmp}
 use Rattle.std.proofs.lemmas.Cmp.{nat_cmp_total}
 use Rattle.std.proofs.lemmas.List.Folds.{list_any_more}
+use Rattle.std.proofs.Math.Bool.{or_comm}
 use Rattle.desk_words.specs.declared.records.Ending.{Ending}
 use Rattle.proxy_rules.specs.Governing.{ends}
-use Rattle.proxy_rules.proofs.EndedTags.{named, not_named, either_once, or_none}
+use Rattle.proxy_rules.proofs.EndedTags.{named, not_named, or_none}
 use Rattle.share_blocks.specs.Tags.{is_tag}
 use Rattle.proxy_rules.proofs.pieces.ended_numbers.Goals as goal
 use Rattle.proxy_rules.proofs.pieces.ended_numbers.Goals.{in-Some, in_default}
@@ -27,7 +28,7 @@ loop-ending-preserved c = λ tag is.
           ∙ contains-insert nat_cmp_total c.loop-ending.numbers w.in-Some.tag tag
           ∙ ap (λ b. eq_by_cmp nat_cmp tag w.in-Some.tag || b) (c.loop-ending.invariant tag is)
           ∙ ap (λ b. b || so_far) (named counts (is_tag e.number) e.number w.in-Some.tag tag w.in-Some.ensures)
-          ∙ either_once (ends c.args.cutoffs.now tag e) so_far
+          ∙ or_comm (ends c.args.cutoffs.now tag e) so_far
           ∙ sym more
       | in_default w ↦
           ap (λ s. contains s tag) w.numbers-is

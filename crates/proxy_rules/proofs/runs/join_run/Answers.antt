@@ -10,9 +10,9 @@ returns-in-Some c =
     let last = c.in-Some.last.now in
     let some = c.in-Some.ensures.variant.0 refl in
     let ends : last.to + 1 ≡ c.args.run.from = omega (arith, c.to.ensures.value, c.from.ensures.value, c.if-to-from.true) in
-    let made : c.range_with.result ≡ record { from = last.from; to = c.args.run.to } =
-    c.range_with.ensures ∙ (λ i. record { from = c.from-in-Some.ensures.value i; to = c.to-in-Some.ensures.value i }) in
-    set-joined runs.items last c.args.run c.range_with.result (vec_len runs - 1) (omega (arith, runs.ok.0, some)) c.in-Some.ensures.value ends made
+    let made : c.with_ends.result ≡ record { from = last.from; to = c.args.run.to } =
+    c.with_ends.ensures ∙ (λ i. record { from = c.from-in-Some.ensures.value i; to = c.to-in-Some.ensures.value i }) in
+    set-joined runs.items last c.args.run c.with_ends.result (vec_len runs - 1) (omega (arith, runs.ok.0, some)) c.in-Some.ensures.value ends made
 
 pub returns-in_ok-push-in-Some-2 : goal.returns-in_ok-push-in-Some-2
 returns-in_ok-push-in-Some-2 c =

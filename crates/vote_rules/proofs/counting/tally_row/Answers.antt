@@ -2,8 +2,8 @@ use Rattle.std.proofs.Common.{◌≡◌, ℕ, ◌≤◌, List, map, filter, ap, 
 use Rattle.std.specs.Prelude.{All, sum_by}
 use Rattle.std.specs.BTreeMap.{get}
 use Rattle.std.proofs.lemmas.Result.{IfOk-weaker}
+use Rattle.desk_terms.specs.declared.range.TheConstants.{MOST_PLACES}
 use Rattle.desk_terms.specs.Names.{name_cmp}
-use Rattle.desk_terms.specs.Places.{most_places}
 use Rattle.desk_terms.specs.declared.kinds.Capacity.TheVariants.{Proxy}
 use Rattle.desk_words.specs.declared.records.Appointment.{Appointment}
 use Rattle.proxy_rules.specs.Holdings.{holding_by}
@@ -23,7 +23,7 @@ pub tally_over-requires : goal.tally_over-requires
 tally_over-requires g c =
     let holding = c.in_ok-holding.holding in
     let ranges = c.in_ok-ranges.ranges.items in
-    let few : holding.shares ≤ most_places = let P : Holding → Type 0 = λ h. h.shares ≤ most_places in subst P (sym c.in_ok-holding.ensures) c.requires.few in
+    let few : holding.shares ≤ MOST_PLACES = let P : Holding → Type 0 = λ h. h.shares ≤ MOST_PLACES in subst P (sym c.in_ok-holding.ensures) c.requires.few in
     omega (arith, few, ap (sum_by places_in) c.as_slice-5.ensures.value, places_in-tiles ranges holding.shares c.in_ok-ranges.ensures.tiled)
 
 pub returns : goal.returns
@@ -37,7 +37,7 @@ returns g c =
     let holding = c.in_ok-holding.holding in
     let governed = c.in_ok-governed.governed.items in
     let ranges = c.in_ok-ranges.ranges.items in
-    let few : holding.shares ≤ most_places = let P : Holding → Type 0 = λ h. h.shares ≤ most_places in subst P (sym c.in_ok-holding.ensures) c.requires.few in
+    let few : holding.shares ≤ MOST_PLACES = let P : Holding → Type 0 = λ h. h.shares ≤ MOST_PLACES in subst P (sym c.in_ok-holding.ensures) c.requires.few in
     let proxy_of : Appointment → List ℕ = λ a. a.proxy in
     let voters = voters_for authorities row.kind row.member in
     let capacity = capacity_for row.kind in

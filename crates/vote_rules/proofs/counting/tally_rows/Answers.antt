@@ -10,9 +10,9 @@ use Rattle.proxy_rules.proofs.KeptLemmas.{kept_by}
 use Rattle.proxy_rules.proofs.ShareLemmas.{all_shares-le}
 use Rattle.vote_rules.specs.Covers.{vote_among}
 use Rattle.vote_rules.specs.Received.{is_on_shares_of}
-use Rattle.vote_rules.specs.Sums.{FitsBoth, joined}
+use Rattle.vote_rules.specs.Sums.{FitsBoth, added}
 use Rattle.vote_rules.specs.Tallies.{share_at, tally_by}
-use Rattle.vote_rules.proofs.CountLemmas.{counts_fit, joined-next, row-le}
+use Rattle.vote_rules.proofs.CountLemmas.{counts_fit, added-next, row-le}
 use Rattle.vote_rules.proofs.counting.tally_rows.Goals as goal
 
 pub tally_row-requires : goal.tally_row-requires
@@ -22,8 +22,8 @@ tally_row-requires g c =
     kept_by papers.appointments.now papers.endings.now c.row-item.result c.requires.numbered c.requires.tags
     (row-le rows c.loop-row.row-index c.row-item.result (all_shares-le rows c.requires.rows) c.loop-row-test.true c.row-item.is)
 
-pub join-tally-requires : goal.join-tally-requires
-join-tally-requires g c =
+pub add-tally-requires : goal.add-tally-requires
+add-tally-requires g c =
     let papers = c.args.papers.now in
     let rows = papers.register.now in
     let vote : RegisterRow → ℕ → Option Way = λ row place. vote_among (filter (is_on_shares_of row.member) c.args.casts.now.by_member) (get name_cmp c.args.casts.now.instructed) papers.authorities.now c.args.resolution row
@@ -41,7 +41,7 @@ loop-row-preserved g c =
     let vote : RegisterRow → ℕ → Option Way = λ row place. vote_among (filter (is_on_shares_of row.member) c.args.casts.now.by_member) (get name_cmp c.args.casts.now.instructed) papers.authorities.now c.args.resolution row
     (share_at c.args.cutoffs.now (holding_by papers.appointments.now papers.endings.now row) row.member place) in
     let row = c.row-item.result in
-    c.join-tally.ensures
-    ∙ ap (λ t. joined t c.in_ok-more.more) c.loop-row.invariant
-    ∙ ap (joined (tally_by vote (take c.loop-row.row-index rows))) c.in_ok-more.ensures
-    ∙ joined-next vote rows c.loop-row.row-index row c.loop-row-test.true c.row-item.is
+    c.add-tally.ensures
+    ∙ ap (λ t. added t c.in_ok-more.more) c.loop-row.invariant
+    ∙ ap (added (tally_by vote (take c.loop-row.row-index rows))) c.in_ok-more.ensures
+    ∙ added-next vote rows c.loop-row.row-index row c.loop-row-test.true c.row-item.is

@@ -4,6 +4,7 @@ ghost use Rattle.std.specs.Option.{option_copied};
 ghost use Rattle.proxy_rules.specs.Cutoffs.{back_or_first, is_late_poll, meeting_cutoffs, late_cutoffs, cutoffs_of};
 
 use crate::papers::Cutoffs;
+use desk_words::limits::{HOURS_BEFORE_LATE_POLL, HOURS_BEFORE_MEETING};
 use desk_words::{Meeting, Moment, Poll};
 use office_days::Closed;
 
@@ -16,8 +17,8 @@ fn back_or_first(closed: &Closed, hours: u32, moment: Moment) -> Moment
     }
 }
 
-/// Whether a poll is late, by the closed days as they stand: whether it is taken more than 48 hours
-/// of working time after its order (section 327).
+/// Whether a poll is late, by the closed days as they stand: whether it is taken more than
+/// `HOURS_UNTIL_LATE` hours of working time after its order (section 327).
 pub fn is_late_poll(closed: &Closed, poll: &Poll) -> bool
     ensures { result ≡ is_late_poll closed.now poll.now }
 {
@@ -28,7 +29,7 @@ fn meeting_cutoffs(meeting: &Meeting, closed: &Closed, now: Moment) -> Cutoffs
     ensures { result ≡ meeting_cutoffs meeting.now closed.now now }
 {
     Cutoffs {
-        appointments: back_or_first(closed, 48, meeting.appointed),
+        appointments: back_or_first(closed, HOURS_BEFORE_MEETING, meeting.appointed),
         endings: meeting.opened.unwrap_or(now),
     }
 }
@@ -37,13 +38,13 @@ fn late_cutoffs(poll: &Poll, closed: &Closed) -> Cutoffs
     ensures { result ≡ late_cutoffs poll.now closed.now }
 {
     Cutoffs {
-        appointments: back_or_first(closed, 24, poll.take),
+        appointments: back_or_first(closed, HOURS_BEFORE_LATE_POLL, poll.take),
         endings: poll.take,
     }
 }
 
-/// The cutoffs for a meeting, or for a poll of it, by the closed days as they stand (sections 327 and
-/// 330). It takes no memory.
+/// The cutoffs for a meeting, or for a poll of it, by the closed days as they stand (sections 327
+/// and 330). It takes no memory.
 pub fn cutoffs(meeting: &Meeting, poll: Option<&Poll>, closed: &Closed, now: Moment) -> Cutoffs
     ensures { result ≡ cutoffs_of meeting.now (option_copied poll.entry) closed.now now }
 {

@@ -2,11 +2,9 @@
 ghost use Rattle.std.specs.Prelude.{◌≡◌, false, filter, find, option_and_then, reverse};
 ghost use Rattle.std.specs.List.{list_any, slice_get};
 ghost use Rattle.std.specs.Option.{option_copied, option_map_or};
-ghost use Rattle.desk_terms.specs.Names.{same_name};
-ghost use Rattle.desk_words.specs.declared.records.RegisterRow.{RegisterRow};
 ghost use Rattle.proxy_rules.specs.Governing.{ends, governing_number, is_over};
 ghost use Rattle.proxy_rules.specs.Holdings.{holding_of, is_ended_of, is_given_by};
-ghost use Rattle.proxy_rules.specs.Shares.{is_share, shares_by};
+ghost use Rattle.proxy_rules.specs.Shares.{is_share, row_of, shares_by};
 
 use crate::papers::{Cutoffs, Papers};
 use crate::rows::shares;
@@ -21,7 +19,8 @@ fn is_over(appointment: &Appointment, cutoffs: &Cutoffs, place: u64) -> bool
 
 /// Whether there is an appointment at the index, and it is over the place.
 fn is_over_at(appointments: &[Appointment], index: usize, cutoffs: &Cutoffs, place: u64) -> bool
-    ensures { result ≡ option_map_or (is_over cutoffs.now place) (slice_get appointments.now index) false }
+    ensures { result
+        ≡ option_map_or (is_over cutoffs.now place) (slice_get appointments.now index) false }
 {
     match appointments.get(index) {
         Some(appointment) => is_over(appointment, cutoffs, place),
@@ -36,7 +35,11 @@ fn index_over(
     cutoffs: &Cutoffs,
     place: u64,
 ) -> Option<usize>
-    ensures { result ≡ find (λ index. option_map_or (is_over cutoffs.now place) (slice_get appointments.now index) false) (reverse indices.now) }
+    ensures { result
+        ≡ find
+        (λ index. option_map_or (is_over cutoffs.now place) (slice_get appointments.now index)
+        false)
+        (reverse indices.now) }
 {
     indices
         .iter()
@@ -52,8 +55,12 @@ fn last_at<'a>(
     cutoffs: &Cutoffs,
     place: u64,
 ) -> Option<&'a Appointment>
-    ensures { option_copied result ≡ option_and_then (slice_get appointments.now)
-        (find (λ index. option_map_or (is_over cutoffs.now place) (slice_get appointments.now index) false) (reverse indices.now)) }
+    ensures { option_copied result
+        ≡ option_and_then (slice_get appointments.now)
+        (find
+        (λ index. option_map_or (is_over cutoffs.now place)
+        (slice_get appointments.now index) false)
+        (reverse indices.now)) }
 {
     appointments.get(index_over(appointments, indices, cutoffs, place)?)
 }
@@ -65,7 +72,9 @@ fn last_over<'a>(
     cutoffs: &Cutoffs,
     place: u64,
 ) -> Option<&'a Appointment>
-    ensures { option_copied result ≡ find (is_over cutoffs.now place) (reverse (filter (is_given_by member) appointments.now)) }
+    ensures { option_copied result
+        ≡ find (is_over cutoffs.now place)
+        (reverse (filter (is_given_by member) appointments.now)) }
 {
     let indices = appointments.places_by_first(member);
     last_at(appointments.as_slice(), indices, cutoffs, place)
@@ -90,7 +99,10 @@ fn ends_at(endings: &[Ending], index: usize, cutoffs: &Cutoffs, number: u64) -> 
 
 /// Whether one of the endings at the indices names the number, in time to count.
 fn any_ends(endings: &[Ending], indices: &[usize], cutoffs: &Cutoffs, number: u64) -> bool
-    ensures { result ≡ list_any (λ index. option_map_or (ends cutoffs.now number) (slice_get endings.now index) false) indices.now }
+    ensures { result
+        ≡ list_any
+        (λ index. option_map_or (ends cutoffs.now number) (slice_get endings.now index) false)
+        indices.now }
 {
     indices
         .iter()
@@ -99,7 +111,8 @@ fn any_ends(endings: &[Ending], indices: &[usize], cutoffs: &Cutoffs, number: u6
 
 /// Whether a counted ending of the member's names the number.
 fn is_ended(endings: &Filed<Ending>, member: Party, cutoffs: &Cutoffs, number: u64) -> bool
-    ensures { result ≡ list_any (ends cutoffs.now number) (filter (is_ended_of member) endings.now) }
+    ensures { result
+        ≡ list_any (ends cutoffs.now number) (filter (is_ended_of member) endings.now) }
 {
     let indices = endings.places_by_first(member);
     any_ends(endings.as_slice(), indices, cutoffs, number)
@@ -107,7 +120,7 @@ fn is_ended(endings: &Filed<Ending>, member: Party, cutoffs: &Cutoffs, number: u
 
 /// The member's row.
 fn row_of(register: &[RegisterRow], member: Party) -> Option<&RegisterRow>
-    ensures { option_copied result ≡ find (λ (row : RegisterRow). same_name row.member member) register.now }
+    ensures { option_copied result ≡ row_of register.now member }
 {
     register.iter().find(|row| row.member.is(member))
 }
@@ -139,7 +152,11 @@ fn is_share(register: &[RegisterRow], member: Party, place: u64) -> bool
 /// shares are no shares here. It looks at the member's own appointments and endings, and takes no
 /// memory.
 pub fn governing(cutoffs: &Cutoffs, papers: &Papers, member: Party, place: u64) -> Option<u64>
-    ensures { result ≡ governing_number cutoffs.now (holding_of papers.now.register.now papers.now.appointments.now papers.now.endings.now member) place }
+    ensures { result
+        ≡ governing_number cutoffs.now
+        (holding_of papers.now.register.now papers.now.appointments.now papers.now.endings.now
+        member)
+        place }
 {
     if !is_share(papers.register, member, place) {
         return None;

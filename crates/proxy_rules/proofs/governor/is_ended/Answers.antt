@@ -4,7 +4,7 @@ use Rattle.desk_words.specs.declared.records.Ending.{Ending}
 use Rattle.proxy_rules.specs.Governing.{ends}
 use Rattle.proxy_rules.proofs.ListLemmas.{any-placed}
 use Rattle.proxy_rules.proofs.NameLemmas.{filter-named}
-use Rattle.proxy_rules.proofs.appointed.is_ended.Goals as goal
+use Rattle.proxy_rules.proofs.governor.is_ended.Goals as goal
 
 pub returns : goal.returns
 returns c =

@@ -6,7 +6,7 @@ use Rattle.proxy_rules.specs.Governing.{is_over}
 use Rattle.proxy_rules.proofs.ListLemmas.{find-placed}
 use Rattle.proxy_rules.proofs.NameLemmas.{filter-named}
 use Rattle.proxy_rules.proofs.TurnedLists.{filter_map-reverse}
-use Rattle.proxy_rules.proofs.appointed.last_over.Goals as goal
+use Rattle.proxy_rules.proofs.governor.last_over.Goals as goal
 
 pub returns : goal.returns
 returns c =
