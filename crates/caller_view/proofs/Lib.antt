@@ -1,3 +1,5 @@
 pub mod Numbering
 pub mod ReadLemmas
 mod RightsLemmas
+pub mod KeptLemmas
+pub mod OwnLemmas

@@ -10,6 +10,7 @@ use Rattle.desk_terms.specs.Refusals.{Case}
 use Rattle.desk_terms.specs.declared.kinds.Capacity.{Capacity}
 use Rattle.desk_terms.specs.declared.kinds.Capacity.TheVariants.{Member, Rep, Proxy}
 use Rattle.desk_terms.specs.declared.refusal.Refusal.TheVariants.{BadRange, TooMany, NoRegister, NoRight, NoPoll, PollNotOpen, PollClosed, NotYours, AgainstInstruction}
+use Rattle.desk_words.specs.declared.limits.TheConstants.{MOST_CASTS}
 use Rattle.desk_words.specs.Finding.{poll_on}
 use Rattle.desk_words.specs.Polls.{is_closed, is_waiting, there_is}
 use Rattle.desk_words.specs.Rulings.{in_found, no_resolution}
@@ -22,13 +23,13 @@ use Rattle.desk_words.specs.declared.request.NewCast.{NewCast}
 use Rattle.desk_words.specs.declared.request.PartyRequest.{PartyRequest}
 use Rattle.desk_words.specs.declared.request.PartyRequest.TheVariants.{Mine, Cast, Instructed}
 use Rattle.caller_view.specs.Answers.{party_ruling, ruling_in}
-use Rattle.caller_view.specs.Casts.{cast_ruling, casts_on, has_cast_enough, instructed_ruling, is_late_on}
+use Rattle.caller_view.specs.Casts.{cast_ruling, cast_count, has_cast_enough, instructed_ruling, is_late_on}
 use Rattle.proxy_rules.specs.Instructions.{allows, instructed_on}
 use Rattle.caller_view.specs.Reads.{authorised_read, cast_on, for_poll, own_read, received_read}
 use Rattle.caller_view.specs.Rights.{forbids, governed_for, governs_at, instructs, is_against, is_governed, is_not_own, may_vote_for, meets, no_runs, some_fail}
-use Rattle.caller_view.specs.Views.{nothing_of}
+use Rattle.caller_view.specs.Own.{nothing_of}
 use Rattle.caller_view.specs.declared.views.OwnView.{OwnView}
-use Rattle.caller_view.specs.declared.views.PublicRecord.{PublicRecord}
+use Rattle.caller_view.specs.Public.{PublicRecord}
 
 -- what passes a test passes it again
 filter-again : {X : Type 0} (test : X → Bool) (xs : List X) → filter test (filter test xs) ≡ filter test xs
@@ -44,7 +45,7 @@ count_by-filter : {X : Type 0} (test : X → Bool) (xs : List X) → count_by te
 count_by-filter test xs = sym (length-filter test (filter test xs)) ∙ ap length (filter-again test xs) ∙ length-filter test xs
 
 -- what is found is found among what passes
-find-filter : {X : Type 0} (test : X → Bool) (xs : List X) → find test (filter test xs) ≡ find test xs
+pub find-filter : {X : Type 0} (test : X → Bool) (xs : List X) → find test (filter test xs) ≡ find test xs
 find-filter test [] = refl
 find-filter test (x ∷ xs) =
     (elim (test x) as (λ b. test x ≡ b → find test (cond b (x ∷ filter test xs) (filter test xs)) ≡ cond b (Some x) (find test xs)) [
@@ -130,8 +131,8 @@ against-alike own late new Proxy casts =
     (λ r. and-twice (same_name r.member new.member) (not (allows (instructed_on new.resolution r.instructions) new.way))
     (list_any (meets new.from new.to) (governed_for late new.resolution r)))
 
-enough-alike : (own : OwnView) (resolution : ℕ) → nat_le 1024 (casts_on (cast_on resolution own.casts) resolution) ≡ has_cast_enough own resolution
-enough-alike own resolution = ap (nat_le 1024) (count_by-filter (λ (c : CastMark). c.resolution == resolution) own.casts)
+enough-alike : (own : OwnView) (resolution : ℕ) → nat_le MOST_CASTS (cast_count (cast_on resolution own.casts) resolution) ≡ has_cast_enough own resolution
+enough-alike own resolution = ap (nat_le MOST_CASTS) (count_by-filter (λ (c : CastMark). c.resolution == resolution) own.casts)
 
 -- the cases of a vote, by what they ask of the own things
 abbrev cast_cases_by : PublicRecord → Meeting → NewCast → Bool → Bool → Bool → Bool → List Case

@@ -1,6 +1,7 @@
 -- Places that pass a test from one to another, and what is found among a party's own things.
-use Rattle.std.proofs.Common.{◌≡◌, ℕ, zero, suc, ◌+◌, ◌<◌, ◌≤◌, Bool, true, false, not, ◌&&◌, ◌||◌, cond, List, [], ◌∷◌, find, Some, None, refl, sym, ap, ◌∙◌, arith}
+use Rattle.std.proofs.Common.{◌≡◌, ℕ, zero, suc, ◌+◌, ◌<◌, ◌≤◌, Bool, true, false, not, ◌&&◌, cond, List, find, Some, None, refl, sym, ap, ◌∙◌, arith}
 use Rattle.std.specs.Prelude.{nat_eq, nat_le, nat_lt, Option, IfSome}
+use Rattle.desk_lists.proofs.Kept.{found-any, found-passes, none-found}
 use Rattle.desk_terms.specs.Names.{same_name}
 use Rattle.std.specs.List.{list_any}
 use Rattle.std.proofs.lemmas.Bool.{and_parts}
@@ -54,38 +55,6 @@ none_fails test from to all =
     ap (nat_lt 0) (none_counted (λ place. nat_le from place && not (test place)) to none)
 
 -- ---- what is found
-
--- what is found passes
-pub found-passes : {X : Type 0} (test : X → Bool) (xs : List X) (x : X) → find test xs ≡ Some x → test x ≡ true
-found-passes test [] x is = absurd (cc)
-found-passes test (y ∷ ys) x is =
-    (elim (test y) as (λ b. test y ≡ b → cond b (Some y) (find test ys) ≡ Some x → test x ≡ true) [
-      | true ↦ λ passes same. let here : y ≡ x = cc in ap test (sym here) ∙ passes
-      | false ↦ λ fails later. found-passes test ys x later
-    ]) refl is
-
--- what is found is one of them
-pub found-any : {X : Type 0} (test other : X → Bool) (xs : List X) (x : X) → find test xs ≡ Some x → other x ≡ true → list_any other xs ≡ true
-found-any test other [] x is passes = absurd (cc)
-found-any test other (y ∷ ys) x is passes =
-    (elim (test y) as (λ b. test y ≡ b → cond b (Some y) (find test ys) ≡ Some x → list_any other (y ∷ ys) ≡ true) [
-      | true ↦ λ found same. let here : y ≡ x = cc in rw (ap other here ∙ passes) refl
-      | false ↦ λ fails later.
-          let further : list_any other ys ≡ true = found-any test other ys x later passes in
-          (elim (other y) as (λ b. (b || list_any other ys) ≡ true) [
-            | true ↦ refl
-            | false ↦ further
-          ])
-    ]) refl is
-
--- where none is found none passes
-pub none-found : {X : Type 0} (test : X → Bool) (xs : List X) → find test xs ≡ None → list_any test xs ≡ false
-none-found test [] none = refl
-none-found test (y ∷ ys) none =
-    (elim (test y) as (λ b. test y ≡ b → cond b (Some y) (find test ys) ≡ None → (b || list_any test ys) ≡ false) [
-      | true ↦ λ found is. absurd (cc)
-      | false ↦ λ fails later. none-found test ys later
-    ]) refl none
 
 -- a run that has the place, of an appointment that governs it
 pub run_found : (received : List Received) (late : Bool) (new : NewCast) (place : ℕ) (r : Received) (found : Option Places)

@@ -6,6 +6,7 @@ use Rattle.desk_words.specs.Refusals.{Case}
 use Rattle.desk_words.specs.Rulings.{Ruling}
 use Rattle.desk_words.specs.Seen.{Moment, Number}
 use Rattle.desk_terms.specs.declared.refusal.Refusal.TheVariants.{BadRange, SelfNamed, BadInstructions, TooMany, NoSuchNumber, AlreadyEnded}
+use Rattle.desk_words.specs.declared.limits.TheConstants.{MOST_APPOINTMENTS}
 use Rattle.desk_words.specs.declared.records.Appointment.{Appointment}
 use Rattle.desk_words.specs.declared.records.Ending.{Ending}
 use Rattle.desk_words.specs.declared.records.Meeting.{Meeting}
@@ -18,13 +19,14 @@ use Rattle.desk_words.specs.declared.reply.AppointmentUse.TheVariants.{Meeting a
 use Rattle.desk_words.specs.declared.reply.GivenUse.{GivenUse}
 use Rattle.desk_words.specs.declared.reply.Reply.TheVariants as reply
 use Rattle.desk_words.specs.declared.request.NewAppointment.{NewAppointment}
-use Rattle.proxy_rules.specs.Cutoffs.{meeting_cutoffs}
+use Rattle.proxy_rules.specs.Cutoffs.{cutoffs_of}
 use Rattle.caller_view.specs.declared.views.OwnView.{OwnView}
-use Rattle.caller_view.specs.declared.views.PublicRecord.{PublicRecord}
+use Rattle.caller_view.specs.Public.{PublicRecord}
 
--- the last moment at which an appointment counts for the meeting, by the closed days as they stand (section 327)
+-- the last moment at which an appointment counts for the meeting, by the closed days as they stand
+-- (section 327)
 abbrev pub cutoff_in : PublicRecord → Meeting → Moment → Moment
-cutoff_in public meeting now = (meeting_cutoffs meeting public.closed now).appointments
+cutoff_in public meeting now = (cutoffs_of meeting None public.closed now).appointments
 
 -- what an appointment of a moment counts for, where the meeting has that cutoff (section 327)
 abbrev pub use_by : Moment → Moment → AppointmentUse
@@ -34,14 +36,18 @@ use_by cutoff moment = if nat_le moment cutoff then ForTheMeeting else LaterPoll
 abbrev pub given_use : Moment → Given → GivenUse
 given_use cutoff given = record { given = given; used = use_by cutoff given.appointment.moment }
 
--- when an appointment is not recorded: its places are no range, it names the party itself, it has not one instruction for each resolution (section 324A), or the party gave 256 already
+-- when an appointment is not recorded: its places are no range, it names the party itself, it has
+-- not one instruction for each resolution (section 324A), or the party gave `MOST_APPOINTMENTS`
+-- already
 abbrev pub appoint_cases : Meeting → OwnView → NewAppointment → List Case
 appoint_cases meeting own new =
     record { refusal = BadRange; holds = not (is_range new.from new.to) }
     ∷ record { refusal = SelfNamed; holds = same_name new.proxy own.party }
-    ∷ record { refusal = BadInstructions; holds = not (length new.instructions == length meeting.resolutions) }
-    ∷ record { refusal = TooMany; holds = nat_le 256 (length own.given) }
-    ∷ []
+    ∷ record {
+      refusal = BadInstructions;
+      holds = not (length new.instructions == length meeting.resolutions);
+    }
+    ∷ record { refusal = TooMany; holds = nat_le MOST_APPOINTMENTS (length own.given) } ∷ []
 
 -- the appointment that is recorded, with the party's next number (section 324)
 abbrev pub appointment_of : OwnView → Moment → NewAppointment → Appointment
@@ -58,8 +64,10 @@ appointment_of own now new = record {
 abbrev pub receipt_of : Moment → OwnView → Moment → AppointmentReceipt
 receipt_of cutoff own now = record { number = suc (length own.given); used = use_by cutoff now }
 
--- an appointment is recorded, or refused by the public record and the party's own things alone; the register is not looked at (section 324)
-abbrev pub appoint_ruling : PublicRecord → Meeting → OwnView → Moment → NewAppointment → Ruling Entry
+-- an appointment is recorded, or refused by the public record and the party's own things alone; the
+-- register is not looked at (section 324)
+abbrev pub appoint_ruling : PublicRecord → Meeting → OwnView → Moment → NewAppointment
+    → Ruling Entry
 appoint_ruling public meeting own now new = record {
   cases = appoint_cases meeting own new;
   accepted = record {
@@ -77,7 +85,8 @@ abbrev pub is_ended : Option Given → Bool
 is_ended None = false
 is_ended (Some given) = is_some given.ended
 
--- when an ending is not recorded: the party gave no appointment of that number, or ended it already (section 330)
+-- when an ending is not recorded: the party gave no appointment of that number, or ended it already
+-- (section 330)
 abbrev pub end_cases : OwnView → Number → List Case
 end_cases own number =
     record { refusal = NoSuchNumber; holds = is_none (given_numbered own.given number) }
@@ -90,7 +99,8 @@ ending_of own now number = record { member = own.party; number = number; moment 
 
 -- an ending is recorded, or refused by the party's own things (section 330)
 abbrev pub end_ruling : OwnView → Moment → Number → Ruling Entry
-end_ruling own now number = record {
-  cases = end_cases own number;
-  accepted = record { reply = reply.Ended number; change = Some (entry.Ending (ending_of own now number)) };
-}
+end_ruling own now number =
+    record {
+      cases = end_cases own number;
+      accepted = record { reply = reply.Ended number; change = Some (entry.Ending (ending_of own now number)) };
+    }

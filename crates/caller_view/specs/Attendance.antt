@@ -1,13 +1,13 @@
 -- Authorities that a party gives, its presence, and polls that it demands.
-use Rattle.std.specs.Prelude.{Bool, true, false, not, ◌&&◌, ◌||◌, ◌==◌, nat_le, nat_lt, List, [], ◌∷◌, length, is_none, is_some}
+use Rattle.std.specs.Prelude.{Bool, not, ◌&&◌, ◌||◌, ◌==◌, nat_le, nat_lt, List, [], ◌∷◌, length, is_none, is_some}
 use Rattle.std.specs.List.{list_any}
 use Rattle.desk_words.specs.Finding.{poll_on}
 use Rattle.desk_words.specs.Names.{same_name}
-use Rattle.desk_words.specs.Places.{Places}
 use Rattle.desk_words.specs.Refusals.{Case}
 use Rattle.desk_words.specs.Rulings.{Ruling, no_resolution, noted}
 use Rattle.desk_words.specs.Seen.{Moment, Number, Party}
 use Rattle.desk_terms.specs.declared.refusal.Refusal.TheVariants.{SelfNamed, TooMany, NoRegister, NotOpened, NotPresent, NoRight, PollOrdered}
+use Rattle.desk_words.specs.declared.limits.TheConstants.{MOST_AUTHORITIES}
 use Rattle.desk_words.specs.declared.records.Authority.{Authority}
 use Rattle.desk_words.specs.declared.records.DemandMark.{DemandMark}
 use Rattle.desk_words.specs.declared.records.Meeting.{Meeting}
@@ -17,25 +17,30 @@ use Rattle.desk_words.specs.declared.change.Entry.TheVariants as entry
 use Rattle.desk_words.specs.declared.own.Authorised.{Authorised}
 use Rattle.desk_words.specs.declared.own.Received.{Received}
 use Rattle.caller_view.specs.Rights.{holds_as_individual, no_runs}
-use Rattle.caller_view.specs.declared.views.PublicRecord.{PublicRecord}
+use Rattle.caller_view.specs.Public.{PublicRecord}
 use Rattle.caller_view.specs.declared.views.OwnView.{OwnView}
 
 -- the party gave the person its authority already (section 323)
 abbrev pub gave_authority : OwnView → Party → Bool
 gave_authority own person = list_any (λ (a : Authority). same_name a.person person) own.persons
 
--- when an authority is not noted: the party names itself, or it gave 64 already and this is none of them
+-- when an authority is not noted: the party names itself, or it gave `MOST_AUTHORITIES` already and
+-- this is none of them
 abbrev pub authorise_cases : OwnView → Party → List Case
 authorise_cases own person =
     record { refusal = SelfNamed; holds = same_name person own.party }
-    ∷ record { refusal = TooMany; holds = not (gave_authority own person) && nat_le 64 (length own.persons) }
+    ∷ record {
+      refusal = TooMany;
+      holds = not (gave_authority own person) && nat_le MOST_AUTHORITIES (length own.persons);
+    }
     ∷ []
 
 -- the authority that is noted (section 323)
 abbrev pub authority_of : OwnView → Moment → Party → Authority
 authority_of own now person = record { corporation = own.party; person = person; moment = now }
 
--- an authority is noted, or refused by the party's own things; the register is not looked at (section 323)
+-- an authority is noted, or refused by the party's own things; the register is not looked at
+-- (section 323)
 abbrev pub authorise_ruling : OwnView → Moment → Party → Ruling Entry
 authorise_ruling own now person = record {
   cases = authorise_cases own person;
@@ -48,7 +53,10 @@ presence_of own now = record { party = own.party; moment = now }
 
 -- a presence is noted (section 318)
 abbrev pub attend_ruling : OwnView → Moment → Ruling Entry
-attend_ruling own now = record { cases = []; accepted = noted own.present (entry.Presence (presence_of own now)) }
+attend_ruling own now = record {
+  cases = [];
+  accepted = noted own.present (entry.Presence (presence_of own now));
+}
 
 -- the party may act for a corporation of the register (section 323)
 abbrev pub represents : OwnView → Bool
@@ -81,7 +89,8 @@ demand_cases public meeting own resolution =
 abbrev pub demand_of : OwnView → Moment → Number → DemandMark
 demand_of own now resolution = record { resolution = resolution; party = own.party; moment = now }
 
--- a demand is noted, or refused by the public record and the party's own things; whether the demands are enough is not said (section 321)
+-- a demand is noted, or refused by the public record and the party's own things; whether the
+-- demands are enough is not said (section 321)
 abbrev pub demand_ruling : PublicRecord → Meeting → OwnView → Moment → Number → Ruling Entry
 demand_ruling public meeting own now resolution = record {
   cases = demand_cases public meeting own resolution;

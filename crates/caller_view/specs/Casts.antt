@@ -1,5 +1,5 @@
 -- Votes that a party casts.
-use Rattle.std.specs.Prelude.{ℕ, Bool, not, ◌==◌, nat_le, List, [], ◌∷◌, count_by, Option, Some, is_none}
+use Rattle.std.specs.Prelude.{ℕ, Bool, not, ◌==◌, nat_le, List, [], ◌∷◌, count_by, Some, is_none}
 use Rattle.desk_words.specs.Finding.{poll_on}
 use Rattle.desk_words.specs.Places.{is_range}
 use Rattle.desk_words.specs.Polls.{is_closed, is_waiting, there_is}
@@ -7,6 +7,7 @@ use Rattle.desk_words.specs.Refusals.{Case}
 use Rattle.desk_words.specs.Rulings.{Ruling, no_resolution}
 use Rattle.desk_words.specs.Seen.{Moment, Number}
 use Rattle.desk_terms.specs.declared.refusal.Refusal.TheVariants.{BadRange, TooMany, NoRegister, NoRight, NoPoll, PollNotOpen, PollClosed, NotYours, AgainstInstruction}
+use Rattle.desk_words.specs.declared.limits.TheConstants.{MOST_CASTS}
 use Rattle.desk_words.specs.declared.change.Entry.{Entry}
 use Rattle.desk_words.specs.declared.change.Entry.TheVariants as entry
 use Rattle.desk_words.specs.declared.records.CastKind.{CastKind}
@@ -18,19 +19,20 @@ use Rattle.desk_words.specs.declared.request.NewCast.{NewCast}
 use Rattle.proxy_rules.specs.Cutoffs.{is_late_poll}
 use Rattle.caller_view.specs.Rights.{is_against, is_not_own, is_uninstructed, may_vote_for}
 use Rattle.caller_view.specs.declared.views.OwnView.{OwnView}
-use Rattle.caller_view.specs.declared.views.PublicRecord.{PublicRecord}
+use Rattle.caller_view.specs.Public.{PublicRecord}
 
 -- how many of these votes are on a resolution
-abbrev pub casts_on : List CastMark → Number → ℕ
-casts_on casts resolution = count_by (λ (c : CastMark). c.resolution == resolution) casts
+abbrev pub cast_count : List CastMark → Number → ℕ
+cast_count casts resolution = count_by (λ (c : CastMark). c.resolution == resolution) casts
 
--- the party cast 1,024 votes on the resolution, in all capacities together
+-- the party cast `MOST_CASTS` votes on the resolution, in all capacities together
 abbrev pub has_cast_enough : OwnView → Number → Bool
-has_cast_enough own resolution = nat_le 1024 (casts_on own.casts resolution)
+has_cast_enough own resolution = nat_le MOST_CASTS (cast_count own.casts resolution)
 
 -- the poll on the resolution is late, by the closed days as they stand (section 327)
 abbrev pub is_late_on : PublicRecord → Number → Bool
-is_late_on public resolution = there_is (is_late_poll public.closed) (poll_on public.polls resolution)
+is_late_on public resolution =
+    there_is (is_late_poll public.closed) (poll_on public.polls resolution)
 
 -- when a vote is not recorded (sections 284, 323, 324 and 324A)
 abbrev pub cast_cases : PublicRecord → Meeting → OwnView → NewCast → List Case
@@ -52,34 +54,52 @@ cast_cases public meeting own new =
 -- what is cast as instructed is not recorded (section 324A)
 abbrev pub instructed_cases : PublicRecord → Meeting → OwnView → Number → List Case
 instructed_cases public meeting own resolution =
-    let poll = poll_on public.polls resolution in
-    no_resolution meeting resolution
+    let poll = poll_on public.polls resolution in no_resolution meeting resolution
     ∷ record { refusal = TooMany; holds = has_cast_enough own resolution }
     ∷ record { refusal = NoRegister; holds = not meeting.loaded }
     ∷ record { refusal = NoPoll; holds = is_none poll }
     ∷ record { refusal = PollNotOpen; holds = there_is is_waiting poll }
     ∷ record { refusal = PollClosed; holds = there_is is_closed poll }
-    ∷ record { refusal = NotYours; holds = is_uninstructed own (is_late_on public resolution) resolution }
+    ∷ record {
+      refusal = NotYours;
+      holds = is_uninstructed own (is_late_on public resolution) resolution;
+    }
     ∷ []
 
 -- the vote that is recorded
 abbrev pub cast_of : OwnView → Moment → Number → CastKind → CastMark
-cast_of own now resolution what = record { resolution = resolution; voter = own.party; what = what; moment = now }
+cast_of own now resolution what = record {
+  resolution = resolution;
+  voter = own.party;
+  what = what;
+  moment = now;
+}
 
 -- what is cast on some of a member's shares (section 322)
 abbrev pub block_of : NewCast → CastKind
-block_of new = Block (record { capacity = new.capacity; member = new.member; range = record { from = new.from; to = new.to }; way = new.way })
+block_of new =
+    Block
+    (record {
+      capacity = new.capacity;
+      member = new.member;
+      range = record { from = new.from; to = new.to };
+      way = new.way;
+    })
 
--- a vote is recorded, of which nothing more is said, or refused by the public record and the party's own things alone (sections 284, 323 and 324)
+-- a vote is recorded, of which nothing more is said, or refused by the public record and the
+-- party's own things alone (sections 284, 323 and 324)
 abbrev pub cast_ruling : PublicRecord → Meeting → OwnView → Moment → NewCast → Ruling Entry
-cast_ruling public meeting own now new = record {
-  cases = cast_cases public meeting own new;
-  accepted = record { reply = reply.Recorded; change = Some (entry.Cast (cast_of own now new.resolution (block_of new))) };
-}
+cast_ruling public meeting own now new =
+    record {
+      cases = cast_cases public meeting own new;
+      accepted = record { reply = reply.Recorded; change = Some (entry.Cast (cast_of own now new.resolution (block_of new))) };
+    }
 
--- what is cast as instructed is recorded, and nothing more is said of it, or refused likewise (section 324A)
+-- what is cast as instructed is recorded, and nothing more is said of it, or refused likewise
+-- (section 324A)
 abbrev pub instructed_ruling : PublicRecord → Meeting → OwnView → Moment → Number → Ruling Entry
-instructed_ruling public meeting own now resolution = record {
-  cases = instructed_cases public meeting own resolution;
-  accepted = record { reply = reply.Recorded; change = Some (entry.Cast (cast_of own now resolution AsInstructed)) };
-}
+instructed_ruling public meeting own now resolution =
+    record {
+      cases = instructed_cases public meeting own resolution;
+      accepted = record { reply = reply.Recorded; change = Some (entry.Cast (cast_of own now resolution AsInstructed)) };
+    }

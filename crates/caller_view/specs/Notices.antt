@@ -1,5 +1,5 @@
 -- What the notice of a meeting shows.
-use Rattle.std.specs.Prelude.{ℕ, suc, List, [], ◌∷◌, Some, option_map}
+use Rattle.std.specs.Prelude.{ℕ, suc, List, [], ◌∷◌, Some, None, option_map}
 use Rattle.desk_terms.specs.declared.kinds.ResKind.{ResKind}
 use Rattle.desk_words.specs.Finding.{poll_on}
 use Rattle.desk_words.specs.Seen.{Day, Moment, Number}
@@ -9,10 +9,11 @@ use Rattle.desk_words.specs.declared.records.Resolution.{Resolution}
 use Rattle.desk_words.specs.declared.reply.Notice.{Notice}
 use Rattle.desk_words.specs.declared.reply.NoticedPoll.{NoticedPoll}
 use Rattle.desk_words.specs.declared.reply.NoticedResolution.{NoticedResolution}
-use Rattle.proxy_rules.specs.Cutoffs.{cutoffs_of, meeting_cutoffs, is_late_poll}
+use Rattle.proxy_rules.specs.Cutoffs.{cutoffs_of, is_late_poll}
 use Rattle.desk_words.specs.Majority.{result_of}
 
--- a poll, with its lateness and its cutoff by the closed days as they stand, and its result once it is declared (section 327)
+-- a poll, with its lateness and its cutoff by the closed days as they stand, and its result once it
+-- is declared (section 327)
 abbrev pub noticed_poll : Meeting → List Day → Moment → ResKind → Poll → NoticedPoll
 noticed_poll meeting closed now kind poll = record {
   ordered = poll.ordered;
@@ -26,7 +27,8 @@ noticed_poll meeting closed now kind poll = record {
 }
 
 -- a resolution, with the poll on it if one is ordered
-abbrev pub noticed_resolution : Meeting → List Poll → List Day → Moment → Number → Resolution → NoticedResolution
+abbrev pub noticed_resolution : Meeting → List Poll → List Day → Moment → Number → Resolution
+    → NoticedResolution
 noticed_resolution meeting polls closed now number resolution = record {
   number = number;
   kind = resolution.kind;
@@ -47,7 +49,7 @@ notice_of meeting polls closed now = record {
   kind = meeting.kind;
   given = meeting.given;
   appointed = meeting.appointed;
-  cutoff = (meeting_cutoffs meeting closed now).appointments;
+  cutoff = (cutoffs_of meeting None closed now).appointments;
   record_moment = meeting.record_moment;
   loaded = meeting.loaded;
   opened = meeting.opened;

@@ -7,29 +7,47 @@ use Rattle.desk_terms.specs.declared.kinds.Capacity.TheVariants.{Member, Rep, Pr
 use Rattle.desk_words.specs.declared.own.Authorised.{Authorised}
 use Rattle.desk_words.specs.declared.own.PollGoverned.{PollGoverned}
 use Rattle.desk_words.specs.declared.own.Received.{Received}
+use Rattle.desk_words.specs.declared.records.Appointment.{Appointment}
 use Rattle.desk_words.specs.declared.records.CastMark.{CastMark}
+use Rattle.desk_words.specs.declared.records.Poll.{Poll}
 use Rattle.desk_words.specs.declared.request.NewCast.{NewCast}
 use Rattle.desk_words.specs.declared.request.PartyRequest.{PartyRequest}
 use Rattle.desk_words.specs.declared.request.PartyRequest.TheVariants.{Notice, Mine, Appoint, End, Authorise, Attend, Demand, Cast, Instructed}
-use Rattle.caller_view.specs.Views.{nothing_of}
+use Rattle.proxy_rules.specs.Holdings.{is_given_by}
+use Rattle.caller_view.specs.Own.{nothing_of}
+use Rattle.caller_view.specs.Rows.{no_rows_of}
+use Rattle.caller_view.specs.declared.rows.AuthorityRows.{AuthorityRows}
+use Rattle.caller_view.specs.declared.rows.MemberRows.{MemberRows}
+use Rattle.caller_view.specs.declared.rows.OwnRows.{OwnRows}
 use Rattle.caller_view.specs.declared.views.OwnView.{OwnView}
 
 -- those of the votes that are on a resolution
 abbrev pub cast_on : Number → List CastMark → List CastMark
 cast_on resolution casts = filter (λ (c : CastMark). c.resolution == resolution) casts
 
--- an appointment, with what it governs for the meeting and for the late poll on a resolution, and for no other
-abbrev pub for_poll : Number → Received → Received
-for_poll resolution r = record r { polls = filter (λ (p : PollGoverned). p.resolution == resolution) r.polls }
+-- the poll on a resolution, if there is one
+abbrev pub polls_on : Number → List Poll → List Poll
+polls_on resolution polls = filter (λ (p : Poll). p.resolution == resolution) polls
 
--- what a vote reads of the corporations that authorised the party: as a representative, that of the member
+-- an appointment, with what it governs for the meeting and for the late poll on a resolution, and
+-- for no other
+abbrev pub for_poll : Number → Received → Received
+for_poll resolution r = record r {
+  polls = filter (λ (p : PollGoverned). p.resolution == resolution) r.polls;
+}
+
+-- what a vote reads of the corporations that authorised the party: as a representative, that of the
+-- member
 abbrev pub authorised_read : NewCast → List Authorised → Capacity → List Authorised
-authorised_read new authorised Rep = filter (λ (a : Authorised). same_name a.corporation new.member) authorised
+authorised_read new authorised Rep =
+    filter (λ (a : Authorised). same_name a.corporation new.member) authorised
 authorised_read new authorised other = []
 
 -- what a vote reads of the appointments that name the party: as a proxy, those of the member
 abbrev pub received_read : NewCast → List Received → Capacity → List Received
-received_read new received Proxy = map (for_poll new.resolution) (filter (λ (r : Received). same_name r.member new.member) received)
+received_read new received Proxy =
+    map (for_poll new.resolution)
+    (filter (λ (r : Received). same_name r.member new.member) received)
 received_read new received other = []
 
 -- those of the own things that the answer to a request reads, and nothing in place of the others
@@ -51,3 +69,56 @@ own_read (Instructed resolution) own = record (nothing_of own.party) {
   received = map (for_poll resolution) own.received;
   casts = cast_on resolution own.casts;
 }
+
+-- what a vote reads of the authorities that were given to the party: as a representative, that of
+-- the member
+abbrev pub authorities_read : NewCast → List AuthorityRows → Capacity → List AuthorityRows
+authorities_read new authorised Rep =
+    filter (λ (rows : AuthorityRows). same_name rows.authority.corporation new.member) authorised
+authorities_read new authorised other = []
+
+-- what a vote reads of the appointments that name the party: as a proxy, those of the member
+abbrev pub appointments_read : NewCast → List Appointment → Capacity → List Appointment
+appointments_read new received Proxy = filter (is_given_by new.member) received
+appointments_read new received other = []
+
+-- what a vote reads of the members who named the party: as a proxy, the member
+abbrev pub members_read : NewCast → List MemberRows → Capacity → List MemberRows
+members_read new members Proxy =
+    filter (λ (rows : MemberRows). same_name rows.member new.member) members
+members_read new members other = []
+
+-- of the rows of a party the appointments that it gave, and their endings
+abbrev pub given_read : OwnRows → OwnRows
+given_read rows = record (no_rows_of rows.party) { given = rows.given; ended = rows.ended }
+
+-- those of the rows from which what the answer to a request reads is made, and nothing in place of
+-- the others
+abbrev pub rows_read : PartyRequest → OwnRows → OwnRows
+rows_read Notice rows = no_rows_of rows.party
+rows_read Mine rows = rows
+rows_read (Appoint new) rows = given_read rows
+rows_read (End number) rows = given_read rows
+rows_read (Authorise person) rows = record (no_rows_of rows.party) { persons = rows.persons }
+rows_read Attend rows = record (no_rows_of rows.party) { present = rows.present }
+rows_read (Demand resolution) rows =
+    record rows { given = []; ended = []; persons = []; casts = [] }
+rows_read (Cast new) rows = record (no_rows_of rows.party) {
+  row = rows.row;
+  received = appointments_read new rows.received new.capacity;
+  members = members_read new rows.members new.capacity;
+  authorised = authorities_read new rows.authorised new.capacity;
+  casts = cast_on new.resolution rows.casts;
+}
+rows_read (Instructed resolution) rows = record (no_rows_of rows.party) {
+  received = rows.received;
+  members = rows.members;
+  casts = cast_on resolution rows.casts;
+}
+
+-- the polls for which the answer to a request reads what appointments govern: of a vote that on its
+-- resolution, and else all
+abbrev pub polls_read : PartyRequest → List Poll → List Poll
+polls_read (Cast new) polls = polls_on new.resolution polls
+polls_read (Instructed resolution) polls = polls_on resolution polls
+polls_read asked polls = polls

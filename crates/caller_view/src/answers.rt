@@ -16,7 +16,7 @@ use desk_words::{
 use proxy_rules::cutoffs;
 use std::alloc::{AllocError, Global};
 
-fn copy_row(row: &Option<RegisterRow>) -> Result<Option<RegisterRow>, AllocError>
+pub(crate) fn copy_row(row: &Option<RegisterRow>) -> Result<Option<RegisterRow>, AllocError>
     ensures { IfOk result (λ r. r ≡ row.now) }
 {
     match row {
@@ -50,7 +50,7 @@ fn copy_received(received: &Listing<Received>) -> Result<Listing<Received>, Allo
     received.clone()
 }
 
-fn copy_casts(casts: &Listing<CastMark>) -> Result<Listing<CastMark>, AllocError>
+pub(crate) fn copy_casts(casts: &Listing<CastMark>) -> Result<Listing<CastMark>, AllocError>
     ensures { IfOk result (λ l. l ≡ casts.now) }
 {
     casts.clone()
@@ -60,7 +60,7 @@ fn copy_casts(casts: &Listing<CastMark>) -> Result<Listing<CastMark>, AllocError
 pub(crate) fn cutoff_in(public: &PublicRecord, meeting: &Meeting, now: Moment) -> Moment
     ensures { result ≡ cutoff_in public.now meeting.now now }
 {
-    cutoffs(meeting, None, &public.closed, now).appointments
+    cutoffs(meeting, None, public.closed, now).appointments
 }
 
 /// What a party is told of its own things.
@@ -101,7 +101,7 @@ pub fn answer(
         (party_ruling public.now own.now now asked.now)) }
     ensures sure { refuses (party_ruling public.now own.now now asked.now) ≡ true → IsOk result }
 {
-    let Some(meeting) = &public.meeting else {
+    let Some(meeting) = public.meeting else {
         return Ok(refuse(Refusal::NoMeeting));
     };
     match asked {

@@ -8,14 +8,12 @@ ghost use Rattle.caller_view.specs.Appointments.{appoint_cases, appoint_ruling, 
 
 use crate::answers::cutoff_in;
 use crate::views::{OwnView, PublicRecord};
+use desk_words::limits::MOST_APPOINTMENTS;
 use desk_words::{
     Answer, Appointment, AppointmentReceipt, AppointmentUse, Ending, Entry, Given, Instr, Listing,
     Meeting, Moment, NewAppointment, Range, Refusal, Reply, refuse,
 };
 use std::alloc::AllocError;
-
-/// The most appointments of a party in a meeting.
-const MOST_APPOINTMENTS: usize = 256;
 
 /// What an appointment of a moment counts for, where the meeting has that cutoff.
 pub(crate) fn use_by(cutoff: Moment, moment: Moment) -> AppointmentUse
@@ -95,7 +93,7 @@ fn appointed(
 
 /// The answer to a party that appoints a proxy over some of its own shares (sections 324 and 324A):
 /// the first that holds of `BadRange`, `SelfNamed` where it names itself, `BadInstructions` where
-/// there is not one for each resolution, and `TooMany` where it gave 256 appointments in the
+/// there is not one for each resolution, and `TooMany` where it gave `MOST_APPOINTMENTS` in the
 /// meeting; and else `Appointed` with its next number, which enters the appointment. The register
 /// is not looked at. The error is want of memory; a refusal takes none.
 pub(crate) fn appoint(

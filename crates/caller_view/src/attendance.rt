@@ -6,13 +6,11 @@ ghost use Rattle.caller_view.specs.Attendance.{attend_ruling, authorise_cases, a
 
 use crate::rights::holds_as_individual;
 use crate::views::{OwnView, PublicRecord};
+use desk_words::limits::MOST_AUTHORITIES;
 use desk_words::{
     Answer, Authority, DemandMark, Entry, Meeting, Moment, Party, PresenceMark, Refusal, find_poll,
     noted, refuse,
 };
-
-/// The most authorities that a party gives in a meeting.
-const MOST_AUTHORITIES: usize = 64;
 
 /// Whether the party gave the person its authority already.
 fn gave_authority(own: &OwnView, person: Party) -> bool
@@ -35,8 +33,8 @@ fn authorise_refusal(own: &OwnView, person: Party) -> Option<Refusal>
 }
 
 /// The answer to a party that authorises a person to represent it (section 323): `SelfNamed` where
-/// it names itself, `TooMany` where it gave 64 authorities in the meeting and this is none of them,
-/// and else `Noted`, which enters the authority unless it stands already. The register is not
+/// it names itself, `TooMany` where it gave `MOST_AUTHORITIES` in the meeting and this is none of
+/// them, and else `Noted`, which enters the authority unless it stands already. The register is not
 /// looked at.
 pub(crate) fn authorise(own: &OwnView, now: Moment, person: Party) -> Answer<Entry>
     ensures { result ≡ settled (authorise_ruling own.now now person) }
@@ -118,7 +116,7 @@ fn demand_refusal(
     if !may_demand(own) {
         return Some(Refusal::NoRight);
     }
-    if find_poll(public.polls.as_slice(), resolution).is_some() {
+    if find_poll(public.polls, resolution).is_some() {
         return Some(Refusal::PollOrdered);
     }
     None

@@ -4,21 +4,19 @@ ghost use Rattle.desk_words.specs.Refusals.{first_refusal};
 ghost use Rattle.desk_words.specs.Rulings.{settled};
 ghost use Rattle.desk_words.specs.declared.change.Entry.TheVariants as entry;
 ghost use Rattle.desk_words.specs.declared.reply.Reply.TheVariants as reply;
-ghost use Rattle.caller_view.specs.Casts.{block_of, cast_cases, cast_of, cast_ruling, casts_on, has_cast_enough, instructed_cases, instructed_ruling, is_late_on};
+ghost use Rattle.caller_view.specs.Casts.{block_of, cast_cases, cast_of, cast_ruling, cast_count, has_cast_enough, instructed_cases, instructed_ruling, is_late_on};
 
 use crate::rights::{is_against, is_not_own, is_uninstructed, may_vote_for};
 use crate::views::{OwnView, PublicRecord};
+use desk_words::limits::MOST_CASTS;
 use desk_words::{
     Answer, Block, CastKind, CastMark, Entry, Meeting, Moment, NewCast, Range, Refusal, Reply,
     find_poll, refuse,
 };
 use proxy_rules::is_late_poll;
 
-/// The most votes of a party on one resolution of a meeting.
-const MOST_CASTS: usize = 1_024;
-
-fn casts_on(casts: &[CastMark], resolution: u64) -> usize
-    ensures { result ≡ casts_on casts.now resolution }
+fn cast_count(casts: &[CastMark], resolution: u64) -> usize
+    ensures { result ≡ cast_count casts.now resolution }
 {
     casts.iter().filter(|c| c.resolution == resolution).count()
 }
@@ -26,15 +24,15 @@ fn casts_on(casts: &[CastMark], resolution: u64) -> usize
 fn has_cast_enough(own: &OwnView, resolution: u64) -> bool
     ensures { result ≡ has_cast_enough own.now resolution }
 {
-    casts_on(own.casts.as_slice(), resolution) >= MOST_CASTS
+    cast_count(own.casts.as_slice(), resolution) >= MOST_CASTS
 }
 
 /// Whether the poll on the resolution is late, by the closed days as they stand.
 fn is_late_on(public: &PublicRecord, resolution: u64) -> bool
     ensures { result ≡ is_late_on public.now resolution }
 {
-    match find_poll(public.polls.as_slice(), resolution) {
-        Some(poll) => is_late_poll(&public.closed, &poll),
+    match find_poll(public.polls, resolution) {
+        Some(poll) => is_late_poll(public.closed, &poll),
         None => false,
     }
 }
@@ -62,7 +60,7 @@ fn cast_refusal(
     if !may_vote_for(own, new.member, new.capacity) {
         return Some(Refusal::NoRight);
     }
-    let Some(poll) = find_poll(public.polls.as_slice(), new.resolution) else {
+    let Some(poll) = find_poll(public.polls, new.resolution) else {
         return Some(Refusal::NoPoll);
     };
     if poll.started.is_none() {
@@ -117,13 +115,13 @@ fn recorded(cast: CastMark) -> Answer<Entry>
 }
 
 /// The answer to a vote that a party casts on some of a member's shares (sections 284, 322, 323 and
-/// 324): the first that holds of `NoResolution`, `BadRange`, `TooMany` where the party cast 1,024 votes
-/// on the resolution, `NoRegister`, `NoRight` where it votes as a member and the member is another or
-/// holds no shares as an individual, or as a representative and the member is no corporation of the
-/// register or did not authorise it, `NoPoll`, `PollNotOpen`, `PollClosed`, `NotYours` where a place is
-/// past the holding, or is none that it governs as a proxy for this poll, and `AgainstInstruction` where
-/// an appointment that governs some of the places instructs it otherwise (section 324A); and else
-/// `Recorded`, which enters the vote.
+/// 324): the first that holds of `NoResolution`, `BadRange`, `TooMany` where the party cast 1,024
+/// votes on the resolution, `NoRegister`, `NoRight` where it votes as a member and the member is
+/// another or holds no shares as an individual, or as a representative and the member is no
+/// corporation of the register or did not authorise it, `NoPoll`, `PollNotOpen`, `PollClosed`,
+/// `NotYours` where a place is past the holding, or is none that it governs as a proxy for this
+/// poll, and `AgainstInstruction` where an appointment that governs some of the places instructs it
+/// otherwise (section 324A); and else `Recorded`, which enters the vote.
 pub(crate) fn cast(
     public: &PublicRecord,
     meeting: &Meeting,
@@ -159,7 +157,7 @@ fn instructed_refusal(
     if !meeting.loaded {
         return Some(Refusal::NoRegister);
     }
-    let Some(poll) = find_poll(public.polls.as_slice(), resolution) else {
+    let Some(poll) = find_poll(public.polls, resolution) else {
         return Some(Refusal::NoPoll);
     };
     if poll.started.is_none() {
@@ -175,9 +173,9 @@ fn instructed_refusal(
 }
 
 /// The answer to what a proxy casts as instructed (section 324A): the first that holds of
-/// `NoResolution`, `TooMany` where the party cast 1,024 votes on the resolution, `NoRegister`, `NoPoll`,
-/// `PollNotOpen`, `PollClosed`, and `NotYours` where it governs no share for this poll with an
-/// instruction other than free; and else `Recorded`, which enters the vote.
+/// `NoResolution`, `TooMany` where the party cast 1,024 votes on the resolution, `NoRegister`,
+/// `NoPoll`, `PollNotOpen`, `PollClosed`, and `NotYours` where it governs no share for this poll
+/// with an instruction other than free; and else `Recorded`, which enters the vote.
 pub(crate) fn instructed(
     public: &PublicRecord,
     meeting: &Meeting,

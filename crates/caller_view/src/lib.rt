@@ -1,13 +1,19 @@
-//! A party's reply, from what it may see.
+//! What a party may see of a meeting, from rows, and its reply from that.
 #![tactic(auto)]
 
 mod answers;
 mod appointments;
 mod attendance;
 mod casts;
+mod given;
+mod governed;
 mod notices;
+mod own;
 mod rights;
+mod rows;
 mod views;
 
 pub use answers::answer;
+pub use own::{own_for, own_from};
+pub use rows::{AuthorityRows, MemberRows, OwnRows};
 pub use views::{OwnView, PublicRecord};

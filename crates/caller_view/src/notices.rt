@@ -53,8 +53,8 @@ fn poll_in(
     ensures { result ≡ option_map (noticed_poll meeting.now public.now.closed now kind)
         (poll_on public.now.polls number) }
 {
-    let poll = find_poll(public.polls.as_slice(), number)?;
-    Some(noticed_poll(meeting, &public.closed, now, kind, poll))
+    let poll = find_poll(public.polls, number)?;
+    Some(noticed_poll(meeting, public.closed, now, kind, poll))
 }
 
 fn noticed_resolution(
@@ -109,7 +109,7 @@ pub(crate) fn notice_in(
         kind: meeting.kind,
         given: meeting.given,
         appointed: meeting.appointed,
-        cutoff: cutoffs(meeting, None, &public.closed, now).appointments,
+        cutoff: cutoffs(meeting, None, public.closed, now).appointments,
         record_moment: meeting.record_moment,
         loaded: meeting.loaded,
         opened: meeting.opened,

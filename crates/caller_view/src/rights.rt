@@ -46,7 +46,8 @@ fn represented(authorised: &[Authorised], member: Party) -> u64
 
 /// What is governed for the late poll on a resolution.
 fn late_poll(polls: &[PollGoverned], resolution: u64) -> Option<&PollGoverned>
-    ensures { option_copied result ≡ find (λ (p : PollGoverned). p.resolution == resolution) polls.now }
+    ensures { option_copied result
+        ≡ find (λ (p : PollGoverned). p.resolution == resolution) polls.now }
 {
     polls.iter().find(|poll| poll.resolution == resolution)
 }
@@ -197,8 +198,8 @@ fn any_forbids(received: &[Received], late: bool, new: &NewCast) -> bool
     received.iter().any(|r| forbids(r, late, new))
 }
 
-/// Whether a vote is cast as proxy against an instruction of an appointment that governs some of the
-/// places.
+/// Whether a vote is cast as proxy against an instruction of an appointment that governs some of
+/// the places.
 pub(crate) fn is_against(own: &OwnView, late: bool, new: &NewCast, capacity: Capacity) -> bool
     ensures { result ≡ is_against own.now late new.now capacity }
 {

@@ -1,19 +1,65 @@
 //! What a party may see.
+ghost use Rattle.std.specs.Prelude.{◌≡◌};
+ghost use Rattle.std.specs.Option.{option_copied};
+
 use desk_words::{
     Authorised, Authority, CastMark, DemandMark, Given, Listing, Meeting, Party, Poll, Received,
     RegisterRow,
 };
 use office_days::Closed;
+use std::marker::Model;
 
 /// What everyone may know of a meeting: the closed days (section 1173), and, where the meeting
 /// exists, its notice and resolutions, whether a register is loaded, the opening, and its polls
-/// with what is declared of them.
+/// with what is declared of them. It is lent by what keeps these.
 #[derive(Drop)]
-pub struct PublicRecord {
-    pub closed: Closed,
-    pub meeting: Option<Meeting>,
-    /// In the order of resolutions.
-    pub polls: Listing<Poll>,
+pub struct PublicRecord<'a> {
+    pub(crate) closed: &'a Closed,
+    pub(crate) meeting: Option<&'a Meeting>,
+    pub(crate) polls: &'a [Poll],
+}
+
+impl<'a> Model for PublicRecord<'a> {
+    ghost use Rattle.std.specs.Option.{option_copied};
+    ghost use Rattle.caller_view.specs.Public.{PublicRecord};
+
+    ghost Value = { PublicRecord };
+
+    ghost view = { λ r. record { closed = r.closed.now; meeting = option_copied r.meeting; polls = r.polls.now } };
+}
+
+impl<'a> PublicRecord<'a> {
+    /// The record of these closed days, of a meeting, or of none, and of its polls in the order of
+    /// resolutions.
+    pub fn new(
+        closed: &'a Closed,
+        meeting: Option<&'a Meeting>,
+        polls: &'a [Poll],
+    ) -> PublicRecord<'a>
+        ensures { result
+            ≡ record
+            { closed = closed.now; meeting = option_copied meeting.entry; polls = polls.now } }
+    {
+        PublicRecord {
+            closed,
+            meeting,
+            polls,
+        }
+    }
+
+    /// The meeting, if there is one of the name that was asked for.
+    pub fn meeting(&self) -> Option<&'a Meeting>
+        ensures { option_copied result ≡ self.now.meeting }
+    {
+        self.meeting
+    }
+
+    /// Its polls, in the order of resolutions.
+    pub fn polls(&self) -> &'a [Poll]
+        ensures { result.now ≡ self.now.polls }
+    {
+        self.polls
+    }
 }
 
 /// What a party may know of itself in a meeting. Lists are in order of receipt.

@@ -3,8 +3,9 @@ use Rattle.std.proofs.Common.{◌≡◌, Bool, true, false, ◌&&◌, ◌||◌, 
 use Rattle.std.specs.Prelude.{Some, find, reverse}
 use Rattle.std.specs.List.{list_all, list_any}
 use Rattle.std.proofs.lemmas.List.{reverse-append}
-use Rattle.desk_lists.proofs.Truth.{either_second}
-use Rattle.share_blocks.proofs.Choices.{first_of, second_of, neither_first, neither_second, neither_of, or-true}
+use Rattle.std.proofs.Math.Bool.{or-true}
+use Rattle.std.proofs.lemmas.Bool.{or_right}
+use Rattle.std.specs.Cmp.{first_so, second_so}
 use Rattle.meeting_laws.proofs.NumberLemmas.{In}
 
 -- ---- choices
@@ -14,13 +15,6 @@ pub or_turned : (a b c d : Bool) → ((a || b) || (c || d)) ≡ ((a || c) || (b 
 or_turned true b c d = refl
 or_turned false true c d = sym (or-true c)
 or_turned false false c d = refl
-
--- of two conditions either may stand first
-pub and_turned : (a b : Bool) → (a && b) ≡ (b && a)
-and_turned true true = refl
-and_turned true false = refl
-and_turned false true = refl
-and_turned false false = refl
 
 -- ---- tests of all values
 
@@ -52,16 +46,8 @@ pub any-alike : {X : Type 0} (kept p q : X → Bool) (xs : List X) → list_all 
     → list_any p xs ≡ list_any q xs
 any-alike kept p q [] all alike = refl
 any-alike kept p q (x ∷ xs) all alike =
-    ap (λ b. b || list_any p xs) (alike x (first_of (kept x) (list_all kept xs) all))
-    ∙ ap (λ b. q x || b) (any-alike kept p q xs (second_of (kept x) (list_all kept xs) all) alike)
-
--- where no value passes, none passes a narrower test
-pub none-narrower : {X : Type 0} (wide narrow : X → Bool) (xs : List X) → ((x : X) → wide x ≡ false → narrow x ≡ false)
-    → list_any wide xs ≡ false → list_any narrow xs ≡ false
-none-narrower wide narrow [] narrower none = refl
-none-narrower wide narrow (x ∷ xs) narrower none =
-    neither_of (narrow x) (list_any narrow xs) (narrower x (neither_first (wide x) (list_any wide xs) none))
-    (none-narrower wide narrow xs narrower (neither_second (wide x) (list_any wide xs) none))
+    ap (λ b. b || list_any p xs) (alike x (first_so (kept x) (list_all kept xs) all))
+    ∙ ap (λ b. q x || b) (any-alike kept p q xs (second_so (kept x) (list_all kept xs) all) alike)
 
 -- ---- the value that passes
 
@@ -70,7 +56,7 @@ pub any-In : {X : Type 0} (p : X → Bool) (xs : List X) (x : X) → In x xs →
 any-In p [] x here passes = absurd here
 any-In p (y ∷ ys) x here passes = elim here [
   | inl same ↦ ap (λ b. b || list_any p ys) (ap p same ∙ passes)
-  | inr later ↦ either_second (p y) (list_any p ys) (any-In p ys x later passes)
+  | inr later ↦ or_right (p y) (list_any p ys) (any-In p ys x later passes)
 ]
 
 -- where some value passes, it is in the list

@@ -4,7 +4,10 @@ use Rattle.std.specs.Prelude.{nat_le, nat_lt, Option, Some, None, is_some}
 use Rattle.std.specs.List.{list_all, list_any, flat_map}
 use Rattle.std.specs.Option.{option_map_or}
 use Rattle.std.proofs.lemmas.List.Concat.{flat_map-cons}
-use Rattle.desk_lists.proofs.Truth.{either_second}
+use Rattle.desk_lists.proofs.Kept.{any-filter}
+use Rattle.std.proofs.Math.Bool.{and_comm}
+use Rattle.std.proofs.lemmas.Bool.{leb-true, lt-ltb, or_right}
+use Rattle.std.specs.Cmp.{first_so, second_so}
 use Rattle.desk_terms.specs.Names.{same_name}
 use Rattle.desk_terms.specs.declared.kinds.Capacity.{Capacity}
 use Rattle.desk_terms.specs.declared.kinds.Capacity.TheVariants.{Member, Rep, Proxy}
@@ -19,23 +22,29 @@ use Rattle.desk_words.specs.declared.records.Authority.{Authority}
 use Rattle.desk_words.specs.declared.records.RegisterRow.{RegisterRow}
 use Rattle.desk_words.specs.declared.own.Authorised.{Authorised}
 use Rattle.desk_words.specs.declared.own.Received.{Received}
-use Rattle.proxy_rules.specs.Cutoffs.{meeting_cutoffs}
+use Rattle.proxy_rules.specs.Cutoffs.{cutoffs_of}
 use Rattle.proxy_rules.specs.Governing.{governed_in, governs}
-use Rattle.proxy_rules.specs.Holdings.{holding_by, holding_of, holding_with}
-use Rattle.proxy_rules.specs.Shares.{are_rows, is_corporation, is_individual, shares_of, shares_by}
+use Rattle.proxy_rules.specs.Holdings.{are_tags, holding_by, holding_of, holding_with, is_kept}
+use Rattle.proxy_rules.specs.Shares.{are_rows, is_corporation, is_individual, row_of, shares_of, shares_by}
+use Rattle.proxy_rules.specs.Parties.{authorises, names}
 use Rattle.proxy_rules.specs.declared.papers.Cutoffs.{Cutoffs}
-use Rattle.proxy_rules.proofs.ListLemmas.{any-kept}
+use Rattle.proxy_rules.proofs.KeptLemmas.{kept_of}
+use Rattle.desk_lists.proofs.Kept.{any-filter}
 use Rattle.proxy_rules.proofs.NameLemmas.{same_name-sym}
-use Rattle.share_blocks.proofs.Choices.{first_of, second_of, lt_true, le_is}
+use Rattle.proxy_rules.proofs.TagLemmas.{are_tags-appointments}
 use Rattle.poll_rules.specs.Quorum.{qualifies}
 use Rattle.poll_rules.specs.Roles.{has_authority, is_proxy_in, role_if, roles_by, roles_of}
 use Rattle.poll_rules.specs.declared.roles.Role.{Role}
 use Rattle.poll_rules.proofs.GatherLemmas.{list_any-map}
 use Rattle.caller_view.specs.Attendance.{governs_any, may_demand}
 use Rattle.caller_view.specs.Rights.{holds_as_individual, no_runs}
-use Rattle.caller_view.specs.Views.{authorised_by, own_in, received_in, row_of, shares_if, shares_in}
-use Rattle.meeting_laws.proofs.AnyLemmas.{and_turned, any-alike, any-and, any-either, any-turned}
+use Rattle.caller_view.specs.Own.{authorised_by, governed_by, received_by, shares_if, shares_in}
+use Rattle.caller_view.specs.Rows.{authority_in, givers, member_in}
+use Rattle.caller_view.specs.Views.{own_in}
+use Rattle.caller_view.specs.declared.rows.AuthorityRows.{AuthorityRows}
+use Rattle.meeting_laws.proofs.AnyLemmas.{any-alike, any-and, any-either, any-turned}
 use Rattle.meeting_laws.proofs.MemberRows.{row_of-any, rows_differ, rows_held}
+use Rattle.meeting_laws.proofs.GovernedLemmas.{any-among, governed-by_member, kept-is}
 use Rattle.meeting_laws.proofs.PlaceLemmas.{runs_that-some, some_place, some_place-and, some_place-any}
 use Rattle.meeting_laws.proofs.ProxyLemmas.{governing-named}
 
@@ -87,7 +96,7 @@ as_member : (rows : List RegisterRow) (party : List ℕ) → are_rows rows ≡ t
 as_member rows party h =
     individual-if (row_of rows party)
     ∙ row_of-any (λ row. is_individual row.kind) rows party (rows_differ rows h)
-    ∙ ap (λ test. list_any test rows) (λ i row. and_turned (same_name row.member party) (is_individual row.kind) i)
+    ∙ ap (λ test. list_any test rows) (λ i row. and_comm (same_name row.member party) (is_individual row.kind) i)
 
 -- ---- as a representative
 
@@ -98,7 +107,7 @@ corporation-if (Some row) = refl
 
 -- a holding is of at least one share
 some_shares : (kind : HolderKind) (shares : ℕ) → nat_le 1 shares ≡ true → nat_lt 0 (shares_if kind shares) ≡ is_corporation kind
-some_shares Corporation shares some = lt_true 0 shares (le_is 1 shares some)
+some_shares Corporation shares some = lt-ltb 0 shares (leb-true 1 shares some)
 some_shares Individual shares some = refl
 some_shares Treasury shares some = refl
 
@@ -106,7 +115,7 @@ some_shares Treasury shares some = refl
 holding_some : (row : RegisterRow) → is_holding row ≡ true → nat_le 1 row.shares ≡ true
 holding_some row h =
     let few = nat_le row.shares 1000000000000 in
-    first_of (nat_le 1 row.shares) few (first_of (nat_le 1 row.shares && few) (nat_le row.paid 1000000) h)
+    first_so (nat_le 1 row.shares) few (first_so (nat_le 1 row.shares && few) (nat_le row.paid 1000000) h)
 
 -- the corporation of that name holds the row
 abbrev is_row_of : List ℕ → RegisterRow → Bool
@@ -125,14 +134,10 @@ in_register rows corporation h =
 
 -- three conditions, with the last first
 and_moved : (names same is : Bool) → (names && (same && is)) ≡ (is && (same && names))
-and_moved true true is = and_turned true is
-and_moved true false is = and_turned false is
-and_moved false true is = sym (and_turned is false)
-and_moved false false is = sym (and_turned is false)
-
--- the authority names the person
-abbrev authorises : List ℕ → Authority → Bool
-authorises person a = same_name a.person person
+and_moved true true is = and_comm true is
+and_moved true false is = and_comm false is
+and_moved false true is = sym (and_comm is false)
+and_moved false false is = sym (and_comm is false)
 
 -- an authority that names the person is of the corporation that holds the row
 acts-any : (authorities : List Authority) (person : List ℕ) (row : RegisterRow)
@@ -145,12 +150,15 @@ acts-any authorities person row =
     (λ i (a : Authority). same_name-sym row.member a.corporation i && authorises person a)
 
 -- a party has an authority of a corporation in the register exactly where some row makes it a representative
-as_representative : (rows : List RegisterRow) (authorities : List Authority) (party : List ℕ) → are_rows rows ≡ true
-    → list_any (λ (a : Authorised). nat_lt 0 a.shares) (map (authorised_by rows) (filter (authorises party) authorities))
-    ≡ list_any (acts_for_row authorities party) rows
-as_representative rows authorities party h =
-    list_any-map (λ (a : Authorised). nat_lt 0 a.shares) (authorised_by rows) (filter (authorises party) authorities)
-    ∙ any-kept (λ (a : Authority). nat_lt 0 (shares_in (row_of rows a.corporation))) (authorises party) authorities
+as_representative : (m : MeetingLists) (party : List ℕ) → are_rows m.register ≡ true
+    → list_any (λ (a : Authorised). nat_lt 0 a.shares) (map authorised_by (map (authority_in m) (filter (authorises party) m.authorities)))
+    ≡ list_any (acts_for_row m.authorities party) m.register
+as_representative m party h =
+    let rows = m.register in
+    let authorities = m.authorities in
+    list_any-map (λ (a : Authorised). nat_lt 0 a.shares) authorised_by (map (authority_in m) (filter (authorises party) authorities))
+    ∙ list_any-map (λ (a : AuthorityRows). nat_lt 0 (shares_in a.row)) (authority_in m) (filter (authorises party) authorities)
+    ∙ any-filter (λ (a : Authority). nat_lt 0 (shares_in (row_of rows a.corporation))) (authorises party) authorities
     ∙ ap (λ test. list_any test authorities)
     (λ i (a : Authority).
     (ap (λ b. authorises party a && b) (in_register rows a.corporation h)
@@ -159,10 +167,6 @@ as_representative rows authorities party h =
     ∙ ap (λ test. list_any test rows) (λ i row. acts-any authorities party row i)
 
 -- ---- as a proxy
-
--- the appointment names the person
-abbrev names : List ℕ → Appointment → Bool
-names person a = same_name a.proxy person
 
 module _ (cutoffs : Cutoffs) (m : MeetingLists) (party : List ℕ) where
   -- the party governs at least one share of the row
@@ -233,47 +237,58 @@ module _ (cutoffs : Cutoffs) (m : MeetingLists) (party : List ℕ) where
       ∙ any-either (λ row. holds_row party row || acts_for_row m.authorities party row) proxy_for_row m.register
       ∙ ap (λ b. b || list_any proxy_for_row m.register) (any-either (holds_row party) (acts_for_row m.authorities party) m.register)
 
--- whether a party governs shares, by its own things, is whether some appointment that names it does
-own_governs : (m : MeetingLists) (closed party : List ℕ) (now : ℕ) → governs_any (own_in m closed party now)
-    ≡ list_any (λ a. names party a && governs_some (meeting_cutoffs m.meeting closed now) m party a) m.appointments
-own_governs m closed party now =
-    list_any-map (λ (r : Received). not (no_runs r.governs)) (received_in m closed now) (filter (names party) m.appointments)
-    ∙ any-kept (governs_some (meeting_cutoffs m.meeting closed now) m party) (names party) m.appointments
-
 -- ---- a meeting's lists
 
 -- rows that stand where a register is loaded are a register, or none
 register_if : (loaded : Bool) (rows : List RegisterRow) → cond loaded (is_register rows) (no_rows rows) ≡ true → are_rows rows ≡ true
-register_if true rows h = either_second (no_rows rows) (is_register rows) h
+register_if true rows h = or_right (no_rows rows) (is_register rows) h
 register_if false rows h = ap (λ b. b || is_register rows) h
 
 -- what of a meeting's lists the right rests on
 record Facts (m : MeetingLists) : Type 0 where
   pub rows : are_rows m.register ≡ true
   pub numbered : are_numbered_after [] m.appointments ≡ true
+  pub tags : are_tags m.appointments ≡ true
 
 -- they are among the second and the third of the nine conditions of a meeting
 facts : (m : MeetingLists) → is_meeting m ≡ true → Facts m
 facts m h =
     let resolutions = length m.meeting.resolutions in
-    let three = first_of _ _ (first_of _ _ (first_of _ _ (first_of _ _ (first_of _ _ (first_of _ _ h))))) in
-    let loaded = second_of (are_resolutions m.meeting.resolutions) (is_loaded_right m) (first_of _ _ three) in
+    let three = first_so _ _ (first_so _ _ (first_so _ _ (first_so _ _ (first_so _ _ (first_so _ _ h))))) in
+    let loaded = second_so (are_resolutions m.meeting.resolutions) (is_loaded_right m) (first_so _ _ three) in
     let rows = cond m.meeting.loaded (is_register m.register) (no_rows m.register) in
-    let stand = first_of rows (implies (is_some m.meeting.opened) m.meeting.loaded) loaded in
-    let given = second_of _ _ three in
+    let stand = first_so rows (implies (is_some m.meeting.opened) m.meeting.loaded) loaded in
+    let given = second_so _ _ three in
     record {
       rows = register_if m.meeting.loaded m.register stand;
-      numbered = first_of (are_numbered_after [] m.appointments) (list_all (is_appointment resolutions) m.appointments) given;
+      numbered = first_so (are_numbered_after [] m.appointments) (list_all (is_appointment resolutions) m.appointments) given;
+      tags = are_tags-appointments resolutions m.appointments given;
     }
+
+-- what is kept of a member in a meeting is such as an office keeps
+kept_in : (m : MeetingLists) (member : List ℕ) → Facts m → is_kept (holding_of m.register m.appointments m.endings member) ≡ true
+kept_in m member f = kept-is (holding_of m.register m.appointments m.endings member) (kept_of m.register m.appointments m.endings member f.rows f.numbered f.tags)
+
+-- whether a party governs shares, by its own things, is whether some appointment that names it does
+own_governs : (m : MeetingLists) (closed party : List ℕ) (now : ℕ) → Facts m → governs_any (own_in m closed party now)
+    ≡ list_any (λ a. names party a && governs_some (cutoffs_of m.meeting None closed now) m party a) m.appointments
+own_governs m closed party now f =
+    let cutoffs = cutoffs_of m.meeting None closed now in
+    let received = filter (names party) m.appointments in
+    let members = map (member_in m) (givers received) in
+    list_any-map (λ (r : Received). not (no_runs r.governs)) (received_by members closed m.meeting m.polls now) received
+    ∙ any-among (λ a. not (no_runs (governed_by members cutoffs a.member a.number))) (governs_some cutoffs m party) received
+    (λ a among. ap (λ runs. not (no_runs runs)) (governed-by_member m cutoffs received a.member a.number (kept_in m a.member f) among))
+    ∙ any-filter (governs_some cutoffs m party) (names party) m.appointments
 
 -- a party may demand a poll exactly where it has a capacity
 pub may_demand-qualifies : (m : MeetingLists) (closed party : List ℕ) (now : ℕ) → is_meeting m ≡ true
     → may_demand (own_in m closed party now)
-    ≡ qualifies (roles_of (meeting_cutoffs m.meeting closed now) m.register m.appointments m.endings m.authorities party)
+    ≡ qualifies (roles_of (cutoffs_of m.meeting None closed now) m.register m.appointments m.endings m.authorities party)
 may_demand-qualifies m closed party now h =
     let f = facts m h in
-    let cutoffs = meeting_cutoffs m.meeting closed now in
+    let cutoffs = cutoffs_of m.meeting None closed now in
     let member = as_member m.register party f.rows in
-    let representative = as_representative m.register m.authorities party f.rows in
-    let proxy = own_governs m closed party now ∙ as_proxy cutoffs m party f.rows f.numbered in
+    let representative = as_representative m party f.rows in
+    let proxy = own_governs m closed party now f ∙ as_proxy cutoffs m party f.rows f.numbered in
     (λ i. member i || representative i || proxy i) ∙ sym (by_capacity cutoffs m party)

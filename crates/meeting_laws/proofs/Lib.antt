@@ -1,5 +1,6 @@
 mod AnyLemmas
 mod CapacityLemmas
+mod GovernedLemmas
 mod MemberRows
 mod NumberLemmas
 mod PlaceLemmas

@@ -5,19 +5,23 @@ use Rattle.std.specs.Cmp.Lexicographic.{texts_ties}
 use Rattle.std.specs.List.{list_all, list_any}
 use Rattle.std.specs.Option.{option_map_or}
 use Rattle.std.proofs.lemmas.Cmp.{nat_list_cmp_total}
+use Rattle.desk_lists.proofs.Kept.{none-narrower}
+use Rattle.std.proofs.Math.Bool.{or-false}
+use Rattle.std.proofs.lemmas.Bool.{not-true}
+use Rattle.std.specs.Cmp.{first_so, second_so}
 use Rattle.desk_lists.proofs.Ascending.{differs-from_ascends_by}
-use Rattle.desk_lists.proofs.Truth.{not_true}
 use Rattle.desk_lists.specs.Ordered.{ascends_by, differ_by}
 use Rattle.desk_terms.specs.Names.{same_name}
 use Rattle.desk_words.proofs.RowLemmas.{same_name-true, same_name-refl}
 use Rattle.desk_words.specs.Registers.{all_shares, is_holding, keep_limits, member_before, same_member}
 use Rattle.desk_words.specs.declared.records.RegisterRow.{RegisterRow}
-use Rattle.desk_words.specs.declared.register.TheConstants.{MOST_SHARES}
-use Rattle.proxy_rules.specs.Shares.{are_rows}
-use Rattle.share_blocks.proofs.Choices.{first_of, second_of, or-false}
-use Rattle.caller_view.specs.Views.{row_of}
-use Rattle.meeting_laws.proofs.AnyLemmas.{none-narrower}
-use Rattle.meeting_views.proofs.MeetingLemmas.{rows_ascend}
+use Rattle.desk_words.specs.declared.limits.TheConstants.{MOST_SHARES}
+use Rattle.proxy_rules.specs.Shares.{are_rows, row_of}
+
+-- the rows of a meeting are in the order of members
+rows_ascend : (rows : List RegisterRow) → are_rows rows ≡ true → ascends_by member_before rows ≡ true
+rows_ascend [] h = refl
+rows_ascend (row ∷ rows) h = second_so (keep_limits (row ∷ rows)) (ascends_by member_before (row ∷ rows)) h
 
 -- the rows of a meeting are of different members
 pub rows_differ : (rows : List RegisterRow) → are_rows rows ≡ true → differ_by same_member rows ≡ true
@@ -29,8 +33,8 @@ rows_held [] h = refl
 rows_held (row ∷ rows) h =
     let all = row ∷ rows in
     let few = nat_le 1 (length all) && nat_le (length all) 20000 in
-    let limits = first_of (keep_limits all) (ascends_by member_before all) h in
-    second_of few (list_all is_holding all) (first_of (few && list_all is_holding all) (nat_le (all_shares all) MOST_SHARES) limits)
+    let limits = first_so (keep_limits all) (ascends_by member_before all) h in
+    second_so few (list_all is_holding all) (first_so (few && list_all is_holding all) (nat_le (all_shares all) MOST_SHARES) limits)
 
 -- a row is of no member that is not its own
 other_member : (row other : RegisterRow) (member : List ℕ) (b : Bool) → row.member ≡ member → same_member row other ≡ false
@@ -51,8 +55,8 @@ row_of-any test [] member differ = refl
 row_of-any test (row ∷ rows) member differ =
     let of_member : RegisterRow → Bool = λ other. same_name other.member member && test other in
     let again = list_any (same_member row) rows in
-    let alone = not_true again (first_of (not again) (differ_by same_member rows) differ) in
-    let later = second_of (not again) (differ_by same_member rows) differ in
+    let alone = not-true again (first_so (not again) (differ_by same_member rows) differ) in
+    let later = second_so (not again) (differ_by same_member rows) differ in
     (elim (same_name row.member member) as (λ b. same_name row.member member ≡ b
     → option_map_or test (cond b (Some row) (row_of rows member)) false ≡ ((b && test row) || list_any of_member rows)) [
       | true ↦ λ e.

@@ -2,9 +2,10 @@
 use Rattle.std.proofs.Common.{◌≡◌, ℕ, zero, suc, ◌+◌, Bool, true, false, not, ◌&&◌, ◌||◌, cond, List, [], ◌∷◌, refl, sym, ap, ◌∙◌, arith, add-zero}
 use Rattle.std.specs.Prelude.{nat_lt, ◌==◌}
 use Rattle.std.specs.List.{list_any}
+use Rattle.std.proofs.Math.Bool.{or-false, or-true}
+use Rattle.std.proofs.lemmas.Bool.{lt-ltb}
 use Rattle.desk_terms.specs.Places.{Places, places_that}
 use Rattle.proxy_rules.specs.Runs.{joined, runs_that}
-use Rattle.share_blocks.proofs.Choices.{lt_true, or-true, or-false}
 use Rattle.caller_view.specs.Rights.{no_runs}
 use Rattle.meeting_laws.proofs.AnyLemmas.{any-none, any-either}
 
@@ -14,7 +15,7 @@ some_place test n = nat_lt 0 (places_that test n)
 
 -- some place of 1 to n + 1 passes where one before it does, or itself
 last_too : (count : ℕ) (b : Bool) → nat_lt 0 (count + cond b 1 0) ≡ (nat_lt 0 count || b)
-last_too count true = lt_true 0 (count + 1) (omega arith) ∙ sym (or-true (nat_lt 0 count))
+last_too count true = lt-ltb 0 (count + 1) (omega arith) ∙ sym (or-true (nat_lt 0 count))
 last_too count false = ap (nat_lt 0) (add-zero count) ∙ sym (or-false (nat_lt 0 count))
 
 -- a test that nothing passes

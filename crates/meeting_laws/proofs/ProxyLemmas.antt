@@ -1,9 +1,11 @@
 -- Whom an appointment that governs a place names.
 use Rattle.std.proofs.Common.{◌≡◌, ℕ, suc, ◌<◌, Bool, true, false, ◌&&◌, cond, List, [], ◌∷◌, filter, refl, sym, ap, ◌∙◌, arith, inl, inr}
 use Rattle.std.specs.Prelude.{◌==◌, Option, Some, None, reverse, option_and_then}
-use Rattle.std.specs.Cmp.{both_ways}
+use Rattle.std.specs.Cmp.{both_ways, first_so, second_so}
 use Rattle.std.specs.List.{list_any}
 use Rattle.std.specs.Option.{option_map_or}
+use Rattle.std.proofs.Math.Bool.{and-false}
+use Rattle.std.proofs.lemmas.Bool.{and_from, eq-eqb, eqb-true}
 use Rattle.desk_terms.specs.Names.{same_name}
 use Rattle.desk_words.proofs.RowLemmas.{same_name-true}
 use Rattle.desk_words.specs.Office.{are_numbered_after}
@@ -14,7 +16,6 @@ use Rattle.proxy_rules.specs.Holdings.{are_numbered_from, holding_with, is_given
 use Rattle.proxy_rules.specs.declared.papers.Cutoffs.{Cutoffs}
 use Rattle.proxy_rules.proofs.KeptLemmas.{numbered_from-own}
 use Rattle.proxy_rules.proofs.NameLemmas.{same_name-sym}
-use Rattle.share_blocks.proofs.Choices.{first_of, second_of, both_of, and-false, same_is, same_true}
 use Rattle.poll_rules.specs.Roles.{is_proxy_at}
 use Rattle.meeting_laws.proofs.AnyLemmas.{any-none, any-In, In-any, In-find, In-reverse}
 use Rattle.meeting_laws.proofs.NumberLemmas.{In, In-filter, Kept, filter-In}
@@ -25,10 +26,10 @@ use Rattle.meeting_laws.proofs.NumberLemmas.{In, In-filter, Kept, filter-In}
 above-n : (n : ℕ) (xs : List Appointment) (a : Appointment) → are_numbered_from n xs ≡ true → In a xs → n < a.number
 above-n n [] a numbered here = absurd here
 above-n n (x ∷ xs) a numbered here =
-    let first = same_is x.number (suc n) (first_of (x.number == suc n) (are_numbered_from (suc n) xs) numbered) in
+    let first = eqb-true x.number (suc n) (first_so (x.number == suc n) (are_numbered_from (suc n) xs) numbered) in
     elim here [
       | inl same ↦ omega (arith, first, ap (λ (b : Appointment). b.number) same)
-      | inr later ↦ omega (arith, above-n (suc n) xs a (second_of (x.number == suc n) (are_numbered_from (suc n) xs) numbered) later)
+      | inr later ↦ omega (arith, above-n (suc n) xs a (second_so (x.number == suc n) (are_numbered_from (suc n) xs) numbered) later)
     ]
 
 -- of appointments that are numbered on, two of one number are the same
@@ -36,8 +37,8 @@ one_of_number : (n : ℕ) (xs : List Appointment) (a b : Appointment) → are_nu
     → a.number ≡ b.number → a ≡ b
 one_of_number n [] a b numbered here there same = absurd here
 one_of_number n (x ∷ xs) a b numbered here there same =
-    let first = same_is x.number (suc n) (first_of (x.number == suc n) (are_numbered_from (suc n) xs) numbered) in
-    let rest = second_of (x.number == suc n) (are_numbered_from (suc n) xs) numbered in
+    let first = eqb-true x.number (suc n) (first_so (x.number == suc n) (are_numbered_from (suc n) xs) numbered) in
+    let rest = second_so (x.number == suc n) (are_numbered_from (suc n) xs) numbered in
     elim here [
       | inl is_a ↦ (elim there [
         | inl is_b ↦ sym is_a ∙ is_b
@@ -106,17 +107,17 @@ found-named given person member (Some b) numbered each =
     let found = In-any (is_found person member (Some b)) given some in
     let a = found.0 in
     let passes = found.1.1 in
-    let names = first_of (same_name a.proxy person) (same_name member a.member && b.number == a.number) passes in
-    let rest = second_of (same_name a.proxy person) (same_name member a.member && b.number == a.number) passes in
-    let of_member = same_name-sym a.member member ∙ first_of (same_name member a.member) (b.number == a.number) rest in
-    let number = same_is b.number a.number (second_of (same_name member a.member) (b.number == a.number) rest) in
+    let names = first_so (same_name a.proxy person) (same_name member a.member && b.number == a.number) passes in
+    let rest = second_so (same_name a.proxy person) (same_name member a.member && b.number == a.number) passes in
+    let of_member = same_name-sym a.member member ∙ first_so (same_name member a.member) (b.number == a.number) rest in
+    let number = eqb-true b.number a.number (second_so (same_name member a.member) (b.number == a.number) rest) in
     let same = same_appointment given b a member numbered own.here found.1.0 own.passes of_member number in
     ap (λ (c : Appointment). same_name c.proxy person) same ∙ names)
     (λ names.
     let of_member = same_name-sym member b.member ∙ own.passes in
     any-In (is_found person member (Some b)) given b own.here
-    (both_of (same_name b.proxy person) (same_name member b.member && b.number == b.number) names
-    (both_of (same_name member b.member) (b.number == b.number) of_member (same_true b.number b.number refl))))
+    (and_from (same_name b.proxy person) (same_name member b.member && b.number == b.number) names
+    (and_from (same_name member b.member) (b.number == b.number) of_member (eq-eqb b.number b.number refl))))
 
 module _ (cutoffs : Cutoffs) (shares : ℕ) (given : List Appointment) (ended : List Ending) (member : List ℕ) where
   -- what an appointment of the member governs may be asked of the member

@@ -6,7 +6,7 @@ use Rattle.desk_words.specs.declared.records.CastMark.{CastMark}
 use Rattle.desk_words.specs.declared.request.OfficeRequest.{OfficeRequest}
 use Rattle.desk_words.specs.declared.request.OfficeRequest.TheVariants.{Declare}
 use Rattle.office_answers.specs.Answers.{ruling_in}
-use Rattle.caller_view.specs.declared.views.PublicRecord.{PublicRecord}
+use Rattle.caller_view.specs.Views.{public_in}
 
 -- the votes on other resolutions
 abbrev pub casts_off : Number → List CastMark → List CastMark
@@ -21,17 +21,18 @@ declares resolution other = false
 abbrev pub with_casts : List CastMark → MeetingLists → MeetingLists
 with_casts casts m = record m { casts = casts }
 
--- what is public of a meeting
-abbrev pub record_in : List Day → MeetingLists → PublicRecord
-record_in closed m = record { closed = closed; meeting = Some m.meeting; polls = m.polls }
-
--- whatever the office asks in a meeting, but the declaration of a resolution, is decided alike whatever the votes on that resolution are
+-- whatever the office asks in a meeting, but the declaration of a resolution, is decided alike
+-- whatever the votes on that resolution are
 abbrev pub TheOfficeIsToldOfNoVotes : Type 0
 TheOfficeIsToldOfNoVotes =
-    (m : MeetingLists) (casts : List CastMark) (resolution : Number) (closed : List Day) (now : Moment) (asked : OfficeRequest)
-    → casts_off resolution casts ≡ casts_off resolution m.casts → declares resolution asked ≡ false
+    (m : MeetingLists) (casts : List CastMark) (resolution : Number) (closed : List Day)
+    (now : Moment) (asked : OfficeRequest)
+    → casts_off resolution casts ≡ casts_off resolution m.casts
+    → declares resolution asked ≡ false
     → ruling_in closed now asked (with_casts casts m) ≡ ruling_in closed now asked m
 
 -- and votes stand in no public record
 abbrev pub VotesAreNotPublic : Type 0
-VotesAreNotPublic = (m : MeetingLists) (casts : List CastMark) (closed : List Day) → record_in closed (with_casts casts m) ≡ record_in closed m
+VotesAreNotPublic =
+    (m : MeetingLists) (casts : List CastMark) (closed : List Day)
+    → public_in (Some (with_casts casts m)) closed ≡ public_in (Some m) closed

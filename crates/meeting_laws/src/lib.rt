@@ -12,8 +12,8 @@ pub fn demands_by_capacity()
     ensures { DemandsByCapacity }
 {}
 
-/// Whatever the office asks in a meeting but the declaration of a resolution is decided alike whatever
-/// the votes on that resolution are, and votes stand in no public record.
+/// Whatever the office asks in a meeting but the declaration of a resolution is decided alike
+/// whatever the votes on that resolution are, and votes stand in no public record.
 pub fn votes_are_secret()
     ensures office { TheOfficeIsToldOfNoVotes }
     ensures public { VotesAreNotPublic }

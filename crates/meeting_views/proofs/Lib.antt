@@ -1,3 +1,1 @@
-pub mod GovernedLemmas
-pub mod MeetingLemmas
-pub mod VoteLemmas
+pub mod MemberLemmas

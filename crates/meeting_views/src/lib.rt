@@ -1,15 +1,10 @@
-//! What stands in the lists of a meeting, and what of it is a party's own.
+//! What stands in the lists of a meeting, and the rows of a party in them.
 #![tactic(auto)]
 
-mod appointments;
-mod authorities;
 mod finding;
-mod governed;
-mod holdings;
+mod members;
 mod own;
-mod reads;
-mod voting;
+mod rows;
 
-pub use finding::{find_row, place_of_meeting};
-pub use own::{nothing_of, own_in};
-pub use reads::own_for;
+pub use finding::place_of_meeting;
+pub use rows::{no_rows_of, rows_for, rows_of};

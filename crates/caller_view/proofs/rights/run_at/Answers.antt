@@ -1,7 +1,8 @@
 use Rattle.std.proofs.Common.{find, ap, sym, ◌∙◌}
 use Rattle.std.specs.Option.{option_copied}
+use Rattle.desk_lists.proofs.Kept.{none-found}
 use Rattle.desk_terms.specs.Places.{Places, holds}
-use Rattle.caller_view.proofs.RightsLemmas.{none-found, run_found, run_lacks}
+use Rattle.caller_view.proofs.RightsLemmas.{run_found, run_lacks}
 use Rattle.caller_view.specs.Rights.{governs_at}
 use Rattle.caller_view.proofs.rights.run_at.Goals as goal
 

@@ -1,2 +1,0 @@
-pub mod Governed
-pub mod Named
