@@ -1,8 +1,8 @@
 //! The form of a case file.
 //!
-//! `> LINE` sends a line to the desk, `* N` says that it is sent so many times, and `< REPLY` is the reply
-//! that it is to get each time. A line of no bytes, or of a lone carriage return, gets no reply. Empty
-//! lines and lines that begin with `#` are comment. Lines end in a line feed.
+//! `> LINE` sends a line to the desk, `* N` says that it is sent so many times, and `< REPLY` is
+//! the reply that it is to get each time. A line of no bytes, or of a lone carriage return, gets no
+//! reply. Empty lines and lines that begin with `#` are comment. Lines end in a line feed.
 ghost use Rattle.std.specs.Prelude.{◌<◌, IfSome};
 
 use std::alloc::{AllocError, Global};
@@ -33,7 +33,8 @@ pub struct Exchange<'a> {
     pub reply: Option<Expected<'a>>,
 }
 
-/// A case: what is sent, the numbers of the lines that have no form or no place, and of the last line.
+/// A case: what is sent, the numbers of the lines that have no form or no place, and of the last
+/// line.
 #[derive(Drop)]
 pub struct Case<'a> {
     pub exchanges: Vec<Exchange<'a>>,

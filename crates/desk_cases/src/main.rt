@@ -1,8 +1,8 @@
 //! Sends the lines of case files to the desk, and compares its replies with those that they expect.
 //!
-//! The words of the program are the names of the files. It prints each reply that differs, and at last
-//! how many cases and replies there were. It ends with status 0 only where there is a case and all is as
-//! expected.
+//! The words of the program are the names of the files. It prints each reply that differs, and at
+//! last how many cases and replies there were. It ends with status 0 only where there is a case and
+//! all is as expected.
 #![tactic(auto)]
 
 mod case;

@@ -5,7 +5,8 @@ use Rattle.std.specs.declared.alloc.AllocError.{AllocError}
 use Rattle.std.specs.declared.alloc.Global.{Global}
 use Rattle.std.specs.declared.vec.Vec.{Vec}
 use Rattle.desk_replies.proofs.FailureTexts.{memory_bytes}
-use Rattle.desk_program.specs.Transcript.{as_line, text_or_failure}
+use Rattle.desk_program.specs.ReplayRuns.{as_line}
+use Rattle.desk_program.specs.Transcript.{text_or_failure}
 
 -- where there is no text it is that line
 pub text_or_failure-err : (text : Result (Vec ℕ Global) AllocError) (e : AllocError) → text ≡ Err e → codes "{\"failed\":\"Memory\"}\n" ≡ text_or_failure text

@@ -12,7 +12,8 @@ use Rattle.desk_lines.proofs.Feeds.{feeds_in-append, feeds_in-none, feeds_in-lin
 use Rattle.desk_lines.proofs.LineLaws.{lines_of-cons}
 use Rattle.desk_words.specs.declared.office.OfficeLists.{OfficeLists}
 use Rattle.meeting_core.specs.Office.{empty_office}
-use Rattle.desk_program.specs.ReplaySteps.{AnswersLine, AnswersInPart, Stops, Turns}
+use Rattle.desk_program.proofs.RunLaws.{answered_in_turn}
+use Rattle.desk_program.specs.ReplaySteps.{standing, AnswersLine, AnswersInPart, Stops, Turns}
 use Rattle.desk_program.specs.Transcript.{answered, transcript, AreAnswered, IsAnsweredSoFar, IsAnsweredInPart, IsReplayedUntil}
 use Rattle.desk_program.specs.declared.script.ReplayFault.{ReplayFault}
 use Rattle.desk_program.specs.declared.script.ReplayFault.TheVariants.{Read, Write}
@@ -29,8 +30,11 @@ transcript-append o [] [] ms ss h = refl
 transcript-append o [] (r ∷ rs) ms ss h = absurd (omega arith)
 transcript-append o (l ∷ ls) [] ms ss h = absurd (omega arith)
 transcript-append o (l ∷ ls) (r ∷ rs) ms ss h =
-    ap (λ t. (answered r o l).text ++ t) (transcript-append (answered r o l).office ls rs ms ss (omega arith))
-    ∙ sym (append_assoc (answered r o l).text (transcript (answered r o l).office ls rs) (transcript (after_lines (answered r o l).office ls rs) ms ss))
+    let back = transcript (after_lines (answered r o l).office ls rs) ms ss in
+    answered_in_turn o l (ls ++ ms) r (rs ++ ss)
+    ∙ ap (λ t. (answered r o l).text ++ t) (transcript-append (answered r o l).office ls rs ms ss (omega arith))
+    ∙ sym (append_assoc (answered r o l).text (transcript (answered r o l).office ls rs) back)
+    ∙ ap (λ t. t ++ back) (sym (answered_in_turn o l ls r rs))
 
 after_lines-push : (o : OfficeLists) (ls : List (List ℕ)) (rs : List Bool) (l : List ℕ) (r : Bool) → length rs ≡ length ls
     → after_lines o (ls ++ l ∷ []) (rs ++ r ∷ []) ≡ (answered r (after_lines o ls rs) l).office
@@ -86,14 +90,14 @@ progress_none input unread office old h e = record {
 }
 
 one_more_line : (input rest rest' : List ℕ) (office after : OfficeLists) (old mid new : Option (List ℕ)) (p : Progress input (Some rest) office old mid) → p.rest ≡ rest
-    → AnswersLine rest rest' office after mid new → Progress input (Some rest') after old new
+    → AnswersLine rest rest' (standing (Some rest) office mid) (standing (Some rest') after new) → Progress input (Some rest') after old new
 one_more_line input rest rest' office after old mid new p same a =
     let first = first_line rest in
     let text = (answered a.refused office first).text in
     let line = take (feed_place rest + 1) rest in
     let parts : rest ≡ line ++ rest' = sym (take-append-drop (feed_place rest + 1) rest) ∙ ap (λ r. line ++ r) (sym a.rest_is) in
     let here : answered a.refused office first ≡ answered a.refused (after_lines empty_office p.done p.refused) first = ap (λ o. answered a.refused o first) p.office_is in
-    let last : transcript (after_lines empty_office p.done p.refused) (first ∷ []) (a.refused ∷ []) ≡ text = append-nil _ ∙ ap (λ x. x.text) (sym here) in
+    let last : transcript (after_lines empty_office p.done p.refused) (first ∷ []) (a.refused ∷ []) ≡ text = answered_in_turn _ first [] a.refused [] ∙ append-nil _ ∙ ap (λ x. x.text) (sym here) in
     record {
       rest = rest';
       unread_is = refl;
@@ -116,7 +120,7 @@ rest_of rest other h = cc
 
 -- one line more is answered
 pub progress_more : (input : List ℕ) (unread left : Option (List ℕ)) (office after : OfficeLists) (old mid new : Option (List ℕ)) → Progress input unread office old mid
-    → Turns true unread left office after mid new → Progress input left after old new
+    → Turns true (standing unread office mid) (standing left after new) → Progress input left after old new
 progress_more input None left office after old mid new p t = absurd (let h = p.unread_is in cc)
 progress_more input (Some bytes) None office after old mid new p t = absurd t
 progress_more input (Some bytes) (Some rest) office after old mid new p t = one_more_line input bytes rest office after old mid new p (rest_of bytes p.rest p.unread_is) t
@@ -160,7 +164,7 @@ abbrev unmarked : List (List ℕ) → List Bool
 unmarked ls = replicate (length ls) false
 
 stopped_writing : (input bytes : List ℕ) (office : OfficeLists) (old mid new : Option (List ℕ)) (p : Progress input (Some bytes) office old mid) → p.rest ≡ bytes
-    → AnswersInPart bytes office mid new → IsAnsweredInPart input old new
+    → AnswersInPart bytes (standing (Some bytes) office mid) new → IsAnsweredInPart input old new
 stopped_writing input bytes office old mid new p same a =
     let first = first_line bytes in
     let later = lines_of (after_line bytes) in
@@ -171,7 +175,8 @@ stopped_writing input bytes office old mid new p same a =
     let marks = p.refused ++ a.refused ∷ unmarked later in
     let split : lines_of input ≡ p.done ++ first ∷ later = p.lines ∙ ap (λ r. p.done ++ lines_of r) same ∙ ap (λ ls. p.done ++ ls) (lines_of-cons bytes a.some_left) in
     let whole : transcript empty_office (lines_of input) marks ≡ front ++ (text ++ back) =
-    ap (λ l. transcript empty_office l marks) split ∙ transcript-append empty_office p.done p.refused (first ∷ later) (a.refused ∷ unmarked later) p.each in
+    ap (λ l. transcript empty_office l marks) split ∙ transcript-append empty_office p.done p.refused (first ∷ later) (a.refused ∷ unmarked later) p.each
+    ∙ ap (λ t. front ++ t) (answered_in_turn o first later a.refused (unmarked later)) in
     let part : AppendsPrefix mid new text = subst (λ x. AppendsPrefix mid new (answered a.refused x first).text) p.office_is a.written in
     let n = part.0 in
     let cut : take (length front + n) (front ++ (text ++ back)) ≡ front ++ take n text =
@@ -186,7 +191,7 @@ stopped_writing input bytes office old mid new p same a =
 
 -- a device ended the replay
 pub progress_stopped : (fault : ReplayFault) (input : List ℕ) (unread left : Option (List ℕ)) (taken : ℕ) (office : OfficeLists) (old mid new : Option (List ℕ)) → Progress input unread office old mid
-    → Stops fault unread left office mid new → SameWhole 0 (Some input) taken left → IsReplayedUntil fault input taken old new
+    → Stops fault (standing unread office mid) left new → SameWhole 0 (Some input) taken left → IsReplayedUntil fault input taken old new
 progress_stopped Read input None left taken office old mid new p s w = absurd (let h = p.unread_is in cc)
 progress_stopped Read input (Some bytes) left taken office old mid new p s w = stopped_reading input bytes left taken office old mid new p (rest_of bytes p.rest p.unread_is) s.0 s.1 w
 progress_stopped Write input None left taken office old mid new p s w = absurd (let h = p.unread_is in cc)
@@ -200,22 +205,22 @@ known_none None pending office old h e = tt
 known_none (Some input) pending office old h e = progress_none input (Some (pending ++ input)) office old (ap (λ front. Some (front ++ input)) h) e
 
 pub known_more : (known unread left : Option (List ℕ)) (more : Bool) (office after : OfficeLists) (old mid new : Option (List ℕ))
-    → IfSome known (λ input. Progress input unread office old mid) → more ≡ true → Turns more unread left office after mid new
+    → IfSome known (λ input. Progress input unread office old mid) → more ≡ true → Turns more (standing unread office mid) (standing left after new)
     → IfSome known (λ input. Progress input left after old new)
 known_more None unread left more office after old mid new p h t = tt
 known_more (Some input) unread left more office after old mid new p h t =
-    progress_more input unread left office after old mid new p (subst (λ (m : Bool). Turns m unread left office after mid new) h t)
+    progress_more input unread left office after old mid new p (subst (λ (m : Bool). Turns m (standing unread office mid) (standing left after new)) h t)
 
 pub known_all : (known unread left : Option (List ℕ)) (more : Bool) (office after : OfficeLists) (old mid new : Option (List ℕ))
-    → IfSome known (λ input. Progress input unread office old mid) → more ≡ false → Turns more unread left office after mid new
+    → IfSome known (λ input. Progress input unread office old mid) → more ≡ false → Turns more (standing unread office mid) (standing left after new)
     → IfSome known (λ input. AreAnswered (lines_of input) old new)
 known_all None unread left more office after old mid new p h t = tt
 known_all (Some input) unread left more office after old mid new p h t =
-    let end = subst (λ (m : Bool). Turns m unread left office after mid new) h t in
+    let end = subst (λ (m : Bool). Turns m (standing unread office mid) (standing left after new)) h t in
     progress_all input unread office old mid new p end.0 end.1
 
 pub known_stopped : (known unread left : Option (List ℕ)) (fault : ReplayFault) (taken : ℕ) (office : OfficeLists) (old mid new : Option (List ℕ))
-    → IfSome known (λ input. Progress input unread office old mid) → Stops fault unread left office mid new → SameWhole 0 known taken left
+    → IfSome known (λ input. Progress input unread office old mid) → Stops fault (standing unread office mid) left new → SameWhole 0 known taken left
     → IfSome known (λ input. IsReplayedUntil fault input taken old new)
 known_stopped None unread left fault taken office old mid new p s w = tt
 known_stopped (Some input) unread left fault taken office old mid new p s w = progress_stopped fault input unread left taken office old mid new p s w

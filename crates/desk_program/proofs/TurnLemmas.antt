@@ -15,8 +15,9 @@ use Rattle.desk_words.specs.declared.office.OfficeLists.{OfficeLists}
 use Rattle.desk_words.specs.declared.reply.Reply.TheVariants.{Refused}
 use Rattle.desk_replies.specs.Replies.{reply_bytes}
 use Rattle.desk_program.specs.ReplayLines.{spelled_call}
-use Rattle.desk_program.specs.ReplaySteps.{Stops}
-use Rattle.desk_program.specs.Transcript.{Answered, answered, as_line, replied, text_or_failure, unless_refused}
+use Rattle.desk_program.specs.ReplaySteps.{standing, Stops}
+use Rattle.desk_program.specs.ReplayRuns.{as_line}
+use Rattle.desk_program.specs.Transcript.{Answered, answered, answered_call, text_or_failure, unless_refused}
 use Rattle.desk_program.specs.declared.script.ReplayFault.TheVariants.{Write}
 
 abbrev skipped : OfficeLists → Answered
@@ -29,15 +30,15 @@ answered-some refused office line h =
     ap (λ b. cond b (skipped office) (unless_refused refused office line)) some
 
 -- a line that is too long is refused as such
-pub answered-too_long : (office : OfficeLists) (line : List ℕ) → longest_line < length line → unless_refused false office line ≡ replied office (Err TooLarge)
+pub answered-too_long : (office : OfficeLists) (line : List ℕ) → longest_line < length line → unless_refused false office line ≡ answered_call office (Err TooLarge)
 answered-too_long office line h =
     let long : nat_lt longest_line (length line) ≡ true = grind (arith, nat_tests) in
-    ap (λ b. replied office (cond b (Err TooLarge) (spelled_call line))) long
+    ap (λ b. answered_call office (cond b (Err TooLarge) (spelled_call line))) long
 
 stops_at : (office : OfficeLists) (bytes : List ℕ) (remaining : Option (List ℕ)) (text : Result (Vec ℕ Global) AllocError) (old new : Option (List ℕ))
     → 0 < length bytes → 0 < length (first_line bytes)
     → IfOk text (λ t. t.items ≡ (unless_refused false office (first_line bytes)).text)
-    → AppendsPrefix old new (text_or_failure text) → Stops Write (Some bytes) remaining office old new
+    → AppendsPrefix old new (text_or_failure text) → Stops Write (standing (Some bytes) office old) remaining new
 stops_at office bytes remaining (Ok text) old new some line is partly = record {
   some_left = some;
   refused = false;
@@ -52,7 +53,7 @@ stops_at office bytes remaining (Err e) old new some line is partly = record {
 -- the answer to a line that is too long was written in part
 pub stops-too_long : (unread left remaining : Option (List ℕ)) (line : List ℕ) (office : OfficeLists) (text : Result (Vec ℕ Global) AllocError) (old new : Option (List ℕ))
     → Gives TooLong unread left line → IfOk text (λ t. t.items ≡ as_line (reply_bytes (Refused TooLarge)))
-    → AppendsPrefix old new (text_or_failure text) → Stops Write unread remaining office old new
+    → AppendsPrefix old new (text_or_failure text) → Stops Write (standing unread office old) remaining new
 stops-too_long None left remaining line office text old new given is partly = tt
 stops-too_long (Some bytes) None remaining line office text old new given is partly = absurd given.1
 stops-too_long (Some bytes) (Some rest) remaining line office text old new given is partly =
@@ -63,7 +64,7 @@ stops-too_long (Some bytes) (Some rest) remaining line office text old new given
 -- the answer to a whole line was written in part
 pub stops-whole : (unread left remaining : Option (List ℕ)) (line : List ℕ) (office : OfficeLists) (text : Result (Vec ℕ Global) AllocError) (old new : Option (List ℕ))
     → Gives Whole unread left line → 0 < length line → IfOk text (λ t. t.items ≡ (unless_refused false office line).text)
-    → AppendsPrefix old new (text_or_failure text) → Stops Write unread remaining office old new
+    → AppendsPrefix old new (text_or_failure text) → Stops Write (standing unread office old) remaining new
 stops-whole None left remaining line office text old new given some is partly = tt
 stops-whole (Some bytes) None remaining line office text old new given some is partly = absurd given.1
 stops-whole (Some bytes) (Some rest) remaining line office text old new given some is partly =

@@ -20,7 +20,10 @@ pub record Ending : Type 0 where
 
 -- how the program ends, as contracts see it
 abbrev pub ended_view : Ended → Ending
-ended_view ended = record { status = ended.status; line = option_map (λ (line : Bor (List ℕ)). line.now) ended.line }
+ended_view ended = record {
+  status = ended.status;
+  line = option_map (λ (line : Bor (List ℕ)). line.now) ended.line;
+}
 
 -- how a replay ends the program
 abbrev pub ended_by : Result (Unit {0}) ReplayFault → Ending

@@ -18,7 +18,9 @@ is_space byte = byte == 32
 -- what stands before the first space, and what stands after it
 abbrev pub parted : List ℕ → Option (List ℕ × List ℕ)
 parted bytes =
-    if nat_lt (position_or_len is_space bytes) (length bytes) then Some (before_first is_space bytes, after_first is_space bytes) else None
+    if nat_lt (position_or_len is_space bytes) (length bytes)
+    then Some (before_first is_space bytes, after_first is_space bytes)
+    else None
 
 -- the five parts of a line
 pub record Parts : Type 0 where
@@ -45,7 +47,8 @@ known found = ok_or found Key
 abbrev pub text_in : List ℕ → Result (List ℕ) Refusal
 text_in bytes = if is_utf8 bytes then Ok bytes else Err Unreadable
 
--- what a line asks: it must be UTF-8 and have its parts and a moment, then a known caller, then a request
+-- what a line asks: it must be UTF-8 and have its parts and a moment, then a known caller, then a
+-- request
 unfoldable pub spelled_call : List ℕ → Result Call Refusal
 spelled_call line = do
   text ← text_in line

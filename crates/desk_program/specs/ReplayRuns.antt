@@ -1,15 +1,16 @@
--- A replay is a run of the calls that its lines ask.
-use Rattle.std.specs.Prelude.{◌≡◌, ℕ, ◌==◌, List, [], ◌∷◌, ◌++◌, length, Bool, true, false, Result, Ok, Err, if◌then◌else◌}
+-- The calls that the lines of a replay ask, and the replies to them among its answers.
+use Rattle.std.specs.Prelude.{ℕ, ◌==◌, List, [], ◌∷◌, ◌++◌, length, Bool, true, false, Result, Ok, Err, if◌then◌else◌}
 use Rattle.desk_terms.specs.declared.refusal.Refusal.{Refusal}
-use Rattle.desk_words.specs.declared.office.OfficeLists.{OfficeLists}
 use Rattle.desk_words.specs.declared.request.Call.{Call}
 use Rattle.desk_words.specs.declared.reply.Failure.TheVariants.{Memory}
 use Rattle.desk_words.specs.declared.reply.Reply.{Reply}
 use Rattle.desk_words.specs.declared.reply.Reply.TheVariants.{Refused}
 use Rattle.desk_replies.specs.Replies.{reply_bytes, failure_bytes}
-use Rattle.meeting_core.specs.Step.{replies_to}
 use Rattle.desk_program.specs.ReplayLines.{asked_by}
-use Rattle.desk_program.specs.Transcript.{as_line, transcript}
+
+-- a text and a line feed
+abbrev pub as_line : List ℕ → List ℕ
+as_line text = text ++ 10 ∷ []
 
 -- the call that was asked, before the calls that follow
 abbrev pub call_before : Result Call Refusal → List Call → List Call
@@ -25,7 +26,8 @@ call_unless false line calls = call_before (asked_by line) calls
 abbrev pub calls_of : List (List ℕ) → List Bool → List Call
 calls_of [] refused = []
 calls_of (line ∷ lines) [] = []
-calls_of (line ∷ lines) (r ∷ refused) = if length line == 0 then calls_of lines refused else call_unless r line (calls_of lines refused)
+calls_of (line ∷ lines) (r ∷ refused) =
+    if length line == 0 then calls_of lines refused else call_unless r line (calls_of lines refused)
 
 -- a call's answer is the next reply; what is no call is answered by its refusal
 abbrev pub answer_before : Result Call Refusal → List Reply → (List Reply → List ℕ) → List ℕ
@@ -43,10 +45,6 @@ abbrev pub spread : List (List ℕ) → List Bool → List Reply → List ℕ
 spread [] refused replies = []
 spread (line ∷ lines) [] replies = []
 spread (line ∷ lines) (r ∷ refused) replies =
-    if length line == 0 then spread lines refused replies else answer_unless r line replies (spread lines refused)
-
--- what is written for lines are the replies of the run of the calls that they ask
-abbrev pub RepliesAreThoseOfTheRun : Type 0
-RepliesAreThoseOfTheRun =
-    (office : OfficeLists) (lines : List (List ℕ)) (refused : List Bool)
-    → transcript office lines refused ≡ spread lines refused (replies_to office (calls_of lines refused))
+    if length line == 0
+    then spread lines refused replies
+    else answer_unless r line replies (spread lines refused)

@@ -77,8 +77,8 @@ pub fn no_memory() -> Ended
     }
 }
 
-/// Does what the words of the program ask for, from a reader to a writer. Words that ask for nothing
-/// leave both as they are, and end with status 2 and the line `words`.
+/// Does what the words of the program ask for, from a reader to a writer. Words that ask for
+/// nothing leave both as they are, and end with status 2 and the line `words`.
 pub fn run<R: Source, W: Sink>(
     alloc: Global,
     words: &[String],
@@ -86,15 +86,30 @@ pub fn run<R: Source, W: Sink>(
     writer: &mut W,
 ) -> Ended
     ensures other { plan_of (map string_bytes words.now) ≡ None
-        → (ended_view result ≡ wrong_words) × (reader.new ≡ reader.old) × (writer.new ≡ writer.old) }
+        → (ended_view result ≡ wrong_words)
+        × (reader.new ≡ reader.old)
+        × (writer.new ≡ writer.old) }
     ensures replays { plan_of (map string_bytes words.now) ≡ Some Replay
-        → (outcome : Result (Unit {0}) Fault) × (ended_view result ≡ ended_by outcome)
-        × OnOk outcome (IfSome (R.remaining reader.old) (λ input. AreAnswered (lines_of input) (W.contents writer.old) (W.contents writer.new)))
-        × IfErr outcome (λ fault. IfSome (R.remaining reader.old) (λ input. IsReplayedUntil fault input
-        (R.passed reader.new - R.passed reader.old) (W.contents writer.old) (W.contents writer.new)))
-        × OnOk outcome ((R.failures reader.new ≡ R.failures reader.old) × (W.failures writer.new ≡ W.failures writer.old))
-        × IfErr outcome (λ fault. HasEndedFor fault (R.failures reader.old) (R.failures reader.new)
-        (R.passed reader.new - R.passed reader.old) (W.failures writer.old) (W.failures writer.new))
+        → (outcome : Result (Unit {0}) Fault)
+        × (ended_view result ≡ ended_by outcome)
+        × OnOk outcome
+        (IfSome (R.remaining reader.old)
+        (λ input. AreAnswered (lines_of input) (W.contents writer.old)
+        (W.contents writer.new)))
+        × IfErr outcome
+        (λ fault. IfSome (R.remaining reader.old)
+        (λ input. IsReplayedUntil fault input
+        (R.passed reader.new - R.passed reader.old) (W.contents writer.old)
+        (W.contents writer.new)))
+        × OnOk outcome
+        ((R.failures reader.new ≡ R.failures reader.old)
+        × (W.failures writer.new ≡ W.failures writer.old))
+        × IfErr outcome
+        (λ fault. HasEndedFor fault (R.passed reader.new - R.passed reader.old)
+        (record
+        { of_reader = R.failures reader.old; of_writer = W.failures writer.old })
+        (record
+        { of_reader = R.failures reader.new; of_writer = W.failures writer.new }))
         × OnOk outcome (IsAtEnd (R.remaining reader.new))
         × OnOk outcome (R.passed reader.new - R.passed reader.old ≤ longest_input)
         × (R.passed reader.new - R.passed reader.old ≤ longest_input + 1) }

@@ -7,8 +7,9 @@ ghost use Rattle.desk_lines.specs.Lines.{lines_of};
 ghost use Rattle.desk_lines.specs.Reading.{longest_input, longest_line, unread, SameWhole};
 ghost use Rattle.desk_replies.specs.Replies.{reply_bytes};
 ghost use Rattle.meeting_core.specs.Step.{decided, stepped};
-ghost use Rattle.desk_program.specs.Transcript.{as_line, text_or_failure, unless_refused, AreAnswered, IsReplayedUntil};
-ghost use Rattle.desk_program.specs.ReplaySteps.{Turns, Stops, HasEndedFor};
+ghost use Rattle.desk_program.specs.ReplayRuns.{as_line};
+ghost use Rattle.desk_program.specs.Transcript.{text_or_failure, unless_refused, AreAnswered, IsReplayedUntil};
+ghost use Rattle.desk_program.specs.ReplaySteps.{standing, Turns, Stops, HasEndedFor};
 
 use crate::line::call_of;
 use desk_bodies::Ask;
@@ -62,7 +63,8 @@ fn reply_line(alloc: Global, reply: &Reply) -> Result<Vec<u8>, AllocError>
 /// Takes one step of the book, and returns the line that gives its reply. The text is made before
 /// the change is, so that a text which is refused memory changes nothing.
 fn perform(alloc: Global, book: &mut Book, call: Call) -> Result<Vec<u8>, AllocError>
-    ensures text { IfOk result (λ text. text.items ≡ as_line (reply_bytes (decided book.old call).reply)) }
+    ensures text { IfOk result
+        (λ text. text.items ≡ as_line (reply_bytes (decided book.old call).reply)) }
     ensures ok { OnOk result (book.new ≡ stepped book.old call) }
     ensures err { OnErr result (book.new ≡ book.old) }
 {
@@ -77,7 +79,8 @@ fn perform(alloc: Global, book: &mut Book, call: Call) -> Result<Vec<u8>, AllocE
 /// Answers one line that is not too long.
 fn answer(alloc: Global, book: &mut Book, line: &[u8]) -> Result<Vec<u8>, AllocError>
     requires { length line.now ≤ longest_line }
-    ensures text { IfOk result (λ text. text.items ≡ (unless_refused false book.old line.now).text) }
+    ensures text { IfOk result
+        (λ text. text.items ≡ (unless_refused false book.old line.now).text) }
     ensures ok { OnOk result (book.new ≡ (unless_refused false book.old line.now).office) }
     ensures err { OnErr result (book.new ≡ book.old) }
 {
@@ -93,8 +96,10 @@ fn write_answer<W: Sink>(
     writer: &mut W,
     text: Result<Vec<u8>, AllocError>,
 ) -> Result<(), DeviceFailed>
-    ensures written { OnOk result (Appends (W.contents writer.old) (W.contents writer.new) (text_or_failure text)) }
-    ensures partly { OnErr result (AppendsPrefix (W.contents writer.old) (W.contents writer.new) (text_or_failure text)) }
+    ensures written { OnOk result
+        (Appends (W.contents writer.old) (W.contents writer.new) (text_or_failure text)) }
+    ensures partly { OnErr result
+        (AppendsPrefix (W.contents writer.old) (W.contents writer.new) (text_or_failure text)) }
     ensures works { OnOk result (W.failures writer.new ≡ W.failures writer.old) }
     ensures failed { OnErr result (W.failures writer.new ≡ one_more (W.failures writer.old)) }
 {
@@ -112,16 +117,24 @@ fn turn<R: Source, W: Sink>(
     reader: &mut R,
     writer: &mut W,
 ) -> Result<bool, ReplayFault>
-    ensures turns { IfOk result (λ more. Turns more
-        (unread lines.old.pending (R.remaining reader.old)) (unread lines.new.pending (R.remaining reader.new))
-        book.old book.new (W.contents writer.old) (W.contents writer.new)) }
-    ensures stops { IfErr result (λ fault. Stops fault (unread lines.old.pending (R.remaining reader.old))
-        (R.remaining reader.new) book.old (W.contents writer.old) (W.contents writer.new)) }
-    ensures cause { IfErr result (λ fault. HasEndedFor fault (R.failures reader.old) (R.failures reader.new)
-        lines.new.taken (W.failures writer.old) (W.failures writer.new)) }
+    ensures turns { IfOk result
+        (λ more. Turns more
+        (standing (unread lines.old.pending (R.remaining reader.old)) book.old
+        (W.contents writer.old))
+        (standing (unread lines.new.pending (R.remaining reader.new)) book.new
+        (W.contents writer.new))) }
+    ensures stops { IfErr result
+        (λ fault. Stops fault
+        (standing (unread lines.old.pending (R.remaining reader.old)) book.old
+        (W.contents writer.old))
+        (R.remaining reader.new) (W.contents writer.new)) }
+    ensures cause { IfErr result (λ fault. HasEndedFor fault lines.new.taken
+        (record { of_reader = R.failures reader.old; of_writer = W.failures writer.old })
+        (record { of_reader = R.failures reader.new; of_writer = W.failures writer.new })) }
     ensures works { OnOk result ((R.failures reader.new ≡ R.failures reader.old)
         × (W.failures writer.new ≡ W.failures writer.old)) }
-    ensures counted { lines.new.taken + R.passed reader.old ≡ lines.old.taken + R.passed reader.new }
+    ensures counted { lines.new.taken + R.passed reader.old
+        ≡ lines.old.taken + R.passed reader.new }
     ensures whole { SameWhole lines.old.taken (R.remaining reader.old)
         lines.new.taken (R.remaining reader.new) }
 
@@ -129,7 +142,8 @@ fn turn<R: Source, W: Sink>(
     ensures moves { result ≡ Ok true
         → lines.old.taken + length lines.new.pending < lines.new.taken + length lines.old.pending }
     ensures bound { lines.new.taken ≤ longest_input + 1 }
-    ensures end { result ≡ Ok false → IsAtEnd (R.remaining reader.new) × (lines.new.taken ≤ longest_input) }
+    ensures end { result ≡ Ok false
+        → IsAtEnd (R.remaining reader.new) × (lines.new.taken ≤ longest_input) }
 {
     let text = match lines.next_line(reader)? {
         NextLine::End => return Ok(false),
@@ -147,16 +161,16 @@ fn turn<R: Source, W: Sink>(
 }
 
 /// Answers the lines of the reader, one by one, on a book that begins as the empty office: for each
-/// line that is not empty it writes one reply and a line feed. Each answer is written before more is
-/// read than its line needed.
+/// line that is not empty it writes one reply and a line feed. Each answer is written before more
+/// is read than its line needed.
 ///
 /// A line is a moment, a caller, a meeting, a verb and a body, parted at its first four spaces. One
 /// whose reading, step or text was refused memory is answered by the failure's text and changes
-/// nothing. Where all goes well the reader is at its end, and gave at most 16,777,216 bytes; it is never
-/// asked for more than one byte above that. The fault is `Read` only where the reader failed in this
-/// call, or gave more bytes than that, and `Write` only where the writer failed. On `Read` the first
-/// lines are answered, each with its line feed, at least all whose own line feed came; on `Write` the
-/// last answer may be cut.
+/// nothing. Where all goes well the reader is at its end, and gave at most 16,777,216 bytes; it is
+/// never asked for more than one byte above that. The fault is `Read` only where the reader failed
+/// in this call, or gave more bytes than that, and `Write` only where the writer failed. On `Read`
+/// the first lines are answered, each with its line feed, at least all whose own line feed came; on
+/// `Write` the last answer may be cut.
 pub fn replay<R: Source, W: Sink>(
     alloc: Global,
     reader: &mut R,
@@ -169,8 +183,10 @@ pub fn replay<R: Source, W: Sink>(
         (W.contents writer.old) (W.contents writer.new))) }
     ensures works { OnOk result ((R.failures reader.new ≡ R.failures reader.old)
         × (W.failures writer.new ≡ W.failures writer.old)) }
-    ensures cause { IfErr result (λ fault. HasEndedFor fault (R.failures reader.old) (R.failures reader.new)
-        (R.passed reader.new - R.passed reader.old) (W.failures writer.old) (W.failures writer.new)) }
+    ensures cause { IfErr result (λ fault. HasEndedFor fault
+        (R.passed reader.new - R.passed reader.old)
+        (record { of_reader = R.failures reader.old; of_writer = W.failures writer.old })
+        (record { of_reader = R.failures reader.new; of_writer = W.failures writer.new })) }
     ensures end { OnOk result (IsAtEnd (R.remaining reader.new)) }
     ensures whole { OnOk result (R.passed reader.new - R.passed reader.old ≤ longest_input) }
     ensures bound { R.passed reader.new - R.passed reader.old ≤ longest_input + 1 }

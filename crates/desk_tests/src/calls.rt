@@ -10,7 +10,7 @@ fn june() -> Result<MeetingId, Fail> {
 }
 
 fn is_public(book: &Book) -> Result<bool, Fail> {
-    Ok(book.public_of(june()?)?.meeting.is_some())
+    Ok(book.public_of(june()?).meeting().is_some())
 }
 
 /// Whether Ada's own things say that she is present.

@@ -10,7 +10,8 @@ fn count_feeds(bytes: &[u8]) -> usize {
     bytes.iter().filter(|byte| **byte == b'\n').count()
 }
 
-/// How the replay ends, and what is written, where the read of that number fails, of so many bytes each.
+/// How the replay ends, and what is written, where the read of that number fails, of so many bytes
+/// each.
 fn read_failing(alloc: Global, most: usize, failing: u64) -> (Result<(), ReplayFault>, VecSink) {
     let short = ShortReads::new(SliceSource::new(LINES.as_bytes()), most.max(1));
     let mut sink = VecSink::new(alloc);

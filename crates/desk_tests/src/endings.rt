@@ -1,4 +1,5 @@
-//! How the program ends where it does not come to its words or its memory, and what a store that fails says.
+//! How the program ends where it does not come to its words or its memory, and what a store that
+//! fails says.
 use desk_program::{Ended, no_memory, wrong_words};
 use desk_replies::failure_text;
 use desk_words::Failure;

@@ -1,5 +1,5 @@
-//! Tests of the upper crates, of what no line of a replay reaches: devices that fail, ends of an input,
-//! the calls of a book that no replay makes, and the text of a failure of a store.
+//! Tests of the upper crates, of what no line of a replay reaches: devices that fail, ends of an
+//! input, the calls of a book that no replay makes, and the text of a failure of a store.
 #![tactic(auto)]
 
 #[cfg(test)]
@@ -10,5 +10,7 @@ mod calls;
 mod devices;
 #[cfg(test)]
 mod endings;
+#[cfg(test)]
+mod lists;
 #[cfg(test)]
 mod script;

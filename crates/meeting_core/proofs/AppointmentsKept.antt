@@ -4,14 +4,16 @@ use Rattle.std.specs.Prelude.{Option, Some, None, option_map, find, filter, map,
 use Rattle.std.specs.List.{list_all, list_any}
 use Rattle.std.specs.Cmp.{first_so, second_so}
 use Rattle.std.specs.Cmp.Derive.{both_true}
-use Rattle.std.proofs.lemmas.Bool.{eqb-true}
+use Rattle.std.proofs.lemmas.Bool.{eqb-true, or_from}
 use Rattle.std.proofs.lemmas.Bool.Decides.{nat_tests}
 use Rattle.std.proofs.lemmas.List.{append-nil, length-map, reverse-append}
 use Rattle.std.proofs.lemmas.List.Sums.{length-filter}
 use Rattle.std.proofs.lemmas.List.Folds.{list_all-append, list_any-append}
-use Rattle.desk_lists.proofs.Differing.{all_weaker, differ_snoc, find_none}
+use Rattle.desk_lists.proofs.Booleans.{neither_first, neither_second}
+use Rattle.desk_lists.proofs.Kept.{any-filter, none-found}
+use Rattle.std.proofs.Math.Bool.{or-false}
+use Rattle.desk_lists.proofs.Differing.{all_weaker, differ_snoc}
 use Rattle.desk_lists.specs.Ordered.{differ_by}
-use Rattle.desk_words.proofs.RowLemmas.{same_name-true}
 use Rattle.desk_words.specs.Names.{same_name}
 use Rattle.desk_words.specs.Office.{are_numbered_after, is_appointment, is_ending_of, is_meeting, same_ending}
 use Rattle.desk_words.specs.declared.change.Entry.TheVariants as entry
@@ -19,8 +21,9 @@ use Rattle.desk_words.specs.declared.office.MeetingLists.{MeetingLists}
 use Rattle.desk_words.specs.declared.records.Appointment.{Appointment}
 use Rattle.desk_words.specs.declared.records.Ending.{Ending}
 use Rattle.caller_view.specs.Appointments.{given_numbered, is_ended}
-use Rattle.caller_view.specs.Views.{ended_at, given_in, is_ending}
-use Rattle.office_answers.proofs.OfficeFacts.{meeting_facts, meeting_from_facts}
+use Rattle.caller_view.specs.Own.{ended_at, given_in}
+use Rattle.proxy_rules.specs.Holdings.{is_ended_of}
+use Rattle.desk_words.proofs.OfficeFacts.{meeting_facts, meeting_from_facts}
 use Rattle.meeting_core.specs.Office.{entered}
 
 -- ---- an appointment more
@@ -121,52 +124,47 @@ numbered_given endings party number (a ∷ rest) =
       | false ↦ numbered_given endings party number rest
     ]
 
-or_none : (b : Bool) → (b || false) ≡ b
-or_none true = refl
-or_none false = refl
-
-first_fails : (a b : Bool) → (a || b) ≡ false → a ≡ false
-first_fails true b h = absurd (cc)
-first_fails false b h = refl
-
-last_fails : (a b : Bool) → (a || b) ≡ false → b ≡ false
-last_fails true b h = absurd (cc)
-last_fails false b h = h
-
-neither : (a b : Bool) → a ≡ false → b ≡ false → (a || b) ≡ false
-neither true b x y = x
-neither false b x y = y
-
 any_reverse : {X : Type 0} (p : X → Bool) (xs : List X) → list_any p (reverse xs) ≡ false → list_any p xs ≡ false
 any_reverse p [] h = refl
 any_reverse p (x ∷ xs) h =
     let parts : (list_any p (reverse xs) || p x) ≡ false =
-    ap (λ b. list_any p (reverse xs) || b) (sym (or_none (p x))) ∙ sym (list_any-append p (reverse xs) (x ∷ [])) ∙ ap (list_any p) (sym (reverse-append (x ∷ []) xs)) ∙ h in
-    neither (p x) (list_any p xs) (last_fails (list_any p (reverse xs)) (p x) parts) (any_reverse p xs (first_fails (list_any p (reverse xs)) (p x) parts))
+    ap (λ b. list_any p (reverse xs) || b) (sym (or-false (p x))) ∙ sym (list_any-append p (reverse xs) (x ∷ [])) ∙ ap (list_any p) (sym (reverse-append (x ∷ []) xs)) ∙ h in
+    or_from (p x) (list_any p xs) (neither_second (list_any p (reverse xs)) (p x) parts) (any_reverse p xs (neither_first (list_any p (reverse xs)) (p x) parts))
 
 -- where an appointment has no moment of an ending, none is found
 no_moment : (o : Option Ending) → is_some (option_map (λ (e : Ending). e.moment) o) ≡ false → o ≡ None
 no_moment None h = refl
 no_moment (Some e) h = absurd (cc)
 
+-- the ending names that number
+abbrev ends_number : ℕ → Ending → Bool
+ends_number number e = e.number == number
+
+-- the ending is of the party's appointment of that number
+abbrev is_ending : List ℕ → ℕ → Ending → Bool
+is_ending party number e = is_ended_of party e && ends_number number e
+
 -- where a party's appointment is not ended, no ending names it
 pub unended_none : (endings : List Ending) (party : List ℕ) (number : ℕ) (given : List Appointment)
-    → is_none (given_numbered (map (given_in endings) (filter (is_of party) given)) number) ≡ false
-    → is_ended (given_numbered (map (given_in endings) (filter (is_of party) given)) number) ≡ false
+    → is_none (given_numbered (map (given_in (filter (is_ended_of party) endings)) (filter (is_of party) given)) number) ≡ false
+    → is_ended (given_numbered (map (given_in (filter (is_ended_of party) endings)) (filter (is_of party) given)) number) ≡ false
     → list_any (is_ending party number) endings ≡ false
 unended_none endings party number [] = λ h. absurd (cc)
 unended_none endings party number (a ∷ rest) =
-    (elim (is_of party a) as (λ b. is_of party a ≡ b
-    → is_none (given_numbered (map (given_in endings) (cond b (a ∷ filter (is_of party) rest) (filter (is_of party) rest))) number) ≡ false
-    → is_ended (given_numbered (map (given_in endings) (cond b (a ∷ filter (is_of party) rest) (filter (is_of party) rest))) number) ≡ false
+    let own = filter (is_ended_of party) endings in
+    elim (is_of party a) as (λ b.
+    is_none (given_numbered (map (given_in own) (cond b (a ∷ filter (is_of party) rest) (filter (is_of party) rest))) number) ≡ false
+    → is_ended (given_numbered (map (given_in own) (cond b (a ∷ filter (is_of party) rest) (filter (is_of party) rest))) number) ≡ false
     → list_any (is_ending party number) endings ≡ false) [
-      | true ↦ λ own. (elim (a.number == number) as (λ c. (a.number == number) ≡ c
-          → is_none (cond c (Some (given_in endings a)) (given_numbered (map (given_in endings) (filter (is_of party) rest)) number)) ≡ false
-          → is_ended (cond c (Some (given_in endings a)) (given_numbered (map (given_in endings) (filter (is_of party) rest)) number)) ≡ false
+      | true ↦ (elim (a.number == number) as (λ c. (a.number == number) ≡ c
+          → is_none (cond c (Some (given_in own a)) (given_numbered (map (given_in own) (filter (is_of party) rest)) number)) ≡ false
+          → is_ended (cond c (Some (given_in own a)) (given_numbered (map (given_in own) (filter (is_of party) rest)) number)) ≡ false
           → list_any (is_ending party number) endings ≡ false) [
-            | true ↦ λ same _ live. any_reverse (is_ending party number) endings (find_none (is_ending party number) (reverse endings) (no_moment (find (is_ending party number) (reverse endings))
-                ((λ i. is_some (ended_at endings (sym (same_name-true a.member party own) i) (sym (eqb-true a.number number same) i))) ∙ live)))
+            | true ↦ λ same _ live.
+                let none : find (ends_number number) (reverse own) ≡ None =
+                no_moment (find (ends_number number) (reverse own)) ((λ i. is_some (ended_at own (sym (eqb-true a.number number same) i))) ∙ live) in
+                sym (any-filter (ends_number number) (is_ended_of party) endings) ∙ any_reverse (ends_number number) own (none-found (ends_number number) (reverse own) none)
             | false ↦ λ _. unended_none endings party number rest
           ]) refl
-      | false ↦ λ _. unended_none endings party number rest
-    ]) refl
+      | false ↦ unended_none endings party number rest
+    ]

@@ -1,5 +1,5 @@
 -- An authority more, a presence more, and a demand more keep the lists of a meeting.
-use Rattle.std.proofs.Common.{◌≡◌, ℕ, ◌+◌, Bool, true, false, not, ◌&&◌, ◌||◌, ◌==◌, cond, List, [], ◌∷◌, ◌++◌, length, refl, ap, sym, ◌∙◌, arith, add-zero}
+use Rattle.std.proofs.Common.{◌≡◌, ℕ, ◌+◌, Bool, true, false, not, ◌&&◌, ◌==◌, cond, List, [], ◌∷◌, ◌++◌, length, refl, ap, sym, ◌∙◌, arith, add-zero}
 use Rattle.std.specs.Prelude.{filter, nat_le, count_by}
 use Rattle.std.specs.List.{list_all, list_any}
 use Rattle.std.specs.Cmp.{first_so, second_so}
@@ -7,6 +7,8 @@ use Rattle.std.specs.Cmp.Derive.{both_true}
 use Rattle.std.proofs.lemmas.Bool.Decides.{nat_tests}
 use Rattle.std.proofs.lemmas.List.Sums.{length-filter}
 use Rattle.std.proofs.lemmas.List.Folds.{list_all-append}
+use Rattle.desk_lists.proofs.Kept.{any-filter}
+use Rattle.std.proofs.Math.Bool.{and_comm}
 use Rattle.desk_lists.proofs.Differing.{all_weaker, count_snoc, differ_snoc}
 use Rattle.desk_lists.specs.Ordered.{differ_by}
 use Rattle.desk_words.proofs.RowLemmas.{same_name-true}
@@ -17,23 +19,8 @@ use Rattle.desk_words.specs.declared.office.MeetingLists.{MeetingLists}
 use Rattle.desk_words.specs.declared.records.Authority.{Authority}
 use Rattle.desk_words.specs.declared.records.DemandMark.{DemandMark}
 use Rattle.desk_words.specs.declared.records.PresenceMark.{PresenceMark}
-use Rattle.office_answers.proofs.OfficeFacts.{meeting_facts, meeting_from_facts}
+use Rattle.desk_words.proofs.OfficeFacts.{meeting_facts, meeting_from_facts}
 use Rattle.meeting_core.specs.Office.{entered}
-
--- a value of a part of the list passes where one of the list passes both tests
-any_filter : {X : Type 0} (p q : X → Bool) (xs : List X) → list_any p (filter q xs) ≡ list_any (λ x. q x && p x) xs
-any_filter p q [] = refl
-any_filter p q (x ∷ xs) =
-    elim (q x) as (λ b. list_any p (cond b (x ∷ filter q xs) (filter q xs)) ≡ ((b && p x) || list_any (λ y. q y && p y) xs)) [
-      | true ↦ ap (λ b. p x || b) (any_filter p q xs)
-      | false ↦ any_filter p q xs
-    ]
-
-and_turned : (a b : Bool) → (a && b) ≡ (b && a)
-and_turned true true = refl
-and_turned true false = refl
-and_turned false true = refl
-and_turned false false = refl
 
 -- ---- an authority more
 
@@ -98,7 +85,7 @@ pub not_given : (party person : List ℕ) (given : List Authority)
     → list_any (λ (b : Authority). same_name b.person person) (filter (λ (b : Authority). same_name b.corporation party) given) ≡ false
     → list_any (λ (b : Authority). same_name b.corporation party && same_name b.person person) given ≡ false
 not_given party person given h =
-    sym (any_filter (λ (b : Authority). same_name b.person person) (λ (b : Authority). same_name b.corporation party) given) ∙ h
+    sym (any-filter (λ (b : Authority). same_name b.person person) (λ (b : Authority). same_name b.corporation party) given) ∙ h
 
 -- ---- a presence more
 
@@ -146,5 +133,5 @@ pub not_demanded : (party : List ℕ) (resolution : ℕ) (demands : List DemandM
     → list_any (λ (e : DemandMark). e.resolution == resolution) (filter (λ (e : DemandMark). same_name e.party party) demands) ≡ false
     → list_any (λ (e : DemandMark). e.resolution == resolution && same_name e.party party) demands ≡ false
 not_demanded party resolution demands h =
-    ap (λ test. list_any test demands) (λ i (e : DemandMark). and_turned (e.resolution == resolution) (same_name e.party party) i)
-    ∙ sym (any_filter (λ (e : DemandMark). e.resolution == resolution) (λ (e : DemandMark). same_name e.party party) demands) ∙ h
+    ap (λ test. list_any test demands) (λ i (e : DemandMark). and_comm (e.resolution == resolution) (same_name e.party party) i)
+    ∙ sym (any-filter (λ (e : DemandMark). e.resolution == resolution) (λ (e : DemandMark). same_name e.party party) demands) ∙ h

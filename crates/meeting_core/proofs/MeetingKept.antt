@@ -7,6 +7,7 @@ use Rattle.std.specs.Cmp.Derive.{both_true}
 use Rattle.std.proofs.lemmas.Bool.{eqb-true}
 use Rattle.std.proofs.lemmas.Bool.Decides.{nat_tests}
 use Rattle.std.proofs.lemmas.List.Folds.{list_all-append}
+use Rattle.desk_lists.proofs.Kept.{found-any, found-passes}
 use Rattle.desk_lists.proofs.Ascending.{ascends_by-change_first}
 use Rattle.desk_lists.proofs.Differing.{all_changed_found, all_weaker, any_kept, count_filter, count_snoc}
 use Rattle.desk_lists.proofs.Inserting.{all-insert, any-insert, ascends-insert}
@@ -22,8 +23,8 @@ use Rattle.desk_words.specs.declared.records.CastMark.{CastMark}
 use Rattle.desk_words.specs.declared.records.Poll.{Poll}
 use Rattle.desk_words.specs.declared.records.Tally.{Tally}
 use Rattle.desk_words.specs.Finding.{poll_on}
-use Rattle.caller_view.specs.Casts.{casts_on}
-use Rattle.office_answers.proofs.OfficeFacts.{meeting_facts, meeting_from_facts, find-passes}
+use Rattle.caller_view.specs.Casts.{cast_count}
+use Rattle.desk_words.proofs.OfficeFacts.{meeting_facts, meeting_from_facts, find-passes}
 use Rattle.desk_words.specs.declared.change.MeetingChange.TheVariants.{SetRegister, SetOpened, AddPoll, SetPoll}
 use Rattle.desk_words.specs.declared.change.PollChange.TheVariants.{Started, Closed, Declared}
 use Rattle.meeting_core.specs.Office.{changed, change_poll, entered, moved}
@@ -204,22 +205,6 @@ declare_kept tally r m p h found closed good =
 
 -- ---- votes
 
-found_passes : {X : Type 0} (test : X → Bool) (xs : List X) (x : X) → find test xs ≡ Some x → test x ≡ true
-found_passes test [] x = λ h. absurd (cc)
-found_passes test (y ∷ ys) x =
-    (elim (test y) as (λ b. test y ≡ b → cond b (Some y) (find test ys) ≡ Some x → test x ≡ true) [
-      | true ↦ λ e h. (let same : y ≡ x = cc in ap test (sym same) ∙ e)
-      | false ↦ λ e h. found_passes test ys x h
-    ]) refl
-
-any_found : {X : Type 0} (test other : X → Bool) (xs : List X) (x : X) → find test xs ≡ Some x → other x ≡ true → list_any other xs ≡ true
-any_found test other [] x h good = absurd (cc)
-any_found test other (y ∷ ys) x h good =
-    (elim (test y) as (λ b. cond b (Some y) (find test ys) ≡ Some x → (other y || list_any other ys) ≡ true) [
-      | true ↦ λ k. (let same : y ≡ x = cc in ap (λ z. other z || list_any other ys) same ∙ ap (λ b. b || list_any other ys) good)
-      | false ↦ λ k. (elim (other y) as (λ b. (b || list_any other ys) ≡ true) [ true ↦ refl | false ↦ any_found test other ys x k good ])
-    ]) h
-
 -- how many votes are of one voter on one resolution
 abbrev votes_like : CastMark → List CastMark → ℕ
 votes_like c casts = count_by (λ (d : CastMark). same_ballot d c) casts
@@ -244,7 +229,7 @@ ballot_fits c d casts room fits =
 
 -- a vote may be added on a started poll, where its voter has cast fewer than 1,024 on the resolution
 pub vote_kept : (c : CastMark) (m : MeetingLists) (p : Poll) → is_meeting m ≡ true → poll_on m.polls c.resolution ≡ Some p → is_some p.started ≡ true
-    → nat_le 1024 (casts_on (filter (λ (d : CastMark). same_name d.voter c.voter) m.casts) c.resolution) ≡ false → is_meeting (entered (entry.Cast c) m) ≡ true
+    → nat_le 1024 (cast_count (filter (λ (d : CastMark). same_name d.voter c.voter) m.casts) c.resolution) ≡ false → is_meeting (entered (entry.Cast c) m) ≡ true
 vote_kept c m p h found started few =
     let f = meeting_facts m h in
     let casts = m.casts in
@@ -255,7 +240,7 @@ vote_kept c m p h found started few =
     let standing = first_so (list_all on casts) (list_all fits casts) f.casts in
     let within = second_so (list_all on casts) (list_all fits casts) f.casts in
     let test = λ (q : Poll). q.resolution == c.resolution in
-    let here : on c ≡ true = any_found test (is_cast_on c) m.polls p found (both_true (found_passes test m.polls p found) started) in
+    let here : on c ≡ true = found-any test (is_cast_on c) m.polls p found (both_true (found-passes test m.polls p found) started) in
     let own : nat_le (votes_like c casts) 1024 ≡ true = grind (arith, nat_tests) in
     let more = λ (d : CastMark). nat_le (votes_like d (casts ++ c ∷ [])) 1024 in
     meeting_from_facts (entered (entry.Cast c) m) (record {

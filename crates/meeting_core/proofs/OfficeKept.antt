@@ -1,10 +1,12 @@
 -- Each step keeps the lists of an office.
-use Rattle.std.proofs.Common.{◌≡◌, ℕ, suc, Bool, true, false, ◌&&◌, ◌==◌, not, List, [], ◌∷◌, ◌++◌, length, refl, ap, sym, ◌∙◌, arith, length-append}
-use Rattle.std.specs.Prelude.{Option, Some, None, option_map, is_some, is_none, nat_le}
+use Rattle.std.proofs.Common.{◌≡◌, ℕ, suc, Bool, true, false, ◌&&◌, ◌==◌, List, [], ◌∷◌, ◌++◌, length, refl, ap, sym, ◌∙◌, arith, length-append}
+use Rattle.std.specs.Prelude.{Option, Some, None, filter, option_map, is_some, is_none, nat_le}
 use Rattle.std.specs.Cmp.Derive.{both_true}
 use Rattle.std.proofs.lemmas.Bool.Decides.{nat_tests}
 use Rattle.std.proofs.lemmas.List.Folds.{list_all-append}
-use Rattle.desk_lists.proofs.Differing.{find_none, differ_snoc, differ_changed, all_changed_found, length-change_first}
+use Rattle.desk_lists.proofs.Kept.{none-found}
+use Rattle.std.proofs.lemmas.Bool.{not-false}
+use Rattle.desk_lists.proofs.Differing.{differ_snoc, differ_changed, all_changed_found, length-change_first}
 use Rattle.desk_words.specs.Finding.{meeting_named, poll_on}
 use Rattle.desk_words.specs.Names.{same_name}
 use Rattle.desk_words.specs.Keys.{same_keys}
@@ -42,15 +44,15 @@ use Rattle.caller_view.specs.Answers.{party_ruling, ruling_in as party_in}
 use Rattle.caller_view.specs.Appointments.{appoint_cases, appointment_of, end_cases, ending_of}
 use Rattle.caller_view.specs.Attendance.{authorise_cases, authority_of, demand_cases, demand_of, gave_authority, has_demanded, presence_of}
 use Rattle.caller_view.specs.Casts.{block_of, cast_cases, cast_of, instructed_cases}
-use Rattle.caller_view.specs.Views.{meeting_at, own_in, own_in_some, polls_in}
-use Rattle.caller_view.specs.declared.views.PublicRecord.{PublicRecord}
+use Rattle.caller_view.specs.Views.{meeting_at, own_in, own_in_some, public_in}
+use Rattle.proxy_rules.specs.Holdings.{is_ended_of}
 use Rattle.office_answers.specs.Answers.{desk_ruling, ruling_in as office_in}
 use Rattle.office_answers.specs.Attendance.{is_marked}
 use Rattle.office_answers.specs.Calls.{call_cases, call_ruling, meeting_of}
 use Rattle.office_answers.specs.Limits.{if_any, is_within_limits, keeps_limits}
 use Rattle.office_answers.specs.Lists.{same_days}
 use Rattle.office_answers.specs.Polls.{open_cases, order_cases, poll_of, start_cases, close_cases, declare_cases, declaration_of}
-use Rattle.office_answers.proofs.OfficeFacts.{OfficeFacts, office_facts, office_from_facts, meeting_from_facts, find-passes}
+use Rattle.desk_words.proofs.OfficeFacts.{OfficeFacts, office_facts, office_from_facts, meeting_from_facts, find-passes}
 use Rattle.meeting_core.specs.Office.{after_some, change_meeting, changed, entered, new_lists}
 use Rattle.meeting_core.specs.Step.{ruling}
 use Rattle.meeting_core.proofs.AppointmentsKept.{appointment_kept, ending_kept, given_count, numbered_given, unended_none}
@@ -65,10 +67,6 @@ not_some (Some x) h = absurd (cc)
 not_none : {X : Type 0} (o : Option X) → is_none o ≡ false → is_some o ≡ true
 not_none None h = absurd (cc)
 not_none (Some x) h = refl
-
-not_false : (b : Bool) → not b ≡ false → b ≡ true
-not_false true h = refl
-not_false false h = absurd (cc)
 
 -- a poll that is there, where none is not the case
 some_poll : (poll : Option Poll) → is_none poll ≡ false → (p : Poll) × (poll ≡ Some p)
@@ -108,7 +106,7 @@ added_kept o m f fresh room good =
       keys = f.keys;
       closed = f.closed;
       few = short;
-      apart = differ_snoc same_meeting o.meetings m f.apart (find_none (λ x. same_name x.meeting.id m.meeting.id) o.meetings fresh);
+      apart = differ_snoc same_meeting o.meetings m f.apart (none-found (λ x. same_name x.meeting.id m.meeting.id) o.meetings fresh);
       each = list_all-append is_meeting o.meetings (m ∷ []) ∙ both_true f.each (ap (λ b. b && true) good);
     })
 
@@ -159,11 +157,11 @@ office_stays m closed now (office.Presence who) good none =
     noted_stays m (is_marked m.presences who) (Enter (entry.Presence (record { party = who; moment = now }))) (λ fresh limits.
     presence_kept (record { party = who; moment = now }) m good fresh)
 office_stays m closed now office.OpenMeeting good none = λ limits.
-    opening_kept now m good (not_false m.meeting.loaded (fails NoRegister (open_cases m closed now) none))
+    opening_kept now m good (not-false m.meeting.loaded (fails NoRegister (open_cases m closed now) none))
 office_stays m closed now (office.Order new) good none = λ limits.
     let cases = order_cases m closed now new in
     let n = length m.meeting.resolutions in
-    let number : is_resolution n new.resolution ≡ true = not_false (is_resolution n new.resolution) (fails NoResolution cases none) in
+    let number : is_resolution n new.resolution ≡ true = not-false (is_resolution n new.resolution) (fails NoResolution cases none) in
     let fit : is_poll n (poll_of now new) ≡ true = both_true (both_true (both_true number refl) refl) refl in
     poll_kept (poll_of now new) m good (not_none m.meeting.opened (fails NotOpened cases none)) fit (not_some (poll_on m.polls new.resolution) (fails PollOrdered cases none))
 office_stays m closed now (office.Start resolution) good none = λ limits.
@@ -182,10 +180,6 @@ office_stays m closed now (office.Declare resolution) good none = λ limits.
 
 -- ---- what a party asks in a meeting
 
--- the public record of a meeting, where it is found or not
-abbrev pub record_of : Option MeetingLists → List ℕ → PublicRecord
-record_of found closed = record { closed = closed; meeting = option_map (λ (m : MeetingLists). m.meeting) found; polls = polls_in found }
-
 -- what is entered leaves the lists of a meeting
 abbrev EntryStays : MeetingLists → Option Entry → Type 0
 EntryStays m None = Unit {0}
@@ -197,21 +191,21 @@ noted_entry m false entry h = h refl
 
 -- what is ruled on a party's requests in a meeting leaves the lists of a meeting
 party_stays : (m : MeetingLists) (closed who : List ℕ) (now : ℕ) (what : PartyRequest) → is_meeting m ≡ true
-    → first_refusal (party_in (record_of (Some m) closed) (own_in m closed who now) now what m.meeting).cases ≡ None
-    → EntryStays m (party_in (record_of (Some m) closed) (own_in m closed who now) now what m.meeting).accepted.change
+    → first_refusal (party_in (public_in (Some m) closed) (own_in m closed who now) now what m.meeting).cases ≡ None
+    → EntryStays m (party_in (public_in (Some m) closed) (own_in m closed who now) now what m.meeting).accepted.change
 party_stays m closed who now party.Notice good none = tt
 party_stays m closed who now party.Mine good none = tt
 party_stays m closed who now (party.Appoint new) good none =
     let own = own_in m closed who now in
     let cases = appoint_cases m.meeting own new in
-    let count = given_count m.endings who m.appointments in
+    let count = given_count (filter (is_ended_of who) m.endings) who m.appointments in
     appointment_kept (appointment_of own now new) m good (ap suc count) (ap (nat_le 256) (sym count) ∙ fails TooMany cases none)
-    (not_false (length new.instructions == length m.meeting.resolutions) (fails BadInstructions cases none))
+    (not-false (length new.instructions == length m.meeting.resolutions) (fails BadInstructions cases none))
 party_stays m closed who now (party.End number) good none =
     let own = own_in m closed who now in
     let cases = end_cases own number in
     let given = fails NoSuchNumber cases none in
-    ending_kept (ending_of own now number) m good (numbered_given m.endings who number m.appointments given)
+    ending_kept (ending_of own now number) m good (numbered_given (filter (is_ended_of who) m.endings) who number m.appointments given)
     (unended_none m.endings who number m.appointments given (fails AlreadyEnded cases none))
 party_stays m closed who now (party.Authorise person) good none =
     let own = own_in m closed who now in
@@ -224,19 +218,19 @@ party_stays m closed who now party.Attend good none =
     noted_entry m own.present (entry.Presence (presence_of own now)) (λ fresh. presence_kept (presence_of own now) m good fresh)
 party_stays m closed who now (party.Demand resolution) good none =
     let own = own_in m closed who now in
-    let cases = demand_cases (record_of (Some m) closed) m.meeting own resolution in
+    let cases = demand_cases (public_in (Some m) closed) m.meeting own resolution in
     noted_entry m (has_demanded own resolution) (entry.Demand (demand_of own now resolution)) (λ fresh.
-    demand_kept (demand_of own now resolution) m good (not_false (is_resolution (length m.meeting.resolutions) resolution) (fails NoResolution cases none))
+    demand_kept (demand_of own now resolution) m good (not-false (is_resolution (length m.meeting.resolutions) resolution) (fails NoResolution cases none))
     (not_demanded who resolution m.demands fresh))
 party_stays m closed who now (party.Cast new) good none =
     let own = own_in m closed who now in
-    let cases = cast_cases (record_of (Some m) closed) m.meeting own new in
+    let cases = cast_cases (public_in (Some m) closed) m.meeting own new in
     let poll = poll_on m.polls new.resolution in
     let p = some_poll poll (fails NoPoll cases none) in
     vote_kept (cast_of own now new.resolution (block_of new)) m p.0 good p.1 (not_none p.0.started (there_fails is_waiting poll p.0 p.1 (fails PollNotOpen cases none))) (fails TooMany cases none)
 party_stays m closed who now (party.Instructed resolution) good none =
     let own = own_in m closed who now in
-    let cases = instructed_cases (record_of (Some m) closed) m.meeting own resolution in
+    let cases = instructed_cases (public_in (Some m) closed) m.meeting own resolution in
     let poll = poll_on m.polls resolution in
     let p = some_poll poll (fails NoPoll cases none) in
     vote_kept (cast_of own now resolution AsInstructed) m p.0 good p.1 (not_none p.0.started (there_fails is_waiting poll p.0 p.1 (fails PollNotOpen cases none))) (fails TooMany cases none)
@@ -298,7 +292,7 @@ office_kept o now id what h =
 -- what decides a party's request, where the meeting is found or not
 abbrev pub party_found : Option MeetingLists → List ℕ → List ℕ → ℕ → List ℕ → PartyRequest → Ruling Change
 party_found found closed who now id what =
-    ruled_within (λ e. InMeeting id (Enter e)) (party_ruling (record_of found closed) (own_in_some found closed who now) now what)
+    ruled_within (λ e. InMeeting id (Enter e)) (party_ruling (public_in found closed) (own_in_some found closed who now) now what)
 
 party_kept : (o : OfficeLists) (who : List ℕ) (now : ℕ) (id : List ℕ) (what : PartyRequest) → is_office o ≡ true
     → Kept o (settled (party_found (meeting_at o id) o.closed who now id what)).change
@@ -306,7 +300,7 @@ party_kept o who now id what h =
     (elim (meeting_at o id) as (λ found. meeting_at o id ≡ found → Kept o (settled (party_found found o.closed who now id what)).change) [
       | None ↦ λ e _. h
       | Some m ↦ λ found. change_of (Kept o) (party_found (Some m) o.closed who now id what) (λ _. h) (λ none.
-          entry_kept o id m (party_in (record_of (Some m) o.closed) (own_in m o.closed who now) now what m.meeting).accepted.change h found
+          entry_kept o id m (party_in (public_in (Some m) o.closed) (own_in m o.closed who now) now what m.meeting).accepted.change h found
           (party_stays m o.closed who now what (good_meeting o id m h found) none))
     ]) refl
 

@@ -34,9 +34,9 @@ use Rattle.desk_words.specs.declared.request.Request.TheVariants as asked
 use Rattle.desk_terms.specs.declared.refusal.Refusal.{Refusal}
 use Rattle.caller_view.specs.Answers.{mine_of, party_ruling}
 use Rattle.caller_view.specs.Appointments.{cutoff_in, given_use}
-use Rattle.caller_view.specs.Views.{meeting_at, own_in, own_in_some, polls_in, public_of}
+use Rattle.caller_view.specs.Views.{meeting_at, own_in, own_in_some, polls_in, public_in, public_of}
 use Rattle.caller_view.specs.declared.views.OwnView.{OwnView}
-use Rattle.caller_view.specs.declared.views.PublicRecord.{PublicRecord}
+use Rattle.caller_view.specs.Public.{PublicRecord}
 use Rattle.office_answers.specs.Answers.{is_some_at_once, ruling_in as office_in}
 use Rattle.office_answers.specs.Limits.{if_any, keeps_limits}
 use Rattle.meeting_core.specs.Conditions.{ConditionsStandInOrder, TheLowestRefusalIsAnswered}
@@ -44,7 +44,7 @@ use Rattle.meeting_core.specs.Laws.{LeavesThePublicRecord, ReadsTheViews, Refuse
 use Rattle.meeting_core.specs.Names.{Names, NamesOwn, in_appointment, in_authority, in_cast, in_mine, in_reply, in_row, in_view}
 use Rattle.meeting_core.specs.Office.{after_some, change_at, changed, sets_fields}
 use Rattle.meeting_core.specs.Step.{decided, is_at_once_to, needs_no_memory, party_answer, ruling}
-use Rattle.meeting_core.proofs.OfficeKept.{entered_meeting, entered_polls, party_found, record_of}
+use Rattle.meeting_core.proofs.OfficeKept.{entered_meeting, entered_polls, party_found}
 use Rattle.meeting_core.proofs.RulingLemmas.{change_of, lowest_of, quiet_of, settled_within}
 use Rattle.meeting_core.proofs.Rulings.{ordered_ruling, sound_ruling}
 
@@ -130,7 +130,7 @@ nobody_by (Some r) accepted h = refl
 -- all other replies name nobody
 names_in : (m : MeetingLists) (closed party : List ℕ) (now : ℕ) (id : List ℕ) (what : PartyRequest)
     → All (Contains (in_view (own_in m closed party now))) (in_reply (settled (party_found (Some m) closed party now id what)).reply)
-names_in m closed party now id Mine = names_told (record_of (Some m) closed) m.meeting (own_in m closed party now) now
+names_in m closed party now id Mine = names_told (public_in (Some m) closed) m.meeting (own_in m closed party now) now
 names_in m closed party now id what =
     let decision = party_found (Some m) closed party now id what in
     none_named (in_view (own_in m closed party now)) (in_reply (settled decision).reply) (nobody_by (first_refusal decision.cases) decision.accepted refl)

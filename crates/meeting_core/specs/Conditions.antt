@@ -6,7 +6,8 @@ use Rattle.desk_words.specs.declared.office.OfficeLists.{OfficeLists}
 use Rattle.desk_words.specs.declared.request.Call.{Call}
 use Rattle.meeting_core.specs.Step.{decided, ruling}
 
--- all the conditions under which a call is refused: those of the sides, of the meeting, and of what is asked
+-- all the conditions under which a call is refused: those of the sides, of the meeting, and of what
+-- is asked
 abbrev pub all_cases : OfficeLists → Call → List Case
 all_cases o call = (ruling o call.moment call.caller call.request).cases
 
@@ -14,6 +15,9 @@ all_cases o call = (ruling o call.moment call.caller call.request).cases
 abbrev pub ConditionsStandInOrder : Type 0
 ConditionsStandInOrder = (o : OfficeLists) (call : Call) → are_in_order (all_cases o call) ≡ true
 
--- a call is answered by the first condition that holds, which therefore has the lowest number, and else accepted
+-- a call is answered by the first condition that holds, which therefore has the lowest number, and
+-- else accepted
 abbrev pub TheLowestRefusalIsAnswered : Type 0
-TheLowestRefusalIsAnswered = (o : OfficeLists) (call : Call) → refusal_in (decided o call).reply ≡ first_refusal (all_cases o call)
+TheLowestRefusalIsAnswered =
+    (o : OfficeLists) (call : Call)
+    → refusal_in (decided o call).reply ≡ first_refusal (all_cases o call)

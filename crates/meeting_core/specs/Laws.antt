@@ -13,29 +13,36 @@ use Rattle.meeting_core.specs.Office.{after_some}
 use Rattle.meeting_core.specs.Step.{Answering, decided, stepped}
 
 -- two offices agree on the public record and on a party's own things in a meeting
-pub record Agree (one other : OfficeLists) (party : Party) (meeting : MeetingName) (now : Moment) : Type 0 where
+pub record Agree (one other : OfficeLists) (party : Party) (meeting : MeetingName) (now : Moment)
+    : Type 0 where
   pub public : public_of one meeting ≡ public_of other meeting
   pub own : own_of one party meeting now ≡ own_of other party meeting now
 
--- they agree in the meeting in which a party asks; where it asks what only the office may, it may know nothing
+-- they agree in the meeting in which a party asks; where it asks what only the office may, it may
+-- know nothing
 abbrev pub AgreeFor : OfficeLists → OfficeLists → Party → Moment → Request → Type 0
 AgreeFor one other party now (asked.Party meeting what) = Agree one other party meeting now
 AgreeFor one other party now request = ⊤
 
--- it reads the views alone: two offices that agree in the meeting in which a party asks give it the same reply and the same change
+-- it reads the views alone: two offices that agree in the meeting in which a party asks give it the
+-- same reply and the same change
 abbrev pub ReadsTheViews : Answering → Type 0
 ReadsTheViews answer =
-    (one other : OfficeLists) (party : Party) (now : Moment) (request : Request) → AgreeFor one other party now request
+    (one other : OfficeLists) (party : Party) (now : Moment) (request : Request)
+    → AgreeFor one other party now request
     → answer one party now request ≡ answer other party now request
 
 -- it leaves the public record of every meeting as it is
 abbrev pub LeavesThePublicRecord : Answering → Type 0
 LeavesThePublicRecord answer =
-    (office : OfficeLists) (party : Party) (now : Moment) (request : Request) (meeting : MeetingName)
-    → public_of (after_some office (answer office party now request).change) meeting ≡ public_of office meeting
+    (office : OfficeLists) (party : Party) (now : Moment) (request : Request)
+    (meeting : MeetingName)
+    → public_of (after_some office (answer office party now request).change) meeting
+    ≡ public_of office meeting
 
 -- two offices that agree on what a party may know are told apart by the answers to it
-pub record TellsApart (answer : Answering) (one other : OfficeLists) (party : Party) (now : Moment) (request : Request) : Type 0 where
+pub record TellsApart (answer : Answering) (one other : OfficeLists) (party : Party) (now : Moment)
+    (request : Request) : Type 0 where
   pub first : IsTrue (is_office one)
   pub second : IsTrue (is_office other)
   pub agree : AgreeFor one other party now request
@@ -44,9 +51,13 @@ pub record TellsApart (answer : Answering) (one other : OfficeLists) (party : Pa
 -- a refused call has no change
 abbrev pub RefusedCallsHaveNoChange : Type 0
 RefusedCallsHaveNoChange =
-    (office : OfficeLists) (call : Call) (refusal : Refusal) → (decided office call).reply ≡ reply.Refused refusal → (decided office call).change ≡ None
+    (office : OfficeLists) (call : Call) (refusal : Refusal)
+    → (decided office call).reply ≡ reply.Refused refusal
+    → (decided office call).change ≡ None
 
 -- and the office after it is the office before it
 abbrev pub RefusedCallsLeaveTheOffice : Type 0
 RefusedCallsLeaveTheOffice =
-    (office : OfficeLists) (call : Call) (refusal : Refusal) → (decided office call).reply ≡ reply.Refused refusal → stepped office call ≡ office
+    (office : OfficeLists) (call : Call) (refusal : Refusal)
+    → (decided office call).reply ≡ reply.Refused refusal
+    → stepped office call ≡ office

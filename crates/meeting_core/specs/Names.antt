@@ -21,7 +21,8 @@ use Rattle.desk_words.specs.declared.request.Request.{Request}
 use Rattle.desk_words.specs.declared.request.Request.TheVariants as asked
 use Rattle.desk_words.specs.Seen.{Moment, Party}
 use Rattle.caller_view.specs.declared.views.OwnView.{OwnView}
-use Rattle.caller_view.specs.Views.{nothing_of, own_of}
+use Rattle.caller_view.specs.Own.{nothing_of}
+use Rattle.caller_view.specs.Views.{own_of}
 use Rattle.meeting_core.specs.Step.{Answering}
 
 -- names of parties
@@ -53,8 +54,12 @@ in_cast c = c.voter ∷ in_cast_kind c.what
 -- the parties named in what a party is told of its own things
 abbrev pub in_mine : Mine → Names
 in_mine m =
-    in_row m.row ++ flat_map (λ (g : GivenUse). in_appointment g.given.appointment) m.given ++ flat_map in_authority m.persons
-    ++ map (λ (a : Authorised). a.corporation) m.authorised ++ map (λ (d : DemandMark). d.party) m.demands ++ flat_map in_cast m.casts
+    in_row m.row
+    ++ flat_map (λ (g : GivenUse). in_appointment g.given.appointment) m.given
+    ++ flat_map in_authority m.persons
+    ++ map (λ (a : Authorised). a.corporation) m.authorised
+    ++ map (λ (d : DemandMark). d.party) m.demands
+    ++ flat_map in_cast m.casts
     ++ map (λ (r : Received). r.member) m.received
 
 -- the parties named in a reply
@@ -66,20 +71,28 @@ in_reply other = []
 abbrev pub in_view : OwnView → Names
 in_view own =
     own.party
-    ∷ (in_row own.row ++ flat_map (λ (g : Given). in_appointment g.appointment) own.given ++ flat_map in_authority own.persons
-    ++ map (λ (a : Authorised). a.corporation) own.authorised ++ map (λ (d : DemandMark). d.party) own.demands ++ flat_map in_cast own.casts
+    ∷
+    (in_row own.row
+    ++ flat_map (λ (g : Given). in_appointment g.appointment) own.given
+    ++ flat_map in_authority own.persons
+    ++ map (λ (a : Authorised). a.corporation) own.authorised
+    ++ map (λ (d : DemandMark). d.party) own.demands
+    ++ flat_map in_cast own.casts
     ++ map (λ (r : Received). r.member) own.received)
 
--- what a party may know of its own in the meeting in which it asks; where it asks what only the office may, its own name alone
+-- what a party may know of its own in the meeting in which it asks; where it asks what only the
+-- office may, its own name alone
 abbrev pub own_for : OfficeLists → Party → Moment → Request → OwnView
 own_for office party now (asked.Party meeting what) = own_of office party meeting now
 own_for office party now request = nothing_of party
 
--- it names the caller's own: every party named in a reply to a party is that party, or stands in its own things
+-- it names the caller's own: every party named in a reply to a party is that party, or stands in
+-- its own things
 abbrev pub NamesOwn : Answering → Type 0
 NamesOwn answer =
     (office : OfficeLists) (party : Party) (now : Moment) (request : Request)
-    → All (Contains (in_view (own_for office party now request))) (in_reply (answer office party now request).reply)
+    → All (Contains (in_view (own_for office party now request)))
+    (in_reply (answer office party now request).reply)
 
 -- a count names nobody: the names in a reply do not show whether it tells a count
 abbrev pub CountsNameNobody : Type 0

@@ -38,7 +38,9 @@ new_lists meeting = record {
 
 -- a meeting with something entered into its lists, behind what was received before
 abbrev pub entered : Entry → MeetingLists → MeetingLists
-entered (entry.Appointment appointment) m = record m { appointments = m.appointments ++ appointment ∷ [] }
+entered (entry.Appointment appointment) m = record m {
+  appointments = m.appointments ++ appointment ∷ [];
+}
 entered (entry.Ending ending) m = record m { endings = m.endings ++ ending ∷ [] }
 entered (entry.Authority authority) m = record m { authorities = m.authorities ++ authority ∷ [] }
 entered (entry.Presence presence) m = record m { presences = m.presences ++ presence ∷ [] }
@@ -53,18 +55,24 @@ moved (Declared tally) p = record p { declared = Some tally }
 
 -- a meeting with the poll on a resolution changed
 abbrev pub change_poll : (Poll → Poll) → Number → MeetingLists → MeetingLists
-change_poll f resolution m = record m { polls = change_first (λ (p : Poll). p.resolution == resolution) f m.polls }
+change_poll f resolution m = record m {
+  polls = change_first (λ (p : Poll). p.resolution == resolution) f m.polls;
+}
 
 -- a meeting after a change
 abbrev pub changed : MeetingChange → MeetingLists → MeetingLists
-changed (SetRegister rows) m = record m { meeting = record m.meeting { loaded = true }; register = rows }
+changed (SetRegister rows) m = record m {
+  meeting = record m.meeting { loaded = true };
+  register = rows;
+}
 changed (SetOpened moment) m = record m { meeting = record m.meeting { opened = Some moment } }
 changed (AddPoll poll) m = record m { polls = insert_by poll_before poll m.polls }
 changed (SetPoll resolution change) m = change_poll (moved change) resolution m
 changed (Enter entry) m = entered entry m
 
 -- the meetings, with that of the name changed
-abbrev pub change_at : (MeetingLists → MeetingLists) → MeetingName → List MeetingLists → List MeetingLists
+abbrev pub change_at : (MeetingLists → MeetingLists) → MeetingName → List MeetingLists
+    → List MeetingLists
 change_at f id meetings = change_first (λ m. same_name m.meeting.id id) f meetings
 
 -- the office with the meeting of a name changed
@@ -73,7 +81,9 @@ change_meeting f id office = record office { meetings = change_at f id office.me
 
 -- the office after a change
 abbrev pub after : OfficeLists → Change → OfficeLists
-after office (AddMeeting meeting) = record office { meetings = office.meetings ++ new_lists meeting ∷ [] }
+after office (AddMeeting meeting) = record office {
+  meetings = office.meetings ++ new_lists meeting ∷ [];
+}
 after office (SetClosedDays days) = record office { closed = days }
 after office (SetKeys rows) = record office { keys = rows }
 after office (InMeeting id change) = change_meeting (changed change) id office

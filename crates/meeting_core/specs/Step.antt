@@ -44,14 +44,18 @@ side_cases who request =
 abbrev pub nothing_more : Refusal → Ruling Change
 nothing_more refusal = record { cases = []; accepted = refused refusal }
 
--- what decides what is asked, where the right side asks it: the office is answered from all that it holds, a party from its views of the meeting
+-- what decides what is asked, where the right side asks it: the office is answered from all that it
+-- holds, a party from its views of the meeting
 abbrev pub asked_ruling : OfficeLists → Moment → Caller → Request → Ruling Change
-asked_ruling office now caller.Office (asked.Desk what) = desk_ruling office.keys office.closed office.meetings what
+asked_ruling office now caller.Office (asked.Desk what) =
+    desk_ruling office.keys office.closed office.meetings what
 asked_ruling office now caller.Office (asked.Office meeting what) =
-    ruled_within (InMeeting meeting) (office_ruling office.closed (meeting_at office meeting) now what)
+    ruled_within (InMeeting meeting)
+    (office_ruling office.closed (meeting_at office meeting) now what)
 asked_ruling office now caller.Office (asked.Party meeting what) = nothing_more PartyOnly
 asked_ruling office now (caller.Party party) (asked.Party meeting what) =
-    ruled_within (λ entry. InMeeting meeting (Enter entry)) (party_ruling (public_of office meeting) (own_of office party meeting now) now what)
+    ruled_within (λ entry. InMeeting meeting (Enter entry))
+    (party_ruling (public_of office meeting) (own_of office party meeting now) now what)
 asked_ruling office now (caller.Party party) other = nothing_more OfficeOnly
 
 -- what decides a call: which side asks, and then what it asks
@@ -61,7 +65,8 @@ ruling office now who request = record {
   accepted = (asked_ruling office now who request).accepted;
 }
 
--- what answers a party: from an office, the party, the moment and its request, a reply and at most one change
+-- what answers a party: from an office, the party, the moment and its request, a reply and at most
+-- one change
 abbrev pub Answering : Type 0
 Answering = OfficeLists → Party → Moment → Request → Answer Change
 
@@ -80,7 +85,8 @@ is_start_or_close (Start resolution) = true
 is_start_or_close (Close resolution) = true
 is_start_or_close other = false
 
--- what is never answered by want of memory: what the wrong side asks, and a start or a close by the office
+-- what is never answered by want of memory: what the wrong side asks, and a start or a close by the
+-- office
 abbrev pub needs_no_memory : Caller → Request → Bool
 needs_no_memory caller.Office (asked.Office meeting what) = is_start_or_close what
 needs_no_memory who request = is_misplaced who request
@@ -98,7 +104,17 @@ decided office call = settled (ruling office call.moment call.caller call.reques
 abbrev pub stepped : OfficeLists → Call → OfficeLists
 stepped office call = after_some office (decided office call).change
 
--- the replies to a list of calls
-abbrev pub replies_to : OfficeLists → List Call → List Reply
-replies_to office [] = []
-replies_to office (call ∷ calls) = (decided office call).reply ∷ replies_to (stepped office call) calls
+-- what a list of calls comes to: the office after them, and the replies to them
+pub record Run : Type 0 where
+  pub office : OfficeLists
+  pub replies : List Reply
+
+-- a run that begins with a reply
+abbrev pub after_reply : Reply → Run → Run
+after_reply reply run = record { office = run.office; replies = reply ∷ run.replies }
+
+-- the run of a list of calls: each is decided in the office after those before it
+abbrev pub run_of : OfficeLists → List Call → Run
+run_of office [] = record { office = office; replies = [] }
+run_of office (call ∷ calls) =
+    after_reply (decided office call).reply (run_of (stepped office call) calls)

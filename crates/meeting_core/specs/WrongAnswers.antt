@@ -24,14 +24,17 @@ use Rattle.meeting_core.specs.Step.{Answering, party_answer}
 
 -- where a vote is recorded, the reply tells how the votes on the resolution stand
 abbrev pub told_the_count : Option MeetingLists → List Day → Moment → Number → Reply → Reply
-told_the_count (Some m) closed now resolution reply.Recorded = reply.Declared (declaration_of m closed now resolution)
+told_the_count (Some m) closed now resolution reply.Recorded =
+    reply.Declared (declaration_of m closed now resolution)
 told_the_count found closed now resolution other = other
 
 -- the wrong answer: a voter is told how the votes stood
 abbrev pub running_total : Answering
 running_total office party now (asked.Party meeting (Cast new)) =
-    let right = party_answer office party now (asked.Party meeting (Cast new)) in
-    record right { reply = told_the_count (meeting_at office meeting) office.closed now new.resolution right.reply }
+    let right = party_answer office party now (asked.Party meeting (Cast new)) in record right {
+      reply = told_the_count (meeting_at office meeting) office.closed now new.resolution
+          right.reply;
+    }
 running_total office party now request = party_answer office party now request
 
 -- a member, another member, and a meeting
@@ -46,45 +49,37 @@ a_meeting = in_places 16 (codes "M")
 
 -- a member's one share
 abbrev pub one_share : Party → RegisterRow
-one_share member = record { member = member; kind = Individual; name = codes "N"; shares = 1; paid = 0 }
+one_share member = record {
+  member = member;
+  kind = Individual;
+  name = codes "N";
+  shares = 1;
+  paid = 0;
+}
 
 -- an office of one opened meeting, with two members, one started poll, and these votes
 abbrev pub office_with : List CastMark → OfficeLists
-office_with votes = record {
-  keys = [];
-  closed = [];
-  meetings = record {
-    meeting = record {
-      id = a_meeting;
-      company = Private;
-      kind = General;
-      given = 0;
-      appointed = 0;
-      record_moment = 0;
-      resolutions = record { kind = Ordinary; text = codes "R" } ∷ [];
-      loaded = true;
-      opened = Some 0;
-    };
-    register = one_share a_member ∷ one_share another ∷ [];
-    appointments = [];
-    endings = [];
-    authorities = [];
-    presences = [];
-    demands = [];
-    polls = record { resolution = 1; ordered = 0; take = 0; chair = true; started = Some 0; closed = None; declared = None } ∷ [];
-    casts = votes;
-  } ∷ [];
-}
+office_with votes =
+    record {
+      keys = [];
+      closed = [];
+      meetings = record { meeting = record { id = a_meeting; company = Private; kind = General; given = 0; appointed = 0; record_moment = 0; resolutions = record { kind = Ordinary; text = codes "R" } ∷ []; loaded = true; opened = Some 0 }; register = one_share a_member ∷ one_share another ∷ []; appointments = []; endings = []; authorities = []; presences = []; demands = []; polls = record { resolution = 1; ordered = 0; take = 0; chair = true; started = Some 0; closed = None; declared = None } ∷ []; casts = votes } ∷ [];
+    }
 
 -- the vote of the other member
 abbrev pub vote_of_another : CastMark
-vote_of_another = record {
-  resolution = 1;
-  voter = another;
-  what = Block (record { capacity = Member; member = another; range = record { from = 1; to = 1 }; way = For });
-  moment = 0;
-}
+vote_of_another =
+    record {
+      resolution = 1;
+      voter = another;
+      what = Block (record { capacity = Member; member = another; range = record { from = 1; to = 1 }; way = For });
+      moment = 0;
+    }
 
 -- what the member asks
 abbrev pub vote_wanted : Request
-vote_wanted = asked.Party a_meeting (Cast (record { resolution = 1; capacity = Member; member = a_member; from = 1; to = 1; way = For }))
+vote_wanted =
+    asked.Party a_meeting
+    (Cast
+    (record
+    { resolution = 1; capacity = Member; member = a_member; from = 1; to = 1; way = For }))

@@ -1,6 +1,7 @@
 //! The book: all that an office holds, in memory.
 ghost use Rattle.std.specs.Prelude.{◌≡◌, true, IfOk, OnOk, OnErr, IsTrue, IsOk};
-ghost use Rattle.caller_view.specs.Reads.{own_read};
+ghost use Rattle.caller_view.specs.Reads.{rows_read};
+ghost use Rattle.caller_view.specs.Rows.{rows_in};
 ghost use Rattle.caller_view.specs.Views.{meeting_at, own_of, public_of};
 ghost use Rattle.caller_view.specs.Answers.{party_ruling};
 ghost use Rattle.desk_words.specs.Office.{is_office};
@@ -12,14 +13,17 @@ ghost use Rattle.office_answers.specs.Limits.{if_any, is_within_limits, keeps_li
 ghost use Rattle.meeting_core.specs.Office.{after, after_some, empty_office, sets_fields};
 ghost use Rattle.meeting_core.specs.Step.{decided, is_at_once_to, needs_no_memory, stepped};
 
+mod lists;
+
 use crate::changes::{change_meeting, new_lists};
-use caller_view::{OwnView, PublicRecord, answer};
+use caller_view::{OwnRows, OwnView, PublicRecord, answer, own_for, own_from};
 use desk_words::{
     Answer, Call, Caller, Change, DayList, Entry, KeyRows, Listing, MeetingChange, MeetingId,
     MeetingLists, Moment, OfficeRequest, Party, PartyRequest, Refusal, Reply, Request,
     find_meeting, refuse,
 };
-use meeting_views::{nothing_of, own_for, own_in};
+pub use lists::BookFault;
+use meeting_views::{no_rows_of, rows_for, rows_of};
 use office_answers::{desk_answer, office_answer};
 use office_days::Closed;
 use std::alloc::{AllocError, Global};
@@ -88,24 +92,28 @@ impl Book {
         }
     }
 
-    /// The public record of a meeting; where there is none of that name, the closed days alone. The
-    /// error is want of memory.
-    pub fn public_of(&self, meeting: MeetingId) -> Result<PublicRecord, AllocError>
-        ensures { IfOk result (λ r. r ≡ public_of self.now meeting) }
+    /// The public record of a meeting, which is lent; where there is none of that name, the closed
+    /// days alone. It takes no memory.
+    pub fn public_of(&self, meeting: MeetingId) -> PublicRecord<'_>
+        ensures { result ≡ public_of self.now meeting }
     {
-        let closed = self.closed.clone()?;
-        let Some(lists) = find_meeting(&self.meetings, meeting) else {
-            return Ok(PublicRecord {
-                closed,
-                meeting: None,
-                polls: Listing::new(self.alloc),
-            });
-        };
-        Ok(PublicRecord {
-            closed,
-            meeting: Some(lists.meeting.clone()?),
-            polls: lists.polls.clone()?,
-        })
+        match find_meeting(&self.meetings, meeting) {
+            None => PublicRecord::new(&self.closed, None, &[]),
+            Some(lists) => {
+                let polls = lists.polls.as_slice();
+                PublicRecord::new(&self.closed, Some(&lists.meeting), polls)
+            }
+        }
+    }
+
+    /// The rows of a party in a meeting; where there is none of that name, none.
+    fn rows_of(&self, party: Party, meeting: MeetingId) -> Result<OwnRows, AllocError>
+        ensures { IfOk result (λ rows. rows ≡ rows_in (meeting_at self.now meeting) party) }
+    {
+        match find_meeting(&self.meetings, meeting) {
+            None => Ok(no_rows_of(self.alloc, party)),
+            Some(lists) => rows_of(self.alloc, lists, party),
+        }
     }
 
     /// The own things of a party in a meeting at a moment; where there is none of that name, its
@@ -118,27 +126,24 @@ impl Book {
     ) -> Result<OwnView, AllocError>
         ensures { IfOk result (λ own. own ≡ own_of self.now party meeting now) }
     {
-        match find_meeting(&self.meetings, meeting) {
-            None => Ok(nothing_of(self.alloc, party)),
-            Some(lists) => own_in(self.alloc, &self.closed, lists, party, now),
-        }
+        let public = self.public_of(meeting);
+        let rows = self.rows_of(party, meeting)?;
+        own_from(self.alloc, &rows, &public, now)
     }
 
-    /// Those of the own things of a party in a meeting at a moment that the answer to a request
-    /// reads.
-    fn own_for(
+    /// Those of the rows of a party in a meeting that the answer to a request reads.
+    fn rows_for(
         &self,
         party: Party,
         meeting: MeetingId,
-        now: Moment,
         asked: &PartyRequest,
-    ) -> Result<OwnView, AllocError>
-        ensures { IfOk result (λ own. own ≡ own_read asked.now
-            (own_of self.now party meeting now)) }
+    ) -> Result<OwnRows, AllocError>
+        ensures { IfOk result (λ rows. rows
+            ≡ rows_read asked.now (rows_in (meeting_at self.now meeting) party)) }
     {
         match find_meeting(&self.meetings, meeting) {
-            None => Ok(nothing_of(self.alloc, party)),
-            Some(lists) => own_for(self.alloc, &self.closed, lists, party, now, asked),
+            None => Ok(no_rows_of(self.alloc, party)),
+            Some(lists) => rows_for(self.alloc, lists, party, asked),
         }
     }
 
@@ -154,8 +159,9 @@ impl Book {
             ≡ settled (party_ruling (public_of self.now meeting)
             (own_of self.now party meeting now) now asked.now)) }
     {
-        let public = self.public_of(meeting)?;
-        let own = self.own_for(party, meeting, now, asked)?;
+        let public = self.public_of(meeting);
+        let rows = self.rows_for(party, meeting, asked)?;
+        let own = own_for(self.alloc, &rows, &public, now, asked)?;
         answer(self.alloc, &public, &own, now, asked)
     }
 

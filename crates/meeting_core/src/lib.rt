@@ -5,4 +5,4 @@ mod book;
 mod changes;
 pub mod laws;
 
-pub use book::Book;
+pub use book::{Book, BookFault};

@@ -10,7 +10,8 @@ use Rattle.desk_lines.proofs.Giving.{Keeps-same}
 use Rattle.desk_terms.specs.declared.refusal.Refusal.TheVariants.{TooLarge}
 use Rattle.desk_words.specs.declared.reply.Reply.TheVariants.{Refused}
 use Rattle.desk_replies.specs.Replies.{reply_bytes}
-use Rattle.desk_program.specs.Transcript.{as_line, unless_refused}
+use Rattle.desk_program.specs.ReplayRuns.{as_line}
+use Rattle.desk_program.specs.Transcript.{unless_refused}
 use Rattle.desk_program.proofs.TurnLemmas.{at_end-rest, positive, stops-too_long, stops-whole}
 use Rattle.desk_program.proofs.script.turn.Goals as goal
 use Rattle.desk_program.proofs.script.turn.Goals.{in-TooLong, in-Whole+else-is_empty}

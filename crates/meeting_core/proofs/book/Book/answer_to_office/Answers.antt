@@ -10,7 +10,7 @@ use Rattle.desk_words.specs.declared.answer.Answer.{Answer}
 use Rattle.desk_words.specs.declared.change.MeetingChange.{MeetingChange}
 use Rattle.std.specs.Option.{option_copied}
 use Rattle.office_answers.specs.Answers.{office_ruling}
-use Rattle.office_answers.proofs.OfficeFacts.{found_meeting, office_facts}
+use Rattle.desk_words.proofs.OfficeFacts.{found_meeting, office_facts}
 use Rattle.meeting_core.proofs.book.Book.answer_to_office.Goals as goal
 
 -- what is found is a meeting

@@ -1,18 +1,20 @@
-use Rattle.std.proofs.Common.{ap, sym, ◌∙◌}
-use Rattle.desk_words.specs.declared.office.OfficeLists.{OfficeLists}
-use Rattle.desk_words.specs.Finding.{meeting_named}
-use Rattle.office_answers.proofs.OfficeFacts.{found_facts, meeting_from_facts, meeting_rows}
+use Rattle.std.proofs.Common.{◌≡◌, ap, ◌∙◌}
+use Rattle.std.proofs.lemmas.Result.{IfOk-weaker}
+use Rattle.caller_view.specs.Own.{own_from}
+use Rattle.caller_view.specs.Rows.{rows_in}
+use Rattle.caller_view.specs.Views.{meeting_at, own_of}
+use Rattle.caller_view.specs.declared.rows.OwnRows.{OwnRows}
+use Rattle.caller_view.specs.declared.views.OwnView.{OwnView}
+use Rattle.caller_view.specs.Public.{PublicRecord}
 use Rattle.meeting_core.proofs.book.Book.own_of.Goals as goal
 
-pub own_in-requires-clause-rows : goal.own_in-requires-clause-rows
-own_in-requires-clause-rows c =
-    let o : OfficeLists = record { keys = c.self.inside.keys; closed = c.self.inside.closed; meetings = c.self.inside.meetings.items } in
-    let m = c.in-Some.lists.now in
-    meeting_rows m (meeting_from_facts m (found_facts o c.args.meeting m c.self.invariant
-    (ap (λ meetings. meeting_named meetings c.args.meeting) (sym c.deref.ensures.value) ∙ sym c.in-Some.ensures)))
-
-pub own_in-requires-clause-appointments : goal.own_in-requires-clause-appointments
-own_in-requires-clause-appointments c =
-    let o : OfficeLists = record { keys = c.self.inside.keys; closed = c.self.inside.closed; meetings = c.self.inside.meetings.items } in
-    (found_facts o c.args.meeting c.in-Some.lists.now c.self.invariant
-    (ap (λ meetings. meeting_named meetings c.args.meeting) (sym c.deref.ensures.value) ∙ sym c.in-Some.ensures)).appointments
+pub returns : goal.returns
+returns c =
+    let office = c.args.self.now in
+    let now = c.args.now in
+    let rows = rows_in (meeting_at office c.args.meeting) c.args.party in
+    let due =
+    ap (λ (r : OwnRows). own_from r c.public_of-public.result now) c.in_ok-rows.ensures
+    ∙ ap (λ (p : PublicRecord). own_from rows p now) c.public_of-public.ensures in
+    IfOk-weaker c.own_from.result (λ (own : OwnView). own ≡ own_from c.in_ok-rows.rows c.public_of-public.result now)
+    (λ (own : OwnView). own ≡ own_of office c.args.party c.args.meeting now) (λ own same. same ∙ due) c.own_from.ensures.value

@@ -1,0 +1,54 @@
+//! The book of lists that were kept elsewhere.
+ghost use Rattle.std.specs.Prelude.{◌≡◌, false, Err, IfOk, IsTrue};
+ghost use Rattle.desk_words.specs.Office.{is_office};
+ghost use Rattle.office_checks.specs.InOrder.{office_in_order};
+ghost use Rattle.meeting_core.specs.declared.book.lists.BookFault.TheVariants.{Memory, NoOffice};
+
+use crate::book::Book;
+use desk_words::OfficeLists;
+use office_checks::office_of;
+use office_days::Closed;
+use std::alloc::{AllocError, Global};
+
+/// Why lists make no book.
+#[derive(Clone, Copy, PartialEq, Eq)]
+pub enum BookFault {
+    /// They are no office.
+    NoOffice,
+    /// An allocation was refused.
+    Memory,
+}
+
+impl From<AllocError> for BookFault {
+    ghost from_gives = { λ _ e. e ≡ Memory };
+
+    fn from(_refused: AllocError) -> BookFault {
+        BookFault::Memory
+    }
+}
+
+impl Book {
+    /// The book of some lists, as they were kept. A register is a set of rows (section 113), so
+    /// each is put in the order of members first. The fault is `NoOffice` where the lists are no
+    /// office then, and only there; `Memory`, which says nothing of the lists, is want of memory.
+    pub fn of_lists(alloc: Global, lists: OfficeLists) -> Result<Book, BookFault>
+        ensures value { IfOk result (λ b. b ≡ office_in_order lists) }
+        ensures kept { IfOk result (λ b. IsTrue (is_office b)) }
+        ensures no_office { result ≡ Err NoOffice → is_office (office_in_order lists) ≡ false }
+    {
+        let Some(office) = office_of(alloc, lists)? else {
+            return Err(BookFault::NoOffice);
+        };
+        let OfficeLists {
+            keys,
+            closed,
+            meetings,
+        } = office;
+        Ok(Book {
+            alloc,
+            keys,
+            closed: Closed::from_list(closed),
+            meetings: meetings.into_vec(),
+        })
+    }
+}

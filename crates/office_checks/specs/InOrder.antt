@@ -1,0 +1,44 @@
+-- The office of some lists. A register is a set of rows, so that its rows may come in any order.
+use Rattle.std.specs.Prelude.{Bool, List, map, Option, Some, None, if◌then◌else◌}
+use Rattle.std.specs.List.{list_all}
+use Rattle.desk_lists.specs.Sorting.{sort_by}
+use Rattle.desk_words.specs.Office.{are_meetings, is_loaded_right, is_meeting, is_office, no_rows}
+use Rattle.desk_words.specs.Registers.{is_register, member_before}
+use Rattle.desk_words.specs.declared.office.MeetingLists.{MeetingLists}
+use Rattle.desk_words.specs.declared.office.OfficeLists.{OfficeLists}
+use Rattle.desk_words.specs.declared.records.RegisterRow.{RegisterRow}
+
+-- the rows in the order of members (section 113), if they are a register where one is loaded, and
+-- none where none is
+abbrev pub rows_of : Bool → List RegisterRow → Option (List RegisterRow)
+rows_of loaded rows =
+    let sorted = sort_by member_before rows in
+    if (if loaded then is_register sorted else no_rows sorted) then Some sorted else None
+
+-- the lists of a meeting, with its register in the order of members (section 113)
+abbrev pub in_order : MeetingLists → MeetingLists
+in_order m = record m { register = sort_by member_before m.register }
+
+-- they, if the register is loaded as it should be
+abbrev pub loaded_of : MeetingLists → Option MeetingLists
+loaded_of m = if is_loaded_right (in_order m) then Some (in_order m) else None
+
+-- they, if they are the lists of a meeting
+abbrev pub meeting_of : MeetingLists → Option MeetingLists
+meeting_of m = if is_meeting (in_order m) then Some (in_order m) else None
+
+-- the lists, each register in order, if each are those of a meeting
+abbrev pub each_of : List MeetingLists → Option (List MeetingLists)
+each_of ms = if list_all is_meeting (map in_order ms) then Some (map in_order ms) else None
+
+-- the lists of meetings, each register in order, if they are those of the meetings of an office
+abbrev pub meetings_of : List MeetingLists → Option (List MeetingLists)
+meetings_of ms = if are_meetings (map in_order ms) then Some (map in_order ms) else None
+
+-- the lists, each register in order
+abbrev pub office_in_order : OfficeLists → OfficeLists
+office_in_order o = record o { meetings = map in_order o.meetings }
+
+-- the office of some lists, if they are the lists of an office once each register is in order
+abbrev pub office_of : OfficeLists → Option OfficeLists
+office_of o = if is_office (office_in_order o) then Some (office_in_order o) else None

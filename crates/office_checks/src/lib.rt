@@ -1,0 +1,11 @@
+//! What makes lists an office, tested of lists that were kept elsewhere.
+#![tactic(auto)]
+
+mod appointments;
+mod attendance;
+mod keys;
+mod meetings;
+mod office;
+mod polls;
+
+pub use office::office_of;
