@@ -38,7 +38,8 @@ abbrev pub plan_view : Plan → Asked
 plan_view (plan.Init file) = Init file.now
 plan_view (plan.Keys file csv zone) = Keys file.now csv.now zone.rule.now
 plan_view (plan.Days file txt zone) = Days file.now txt.now zone.rule.now
-plan_view (plan.Register file meeting record_moment csv zone) = Register file.now meeting record_moment csv.now zone.rule.now
+plan_view (plan.Register file meeting record_moment csv zone) =
+    Register file.now meeting record_moment csv.now zone.rule.now
 plan_view (plan.Results file meeting) = Results file.now meeting
 plan_view plan.Replay = Replay
 
@@ -149,4 +150,5 @@ asked_in (Some named) = asked_by named.0 named.1
 
 -- what the words ask for, where `clap` finds no fault in them
 unfoldable pub asked : List Text → Result Asked Wrong
-asked words = if is_empty (fault_of desk words) then asked_in (subcommand_of desk words) else Err Words
+asked words =
+    if is_empty (fault_of desk words) then asked_in (subcommand_of desk words) else Err Words

@@ -41,7 +41,8 @@ fn with_word<'a>(
     id: &'a str,
     help: &'a str,
 ) -> Result<Command<'a>, AllocError>
-    ensures { IfOk result (λ c. spec.Extends command.entry c (λ a. with_rule a (spec.wanted id.entry.now))) }
+    ensures { IfOk result
+        (λ c. spec.Extends command.entry c (λ a. with_rule a (spec.wanted id.entry.now))) }
 {
     command.arg(wanted(alloc, id, help))
 }
@@ -109,14 +110,16 @@ fn with_command<'a>(command: Command<'a>, under: Command<'a>) -> Result<Command<
     command.subcommand(under)
 }
 
-fn top<'a>(alloc: Global) -> Command<'a>
-    ensures { spec.IsCommand result spec.top }
+/// The program's name is given, since it is not among the words: else the help of a command lacks it.
+fn top<'a>(alloc: Global) -> Result<Command<'a>, AllocError>
+    ensures { IfOk result (λ c. spec.IsCommand c spec.top) }
 {
     Command::new(alloc, "desk")
         .about(help::DESK)
         .subcommand_required(true)
         .arg_required_else_help(true)
         .no_binary_name(true)
+        .bin_name("desk")
 }
 
 fn desk<'a>(alloc: Global) -> Result<Command<'a>, AllocError>
@@ -128,7 +131,8 @@ fn desk<'a>(alloc: Global) -> Result<Command<'a>, AllocError>
     let register = register(alloc)?;
     let results = results(alloc)?;
     let replay = named(alloc, "replay", help::REPLAY);
-    let first = with_command(top(alloc), init)?;
+    let top = top(alloc)?;
+    let first = with_command(top, init)?;
     let second = with_command(first, keys)?;
     let third = with_command(second, days)?;
     let fourth = with_command(third, register)?;
@@ -139,7 +143,8 @@ fn desk<'a>(alloc: Global) -> Result<Command<'a>, AllocError>
 
 /// What `clap` makes of the words, the program's own name not among them.
 pub(crate) fn desk_matches<'a>(alloc: Global, words: &'a [String]) -> Result<ArgMatches<'a>, Error>
-    ensures named { IfOk result (λ m. subcommand_rows_of m ≡ subcommand_of spec.desk (map string_bytes words.entry.now)) }
+    ensures named { IfOk result
+        (λ m. subcommand_rows_of m ≡ subcommand_of spec.desk (map string_bytes words.entry.now)) }
     ensures exact { FailsBy (fault_of spec.desk (map string_bytes words.entry.now)) result }
 {
     let command = desk(alloc)?;

@@ -53,8 +53,8 @@ pub enum Plan<'a> {
 /// Why the words ask for nothing. The faults are found in this order.
 #[derive(Drop)]
 pub enum WordsFault {
-    /// The words are not those of a command, or they ask for help. It holds the text to print, which
-    /// ends with a line feed.
+    /// The words are not those of a command, or they ask for help. It holds the text to print,
+    /// which ends with a line feed.
     Words(String),
     /// The word for the meeting is not the name of one.
     Meeting,
@@ -191,8 +191,9 @@ fn refused(alloc: Global, error: &Error) -> WordsFault
     }
 }
 
-/// What the words of the program ask for, its own name not among them: a command with its files and its
-/// values. The faults are found in their order: the words, the meeting, the record moment, the zone.
+/// What the words of the program ask for, its own name not among them: a command with its files and
+/// its values. The faults are found in their order: the words, the meeting, the record moment, the
+/// zone.
 pub fn read_words<'a>(alloc: Global, words: &'a [String]) -> Result<Plan<'a>, WordsFault>
     ensures asked { Gives plan_view result (asked (map string_bytes words.entry.now)) }
     ensures zone { IfOk result HasZoneOfRule }

@@ -19,7 +19,8 @@ use Rattle.desk_endings.specs.declared.ended.Fault.TheVariants as fault
 
 -- `refused`, with the number and the name of a refusal
 abbrev pub refusal_line : Refusal → List ℕ
-refusal_line refusal = codes "refused " ++ (decimal (number_of refusal) ++ (codes " " ++ name_of refusal))
+refusal_line refusal =
+    codes "refused " ++ (decimal (number_of refusal) ++ (codes " " ++ name_of refusal))
 
 -- `BadRow`, with a line and what is wrong with it
 abbrev pub bad_row_line : ℕ → Why → List ℕ

@@ -115,8 +115,8 @@ impl Ended {
         }
     }
 
-    /// Words that ask for nothing end with status 2, and the text of their reader, or `meeting`, `record`
-    /// or `zone`; want of memory ends with status 3.
+    /// Words that ask for nothing end with status 2, and the text of their reader, or `meeting`,
+    /// `record` or `zone`; want of memory ends with status 3.
     pub fn by_words(fault: WordsFault) -> Ended
         ensures { ended_view result ≡ ended_by_words fault }
     {

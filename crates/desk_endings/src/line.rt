@@ -6,8 +6,8 @@ use desk_papers::Why;
 use desk_terms::Refusal;
 use std::fmt;
 
-/// A line for standard error, without its line feed; what the reader of the words says ends with one. It
-/// is written with no memory.
+/// A line for standard error, without its line feed; what the reader of the words says ends with
+/// one. It is written with no memory.
 #[derive(Drop)]
 pub enum Line {
     /// A name by itself.

@@ -1,17 +1,14 @@
 -- What the fields of records spell.
-use Rattle.std.proofs.Common.{rules, arith, ◌<◌, ◌≡◌, ℕ, Bool, true, false, cond, List, Some, None, refl, sym, subst}
-use Rattle.std.specs.Prelude.{codes, bytes_eq, ◌&&◌}
+use Rattle.std.proofs.Common.{arith, ◌<◌, ◌≡◌, ℕ, true, false, List, None, refl, sym, subst}
+use Rattle.std.specs.Prelude.{codes, bytes_eq}
 use Rattle.std.specs.Char.{is_ascii_lowercase}
 use Rattle.std.proofs.lemmas.Bool.Decides.{nat_tests}
 use Rattle.desk_terms.proofs.NameLemmas.{text_from_letters}
-use Rattle.std.specs.Str.{IsUtf8, is_utf8}
+use Rattle.std.specs.Str.{IsUtf8}
 use Rattle.std.proofs.lemmas.Slice.Eq.{bytes_eq-Decides}
-use Rattle.std.proofs.lemmas.Str.{IsUtf8-from_is_utf8, is_utf8-from_IsUtf8}
 use Rattle.desk_terms.specs.Kinds.{holder_kind_word, holder_kind_of}
-use Rattle.desk_terms.specs.Texts.{is_plain_text, IsText}
 use Rattle.desk_terms.specs.declared.kinds.HolderKind.{HolderKind}
 use Rattle.desk_terms.specs.declared.kinds.HolderKind.TheVariants.{Individual, Corporation, Treasury}
-use Rattle.desk_files.specs.Registers.{text_of}
 
 small : (b : ℕ) → is_ascii_lowercase b ≡ true → b < 128
 small b h = grind (arith, nat_tests)
@@ -33,22 +30,3 @@ pub kind_of-no_text : (bytes : List ℕ) → ¬ (IsUtf8 bytes) → holder_kind_o
 kind_of-no_text bytes no_text =
     let word = λ (kind : HolderKind). no_word bytes kind no_text in
     rw (word Individual, word Corporation, word Treasury)
-
-text_if : (a b : Bool) (bytes : List ℕ) → a ≡ true → b ≡ true → cond (a && b) (Some bytes) None ≡ Some bytes
-text_if a b bytes h k = rw (h, k)
-
--- a text is one
-pub text_of-text : (bytes : List ℕ) → IsText bytes → text_of bytes ≡ Some bytes
-text_of-text bytes is = text_if (is_utf8 bytes) (is_plain_text bytes) bytes (is_utf8-from_IsUtf8 bytes is.utf8) (search rules)
-
-made_text : (bytes : List ℕ) → is_utf8 bytes ≡ true → is_plain_text bytes ≡ true → IsText bytes
-made_text bytes h k = record { utf8 = IsUtf8-from_is_utf8 bytes h; plain = search rules }
-
-none_unless : (a b : Bool) (bytes : List ℕ) → (a ≡ true → b ≡ true → ⊥) → cond (a && b) (Some bytes) None ≡ None
-none_unless true true bytes not = absurd (not refl refl)
-none_unless true false bytes not = refl
-none_unless false b bytes not = refl
-
--- and what is no text is none
-pub text_of-no_text : (bytes : List ℕ) → ¬ (IsText bytes) → text_of bytes ≡ None
-text_of-no_text bytes no_text = none_unless (is_utf8 bytes) (is_plain_text bytes) bytes (λ h k. no_text (made_text bytes h k))

@@ -9,13 +9,13 @@ use Rattle.std.specs.Option.{option_cmp}
 use Rattle.std.specs.Ordering.{is_eq}
 use Rattle.std.specs.declared.cmp.Ordering.{Ordering}
 use Rattle.std.proofs.lemmas.Bool.Decides.{nat_tests}
+use Rattle.std.proofs.lemmas.Bool.{and_from}
 use Rattle.desk_lists.specs.Ordered.{differ_by}
 use Rattle.desk_lists.proofs.Differing.{differ_snoc}
-use Rattle.desk_lists.proofs.Truth.{both_true}
 use Rattle.desk_terms.specs.Names.{name_cmp}
 use Rattle.desk_words.specs.Registers.{all_shares, is_holding, same_member}
 use Rattle.desk_words.specs.declared.records.RegisterRow.{RegisterRow}
-use Rattle.desk_words.specs.declared.register.TheConstants.{MOST_SHARES}
+use Rattle.desk_words.specs.declared.limits.TheConstants.{MOST_SHARES}
 use Rattle.desk_files.specs.declared.fault.FileFault.{FileFault}
 use Rattle.desk_files.specs.declared.fault.FileFault.TheVariants.{BadRow, Twice}
 use Rattle.desk_files.specs.declared.fault.Why.TheVariants as why
@@ -25,7 +25,7 @@ use Rattle.desk_files.specs.Keys.{key_in, next_key}
 use Rattle.desk_words.specs.Callers.{party_in}
 use Rattle.desk_words.specs.Lists.{same_caller, same_secret}
 use Rattle.desk_words.specs.declared.caller.KeyRow.{KeyRow}
-use Rattle.desk_files.specs.Registers.{row_in, next_row}
+use Rattle.desk_files.specs.Registers.{next_row, next_spelled}
 use Rattle.desk_files.specs.Tables.{one_row_more}
 
 pub is_true : (b : Bool) → IsTrue b → b ≡ true
@@ -46,8 +46,8 @@ any_more p (x ∷ xs) y = ap (λ rest. p x || rest) (any_more p xs y) ∙ by (p 
     by false false rest = refl
 
 all_more : {X : Type 0} (p : X → Bool) (xs : List X) (y : X) → list_all p xs ≡ true → p y ≡ true → list_all p (xs ++ y ∷ []) ≡ true
-all_more p [] y h k = both_true _ _ k refl
-all_more p (x ∷ xs) y h k = both_true _ _ (first_so (p x) (list_all p xs) h) (all_more p xs y (second_so (p x) (list_all p xs) h) k)
+all_more p [] y h k = and_from _ _ k refl
+all_more p (x ∷ xs) y h k = and_from _ _ (first_so (p x) (list_all p xs) h) (all_more p xs y (second_so (p x) (list_all p xs) h) k)
 
 -- a set that took the key of one more value
 pub held-more : {K X : Type 0} (cmp : K → K → Ordering) (key : X → K) (xs : List X) (held held' : BTreeSet K) (y : X) → HoldsEach cmp key xs held → Updates cmp held held' (key y) true → HoldsEach cmp key (xs ++ y ∷ []) held'
@@ -68,38 +68,36 @@ kept-more rows row kept few holding other fits =
     let more : length (rows ++ row ∷ []) ≡ length rows + 1 = length-append rows (row ∷ []) in
     let count : length (rows ++ row ∷ []) ≤ 20000 = omega arith in
     let sum : all_shares (rows ++ row ∷ []) ≤ MOST_SHARES = omega (arith, shares-more rows row) in
-    both_true _ _
-    (both_true _ _
-    (both_true _ _ (grind (arith, nat_tests)) (all_more is_holding rows row (second_so (nat_le (length rows) 20000) (list_all is_holding rows) holdings) holding))
+    and_from _ _
+    (and_from _ _
+    (and_from _ _ (grind (arith, nat_tests)) (all_more is_holding rows row (second_so (nat_le (length rows) 20000) (list_all is_holding rows) holdings) holding))
     (grind (arith, nat_tests)))
     (differ_snoc same_member rows row differ other)
 
-next_row-is : (line : ℕ) (rows : List RegisterRow) (fields : List (List ℕ)) (row : RegisterRow) → length rows < 20000 → row_in line fields ≡ Ok row
+next_row-is : (line : ℕ) (rows : List RegisterRow) (fields : List (List ℕ)) (row : RegisterRow) → next_spelled line (length rows) fields ≡ Ok row
     → next_row line rows fields ≡ (only (not (list_any (λ earlier. same_member earlier row) rows)) (Twice line) >>= λ other. only (nat_le (all_shares (rows ++ row ∷ [])) MOST_SHARES) (BadRow line why.Total) >>= λ fits. Ok row)
 unfolding next_row
-next_row-is line rows fields row few is =
-    let room : nat_lt (length rows) 20000 ≡ true = grind (arith, nat_tests) in
-    rw (room, is)
+next_row-is line rows fields row is = rw is
 
 checks : ℕ → List RegisterRow → RegisterRow → Bool → Bool → Result (List RegisterRow) FileFault
 checks line rows row twice fits =
     (only (not twice) (Twice line) >>= λ other. only fits (BadRow line why.Total) >>= λ fits. Ok row) >>= λ r. Ok (rows ++ r ∷ [])
 
-one_more-is : (rows : List RegisterRow) (fields : List (List ℕ)) (row : RegisterRow) (twice fits : Bool) → length rows < 20000 → row_in (length rows + 2) fields ≡ Ok row
+one_more-is : (rows : List RegisterRow) (fields : List (List ℕ)) (row : RegisterRow) (twice fits : Bool) → next_spelled (length rows + 2) (length rows) fields ≡ Ok row
     → list_any (λ earlier. same_member earlier row) rows ≡ twice → nat_le (all_shares (rows ++ row ∷ [])) MOST_SHARES ≡ fits → one_row_more next_row rows fields ≡ checks (length rows + 2) rows row twice fits
 unfolding checks
-one_more-is rows fields row twice fits few is any total =
-    ap (λ next. next >>= λ r. Ok (rows ++ r ∷ [])) (next_row-is (length rows + 2) rows fields row few is) ∙ rw (any, total)
+one_more-is rows fields row twice fits is any total =
+    ap (λ next. next >>= λ r. Ok (rows ++ r ∷ [])) (next_row-is (length rows + 2) rows fields row is) ∙ rw (any, total)
 
-module _ (rows : List RegisterRow) (members : BTreeSet (List ℕ)) (total : ℕ) (fields : List (List ℕ)) (row : RegisterRow) (so_far : AreRowsSoFar rows members total) (few : length rows < 20000)
-    (n : ℕ) (count : n ≡ length rows) (spelled : row_in (n + 2) fields ≡ Ok row) where
-  is : row_in (length rows + 2) fields ≡ Ok row
+module _ (rows : List RegisterRow) (members : BTreeSet (List ℕ)) (total : ℕ) (fields : List (List ℕ)) (row : RegisterRow) (so_far : AreRowsSoFar rows members total)
+    (n : ℕ) (count : n ≡ length rows) (spelled : next_spelled (n + 2) n fields ≡ Ok row) where
+  is : next_spelled (length rows + 2) (length rows) fields ≡ Ok row
   is = rw count at spelled
 
   -- a member who stands before
   pub row-twice : contains name_cmp members row.member ≡ true → one_row_more next_row rows fields ≡ Err (Twice (n + 2))
   unfolding checks
-  row-twice held = rw count (one_more-is rows fields row true _ few is (sym (so_far.members_are row.member) ∙ held) refl)
+  row-twice held = rw count (one_more-is rows fields row true _ is (sym (so_far.members_are row.member) ∙ held) refl)
 
   -- too many shares
   pub row-total : contains name_cmp members row.member ≡ false → MOST_SHARES < total + row.shares → one_row_more next_row rows fields ≡ Err (BadRow (n + 2) why.Total)
@@ -107,18 +105,18 @@ module _ (rows : List RegisterRow) (members : BTreeSet (List ℕ)) (total : ℕ)
   row-total new many =
       let sum : MOST_SHARES < all_shares (rows ++ row ∷ []) = omega (arith, shares-more rows row, so_far.total_is) in
       let over : nat_le (all_shares (rows ++ row ∷ [])) MOST_SHARES ≡ false = grind (arith, nat_tests) in
-      rw count (one_more-is rows fields row false false few is (sym (so_far.members_are row.member) ∙ new) over)
+      rw count (one_more-is rows fields row false false is (sym (so_far.members_are row.member) ∙ new) over)
 
   -- one row more
   pub row-more : contains name_cmp members row.member ≡ false → total + row.shares ≤ MOST_SHARES → one_row_more next_row rows fields ≡ Ok (rows ++ row ∷ [])
   unfolding checks
   row-more new fit =
       let sum : all_shares (rows ++ row ∷ []) ≤ MOST_SHARES = omega (arith, shares-more rows row, so_far.total_is) in
-      one_more-is rows fields row false true few is (sym (so_far.members_are row.member) ∙ new) (grind (arith, nat_tests))
+      one_more-is rows fields row false true is (sym (so_far.members_are row.member) ∙ new) (grind (arith, nat_tests))
 
-  pub rows-more : (members' : BTreeSet (List ℕ)) → is_holding row ≡ true → contains name_cmp members row.member ≡ false → Updates name_cmp members members' row.member true → total + row.shares ≤ MOST_SHARES
+  pub rows-more : (members' : BTreeSet (List ℕ)) → length rows < 20000 → is_holding row ≡ true → contains name_cmp members row.member ≡ false → Updates name_cmp members members' row.member true → total + row.shares ≤ MOST_SHARES
       → AreRowsSoFar (rows ++ row ∷ []) members' (total + row.shares)
-  rows-more members' holding new updates fit = record {
+  rows-more members' few holding new updates fit = record {
     members_are = held-more name_cmp (λ (r : RegisterRow). r.member) rows members members' row so_far.members_are updates;
     total_is = omega (arith, shares-more rows row, so_far.total_is);
     kept = kept-more rows row so_far.kept few holding (sym (so_far.members_are row.member) ∙ new) (omega (arith, so_far.total_is));
@@ -134,7 +132,7 @@ keys-kept-more rows row kept few caller secret =
     let secrets : differ_by same_secret rows ≡ true = second_so (nat_le (length rows) 40000) (differ_by same_secret rows) limits in
     let more : length (rows ++ row ∷ []) ≡ length rows + 1 = length-append rows (row ∷ []) in
     let count : length (rows ++ row ∷ []) ≤ 40000 = omega arith in
-    both_true _ _ (both_true _ _ (grind (arith, nat_tests)) (differ_snoc same_secret rows row secrets secret)) (differ_snoc same_caller rows row callers caller)
+    and_from _ _ (and_from _ _ (grind (arith, nat_tests)) (differ_snoc same_secret rows row secrets secret)) (differ_snoc same_caller rows row callers caller)
 
 next_key-is : (line : ℕ) (rows : List KeyRow) (fields : List (List ℕ)) (row : KeyRow) → length rows < 40000 → key_in line fields ≡ Ok row
     → next_key line rows fields ≡ (only (not (list_any (λ earlier. same_caller earlier row) rows)) (Twice line) >>= λ caller. only (not (list_any (λ earlier. same_secret earlier row) rows)) (Twice line) >>= λ secret. Ok row)

@@ -1,5 +1,5 @@
 -- The rows of records in turn.
-use Rattle.std.proofs.Common.{◌≡◌, ℕ, Bool, List, [], ◌∷◌, ◌++◌, Option, None, Result, Ok, Err, refl, ap, ◌∙◌, fold}
+use Rattle.std.proofs.Common.{◌≡◌, ℕ, ◌+◌, Bool, List, [], ◌∷◌, ◌++◌, length, Option, Some, None, Result, Ok, Err, refl, sym, ap, ◌∙◌, append-nil, append_assoc, fold}
 use Rattle.std.proofs.lemmas.List.Sums.{fold_push}
 use Rattle.csv.specs.Machine.{next_record}
 use Rattle.csv.specs.Reading.{Reached, default_config, strip_bom}
@@ -8,11 +8,11 @@ use Rattle.csv.specs.declared.parser.State.TheVariants as st
 use Rattle.desk_files.specs.declared.fault.FileFault.{FileFault}
 use Rattle.desk_files.specs.declared.fault.FileFault.TheVariants.{BadRow, Twice, ReadFault, Memory}
 use Rattle.desk_files.specs.Faults.{Gives, ◌>>=◌}
-use Rattle.desk_files.specs.Tables.{one_record_more, rows_in, records_of}
+use Rattle.desk_files.specs.Tables.{one_record_more, rows_in, records_of, under_header}
 use Rattle.desk_files.proofs.RecordLemmas.{records-begin, records-are}
 
 module _ {Row : Type 0} (is_header : List (List ℕ) → Bool) (next_row : ℕ → List Row → List (List ℕ) → Result Row FileFault) where
-  abbrev after_record : Result (Option (List Row)) FileFault → List (List ℕ) → Result (Option (List Row)) FileFault
+  abbrev pub after_record : Result (Option (List Row)) FileFault → List (List ℕ) → Result (Option (List Row)) FileFault
   after_record so_far fields = so_far >>= λ found. one_record_more is_header next_row found fields
 
   -- one record more
@@ -20,7 +20,7 @@ module _ {Row : Type 0} (is_header : List (List ℕ) → Bool) (next_row : ℕ �
       → rows_in is_header next_row (rs ++ r ∷ []) ≡ one_record_more is_header next_row found r
   rows_in-more rs r found h = fold_push after_record (Ok None) rs r ∙ ap (λ so_far. after_record so_far r) h
 
-  after-fault : (fault : FileFault) (rs : List (List (List ℕ))) → fold after_record (Err fault) rs ≡ Err fault
+  pub after-fault : (fault : FileFault) (rs : List (List (List ℕ))) → fold after_record (Err fault) rs ≡ Err fault
   after-fault fault [] = refl
   after-fault fault (r ∷ rs) = after-fault fault rs
 
@@ -32,6 +32,24 @@ module _ {Row : Type 0} (is_header : List (List ℕ) → Bool) (next_row : ℕ �
   pub rows_in-fault : (fault : FileFault) (rs more : List (List (List ℕ))) → rows_in is_header next_row rs ≡ Err fault → rows_in is_header next_row (rs ++ more) ≡ Err fault
   rows_in-fault fault rs more h = fold-more (Ok None) rs more ∙ ap (λ so_far. fold after_record so_far more) h ∙ after-fault fault more
 
+  grow-step : (fields : List (List ℕ)) (table : List (List (List ℕ))) (found rows : List Row) (next : Result Row FileFault) → next_row (length found + 2) found fields ≡ next
+      → fold after_record (Ok (Some found)) (fields ∷ table) ≡ Ok (Some rows)
+      → ((found' : List Row) → fold after_record (Ok (Some found')) table ≡ Ok (Some rows) → (more : List Row) × (rows ≡ found' ++ more)) → (more : List Row) × (rows ≡ found ++ more)
+  grow-step fields table found rows (Ok row) is h rest =
+      let further : fold after_record (Ok (Some (found ++ row ∷ []))) table ≡ Ok (Some rows) =
+      sym (ap (λ next. fold after_record ((next >>= λ r. Ok (found ++ r ∷ [])) >>= λ rows. Ok (Some rows)) table) is) ∙ h in
+      let grown = rest (found ++ row ∷ []) further in
+      (row ∷ grown.0, grown.1 ∙ append_assoc found (row ∷ []) grown.0)
+  grow-step fields table found rows (Err fault) is h rest =
+      let stops : Err fault ≡ Ok (Some rows) =
+      sym (after-fault fault table) ∙ sym (ap (λ next. fold after_record ((next >>= λ r. Ok (found ++ r ∷ [])) >>= λ rows. Ok (Some rows)) table) is) ∙ h in
+      absurd (cc)
+
+  -- rows are added at the end
+  pub rows-grow : (table : List (List (List ℕ))) (found rows : List Row) → fold after_record (Ok (Some found)) table ≡ Ok (Some rows) → (more : List Row) × (rows ≡ found ++ more)
+  rows-grow [] found rows h = (let same : found ≡ rows = cc in ([], sym same ∙ sym (append-nil found)))
+  rows-grow (fields ∷ table) found rows h = grow-step fields table found rows (next_row (length found + 2) found fields) refl h (λ found' further. rows-grow table found' rows further)
+
   -- the rows of a text, all of whose records were reached
   pub rows-whole : (text : List ℕ) (rs : List (List (List ℕ))) (s : State) (ys : List ℕ) (found : Option (List Row)) → Reached default_config st.StartRecord (strip_bom text) rs s ys
       → next_record default_config s [] [] ys ≡ None → rows_in is_header next_row rs ≡ Ok found → rows_in is_header next_row (records_of text) ≡ Ok found
@@ -42,6 +60,12 @@ module _ {Row : Type 0} (is_header : List (List ℕ) → Bool) (next_row : ℕ �
       → rows_in is_header next_row rs ≡ Err fault → rows_in is_header next_row (records_of text) ≡ Err fault
   rows-faulty text rs s ys fault reached h =
       ap (rows_in is_header next_row) (records-begin default_config (strip_bom text) rs s ys reached) ∙ rows_in-fault fault rs _ h
+
+-- the rows under a header that was found
+pub under-header-ok : {Row : Type 0} (found : Result (Option (List Row)) FileFault) (rows : List Row) → (found >>= under_header) ≡ Ok rows → found ≡ Ok (Some rows)
+under-header-ok (Ok (Some found)) rows h = (let same : found ≡ rows = cc in ap (λ r. Ok (Some r)) same)
+under-header-ok (Ok None) rows h = absurd (cc)
+under-header-ok (Err fault) rows h = absurd (cc)
 
 -- a fault is given whatever the reading was to give
 pub gives-fault : {X Y Z W : Type 0} (seen : X → Y) (other : Z → W) (fault : FileFault) (answer : Result W FileFault) (whole : Result Y FileFault)

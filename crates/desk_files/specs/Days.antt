@@ -5,6 +5,7 @@ use Rattle.std.specs.Ordering.{nat_cmp}
 use Rattle.csv.specs.Reading.{strip_bom}
 use Rattle.desk_calendar.specs.Texts.{day_of}
 use Rattle.desk_lines.specs.Lines.{lines_of}
+use Rattle.desk_words.specs.declared.limits.TheConstants.{MOST_CLOSED_DAYS}
 use Rattle.desk_files.specs.declared.fault.FileFault.{FileFault}
 use Rattle.desk_files.specs.declared.fault.FileFault.TheVariants.{BadRow}
 use Rattle.desk_files.specs.declared.fault.Why.TheVariants as why
@@ -14,19 +15,25 @@ use Rattle.desk_files.specs.Faults.{only, ◌>>=◌}
 abbrev pub with_day_among : List ℕ → ℕ → List ℕ
 with_day_among found day = insert_key nat_cmp found day
 
--- the days so far, and one day more; there are at most 2,000
+-- the days so far, and one day more; there are at most `MOST_CLOSED_DAYS`
 unfoldable pub with_day : ℕ → List ℕ → ℕ → Result (List ℕ) FileFault
-with_day line found day = only (nat_le (length (with_day_among found day)) 2000) (BadRow line why.Rows) >>= λ room. Ok (with_day_among found day)
+with_day line found day =
+    only (nat_le (length (with_day_among found day)) MOST_CLOSED_DAYS) (BadRow line why.Rows)
+    >>= λ room. Ok (with_day_among found day)
 
 -- the days so far, and that of one line more; an empty line has none
 unfoldable pub with_line : ℕ → List ℕ → List ℕ → Result (List ℕ) FileFault
 with_line line found text =
-    if length text == 0 then Ok found else ok_or (day_of text) (BadRow line why.Day) >>= λ day. with_day line found day
+    if length text == 0
+    then Ok found
+    else ok_or (day_of text) (BadRow line why.Day) >>= λ day. with_day line found day
 
--- the different days of lines that are counted on from a number, after the days so far, up to the first fault
+-- the different days of lines that are counted on from a number, after the days so far, up to the
+-- first fault
 abbrev pub days_in : ℕ → List ℕ → List (List ℕ) → Result (List ℕ) FileFault
 days_in line found [] = Ok found
-days_in line found (text ∷ more) = with_line line found text >>= λ days. days_in (suc line) days more
+days_in line found (text ∷ more) =
+    with_line line found text >>= λ days. days_in (suc line) days more
 
 -- the days that the bytes of a file spell, in order, each once, or its first fault
 unfoldable pub day_file : List ℕ → Result (List ℕ) FileFault

@@ -22,7 +22,8 @@ why_word why.Day = codes "day"
 
 -- one reading after another, up to the first fault
 infixl 10 ◌>>=◌
-abbrev pub ◌>>=◌ : {A B : Type 0} → Result A FileFault → (A → Result B FileFault) → Result B FileFault
+abbrev pub ◌>>=◌ : {A B : Type 0} → Result A FileFault → (A → Result B FileFault)
+    → Result B FileFault
 (Ok x) >>= next = next x
 (Err fault) >>= next = Err fault
 
@@ -31,7 +32,8 @@ abbrev pub only : Bool → FileFault → Result (Unit {0}) FileFault
 only true fault = Ok tt
 only false fault = Err fault
 
--- what was returned, as contracts see it, is the answer; of want of memory nothing is said, and no read can have failed
+-- what was returned, as contracts see it, is the answer; of want of memory nothing is said, and no
+-- read can have failed
 abbrev pub Gives : {X Y : Type 0} → (X → Y) → Result X FileFault → Result Y FileFault → Type 0
 Gives seen (Ok x) answer = answer ≡ Ok (seen x)
 Gives seen (Err (BadRow line why)) answer = answer ≡ Err (BadRow line why)

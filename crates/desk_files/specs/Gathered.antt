@@ -12,29 +12,38 @@ use Rattle.desk_words.specs.Lists.{same_caller, same_secret}
 use Rattle.desk_words.specs.Registers.{all_shares, is_holding, same_member}
 use Rattle.desk_words.specs.declared.caller.KeyRow.{KeyRow}
 use Rattle.desk_words.specs.declared.records.RegisterRow.{RegisterRow}
-use Rattle.desk_words.specs.declared.register.TheConstants.{MOST_SHARES}
+use Rattle.desk_words.specs.declared.limits.TheConstants.{MOST_KEYS, MOST_ROWS, MOST_SHARES}
 
 -- the set holds just what these values have
 abbrev pub HoldsEach : {K X : Type 0} → (K → K → Ordering) → (X → K) → List X → BTreeSet K → Type 0
-HoldsEach {K} cmp key values held = (wanted : K) → contains cmp held wanted ≡ list_any (λ value. is_eq (cmp (key value) wanted)) values
+HoldsEach {K} cmp key values held =
+    (wanted : K)
+    → contains cmp held wanted ≡ list_any (λ value. is_eq (cmp (key value) wanted)) values
 
 -- rows of different members that keep the limits of a register, but that there may be none
 abbrev pub keep_limits_so_far : List RegisterRow → Bool
 keep_limits_so_far rows =
-    nat_le (length rows) 20000 && list_all is_holding rows && nat_le (all_shares rows) MOST_SHARES && differ_by same_member rows
+    nat_le (length rows) MOST_ROWS
+    && list_all is_holding rows
+    && nat_le (all_shares rows) MOST_SHARES
+    && differ_by same_member rows
 
 -- the rows so far, the set of their members, and the sum of their shares
-pub record AreRowsSoFar (rows : List RegisterRow) (members : BTreeSet (List ℕ)) (total : ℕ) : Type 0 where
+pub record AreRowsSoFar (rows : List RegisterRow) (members : BTreeSet (List ℕ)) (total : ℕ)
+    : Type 0 where
   pub members_are : HoldsEach name_cmp (λ (row : RegisterRow). row.member) rows members
   pub total_is : total ≡ all_shares rows
   pub kept : keep_limits_so_far rows ≡ true
 
--- at most 40,000 keys, of different callers and different
+-- at most `MOST_KEYS` keys, of different callers and different
 abbrev pub keep_keys_so_far : List KeyRow → Bool
-keep_keys_so_far rows = nat_le (length rows) 40000 && differ_by same_secret rows && differ_by same_caller rows
+keep_keys_so_far rows =
+    nat_le (length rows) MOST_KEYS && differ_by same_secret rows && differ_by same_caller rows
 
 -- the keys so far, and the sets of their callers and of the keys themselves
-pub record AreKeysSoFar (rows : List KeyRow) (callers : BTreeSet (Option (List ℕ))) (secrets : BTreeSet (List ℕ)) : Type 0 where
-  pub callers_are : HoldsEach (option_cmp name_cmp) (λ (row : KeyRow). party_in row.caller) rows callers
+pub record AreKeysSoFar (rows : List KeyRow) (callers : BTreeSet (Option (List ℕ)))
+    (secrets : BTreeSet (List ℕ)) : Type 0 where
+  pub callers_are : HoldsEach (option_cmp name_cmp) (λ (row : KeyRow). party_in row.caller) rows
+      callers
   pub secrets_are : HoldsEach name_cmp (λ (row : KeyRow). row.secret) rows secrets
   pub kept : keep_keys_so_far rows ≡ true

@@ -1,59 +1,62 @@
 -- Register files (section 113).
-use Rattle.std.specs.Prelude.{ℕ, Bool, not, ◌&&◌, ◌==◌, nat_le, nat_lt, bytes_eq, List, [], ◌∷◌, ◌++◌, length, Option, Some, None, Result, Ok, Err, codes, ok_or, if◌then◌else◌}
+use Rattle.std.specs.Prelude.{ℕ, Bool, not, ◌&&◌, ◌==◌, nat_le, nat_lt, bytes_eq, List, [], ◌∷◌, ◌++◌, length, Result, Ok, Err, codes, ok_or, if◌then◌else◌}
 use Rattle.std.specs.List.{list_any}
-use Rattle.std.specs.Str.{is_utf8}
 use Rattle.desk_lists.specs.Sorting.{sort_by}
 use Rattle.desk_terms.specs.Kinds.{holder_kind_of}
 use Rattle.desk_terms.specs.Names.{party_of}
-use Rattle.desk_terms.specs.Texts.{is_plain_text}
+use Rattle.desk_terms.specs.Texts.{text_of}
+use Rattle.desk_terms.specs.declared.range.TheConstants.{MOST_PLACES}
 use Rattle.desk_words.specs.Registers.{all_shares, member_before, same_member}
 use Rattle.desk_words.specs.declared.records.RegisterRow.{RegisterRow}
-use Rattle.desk_words.specs.declared.register.TheConstants.{MOST_SHARES}
+use Rattle.desk_words.specs.declared.limits.TheConstants.{MOST_PENCE, MOST_ROWS, MOST_SHARES}
 use Rattle.desk_files.specs.declared.fault.FileFault.{FileFault}
 use Rattle.desk_files.specs.declared.fault.FileFault.TheVariants.{BadRow, Twice}
 use Rattle.desk_files.specs.declared.fault.Why.TheVariants as why
 use Rattle.desk_files.specs.Faults.{only, ◌>>=◌}
 use Rattle.desk_files.specs.Numbers.{number_of, within}
-use Rattle.desk_files.specs.Tables.{records_of, column, rows_in, under_header}
+use Rattle.desk_files.specs.Tables.{column, table_of}
 
 -- the record names the columns of a register
 abbrev pub is_register_header : List (List ℕ) → Bool
 is_register_header fields =
-    (length fields == 5) && bytes_eq (column 0 fields) (codes "member") && bytes_eq (column 1 fields) (codes "kind")
-    && bytes_eq (column 2 fields) (codes "name") && bytes_eq (column 3 fields) (codes "shares") && bytes_eq (column 4 fields) (codes "paid")
+    (length fields == 5)
+    && bytes_eq (column 0 fields) (codes "member")
+    && bytes_eq (column 1 fields) (codes "kind")
+    && bytes_eq (column 2 fields) (codes "name")
+    && bytes_eq (column 3 fields) (codes "shares")
+    && bytes_eq (column 4 fields) (codes "paid")
 
--- the text that bytes are, if they are UTF-8 and have the form of one
-abbrev pub text_of : List ℕ → Option (List ℕ)
-text_of bytes = if is_utf8 bytes && is_plain_text bytes then Some bytes else None
-
--- the row that a record spells by itself: a member, its kind, its name, its shares, and the pence paid up on each of them
+-- the row that a record spells by itself: a member, its kind, its name, its shares, and the pence
+-- paid up on each of them
 unfoldable pub row_in : ℕ → List (List ℕ) → Result RegisterRow FileFault
 row_in line fields = do
   five ← only (length fields == 5) (BadRow line why.Fields)
   member ← ok_or (party_of (column 0 fields)) (BadRow line why.Member)
   kind ← ok_or (holder_kind_of (column 1 fields)) (BadRow line why.Kind)
   name ← ok_or (text_of (column 2 fields)) (BadRow line why.Name)
-  shares ← ok_or (within 1 1000000000000 (number_of (column 3 fields))) (BadRow line why.Shares)
-  paid ← ok_or (within 0 1000000 (number_of (column 4 fields))) (BadRow line why.Paid)
+  shares ← ok_or (within 1 MOST_PLACES (number_of (column 3 fields))) (BadRow line why.Shares)
+  paid ← ok_or (within 0 MOST_PENCE (number_of (column 4 fields))) (BadRow line why.Paid)
   Ok (record { member = member; kind = kind; name = name; shares = shares; paid = paid })
 
--- the next row of a register, after those so far: of the first 20,000, of another member, and with them no more shares than there may be
+-- the row that a record spells by itself, behind so many rows: one of the first `MOST_ROWS`
+unfoldable pub next_spelled : ℕ → ℕ → List (List ℕ) → Result RegisterRow FileFault
+next_spelled line count fields =
+    only (nat_lt count MOST_ROWS) (BadRow line why.Rows) >>= λ room. row_in line fields
+
+-- the next row of a register, after those so far: of another member, and with them no more shares
+-- than there may be
 unfoldable pub next_row : ℕ → List RegisterRow → List (List ℕ) → Result RegisterRow FileFault
 next_row line found fields = do
-  room ← only (nat_lt (length found) 20000) (BadRow line why.Rows)
-  row ← row_in line fields
+  row ← next_spelled line (length found) fields
   other ← only (not (list_any (λ earlier. same_member earlier row) found)) (Twice line)
   fits ← only (nat_le (all_shares (found ++ row ∷ [])) MOST_SHARES) (BadRow line why.Total)
   Ok row
 
 -- the rows in the order of members, of which there must be one
 abbrev pub as_register : List RegisterRow → Result (List RegisterRow) FileFault
-as_register rows = if length rows == 0 then Err (BadRow 1 why.Rows) else Ok (sort_by member_before rows)
-
--- the register that the rows under the header make
-abbrev pub registered : Option (List RegisterRow) → Result (List RegisterRow) FileFault
-registered found = under_header found >>= as_register
+as_register rows =
+    if length rows == 0 then Err (BadRow 1 why.Rows) else Ok (sort_by member_before rows)
 
 -- the register that the bytes of a file spell, or its first fault
 unfoldable pub register_file : List ℕ → Result (List RegisterRow) FileFault
-register_file bytes = rows_in is_register_header next_row (records_of bytes) >>= registered
+register_file bytes = table_of is_register_header next_row bytes >>= as_register

@@ -16,21 +16,33 @@ records_of text = records default_config (strip_bom text)
 abbrev pub column : ℕ → List (List ℕ) → List ℕ
 column place fields = unwrap_or (field_at fields place) []
 
--- the rows so far, and that of one record more, which stands on the line after theirs; the header is line 1
-abbrev pub one_row_more : {Row : Type 0} → (ℕ → List Row → List (List ℕ) → Result Row FileFault) → List Row → List (List ℕ) → Result (List Row) FileFault
-one_row_more next_row found fields = next_row (length found + 2) found fields >>= λ row. Ok (found ++ row ∷ [])
+-- the rows so far, and that of one record more, which stands on the line after theirs; the header
+-- is line 1
+abbrev pub one_row_more : {Row : Type 0} → (ℕ → List Row → List (List ℕ) → Result Row FileFault)
+    → List Row → List (List ℕ) → Result (List Row) FileFault
+one_row_more next_row found fields =
+    next_row (length found + 2) found fields >>= λ row. Ok (found ++ row ∷ [])
 
-module _ {Row : Type 0} (is_header : List (List ℕ) → Bool) (next_row : ℕ → List Row → List (List ℕ) → Result Row FileFault) where
+module _ {Row : Type 0} (is_header : List (List ℕ) → Bool)
+    (next_row : ℕ → List Row → List (List ℕ) → Result Row FileFault) where
   -- one record more: the header first, and then a row
-  abbrev pub one_record_more : Option (List Row) → List (List ℕ) → Result (Option (List Row)) FileFault
+  abbrev pub one_record_more : Option (List Row) → List (List ℕ)
+      → Result (Option (List Row)) FileFault
   one_record_more None fields = if is_header fields then Ok (Some []) else Err (BadRow 1 why.Header)
-  one_record_more (Some found) fields = one_row_more next_row found fields >>= λ rows. Ok (Some rows)
+  one_record_more (Some found) fields =
+      one_row_more next_row found fields >>= λ rows. Ok (Some rows)
 
   -- the rows of the records in turn, up to the first fault; none before the header
   abbrev pub rows_in : List (List (List ℕ)) → Result (Option (List Row)) FileFault
-  rows_in table = fold (λ so_far fields. so_far >>= λ found. one_record_more found fields) (Ok None) table
+  rows_in table =
+      fold (λ so_far fields. so_far >>= λ found. one_record_more found fields) (Ok None) table
 
 -- the rows under the header, and a fault where there is not even a header
 abbrev pub under_header : {Row : Type 0} → Option (List Row) → Result (List Row) FileFault
 under_header None = Err (BadRow 1 why.Header)
 under_header (Some rows) = Ok rows
+
+-- the rows under the header of a file, of records as `csv` reads them, or its first fault
+abbrev pub table_of : {Row : Type 0} → (List (List ℕ) → Bool)
+    → (ℕ → List Row → List (List ℕ) → Result Row FileFault) → List ℕ → Result (List Row) FileFault
+table_of is_header next_row bytes = rows_in is_header next_row (records_of bytes) >>= under_header

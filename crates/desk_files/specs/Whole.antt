@@ -6,13 +6,15 @@ use Rattle.desk_files.specs.declared.fault.FileFault.{FileFault}
 use Rattle.desk_files.specs.declared.fault.FileFault.TheVariants.{BadRow, Twice, ReadFault, Memory}
 
 -- all bytes were read, no more than the limit, and no read failed
-pub record IsReadWhole (limit : ℕ) (old new : Option (List ℕ)) (passed passed' failures failures' : ℕ) : Type 0 where
+pub record IsReadWhole (limit : ℕ) (old new : Option (List ℕ))
+    (passed passed' failures failures' : ℕ) : Type 0 where
   pub at_end : IsAtEnd new
   pub within : passed' ≤ passed + limit
   pub known_within : IfSome old (λ bytes. length bytes ≤ limit)
   pub none_failed : failures' ≡ failures
 
--- why the bytes were not read: one read failed, or one byte more came than the limit; for want of memory no read failed
+-- why the bytes were not read: one read failed, or one byte more came than the limit; for want of
+-- memory no read failed
 abbrev pub HasCause : FileFault → ℕ → ℕ → ℕ → ℕ → ℕ → Type 0
 HasCause ReadFault limit passed passed' failures failures' =
     (failures' ≡ one_more failures) ⊎ ((failures' ≡ failures) × (passed' ≡ passed + limit + 1))

@@ -11,6 +11,7 @@ ghost use Rattle.desk_files.specs.Whole.{HasCause, IsReadWhole};
 use crate::fault::{FileFault, Why};
 use crate::whole::{DAY_FILE_LIMIT, read_whole};
 use desk_devices::Source;
+use desk_words::limits::MOST_CLOSED_DAYS;
 use desk_words::{Day, DayList, ListFault, read_day};
 use std::alloc::{AllocError, Global};
 use std::collections::BTreeSet;
@@ -66,11 +67,11 @@ fn split_line(bytes: &[u8]) -> (&[u8], &[u8])
 #[tactic(auto, unfolding(crate::specs::Days::with_day))]
 fn with_day(line: u64, so_far: BTreeSet<Day>, day: Day) -> Result<BTreeSet<Day>, FileFault>
     ensures days { Gives keys result (with_day line (keys so_far) day) }
-    ensures few { IfOk result (λ days. length (keys days) ≤ 2000) }
+    ensures few { IfOk result (λ days. length (keys days) ≤ MOST_CLOSED_DAYS) }
 {
     let mut days = so_far;
     days.insert(day)?;
-    if days.len() > 2_000 {
+    if days.len() > MOST_CLOSED_DAYS {
         return Err(FileFault::BadRow {
             line,
             why: Why::Rows,
@@ -82,9 +83,9 @@ fn with_day(line: u64, so_far: BTreeSet<Day>, day: Day) -> Result<BTreeSet<Day>,
 /// The days so far, and that of one line more.
 #[tactic(auto, unfolding(crate::specs::Days::with_line))]
 fn with_line(line: u64, so_far: BTreeSet<Day>, text: &[u8]) -> Result<BTreeSet<Day>, FileFault>
-    requires { length (keys so_far) ≤ 2000 }
+    requires { length (keys so_far) ≤ MOST_CLOSED_DAYS }
     ensures days { Gives keys result (with_line line (keys so_far) text.now) }
-    ensures few { IfOk result (λ days. length (keys days) ≤ 2000) }
+    ensures few { IfOk result (λ days. length (keys days) ≤ MOST_CLOSED_DAYS) }
 {
     if text.is_empty() {
         return Ok(so_far);
@@ -106,13 +107,13 @@ fn listed(alloc: Global, days: &BTreeSet<Day>) -> Result<Vec<Day>, AllocError>
 }
 
 fn day_list(alloc: Global, days: BTreeSet<Day>) -> Result<DayList, FileFault>
-    requires { length (keys days) ≤ 2000 }
+    requires { length (keys days) ≤ MOST_CLOSED_DAYS }
     ensures { Gives itself result (Ok (keys days)) }
 {
     let listed = listed(alloc, &days)?;
     match DayList::new(listed) {
         Ok(days) => Ok(days),
-        // There are at most 2,000 days.
+        // There are at most `MOST_CLOSED_DAYS`.
         Err(ListFault::Limit) => Err(FileFault::BadRow {
             line: 1,
             why: Why::Rows,
@@ -141,18 +142,22 @@ fn days_in(alloc: Global, bytes: &[u8]) -> Result<DayList, FileFault>
     day_list(alloc, days)
 }
 
-/// Reads the closed days (section 1173) that a file spells, a day `YYYY-MM-DD` on each line. Empty lines
-/// are passed over, and a day may stand on several lines.
+/// Reads the closed days (section 1173) that a file spells, a day `YYYY-MM-DD` on each line. Empty
+/// lines are passed over, and a day may stand on several lines.
 ///
-/// The file has at most 65,536 bytes. The first fault is answered: `Day` for a line that is no day, and
-/// `Rows` for the line that brings the 2,001st different day. Lines are counted from 1, empty ones too.
-/// `ReadFault` says that a read failed or that more bytes came, of which it takes one; `Memory`, that an
-/// allocation was refused.
+/// The file has at most 65,536 bytes. The first fault is answered: `Day` for a line that is no day,
+/// and `Rows` for the line that brings the 2,001st different day. Lines are counted from 1, empty
+/// ones too. `ReadFault` says that a read failed or that more bytes came, of which it takes one;
+/// `Memory`, that an allocation was refused.
 pub fn read_days<S: Source>(alloc: Global, source: &mut S) -> Result<DayList, FileFault>
-    ensures spelled { IfJudged result (IfSome (S.remaining source.old) (λ bytes. Gives itself result (day_file bytes))) }
-    ensures whole { IfJudged result (IsReadWhole DAY_FILE_LIMIT (S.remaining source.old) (S.remaining source.new)
-        (S.passed source.old) (S.passed source.new) (S.failures source.old) (S.failures source.new)) }
-    ensures cause { IfErr result (λ fault. HasCause fault DAY_FILE_LIMIT (S.passed source.old) (S.passed source.new)
+    ensures spelled { IfJudged result
+        (IfSome (S.remaining source.old) (λ bytes. Gives itself result (day_file bytes))) }
+    ensures whole { IfJudged result
+        (IsReadWhole DAY_FILE_LIMIT (S.remaining source.old) (S.remaining source.new)
+        (S.passed source.old) (S.passed source.new) (S.failures source.old)
+        (S.failures source.new)) }
+    ensures cause { IfErr result
+        (λ fault. HasCause fault DAY_FILE_LIMIT (S.passed source.old) (S.passed source.new)
         (S.failures source.old) (S.failures source.new)) }
     ensures bound { S.passed source.new ≤ S.passed source.old + DAY_FILE_LIMIT + 1 }
 {

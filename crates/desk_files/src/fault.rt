@@ -56,8 +56,8 @@ impl Why {
     }
 }
 
-/// Why a file gives no rows. Records and lines are counted from 1. The header is record 1, and empty
-/// lines between records are not counted.
+/// Why a file gives no rows. Records and lines are counted from 1. The header is record 1, and
+/// empty lines between records are not counted.
 #[derive(Clone, Copy, PartialEq, Eq)]
 pub enum FileFault {
     /// The record or the line of this number is not what it must be.

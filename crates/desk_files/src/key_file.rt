@@ -1,16 +1,18 @@
 //! Key files.
-ghost use Rattle.std.specs.Prelude.{◌≡◌, ◌+◌, ◌≤◌, [], IfErr, IfSome};
+ghost use Rattle.std.specs.Prelude.{◌≡◌, ◌+◌, ◌≤◌, IfErr, IfSome};
 ghost use Rattle.csv.specs.Records.{fields_of};
 ghost use Rattle.desk_files.specs.Faults.{Gives, IfJudged, itself};
 ghost use Rattle.desk_files.specs.Keys.{is_key_header, key_in, next_key, as_key_list, key_file};
-ghost use Rattle.desk_files.specs.Tables.{one_record_more, one_row_more};
+ghost use Rattle.desk_files.specs.Tables.{one_row_more};
 ghost use Rattle.desk_files.specs.Whole.{HasCause, IsReadWhole};
 
 use crate::columns::column;
 use crate::fault::{FileFault, Why};
+use crate::table::{Gather, rows_under_header};
 use crate::whole::{FILE_LIMIT, read_whole};
-use csv::{ByteRecord, ReaderBuilder};
+use csv::ByteRecord;
 use desk_devices::Source;
+use desk_words::limits::MOST_KEYS;
 use desk_words::{KeyRow, KeyRows, ListFault, Party, SecretKey, read_caller, read_key};
 use std::alloc::Global;
 use std::collections::BTreeSet;
@@ -58,15 +60,32 @@ impl Model for KeysSoFar {
     ghost invariant = { λ a. AreKeysSoFar a.rows.items a.callers a.secrets };
 }
 
-impl KeysSoFar {
-    fn new(alloc: Global) -> KeysSoFar
-        ensures { result ≡ [] }
-    {
+impl Gather for KeysSoFar {
+    ghost use Rattle.desk_words.specs.declared.caller.KeyRow.{KeyRow};
+    ghost use Rattle.desk_files.specs.Keys.{is_key_header, next_key};
+
+    ghost Row = { KeyRow };
+
+    ghost seen = { λ so_far. so_far };
+
+    ghost names_columns = { is_key_header };
+
+    ghost row_after = { next_key };
+
+    fn is_header(fields: &ByteRecord) -> bool {
+        is_key_header(fields)
+    }
+
+    fn none(alloc: Global) -> KeysSoFar {
         KeysSoFar {
             rows: Vec::new(alloc),
             callers: BTreeSet::new(alloc),
             secrets: BTreeSet::new(alloc),
         }
+    }
+
+    fn with_record(self, _alloc: Global, fields: &ByteRecord) -> Result<KeysSoFar, FileFault> {
+        with_key(self, fields)
     }
 }
 
@@ -81,7 +100,7 @@ fn with_key(so_far: KeysSoFar, fields: &ByteRecord) -> Result<KeysSoFar, FileFau
         mut secrets,
     } = so_far;
     let line = rows.len() as u64 + 2;
-    if rows.len() >= 40_000 {
+    if rows.len() >= MOST_KEYS {
         return Err(FileFault::BadRow {
             line,
             why: Why::Rows,
@@ -102,36 +121,10 @@ fn with_key(so_far: KeysSoFar, fields: &ByteRecord) -> Result<KeysSoFar, FileFau
     })
 }
 
-fn one_record_more(
-    alloc: Global,
-    found: Option<KeysSoFar>,
-    fields: &ByteRecord,
-) -> Result<Option<KeysSoFar>, FileFault>
-    ensures { Gives itself result (one_record_more is_key_header next_key found (fields_of fields.now)) }
+fn as_key_list(so_far: KeysSoFar) -> Result<KeyRows, FileFault>
+    ensures { Gives itself result (as_key_list so_far) }
 {
-    match found {
-        None => {
-            if !is_key_header(fields) {
-                return Err(FileFault::BadRow {
-                    line: 1,
-                    why: Why::Header,
-                });
-            }
-            Ok(Some(KeysSoFar::new(alloc)))
-        }
-        Some(so_far) => Ok(Some(with_key(so_far, fields)?)),
-    }
-}
-
-fn as_key_list(found: Option<KeysSoFar>) -> Result<KeyRows, FileFault>
-    ensures { Gives itself result (as_key_list found) }
-{
-    let Some(KeysSoFar { rows, .. }) = found else {
-        return Err(FileFault::BadRow {
-            line: 1,
-            why: Why::Header,
-        });
-    };
+    let KeysSoFar { rows, .. } = so_far;
     match KeyRows::new(rows) {
         Ok(keys) => Ok(keys),
         // No key of those so far breaks a limit or stands twice.
@@ -147,36 +140,29 @@ fn as_key_list(found: Option<KeysSoFar>) -> Result<KeyRows, FileFault>
 fn keys_in(alloc: Global, bytes: &[u8]) -> Result<KeyRows, FileFault>
     ensures { Gives itself result (key_file bytes.now) }
 {
-    let reader = ReaderBuilder::new()
-        .has_headers(false)
-        .flexible(true)
-        .from_reader(alloc, bytes);
-    let mut found = None;
-    for step in reader.into_byte_records() {
-        // Over a slice no read fails, so an error is of memory.
-        let Ok(fields) = step else {
-            return Err(FileFault::Memory);
-        };
-        found = match one_record_more(alloc, found, &fields) {
-            Ok(more) => more,
-            Err(fault) => return Err(fault),
-        };
+    match rows_under_header(alloc, bytes) {
+        Ok(so_far) => as_key_list(so_far),
+        Err(fault) => Err(fault),
     }
-    as_key_list(found)
 }
 
-/// Reads the keys that a file spells: a header `party,key`, and under it a row for each party, or for
-/// `OFFICE`, with its key, in the form of CSV. There may be no row.
+/// Reads the keys that a file spells: a header `party,key`, and under it a row for each party, or
+/// for `OFFICE`, with its key, in the form of CSV. There may be no row.
 ///
-/// The file has at most 16,777,216 bytes. The first fault of the first faulty record is answered, and
-/// of a record in this order: `Rows` for the row after the 40,000th, then `Fields`, `Party`, `Key`, and
-/// `Twice`, where the party or the key stands in an earlier record. `ReadFault` says that a read failed
-/// or that more bytes came, of which it takes one; `Memory`, that an allocation was refused.
+/// The file has at most 16,777,216 bytes. The first fault of the first faulty record is answered,
+/// and of a record in this order: `Rows` for the row after the 40,000th, then `Fields`, `Party`,
+/// `Key`, and `Twice`, where the party or the key stands in an earlier record. `ReadFault` says
+/// that a read failed or that more bytes came, of which it takes one; `Memory`, that an allocation
+/// was refused.
 pub fn read_keys<S: Source>(alloc: Global, source: &mut S) -> Result<KeyRows, FileFault>
-    ensures spelled { IfJudged result (IfSome (S.remaining source.old) (λ bytes. Gives itself result (key_file bytes))) }
-    ensures whole { IfJudged result (IsReadWhole FILE_LIMIT (S.remaining source.old) (S.remaining source.new)
-        (S.passed source.old) (S.passed source.new) (S.failures source.old) (S.failures source.new)) }
-    ensures cause { IfErr result (λ fault. HasCause fault FILE_LIMIT (S.passed source.old) (S.passed source.new)
+    ensures spelled { IfJudged result
+        (IfSome (S.remaining source.old) (λ bytes. Gives itself result (key_file bytes))) }
+    ensures whole { IfJudged result
+        (IsReadWhole FILE_LIMIT (S.remaining source.old) (S.remaining source.new)
+        (S.passed source.old) (S.passed source.new) (S.failures source.old)
+        (S.failures source.new)) }
+    ensures cause { IfErr result
+        (λ fault. HasCause fault FILE_LIMIT (S.passed source.old) (S.passed source.new)
         (S.failures source.old) (S.failures source.new)) }
     ensures bound { S.passed source.new ≤ S.passed source.old + FILE_LIMIT + 1 }
 {

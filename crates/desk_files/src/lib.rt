@@ -1,15 +1,18 @@
-//! The files that the office hands in: registers and keys as spreadsheets save them, and closed days.
+//! The files that the office hands in: registers and keys as spreadsheets save them, and closed
+//! days.
 //!
-//! A file is read whole, and then its records are looked at in turn. It gives its rows, or the first
-//! fault of the first record that has one.
+//! A file is read whole, and then its records are looked at in turn. It gives its rows, or the
+//! first fault of the first record that has one.
 #![tactic(auto)]
 
 mod columns;
 mod day_file;
 mod fault;
+mod faultless;
 mod key_file;
 mod number;
 mod register_file;
+mod table;
 mod whole;
 
 pub use day_file::read_days;

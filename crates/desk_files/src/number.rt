@@ -23,7 +23,11 @@ pub(crate) fn read_number(bytes: &[u8]) -> Option<u64>
     if !is_number(bytes) {
         return None;
     }
-    str::from_utf8(bytes).unwrap().parse().ok()
+    let mut number = 0;
+    for byte in bytes {
+        number = number * 10 + (*byte - b'0') as u64;
+    }
+    Some(number)
 }
 
 /// The number, if it is one of those from `low` to `high`.

@@ -1,27 +1,32 @@
 //! Register files.
-ghost use Rattle.std.specs.Prelude.{◌≡◌, ◌+◌, ◌≤◌, [], IfOk, IfErr, IfSome, IsTrue, ok_or};
+ghost use Rattle.std.specs.Prelude.{◌≡◌, ◌+◌, ◌<◌, ◌≤◌, IfOk, IfErr, IfSome, IsTrue, ok_or};
 ghost use Rattle.csv.specs.Records.{fields_of};
 ghost use Rattle.desk_terms.specs.Kinds.{holder_kind_of};
+ghost use Rattle.desk_terms.specs.Texts.{text_of};
 ghost use Rattle.desk_words.specs.Registers.{is_holding};
 ghost use Rattle.desk_files.specs.Faults.{Gives, IfJudged, itself};
-ghost use Rattle.desk_files.specs.Registers.{is_register_header, text_of, row_in, next_row, registered, register_file};
-ghost use Rattle.desk_files.specs.Tables.{one_record_more, one_row_more};
+ghost use Rattle.desk_files.specs.Registers.{is_register_header, row_in, next_spelled};
+ghost use Rattle.desk_files.specs.Registers.{next_row, as_register, register_file};
+ghost use Rattle.desk_files.specs.Tables.{one_row_more};
 ghost use Rattle.desk_files.specs.Whole.{HasCause, IsReadWhole};
 
 use crate::columns::column;
 use crate::fault::{FileFault, Why};
+use crate::faultless::faultless_register;
 use crate::number::{read_number, within};
+use crate::table::{Gather, rows_under_header};
 use crate::whole::{FILE_LIMIT, read_whole};
-use csv::{ByteRecord, ReaderBuilder};
+use csv::ByteRecord;
 use desk_devices::Source;
+use desk_words::limits::{MOST_PENCE, MOST_ROWS, MOST_SHARES};
 use desk_words::{
-    HolderKind, ListFault, MOST_SHARES, Party, Register, RegisterRow, Text, TextFault, read_party,
+    HolderKind, ListFault, MOST_PLACES, Party, Register, RegisterRow, Text, TextFault, read_party,
 };
 use std::alloc::Global;
 use std::collections::BTreeSet;
 use std::marker::Model;
 
-fn is_register_header(fields: &ByteRecord) -> bool
+pub(crate) fn is_register_header(fields: &ByteRecord) -> bool
     ensures { result ≡ is_register_header (fields_of fields.now) }
 {
     fields.len() == 5
@@ -67,10 +72,8 @@ fn row_in(alloc: Global, line: u64, fields: &ByteRecord) -> Result<RegisterRow, 
     let member = read_party(column(fields, 0)).ok_or(bad(Why::Member))?;
     let kind = read_kind(column(fields, 1)).ok_or(bad(Why::Kind))?;
     let name = read_text(alloc, line, column(fields, 2))?;
-    let shares = within(1, 1_000_000_000_000, read_number(column(fields, 3))).ok_or(bad(
-        Why::Shares,
-    ))?;
-    let paid = within(0, 1_000_000, read_number(column(fields, 4))).ok_or(bad(Why::Paid))?;
+    let shares = within(1, MOST_PLACES, read_number(column(fields, 3))).ok_or(bad(Why::Shares))?;
+    let paid = within(0, MOST_PENCE, read_number(column(fields, 4))).ok_or(bad(Why::Paid))?;
     Ok(RegisterRow {
         member,
         kind,
@@ -78,6 +81,27 @@ fn row_in(alloc: Global, line: u64, fields: &ByteRecord) -> Result<RegisterRow, 
         shares,
         paid,
     })
+}
+
+/// The row that a record spells by itself, behind so many rows.
+#[tactic(auto, unfolding(crate::specs::Registers::next_spelled))]
+pub(crate) fn next_spelled(
+    alloc: Global,
+    line: u64,
+    count: usize,
+    fields: &ByteRecord,
+) -> Result<RegisterRow, FileFault>
+    ensures row { Gives itself result (next_spelled line count (fields_of fields.now)) }
+    ensures holding { IfOk result (λ row. IsTrue (is_holding row)) }
+    ensures room { IfOk result (λ row. count < MOST_ROWS) }
+{
+    if count >= MOST_ROWS {
+        return Err(FileFault::BadRow {
+            line,
+            why: Why::Rows,
+        });
+    }
+    row_in(alloc, line, fields)
 }
 
 /// The rows of a register so far, the members that they name, and all their shares.
@@ -100,15 +124,32 @@ impl Model for RowsSoFar {
     ghost invariant = { λ a. AreRowsSoFar a.rows.items a.members a.total };
 }
 
-impl RowsSoFar {
-    fn new(alloc: Global) -> RowsSoFar
-        ensures { result ≡ [] }
-    {
+impl Gather for RowsSoFar {
+    ghost use Rattle.desk_words.specs.declared.records.RegisterRow.{RegisterRow};
+    ghost use Rattle.desk_files.specs.Registers.{is_register_header, next_row};
+
+    ghost Row = { RegisterRow };
+
+    ghost seen = { λ so_far. so_far };
+
+    ghost names_columns = { is_register_header };
+
+    ghost row_after = { next_row };
+
+    fn is_header(fields: &ByteRecord) -> bool {
+        is_register_header(fields)
+    }
+
+    fn none(alloc: Global) -> RowsSoFar {
         RowsSoFar {
             rows: Vec::new(alloc),
             members: BTreeSet::new(alloc),
             total: 0,
         }
+    }
+
+    fn with_record(self, alloc: Global, fields: &ByteRecord) -> Result<RowsSoFar, FileFault> {
+        with_row(alloc, self, fields)
     }
 }
 
@@ -122,14 +163,9 @@ fn with_row(alloc: Global, so_far: RowsSoFar, fields: &ByteRecord) -> Result<Row
         mut members,
         total,
     } = so_far;
-    let line = rows.len() as u64 + 2;
-    if rows.len() >= 20_000 {
-        return Err(FileFault::BadRow {
-            line,
-            why: Why::Rows,
-        });
-    }
-    let row = row_in(alloc, line, fields)?;
+    let count = rows.len();
+    let line = count as u64 + 2;
+    let row = next_spelled(alloc, line, count, fields)?;
     if !members.insert(row.member)? {
         return Err(FileFault::Twice { line });
     }
@@ -148,36 +184,11 @@ fn with_row(alloc: Global, so_far: RowsSoFar, fields: &ByteRecord) -> Result<Row
     })
 }
 
-fn one_record_more(
-    alloc: Global,
-    found: Option<RowsSoFar>,
-    fields: &ByteRecord,
-) -> Result<Option<RowsSoFar>, FileFault>
-    ensures { Gives itself result (one_record_more is_register_header next_row found (fields_of fields.now)) }
+/// The register of the rows, of which there must be one.
+fn as_register(so_far: RowsSoFar) -> Result<Register, FileFault>
+    ensures { Gives itself result (as_register so_far) }
 {
-    match found {
-        None => {
-            if !is_register_header(fields) {
-                return Err(FileFault::BadRow {
-                    line: 1,
-                    why: Why::Header,
-                });
-            }
-            Ok(Some(RowsSoFar::new(alloc)))
-        }
-        Some(so_far) => Ok(Some(with_row(alloc, so_far, fields)?)),
-    }
-}
-
-fn registered(found: Option<RowsSoFar>) -> Result<Register, FileFault>
-    ensures { Gives itself result (registered found) }
-{
-    let Some(RowsSoFar { rows, .. }) = found else {
-        return Err(FileFault::BadRow {
-            line: 1,
-            why: Why::Header,
-        });
-    };
+    let RowsSoFar { rows, .. } = so_far;
     match Register::new(rows) {
         Ok(register) => Ok(register),
         Err(ListFault::Limit) => Err(FileFault::BadRow {
@@ -188,41 +199,44 @@ fn registered(found: Option<RowsSoFar>) -> Result<Register, FileFault>
     }
 }
 
-/// The register that the bytes of a file spell, or its first fault.
+/// The register that the bytes of a file spell, or its first fault, row by row.
+fn judged_register(alloc: Global, bytes: &[u8]) -> Result<Register, FileFault>
+    ensures { Gives itself result (register_file bytes.now) }
+{
+    match rows_under_header(alloc, bytes) {
+        Ok(so_far) => as_register(so_far),
+        Err(fault) => Err(fault),
+    }
+}
+
+/// The register that the bytes of a file spell, or its first fault. Only a file with a fault is
+/// gone through row by row, to find the first row at fault.
 fn register_in(alloc: Global, bytes: &[u8]) -> Result<Register, FileFault>
     ensures { Gives itself result (register_file bytes.now) }
 {
-    let reader = ReaderBuilder::new()
-        .has_headers(false)
-        .flexible(true)
-        .from_reader(alloc, bytes);
-    let mut found = None;
-    for step in reader.into_byte_records() {
-        // Over a slice no read fails, so an error is of memory.
-        let Ok(fields) = step else {
-            return Err(FileFault::Memory);
-        };
-        found = match one_record_more(alloc, found, &fields) {
-            Ok(more) => more,
-            Err(fault) => return Err(fault),
-        };
+    match faultless_register(alloc, bytes)? {
+        Some(register) => Ok(register),
+        None => judged_register(alloc, bytes),
     }
-    registered(found)
 }
 
-/// Reads the register that a file spells: a header `member,kind,name,shares,paid`, and under it a row
-/// for each holding (section 113), in the form of CSV.
+/// Reads the register that a file spells: a header `member,kind,name,shares,paid`, and under it a
+/// row for each holding (section 113), in the form of CSV.
 ///
-/// The file has at most 16,777,216 bytes. The first fault of the first faulty record is answered, and
-/// of a record in the order of `Why`: `Rows` for the row after the 20,000th, then `Fields`, `Member`,
-/// `Kind`, `Name`, `Shares`, `Paid`, `Twice`, and `Total`. `Rows` at line 1 says that there is no row.
-/// `ReadFault` says that a read failed or that more bytes came, of which it takes one; `Memory`, that an
-/// allocation was refused.
+/// The file has at most 16,777,216 bytes. The first fault of the first faulty record is answered,
+/// and of a record in the order of `Why`: `Rows` for the row after the 20,000th, then `Fields`,
+/// `Member`, `Kind`, `Name`, `Shares`, `Paid`, `Twice`, and `Total`. `Rows` at line 1 says that
+/// there is no row. `ReadFault` says that a read failed or that more bytes came, of which it takes
+/// one; `Memory`, that an allocation was refused.
 pub fn read_register<S: Source>(alloc: Global, source: &mut S) -> Result<Register, FileFault>
-    ensures spelled { IfJudged result (IfSome (S.remaining source.old) (λ bytes. Gives itself result (register_file bytes))) }
-    ensures whole { IfJudged result (IsReadWhole FILE_LIMIT (S.remaining source.old) (S.remaining source.new)
-        (S.passed source.old) (S.passed source.new) (S.failures source.old) (S.failures source.new)) }
-    ensures cause { IfErr result (λ fault. HasCause fault FILE_LIMIT (S.passed source.old) (S.passed source.new)
+    ensures spelled { IfJudged result
+        (IfSome (S.remaining source.old) (λ bytes. Gives itself result (register_file bytes))) }
+    ensures whole { IfJudged result
+        (IsReadWhole FILE_LIMIT (S.remaining source.old) (S.remaining source.new)
+        (S.passed source.old) (S.passed source.new) (S.failures source.old)
+        (S.failures source.new)) }
+    ensures cause { IfErr result
+        (λ fault. HasCause fault FILE_LIMIT (S.passed source.old) (S.passed source.new)
         (S.failures source.old) (S.failures source.new)) }
     ensures bound { S.passed source.new ≤ S.passed source.old + FILE_LIMIT + 1 }
 {

@@ -15,19 +15,24 @@ pub const DAY_FILE_LIMIT: usize = 65_536;
 /// How many bytes are read at a time.
 const CHUNK: usize = 65_536;
 
-/// Reads all bytes of a source. The error is `ReadFault` where a read failed or one byte more came than
-/// the limit, and never more than that one byte is taken; else it is `Memory`.
+/// Reads all bytes of a source. The error is `ReadFault` where a read failed or one byte more came
+/// than the limit, and never more than that one byte is taken; else it is `Memory`.
 pub(crate) fn read_whole<S: Source>(
     alloc: Global,
     source: &mut S,
     limit: usize,
 ) -> Result<Vec<u8>, FileFault>
     requires { limit ≤ FILE_LIMIT }
-    ensures whole { IfOk result (λ bytes. IsReadWhole limit (S.remaining source.old) (S.remaining source.new)
-        (S.passed source.old) (S.passed source.new) (S.failures source.old) (S.failures source.new)) }
+    ensures whole { IfOk result
+        (λ bytes. IsReadWhole limit (S.remaining source.old) (S.remaining source.new)
+        (S.passed source.old) (S.passed source.new) (S.failures source.old)
+        (S.failures source.new)) }
     ensures few { IfOk result (λ bytes. length bytes.items ≤ limit) }
-    ensures bytes { IfOk result (λ bytes. IfSome (S.remaining source.old) (λ known. bytes.items ≡ known)) }
-    ensures cause { IfErr result (λ fault. IsOfReading fault × HasCause fault limit (S.passed source.old) (S.passed source.new)
+    ensures bytes { IfOk result
+        (λ bytes. IfSome (S.remaining source.old) (λ known. bytes.items ≡ known)) }
+    ensures cause { IfErr result
+        (λ fault. IsOfReading fault
+        × HasCause fault limit (S.passed source.old) (S.passed source.new)
         (S.failures source.old) (S.failures source.new)) }
     ensures bound { S.passed source.new ≤ S.passed source.old + limit + 1 }
 {

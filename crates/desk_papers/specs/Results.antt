@@ -9,7 +9,7 @@ use Rattle.desk_words.specs.declared.records.Poll.{Poll}
 use Rattle.desk_words.specs.declared.records.Resolution.{Resolution}
 use Rattle.desk_words.specs.declared.records.Tally.{Tally}
 use Rattle.desk_words.specs.Finding.{poll_on}
-use Rattle.caller_view.specs.declared.views.PublicRecord.{PublicRecord}
+use Rattle.caller_view.specs.Public.{PublicRecord}
 use Rattle.desk_papers.specs.States.{state_of, state_word}
 use Rattle.desk_papers.specs.declared.state.State.{State}
 use Rattle.desk_papers.specs.declared.state.State.TheVariants.{NoPoll, Ordered, Open, Closed, Declared}
@@ -33,8 +33,11 @@ not_voted tally = tally.eligible - (tally.votes_for + tally.votes_against + tall
 -- the figures of a count
 abbrev pub tally_text : Tally → List ℕ
 tally_text tally =
-    figure (codes "for       ") tally.votes_for ++ figure (codes "against   ") tally.votes_against ++ figure (codes "withheld  ") tally.withheld
-    ++ figure (codes "not voted ") (not_voted tally) ++ figure (codes "eligible  ") tally.eligible
+    figure (codes "for       ") tally.votes_for
+    ++ figure (codes "against   ") tally.votes_against
+    ++ figure (codes "withheld  ") tally.withheld
+    ++ figure (codes "not voted ") (not_voted tally)
+    ++ figure (codes "eligible  ") tally.eligible
 
 -- the figures of a declared poll; before the declaration there are none
 abbrev pub figures : State → List ℕ
@@ -46,18 +49,22 @@ figures (Declared declaration) = tally_text declaration.tally
 
 -- the number of a resolution, its kind and its state
 abbrev pub heading : ℕ → Resolution → State → List ℕ
-heading number resolution state = decimal number ++ (codes " " ++ (resolution_kind_word resolution.kind ++ (codes " " ++ state_word state)))
+heading number resolution state =
+    decimal number
+    ++ (codes " " ++ (resolution_kind_word resolution.kind ++ (codes " " ++ state_word state)))
 
 -- a resolution of this number, in this state
 abbrev pub resolution_text : ℕ → Resolution → State → List ℕ
 resolution_text number resolution state =
-    line (codes "resolution") (heading number resolution state) ++ line (codes "text") resolution.text ++ figures state
+    line (codes "resolution") (heading number resolution state)
+    ++ line (codes "text") resolution.text ++ figures state
 
 -- resolutions that are counted on from a number, with their polls
 abbrev pub resolutions_text : List Poll → ℕ → List Resolution → List ℕ
 resolutions_text polls number [] = []
 resolutions_text polls number (resolution ∷ more) =
-    resolution_text number resolution (state_of resolution.kind (poll_on polls number)) ++ resolutions_text polls (suc number) more
+    resolution_text number resolution (state_of resolution.kind (poll_on polls number))
+    ++ resolutions_text polls (suc number) more
 
 -- the moment of the opening, or `-`
 abbrev pub opening : Option ℕ → List ℕ
@@ -67,9 +74,12 @@ opening (Some moment) = moment_text moment
 -- what is known of a meeting itself
 abbrev pub head_text : Meeting → List ℕ
 head_text meeting =
-    line (codes "meeting") (letters_of meeting.id) ++ line (codes "company") (company_word meeting.company)
-    ++ line (codes "kind") (meeting_kind_word meeting.kind) ++ line (codes "given") (day_text meeting.given)
-    ++ line (codes "appointed") (moment_text meeting.appointed) ++ line (codes "opened") (opening meeting.opened)
+    line (codes "meeting") (letters_of meeting.id)
+    ++ line (codes "company") (company_word meeting.company)
+    ++ line (codes "kind") (meeting_kind_word meeting.kind)
+    ++ line (codes "given") (day_text meeting.given)
+    ++ line (codes "appointed") (moment_text meeting.appointed)
+    ++ line (codes "opened") (opening meeting.opened)
 
 -- the results of a meeting, with its polls
 abbrev pub meeting_text : Meeting → List Poll → List ℕ

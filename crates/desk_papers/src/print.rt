@@ -19,19 +19,22 @@ pub enum PrintFault {
     Memory,
 }
 
-/// Writes the results of a meeting: what is known of the meeting itself, and each resolution with its
-/// state, and with the figures of its poll once that is declared. A record without a meeting has no
-/// text, and nothing is written.
+/// Writes the results of a meeting: what is known of the meeting itself, and each resolution with
+/// its state, and with the figures of its poll once that is declared. A record without a meeting
+/// has no text, and nothing is written.
 pub fn print_results<W: Sink>(
     alloc: Global,
-    public: &PublicRecord,
+    public: &PublicRecord<'_>,
     writer: &mut W,
 ) -> Result<(), PrintFault>
-    ensures written { OnOk result (Appends (W.contents writer.old) (W.contents writer.new) (results_of public.now)) }
+    ensures written { OnOk result
+        (Appends (W.contents writer.old) (W.contents writer.new) (results_of public.now)) }
     ensures works { OnOk result (W.failures writer.new ≡ W.failures writer.old) }
 
-    ensures partly { result ≡ Err PrintFault.WriteFault → AppendsPrefix (W.contents writer.old) (W.contents writer.new) (results_of public.now) }
-    ensures failed { result ≡ Err PrintFault.WriteFault → W.failures writer.new ≡ one_more (W.failures writer.old) }
+    ensures partly { result ≡ Err PrintFault.WriteFault
+        → AppendsPrefix (W.contents writer.old) (W.contents writer.new) (results_of public.now) }
+    ensures failed { result ≡ Err PrintFault.WriteFault
+        → W.failures writer.new ≡ one_more (W.failures writer.old) }
     ensures untouched { result ≡ Err PrintFault.Memory → writer.new ≡ writer.old }
 {
     let Ok(text) = results_text(alloc, public) else {

@@ -72,7 +72,8 @@ fn push_resolution(
     resolution: &Resolution,
     state: State,
 ) -> Result<(), AllocError>
-    ensures { OnOk result (text.new.items ≡ text.old.items ++ resolution_text number resolution.now state) }
+    ensures { OnOk result
+        (text.new.items ≡ text.old.items ++ resolution_text number resolution.now state) }
 {
     let heading = heading(alloc, number, resolution, state)?;
     push_line(text, "resolution", &heading)?;
@@ -81,7 +82,8 @@ fn push_resolution(
 }
 
 fn push_opening(text: &mut Vec<u8>, opened: Option<Moment>) -> Result<(), AllocError>
-    ensures { OnOk result (text.new.items ≡ text.old.items ++ line (codes "opened") (opening opened)) }
+    ensures { OnOk result
+        (text.new.items ≡ text.old.items ++ line (codes "opened") (opening opened)) }
 {
     match opened {
         None => push_line(text, "opened", b"-"),
@@ -106,7 +108,8 @@ fn push_resolutions(
     polls: &[Poll],
     resolutions: &[Resolution],
 ) -> Result<(), AllocError>
-    ensures { OnOk result (text.new.items ≡ text.old.items ++ resolutions_text polls.now 1 resolutions.now) }
+    ensures { OnOk result
+        (text.new.items ≡ text.old.items ++ resolutions_text polls.now 1 resolutions.now) }
 {
     let mut number = 1;
     for resolution in resolutions {
@@ -118,16 +121,16 @@ fn push_resolutions(
 }
 
 /// The text of the results that a public record shows. The error is want of memory.
-pub(crate) fn results_text(alloc: Global, public: &PublicRecord) -> Result<Vec<u8>, AllocError>
+pub(crate) fn results_text(alloc: Global, public: &PublicRecord<'_>) -> Result<Vec<u8>, AllocError>
     ensures { IfOk result (λ text. text.items ≡ results_of public.now) }
 {
     let mut text = Vec::new(alloc);
-    if let Some(meeting) = &public.meeting {
+    if let Some(meeting) = public.meeting() {
         push_head(&mut text, meeting)?;
         push_resolutions(
             alloc,
             &mut text,
-            public.polls.as_slice(),
+            public.polls(),
             meeting.resolutions.as_slice(),
         )?;
     }

@@ -5,7 +5,7 @@ use Rattle.desk_commands.proofs.app.desk.Goals as goal
 
 pub returns : goal.returns
 returns c =
-    let first = takes-under c.top.result c.in_ok-init.init c.in_ok-first.first spec.top spec.init c.in_ok-first.ensures c.top.ensures c.in_ok-init.ensures in
+    let first = takes-under c.in_ok-top.top c.in_ok-init.init c.in_ok-first.first spec.top spec.init c.in_ok-first.ensures c.in_ok-top.ensures c.in_ok-init.ensures in
     let app2 : App = with_subcommand spec.top spec.init.top in
     let second = takes-under c.in_ok-first.first c.in_ok-keys.keys c.in_ok-second.second app2 spec.keys c.in_ok-second.ensures first c.in_ok-keys.ensures in
     let app3 : App = with_subcommand app2 spec.keys.top in

@@ -3,7 +3,7 @@ use Rattle.std.specs.Prelude.{ok_or}
 use Rattle.desk_terms.specs.Texts.{IsText}
 use Rattle.desk_files.specs.declared.fault.FileFault.TheVariants.{BadRow}
 use Rattle.desk_files.specs.declared.fault.Why.TheVariants as why
-use Rattle.desk_files.proofs.FieldLemmas.{text_of-text, text_of-no_text}
+use Rattle.desk_terms.proofs.TextLemmas.{text_of-text, text_of-no_text}
 use Rattle.desk_files.proofs.register_file.read_text.Goals as goal
 
 pub returns-in-Ok : goal.returns-in-Ok

@@ -1,0 +1,7 @@
+use Rattle.std.proofs.Common.{◌≡◌, take}
+use Rattle.std.specs.Str.Parse.{digits_value}
+use Rattle.desk_files.proofs.number.read_number.Given as goal
+
+-- The number that the digits so far write.
+abbrev pub invariant-loop-byte : goal.invariant-loop-byte
+invariant-loop-byte l = l.number ≡ digits_value 10 (take l.byte-index l.bytes)

@@ -1,0 +1,94 @@
+//! Files of records: a header, and rows under it.
+ghost use Rattle.std.specs.Prelude.{◌≡◌, [], option_map};
+ghost use Rattle.csv.specs.Records.{fields_of};
+ghost use Rattle.desk_files.specs.Faults.{Gives};
+ghost use Rattle.desk_files.specs.Tables.{one_record_more, one_row_more, table_of, under_header};
+
+use crate::fault::{FileFault, Why};
+use csv::{ByteRecord, ReaderBuilder};
+use std::alloc::Global;
+
+/// What is gathered of the rows of a file, one record after another.
+pub(crate) trait Gather: Drop {
+    ghost use Rattle.std.specs.Prelude.{ℕ, Bool, List, Result};
+    ghost use Rattle.desk_files.specs.declared.fault.FileFault.{FileFault};
+
+    /// A row, as contracts see it.
+    ghost Row: { Type 0 };
+
+    /// The rows so far.
+    ghost seen: { Self → List Row };
+
+    /// Whether a record names the columns of the file.
+    ghost names_columns: { List (List ℕ) → Bool };
+
+    /// The row that the record on a line is, after those so far, or its fault.
+    ghost row_after: { ℕ → List Row → List (List ℕ) → Result Row FileFault };
+
+    /// Whether the record names the columns of the file.
+    fn is_header(fields: &ByteRecord) -> bool
+        ensures { result ≡ names_columns (fields_of fields.now) };
+
+    /// No rows so far.
+    fn none(alloc: Global) -> Self
+        ensures { seen result ≡ [] };
+
+    /// The rows so far, and that of one record more. The error is its first fault, or want of
+    /// memory.
+    fn with_record(self, alloc: Global, fields: &ByteRecord) -> Result<Self, FileFault>
+        ensures { Gives seen result (one_row_more row_after (seen self) (fields_of fields.now)) };
+}
+
+fn one_record_more<T: Gather>(
+    alloc: Global,
+    found: Option<T>,
+    fields: &ByteRecord,
+) -> Result<Option<T>, FileFault>
+    ensures { Gives (option_map T.seen) result
+        (one_record_more T.names_columns T.row_after (option_map T.seen found)
+        (fields_of fields.now)) }
+{
+    match found {
+        None => {
+            if !T::is_header(fields) {
+                return Err(FileFault::BadRow {
+                    line: 1,
+                    why: Why::Header,
+                });
+            }
+            Ok(Some(T::none(alloc)))
+        }
+        Some(so_far) => Ok(Some(so_far.with_record(alloc, fields)?)),
+    }
+}
+
+fn under_header<T: Gather>(found: Option<T>) -> Result<T, FileFault>
+    ensures { Gives T.seen result (under_header (option_map T.seen found)) }
+{
+    found.ok_or(FileFault::BadRow {
+        line: 1,
+        why: Why::Header,
+    })
+}
+
+/// What is gathered of the records under the header of a file: its rows, or its first fault.
+pub(crate) fn rows_under_header<T: Gather>(alloc: Global, bytes: &[u8]) -> Result<T, FileFault>
+    ensures { Gives T.seen result (table_of T.names_columns T.row_after bytes.now) }
+{
+    let reader = ReaderBuilder::new()
+        .has_headers(false)
+        .flexible(true)
+        .from_reader(alloc, bytes);
+    let mut found = None;
+    for step in reader.into_byte_records() {
+        // Over a slice no read fails, so an error is of memory.
+        let Ok(fields) = step else {
+            return Err(FileFault::Memory);
+        };
+        found = match one_record_more(alloc, found, &fields) {
+            Ok(more) => more,
+            Err(fault) => return Err(fault),
+        };
+    }
+    under_header(found)
+}

@@ -1,0 +1,120 @@
+//! What files spell.
+//!
+//! A small file is read in several ways: whole, a few bytes at a time, and with each read failing
+//! in turn. It has to spell the same however the bytes come, and a read that fails is told, whatever
+//! the file says.
+use crate::case::FileKind;
+use crate::endings::ended_text;
+use crate::findings::Answer;
+use desk_devices::{FailAt, ShortReads, SliceSource};
+use desk_endings::Ended;
+use desk_papers::{FileFault, read_days, read_keys, read_register};
+use desk_words::{Caller, DayList, KeyRows, Register, Source, write_day};
+use std::alloc::{AllocError, Global};
+
+/// The most bytes of a file that is read in several ways.
+const SMALL: usize = 256;
+
+fn register_text(alloc: Global, register: &Register) -> Result<String, AllocError> {
+    let mut text = format!(in alloc; "{} rows\n", register.rows().len())?;
+    for row in register.rows() {
+        let member = row.member.as_str();
+        let kind = row.kind.word();
+        let name = row.name.as_str();
+        writeln!(text, "{member} {kind} {} {} {name}", row.shares, row.paid)?;
+    }
+    Ok(text)
+}
+
+fn keys_text(alloc: Global, keys: &KeyRows) -> Result<String, AllocError> {
+    let mut text = format!(in alloc; "{} keys\n", keys.as_slice().len())?;
+    for row in keys.as_slice() {
+        let secret = row.secret.as_str();
+        match &row.caller {
+            Caller::Office => writeln!(text, "OFFICE {secret}")?,
+            Caller::Party(party) => writeln!(text, "{} {secret}", party.as_str())?,
+        }
+    }
+    Ok(text)
+}
+
+fn days_text(alloc: Global, days: &DayList) -> Result<String, AllocError> {
+    let mut text = format!(in alloc; "{} days\n", days.as_slice().len())?;
+    for day in days.as_slice() {
+        let written = write_day(*day);
+        writeln!(text, "{}", String::from_utf8_lossy(alloc, &written)?)?;
+    }
+    Ok(text)
+}
+
+/// What a source of a file spells, or its fault.
+fn spelled<S: Source>(alloc: Global, kind: FileKind, source: &mut S) -> Result<String, AllocError> {
+    let found = match kind {
+        FileKind::Register => read_register(alloc, source).map(|register| register_text(
+            alloc, &register,
+        )),
+        FileKind::Keys => read_keys(alloc, source).map(|keys| keys_text(alloc, &keys)),
+        FileKind::Days => read_days(alloc, source).map(|days| days_text(alloc, &days)),
+    };
+    match found {
+        Ok(text) => text,
+        Err(fault) => fault_text(alloc, fault),
+    }
+}
+
+fn fault_text(alloc: Global, fault: FileFault) -> Result<String, AllocError> {
+    ended_text(alloc, Ended::by_file(fault))
+}
+
+/// What is spelled where at most so many bytes come at a time, and the read of that number fails.
+fn spelled_so(
+    alloc: Global,
+    kind: FileKind,
+    bytes: &[u8],
+    most: usize,
+    failing: u64,
+) -> Result<String, AllocError> {
+    let short = ShortReads::new(SliceSource::new(bytes), most.max(1));
+    spelled(alloc, kind, &mut FailAt::new(short, failing))
+}
+
+/// Reads a small file a few bytes at a time, first with no failure and then with each read failing
+/// in turn, the one that finds the end among them, and tells each answer that is not due.
+fn read_by(
+    alloc: Global,
+    kind: FileKind,
+    bytes: &[u8],
+    most: usize,
+    answer: &mut Answer,
+) -> Result<(), AllocError> {
+    let failed = fault_text(alloc, FileFault::ReadFault)?;
+    let reads = bytes.len().div_ceil(most.max(1)).saturating_add(1) as u64;
+    for failing in 0..=reads.saturating_add(1) {
+        let spelled = spelled_so(alloc, kind, bytes, most, failing)?;
+        let is_due = if 1 <= failing && failing <= reads {
+            spelled == failed
+        } else {
+            spelled == answer.text
+        };
+        answer.count_other();
+        if !is_due {
+            let what = format!(in alloc;
+                "read by {most} bytes, the read {failing} failing: {spelled}"
+            )?;
+            answer.other.push(what)?;
+        }
+    }
+    Ok(())
+}
+
+/// What the bytes of a file spell, or its fault.
+pub fn file_answer(alloc: Global, kind: FileKind, bytes: &[u8]) -> Result<Answer, AllocError> {
+    let text = spelled(alloc, kind, &mut SliceSource::new(bytes))?;
+    let mut answer = Answer::new(alloc, text);
+    if bytes.len() <= SMALL {
+        for most in [1, 7] {
+            read_by(alloc, kind, bytes, most, &mut answer)?;
+        }
+    }
+    Ok(answer)
+}
