@@ -49,7 +49,11 @@ register = record { number = 10; columns = 1 ∷ 2 ∷ 3 ∷ 4 ∷ 5 ∷ 6 ∷ [
 
 -- the appointments, in order of receipt
 abbrev pub appointments : TableOf (InMeeting Appointment)
-appointments = record { number = 12; columns = 2 ∷ 3 ∷ 4 ∷ 5 ∷ 6 ∷ 7 ∷ 8 ∷ 9 ∷ []; means = appointment_in }
+appointments = record {
+  number = 12;
+  columns = 2 ∷ 3 ∷ 4 ∷ 5 ∷ 6 ∷ 7 ∷ 8 ∷ 9 ∷ [];
+  means = appointment_in;
+}
 
 -- the endings, in order of receipt
 abbrev pub endings : TableOf (InMeeting Ending)
@@ -69,7 +73,11 @@ demands = record { number = 20; columns = 2 ∷ 3 ∷ 4 ∷ 5 ∷ []; means = de
 
 -- the polls
 abbrev pub polls : TableOf (InMeeting Poll)
-polls = record { number = 22; columns = 1 ∷ 2 ∷ 3 ∷ 4 ∷ 5 ∷ 6 ∷ 7 ∷ 8 ∷ 9 ∷ 10 ∷ 11 ∷ []; means = poll_in }
+polls = record {
+  number = 22;
+  columns = 1 ∷ 2 ∷ 3 ∷ 4 ∷ 5 ∷ 6 ∷ 7 ∷ 8 ∷ 9 ∷ 10 ∷ 11 ∷ [];
+  means = poll_in;
+}
 
 -- the votes, in order of receipt
 abbrev pub casts : TableOf (InMeeting CastMark)
@@ -102,12 +110,15 @@ is_named name p = same_name p.meeting name.meeting && (p.item.resolution == name
 
 -- the poll of a name started at a moment, and the others as they are
 abbrev pub started_at : PollName → ℕ → InMeeting Poll → InMeeting Poll
-started_at name moment p = if is_named name p then record p { item = record p.item { started = Some moment } } else p
+started_at name moment p =
+    if is_named name p then record p { item = record p.item { started = Some moment } } else p
 
 -- the poll of a name closed at a moment, and the others as they are
 abbrev pub closed_at : PollName → ℕ → InMeeting Poll → InMeeting Poll
-closed_at name moment p = if is_named name p then record p { item = record p.item { closed = Some moment } } else p
+closed_at name moment p =
+    if is_named name p then record p { item = record p.item { closed = Some moment } } else p
 
 -- the poll of a name with a count declared, and the others as they are
 abbrev pub declared_as : PollName → Tally → InMeeting Poll → InMeeting Poll
-declared_as name tally p = if is_named name p then record p { item = record p.item { declared = Some tally } } else p
+declared_as name tally p =
+    if is_named name p then record p { item = record p.item { declared = Some tally } } else p

@@ -1,4 +1,5 @@
--- The office that the tables are, in two stages: what each table holds, and of that the lists of each meeting.
+-- The office that the tables are, in two stages: what each table holds, and of that the lists of
+-- each meeting.
 use Rattle.std.specs.Prelude.{ℕ, suc, Bool, ◌&&◌, ◌==◌, nat_lt, List, [], ◌∷◌, map, filter, Option, Some}
 use Rattle.std.specs.List.{list_all, list_any}
 use Rattle.sqlite.specs.Tree.{Trees}
@@ -78,7 +79,8 @@ flat_in trees = do
 
 -- the records of a meeting, in their order
 abbrev pub of_meeting : {A : Type 0} → List ℕ → List (InMeeting A) → List A
-of_meeting {A} id records = map (λ (r : InMeeting A). r.item) (filter (λ (r : InMeeting A). same_name r.meeting id) records)
+of_meeting {A} id records =
+    map (λ (r : InMeeting A). r.item) (filter (λ (r : InMeeting A). same_name r.meeting id) records)
 
 -- the first resolution has the lower number
 abbrev pub number_before : NumberedResolution → NumberedResolution → Bool
@@ -110,8 +112,8 @@ with_resolutions m resolutions = record {
   opened = m.opened;
 }
 
--- the lists of a meeting with these resolutions: the register in the order of members, the polls in the order of
--- resolutions, and the others in order of receipt
+-- the lists of a meeting with these resolutions: the register in the order of members, the polls in
+-- the order of resolutions, and the others in order of receipt
 abbrev pub lists_with : FlatLists → MeetingRow → List Resolution → MeetingLists
 lists_with flat m resolutions = record {
   meeting = with_resolutions m resolutions;
@@ -127,7 +129,8 @@ lists_with flat m resolutions = record {
 
 -- the lists of a meeting, or nothing where its resolutions are not numbered 1, 2, ..
 abbrev pub lists_of : FlatLists → MeetingRow → Option MeetingLists
-lists_of flat m = resolutions_of m.id flat.resolutions >>= λ resolutions. Some (lists_with flat m resolutions)
+lists_of flat m =
+    resolutions_of m.id flat.resolutions >>= λ resolutions. Some (lists_with flat m resolutions)
 
 -- the lists of each meeting
 abbrev pub lists_of_all : FlatLists → List MeetingRow → Option (List MeetingLists)
@@ -139,21 +142,34 @@ lists_of_all flat (m ∷ rest) = do
 
 -- each record is of a meeting that stands
 abbrev pub name_meetings : {A : Type 0} → List MeetingRow → List (InMeeting A) → Bool
-name_meetings {A} meetings records = list_all (λ (r : InMeeting A). list_any (λ (m : MeetingRow). same_name m.id r.meeting) meetings) records
+name_meetings {A} meetings records =
+    list_all (λ (r : InMeeting A). list_any (λ (m : MeetingRow). same_name m.id r.meeting) meetings)
+    records
 
 -- no record is of a meeting that does not stand
 abbrev pub have_meetings : FlatLists → Bool
 have_meetings flat =
-    name_meetings flat.meetings flat.resolutions && name_meetings flat.meetings flat.register && name_meetings flat.meetings flat.appointments
-    && name_meetings flat.meetings flat.endings && name_meetings flat.meetings flat.authorities && name_meetings flat.meetings flat.presences
-    && name_meetings flat.meetings flat.demands && name_meetings flat.meetings flat.polls && name_meetings flat.meetings flat.casts
+    name_meetings flat.meetings flat.resolutions
+    && name_meetings flat.meetings flat.register
+    && name_meetings flat.meetings flat.appointments
+    && name_meetings flat.meetings flat.endings
+    && name_meetings flat.meetings flat.authorities
+    && name_meetings flat.meetings flat.presences
+    && name_meetings flat.meetings flat.demands
+    && name_meetings flat.meetings flat.polls
+    && name_meetings flat.meetings flat.casts
 
 -- the lists of an office that the records are, or nothing
 unfoldable pub office_of : FlatLists → Option OfficeLists
 office_of flat = do
   known ← only (have_meetings flat)
   lists ← lists_of_all flat flat.meetings
-  Some (record { keys = sort_by caller_before flat.keys; closed = sort_by day_before flat.closed; meetings = lists })
+  Some
+      (record {
+        keys = sort_by caller_before flat.keys;
+        closed = sort_by day_before flat.closed;
+        meetings = lists;
+      })
 
 -- the lists of an office that the tables are, or nothing where their rows are none
 abbrev pub office_in : Trees → Option OfficeLists

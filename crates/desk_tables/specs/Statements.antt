@@ -51,11 +51,16 @@ records_in table trees = all_mean table.means (rows_of table trees)
 
 -- the other tables keep their rows
 abbrev pub KeepsOthers : ℕ → State → State → Type 0
-KeepsOthers changed old new = (number : ℕ) → IsTrue (is_table number) → number ≢ changed → new.now.trees number ≡ old.now.trees number
+KeepsOthers changed old new =
+    (number : ℕ) → IsTrue (is_table number) → number ≢ changed
+    → new.now.trees number ≡ old.now.trees number
 
 -- what the rows of a table mean is changed, and nothing else
-pub record Changes {A : Type 0} (table : TableOf A) (change : List A → List A) (old new : State) : Type 0 where
-  pub records : (was : List A) → records_in table old.now.trees ≡ Some was → records_in table new.now.trees ≡ Some (change was)
+pub record Changes {A : Type 0} (table : TableOf A) (change : List A → List A) (old new : State)
+    : Type 0 where
+  pub records : (was : List A)
+      → records_in table old.now.trees ≡ Some was
+      → records_in table new.now.trees ≡ Some (change was)
   pub others : KeepsOthers table.number old new
   pub desk : IsDesk new
   pub inside : IsTrue new.in_transaction
@@ -66,7 +71,11 @@ Adds table added = Changes table (λ was. was ++ added ∷ [])
 
 -- a record is added after the others, where each of those passes the test
 abbrev pub AddsAfter : {A : Type 0} → (A → Bool) → TableOf A → A → State → State → Type 0
-AddsAfter {A} test table added old new = (was : List A) → records_in table old.now.trees ≡ Some was → IsTrue (list_all test was) → Adds table added old new
+AddsAfter {A} test table added old new =
+    (was : List A)
+    → records_in table old.now.trees ≡ Some was
+    → IsTrue (list_all test was)
+    → Adds table added old new
 
 -- a record is added, where there is none
 abbrev pub AddsFirst : {A : Type 0} → TableOf A → A → State → State → Type 0
@@ -84,15 +93,19 @@ TakesOut table test = Changes table (filter (λ it. not (test it)))
 abbrev pub Sets : {A : Type 0} → TableOf A → (A → A) → State → State → Type 0
 Sets table change = Changes table (map change)
 
--- where a statement is answered in a transaction over the tables of a desk, and the disk returned what was
--- written, this is what it did
-abbrev pub Does : {S T : Type 0} → store.Ghosts S → Held S → Held S → Result T Error → (State → State → Type 0) → Type 0
+-- where a statement is answered in a transaction over the tables of a desk, and the disk returned
+-- what was written, this is what it did
+abbrev pub Does : {S T : Type 0} → store.Ghosts S → Held S → Held S → Result T Error
+    → (State → State → Type 0) → Type 0
 Does g old new result Effect =
-    HasCleanDisk (state g new) → IsTrue (state g old).in_transaction → IsDesk (state g old) → OnOk result (Effect (state g old) (state g new))
+    HasCleanDisk (state g new) → IsTrue (state g old).in_transaction → IsDesk (state g old)
+    → OnOk result (Effect (state g old) (state g new))
 
 -- nothing is committed: the last commit stands, and a crash leaves what it left before
 pub record CommitsNothing {S : Type 0} (g : store.Ghosts S) (old new : Held S) : Type 0 where
-  pub kept : HasCleanDisk (state g new) → IsTrue (state g old).in_transaction → KeepsCommit (state g old) (state g new)
+  pub kept : HasCleanDisk (state g new)
+      → IsTrue (state g old).in_transaction
+      → KeepsCommit (state g old) (state g new)
   pub crash : Survives (state g old) (state g new) (λ _. ⊥)
 
 -- the tables of a desk are read, and the disk returned what was written
@@ -101,12 +114,18 @@ IsRead g old new = HasCleanDisk (state g new) × IsDesk (state g old)
 
 -- these are all rows of the table, in their order, and nothing is changed
 abbrev pub Reads : {S A : Type 0} → store.Ghosts S → Held S → Held S → TableOf A → List Row → Type 0
-Reads g old new table rows = (rows ≡ rows_of table (state g old).now.trees) × IsUnchanged (state g old) (state g new)
+Reads g old new table rows =
+    (rows ≡ rows_of table (state g old).now.trees) × IsUnchanged (state g old) (state g new)
 
--- what these rows mean is what passes the test of what the table holds, in the same order, and nothing is changed
-abbrev pub Finds : {S A : Type 0} → store.Ghosts S → Held S → Held S → TableOf A → (A → Bool) → List Row → Type 0
+-- what these rows mean is what passes the test of what the table holds, in the same order, and
+-- nothing is changed
+abbrev pub Finds : {S A : Type 0} → store.Ghosts S → Held S → Held S → TableOf A → (A → Bool)
+    → List Row → Type 0
 Finds {S} {A} g old new table test rows =
-    ((was : List A) → records_in table (state g old).now.trees ≡ Some was → all_mean table.means rows ≡ Some (filter test was)) × IsUnchanged (state g old) (state g new)
+    ((was : List A)
+    → records_in table (state g old).now.trees ≡ Some was
+    → all_mean table.means rows ≡ Some (filter test was))
+    × IsUnchanged (state g old) (state g new)
 
 -- whatever is answered, nothing is committed, and a crash leaves what it left before
 pub record ChangesNothing {S : Type 0} (g : store.Ghosts S) (old new : Held S) : Type 0 where
@@ -115,11 +134,13 @@ pub record ChangesNothing {S : Type 0} (g : store.Ghosts S) (old new : Held S) :
 
 -- the tables of this schema stand, with no row
 abbrev pub AreEmpty : Schema → State → Type 0
-AreEmpty schema s = (s.now.schema ≡ schema) × AllByRecursion (λ (t : Table). s.now.trees t.tree ≡ []) schema.tables
+AreEmpty schema s =
+    (s.now.schema ≡ schema) × AllByRecursion (λ (t : Table). s.now.trees t.tree ≡ []) schema.tables
 
--- where a statement is answered in a transaction, and the disk returned what was written, the tables of the
--- first schema, with no row, are now those of the second, with no row
-abbrev pub Makes : {S T : Type 0} → store.Ghosts S → Held S → Held S → Result T Error → Schema → Schema → Type 0
+-- where a statement is answered in a transaction, and the disk returned what was written, the
+-- tables of the first schema, with no row, are now those of the second, with no row
+abbrev pub Makes : {S T : Type 0} → store.Ghosts S → Held S → Held S → Result T Error → Schema
+    → Schema → Type 0
 Makes g old new result before after =
     HasCleanDisk (state g new) → IsTrue (state g old).in_transaction → AreEmpty before (state g old)
     → OnOk result (AreEmpty after (state g new) × IsTrue (state g new).in_transaction)

@@ -13,7 +13,8 @@ use std::alloc::Global;
 /// Makes the table, after that of register.
 pub fn make<S: Alter>(tx: &mut Transaction<'_, S>) -> Result<usize, Error>
     ensures same_reference { tx.new.conn.ghost_name ≡ tx.old.conn.ghost_name }
-    ensures made { Makes S.Store tx.old.conn.now tx.new.conn.now result with_register with_appointments }
+    ensures made { Makes S.Store tx.old.conn.now tx.new.conn.now result with_register
+        with_appointments }
     ensures commits { CommitsNothing S.Store tx.old.conn.now tx.new.conn.now }
 {
     tx.execute(
@@ -30,7 +31,8 @@ pub fn add<S: Alter>(
     appointment: &Appointment,
 ) -> Result<usize, Error>
     ensures same_reference { tx.new.conn.ghost_name ≡ tx.old.conn.ghost_name }
-    ensures added { Does S.Store tx.old.conn.now tx.new.conn.now result (Adds appointments (record { meeting = meeting; item = appointment.now })) }
+    ensures added { Does S.Store tx.old.conn.now tx.new.conn.now result
+        (Adds appointments (record { meeting = meeting; item = appointment.now })) }
     ensures commits { CommitsNothing S.Store tx.old.conn.now tx.new.conn.now }
 {
     let number = whole(appointment.number)?;
@@ -54,7 +56,9 @@ pub fn add<S: Alter>(
 /// The rows, in order of receipt.
 pub fn all<S: Alter>(tx: &mut Transaction<'_, S>) -> Result<Vec<Row>, Error>
     ensures same_reference { tx.new.conn.ghost_name ≡ tx.old.conn.ghost_name }
-    ensures rows { IsRead S.Store tx.old.conn.now tx.new.conn.now → IfOk result (λ rows. Reads S.Store tx.old.conn.now tx.new.conn.now appointments rows.items) }
+    ensures rows { IsRead S.Store tx.old.conn.now tx.new.conn.now
+        → IfOk result
+        (λ rows. Reads S.Store tx.old.conn.now tx.new.conn.now appointments rows.items) }
     ensures changes { ChangesNothing S.Store tx.old.conn.now tx.new.conn.now }
 {
     tx.query_all(

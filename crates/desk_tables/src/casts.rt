@@ -28,7 +28,8 @@ pub fn add<S: Alter>(
     cast: &CastMark,
 ) -> Result<usize, Error>
     ensures same_reference { tx.new.conn.ghost_name ≡ tx.old.conn.ghost_name }
-    ensures added { Does S.Store tx.old.conn.now tx.new.conn.now result (Adds casts (record { meeting = meeting; item = cast.now })) }
+    ensures added { Does S.Store tx.old.conn.now tx.new.conn.now result
+        (Adds casts (record { meeting = meeting; item = cast.now })) }
     ensures commits { CommitsNothing S.Store tx.old.conn.now tx.new.conn.now }
 {
     let resolution = whole(cast.resolution)?;
@@ -52,7 +53,8 @@ pub fn add<S: Alter>(
 /// The rows, in order of receipt.
 pub fn all<S: Alter>(tx: &mut Transaction<'_, S>) -> Result<Vec<Row>, Error>
     ensures same_reference { tx.new.conn.ghost_name ≡ tx.old.conn.ghost_name }
-    ensures rows { IsRead S.Store tx.old.conn.now tx.new.conn.now → IfOk result (λ rows. Reads S.Store tx.old.conn.now tx.new.conn.now casts rows.items) }
+    ensures rows { IsRead S.Store tx.old.conn.now tx.new.conn.now
+        → IfOk result (λ rows. Reads S.Store tx.old.conn.now tx.new.conn.now casts rows.items) }
     ensures changes { ChangesNothing S.Store tx.old.conn.now tx.new.conn.now }
 {
     tx.query_all(

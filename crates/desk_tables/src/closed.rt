@@ -23,7 +23,8 @@ pub fn make<S: Alter>(tx: &mut Transaction<'_, S>) -> Result<usize, Error>
 /// Adds a closed day, after earlier ones.
 pub fn add<S: Alter>(tx: &mut Transaction<'_, S>, day: Day) -> Result<usize, Error>
     ensures same_reference { tx.new.conn.ghost_name ≡ tx.old.conn.ghost_name }
-    ensures added { Does S.Store tx.old.conn.now tx.new.conn.now result (AddsAfter (λ earlier. nat_lt earlier day) closed day) }
+    ensures added { Does S.Store tx.old.conn.now tx.new.conn.now result
+        (AddsAfter (λ earlier. nat_lt earlier day) closed day) }
     ensures commits { CommitsNothing S.Store tx.old.conn.now tx.new.conn.now }
 {
     tx.execute(
@@ -35,7 +36,8 @@ pub fn add<S: Alter>(tx: &mut Transaction<'_, S>, day: Day) -> Result<usize, Err
 /// The rows, in order.
 pub fn all<S: Alter>(tx: &mut Transaction<'_, S>) -> Result<Vec<Row>, Error>
     ensures same_reference { tx.new.conn.ghost_name ≡ tx.old.conn.ghost_name }
-    ensures rows { IsRead S.Store tx.old.conn.now tx.new.conn.now → IfOk result (λ rows. Reads S.Store tx.old.conn.now tx.new.conn.now closed rows.items) }
+    ensures rows { IsRead S.Store tx.old.conn.now tx.new.conn.now
+        → IfOk result (λ rows. Reads S.Store tx.old.conn.now tx.new.conn.now closed rows.items) }
     ensures changes { ChangesNothing S.Store tx.old.conn.now tx.new.conn.now }
 {
     tx.query_all("SELECT day FROM closed ORDER BY day", &[])

@@ -21,7 +21,8 @@ pub fn make<S: Alter>(tx: &mut Transaction<'_, S>) -> Result<usize, Error>
 /// Notes that the tables are of version 1.
 pub fn add<S: Alter>(tx: &mut Transaction<'_, S>) -> Result<usize, Error>
     ensures same_reference { tx.new.conn.ghost_name ≡ tx.old.conn.ghost_name }
-    ensures added { Does S.Store tx.old.conn.now tx.new.conn.now result (AddsFirst desk (record { number = 1 })) }
+    ensures added { Does S.Store tx.old.conn.now tx.new.conn.now result
+        (AddsFirst desk (record { number = 1 })) }
     ensures commits { CommitsNothing S.Store tx.old.conn.now tx.new.conn.now }
 {
     tx.execute("INSERT INTO desk (one, version) VALUES (1, 1)", &[])
@@ -30,7 +31,8 @@ pub fn add<S: Alter>(tx: &mut Transaction<'_, S>) -> Result<usize, Error>
 /// The rows, of which there is one.
 pub fn all<S: Alter>(tx: &mut Transaction<'_, S>) -> Result<Vec<Row>, Error>
     ensures same_reference { tx.new.conn.ghost_name ≡ tx.old.conn.ghost_name }
-    ensures rows { IsRead S.Store tx.old.conn.now tx.new.conn.now → IfOk result (λ rows. Reads S.Store tx.old.conn.now tx.new.conn.now desk rows.items) }
+    ensures rows { IsRead S.Store tx.old.conn.now tx.new.conn.now
+        → IfOk result (λ rows. Reads S.Store tx.old.conn.now tx.new.conn.now desk rows.items) }
     ensures changes { ChangesNothing S.Store tx.old.conn.now tx.new.conn.now }
 {
     tx.query_all("SELECT one, version FROM desk ORDER BY one", &[])

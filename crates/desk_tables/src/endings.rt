@@ -12,7 +12,8 @@ use sqlite::{Alter, Error, Row, Transaction, params};
 /// Makes the table, after that of appointments.
 pub fn make<S: Alter>(tx: &mut Transaction<'_, S>) -> Result<usize, Error>
     ensures same_reference { tx.new.conn.ghost_name ≡ tx.old.conn.ghost_name }
-    ensures made { Makes S.Store tx.old.conn.now tx.new.conn.now result with_appointments with_endings }
+    ensures made { Makes S.Store tx.old.conn.now tx.new.conn.now result with_appointments
+        with_endings }
     ensures commits { CommitsNothing S.Store tx.old.conn.now tx.new.conn.now }
 {
     tx.execute(
@@ -28,7 +29,8 @@ pub fn add<S: Alter>(
     ending: &Ending,
 ) -> Result<usize, Error>
     ensures same_reference { tx.new.conn.ghost_name ≡ tx.old.conn.ghost_name }
-    ensures added { Does S.Store tx.old.conn.now tx.new.conn.now result (Adds endings (record { meeting = meeting; item = ending.now })) }
+    ensures added { Does S.Store tx.old.conn.now tx.new.conn.now result
+        (Adds endings (record { meeting = meeting; item = ending.now })) }
     ensures commits { CommitsNothing S.Store tx.old.conn.now tx.new.conn.now }
 {
     let number = whole(ending.number)?;
@@ -46,7 +48,8 @@ pub fn add<S: Alter>(
 /// The rows, in order of receipt.
 pub fn all<S: Alter>(tx: &mut Transaction<'_, S>) -> Result<Vec<Row>, Error>
     ensures same_reference { tx.new.conn.ghost_name ≡ tx.old.conn.ghost_name }
-    ensures rows { IsRead S.Store tx.old.conn.now tx.new.conn.now → IfOk result (λ rows. Reads S.Store tx.old.conn.now tx.new.conn.now endings rows.items) }
+    ensures rows { IsRead S.Store tx.old.conn.now tx.new.conn.now
+        → IfOk result (λ rows. Reads S.Store tx.old.conn.now tx.new.conn.now endings rows.items) }
     ensures changes { ChangesNothing S.Store tx.old.conn.now tx.new.conn.now }
 {
     tx.query_all(

@@ -36,7 +36,8 @@ pub fn add<S: Alter>(tx: &mut Transaction<'_, S>, key: &KeyRow) -> Result<usize,
 /// The rows, in the order in which they were added.
 pub fn all<S: Alter>(tx: &mut Transaction<'_, S>) -> Result<Vec<Row>, Error>
     ensures same_reference { tx.new.conn.ghost_name ≡ tx.old.conn.ghost_name }
-    ensures rows { IsRead S.Store tx.old.conn.now tx.new.conn.now → IfOk result (λ rows. Reads S.Store tx.old.conn.now tx.new.conn.now keys rows.items) }
+    ensures rows { IsRead S.Store tx.old.conn.now tx.new.conn.now
+        → IfOk result (λ rows. Reads S.Store tx.old.conn.now tx.new.conn.now keys rows.items) }
     ensures changes { ChangesNothing S.Store tx.old.conn.now tx.new.conn.now }
 {
     tx.query_all("SELECT party, secret FROM keys ORDER BY rowid", &[])
@@ -54,7 +55,10 @@ pub fn empty<S: Alter>(tx: &mut Transaction<'_, S>) -> Result<usize, Error>
 /// The rows whose key this is, whole.
 pub fn find<S: Alter>(tx: &mut Transaction<'_, S>, secret: &SecretKey) -> Result<Vec<Row>, Error>
     ensures same_reference { tx.new.conn.ghost_name ≡ tx.old.conn.ghost_name }
-    ensures rows { IsRead S.Store tx.old.conn.now tx.new.conn.now → IfOk result (λ rows. Finds S.Store tx.old.conn.now tx.new.conn.now keys (λ row. same_name row.secret secret.now) rows.items) }
+    ensures rows { IsRead S.Store tx.old.conn.now tx.new.conn.now
+        → IfOk result
+        (λ rows. Finds S.Store tx.old.conn.now tx.new.conn.now keys
+        (λ row. same_name row.secret secret.now) rows.items) }
     ensures changes { ChangesNothing S.Store tx.old.conn.now tx.new.conn.now }
 {
     tx.query_all(

@@ -25,7 +25,8 @@ pub fn make<S: Alter>(tx: &mut Transaction<'_, S>) -> Result<usize, Error>
 /// Adds a meeting, without its resolutions.
 pub fn add<S: Alter>(tx: &mut Transaction<'_, S>, meeting: &Meeting) -> Result<usize, Error>
     ensures same_reference { tx.new.conn.ghost_name ≡ tx.old.conn.ghost_name }
-    ensures added { Does S.Store tx.old.conn.now tx.new.conn.now result (Adds meetings (without_resolutions meeting.now)) }
+    ensures added { Does S.Store tx.old.conn.now tx.new.conn.now result
+        (Adds meetings (without_resolutions meeting.now)) }
     ensures commits { CommitsNothing S.Store tx.old.conn.now tx.new.conn.now }
 {
     tx.execute(
@@ -46,7 +47,8 @@ pub fn add<S: Alter>(tx: &mut Transaction<'_, S>, meeting: &Meeting) -> Result<u
 /// The rows, in the order in which they were called.
 pub fn all<S: Alter>(tx: &mut Transaction<'_, S>) -> Result<Vec<Row>, Error>
     ensures same_reference { tx.new.conn.ghost_name ≡ tx.old.conn.ghost_name }
-    ensures rows { IsRead S.Store tx.old.conn.now tx.new.conn.now → IfOk result (λ rows. Reads S.Store tx.old.conn.now tx.new.conn.now meetings rows.items) }
+    ensures rows { IsRead S.Store tx.old.conn.now tx.new.conn.now
+        → IfOk result (λ rows. Reads S.Store tx.old.conn.now tx.new.conn.now meetings rows.items) }
     ensures changes { ChangesNothing S.Store tx.old.conn.now tx.new.conn.now }
 {
     tx.query_all(
@@ -58,7 +60,8 @@ pub fn all<S: Alter>(tx: &mut Transaction<'_, S>) -> Result<Vec<Row>, Error>
 /// Notes that a meeting's register is loaded.
 pub fn load<S: Alter>(tx: &mut Transaction<'_, S>, meeting: MeetingId) -> Result<usize, Error>
     ensures same_reference { tx.new.conn.ghost_name ≡ tx.old.conn.ghost_name }
-    ensures set { Does S.Store tx.old.conn.now tx.new.conn.now result (Sets meetings (loaded_at meeting)) }
+    ensures set { Does S.Store tx.old.conn.now tx.new.conn.now result
+        (Sets meetings (loaded_at meeting)) }
     ensures commits { CommitsNothing S.Store tx.old.conn.now tx.new.conn.now }
 {
     tx.execute(
@@ -74,7 +77,8 @@ pub fn open<S: Alter>(
     moment: Moment,
 ) -> Result<usize, Error>
     ensures same_reference { tx.new.conn.ghost_name ≡ tx.old.conn.ghost_name }
-    ensures set { Does S.Store tx.old.conn.now tx.new.conn.now result (Sets meetings (opened_at meeting moment)) }
+    ensures set { Does S.Store tx.old.conn.now tx.new.conn.now result
+        (Sets meetings (opened_at meeting moment)) }
     ensures commits { CommitsNothing S.Store tx.old.conn.now tx.new.conn.now }
 {
     tx.execute(

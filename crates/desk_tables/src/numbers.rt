@@ -21,7 +21,10 @@ pub(crate) fn whole(number: u64) -> Result<i64, Error>
 
 /// The four figures of what is declared as they are kept; the error is `TooBig`.
 pub(crate) fn tally(declared: Option<Tally>) -> Result<TallyColumns, Error>
-    ensures { IfOk result (λ t. declared_of (or_null Int t.votes_for) (or_null Int t.votes_against) (or_null Int t.withheld) (or_null Int t.eligible) ≡ Some declared) }
+    ensures { IfOk result
+        (λ t. declared_of (or_null Int t.votes_for) (or_null Int t.votes_against)
+        (or_null Int t.withheld) (or_null Int t.eligible)
+        ≡ Some declared) }
 {
     tally_columns(declared).ok_or(TOO_BIG)
 }

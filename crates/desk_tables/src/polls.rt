@@ -36,7 +36,8 @@ pub fn add<S: Alter>(
     poll: &Poll,
 ) -> Result<usize, Error>
     ensures same_reference { tx.new.conn.ghost_name ≡ tx.old.conn.ghost_name }
-    ensures added { Does S.Store tx.old.conn.now tx.new.conn.now result (Adds polls (record { meeting = meeting; item = poll.now })) }
+    ensures added { Does S.Store tx.old.conn.now tx.new.conn.now result
+        (Adds polls (record { meeting = meeting; item = poll.now })) }
     ensures commits { CommitsNothing S.Store tx.old.conn.now tx.new.conn.now }
 {
     let resolution = whole(poll.resolution)?;
@@ -62,7 +63,8 @@ pub fn add<S: Alter>(
 /// The rows, in the order in which they were added.
 pub fn all<S: Alter>(tx: &mut Transaction<'_, S>) -> Result<Vec<Row>, Error>
     ensures same_reference { tx.new.conn.ghost_name ≡ tx.old.conn.ghost_name }
-    ensures rows { IsRead S.Store tx.old.conn.now tx.new.conn.now → IfOk result (λ rows. Reads S.Store tx.old.conn.now tx.new.conn.now polls rows.items) }
+    ensures rows { IsRead S.Store tx.old.conn.now tx.new.conn.now
+        → IfOk result (λ rows. Reads S.Store tx.old.conn.now tx.new.conn.now polls rows.items) }
     ensures changes { ChangesNothing S.Store tx.old.conn.now tx.new.conn.now }
 {
     tx.query_all(
@@ -78,7 +80,8 @@ pub fn start<S: Alter>(
     moment: Moment,
 ) -> Result<usize, Error>
     ensures same_reference { tx.new.conn.ghost_name ≡ tx.old.conn.ghost_name }
-    ensures set { Does S.Store tx.old.conn.now tx.new.conn.now result (Sets polls (started_at poll moment)) }
+    ensures set { Does S.Store tx.old.conn.now tx.new.conn.now result
+        (Sets polls (started_at poll moment)) }
     ensures commits { CommitsNothing S.Store tx.old.conn.now tx.new.conn.now }
 {
     let resolution = whole(poll.resolution)?;
@@ -99,7 +102,8 @@ pub fn close<S: Alter>(
     moment: Moment,
 ) -> Result<usize, Error>
     ensures same_reference { tx.new.conn.ghost_name ≡ tx.old.conn.ghost_name }
-    ensures set { Does S.Store tx.old.conn.now tx.new.conn.now result (Sets polls (closed_at poll moment)) }
+    ensures set { Does S.Store tx.old.conn.now tx.new.conn.now result
+        (Sets polls (closed_at poll moment)) }
     ensures commits { CommitsNothing S.Store tx.old.conn.now tx.new.conn.now }
 {
     let resolution = whole(poll.resolution)?;
@@ -120,7 +124,8 @@ pub fn declare<S: Alter>(
     tally: Tally,
 ) -> Result<usize, Error>
     ensures same_reference { tx.new.conn.ghost_name ≡ tx.old.conn.ghost_name }
-    ensures set { Does S.Store tx.old.conn.now tx.new.conn.now result (Sets polls (declared_as poll tally)) }
+    ensures set { Does S.Store tx.old.conn.now tx.new.conn.now result
+        (Sets polls (declared_as poll tally)) }
     ensures commits { CommitsNothing S.Store tx.old.conn.now tx.new.conn.now }
 {
     let resolution = whole(poll.resolution)?;

@@ -13,7 +13,8 @@ use sqlite::{Alter, Error, Row, Transaction, params};
 /// Makes the table, after that of resolutions.
 pub fn make<S: Alter>(tx: &mut Transaction<'_, S>) -> Result<usize, Error>
     ensures same_reference { tx.new.conn.ghost_name ≡ tx.old.conn.ghost_name }
-    ensures made { Makes S.Store tx.old.conn.now tx.new.conn.now result with_resolutions with_register }
+    ensures made { Makes S.Store tx.old.conn.now tx.new.conn.now result with_resolutions
+        with_register }
     ensures commits { CommitsNothing S.Store tx.old.conn.now tx.new.conn.now }
 {
     tx.execute(
@@ -29,7 +30,8 @@ pub fn add<S: Alter>(
     holding: &RegisterRow,
 ) -> Result<usize, Error>
     ensures same_reference { tx.new.conn.ghost_name ≡ tx.old.conn.ghost_name }
-    ensures added { Does S.Store tx.old.conn.now tx.new.conn.now result (Adds register (record { meeting = meeting; item = holding.now })) }
+    ensures added { Does S.Store tx.old.conn.now tx.new.conn.now result
+        (Adds register (record { meeting = meeting; item = holding.now })) }
     ensures commits { CommitsNothing S.Store tx.old.conn.now tx.new.conn.now }
 {
     let shares = whole(holding.shares)?;
@@ -50,7 +52,8 @@ pub fn add<S: Alter>(
 /// The rows, in the order in which they were added.
 pub fn all<S: Alter>(tx: &mut Transaction<'_, S>) -> Result<Vec<Row>, Error>
     ensures same_reference { tx.new.conn.ghost_name ≡ tx.old.conn.ghost_name }
-    ensures rows { IsRead S.Store tx.old.conn.now tx.new.conn.now → IfOk result (λ rows. Reads S.Store tx.old.conn.now tx.new.conn.now register rows.items) }
+    ensures rows { IsRead S.Store tx.old.conn.now tx.new.conn.now
+        → IfOk result (λ rows. Reads S.Store tx.old.conn.now tx.new.conn.now register rows.items) }
     ensures changes { ChangesNothing S.Store tx.old.conn.now tx.new.conn.now }
 {
     tx.query_all(
@@ -62,7 +65,8 @@ pub fn all<S: Alter>(tx: &mut Transaction<'_, S>) -> Result<Vec<Row>, Error>
 /// Takes out the rows of a meeting's register.
 pub fn empty<S: Alter>(tx: &mut Transaction<'_, S>, meeting: MeetingId) -> Result<usize, Error>
     ensures same_reference { tx.new.conn.ghost_name ≡ tx.old.conn.ghost_name }
-    ensures emptied { Does S.Store tx.old.conn.now tx.new.conn.now result (TakesOut register (λ holding. same_name holding.meeting meeting)) }
+    ensures emptied { Does S.Store tx.old.conn.now tx.new.conn.now result
+        (TakesOut register (λ holding. same_name holding.meeting meeting)) }
     ensures commits { CommitsNothing S.Store tx.old.conn.now tx.new.conn.now }
 {
     tx.execute(

@@ -12,7 +12,8 @@ use sqlite::{Alter, Error, Row, Transaction, params};
 /// Makes the table, after that of meetings.
 pub fn make<S: Alter>(tx: &mut Transaction<'_, S>) -> Result<usize, Error>
     ensures same_reference { tx.new.conn.ghost_name ≡ tx.old.conn.ghost_name }
-    ensures made { Makes S.Store tx.old.conn.now tx.new.conn.now result with_meetings with_resolutions }
+    ensures made { Makes S.Store tx.old.conn.now tx.new.conn.now result with_meetings
+        with_resolutions }
     ensures commits { CommitsNothing S.Store tx.old.conn.now tx.new.conn.now }
 {
     tx.execute(
@@ -29,7 +30,12 @@ pub fn add<S: Alter>(
     resolution: &Resolution,
 ) -> Result<usize, Error>
     ensures same_reference { tx.new.conn.ghost_name ≡ tx.old.conn.ghost_name }
-    ensures added { Does S.Store tx.old.conn.now tx.new.conn.now result (Adds resolutions (record { meeting = meeting; item = record { number = number; resolution = resolution.now } })) }
+    ensures added { Does S.Store tx.old.conn.now tx.new.conn.now result
+        (Adds resolutions
+        (record {
+          meeting = meeting;
+          item = record { number = number; resolution = resolution.now };
+        })) }
     ensures commits { CommitsNothing S.Store tx.old.conn.now tx.new.conn.now }
 {
     let number = whole(number)?;
@@ -47,7 +53,9 @@ pub fn add<S: Alter>(
 /// The rows, in the order in which they were added.
 pub fn all<S: Alter>(tx: &mut Transaction<'_, S>) -> Result<Vec<Row>, Error>
     ensures same_reference { tx.new.conn.ghost_name ≡ tx.old.conn.ghost_name }
-    ensures rows { IsRead S.Store tx.old.conn.now tx.new.conn.now → IfOk result (λ rows. Reads S.Store tx.old.conn.now tx.new.conn.now resolutions rows.items) }
+    ensures rows { IsRead S.Store tx.old.conn.now tx.new.conn.now
+        → IfOk result
+        (λ rows. Reads S.Store tx.old.conn.now tx.new.conn.now resolutions rows.items) }
     ensures changes { ChangesNothing S.Store tx.old.conn.now tx.new.conn.now }
 {
     tx.query_all(

@@ -1,0 +1,131 @@
+-- A meeting that is called.
+use Rattle.std.proofs.Common.{◌≡◌, ℕ, suc, ◌==◌, Bool, true, false, ◌||◌, List, [], ◌∷◌, ◌++◌, map, Option, Some, None, refl, sym, ap, ◌∙◌, arith, nat_lt}
+use Rattle.std.specs.List.{list_any}
+use Rattle.std.proofs.lemmas.Bool.Decides.{nat_tests}
+use Rattle.std.proofs.lemmas.List.{append-nil}
+use Rattle.std.proofs.lemmas.List.Folds.{list_any-append}
+use Rattle.desk_lists.specs.Sorting.{insert_by, sort_by}
+use Rattle.desk_terms.specs.Names.{same_name}
+use Rattle.desk_words.specs.declared.office.MeetingLists.{MeetingLists}
+use Rattle.desk_words.specs.declared.office.OfficeLists.{OfficeLists}
+use Rattle.desk_words.specs.declared.records.Meeting.{Meeting}
+use Rattle.desk_words.specs.declared.records.Resolution.{Resolution}
+use Rattle.desk_words.proofs.RowLemmas.{same_name-refl}
+use Rattle.desk_rows.specs.declared.kept.MeetingRow.{MeetingRow}
+use Rattle.desk_rows.specs.Meanings.{◌>>=◌}
+use Rattle.desk_tables.specs.Contents.{without_resolutions}
+use Rattle.desk_tables.specs.Office.{FlatLists, have_meetings, lists_of, lists_of_all, number_before, numbered_from, of_meeting, office_of, resolutions_of}
+use Rattle.desk_tables.proofs.OfficeLemmas.{AreOf, office_is, stands_there}
+use Rattle.desk_tables.proofs.RecordLemmas.{in_meeting, name_turned, of_meeting-append, of_meeting-none, of_meeting-own, stand-append, stand-more, stand-none, stand-own, stands}
+use Rattle.meeting_core.specs.Office.{new_lists}
+use Rattle.desk_changes.specs.Writes.{numbered}
+
+-- ---- resolutions that are numbered
+
+next_higher : (n : ℕ) → nat_lt n (suc n) ≡ true
+next_higher n = grind (arith, nat_tests)
+
+same_number : (n : ℕ) → (n == n) ≡ true
+same_number n = grind (arith, nat_tests)
+
+-- they stand in the order of their numbers
+numbered-sorted : (n : ℕ) (rs : List Resolution) → sort_by number_before (numbered n rs) ≡ numbered n rs
+numbered-sorted n [] = refl
+numbered-sorted n (r ∷ rest) = rw (numbered-sorted (suc n) rest) (first rest)
+  where
+    first : (rest : List Resolution) → insert_by number_before (record { number = n; resolution = r }) (numbered (suc n) rest) ≡ record { number = n; resolution = r } ∷ numbered (suc n) rest
+    first [] = refl
+    first (s ∷ more) = rw (next_higher n) refl
+
+-- and are read in that order
+numbered-read : (n : ℕ) (rs : List Resolution) → numbered_from n (numbered n rs) ≡ Some rs
+numbered-read n [] = refl
+numbered-read n (r ∷ rest) = rw (same_number n, numbered-read (suc n) rest) refl
+
+-- ---- the lists of the meetings
+
+one_more : (o : Option MeetingLists) (r s : Option (List MeetingLists)) (lists : List MeetingLists) (x : MeetingLists) → (o >>= λ first. r >>= λ later. Some (first ∷ later)) ≡ Some lists
+    → ((later : List MeetingLists) → r ≡ Some later → s ≡ Some (later ++ x ∷ [])) → (o >>= λ first. s >>= λ later. Some (first ∷ later)) ≡ Some (lists ++ x ∷ [])
+one_more None r s lists x h next = absurd cc
+one_more (Some y) None s lists x h next = absurd cc
+one_more (Some y) (Some later) s lists x h next = let are : y ∷ later ≡ lists = cc in rw (next later refl, ← are) refl
+
+all-append : (flat : FlatLists) (rows : List MeetingRow) (m : MeetingRow) (lists : List MeetingLists) (x : MeetingLists) → lists_of_all flat rows ≡ Some lists → lists_of flat m ≡ Some x
+    → lists_of_all flat (rows ++ m ∷ []) ≡ Some (lists ++ x ∷ [])
+all-append flat [] m lists x h e = let none : [] ≡ lists = cc in rw (e, ← none) refl
+all-append flat (n ∷ rows) m lists x h e =
+    one_more (lists_of flat n) (lists_of_all flat rows) (lists_of_all flat (rows ++ m ∷ [])) lists x h (λ later known. all-append flat rows m later x known e)
+
+module _ (flat : FlatLists) (meeting : Meeting) where
+  -- the records with a meeting more
+  abbrev pub with_meeting : FlatLists
+  with_meeting = record flat {
+    meetings = flat.meetings ++ without_resolutions meeting ∷ [];
+    resolutions = flat.resolutions ++ map (in_meeting meeting.id) (numbered 1 meeting.resolutions);
+  }
+
+  others_same : (rows : List MeetingRow) → stands meeting.id rows ≡ false → lists_of_all with_meeting rows ≡ lists_of_all flat rows
+  others_same [] none = refl
+  others_same (m ∷ rest) none =
+      let apart = neither (same_name m.id meeting.id) (stands meeting.id rest) none in
+      let own = of_meeting-append m.id flat.resolutions (map (in_meeting meeting.id) (numbered 1 meeting.resolutions))
+      ∙ ap (λ l. of_meeting m.id flat.resolutions ++ l) (of_meeting-none meeting.id m.id (numbered 1 meeting.resolutions) (name_turned meeting.id m.id ∙ apart.0)) ∙ append-nil (of_meeting m.id flat.resolutions) in
+      rw (own, others_same rest apart.1) refl
+    where
+      neither : (a b : Bool) → (a || b) ≡ false → (a ≡ false) × (b ≡ false)
+      neither true b h = absurd cc
+      neither false b h = (refl, h)
+
+  module _ (office : OfficeLists) (of : AreOf flat office) (fresh : list_any (λ (x : MeetingLists). same_name x.meeting.id meeting.id) office.meetings ≡ false) where
+    none : stands meeting.id flat.meetings ≡ false
+    none = sym (stands_there flat office meeting.id of) ∙ fresh
+
+    now_stands : stands meeting.id (flat.meetings ++ without_resolutions meeting ∷ []) ≡ true
+    now_stands = list_any-append (λ (m : MeetingRow). same_name m.id meeting.id) flat.meetings (without_resolutions meeting ∷ []) ∙ rw (none, same_name-refl meeting.id) refl
+
+    its_resolutions : resolutions_of meeting.id with_meeting.resolutions ≡ Some meeting.resolutions
+    its_resolutions =
+        rw (
+          of_meeting-append meeting.id flat.resolutions (map (in_meeting meeting.id) (numbered 1 meeting.resolutions)),
+          stand-none flat.meetings meeting.id flat.resolutions of.stand.resolutions none,
+          of_meeting-own meeting.id (numbered 1 meeting.resolutions),
+          numbered-sorted 1 meeting.resolutions,
+        ) (numbered-read 1 meeting.resolutions)
+
+    its_lists : lists_of with_meeting (without_resolutions meeting) ≡ Some (new_lists meeting)
+    its_lists =
+        rw (
+          its_resolutions,
+          stand-none flat.meetings meeting.id flat.register of.stand.register none,
+          stand-none flat.meetings meeting.id flat.appointments of.stand.appointments none,
+          stand-none flat.meetings meeting.id flat.endings of.stand.endings none,
+          stand-none flat.meetings meeting.id flat.authorities of.stand.authorities none,
+          stand-none flat.meetings meeting.id flat.presences of.stand.presences none,
+          stand-none flat.meetings meeting.id flat.demands of.stand.demands none,
+          stand-none flat.meetings meeting.id flat.polls of.stand.polls none,
+          stand-none flat.meetings meeting.id flat.casts of.stand.casts none,
+        ) refl
+
+    all_stand : have_meetings with_meeting ≡ true
+    all_stand =
+        let more = without_resolutions meeting ∷ [] in
+        let s = of.stand in
+        rw (
+          stand-append with_meeting.meetings flat.resolutions (map (in_meeting meeting.id) (numbered 1 meeting.resolutions)) (stand-more flat.meetings more flat.resolutions s.resolutions)
+              (stand-own with_meeting.meetings meeting.id (numbered 1 meeting.resolutions) now_stands),
+          stand-more flat.meetings more flat.register s.register,
+          stand-more flat.meetings more flat.appointments s.appointments,
+          stand-more flat.meetings more flat.endings s.endings,
+          stand-more flat.meetings more flat.authorities s.authorities,
+          stand-more flat.meetings more flat.presences s.presences,
+          stand-more flat.meetings more flat.demands s.demands,
+          stand-more flat.meetings more flat.polls s.polls,
+          stand-more flat.meetings more flat.casts s.casts,
+        ) refl
+
+    -- a meeting of a new name is called, with its resolutions
+    pub meeting_added : office_of with_meeting ≡ Some (record office { meetings = office.meetings ++ new_lists meeting ∷ [] })
+    meeting_added =
+        office_is with_meeting (record office { meetings = office.meetings ++ new_lists meeting ∷ [] }) all_stand
+        (all-append with_meeting flat.meetings (without_resolutions meeting) office.meetings (new_lists meeting) (others_same flat.meetings none ∙ of.lists) its_lists)
+        of.keys of.closed

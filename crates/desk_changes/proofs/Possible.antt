@@ -1,0 +1,79 @@
+-- What is known of an office that can make a change, and what follows where the statements for it succeed.
+use Rattle.std.proofs.Common.{◌≡◌, ℕ, Bool, true, false, ◌&&◌, ◌||◌, List, [], ◌∷◌, Some, Ok, find, is_some, length, nat_le, if◌then◌else◌, refl, sym, IsTrue, true≢false}
+use Rattle.std.specs.List.{list_all, list_any}
+use Rattle.sqlite.specs.Held.{Held, state}
+use Rattle.sqlite.specs.State.{State}
+use Rattle.sqlite_trees.specs.declared.store.Store as store
+use Rattle.desk_lists.specs.Ordered.{differ_by}
+use Rattle.desk_terms.specs.Names.{same_name}
+use Rattle.desk_words.specs.Lists.{is_day_list, is_key_list}
+use Rattle.desk_words.specs.Office.{are_meetings, is_meeting, is_office, same_meeting}
+use Rattle.desk_words.specs.declared.change.Change.{Change}
+use Rattle.desk_words.specs.declared.change.Change.TheVariants.{InMeeting}
+use Rattle.desk_words.specs.declared.change.MeetingChange.{MeetingChange}
+use Rattle.desk_words.specs.declared.office.MeetingLists.{MeetingLists}
+use Rattle.desk_words.specs.declared.office.OfficeLists.{OfficeLists}
+use Rattle.desk_tables.specs.Office.{FlatLists, flat_in, office_in, office_of}
+use Rattle.desk_tables.specs.Statements.{Changes, CommitsNothing, Does, TableOf}
+use Rattle.desk_tables.proofs.OfficeLemmas.{AreOf, are_of}
+use Rattle.desk_tables.proofs.Tests.{bound, each_is}
+use Rattle.meeting_core.specs.Office.{after}
+use Rattle.desk_changes.specs.Writes.{Holds, Writes, can_make, is_placed}
+
+-- an office: its meetings differ, and each is one
+pub record IsOffice (office : OfficeLists) : Type 0 where
+  pub keys : is_key_list office.keys ≡ true
+  pub closed : is_day_list office.closed ≡ true
+  pub differ : differ_by same_meeting office.meetings ≡ true
+  pub each : list_all is_meeting office.meetings ≡ true
+
+office_parts : (office : OfficeLists) → is_office office ≡ true → IsOffice office
+office_parts office h =
+    let two = each_is (is_key_list office.keys && is_day_list office.closed) (are_meetings office.meetings) h in
+    let lists = each_is (is_key_list office.keys) (is_day_list office.closed) two.0 in
+    let meetings = each_is (nat_le (length office.meetings) 100 && differ_by same_meeting office.meetings) (list_all is_meeting office.meetings) two.1 in
+    let apart = each_is (nat_le (length office.meetings) 100) (differ_by same_meeting office.meetings) meetings.0 in
+    record { keys = lists.0; closed = lists.1; differ = apart.1; each = meetings.1 }
+
+-- an office can make a change
+pub record Possible (office : OfficeLists) (change : Change) : Type 0 where
+  pub before : IsOffice office
+  pub placed : is_placed office change ≡ true
+  pub later : IsOffice (after office change)
+
+pub possible : (office : OfficeLists) (change : Change) → IsTrue (can_make office change) → Possible office change
+possible office change h =
+    let two = each_is (is_office office && is_placed office change) (is_office (after office change)) h in
+    let one = each_is (is_office office) (is_placed office change) two.0 in
+    record { before = office_parts office one.0; placed = one.1; later = office_parts (after office change) two.1 }
+
+found_any : {X : Type 0} (test : X → Bool) (xs : List X) → is_some (find test xs) ≡ true → list_any test xs ≡ true
+found_any test [] = λ h. absurd (true≢false (sym h))
+found_any test (x ∷ xs) =
+    elim (test x) as (λ b. is_some (if b then Some x else find test xs) ≡ true → (b || list_any test xs) ≡ true)
+    [ true ↦ λ h. refl | false ↦ λ h. found_any test xs h ]
+
+-- the meeting in which it is made stands
+pub placed_in : (office : OfficeLists) (id : List ℕ) (change : MeetingChange) → Possible office (InMeeting id change) → list_any (λ (x : MeetingLists). same_name x.meeting.id id) office.meetings ≡ true
+placed_in office id change can = found_any (λ (x : MeetingLists). same_name x.meeting.id id) office.meetings can.placed
+
+-- what the records of all tables become is what a change makes of the office that they are
+abbrev pub Becomes : Change → State → State → Type 0
+Becomes change old new =
+    (flat : FlatLists) (office : OfficeLists) → flat_in old.now.trees ≡ Some flat → AreOf flat office → Possible office change → office_in new.now.trees ≡ Some (after office change)
+
+pub becomes : (change : Change) (old new : State) (office : OfficeLists) → Holds office old → IsTrue (can_make office change) → Becomes change old new → office_in new.now.trees ≡ Some (after office change)
+becomes change old new office h can next =
+    let flat = bound (flat_in old.now.trees) office_of office h.means in
+    next flat.0 office flat.1 (are_of flat.0 office flat.2) (possible office change can)
+
+-- one statement, on one table
+pub written_by : {S A : Type 0} (g : store.Ghosts S) (old new : Held S) (change : Change) (table : TableOf A) (effect : List A → List A) (n : ℕ) → Does g old new (Ok n) (Changes table effect)
+    → CommitsNothing g old new → (Changes table effect (state g old) (state g new) → Becomes change (state g old) (state g new)) → Writes {T = Unit {0}} g old new (Ok tt) change
+written_by g old new change table effect n does commits next = record {
+  written = λ clean office h can.
+      let done = does clean h.inside h.desk in
+      record { desk = done.desk; inside = done.inside; means = becomes change (state g old) (state g new) office h can (next done) };
+  kept = λ clean office h. commits.kept clean h.inside;
+  crash = commits.crash;
+}

@@ -1,0 +1,104 @@
+-- What is ensured where a change is written into the tables.
+use Rattle.std.specs.Prelude.{◌≡◌, ℕ, suc, ◌==◌, Bool, true, ◌&&◌, List, [], ◌∷◌, ◌++◌, length, map, Some, is_some, Result, OnOk, IsTrue}
+use Rattle.sqlite.specs.declared.error.Error.{Error}
+use Rattle.sqlite.specs.Held.{Held, state}
+use Rattle.sqlite.specs.State.{State, HasCleanDisk, KeepsCommit, Survives}
+use Rattle.sqlite_trees.specs.declared.store.Store as store
+use Rattle.desk_words.specs.Finding.{meeting_named}
+use Rattle.desk_words.specs.Office.{is_office}
+use Rattle.desk_words.specs.declared.change.Change.{Change}
+use Rattle.desk_words.specs.declared.caller.KeyRow.{KeyRow}
+use Rattle.desk_words.specs.declared.change.Change.TheVariants as change
+use Rattle.desk_words.specs.declared.office.OfficeLists.{OfficeLists}
+use Rattle.desk_words.specs.declared.records.RegisterRow.{RegisterRow}
+use Rattle.desk_words.specs.declared.records.Resolution.{Resolution}
+use Rattle.desk_rows.specs.declared.kept.InMeeting.{InMeeting}
+use Rattle.desk_rows.specs.declared.kept.NumberedResolution.{NumberedResolution}
+use Rattle.desk_tables.specs.Office.{FlatLists, flat_in, office_in}
+use Rattle.desk_tables.specs.Statements.{IsDesk}
+use Rattle.meeting_core.specs.Office.{after}
+
+-- the meeting in which something is changed stands
+abbrev pub is_placed : OfficeLists → Change → Bool
+is_placed office (change.InMeeting id what) = is_some (meeting_named office.meetings id)
+is_placed office other = true
+
+-- a change that an office can make: in a meeting that stands, and it leaves the lists of an office
+abbrev pub can_make : OfficeLists → Change → Bool
+can_make office change =
+    is_office office && is_placed office change && is_office (after office change)
+
+-- in a transaction the tables are those of a desk, and they are this office
+pub record Holds (office : OfficeLists) (s : State) : Type 0 where
+  pub desk : IsDesk s
+  pub inside : IsTrue s.in_transaction
+  pub means : office_in s.now.trees ≡ Some office
+
+-- what writing a change ensures of tables that are an office
+pub record Writes {S T : Type 0} (g : store.Ghosts S) (old new : Held S) (result : Result T Error)
+    (change : Change) : Type 0 where
+  -- where the office can make the change, and the disk returned what was written, they are then the
+  -- office that it leaves
+  pub written : HasCleanDisk (state g new) → (office : OfficeLists) → Holds office (state g old)
+      → IsTrue (can_make office change) → OnOk result (Holds (after office change) (state g new))
+  -- whatever is answered, nothing is committed
+  pub kept : HasCleanDisk (state g new) → (office : OfficeLists) → Holds office (state g old)
+      → KeepsCommit (state g old) (state g new)
+  -- and a crash leaves what it left before
+  pub crash : Survives (state g old) (state g new) (λ _. ⊥)
+
+-- ---- statements one after another
+
+-- in a transaction the tables are those of a desk, and hold these records
+pub record HoldsRecords (flat : FlatLists) (s : State) : Type 0 where
+  pub desk : IsDesk s
+  pub inside : IsTrue s.in_transaction
+  pub means : flat_in s.now.trees ≡ Some flat
+
+-- what statements ensure of tables whose records pass a test
+pub record Turns {S T : Type 0} (g : store.Ghosts S) (old new : Held S) (result : Result T Error)
+    (test : FlatLists → Bool) (change : FlatLists → FlatLists) : Type 0 where
+  -- where the disk returned what was written, the records are then changed
+  pub done : HasCleanDisk (state g new) → (flat : FlatLists) → HoldsRecords flat (state g old)
+      → IsTrue (test flat) → OnOk result (HoldsRecords (change flat) (state g new))
+  -- whatever is answered, nothing is committed
+  pub kept : HasCleanDisk (state g new) → (flat : FlatLists) → HoldsRecords flat (state g old)
+      → IsTrue (test flat) → KeepsCommit (state g old) (state g new)
+  -- and a crash leaves what it left before
+  pub crash : Survives (state g old) (state g new) (λ _. ⊥)
+
+-- whatever the records are
+abbrev pub any_records : FlatLists → Bool
+any_records flat = true
+
+-- there are no closed days
+abbrev pub no_days : FlatLists → Bool
+no_days flat = length flat.closed == 0
+
+-- ---- the records that are added
+
+-- the records of a meeting
+abbrev pub all_in : {A : Type 0} → List ℕ → List A → List (InMeeting A)
+all_in id items = map (λ item. record { meeting = id; item = item }) items
+
+-- the resolutions of a notice with their numbers, which go on from a number
+abbrev pub numbered : ℕ → List Resolution → List NumberedResolution
+numbered n [] = []
+numbered n (r ∷ rest) = record { number = n; resolution = r } ∷ numbered (suc n) rest
+
+-- the resolutions of a meeting, numbered from 1, behind those of the others
+abbrev pub with_resolutions : List ℕ → List Resolution → FlatLists → FlatLists
+with_resolutions id resolutions flat =
+    record flat { resolutions = flat.resolutions ++ all_in id (numbered 1 resolutions) }
+
+-- the rows of a meeting's register behind the others
+abbrev pub with_rows : List ℕ → List RegisterRow → FlatLists → FlatLists
+with_rows id rows flat = record flat { register = flat.register ++ all_in id rows }
+
+-- keys behind the others
+abbrev pub with_keys : List KeyRow → FlatLists → FlatLists
+with_keys keys flat = record flat { keys = flat.keys ++ keys }
+
+-- closed days behind the others
+abbrev pub with_days : List ℕ → FlatLists → FlatLists
+with_days days flat = record flat { closed = flat.closed ++ days }

@@ -1,0 +1,118 @@
+-- One reading of the tables after another.
+use Rattle.std.proofs.Common.{◌≡◌, ◌≢◌, List, Bool, Option, Some, None, Ok, Err, Result, OnOk, refl, sym, ap, subst, ◌∙◌, arith, true≢false}
+use Rattle.std.proofs.lemmas.Result.{on_ok_weaker}
+use Rattle.sqlite.specs.Effect.{Database}
+use Rattle.sqlite.specs.Held.{Held, state}
+use Rattle.sqlite.specs.State.{State, HasCleanDisk, IsUnchanged, KeepsCommit, Survives}
+use Rattle.sqlite.specs.Tree.{Trees}
+use Rattle.sqlite.proofs.StateLemmas.{survives_then}
+use Rattle.sqlite_trees.specs.declared.store.Store as store
+use Rattle.desk_rows.specs.Meanings.{◌>>=◌, IsFault, all_mean}
+use Rattle.desk_rows.specs.declared.fault.RowFault.{RowFault}
+use Rattle.desk_rows.specs.declared.fault.RowFault.TheVariants as row
+use Rattle.sqlite.specs.Order.{Row}
+use Rattle.desk_tables.specs.Statements.{ChangesNothing, IsDesk, IsRead, IsRising, TableOf, records_in, rows_of}
+use Rattle.desk_tables.proofs.Tests.{bound}
+use Rattle.desk_reading.specs.declared.fault.ReadFault.{ReadFault}
+use Rattle.desk_reading.specs.declared.fault.ReadFault.TheVariants.{NoOffice, Store, Memory}
+use Rattle.desk_reading.specs.Reading.{IsCause, IsReading, Yields, any_at_all, fault_of_row}
+
+pub desk_same : (old new : State) → IsUnchanged old new → IsDesk old → IsDesk new
+desk_same old new h desk =
+    let same = h.0.now_is in
+    record {
+      schema = ap (λ (d : Database). d.schema) same ∙ desk.schema;
+      rising = λ number is. subst (λ (d : Database). IsRising (d.trees number)) (sym same) (desk.rising number is);
+    }
+
+pub unchanged_then : (a b c : State) → IsUnchanged a b → IsUnchanged b c → IsUnchanged a c
+unchanged_then a b c p q = (
+  record {
+    was_open = p.0.was_open;
+    is_open = q.0.is_open;
+    now_is = q.0.now_is ∙ p.0.now_is;
+    committed_is = q.0.committed_is ∙ p.0.committed_is;
+    mode = q.0.mode ∙ p.0.mode;
+  },
+  record { changes = q.1.changes ∙ p.1.changes; last_rowid = q.1.last_rowid ∙ p.1.last_rowid },
+  q.2 ∙ p.2,
+)
+
+pub keeps_then : (a b c : State) → KeepsCommit a b → KeepsCommit b c → KeepsCommit a c
+keeps_then a b c p q = record { was_open = λ o. p.was_open (q.was_open o); committed = λ o. q.committed o ∙ p.committed (q.was_open o) }
+
+module _ {S : Type 0} (g : store.Ghosts S) where
+  -- a reading before another was of the same tables
+  pub read_first : (a b c : Held S) → Survives (state g b) (state g c) (λ _. ⊥) → IsRead g a c → IsRead g a b
+  read_first a b c later read =
+      let clean : HasCleanDisk (state g c) = read.0 in
+      (omega (arith, later.clean, clean), read.1)
+
+  pub read_second : (a b c : Held S) → IsUnchanged (state g a) (state g b) → IsRead g a c → IsRead g b c
+  read_second a b c same read = (read.0, desk_same (state g a) (state g b) same read.1)
+
+  pub changes_then : (a b c : Held S) → (IsRead g a b → IsUnchanged (state g a) (state g b)) → ChangesNothing g a b → ChangesNothing g b c → ChangesNothing g a c
+  changes_then a b c same one two = record {
+    kept = λ read.
+        let first = read_first a b c two.crash read in
+        keeps_then (state g a) (state g b) (state g c) (one.kept first) (two.kept (read_second a b c (same first) read));
+    crash = survives_then (state g a) (state g b) (state g c) (λ _. ⊥) (λ _. ⊥) (λ _. ⊥) (λ _ _ none. none) (λ _ _ none. none) one.crash two.crash;
+  }
+
+  module _ {X Y : Type 0} (a b c : Held S) (right : Y → Bool) (x : X) (r : Result Y ReadFault) (said : Trees → Option X) (next : X → Trees → Option Y) where
+    -- what is said next is read next
+    pub then : IsReading g a b any_at_all (Ok x) said → IsReading g b c right r (next x) → IsReading g a c right r (λ trees. said trees >>= λ y. next y trees)
+    then one two = record {
+      told = λ read.
+          let first = read_first a b c two.changes.crash read in
+          let same = one.same first in
+          let here = (state g a).now.trees in
+          let it : Yields right r (next x here) = subst (λ (d : Database). Yields right r (next x d.trees)) same.0.now_is (two.told (read_second a b c same read)) in
+          subst (λ (o : Option X). Yields right r (o >>= λ y. next y here)) (sym (one.told first)) it;
+      same = λ read.
+          let first = read_first a b c two.changes.crash read in
+          let same = one.same first in
+          on_ok_weaker r (unchanged_then (state g a) (state g b) (state g c) same) (two.same (read_second a b c same read));
+      changes = changes_then a b c one.same one.changes two.changes;
+    }
+
+  module _ {X Y : Type 0} (a b : Held S) (right : Y → Bool) (said : Trees → Option X) (next : X → Trees → Option Y) where
+    cause : (e : ReadFault) → IsCause any_at_all e (said (state g a).now.trees) → IsCause right e (said (state g a).now.trees >>= λ y. next y (state g a).now.trees)
+    cause NoOffice none = λ y h. let it = bound (said (state g a).now.trees) (λ z. next z (state g a).now.trees) y h in absurd (true≢false (none it.0 it.1))
+    cause Store none = tt
+    cause Memory none = tt
+
+    -- where a reading fails, the whole does
+    pub stop : (e : ReadFault) (r : Result Y ReadFault) → r ≡ Err e → IsReading g a b any_at_all (Err e) said → IsReading g a b right r (λ trees. said trees >>= λ y. next y trees)
+    stop e r is one = subst (λ (q : Result Y ReadFault). IsReading g a b right q (λ trees. said trees >>= λ y. next y trees)) (sym is) (record {
+      told = λ read. cause e (one.told read);
+      same = λ _. tt;
+      changes = one.changes;
+    })
+
+  -- the last reading
+  pub last : {X Y : Type 0} (a b : Held S) (right : Y → Bool) (x : X) (r : Result Y ReadFault) (said : Trees → Option X) (next : X → Option Y) → IsReading g a b any_at_all (Ok x) said → Yields right r (next x)
+      → IsReading g a b right r (λ trees. said trees >>= next)
+  last a b right x r said next one it = record {
+    told = λ read. subst (λ o. Yields right r (o >>= next)) (sym (one.told read)) it;
+    same = λ read. always r (one.same read);
+    changes = one.changes;
+  }
+    where
+      always : {Z W : Type 0} (r : Result Z ReadFault) → W → OnOk r W
+      always (Ok z) w = w
+      always (Err e) w = tt
+
+-- ---- one table
+
+pub no_cause : {X : Type 0} (right : X → Bool) (e : ReadFault) (said : Option X) → e ≢ NoOffice → IsCause right e said
+no_cause right NoOffice said other = absurd (other refl)
+no_cause right Store said other = tt
+no_cause right Memory said other = tt
+
+pub row_cause : {X : Type 0} (right : X → Bool) (fault : RowFault) (said : Option X) → IsFault fault said → IsCause right (fault_of_row fault) said
+row_cause right row.Unreadable said none = λ x h. absurd (let no : ◌≡◌ {A = Option _} None (Some x) = sym none ∙ h in cc)
+row_cause right row.Memory said none = tt
+
+pub meaning_is : {A : Type 0} (table : TableOf A) (means : Row → Option A) (rows : List Row) (trees : Trees) → table.means ≡ means → rows ≡ rows_of table trees → all_mean means rows ≡ records_in table trees
+meaning_is table means rows trees same is = ap (λ f. all_mean f rows) (sym same) ∙ ap (all_mean table.means) is

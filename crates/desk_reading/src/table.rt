@@ -1,0 +1,178 @@
+//! What one table holds, read whole.
+ghost use Rattle.std.specs.Prelude.{◌≡◌, IfOk, refl};
+ghost use Rattle.desk_reading.specs.Reading.{IsReading, any_at_all};
+ghost use Rattle.desk_tables.specs.Contents as contents;
+ghost use Rattle.desk_tables.specs.Statements.{ChangesNothing, IsRead, Reads, TableOf, records_in};
+
+use crate::fault::ReadFault;
+use desk_rows::{FromRow, InMeeting, MeetingRow, NumberedResolution, Version, records};
+use desk_tables::{
+    appointments, authorities, casts, closed, demands, desk, endings, keys, meetings, polls,
+    presences, register, resolutions,
+};
+use desk_words::{
+    Appointment, Authority, CastMark, Day, DemandMark, Ending, KeyRow, Listing, Poll, PresenceMark,
+    RegisterRow,
+};
+use sqlite::{Alter, Error, Row, Transaction};
+use std::alloc::Global;
+
+/// A record that a table of the desk keeps, a row each.
+pub trait Kept: FromRow {
+    // Its table.
+    ghost table: { TableOf Self };
+
+    /// All rows of its table.
+    fn rows<S: Alter>(tx: &mut Transaction<'_, S>) -> Result<Vec<Row>, Error>
+        ensures same_reference { tx.new.conn.ghost_name ≡ tx.old.conn.ghost_name }
+        ensures rows { IsRead S.Store tx.old.conn.now tx.new.conn.now → IfOk result (λ rows.
+            Reads S.Store tx.old.conn.now tx.new.conn.now table rows.items) }
+        ensures changes { ChangesNothing S.Store tx.old.conn.now tx.new.conn.now };
+
+    // A row of the table means what it reads as.
+    ghost reads_as: { table.means ≡ Self.FromRow.means };
+}
+
+/// All records of a table, in the order of its rows. The fault is `NoOffice` only where a row is no
+/// such record.
+pub fn listing<S: Alter, T: Kept + Drop>(
+    tx: &mut Transaction<'_, S>,
+    alloc: Global,
+) -> Result<Listing<T>, ReadFault>
+    ensures same_reference { tx.new.conn.ghost_name ≡ tx.old.conn.ghost_name }
+    ensures read { IsReading S.Store tx.old.conn.now tx.new.conn.now any_at_all result
+        (records_in T.table) }
+{
+    let rows = T::rows(tx)?;
+    Ok(Listing::from_vec(records(alloc, &rows)?))
+}
+
+impl Kept for Version {
+    ghost table = { contents.desk };
+
+    fn rows<S: Alter>(tx: &mut Transaction<'_, S>) -> Result<Vec<Row>, Error> {
+        desk::all(tx)
+    }
+
+    ghost reads_as = { refl };
+}
+
+impl Kept for KeyRow {
+    ghost table = { contents.keys };
+
+    fn rows<S: Alter>(tx: &mut Transaction<'_, S>) -> Result<Vec<Row>, Error> {
+        keys::all(tx)
+    }
+
+    ghost reads_as = { refl };
+}
+
+impl Kept for Day {
+    ghost table = { contents.closed };
+
+    fn rows<S: Alter>(tx: &mut Transaction<'_, S>) -> Result<Vec<Row>, Error> {
+        closed::all(tx)
+    }
+
+    ghost reads_as = { refl };
+}
+
+impl Kept for MeetingRow {
+    ghost table = { contents.meetings };
+
+    fn rows<S: Alter>(tx: &mut Transaction<'_, S>) -> Result<Vec<Row>, Error> {
+        meetings::all(tx)
+    }
+
+    ghost reads_as = { refl };
+}
+
+impl Kept for InMeeting<NumberedResolution> {
+    ghost table = { contents.resolutions };
+
+    fn rows<S: Alter>(tx: &mut Transaction<'_, S>) -> Result<Vec<Row>, Error> {
+        resolutions::all(tx)
+    }
+
+    ghost reads_as = { refl };
+}
+
+impl Kept for InMeeting<RegisterRow> {
+    ghost table = { contents.register };
+
+    fn rows<S: Alter>(tx: &mut Transaction<'_, S>) -> Result<Vec<Row>, Error> {
+        register::all(tx)
+    }
+
+    ghost reads_as = { refl };
+}
+
+impl Kept for InMeeting<Appointment> {
+    ghost table = { contents.appointments };
+
+    fn rows<S: Alter>(tx: &mut Transaction<'_, S>) -> Result<Vec<Row>, Error> {
+        appointments::all(tx)
+    }
+
+    ghost reads_as = { refl };
+}
+
+impl Kept for InMeeting<Ending> {
+    ghost table = { contents.endings };
+
+    fn rows<S: Alter>(tx: &mut Transaction<'_, S>) -> Result<Vec<Row>, Error> {
+        endings::all(tx)
+    }
+
+    ghost reads_as = { refl };
+}
+
+impl Kept for InMeeting<Authority> {
+    ghost table = { contents.authorities };
+
+    fn rows<S: Alter>(tx: &mut Transaction<'_, S>) -> Result<Vec<Row>, Error> {
+        authorities::all(tx)
+    }
+
+    ghost reads_as = { refl };
+}
+
+impl Kept for InMeeting<PresenceMark> {
+    ghost table = { contents.presences };
+
+    fn rows<S: Alter>(tx: &mut Transaction<'_, S>) -> Result<Vec<Row>, Error> {
+        presences::all(tx)
+    }
+
+    ghost reads_as = { refl };
+}
+
+impl Kept for InMeeting<DemandMark> {
+    ghost table = { contents.demands };
+
+    fn rows<S: Alter>(tx: &mut Transaction<'_, S>) -> Result<Vec<Row>, Error> {
+        demands::all(tx)
+    }
+
+    ghost reads_as = { refl };
+}
+
+impl Kept for InMeeting<Poll> {
+    ghost table = { contents.polls };
+
+    fn rows<S: Alter>(tx: &mut Transaction<'_, S>) -> Result<Vec<Row>, Error> {
+        polls::all(tx)
+    }
+
+    ghost reads_as = { refl };
+}
+
+impl Kept for InMeeting<CastMark> {
+    ghost table = { contents.casts };
+
+    fn rows<S: Alter>(tx: &mut Transaction<'_, S>) -> Result<Vec<Row>, Error> {
+        casts::all(tx)
+    }
+
+    ghost reads_as = { refl };
+}
