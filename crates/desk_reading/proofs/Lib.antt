@@ -1,3 +1,5 @@
+pub mod GivingLemmas
 pub mod ListLemmas
+pub mod OfficeLemmas
 pub mod OrderLemmas
 pub mod ReadingLemmas

@@ -6,6 +6,7 @@ ghost use Rattle.desk_words.specs.Lists.{are_resolutions, caller_before, day_bef
 ghost use Rattle.desk_words.specs.Lists.{is_key_list};
 ghost use Rattle.desk_words.specs.Office.{is_meeting, poll_before};
 ghost use Rattle.desk_words.specs.Registers.{member_before};
+ghost use Rattle.desk_words.specs.declared.limits.TheConstants.{MOST_RESOLUTIONS};
 ghost use Rattle.desk_tables.specs.Office.{number_before};
 ghost use Rattle.desk_reading.specs.Own.{are_numbered_from, are_rows, lists_own, resolution_of};
 ghost use Rattle.desk_reading.specs.Own.{resolutions_own};
@@ -15,6 +16,7 @@ use crate::fault::ReadFault;
 use crate::own::OwnRecords;
 use desk_lists::{ascend, into_order};
 use desk_rows::NumberedResolution;
+use desk_words::limits::MOST_RESOLUTIONS;
 use desk_words::{
     Day, DayList, KeyRow, KeyRows, Listing, Meeting, MeetingLists, Poll, Register, RegisterRow,
     Resolution, Resolutions,
@@ -100,7 +102,7 @@ fn numbers_in_order(rows: Vec<NumberedResolution>) -> Option<Vec<NumberedResolut
 
 /// Whether the numbers are 1, 2, ..
 fn are_numbered(rows: &[NumberedResolution]) -> bool
-    requires { length rows.now ≤ 50 }
+    requires { length rows.now ≤ MOST_RESOLUTIONS }
     ensures { result ≡ are_numbered_from 1 rows.now }
 {
     let mut wanted = 1;
@@ -137,7 +139,7 @@ fn resolution_list(
     let Some(rows) = numbers_in_order(rows.into_vec()) else {
         return Err(ReadFault::NoOffice);
     };
-    if rows.len() > 50 {
+    if rows.len() > MOST_RESOLUTIONS {
         return Err(ReadFault::NoOffice);
     }
     if !are_numbered(&rows) {

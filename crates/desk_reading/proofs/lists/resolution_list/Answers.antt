@@ -12,8 +12,8 @@ pub returns-in_default : goal.returns-in_default
 returns-in_default c =
     numbers_refused c.args.rows (subst (λ l. ascends_by number_before (sort_by number_before l) ≡ false) c.into_vec.ensures (c.numbers_in_order.ensures.none c.in_default.is))
 
-pub returns-then-len-gt50 : goal.returns-then-len-gt50
-returns-then-len-gt50 c =
+pub returns-then-len-gt-MOST_RESOLUTIONS : goal.returns-then-len-gt-MOST_RESOLUTIONS
+returns-then-len-gt-MOST_RESOLUTIONS c =
     let many : nat_le (length c.in-Some.rows.items) 50 ≡ false = grind (arith, nat_tests) in
     too_many c.args.rows c.in-Some.rows.items (c.in-Some.ensures.some ∙ ap (sort_by number_before) c.into_vec.ensures) many
 
