@@ -74,14 +74,14 @@ module _ {S : Type 0} (g : store.Ghosts S) (old new : Held S) (id : List ℕ) (n
   -- a meeting is opened
   pub opened : (moment : ℕ) → Does g old new (Ok n) (Sets table.meetings (opened_at id moment)) → Writes {T = Unit {0}} g old new (Ok tt) (InMeeting id (SetOpened moment))
   opened moment does =
-      written_by g old new (InMeeting id (SetOpened moment)) table.meetings (map (opened_at id moment)) n does commits (λ done flat office held of can.
+      written_by g old new (InMeeting id (SetOpened moment)) table.meetings (map (opened_at id moment)) n refl does commits (λ done flat office held of can.
       ap (λ (o : Option FlatLists). o >>= office_of) (meetings_changed (state g old) (state g new) flat held (map (opened_at id moment)) done)
       ∙ meeting_opened flat id office of can.before.differ moment)
 
   -- a poll is ordered
   pub ordered : (poll : Poll) → Does g old new (Ok n) (Adds table.polls (in_meeting id poll)) → Writes {T = Unit {0}} g old new (Ok tt) (InMeeting id (AddPoll poll))
   ordered poll does =
-      written_by g old new (InMeeting id (AddPoll poll)) table.polls (λ was. was ++ in_meeting id poll ∷ []) n does commits (λ done flat office held of can.
+      written_by g old new (InMeeting id (AddPoll poll)) table.polls (λ was. was ++ in_meeting id poll ∷ []) n refl does commits (λ done flat office held of can.
       ap (λ (o : Option FlatLists). o >>= office_of) (polls_changed (state g old) (state g new) flat held (λ was. was ++ in_meeting id poll ∷ []) done)
       ∙ poll_added flat id poll office of can.before.differ (placed_in office id (AddPoll poll) can) (takes id poll office.meetings can.before.differ can.later.each))
 
@@ -94,7 +94,7 @@ module _ {S : Type 0} (g : store.Ghosts S) (old new : Held S) (id : List ℕ) (n
     moved_by : (change : PollChange) → Does g old new (Ok n) (Sets table.polls (change_in id (λ (p : Poll). p.resolution == resolution) (moved change)))
         → Writes {T = Unit {0}} g old new (Ok tt) (InMeeting id (SetPoll resolution change))
     moved_by change does =
-        written_by g old new (InMeeting id (SetPoll resolution change)) table.polls (map (change_in id (λ (p : Poll). p.resolution == resolution) (moved change))) n does commits (λ done flat office held of can.
+        written_by g old new (InMeeting id (SetPoll resolution change)) table.polls (map (change_in id (λ (p : Poll). p.resolution == resolution) (moved change))) n refl does commits (λ done flat office held of can.
         ap (λ (o : Option FlatLists). o >>= office_of) (polls_changed (state g old) (state g new) flat held (map (change_in id (λ (p : Poll). p.resolution == resolution) (moved change))) done)
         ∙ poll_moved resolution (moved change) (stays_on change) flat id office of can.before.differ (all_in_order office.meetings can.before.each))
 

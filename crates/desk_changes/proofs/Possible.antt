@@ -1,6 +1,7 @@
 -- What is known of an office that can make a change, and what follows where the statements for it succeed.
-use Rattle.std.proofs.Common.{◌≡◌, ℕ, Bool, true, false, ◌&&◌, ◌||◌, List, [], ◌∷◌, Some, Ok, find, is_some, length, nat_le, if◌then◌else◌, refl, sym, IsTrue, true≢false}
+use Rattle.std.proofs.Common.{◌≡◌, ◌≢◌, ℕ, ◌==◌, Bool, true, false, ◌&&◌, ◌||◌, List, [], ◌∷◌, Some, Ok, find, is_some, length, nat_le, map, if◌then◌else◌, refl, sym, ap, ◌∙◌, IsTrue, true≢false, arith}
 use Rattle.std.specs.List.{list_all, list_any}
+use Rattle.std.proofs.lemmas.Bool.Decides.{nat_tests}
 use Rattle.sqlite.specs.Held.{Held, state}
 use Rattle.sqlite.specs.State.{State}
 use Rattle.sqlite_trees.specs.declared.store.Store as store
@@ -13,12 +14,14 @@ use Rattle.desk_words.specs.declared.change.Change.TheVariants.{InMeeting}
 use Rattle.desk_words.specs.declared.change.MeetingChange.{MeetingChange}
 use Rattle.desk_words.specs.declared.office.MeetingLists.{MeetingLists}
 use Rattle.desk_words.specs.declared.office.OfficeLists.{OfficeLists}
+use Rattle.desk_rows.specs.Meanings.{all_mean}
+use Rattle.desk_tables.specs.Contents as contents
 use Rattle.desk_tables.specs.Office.{FlatLists, flat_in, office_in, office_of}
-use Rattle.desk_tables.specs.Statements.{Changes, CommitsNothing, Does, TableOf}
+use Rattle.desk_tables.specs.Statements.{Changes, CommitsNothing, Does, KeepsOthers, TableOf, columns_of}
 use Rattle.desk_tables.proofs.OfficeLemmas.{AreOf, are_of}
 use Rattle.desk_tables.proofs.Tests.{bound, each_is}
 use Rattle.meeting_core.specs.Office.{after}
-use Rattle.desk_changes.specs.Writes.{Holds, Writes, can_make, is_placed}
+use Rattle.desk_changes.specs.Writes.{Holds, IsVersionOne, Writes, can_make, is_placed}
 
 -- an office: its meetings differ, and each is one
 pub record IsOffice (office : OfficeLists) : Type 0 where
@@ -67,13 +70,20 @@ becomes change old new office h can next =
     let flat = bound (flat_in old.now.trees) office_of office h.means in
     next flat.0 office flat.1 (are_of flat.0 office flat.2) (possible office change can)
 
+-- a change of another table leaves the version that is noted
+pub version_kept : (n : ℕ) (old new : State) → (0 == n) ≡ false → KeepsOthers n old new → IsVersionOne old → IsVersionOne new
+version_kept n old new apart others h = ap (λ rows. all_mean contents.desk.means (map (columns_of contents.desk) rows)) (others 0 refl differ) ∙ h
+  where
+    differ : 0 ≢ n
+    differ e = grind (arith, nat_tests)
+
 -- one statement, on one table
-pub written_by : {S A : Type 0} (g : store.Ghosts S) (old new : Held S) (change : Change) (table : TableOf A) (effect : List A → List A) (n : ℕ) → Does g old new (Ok n) (Changes table effect)
+pub written_by : {S A : Type 0} (g : store.Ghosts S) (old new : Held S) (change : Change) (table : TableOf A) (effect : List A → List A) (n : ℕ) → (0 == table.number) ≡ false → Does g old new (Ok n) (Changes table effect)
     → CommitsNothing g old new → (Changes table effect (state g old) (state g new) → Becomes change (state g old) (state g new)) → Writes {T = Unit {0}} g old new (Ok tt) change
-written_by g old new change table effect n does commits next = record {
+written_by g old new change table effect n apart does commits next = record {
   written = λ clean office h can.
       let done = does clean h.inside h.desk in
-      record { desk = done.desk; inside = done.inside; means = becomes change (state g old) (state g new) office h can (next done) };
+      record { desk = done.desk; version = version_kept table.number (state g old) (state g new) apart done.others h.version; inside = done.inside; means = becomes change (state g old) (state g new) office h can (next done) };
   kept = λ clean office h. commits.kept clean h.inside;
   crash = commits.crash;
 }

@@ -1,5 +1,5 @@
 -- Statements one after another.
-use Rattle.std.proofs.Common.{◌≡◌, inl, ℕ, suc, ◌+◌, ◌==◌, Bool, true, List, [], ◌∷◌, ◌++◌, length, Some, Option, Ok, Err, Result, OnOk, IsErr, refl, sym, ap, subst, ◌∙◌, arith, append_assoc, nat_lt}
+use Rattle.std.proofs.Common.{◌≡◌, inl, ℕ, suc, ◌+◌, ◌==◌, Bool, true, false, List, [], ◌∷◌, ◌++◌, length, Some, Option, Ok, Err, Result, OnOk, IsErr, refl, sym, ap, subst, ◌∙◌, arith, append_assoc, nat_lt}
 use Rattle.std.specs.List.{list_all}
 use Rattle.std.proofs.lemmas.List.{map-append}
 use Rattle.std.proofs.lemmas.Bool.Decides.{nat_tests}
@@ -26,7 +26,7 @@ use Rattle.desk_tables.proofs.RecordLemmas.{in_meeting}
 use Rattle.desk_tables.proofs.Tests.{bound, each_is}
 use Rattle.meeting_core.specs.Office.{after}
 use Rattle.desk_changes.specs.Writes.{HoldsRecords, Turns, Writes, all_in, any_records, no_days, numbered, with_days, with_keys, with_resolutions, with_rows}
-use Rattle.desk_changes.proofs.Possible.{Possible, possible}
+use Rattle.desk_changes.proofs.Possible.{Possible, possible, version_kept}
 
 on_ok : {T : Type 0} {P Q : Type 0} (r : Result T Error) → OnOk r P → (P → Q) → OnOk r Q
 on_ok (Ok x) h next = next h
@@ -110,11 +110,11 @@ module _ {S : Type 0} (g : store.Ghosts S) where
       (turns_then a b c test first one {T = T} (Err e) any_records first (turns_refused {T = T} b c e any_records first commits) (λ flat good. refl))
 
   -- a statement is answered
-  pub turns_by : {A : Type 0} (a b : Held S) (n : ℕ) (its : TableOf A) (effect : List A → List A) (change : FlatLists → FlatLists) → Does g a b (Ok n) (Changes its effect) → CommitsNothing g a b
+  pub turns_by : {A : Type 0} (a b : Held S) (n : ℕ) (its : TableOf A) (effect : List A → List A) (change : FlatLists → FlatLists) → (0 == its.number) ≡ false → Does g a b (Ok n) (Changes its effect) → CommitsNothing g a b
       → ((flat : FlatLists) → flat_in (state g a).now.trees ≡ Some flat → Changes its effect (state g a) (state g b) → flat_in (state g b).now.trees ≡ Some (change flat))
       → Turns {T = Unit {0}} g a b (Ok tt) any_records change
-  turns_by a b n its effect change does commits flatly = record {
-    done = λ clean flat has good. let it = does clean has.inside has.desk in record { desk = it.desk; inside = it.inside; means = flatly flat has.means it };
+  turns_by a b n its effect change apart does commits flatly = record {
+    done = λ clean flat has good. let it = does clean has.inside has.desk in record { desk = it.desk; version = version_kept its.number (state g a) (state g b) apart it.others has.version; inside = it.inside; means = flatly flat has.means it };
     kept = λ clean flat has good. commits.kept clean has.inside;
     crash = commits.crash;
   }
@@ -128,11 +128,11 @@ module _ {S : Type 0} (g : store.Ghosts S) where
   writes_from a b r change turn turns next = record {
     written = λ clean office h can.
         let flat = bound (flat_in (state g a).now.trees) office_of office h.means in
-        on_ok r (turns.done clean flat.0 (record { desk = h.desk; inside = h.inside; means = flat.1 }) refl) (λ has.
-        record { desk = has.desk; inside = has.inside; means = ap (λ (o : Option FlatLists). o >>= office_of) has.means ∙ next flat.0 office (are_of flat.0 office flat.2) (possible office change can) });
+        on_ok r (turns.done clean flat.0 (record { desk = h.desk; version = h.version; inside = h.inside; means = flat.1 }) refl) (λ has.
+        record { desk = has.desk; version = has.version; inside = has.inside; means = ap (λ (o : Option FlatLists). o >>= office_of) has.means ∙ next flat.0 office (are_of flat.0 office flat.2) (possible office change can) });
     kept = λ clean office h.
         let flat = bound (flat_in (state g a).now.trees) office_of office h.means in
-        turns.kept clean flat.0 (record { desk = h.desk; inside = h.inside; means = flat.1 }) refl;
+        turns.kept clean flat.0 (record { desk = h.desk; version = h.version; inside = h.inside; means = flat.1 }) refl;
     crash = turns.crash;
   }
 
@@ -143,7 +143,7 @@ module _ {S : Type 0} (g : store.Ghosts S) where
     written = λ clean office h can. tt;
     kept = λ clean office h.
         let flat = bound (flat_in (state g a).now.trees) office_of office h.means in
-        turns.kept clean flat.0 (record { desk = h.desk; inside = h.inside; means = flat.1 }) refl;
+        turns.kept clean flat.0 (record { desk = h.desk; version = h.version; inside = h.inside; means = flat.1 }) refl;
     crash = turns.crash;
   }
 
@@ -157,7 +157,7 @@ module _ {S : Type 0} (g : store.Ghosts S) where
         turns_same a c (Ok tt) any_records (λ flat. more (with_rows id rows flat)) (with_rows id (rows ++ row ∷ []))
         (λ flat. ap (λ l. record flat { register = l }) (append_assoc flat.register (all_in id rows) (in_meeting id row ∷ []) ∙ ap (λ l. flat.register ++ l) (sym (map-append (in_meeting id) rows (row ∷ [])))))
         (turns_then a b c any_records (with_rows id rows) turns (Ok tt) any_records more
-        (turns_by b c n table.register (λ was. was ++ in_meeting id row ∷ []) more does commits (λ flat held. register_changed (state g b) (state g c) flat held (λ was. was ++ in_meeting id row ∷ []))) (λ flat good. refl))
+        (turns_by b c n table.register (λ was. was ++ in_meeting id row ∷ []) more refl does commits (λ flat held. register_changed (state g b) (state g c) flat held (λ was. was ++ in_meeting id row ∷ []))) (λ flat good. refl))
 
     pub key_more : (keys : List KeyRow) (key : KeyRow) → Turns {T = Unit {0}} g a b (Ok tt) any_records (with_keys keys) → Does g b c (Ok n) (Adds table.keys key)
         → Turns {T = Unit {0}} g a c (Ok tt) any_records (with_keys (keys ++ key ∷ []))
@@ -165,7 +165,7 @@ module _ {S : Type 0} (g : store.Ghosts S) where
         let more = λ (flat : FlatLists). record flat { keys = flat.keys ++ key ∷ [] } in
         turns_same a c (Ok tt) any_records (λ flat. more (with_keys keys flat)) (with_keys (keys ++ key ∷ [])) (λ flat. ap (λ l. record flat { keys = l }) (append_assoc flat.keys keys (key ∷ [])))
         (turns_then a b c any_records (with_keys keys) turns (Ok tt) any_records more
-        (turns_by b c n table.keys (λ was. was ++ key ∷ []) more does commits (λ flat held. keys_changed (state g b) (state g c) flat held (λ was. was ++ key ∷ []))) (λ flat good. refl))
+        (turns_by b c n table.keys (λ was. was ++ key ∷ []) more refl does commits (λ flat held. keys_changed (state g b) (state g c) flat held (λ was. was ++ key ∷ []))) (λ flat good. refl))
 
     pub resolution_more : (id : List ℕ) (rs : List Resolution) (r : Resolution) (number : ℕ) → number ≡ 1 + length rs → Turns {T = Unit {0}} g a b (Ok tt) any_records (with_resolutions id rs)
         → Does g b c (Ok n) (Adds table.resolutions (in_meeting id (record { number = number; resolution = r }))) → Turns {T = Unit {0}} g a c (Ok tt) any_records (with_resolutions id (rs ++ r ∷ []))
@@ -176,7 +176,7 @@ module _ {S : Type 0} (g : store.Ghosts S) where
         (λ flat. ap (λ l. record flat { resolutions = l }) (append_assoc flat.resolutions (all_in id (numbered 1 rs)) (one ∷ [])
         ∙ ap (λ l. flat.resolutions ++ l) (sym (ap (all_in id) (numbered-last 1 rs r number is) ∙ map-append (in_meeting id) (numbered 1 rs) (record { number = number; resolution = r } ∷ [])))))
         (turns_then a b c any_records (with_resolutions id rs) turns (Ok tt) any_records more
-        (turns_by b c n table.resolutions (λ was. was ++ one ∷ []) more does commits (λ flat held. resolutions_changed (state g b) (state g c) flat held (λ was. was ++ one ∷ []))) (λ flat good. refl))
+        (turns_by b c n table.resolutions (λ was. was ++ one ∷ []) more refl does commits (λ flat held. resolutions_changed (state g b) (state g c) flat held (λ was. was ++ one ∷ []))) (λ flat good. refl))
 
     -- a day after the earlier ones, where there was none before
     pub day_more : (days : List ℕ) (day : ℕ) → list_all (λ earlier. nat_lt earlier day) days ≡ true → Turns {T = Unit {0}} g a b (Ok tt) no_days (with_days days)
@@ -190,6 +190,7 @@ module _ {S : Type 0} (g : store.Ghosts S) where
           let it = does clean mid.inside mid.desk (flat.closed ++ days) (closed_held (state g b).now.trees (with_days days flat) mid.means) all_earlier in
           record {
             desk = it.desk;
+            version = version_kept table.closed.number (state g b) (state g c) refl it.others mid.version;
             inside = it.inside;
             means = closed_changed (state g b) (state g c) (with_days days flat) mid.means (λ was. was ++ day ∷ []) it
                 ∙ ap (λ l. Some (record flat { closed = l })) (append_assoc flat.closed days (day ∷ []));
