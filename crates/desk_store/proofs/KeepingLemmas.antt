@@ -1,0 +1,21 @@
+-- Tables that stand for an office, and still do.
+use Rattle.std.proofs.Common.{◌≡◌, sym, ap, subst, ◌∙◌}
+use Rattle.sqlite.specs.Effect.{Database}
+use Rattle.sqlite.specs.State.{State}
+use Rattle.desk_words.specs.declared.office.OfficeLists.{OfficeLists}
+use Rattle.desk_tables.specs.Contents.{desk}
+use Rattle.desk_tables.specs.Office.{office_in}
+use Rattle.desk_tables.specs.Statements.{IsRising, records_in}
+use Rattle.desk_store.specs.Standing.{Stands}
+
+-- tables that are the same stand for the same office
+pub stands_same : (old new : State) (office : OfficeLists) → new.now ≡ old.now → Stands old office → Stands new office
+stands_same old new office same h = record {
+  desk = record {
+    schema = ap (λ (d : Database). d.schema) same ∙ h.desk.schema;
+    rising = λ number is. subst (λ (d : Database). IsRising (d.trees number)) (sym same) (h.desk.rising number is);
+  };
+  version = ap (λ (d : Database). records_in desk d.trees) same ∙ h.version;
+  holds = ap (λ (d : Database). office_in d.trees) same ∙ h.holds;
+  kept = h.kept;
+}

@@ -1,0 +1,48 @@
+-- What is told of the office for which the tables stand.
+use Rattle.std.proofs.Common.{◌≡◌, Option, Some, Ok, Err, Result, IfOk, OnOk, IsErrAnd, sym, ap, subst, ◌∙◌}
+use Rattle.std.specs.Prelude.{MatchResult}
+use Rattle.sqlite.specs.Held.{Held}
+use Rattle.sqlite_trees.specs.declared.store.Store as store
+use Rattle.desk_words.specs.Office.{is_office}
+use Rattle.desk_words.specs.declared.office.OfficeLists.{OfficeLists}
+use Rattle.desk_tables.specs.Office.{office_in}
+use Rattle.desk_reading.specs.declared.fault.ReadFault.{ReadFault}
+use Rattle.desk_reading.specs.Reading.{IsReading}
+use Rattle.office_checks.specs.InOrder.{office_in_order}
+use Rattle.desk_store.specs.Reads.{IsTold, IsWhole}
+use Rattle.desk_store.proofs.OrderedOffice.{office_ordered}
+
+pub mapped_ok : {X E D : Type 0} (Q : E → D → Type 0) (P : X → Type 0) (s : Result X E) (r : Result X D) → MatchResult s (λ x. r ≡ Ok x) (λ e. IsErrAnd r (Q e)) → IfOk s P → IfOk r P
+mapped_ok Q P (Ok x) r is h = subst (λ q. IfOk q P) (sym is) h
+mapped_ok Q P (Err e) (Ok x) is h = absurd is
+mapped_ok Q P (Err e) (Err d) is h = tt
+
+pub always : {X E : Type 0} {W : Type 0} (r : Result X E) → W → OnOk r W
+always (Ok x) w = w
+always (Err e) w = tt
+
+pub ok_weaker : {X E : Type 0} (P Q : X → Type 0) (r : Result X E) → ((x : X) → P x → Q x) → IfOk r P → IfOk r Q
+ok_weaker P Q (Ok x) next h = next x h
+ok_weaker P Q (Err e) next h = tt
+
+module _ {S : Type 0} (g : store.Ghosts S) (a b : Held S) where
+  -- the lists that are read are the office, and so is the book of them
+  pub book_told : {E : Type 0} (Q : E → ReadFault → Type 0) (lists : OfficeLists) (made : Result OfficeLists E) (r : Result OfficeLists ReadFault) → IsReading g a b is_office (Ok lists) office_in
+      → IfOk made (λ book. book ≡ office_in_order lists) → MatchResult made (λ x. r ≡ Ok x) (λ e. IsErrAnd r (Q e)) → IsTold g a b r IsWhole
+  book_told Q lists made r reading is mapped = record {
+    told = λ clean office stands.
+        let found : ◌≡◌ {A = Option OfficeLists} (Some lists) (Some office) = sym (reading.told (clean, stands.desk)) ∙ stands.holds in
+        let same : lists ≡ office = cc in
+        mapped_ok Q (IsWhole office) made r mapped (ok_weaker (λ book. book ≡ office_in_order lists) (IsWhole office) made (λ book ordered. ordered ∙ ap office_in_order same ∙ office_ordered office stands.kept) is);
+    same = λ read. always r (reading.same read);
+    changes = reading.changes;
+  }
+
+-- ---- what is given where an error is told as another
+
+pub mapped_is : {X E D : Type 0} (Q : E → D → Type 0) (P : X → Type 0) (s : Result X E) (r : Result X D) (x : X) → MatchResult s (λ x. r ≡ Ok x) (λ e. IsErrAnd r (Q e)) → r ≡ Ok x → IfOk s P → P x
+mapped_is Q P s r x is got h = subst (λ q. IfOk q P) got (mapped_ok Q P s r is h)
+
+pub mapped_on : {X E D : Type 0} {W : Type 0} (Q : E → D → Type 0) (s : Result X E) (r : Result X D) (x : X) → MatchResult s (λ x. r ≡ Ok x) (λ e. IsErrAnd r (Q e)) → r ≡ Ok x → OnOk s W → W
+mapped_on Q (Ok y) r x is got h = h
+mapped_on Q (Err e) r x is got h = absurd (subst (λ q. IsErrAnd q (Q e)) got is)

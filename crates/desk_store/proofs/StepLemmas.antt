@@ -1,0 +1,61 @@
+-- A call that is decided, and written.
+use Rattle.std.proofs.Common.{◌≡◌, true, Option, Some, None, Ok, Result, IsTrue, sym, ap, subst, ◌∙◌, arith}
+use Rattle.sqlite.specs.declared.error.Error.{Error}
+use Rattle.sqlite.specs.Held.{Held, state}
+use Rattle.sqlite.specs.State.{HasCleanDisk, KeepsCommit}
+use Rattle.sqlite_trees.specs.declared.store.Store as store
+use Rattle.desk_words.specs.Office.{is_office}
+use Rattle.desk_words.specs.declared.answer.Answer.{Answer}
+use Rattle.desk_words.specs.declared.change.Change.{Change}
+use Rattle.desk_words.specs.declared.office.OfficeLists.{OfficeLists}
+use Rattle.desk_words.specs.declared.request.Call.{Call}
+use Rattle.desk_reading.proofs.ReadingLemmas.{keeps_then}
+use Rattle.meeting_core.specs.Office.{after_some}
+use Rattle.meeting_core.specs.Step.{decided, stepped}
+use Rattle.desk_changes.specs.Writes.{Holds}
+use Rattle.desk_changes.proofs.Placed.{decided_can_make}
+use Rattle.desk_store.specs.Reads.{IsDecided, IsTold, WritesIfAny, can_make_if_any}
+use Rattle.desk_store.specs.Standing.{Stands}
+use Rattle.desk_store.proofs.KeepingLemmas.{stands_same}
+
+-- what is decided can be made
+decided_makes : (office : OfficeLists) (call : Call) (change : Option Change) → (decided office call).change ≡ change → is_office office ≡ true → is_office (after_some office change) ≡ true → can_make_if_any office change ≡ true
+decided_makes office call None is before later = before
+decided_makes office call (Some change) is before later = decided_can_make office call change is before (ap (λ (c : Option Change). is_office (after_some office c)) is ∙ later)
+
+module _ {S : Type 0} (g : store.Ghosts S) (a b c : Held S) (call : Call) (answer : Answer Change) (told : IsTold g a b (Ok answer) (IsDecided call)) where
+  -- while a call is decided, the tables stay the office that they are
+  holds : HasCleanDisk (state g b) → IsTrue (state g a).in_transaction → (office : OfficeLists) → Stands (state g a) office → Holds office (state g b)
+  holds clean inside office stands =
+      let same = told.same (clean, stands.desk) in
+      let there = stands_same (state g a) (state g b) office same.0.now_is stands in
+      record { desk = there.desk; version = there.version; inside = same.0.mode ∙ inside; means = there.holds }
+
+  module _ {T : Type 0} (r : Result T Error) (writes : WritesIfAny g b c r answer.change) where
+    early : HasCleanDisk (state g c) → HasCleanDisk (state g b)
+    early clean = omega (arith, writes.crash.clean, clean)
+
+    -- whatever comes of it, nothing is committed
+    pub step_keeps : HasCleanDisk (state g c) → IsTrue (state g a).in_transaction → (office : OfficeLists) → Stands (state g a) office → KeepsCommit (state g a) (state g c)
+    step_keeps clean inside office stands =
+        let before = early clean in
+        keeps_then (state g a) (state g b) (state g c) (told.changes.kept (before, stands.desk)) (writes.kept clean office (holds before inside office stands))
+
+  -- where it is written, the tables are the office after the step
+  pub step_holds : {T : Type 0} (x : T) → WritesIfAny g b c (Ok x) answer.change → HasCleanDisk (state g c) → IsTrue (state g a).in_transaction → (office : OfficeLists) → Stands (state g a) office
+      → Stands (state g c) (stepped office call) × IsTrue (state g c).in_transaction × ((decided office call).reply ≡ answer.reply)
+  step_holds x writes clean inside office stands =
+      let before = early (Ok x) writes clean in
+      let is = told.told before office stands in
+      let change = ap (λ (it : Answer Change). it.change) is.is in
+      let there = writes.written clean office (holds before inside office stands) (decided_makes office call answer.change (sym change) stands.kept is.kept) in
+      let left = ap (after_some office) change in (
+        record {
+          desk = there.desk;
+          version = there.version;
+          holds = there.means ∙ ap (λ (o : OfficeLists). Some o) left;
+          kept = subst (λ (o : OfficeLists). IsTrue (is_office o)) left is.kept;
+        },
+        there.inside,
+        sym (ap (λ (it : Answer Change). it.reply) is.is),
+      )

@@ -1,0 +1,6 @@
+pub mod Columns
+pub mod Making
+pub mod Opening
+pub mod Reads
+pub mod Runs
+pub mod Standing

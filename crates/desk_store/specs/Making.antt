@@ -1,0 +1,31 @@
+-- How the tables of a desk are made.
+use Rattle.std.specs.Prelude.{Result, OnOk, IsTrue}
+use Rattle.sqlite.specs.declared.error.Error.{Error}
+use Rattle.sqlite.specs.Held.{Held, state}
+use Rattle.sqlite.specs.Schema.{Schema}
+use Rattle.sqlite.specs.State.{HasCleanDisk, KeepsCommit, Survives}
+use Rattle.sqlite_trees.specs.declared.store.Store as store
+use Rattle.meeting_core.specs.Office.{empty_office}
+use Rattle.desk_tables.specs.Statements.{AreEmpty, Makes}
+use Rattle.desk_tables.specs.Tables.{no_schema}
+use Rattle.desk_store.specs.Standing.{Stands}
+
+-- in a transaction the empty tables of the first schema become those of the second, and nothing is
+-- committed
+pub record IsMaking {S T : Type 0} (g : store.Ghosts S) (old new : Held S) (result : Result T Error)
+    (before after : Schema) : Type 0 where
+  pub made : Makes g old new result before after
+  pub kept : HasCleanDisk (state g new) → IsTrue (state g old).in_transaction
+      → AreEmpty before (state g old) → KeepsCommit (state g old) (state g new)
+  pub crash : Survives (state g old) (state g new) (λ _. ⊥)
+
+-- in a transaction over a database without tables, the tables of a desk that holds nothing are
+-- made, and nothing is committed
+pub record LeavesEmptyDesk {S T : Type 0} (g : store.Ghosts S) (old new : Held S)
+    (result : Result T Error) : Type 0 where
+  pub made : HasCleanDisk (state g new) → IsTrue (state g old).in_transaction
+      → AreEmpty no_schema (state g old)
+      → OnOk result (Stands (state g new) empty_office × IsTrue (state g new).in_transaction)
+  pub kept : HasCleanDisk (state g new) → IsTrue (state g old).in_transaction
+      → AreEmpty no_schema (state g old) → KeepsCommit (state g old) (state g new)
+  pub crash : Survives (state g old) (state g new) (λ _. ⊥)

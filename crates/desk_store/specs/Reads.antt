@@ -1,0 +1,54 @@
+-- What a reading of the tables tells, and what is decided is written into them.
+use Rattle.std.specs.Prelude.{◌≡◌, ℕ, Bool, List, Option, Some, None, Result, IfOk, OnOk, IsTrue}
+use Rattle.sqlite.specs.declared.error.Error.{Error}
+use Rattle.sqlite.specs.Held.{Held, state}
+use Rattle.sqlite.specs.State.{HasCleanDisk, IsUnchanged, KeepsCommit, Survives}
+use Rattle.sqlite_trees.specs.declared.store.Store as store
+use Rattle.desk_words.specs.Office.{is_office}
+use Rattle.desk_words.specs.declared.answer.Answer.{Answer}
+use Rattle.desk_words.specs.declared.caller.Caller.{Caller}
+use Rattle.desk_words.specs.declared.change.Change.{Change}
+use Rattle.desk_words.specs.declared.office.OfficeLists.{OfficeLists}
+use Rattle.desk_words.specs.declared.request.Call.{Call}
+use Rattle.desk_tables.specs.Statements.{ChangesNothing, IsRead}
+use Rattle.desk_reading.specs.declared.fault.ReadFault.{ReadFault}
+use Rattle.meeting_core.specs.Office.{after_some}
+use Rattle.meeting_core.specs.Step.{decided}
+use Rattle.desk_changes.specs.Writes.{Holds, can_make}
+use Rattle.desk_store.specs.Standing.{Stands, caller_with}
+
+-- what is told is so of the office for which the tables stand, and nothing is changed
+pub record IsTold {S X : Type 0} (g : store.Ghosts S) (old new : Held S)
+    (result : Result X ReadFault) (IsSo : OfficeLists → X → Type 0) : Type 0 where
+  pub told : HasCleanDisk (state g new) → (office : OfficeLists) → Stands (state g old) office
+      → IfOk result (IsSo office)
+  pub same : IsRead g old new → OnOk result (IsUnchanged (state g old) (state g new))
+  pub changes : ChangesNothing g old new
+
+-- it is the office
+abbrev pub IsWhole : OfficeLists → OfficeLists → Type 0
+IsWhole office book = book ≡ office
+
+-- it is the caller whose key that is
+abbrev pub IsCallerWith : List ℕ → OfficeLists → Option Caller → Type 0
+IsCallerWith key office caller = caller ≡ caller_with office.keys key
+
+-- it is what is decided of a call, and leaves the lists of an office
+pub record IsDecided (call : Call) (office : OfficeLists) (answer : Answer Change) : Type 0 where
+  pub is : answer ≡ decided office call
+  pub kept : IsTrue (is_office (after_some office answer.change))
+
+-- nothing is to be written, or a change that the office can make
+abbrev pub can_make_if_any : OfficeLists → Option Change → Bool
+can_make_if_any office None = is_office office
+can_make_if_any office (Some change) = can_make office change
+
+-- what writing a change, or nothing, ensures of tables that are an office
+pub record WritesIfAny {S T : Type 0} (g : store.Ghosts S) (old new : Held S)
+    (result : Result T Error) (change : Option Change) : Type 0 where
+  pub written : HasCleanDisk (state g new) → (office : OfficeLists) → Holds office (state g old)
+      → IsTrue (can_make_if_any office change)
+      → OnOk result (Holds (after_some office change) (state g new))
+  pub kept : HasCleanDisk (state g new) → (office : OfficeLists) → Holds office (state g old)
+      → KeepsCommit (state g old) (state g new)
+  pub crash : Survives (state g old) (state g new) (λ _. ⊥)

@@ -1,0 +1,43 @@
+//! The desk of a company over its tables.
+ghost use Rattle.std.specs.Prelude.{◌≡◌, false};
+
+use sqlite::{Alter, Connection};
+use std::alloc::Global;
+use std::marker::Model;
+
+/// The desk of one company over a database. Contracts see it as its connection, which is in no
+/// transaction.
+pub struct Desk<S: Alter> {
+    pub(crate) conn: Connection<S>,
+    pub(crate) alloc: Global,
+}
+
+impl<S: Alter + Drop> Drop for Desk<S> {
+    fn drop(self) {
+        let Desk { conn: _, alloc: _ } = self;
+    }
+}
+
+impl<S: Alter> Model for Desk<S> {
+    ghost use Rattle.std.specs.Prelude.{◌≡◌, false};
+    ghost use Rattle.sqlite.specs.Held.{Held, held_code};
+
+    ghost Value = { Held S };
+
+    ghost coded = { held_code S.code };
+
+    ghost view = { λ d. d.conn };
+
+    ghost invariant = { λ d. d.conn.in_transaction ≡ false };
+}
+
+impl<S: Alter> Desk<S> {
+    /// Hands the connection back. It takes no memory.
+    pub fn close(self) -> Connection<S>
+        ensures same { result ≡ self }
+        ensures ended { result.in_transaction ≡ false }
+    {
+        let Desk { conn, alloc: _ } = self;
+        conn
+    }
+}

@@ -1,0 +1,143 @@
+//! A call, made and kept.
+ghost use Rattle.std.specs.Prelude.{◌≡◌, IfOk, IsTrue, Ok, OnErr, OnOk};
+ghost use Rattle.std.specs.Fn.{FnOnceReturnsAt};
+ghost use Rattle.desk_store.specs.Reads.{IsDecided, IsTold, WritesIfAny};
+ghost use Rattle.desk_store.specs.Standing.{Stands};
+ghost use Rattle.desk_words.specs.declared.office.OfficeLists.{OfficeLists};
+ghost use Rattle.meeting_core.specs.Step.{decided, stepped};
+ghost use Rattle.sqlite.specs.Held.{state};
+ghost use Rattle.sqlite.specs.State.{HasCleanDisk, KeepsCommit, Survives};
+
+use crate::desk::Desk;
+use crate::reading::{failure_of, read_book};
+use desk_changes::write;
+use desk_reading::ReadFault;
+use desk_words::{Answer, Call, Caller, Change, Failure, Reply};
+use sqlite::{Alter, Error, Transaction};
+use std::alloc::{AllocError, Global};
+
+/// What is decided of a call, over all that the tables hold.
+fn decide_by_book<S: Alter>(
+    tx: &mut Transaction<'_, S>,
+    alloc: Global,
+    call: &Call,
+) -> Result<Answer<Change>, ReadFault>
+    ensures same_reference { tx.new.conn.ghost_name ≡ tx.old.conn.ghost_name }
+    ensures tells { IsTold S.Store tx.old.conn.now tx.new.conn.now result (IsDecided call.now) }
+{
+    let book = read_book(tx, alloc)?;
+    let (reply, change) = book.decide(call)?;
+    Ok(Answer { reply, change })
+}
+
+/// What is decided of a call of the office.
+fn decide_for_office<S: Alter>(
+    tx: &mut Transaction<'_, S>,
+    alloc: Global,
+    call: &Call,
+) -> Result<Answer<Change>, ReadFault>
+    ensures same_reference { tx.new.conn.ghost_name ≡ tx.old.conn.ghost_name }
+    ensures tells { IsTold S.Store tx.old.conn.now tx.new.conn.now result (IsDecided call.now) }
+{
+    decide_by_book(tx, alloc, call)
+}
+
+/// What is decided of a call of a party.
+fn decide_for_party<S: Alter>(
+    tx: &mut Transaction<'_, S>,
+    alloc: Global,
+    call: &Call,
+) -> Result<Answer<Change>, ReadFault>
+    ensures same_reference { tx.new.conn.ghost_name ≡ tx.old.conn.ghost_name }
+    ensures tells { IsTold S.Store tx.old.conn.now tx.new.conn.now result (IsDecided call.now) }
+{
+    decide_by_book(tx, alloc, call)
+}
+
+/// What is decided of a call.
+fn decide<S: Alter>(
+    tx: &mut Transaction<'_, S>,
+    alloc: Global,
+    call: &Call,
+) -> Result<Answer<Change>, ReadFault>
+    ensures same_reference { tx.new.conn.ghost_name ≡ tx.old.conn.ghost_name }
+    ensures tells { IsTold S.Store tx.old.conn.now tx.new.conn.now result (IsDecided call.now) }
+{
+    match call.caller {
+        Caller::Office => decide_for_office(tx, alloc, call),
+        Caller::Party(_) => decide_for_party(tx, alloc, call),
+    }
+}
+
+/// Writes what an answer changes, which may be nothing.
+fn write_if_any<S: Alter>(
+    tx: &mut Transaction<'_, S>,
+    alloc: Global,
+    answer: &Answer<Change>,
+) -> Result<(), Error>
+    ensures same_reference { tx.new.conn.ghost_name ≡ tx.old.conn.ghost_name }
+    ensures writes { WritesIfAny S.Store tx.old.conn.now tx.new.conn.now result answer.now.change }
+{
+    match &answer.change {
+        None => Ok(()),
+        Some(change) => write(alloc, tx, change),
+    }
+}
+
+/// Decides a call, writes what it changes, and asks what is shown of the reply.
+fn step<S: Alter, T: Drop, F: FnOnce(&Reply) -> Result<T, AllocError>>(
+    tx: &mut Transaction<'_, S>,
+    alloc: Global,
+    call: &Call,
+    show: F,
+) -> Result<T, ReadFault>
+    requires callable { F.IsAlwaysCallable show }
+    ensures same_reference { tx.new.conn.ghost_name ≡ tx.old.conn.ghost_name }
+    ensures shown { HasCleanDisk (state S.Store tx.new.conn.now)
+        → IsTrue (state S.Store tx.old.conn.now).in_transaction → (office : OfficeLists)
+        → Stands (state S.Store tx.old.conn.now) office
+        → IfOk result (λ t. FnOnceReturnsAt F.FnOnce show (decided office call.now).reply (Ok t)
+        × Stands (state S.Store tx.new.conn.now) (stepped office call.now)) }
+    ensures inside { HasCleanDisk (state S.Store tx.new.conn.now)
+        → IsTrue (state S.Store tx.old.conn.now).in_transaction → (office : OfficeLists)
+        → Stands (state S.Store tx.old.conn.now) office
+        → OnOk result (IsTrue (state S.Store tx.new.conn.now).in_transaction) }
+    ensures kept { HasCleanDisk (state S.Store tx.new.conn.now)
+        → IsTrue (state S.Store tx.old.conn.now).in_transaction → (office : OfficeLists)
+        → Stands (state S.Store tx.old.conn.now) office
+        → KeepsCommit (state S.Store tx.old.conn.now) (state S.Store tx.new.conn.now) }
+    ensures crash { Survives (state S.Store tx.old.conn.now) (state S.Store tx.new.conn.now)
+        (λ _. ⊥) }
+{
+    let answer = decide(tx, alloc, call)?;
+    write_if_any(tx, alloc, &answer)?;
+    Ok(show(&answer.reply)?)
+}
+
+impl<S: Alter> Desk<S> {
+    /// Makes one call, in one transaction with one commit: the tables are then the office after the
+    /// step. `show` is asked once for what is answered of the reply, before the commit. After a
+    /// failure, that of `show` included, the tables are as they were; a call that changes nothing
+    /// writes nothing.
+    pub fn perform<T: Drop, F: FnOnce(&Reply) -> Result<T, AllocError>>(
+        &mut self,
+        call: Call,
+        show: F,
+    ) -> Result<T, Failure>
+        requires callable { F.IsAlwaysCallable show }
+        ensures done { HasCleanDisk (state S.Store self.new) → (office : OfficeLists)
+            → Stands (state S.Store self.old) office
+            → IfOk result (λ t. FnOnceReturnsAt F.FnOnce show (decided office call).reply (Ok t)
+            × Stands (state S.Store self.new) (stepped office call)) }
+        ensures same { HasCleanDisk (state S.Store self.new)
+            → IsTrue (state S.Store self.new).is_open → (office : OfficeLists)
+            → Stands (state S.Store self.old) office
+            → OnErr result (Stands (state S.Store self.new) office) }
+    {
+        let _ = self.conn.is_autocommit();
+        let mut tx = self.conn.transaction();
+        let shown = step(&mut tx, self.alloc, &call, show).map_err(failure_of)?;
+        tx.commit().map_err(|error| failure_of(error.into()))?;
+        Ok(shown)
+    }
+}

@@ -1,0 +1,53 @@
+//! What the tables tell, read within a transaction.
+ghost use Rattle.std.specs.Prelude.{◌≡◌};
+ghost use Rattle.desk_store.specs.Reads.{IsCallerWith, IsTold, IsWhole};
+
+use desk_reading::{ReadFault, read_office};
+use desk_rows::records;
+use desk_tables::keys;
+use desk_words::{Caller, Failure, KeyRow, SecretKey};
+use meeting_core::{Book, BookFault};
+use sqlite::{Alter, Transaction};
+use std::alloc::Global;
+
+fn fault_of_book(fault: BookFault) -> ReadFault {
+    match fault {
+        BookFault::NoOffice => ReadFault::NoOffice,
+        BookFault::Memory => ReadFault::Memory,
+    }
+}
+
+/// How a call fails where its tables are not read or not written.
+pub(crate) fn failure_of(fault: ReadFault) -> Failure {
+    match fault {
+        ReadFault::NoOffice | ReadFault::Store => Failure::Store,
+        ReadFault::Memory => Failure::Memory,
+    }
+}
+
+/// The office that the tables hold, in memory.
+pub(crate) fn read_book<S: Alter>(
+    tx: &mut Transaction<'_, S>,
+    alloc: Global,
+) -> Result<Book, ReadFault>
+    ensures same_reference { tx.new.conn.ghost_name ≡ tx.old.conn.ghost_name }
+    ensures tells { IsTold S.Store tx.old.conn.now tx.new.conn.now result IsWhole }
+{
+    let lists = read_office(tx, alloc)?;
+    Book::of_lists(alloc, lists).map_err(fault_of_book)
+}
+
+/// The caller whose key this is; none exactly where no key equals it.
+pub(crate) fn read_caller<S: Alter>(
+    tx: &mut Transaction<'_, S>,
+    alloc: Global,
+    key: &SecretKey,
+) -> Result<Option<Caller>, ReadFault>
+    ensures same_reference { tx.new.conn.ghost_name ≡ tx.old.conn.ghost_name }
+    ensures tells { IsTold S.Store tx.old.conn.now tx.new.conn.now result
+        (IsCallerWith key.now) }
+{
+    let rows = keys::find(tx, key)?;
+    let found: Vec<KeyRow> = records(alloc, &rows)?;
+    Ok(found.first().map(|row| row.caller))
+}

@@ -1,0 +1,82 @@
+//! What the tables say, without a change.
+ghost use Rattle.std.specs.Prelude.{◌≡◌, IfOk, IsTrue};
+ghost use Rattle.caller_view.specs.Views.{public_of};
+ghost use Rattle.desk_store.specs.Standing.{Stands, caller_with};
+ghost use Rattle.desk_words.specs.declared.office.OfficeLists.{OfficeLists};
+ghost use Rattle.sqlite.specs.Held.{state};
+ghost use Rattle.sqlite.specs.State.{HasCleanDisk};
+
+use crate::desk::Desk;
+use crate::reading::{failure_of, read_book, read_caller};
+use caller_view::PublicRecord;
+use desk_words::{Caller, Failure, MeetingId, SecretKey};
+use meeting_core::Book;
+use sqlite::Alter;
+use std::marker::Model;
+
+/// The public record of a meeting, kept apart from the desk. Contracts see it as that record.
+#[derive(Drop)]
+pub struct KeptRecord {
+    book: Book,
+    meeting: MeetingId,
+}
+
+impl Model for KeptRecord {
+    ghost use Rattle.caller_view.specs.Public.{PublicRecord};
+    ghost use Rattle.caller_view.specs.Views.{public_of};
+
+    ghost Value = { PublicRecord };
+
+    ghost view = { λ k. public_of k.book k.meeting };
+}
+
+impl KeptRecord {
+    /// The record, lent.
+    pub fn record(&self) -> PublicRecord<'_>
+        ensures { result ≡ self.now }
+    {
+        self.book.public_of(self.meeting)
+    }
+}
+
+impl<S: Alter> Desk<S> {
+    /// The caller whose key this is; none exactly where no key equals it.
+    pub fn caller_of(&mut self, key: &SecretKey) -> Result<Option<Caller>, Failure>
+        ensures found { HasCleanDisk (state S.Store self.new) → (office : OfficeLists)
+            → Stands (state S.Store self.old) office
+            → IfOk result (λ caller. caller ≡ caller_with office.keys key.now) }
+        ensures same { HasCleanDisk (state S.Store self.new)
+            → IsTrue (state S.Store self.new).is_open → (office : OfficeLists)
+            → Stands (state S.Store self.old) office → Stands (state S.Store self.new) office }
+    {
+        let _ = self.conn.is_autocommit();
+        let mut tx = self.conn.transaction();
+        read_caller(&mut tx, self.alloc, key).map_err(failure_of)
+    }
+
+    /// The office that the tables hold, in memory.
+    pub fn book(&mut self) -> Result<Book, Failure>
+        ensures held { HasCleanDisk (state S.Store self.new) → (office : OfficeLists)
+            → Stands (state S.Store self.old) office → IfOk result (λ book. book ≡ office) }
+        ensures same { HasCleanDisk (state S.Store self.new)
+            → IsTrue (state S.Store self.new).is_open → (office : OfficeLists)
+            → Stands (state S.Store self.old) office → Stands (state S.Store self.new) office }
+    {
+        let _ = self.conn.is_autocommit();
+        let mut tx = self.conn.transaction();
+        read_book(&mut tx, self.alloc).map_err(failure_of)
+    }
+
+    /// The public record of a meeting; where there is none of that name, the closed days alone.
+    pub fn public(&mut self, meeting: MeetingId) -> Result<KeptRecord, Failure>
+        ensures held { HasCleanDisk (state S.Store self.new) → (office : OfficeLists)
+            → Stands (state S.Store self.old) office
+            → IfOk result (λ kept. kept ≡ public_of office meeting) }
+        ensures same { HasCleanDisk (state S.Store self.new)
+            → IsTrue (state S.Store self.new).is_open → (office : OfficeLists)
+            → Stands (state S.Store self.old) office → Stands (state S.Store self.new) office }
+    {
+        let book = self.book()?;
+        Ok(KeptRecord { book, meeting })
+    }
+}
