@@ -1,6 +1,5 @@
 pub mod DayLemmas
 pub mod FaultlessLemmas
-pub mod FieldLemmas
 pub mod GatheredLemmas
 pub mod RecordLemmas
 pub mod RowLemmas

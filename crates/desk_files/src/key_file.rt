@@ -14,9 +14,18 @@ use csv::ByteRecord;
 use desk_devices::Source;
 use desk_words::limits::MOST_KEYS;
 use desk_words::{KeyRow, KeyRows, ListFault, Party, SecretKey, read_caller, read_key};
-use std::alloc::Global;
+use std::alloc::{AllocError, Global};
 use std::collections::BTreeSet;
 use std::marker::Model;
+
+/// The bytes of the shortest row, a party of one letter and a key of 16, and of the line feed
+/// behind it.
+const SHORTEST_ROW: usize = 19;
+
+/// As many keys as a key file of so many bytes can have.
+fn most_keys_in(bytes: usize) -> usize {
+    (bytes / SHORTEST_ROW).min(MOST_KEYS)
+}
 
 fn is_key_header(fields: &ByteRecord) -> bool
     ensures { result ≡ is_key_header (fields_of fields.now) }
@@ -76,12 +85,12 @@ impl Gather for KeysSoFar {
         is_key_header(fields)
     }
 
-    fn none(alloc: Global) -> KeysSoFar {
-        KeysSoFar {
-            rows: Vec::new(alloc),
+    fn none(alloc: Global, bytes: usize) -> Result<KeysSoFar, AllocError> {
+        Ok(KeysSoFar {
+            rows: Vec::with_capacity(alloc, most_keys_in(bytes))?,
             callers: BTreeSet::new(alloc),
             secrets: BTreeSet::new(alloc),
-        }
+        })
     }
 
     fn with_record(self, _alloc: Global, fields: &ByteRecord) -> Result<KeysSoFar, FileFault> {

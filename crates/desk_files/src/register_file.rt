@@ -1,7 +1,8 @@
 //! Register files.
-ghost use Rattle.std.specs.Prelude.{◌≡◌, ◌+◌, ◌<◌, ◌≤◌, IfOk, IfErr, IfSome, IsTrue, ok_or};
+ghost use Rattle.std.specs.Prelude.{◌≡◌, ◌+◌, ◌<◌, ◌≤◌, IfOk, IfErr, IfSome, IsTrue};
+ghost use Rattle.std.specs.Prelude.{bytes_eq, ok_or};
 ghost use Rattle.csv.specs.Records.{fields_of};
-ghost use Rattle.desk_terms.specs.Kinds.{holder_kind_of};
+ghost use Rattle.desk_terms.specs.Kinds.{holder_kind_of, holder_kind_word};
 ghost use Rattle.desk_terms.specs.Texts.{text_of};
 ghost use Rattle.desk_words.specs.Registers.{is_holding};
 ghost use Rattle.desk_files.specs.Faults.{Gives, IfJudged, itself};
@@ -22,9 +23,17 @@ use desk_words::limits::{MOST_PENCE, MOST_ROWS, MOST_SHARES};
 use desk_words::{
     HolderKind, ListFault, MOST_PLACES, Party, Register, RegisterRow, Text, TextFault, read_party,
 };
-use std::alloc::Global;
+use std::alloc::{AllocError, Global};
 use std::collections::BTreeSet;
 use std::marker::Model;
+
+/// The bytes of the shortest row, `A,treasury,A,1,1`, and of the line feed behind it.
+const SHORTEST_ROW: usize = 17;
+
+/// As many rows as a register file of so many bytes can have.
+pub(crate) fn most_rows_in(bytes: usize) -> usize {
+    (bytes / SHORTEST_ROW).min(MOST_ROWS)
+}
 
 pub(crate) fn is_register_header(fields: &ByteRecord) -> bool
     ensures { result ≡ is_register_header (fields_of fields.now) }
@@ -37,12 +46,23 @@ pub(crate) fn is_register_header(fields: &ByteRecord) -> bool
         && column(fields, 4) == b"paid".as_slice()
 }
 
+fn is_word_for(kind: HolderKind, bytes: &[u8]) -> bool
+    ensures { result ≡ bytes_eq bytes.now (holder_kind_word kind) }
+{
+    bytes == kind.word().as_bytes()
+}
+
 fn read_kind(bytes: &[u8]) -> Option<HolderKind>
     ensures { result ≡ holder_kind_of bytes.now }
 {
-    match str::from_utf8(bytes) {
-        Ok(word) => HolderKind::of_word(word),
-        Err(_) => None,
+    if is_word_for(HolderKind::Individual, bytes) {
+        Some(HolderKind::Individual)
+    } else if is_word_for(HolderKind::Corporation, bytes) {
+        Some(HolderKind::Corporation)
+    } else if is_word_for(HolderKind::Treasury, bytes) {
+        Some(HolderKind::Treasury)
+    } else {
+        None
     }
 }
 
@@ -140,12 +160,12 @@ impl Gather for RowsSoFar {
         is_register_header(fields)
     }
 
-    fn none(alloc: Global) -> RowsSoFar {
-        RowsSoFar {
-            rows: Vec::new(alloc),
+    fn none(alloc: Global, bytes: usize) -> Result<RowsSoFar, AllocError> {
+        Ok(RowsSoFar {
+            rows: Vec::with_capacity(alloc, most_rows_in(bytes))?,
             members: BTreeSet::new(alloc),
             total: 0,
-        }
+        })
     }
 
     fn with_record(self, alloc: Global, fields: &ByteRecord) -> Result<RowsSoFar, FileFault> {

@@ -6,11 +6,11 @@ ghost use Rattle.desk_files.specs.Tables.{one_record_more, one_row_more, table_o
 
 use crate::fault::{FileFault, Why};
 use csv::{ByteRecord, ReaderBuilder};
-use std::alloc::Global;
+use std::alloc::{AllocError, Global};
 
 /// What is gathered of the rows of a file, one record after another.
 pub(crate) trait Gather: Drop {
-    ghost use Rattle.std.specs.Prelude.{ℕ, Bool, List, Result};
+    ghost use Rattle.std.specs.Prelude.{ℕ, Bool, List, Result, IfOk};
     ghost use Rattle.desk_files.specs.declared.fault.FileFault.{FileFault};
 
     /// A row, as contracts see it.
@@ -29,9 +29,9 @@ pub(crate) trait Gather: Drop {
     fn is_header(fields: &ByteRecord) -> bool
         ensures { result ≡ names_columns (fields_of fields.now) };
 
-    /// No rows so far.
-    fn none(alloc: Global) -> Self
-        ensures { seen result ≡ [] };
+    /// No rows so far, and room for as many as a file of so many bytes can have.
+    fn none(alloc: Global, bytes: usize) -> Result<Self, AllocError>
+        ensures { IfOk result (λ none. seen none ≡ []) };
 
     /// The rows so far, and that of one record more. The error is its first fault, or want of
     /// memory.
@@ -41,6 +41,7 @@ pub(crate) trait Gather: Drop {
 
 fn one_record_more<T: Gather>(
     alloc: Global,
+    bytes: usize,
     found: Option<T>,
     fields: &ByteRecord,
 ) -> Result<Option<T>, FileFault>
@@ -56,7 +57,7 @@ fn one_record_more<T: Gather>(
                     why: Why::Header,
                 });
             }
-            Ok(Some(T::none(alloc)))
+            Ok(Some(T::none(alloc, bytes)?))
         }
         Some(so_far) => Ok(Some(so_far.with_record(alloc, fields)?)),
     }
@@ -75,20 +76,25 @@ fn under_header<T: Gather>(found: Option<T>) -> Result<T, FileFault>
 pub(crate) fn rows_under_header<T: Gather>(alloc: Global, bytes: &[u8]) -> Result<T, FileFault>
     ensures { Gives T.seen result (table_of T.names_columns T.row_after bytes.now) }
 {
-    let reader = ReaderBuilder::new()
+    let mut reader = ReaderBuilder::new()
         .has_headers(false)
         .flexible(true)
         .from_reader(alloc, bytes);
+    // One record serves for all, so that none is copied.
+    let mut fields = ByteRecord::new(alloc);
     let mut found = None;
-    for step in reader.into_byte_records() {
+    for _ in 0..bytes.len() + 1 {
         // Over a slice no read fails, so an error is of memory.
-        let Ok(fields) = step else {
+        let Ok(another) = reader.read_byte_record(&mut fields) else {
             return Err(FileFault::Memory);
         };
-        found = match one_record_more(alloc, found, &fields) {
+        if !another {
+            return under_header(found);
+        }
+        found = match one_record_more(alloc, bytes.len(), found, &fields) {
             Ok(more) => more,
             Err(fault) => return Err(fault),
         };
     }
-    under_header(found)
+    Err(FileFault::Memory)
 }

@@ -1,4 +1,4 @@
-use Rattle.std.proofs.Common.{◌≡◌, ◌<◌, ℕ, List, Some, Ok}
+use Rattle.std.proofs.Common.{◌≡◌, ℕ, List, Some, Ok}
 use Rattle.std.specs.Prelude.{option_map}
 use Rattle.csv.specs.Reading.{Reached, Ready, default_config, source_of, strip_bom}
 use Rattle.csv.specs.declared.parser.State.TheVariants as st
@@ -7,8 +7,8 @@ use Rattle.desk_files.specs.Tables.{rows_in}
 use Rattle.desk_files.proofs.table.rows_under_header.Given as goal
 
 -- The records so far, and the rows that they are.
-abbrev pub invariant-loop-step : goal.invariant-loop-step
-invariant-loop-step g l = (l.step-iterator.rdr.trim ≡ trim.None) × Ready l.step-iterator.rdr × (0 < l.step-iterator.left) × (l.step-iterator.rdr.config ≡ default_config)
-    × (y : List ℕ) × (source_of (λ s. Some s.now) l.step-iterator.rdr ≡ Some y)
-    × (records : List (List (List ℕ))) × Reached default_config st.StartRecord (strip_bom l.fn.bytes) records l.step-iterator.rdr.state y
+abbrev pub invariant-loop : goal.invariant-loop
+invariant-loop g l = (l.reader.trim ≡ trim.None) × Ready l.reader × (l.reader.config ≡ default_config)
+    × (y : List ℕ) × (source_of (λ s. Some s.now) l.reader ≡ Some y)
+    × (records : List (List (List ℕ))) × Reached default_config st.StartRecord (strip_bom l.fn.bytes) records l.reader.state y
     × (rows_in g.T.Gather.names_columns g.T.Gather.row_after records ≡ Ok (option_map g.T.Gather.seen l.found))
