@@ -1,37 +1,190 @@
 //! The desk of a company's general meetings.
 #![tactic(auto)]
 
+ghost use Rattle.std.specs.Prelude.{◌≡◌, false, IfOk};
+
+use desk_commands::{Plan, Zone, read_words};
 use desk_devices::{ReadDevice, WriteDevice};
-use desk_program::{Ended, no_memory, run, wrong_words};
-use std::env;
+use desk_endings::{Ended, Fault, Line};
+use desk_store::Desk;
+use desk_tasks::{by_file_error, by_open, moment_at};
+use desk_words::{MeetingId, Moment};
+use jiff::Timestamp;
+use sqlite::{Connection, FileFrom, FileStore, Wary};
 use std::io::{self, ErrorKind};
 use std::process::ExitCode;
 use std::rt::Env;
+use std::{env, fs};
 
-fn words(rt: &(impl Env + AllocGlobal)) -> io::Result<Vec<String>> {
+/// The store of a desk's file: it waits for the disk at each commit, and supposes nothing of what a
+/// power cut leaves of a write.
+type DeskFile = FileStore<FileFrom<Wary>>;
+
+/// The words of the program, without its own name. Words that are no text ask for nothing.
+fn words(rt: &(impl Env + AllocGlobal)) -> Result<Vec<String>, Ended> {
     let mut words = Vec::new(rt.alloc());
-    for word in env::args(rt)?.skip(1) {
-        words.push(word)?;
+    let given = env::args(rt).map_err(by_words_error)?;
+    for word in given.skip(1) {
+        words.push(word).map_err(|_| Ended::by(Fault::Memory))?;
     }
     Ok(words)
 }
 
-fn ended(rt: &HostRuntime) -> Ended {
-    match words(rt) {
-        Ok(words) => {
-            let mut reader = ReadDevice::new(rt.reader());
-            let mut writer = WriteDevice::new(io::writer(rt));
-            run(rt.alloc(), &words, &mut reader, &mut writer)
-        }
-        Err(error) if error.kind() == ErrorKind::OutOfMemory => no_memory(),
-        Err(_) => wrong_words(),
+fn by_words_error(error: io::Error) -> Ended {
+    if error.kind() == ErrorKind::OutOfMemory {
+        return Ended::by(Fault::Memory);
+    }
+    Ended {
+        status: 2,
+        line: Some(Line::Name("words")),
     }
 }
 
-fn main(rt: HostRuntime) -> ExitCode {
-    let ended = ended(&rt);
-    if let Some(line) = ended.line {
-        let _ = eprintln!(rt; "{line}");
+/// Opens a file as a database. It is made where it is not there.
+fn connect(rt: &HostRuntime, file: &str) -> Result<Connection<DeskFile>, Ended>
+    ensures { IfOk result (λ conn. conn.in_transaction ≡ false) }
+{
+    match Connection::open_from(rt, file, false, Wary) {
+        Ok(conn) => Ok(conn),
+        Err((error, _)) => Err(by_file_error(error)),
     }
-    ExitCode::from(ended.status)
+}
+
+/// Opens the desk that a file is. A file that is not there is not made.
+fn open_desk(rt: &HostRuntime, file: &str) -> Result<Desk<DeskFile>, Ended> {
+    if fs::metadata(rt, file).is_err() {
+        return Err(Ended::by(Fault::Store));
+    }
+    let conn = connect(rt, file)?;
+    Desk::open(rt.alloc(), conn).map_err(|(fault, _)| by_open(fault))
+}
+
+/// Copies what was committed from the log into the desk's file. Where that fails, it is in the log,
+/// and the next opening finds it there.
+fn close(desk: Desk<DeskFile>) {
+    let _ = desk.close().close();
+}
+
+/// The moment on the office's wall clock.
+fn now(rt: &HostRuntime, zone: &Zone<'_>) -> Result<Moment, Ended> {
+    let instant = Timestamp::now(rt).map_err(|_| Ended::by(Fault::Clock))?;
+    moment_at(instant, &zone.zone)
+}
+
+fn open_reader(rt: &HostRuntime, file: &str) -> Result<ReadDevice<fs::File>, Ended> {
+    let file = fs::open(rt, file).map_err(|_| Ended::by(Fault::ReadFault))?;
+    Ok(ReadDevice::new(file))
+}
+
+fn init(rt: &HostRuntime, file: &str) -> Result<Ended, Ended> {
+    let conn = connect(rt, file)?;
+    let (ended, conn) = desk_tasks::init(rt.alloc(), conn);
+    let _ = conn.close();
+    Ok(ended)
+}
+
+fn keys(rt: &HostRuntime, file: &str, csv: &str, zone: &Zone<'_>) -> Result<Ended, Ended> {
+    let mut desk = open_desk(rt, file)?;
+    let now = now(rt, zone)?;
+    let mut reader = open_reader(rt, csv)?;
+    let ended = desk_tasks::keys(rt.alloc(), &mut desk, now, &mut reader);
+    close(desk);
+    Ok(ended)
+}
+
+fn days(rt: &HostRuntime, file: &str, txt: &str, zone: &Zone<'_>) -> Result<Ended, Ended> {
+    let mut desk = open_desk(rt, file)?;
+    let now = now(rt, zone)?;
+    let mut reader = open_reader(rt, txt)?;
+    let ended = desk_tasks::days(rt.alloc(), &mut desk, now, &mut reader);
+    close(desk);
+    Ok(ended)
+}
+
+fn register(
+    rt: &HostRuntime,
+    file: &str,
+    meeting: MeetingId,
+    record_moment: Moment,
+    csv: &str,
+    zone: &Zone<'_>,
+) -> Result<Ended, Ended> {
+    let mut desk = open_desk(rt, file)?;
+    let now = now(rt, zone)?;
+    let mut reader = open_reader(rt, csv)?;
+    let ended = desk_tasks::register(
+        rt.alloc(),
+        &mut desk,
+        now,
+        meeting,
+        record_moment,
+        &mut reader,
+    );
+    close(desk);
+    Ok(ended)
+}
+
+fn results(rt: &HostRuntime, file: &str, meeting: MeetingId) -> Result<Ended, Ended> {
+    let mut desk = open_desk(rt, file)?;
+    let mut writer = WriteDevice::new(io::writer(rt));
+    let ended = desk_tasks::results(rt.alloc(), &mut desk, meeting, &mut writer);
+    close(desk);
+    Ok(ended)
+}
+
+fn replay(rt: &HostRuntime) -> Ended {
+    let mut reader = ReadDevice::new(rt.reader());
+    let mut writer = WriteDevice::new(io::writer(rt));
+    desk_tasks::replay(rt.alloc(), &mut reader, &mut writer)
+}
+
+/// Does what the words of the program ask for.
+fn run(rt: &HostRuntime) -> Result<Ended, Ended> {
+    let words = words(rt)?;
+    match read_words(rt.alloc(), &words).map_err(Ended::by_words)? {
+        Plan::Init { file } => init(rt, file),
+        Plan::Keys { file, csv, zone } => keys(rt, file, csv, &zone),
+        Plan::Days { file, txt, zone } => days(rt, file, txt, &zone),
+        Plan::Register {
+            file,
+            meeting,
+            record_moment,
+            csv,
+            zone,
+        } => register(rt, file, meeting, record_moment, csv, &zone),
+        Plan::Results { file, meeting } => results(rt, file, meeting),
+        Plan::Replay => Ok(replay(rt)),
+    }
+}
+
+/// Prints a line on standard error. What the reader of the words says ends with a line feed.
+fn complain(rt: &HostRuntime, line: &Line) {
+    let _ = match line {
+        Line::Words(text) => eprint!(rt; "{text}"),
+        line => eprintln!(rt; "{line}"),
+    };
+}
+
+/// Prints the line of an end, with status 0 on standard output. One that cannot be printed there
+/// ends with `WriteFault`.
+fn status_of(rt: &HostRuntime, ended: &Ended) -> u8 {
+    let Some(line) = &ended.line else {
+        return ended.status;
+    };
+    if ended.status > 0 {
+        complain(rt, line);
+        return ended.status;
+    }
+    if println!(rt; "{line}").is_ok() {
+        return ended.status;
+    }
+    complain(rt, &Line::Name(Fault::WriteFault.word()));
+    Ended::by(Fault::WriteFault).status
+}
+
+fn main(rt: HostRuntime) -> ExitCode {
+    let ended = match run(&rt) {
+        Ok(ended) | Err(ended) => ended,
+    };
+    ExitCode::from(status_of(&rt, &ended))
 }

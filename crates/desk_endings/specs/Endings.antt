@@ -38,7 +38,7 @@ line_text (line.BadRow number why) = bad_row_line number why
 line_text (line.Twice number) = twice_line number
 line_text (line.Words text) = string_bytes text
 
--- a status, and the text for standard error
+-- a status, and the text that is printed
 pub record Ending : Type 0 where
   pub status : ℕ
   pub text : Option (List ℕ)

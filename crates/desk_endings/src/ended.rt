@@ -1,13 +1,14 @@
 //! How the program ends.
 ghost use Rattle.std.specs.Prelude.{◌≡◌};
-ghost use Rattle.desk_endings.specs.Endings.{ended_view, done, fault_word, ended_by, ended_by_refusal, ended_by_file, ended_by_print, ended_by_words};
+ghost use Rattle.desk_endings.specs.Endings.{ended_view, done, ending, fault_word, ended_by, ended_by_refusal, ended_by_file, ended_by_print, ended_by_words};
 
 use crate::line::Line;
 use desk_commands::WordsFault;
 use desk_papers::{FileFault, PrintFault};
 use desk_terms::Refusal;
 
-/// How the program ends: its status, and the line that it prints on standard error, if any.
+/// How the program ends: its status, and the line that it prints, if any: with status 0 on standard
+/// output, else on standard error.
 #[derive(Drop)]
 pub struct Ended {
     pub status: u8,
@@ -64,6 +65,16 @@ impl Ended {
         Ended {
             status: 0,
             line: None,
+        }
+    }
+
+    /// The end of a command that did its work and says so: status 0, and the word.
+    pub fn told(word: &'static str) -> Ended
+        ensures { ended_view result ≡ ending 0 word.now }
+    {
+        Ended {
+            status: 0,
+            line: Some(Line::Name(word)),
         }
     }
 

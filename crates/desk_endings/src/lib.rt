@@ -1,4 +1,4 @@
-//! How the program ends: its status, and the line that it prints on standard error.
+//! How the program ends: its status, and the line that it prints.
 #![tactic(auto)]
 
 mod ended;

@@ -1,4 +1,4 @@
-//! The line that the program prints on standard error.
+//! The line that the program prints as it ends.
 ghost use Rattle.std.specs.Prelude.{Some};
 ghost use Rattle.desk_endings.specs.Endings.{line_text};
 
@@ -6,8 +6,8 @@ use desk_papers::Why;
 use desk_terms::Refusal;
 use std::fmt;
 
-/// A line for standard error, without its line feed; what the reader of the words says ends with
-/// one. It is written with no memory.
+/// The line that the program prints as it ends, without its line feed; what the reader of the words
+/// says ends with one. It is written with no memory.
 #[derive(Drop)]
 pub enum Line {
     /// A name by itself.

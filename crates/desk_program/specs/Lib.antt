@@ -1,4 +1,3 @@
-pub mod Commands
 pub mod PartsView
 pub mod ReplayLines
 pub mod ReplayRuns

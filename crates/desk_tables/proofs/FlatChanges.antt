@@ -171,5 +171,8 @@ module _ (old new : State) (flat : FlatLists) (held : flat_in old.now.trees ≡ 
       rw (o.keys refl, o.closed refl, o.meetings refl, o.resolutions refl, o.register refl, o.appointments refl, o.endings refl, o.authorities refl, o.presences refl, o.demands refl, o.polls refl, c.records flat.casts ((holds old.now.trees flat held).casts refl)) refl
 
 -- the closed days are what their table holds
+pub keys_held : (trees : Trees) (flat : FlatLists) → flat_in trees ≡ Some flat → records_in table.keys trees ≡ Some flat.keys
+keys_held trees flat held = (holds trees flat held).keys refl
+
 pub closed_held : (trees : Trees) (flat : FlatLists) → flat_in trees ≡ Some flat → records_in table.closed trees ≡ Some flat.closed
 closed_held trees flat held = (holds trees flat held).closed refl

@@ -1,0 +1,46 @@
+-- How the command that prints results ends, and what it has written.
+use Rattle.std.specs.Prelude.{◌≡◌, ◌⊎◌, ℕ, List, Option, Some, None}
+use Rattle.std.specs.Io.KnownBytes.{Appends}
+use Rattle.caller_view.specs.Public.{PublicRecord}
+use Rattle.desk_devices.specs.Counts.{one_more}
+use Rattle.desk_devices.specs.Written.{AppendsPrefix}
+use Rattle.desk_papers.specs.Results.{results_of}
+use Rattle.desk_terms.specs.declared.refusal.Refusal.TheVariants.{NoMeeting}
+use Rattle.desk_words.specs.declared.records.Meeting.{Meeting}
+use Rattle.desk_endings.specs.Endings.{Ending, done, ended_by, ended_by_refusal}
+use Rattle.desk_endings.specs.declared.ended.Fault.TheVariants as fault
+
+-- how a writer stands: the bytes that it holds, where they are known, and how many of its writes
+-- failed
+pub record Writer : Type 0 where
+  pub contents : Option (List ℕ)
+  pub failures : ℕ
+
+-- the printing for a meeting ends well, and is refused where there is none
+abbrev pub ended_for : Option Meeting → Ending
+ended_for (Some meeting) = done
+ended_for None = ended_by_refusal NoMeeting
+
+-- the results of a public record were written whole, where it has a meeting; they have no text
+-- where it has none
+pub record HasPrinted (public : PublicRecord) (before after : Writer) (end : Ending) : Type 0 where
+  pub ended : end ≡ ended_for public.meeting
+  pub written : Appends before.contents after.contents (results_of public)
+  pub none_failed : after.failures ≡ before.failures
+
+-- one write failed, before all of the results were written
+pub record HasFailed (public : PublicRecord) (before after : Writer) (end : Ending) : Type 0 where
+  pub ended : end ≡ ended_by fault.WriteFault
+  pub written : AppendsPrefix before.contents after.contents (results_of public)
+  pub failed : after.failures ≡ one_more before.failures
+
+-- the store failed or memory ran out, before anything was written
+pub record HasNotBegun (before after : Writer) (end : Ending) : Type 0 where
+  pub ended : (end ≡ ended_by fault.Store) ⊎ (end ≡ ended_by fault.Memory)
+  pub untouched : after ≡ before
+
+-- one of the three
+abbrev pub Prints : PublicRecord → Writer → Writer → Ending → Type 0
+Prints public before after end =
+    HasPrinted public before after end
+    ⊎ (HasFailed public before after end ⊎ HasNotBegun before after end)

@@ -1,0 +1,53 @@
+//! The making and the opening of a desk.
+ghost use Rattle.std.specs.Prelude.{◌≡◌, ◌≢◌, false, IsTrue};
+ghost use Rattle.desk_endings.specs.Endings.{ended_by, ended_view};
+ghost use Rattle.desk_tasks.specs.Desks.{Creates, file_fault, open_fault};
+ghost use Rattle.sqlite.specs.Held.{state};
+ghost use Rattle.sqlite.specs.State.{HasCleanDisk};
+
+use desk_endings::{Ended, Fault};
+use desk_store::{CreateFault, Desk, OpenFault};
+use sqlite::{Alter, Connection, Error, ErrorCode};
+use std::alloc::Global;
+
+/// Makes a new desk in a database that holds nothing, and ends with status 0 and `created`. It ends
+/// with 3 and `NotEmpty` where the database has a table, an index or a view, and with 3 and `Store`
+/// or `Memory` where it fails. The connection is handed back, in no transaction; with any other
+/// status than 0 its tables are as they were.
+pub fn init<S: Alter + Drop>(alloc: Global, conn: Connection<S>) -> (Ended, Connection<S>)
+    requires { conn.in_transaction ≡ false }
+    ensures creates { Creates (state S.Store conn) (state S.Store result.1) (ended_view result.0) }
+    ensures same { HasCleanDisk (state S.Store result.1) → IsTrue (state S.Store result.1).is_open
+        → result.0.status ≢ 0 → (state S.Store result.1).now ≡ (state S.Store conn).now }
+    ensures ended { result.1.in_transaction ≡ false }
+{
+    match Desk::create(alloc, conn) {
+        Ok(desk) => (Ended::told("created"), desk.close()),
+        Err((CreateFault::NotEmpty, conn)) => (Ended::by(Fault::NotEmpty), conn),
+        Err((CreateFault::Store, conn)) => (Ended::by(Fault::Store), conn),
+        Err((CreateFault::Memory, conn)) => (Ended::by(Fault::Memory), conn),
+    }
+}
+
+/// How the program ends where a database is not opened as a desk: with status 3 and the fault.
+pub fn by_open(fault: OpenFault) -> Ended
+    ensures { ended_view result ≡ ended_by (open_fault fault) }
+{
+    Ended::by(match fault {
+        OpenFault::NotADesk => Fault::NotADesk,
+        OpenFault::NewerVersion => Fault::NewerVersion,
+        OpenFault::Store => Fault::Store,
+        OpenFault::Memory => Fault::Memory,
+    })
+}
+
+/// How the program ends where a file is not opened as a database: with status 3, and `Memory` or
+/// `Store`.
+pub fn by_file_error(error: Error) -> Ended
+    ensures { ended_view result ≡ ended_by (file_fault error) }
+{
+    Ended::by(match error {
+        Error::SqliteFailure(ErrorCode::OutOfMemory) => Fault::Memory,
+        _ => Fault::Store,
+    })
+}
