@@ -22,7 +22,7 @@ use Rattle.desk_tables.proofs.FlatChanges.{appointments_changed, authorities_cha
 use Rattle.desk_tables.proofs.ListChanges.{ListOf, received, the_appointments, the_authorities, the_casts, the_demands, the_endings, the_presences}
 use Rattle.desk_tables.proofs.OfficeLemmas.{with_changed}
 use Rattle.desk_tables.proofs.RecordLemmas.{in_meeting}
-use Rattle.meeting_core.specs.Office.{entered}
+use Rattle.desk_words.specs.Changes.{entered}
 use Rattle.desk_changes.specs.Writes.{Writes}
 use Rattle.desk_changes.proofs.Possible.{placed_in, written_by}
 

@@ -17,7 +17,7 @@ use Rattle.desk_tables.specs.Contents.{without_resolutions}
 use Rattle.desk_tables.specs.Office.{FlatLists, have_meetings, lists_of, lists_of_all, number_before, numbered_from, of_meeting, office_of, resolutions_of}
 use Rattle.desk_tables.proofs.OfficeLemmas.{AreOf, office_is, stands_there}
 use Rattle.desk_tables.proofs.RecordLemmas.{in_meeting, name_turned, of_meeting-append, of_meeting-none, of_meeting-own, stand-append, stand-more, stand-none, stand-own, stands}
-use Rattle.meeting_core.specs.Office.{new_lists}
+use Rattle.desk_words.specs.Changes.{new_lists}
 use Rattle.desk_changes.specs.Writes.{numbered}
 
 -- ---- resolutions that are numbered

@@ -30,7 +30,7 @@ use Rattle.desk_tables.proofs.ListLemmas.{map-once}
 use Rattle.desk_tables.proofs.OfficeLemmas.{change_named}
 use Rattle.desk_tables.proofs.RecordLemmas.{change_in, in_meeting}
 use Rattle.desk_tables.proofs.Tests.{each_is}
-use Rattle.meeting_core.specs.Office.{moved}
+use Rattle.desk_words.specs.Changes.{moved}
 use Rattle.desk_changes.specs.Writes.{Writes}
 use Rattle.desk_changes.proofs.Possible.{placed_in, written_by}
 

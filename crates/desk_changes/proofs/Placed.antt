@@ -23,7 +23,7 @@ use Rattle.caller_view.specs.Answers.{ruling_in as party_in}
 use Rattle.caller_view.specs.Views.{meeting_at, own_of, public_of}
 use Rattle.office_answers.specs.Answers.{desk_ruling, ruling_in as office_in}
 use Rattle.office_answers.specs.Lists.{same_days}
-use Rattle.meeting_core.specs.Office.{after, after_some}
+use Rattle.desk_words.specs.Changes.{after, after_some}
 use Rattle.meeting_core.specs.Step.{decided, ruling}
 use Rattle.meeting_core.proofs.RulingLemmas.{change_of}
 use Rattle.desk_changes.specs.Writes.{can_make, is_placed}

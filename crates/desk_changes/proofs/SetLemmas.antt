@@ -29,7 +29,7 @@ use Rattle.desk_tables.proofs.ListLemmas.{sort_by-sorted}
 use Rattle.desk_tables.proofs.MeetingChanges.{days_set, keys_set, register_set}
 use Rattle.desk_tables.proofs.RecordLemmas.{is_other}
 use Rattle.desk_tables.proofs.Tests.{each_is}
-use Rattle.meeting_core.specs.Office.{new_lists}
+use Rattle.desk_words.specs.Changes.{new_lists}
 use Rattle.desk_changes.specs.Writes.{Turns, Writes, any_records, no_days, with_days, with_keys, with_resolutions, with_rows}
 use Rattle.desk_changes.proofs.MeetingAdded.{meeting_added}
 use Rattle.desk_changes.proofs.Possible.{placed_in}

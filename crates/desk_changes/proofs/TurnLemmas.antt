@@ -24,7 +24,7 @@ use Rattle.desk_tables.proofs.FlatChanges.{closed_changed, closed_held, keys_cha
 use Rattle.desk_tables.proofs.OfficeLemmas.{AreOf, are_of}
 use Rattle.desk_tables.proofs.RecordLemmas.{in_meeting}
 use Rattle.desk_tables.proofs.Tests.{bound, each_is}
-use Rattle.meeting_core.specs.Office.{after}
+use Rattle.desk_words.specs.Changes.{after}
 use Rattle.desk_changes.specs.Writes.{HoldsRecords, Turns, Writes, all_in, any_records, no_days, numbered, with_days, with_keys, with_resolutions, with_rows}
 use Rattle.desk_changes.proofs.Possible.{Possible, possible, version_kept}
 

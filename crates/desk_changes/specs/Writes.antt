@@ -18,7 +18,7 @@ use Rattle.desk_rows.specs.declared.kept.Version.{Version}
 use Rattle.desk_tables.specs.Contents.{desk}
 use Rattle.desk_tables.specs.Office.{FlatLists, flat_in, office_in}
 use Rattle.desk_tables.specs.Statements.{IsDesk, records_in}
-use Rattle.meeting_core.specs.Office.{after}
+use Rattle.desk_words.specs.Changes.{after}
 
 -- the meeting in which something is changed stands
 abbrev pub is_placed : OfficeLists → Change → Bool

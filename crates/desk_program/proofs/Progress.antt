@@ -11,7 +11,7 @@ use Rattle.desk_lines.specs.Reading.{SameWhole}
 use Rattle.desk_lines.proofs.Feeds.{feeds_in-append, feeds_in-none, feeds_in-line}
 use Rattle.desk_lines.proofs.LineLaws.{lines_of-cons}
 use Rattle.desk_words.specs.declared.office.OfficeLists.{OfficeLists}
-use Rattle.meeting_core.specs.Office.{empty_office}
+use Rattle.desk_words.specs.Changes.{empty_office}
 use Rattle.desk_program.proofs.RunLaws.{answered_in_turn}
 use Rattle.desk_program.specs.ReplaySteps.{standing, AnswersLine, AnswersInPart, Stops, Turns}
 use Rattle.desk_program.specs.Transcript.{answered, transcript, AreAnswered, IsAnsweredSoFar, IsAnsweredInPart, IsReplayedUntil}

@@ -12,7 +12,7 @@ use Rattle.desk_words.specs.declared.request.Call.{Call}
 use Rattle.desk_words.specs.declared.reply.Failure.TheVariants.{Memory}
 use Rattle.desk_words.specs.declared.reply.Reply.TheVariants.{Refused}
 use Rattle.desk_replies.specs.Replies.{reply_bytes, failure_bytes}
-use Rattle.meeting_core.specs.Office.{empty_office}
+use Rattle.desk_words.specs.Changes.{empty_office}
 use Rattle.meeting_core.specs.Step.{decided, run_of, stepped}
 use Rattle.desk_program.specs.ReplayLines.{asked_by}
 use Rattle.desk_program.specs.ReplayRuns.{as_line, calls_of, spread}

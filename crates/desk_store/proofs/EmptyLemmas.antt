@@ -9,7 +9,7 @@ use Rattle.desk_tables.specs.Contents as contents
 use Rattle.desk_tables.specs.Office.{flat_in, office_in, office_of}
 use Rattle.desk_tables.specs.Statements.{AddsFirst, AreEmpty, IsDesk, IsRising, is_table, records_in, table_numbers}
 use Rattle.desk_tables.specs.Tables.{desk_schema}
-use Rattle.meeting_core.specs.Office.{empty_office}
+use Rattle.desk_words.specs.Changes.{empty_office}
 use Rattle.desk_changes.specs.Writes.{version_one}
 use Rattle.desk_store.specs.Standing.{Stands}
 

@@ -10,7 +10,7 @@ use Rattle.desk_words.specs.declared.change.Change.{Change}
 use Rattle.desk_words.specs.declared.office.OfficeLists.{OfficeLists}
 use Rattle.desk_words.specs.declared.request.Call.{Call}
 use Rattle.desk_reading.proofs.ReadingLemmas.{keeps_then}
-use Rattle.meeting_core.specs.Office.{after_some}
+use Rattle.desk_words.specs.Changes.{after_some}
 use Rattle.meeting_core.specs.Step.{decided, stepped}
 use Rattle.desk_changes.specs.Writes.{Holds}
 use Rattle.desk_changes.proofs.Placed.{decided_can_make}

@@ -5,7 +5,7 @@ use Rattle.sqlite.specs.Held.{Held, state}
 use Rattle.sqlite.specs.Schema.{Schema}
 use Rattle.sqlite.specs.State.{HasCleanDisk, KeepsCommit, Survives}
 use Rattle.sqlite_trees.specs.declared.store.Store as store
-use Rattle.meeting_core.specs.Office.{empty_office}
+use Rattle.desk_words.specs.Changes.{empty_office}
 use Rattle.desk_tables.specs.Statements.{AreEmpty, Makes}
 use Rattle.desk_tables.specs.Tables.{no_schema}
 use Rattle.desk_store.specs.Standing.{Stands}

@@ -3,7 +3,7 @@ ghost use Rattle.std.specs.Prelude.{◌≡◌, ◌≢◌, false, IfErr, IfOk, Is
 ghost use Rattle.desk_store.specs.Standing.{Stands};
 ghost use Rattle.desk_store.specs.declared.fault.CreateFault.TheVariants.{NotEmpty};
 ghost use Rattle.desk_tables.specs.Tables.{no_schema};
-ghost use Rattle.meeting_core.specs.Office.{empty_office};
+ghost use Rattle.desk_words.specs.Changes.{empty_office};
 ghost use Rattle.sqlite.specs.Held.{state};
 ghost use Rattle.sqlite.specs.State.{HasCleanDisk};
 

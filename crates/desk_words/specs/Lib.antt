@@ -1,4 +1,5 @@
 pub mod Callers
+pub mod Changes
 pub mod Finding
 pub mod Keys
 pub mod Laws

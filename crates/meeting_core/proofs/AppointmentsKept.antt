@@ -24,7 +24,7 @@ use Rattle.caller_view.specs.Appointments.{given_numbered, is_ended}
 use Rattle.caller_view.specs.Own.{ended_at, given_in}
 use Rattle.proxy_rules.specs.Holdings.{is_ended_of}
 use Rattle.desk_words.proofs.OfficeFacts.{meeting_facts, meeting_from_facts}
-use Rattle.meeting_core.specs.Office.{entered}
+use Rattle.desk_words.specs.Changes.{entered}
 
 -- ---- an appointment more
 

@@ -20,7 +20,7 @@ use Rattle.desk_words.specs.declared.records.Authority.{Authority}
 use Rattle.desk_words.specs.declared.records.DemandMark.{DemandMark}
 use Rattle.desk_words.specs.declared.records.PresenceMark.{PresenceMark}
 use Rattle.desk_words.proofs.OfficeFacts.{meeting_facts, meeting_from_facts}
-use Rattle.meeting_core.specs.Office.{entered}
+use Rattle.desk_words.specs.Changes.{entered}
 
 -- ---- an authority more
 

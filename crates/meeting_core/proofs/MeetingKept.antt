@@ -27,7 +27,7 @@ use Rattle.caller_view.specs.Casts.{cast_count}
 use Rattle.desk_words.proofs.OfficeFacts.{meeting_facts, meeting_from_facts, find-passes}
 use Rattle.desk_words.specs.declared.change.MeetingChange.TheVariants.{SetRegister, SetOpened, AddPoll, SetPoll}
 use Rattle.desk_words.specs.declared.change.PollChange.TheVariants.{Started, Closed, Declared}
-use Rattle.meeting_core.specs.Office.{changed, change_poll, entered, moved}
+use Rattle.desk_words.specs.Changes.{changed, change_poll, entered, moved}
 
 pub implies_true : (b : Bool) → implies b true ≡ true
 implies_true true = refl

@@ -53,7 +53,7 @@ use Rattle.office_answers.specs.Limits.{if_any, is_within_limits, keeps_limits}
 use Rattle.office_answers.specs.Lists.{same_days}
 use Rattle.office_answers.specs.Polls.{open_cases, order_cases, poll_of, start_cases, close_cases, declare_cases, declaration_of}
 use Rattle.desk_words.proofs.OfficeFacts.{OfficeFacts, office_facts, office_from_facts, meeting_from_facts, find-passes}
-use Rattle.meeting_core.specs.Office.{after_some, change_meeting, changed, entered, new_lists}
+use Rattle.desk_words.specs.Changes.{after_some, change_meeting, changed, entered, new_lists}
 use Rattle.meeting_core.specs.Step.{ruling}
 use Rattle.meeting_core.proofs.AppointmentsKept.{appointment_kept, ending_kept, given_count, numbered_given, unended_none}
 use Rattle.meeting_core.proofs.AttendanceKept.{authority_kept, demand_kept, not_demanded, not_given, presence_kept, room_left}

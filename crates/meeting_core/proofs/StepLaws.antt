@@ -42,7 +42,7 @@ use Rattle.office_answers.specs.Limits.{if_any, keeps_limits}
 use Rattle.meeting_core.specs.Conditions.{ConditionsStandInOrder, TheLowestRefusalIsAnswered}
 use Rattle.meeting_core.specs.Laws.{LeavesThePublicRecord, ReadsTheViews, RefusedCallsHaveNoChange, RefusedCallsLeaveTheOffice}
 use Rattle.meeting_core.specs.Names.{Names, NamesOwn, in_appointment, in_authority, in_cast, in_mine, in_reply, in_row, in_view}
-use Rattle.meeting_core.specs.Office.{after_some, change_at, changed, sets_fields}
+use Rattle.desk_words.specs.Changes.{after_some, change_at, changed, sets_fields}
 use Rattle.meeting_core.specs.Step.{decided, is_at_once_to, needs_no_memory, party_answer, ruling}
 use Rattle.meeting_core.proofs.OfficeKept.{entered_meeting, entered_polls, party_found}
 use Rattle.meeting_core.proofs.RulingLemmas.{change_of, lowest_of, quiet_of, settled_within}

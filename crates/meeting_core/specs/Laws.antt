@@ -9,7 +9,7 @@ use Rattle.desk_words.specs.declared.request.Request.{Request}
 use Rattle.desk_words.specs.declared.request.Request.TheVariants as asked
 use Rattle.desk_terms.specs.declared.refusal.Refusal.{Refusal}
 use Rattle.caller_view.specs.Views.{public_of, own_of}
-use Rattle.meeting_core.specs.Office.{after_some}
+use Rattle.desk_words.specs.Changes.{after_some}
 use Rattle.meeting_core.specs.Step.{Answering, decided, stepped}
 
 -- two offices agree on the public record and on a party's own things in a meeting

@@ -1,6 +1,5 @@
 pub mod Conditions
 pub mod Laws
 pub mod Names
-pub mod Office
 pub mod Step
 pub mod WrongAnswers

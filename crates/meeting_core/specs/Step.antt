@@ -21,7 +21,7 @@ use Rattle.desk_terms.specs.declared.refusal.Refusal.TheVariants.{OfficeOnly, Pa
 use Rattle.caller_view.specs.Answers.{party_ruling}
 use Rattle.caller_view.specs.Views.{meeting_at, own_of, public_of}
 use Rattle.office_answers.specs.Answers.{desk_ruling, is_refused_at_once, office_ruling}
-use Rattle.meeting_core.specs.Office.{after_some}
+use Rattle.desk_words.specs.Changes.{after_some}
 
 -- a party calls
 abbrev pub is_party : Caller → Bool

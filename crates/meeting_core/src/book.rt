@@ -10,7 +10,7 @@ ghost use Rattle.desk_words.specs.declared.change.Change.TheVariants as change;
 ghost use Rattle.desk_words.specs.declared.change.MeetingChange.TheVariants as meeting_change;
 ghost use Rattle.office_answers.specs.Answers.{office_ruling, refuses_at_once, takes_no_memory};
 ghost use Rattle.office_answers.specs.Limits.{if_any, is_within_limits, keeps_limits};
-ghost use Rattle.meeting_core.specs.Office.{after, after_some, empty_office, sets_fields};
+ghost use Rattle.desk_words.specs.Changes.{after, after_some, empty_office, sets_fields};
 ghost use Rattle.meeting_core.specs.Step.{decided, is_at_once_to, needs_no_memory, stepped};
 
 mod lists;

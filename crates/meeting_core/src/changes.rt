@@ -4,7 +4,7 @@ ghost use Rattle.std.specs.List.{position_from};
 ghost use Rattle.desk_words.specs.declared.records.Poll.{Poll};
 ghost use Rattle.desk_lists.specs.Sorting.{insert_by};
 ghost use Rattle.desk_words.specs.Office.{poll_before};
-ghost use Rattle.meeting_core.specs.Office.{change_at, change_poll, changed, entered, moved, new_lists, sets_in_meeting};
+ghost use Rattle.desk_words.specs.Changes.{change_at, change_poll, changed, entered, moved, new_lists, sets_in_meeting};
 
 use desk_words::{
     CastKind, CastMark, Entry, Filed, Listing, Meeting, MeetingChange, MeetingId, MeetingLists,

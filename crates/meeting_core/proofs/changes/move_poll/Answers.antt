@@ -2,7 +2,7 @@ use Rattle.std.proofs.Common.{◌==◌, sym, ◌∙◌, ap}
 use Rattle.desk_lists.proofs.ChangeFirst.{change_first-found, change_first-absent}
 use Rattle.desk_words.specs.declared.records.Poll.{Poll}
 use Rattle.desk_words.specs.Finding.{poll_on}
-use Rattle.meeting_core.specs.Office.{change_poll, moved}
+use Rattle.desk_words.specs.Changes.{change_poll, moved}
 use Rattle.meeting_core.proofs.changes.move_poll.Goals as goal
 
 pub returns-in-Some : goal.returns-in-Some

@@ -3,7 +3,7 @@ use Rattle.desk_words.specs.declared.office.OfficeLists.{OfficeLists}
 use Rattle.desk_words.specs.Office.{is_office}
 use Rattle.desk_words.specs.declared.answer.Answer.{Answer}
 use Rattle.desk_words.specs.declared.change.Change.{Change}
-use Rattle.meeting_core.specs.Office.{after_some}
+use Rattle.desk_words.specs.Changes.{after_some}
 use Rattle.office_answers.specs.Limits.{if_any, keeps_limits}
 use Rattle.meeting_core.proofs.OfficeKept.{step_kept}
 use Rattle.meeting_core.proofs.book.Book.decide.Goals as goal

@@ -1,7 +1,7 @@
 use Rattle.std.proofs.Common.{◌≡◌, true, false, Some, None, ap, sym, ◌∙◌}
 use Rattle.office_answers.specs.Limits.{if_any}
 use Rattle.meeting_core.proofs.StepLaws.{at_once_quiet, sets_alone}
-use Rattle.meeting_core.specs.Office.{sets_fields}
+use Rattle.desk_words.specs.Changes.{sets_fields}
 use Rattle.meeting_core.proofs.book.Book.step.Goals as goal
 
 -- what needs no memory has no change that memory could be refused to

@@ -1,8 +1,8 @@
 -- The empty office, and what a change leaves.
 use Rattle.std.specs.Prelude.{Bool, true, false, ◌==◌, List, [], ◌∷◌, ◌++◌, Option, Some, None}
 use Rattle.desk_lists.specs.Sorting.{insert_by}
-use Rattle.desk_words.specs.Edits.{change_first}
-use Rattle.desk_words.specs.Names.{same_name}
+use Rattle.desk_lists.specs.Lists.{change_first}
+use Rattle.desk_terms.specs.Names.{same_name}
 use Rattle.desk_words.specs.Office.{poll_before}
 use Rattle.desk_words.specs.Seen.{MeetingName, Number}
 use Rattle.desk_words.specs.declared.change.Change.{Change}
