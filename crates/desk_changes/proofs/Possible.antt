@@ -21,7 +21,8 @@ use Rattle.desk_tables.specs.Statements.{Changes, CommitsNothing, Does, KeepsOth
 use Rattle.desk_tables.proofs.OfficeLemmas.{AreOf, are_of}
 use Rattle.desk_tables.proofs.Tests.{bound, each_is}
 use Rattle.desk_words.specs.Changes.{after}
-use Rattle.desk_changes.specs.Writes.{Holds, IsVersionOne, Writes, can_make, is_placed}
+use Rattle.desk_changes.specs.Writes.{Holds, Writes, can_make, is_placed}
+use Rattle.desk_tables.specs.Standing.{IsVersionOne}
 
 -- an office: its meetings differ, and each is one
 pub record IsOffice (office : OfficeLists) : Type 0 where

@@ -14,10 +14,9 @@ use Rattle.desk_words.specs.declared.records.RegisterRow.{RegisterRow}
 use Rattle.desk_words.specs.declared.records.Resolution.{Resolution}
 use Rattle.desk_rows.specs.declared.kept.InMeeting.{InMeeting}
 use Rattle.desk_rows.specs.declared.kept.NumberedResolution.{NumberedResolution}
-use Rattle.desk_rows.specs.declared.kept.Version.{Version}
-use Rattle.desk_tables.specs.Contents.{desk}
 use Rattle.desk_tables.specs.Office.{FlatLists, flat_in, office_in}
-use Rattle.desk_tables.specs.Statements.{IsDesk, records_in}
+use Rattle.desk_tables.specs.Standing.{IsVersionOne}
+use Rattle.desk_tables.specs.Statements.{IsDesk}
 use Rattle.desk_words.specs.Changes.{after}
 
 -- the meeting in which something is changed stands
@@ -29,14 +28,6 @@ is_placed office other = true
 abbrev pub can_make : OfficeLists → Change → Bool
 can_make office change =
     is_office office && is_placed office change && is_office (after office change)
-
--- the version of the tables that this desk makes and reads
-abbrev pub version_one : Version
-version_one = record { number = 1 }
-
--- the tables note that they are of version 1, once
-abbrev pub IsVersionOne : State → Type 0
-IsVersionOne s = records_in desk s.now.trees ≡ Some (version_one ∷ [])
 
 -- in a transaction the tables are those of a desk, of version 1, and they are this office
 pub record Holds (office : OfficeLists) (s : State) : Type 0 where

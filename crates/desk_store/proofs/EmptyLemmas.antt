@@ -10,8 +10,8 @@ use Rattle.desk_tables.specs.Office.{flat_in, office_in, office_of}
 use Rattle.desk_tables.specs.Statements.{AddsFirst, AreEmpty, IsDesk, IsRising, is_table, records_in, table_numbers}
 use Rattle.desk_tables.specs.Tables.{desk_schema}
 use Rattle.desk_words.specs.Changes.{empty_office}
-use Rattle.desk_changes.specs.Writes.{version_one}
-use Rattle.desk_store.specs.Standing.{Stands}
+use Rattle.desk_tables.specs.Standing.{version_one}
+use Rattle.desk_tables.specs.Standing.{Stands}
 
 number_is : (m n : ℕ) → (m == n) ≡ true → m ≡ n
 number_is m n h = grind (arith, nat_tests)

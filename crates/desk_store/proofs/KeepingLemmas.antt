@@ -6,7 +6,7 @@ use Rattle.desk_words.specs.declared.office.OfficeLists.{OfficeLists}
 use Rattle.desk_tables.specs.Contents.{desk}
 use Rattle.desk_tables.specs.Office.{office_in}
 use Rattle.desk_tables.specs.Statements.{IsRising, records_in}
-use Rattle.desk_store.specs.Standing.{Stands}
+use Rattle.desk_tables.specs.Standing.{Stands}
 
 -- tables that are the same stand for the same office
 pub stands_same : (old new : State) (office : OfficeLists) → new.now ≡ old.now → Stands old office → Stands new office

@@ -4,7 +4,7 @@ use Rattle.sqlite.specs.Held.{Held, state}
 use Rattle.sqlite.specs.State.{State, HasCleanDisk, KeepsCommit}
 use Rattle.sqlite.proofs.StateLemmas.{survives_then}
 use Rattle.sqlite_trees.specs.declared.store.Store as store
-use Rattle.desk_changes.specs.Writes.{version_one}
+use Rattle.desk_tables.specs.Standing.{version_one}
 use Rattle.desk_tables.specs.Contents as contents
 use Rattle.desk_tables.specs.Statements.{AddsFirst, CommitsNothing, Does}
 use Rattle.desk_tables.specs.Tables.{desk_schema, no_schema}

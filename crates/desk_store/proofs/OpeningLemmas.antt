@@ -25,7 +25,7 @@ use Rattle.desk_tables.proofs.Tests.{bound}
 use Rattle.desk_reading.specs.Reading.{IsReading}
 use Rattle.office_checks.specs.InOrder.{in_order, office_in_order}
 use Rattle.desk_store.specs.Opening.{HoldsOffice, IsVerdict}
-use Rattle.desk_store.specs.Standing.{HasNoOffice}
+use Rattle.desk_tables.specs.Standing.{HasNoOffice}
 use Rattle.desk_store.specs.declared.fault.OpenFault.{OpenFault}
 use Rattle.desk_store.specs.declared.fault.OpenFault.TheVariants.{NotADesk, NewerVersion, Store, Memory}
 use Rattle.desk_store.proofs.OrderedOffice.{office_ordered}

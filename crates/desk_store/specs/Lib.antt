@@ -3,4 +3,3 @@ pub mod Making
 pub mod Opening
 pub mod Reads
 pub mod Runs
-pub mod Standing

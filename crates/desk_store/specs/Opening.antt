@@ -11,10 +11,10 @@ use Rattle.desk_words.specs.Office.{is_office}
 use Rattle.desk_rows.specs.declared.kept.Version.{Version}
 use Rattle.desk_tables.specs.Office.{office_in}
 use Rattle.desk_tables.specs.Statements.{ChangesNothing, IsRead}
-use Rattle.desk_changes.specs.Writes.{IsVersionOne}
+use Rattle.desk_tables.specs.Standing.{IsVersionOne}
 use Rattle.desk_reading.specs.declared.fault.ReadFault.{ReadFault}
 use Rattle.desk_reading.specs.declared.fault.ReadFault.TheVariants as reading
-use Rattle.desk_store.specs.Standing.{HasNoOffice, HasNoVersion, IsNewer}
+use Rattle.desk_tables.specs.Standing.{HasNoOffice, HasNoVersion, IsNewer}
 use Rattle.desk_store.specs.declared.fault.OpenFault.{OpenFault}
 use Rattle.desk_store.specs.declared.fault.OpenFault.TheVariants.{NotADesk, NewerVersion}
 use Rattle.desk_store.specs.declared.fault.OpenFault.TheVariants.{Store, Memory}

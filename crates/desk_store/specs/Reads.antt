@@ -1,5 +1,6 @@
 -- What a reading of the tables tells, and what is decided is written into them.
-use Rattle.std.specs.Prelude.{◌≡◌, ℕ, Bool, List, Option, Some, None, Result, IfOk, OnOk, IsTrue}
+use Rattle.std.specs.Prelude.{◌≡◌, ℕ, Bool, List, Option, Some, None, find, option_map, Result, IfOk, OnOk, IsTrue}
+use Rattle.desk_terms.specs.Names.{same_name}
 use Rattle.sqlite.specs.declared.error.Error.{Error}
 use Rattle.sqlite.specs.Held.{Held, state}
 use Rattle.sqlite.specs.State.{HasCleanDisk, IsUnchanged, KeepsCommit, Survives}
@@ -7,6 +8,7 @@ use Rattle.sqlite_trees.specs.declared.store.Store as store
 use Rattle.desk_words.specs.Office.{is_office}
 use Rattle.desk_words.specs.declared.answer.Answer.{Answer}
 use Rattle.desk_words.specs.declared.caller.Caller.{Caller}
+use Rattle.desk_words.specs.declared.caller.KeyRow.{KeyRow}
 use Rattle.desk_words.specs.declared.change.Change.{Change}
 use Rattle.desk_words.specs.declared.office.OfficeLists.{OfficeLists}
 use Rattle.desk_words.specs.declared.request.Call.{Call}
@@ -15,7 +17,7 @@ use Rattle.desk_reading.specs.declared.fault.ReadFault.{ReadFault}
 use Rattle.desk_words.specs.Changes.{after_some}
 use Rattle.meeting_core.specs.Step.{decided}
 use Rattle.desk_changes.specs.Writes.{Holds, can_make}
-use Rattle.desk_store.specs.Standing.{Stands, caller_with}
+use Rattle.desk_tables.specs.Standing.{Stands}
 
 -- what is told is so of the office for which the tables stand, and nothing is changed
 pub record IsTold {S X : Type 0} (g : store.Ghosts S) (old new : Held S)
@@ -28,6 +30,11 @@ pub record IsTold {S X : Type 0} (g : store.Ghosts S) (old new : Held S)
 -- it is the office
 abbrev pub IsWhole : OfficeLists → OfficeLists → Type 0
 IsWhole office book = book ≡ office
+
+-- the caller whose key it is, or none where no key equals it
+abbrev pub caller_with : List KeyRow → List ℕ → Option Caller
+caller_with keys key =
+    option_map (λ (row : KeyRow). row.caller) (find (λ (row : KeyRow). same_name row.secret key) keys)
 
 -- it is the caller whose key that is
 abbrev pub IsCallerWith : List ℕ → OfficeLists → Option Caller → Type 0

@@ -1,10 +1,10 @@
 //! A desk that was kept.
 ghost use Rattle.std.specs.Prelude.{◌≡◌, ◌≢◌, ◌≤◌, ◌⊎◌, false, [], ◌∷◌, Err};
 ghost use Rattle.std.specs.Prelude.{IfErr, IfOk, IsTrue, OnErr, OnOk};
-ghost use Rattle.desk_changes.specs.Writes.{IsVersionOne, version_one};
+ghost use Rattle.desk_tables.specs.Standing.{IsVersionOne, version_one};
 ghost use Rattle.desk_store.specs.Opening.{HandsBack, HoldsOffice, IsCause, IsCleanBack, IsInNone};
 ghost use Rattle.desk_store.specs.Opening.{IsVerdict, IsVersionFault, KeepsNone, KeepsOffice};
-ghost use Rattle.desk_store.specs.Standing.{HasNoOffice, HasNoVersion, Stands};
+ghost use Rattle.desk_tables.specs.Standing.{HasNoOffice, HasNoVersion, Stands};
 ghost use Rattle.desk_store.specs.declared.fault.OpenFault.TheVariants.{NotADesk, NewerVersion};
 ghost use Rattle.desk_tables.specs.Statements.{IsDesk};
 ghost use Rattle.desk_tables.specs.Tables.{desk_schema};

@@ -1,7 +1,8 @@
 //! What the tables say, without a change.
 ghost use Rattle.std.specs.Prelude.{◌≡◌, IfOk, IsTrue};
 ghost use Rattle.caller_view.specs.Views.{public_of};
-ghost use Rattle.desk_store.specs.Standing.{Stands, caller_with};
+ghost use Rattle.desk_store.specs.Reads.{caller_with};
+ghost use Rattle.desk_tables.specs.Standing.{Stands};
 ghost use Rattle.desk_words.specs.declared.office.OfficeLists.{OfficeLists};
 ghost use Rattle.sqlite.specs.Held.{state};
 ghost use Rattle.sqlite.specs.State.{HasCleanDisk};

@@ -1,4 +1,5 @@
 pub mod Contents
 pub mod Office
+pub mod Standing
 pub mod Statements
 pub mod Tables

@@ -9,7 +9,7 @@ use Rattle.desk_words.specs.Changes.{empty_office}
 use Rattle.desk_endings.specs.Endings.{Ending, ending, ended_by}
 use Rattle.desk_endings.specs.declared.ended.Fault.{Fault}
 use Rattle.desk_endings.specs.declared.ended.Fault.TheVariants as fault
-use Rattle.desk_store.specs.Standing.{Stands}
+use Rattle.desk_tables.specs.Standing.{Stands}
 use Rattle.desk_store.specs.declared.fault.OpenFault.{OpenFault}
 use Rattle.desk_store.specs.declared.fault.OpenFault.TheVariants as opening
 

@@ -1,16 +1,20 @@
 -- What it means that tables stand for an office, and which are a later version's or no desk's.
-use Rattle.std.specs.Prelude.{◌≡◌, ◌≤◌, ℕ, List, [], ◌∷◌, Option, Some, find, option_map, false, IsTrue}
+use Rattle.std.specs.Prelude.{◌≡◌, ◌≤◌, [], ◌∷◌, Some, false, IsTrue}
 use Rattle.sqlite.specs.State.{State}
-use Rattle.desk_terms.specs.Names.{same_name}
-use Rattle.desk_words.specs.declared.caller.Caller.{Caller}
-use Rattle.desk_words.specs.declared.caller.KeyRow.{KeyRow}
 use Rattle.desk_words.specs.declared.office.OfficeLists.{OfficeLists}
 use Rattle.desk_words.specs.Office.{is_office}
 use Rattle.desk_rows.specs.declared.kept.Version.{Version}
 use Rattle.desk_tables.specs.Contents.{desk}
 use Rattle.desk_tables.specs.Office.{office_in}
 use Rattle.desk_tables.specs.Statements.{IsDesk, records_in}
-pub use Rattle.desk_changes.specs.Writes.{IsVersionOne, version_one}
+
+-- the version of the tables that this desk makes and reads
+abbrev pub version_one : Version
+version_one = record { number = 1 }
+
+-- the tables note that they are of version 1, once
+abbrev pub IsVersionOne : State → Type 0
+IsVersionOne s = records_in desk s.now.trees ≡ Some (version_one ∷ [])
 
 -- the tables are a desk's, of version 1, and what they hold is the office
 pub record Stands (s : State) (office : OfficeLists) : Type 0 where
@@ -34,8 +38,3 @@ HasNoVersion s =
 abbrev pub HasNoOffice : State → Type 0
 HasNoOffice s =
     (office : OfficeLists) → office_in s.now.trees ≡ Some office → is_office office ≡ false
-
--- the caller whose key it is, or none where no key equals it
-abbrev pub caller_with : List KeyRow → List ℕ → Option Caller
-caller_with keys key =
-    option_map (λ (row : KeyRow). row.caller) (find (λ (row : KeyRow). same_name row.secret key) keys)
