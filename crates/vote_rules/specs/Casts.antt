@@ -12,18 +12,12 @@ use Rattle.desk_words.specs.declared.records.CastKind.{CastKind}
 use Rattle.desk_words.specs.declared.records.CastKind.TheVariants as cast
 use Rattle.desk_words.specs.declared.records.CastMark.{CastMark}
 use Rattle.proxy_rules.specs.Instructions.{instructed_on}
+use Rattle.proxy_rules.specs.Parties.{same_capacity}
 
 -- the first value that a function gives over a list
 abbrev pub find_map : {X Y : Type 0} → (X → Option Y) → List X → Option Y
 find_map f [] = None
 find_map f (x ∷ xs) = option_or (f x) (find_map f xs)
-
--- both are the same capacity
-abbrev pub same_capacity : Capacity → Capacity → Bool
-same_capacity Member Member = true
-same_capacity Rep Rep = true
-same_capacity Proxy Proxy = true
-same_capacity _ _ = false
 
 -- a share in a poll: who holds it, its place in the holding, and the appointment that governs it
 -- (section 324)
