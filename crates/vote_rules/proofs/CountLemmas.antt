@@ -4,7 +4,6 @@ use Rattle.std.specs.Prelude.{Option, Some, None, All, sum_by}
 use Rattle.std.specs.Cmp.Derive.{both_true}
 use Rattle.std.proofs.lemmas.List.Sums.{sum_by-cons, sum_by_more, sum_by_more_le, sum_by_more_le_part, sum_by-le-sum_by}
 use Rattle.std.proofs.lemmas.List.Elements.{All-cons, All-head, All-nil, All-tail}
-use Rattle.desk_lists.proofs.Booleans.{one_at_most}
 use Rattle.std.proofs.lemmas.Bool.{eqb-true, le-leb}
 use Rattle.desk_terms.specs.Places.{Places, places_that}
 use Rattle.desk_terms.specs.declared.kinds.Way.{Way}

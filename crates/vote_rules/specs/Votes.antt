@@ -1,7 +1,6 @@
 -- The valid vote of a share.
-use Rattle.std.specs.Prelude.{Bool, List, [], ◌∷◌, map, filter, Option, Some, None, option_map, option_and_then, if◌then◌else◌}
+use Rattle.std.specs.Prelude.{List, [], ◌∷◌, Option, Some, None, option_map, option_and_then, if◌then◌else◌}
 use Rattle.std.specs.List.{filter_map, list_all, slice_get}
-use Rattle.desk_terms.specs.Names.{same_name}
 use Rattle.desk_terms.specs.declared.kinds.Capacity.{Capacity}
 use Rattle.desk_terms.specs.declared.kinds.Capacity.TheVariants.{Member, Rep, Proxy}
 use Rattle.desk_terms.specs.declared.kinds.Way.{Way}
