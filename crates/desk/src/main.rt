@@ -3,13 +3,14 @@
 
 ghost use Rattle.std.specs.Prelude.{◌≡◌, false, IfOk};
 
-use desk_commands::{Plan, Zone, read_words};
+use desk_commands::{Plan, read_words};
 use desk_devices::{ReadDevice, WriteDevice};
 use desk_endings::{Ended, Fault, Line};
 use desk_store::Desk;
 use desk_tasks::{by_file_error, by_open, moment_at};
 use desk_words::{MeetingId, Moment};
 use jiff::Timestamp;
+use office_clock::OfficeZone;
 use sqlite::{Connection, FileFrom, FileStore, Wary};
 use std::io::{self, ErrorKind};
 use std::process::ExitCode;
@@ -66,9 +67,9 @@ fn close(desk: Desk<DeskFile>) {
 }
 
 /// The moment on the office's wall clock.
-fn now(rt: &HostRuntime, zone: &Zone<'_>) -> Result<Moment, Ended> {
+fn now(rt: &HostRuntime, zone: &OfficeZone) -> Result<Moment, Ended> {
     let instant = Timestamp::now(rt).map_err(|_| Ended::by(Fault::Clock))?;
-    moment_at(instant, &zone.zone)
+    moment_at(instant, zone)
 }
 
 fn open_reader(rt: &HostRuntime, file: &str) -> Result<ReadDevice<fs::File>, Ended> {
@@ -83,7 +84,7 @@ fn init(rt: &HostRuntime, file: &str) -> Result<Ended, Ended> {
     Ok(ended)
 }
 
-fn keys(rt: &HostRuntime, file: &str, csv: &str, zone: &Zone<'_>) -> Result<Ended, Ended> {
+fn keys(rt: &HostRuntime, file: &str, csv: &str, zone: &OfficeZone) -> Result<Ended, Ended> {
     let mut desk = open_desk(rt, file)?;
     let now = now(rt, zone)?;
     let mut reader = open_reader(rt, csv)?;
@@ -92,7 +93,7 @@ fn keys(rt: &HostRuntime, file: &str, csv: &str, zone: &Zone<'_>) -> Result<Ende
     Ok(ended)
 }
 
-fn days(rt: &HostRuntime, file: &str, txt: &str, zone: &Zone<'_>) -> Result<Ended, Ended> {
+fn days(rt: &HostRuntime, file: &str, txt: &str, zone: &OfficeZone) -> Result<Ended, Ended> {
     let mut desk = open_desk(rt, file)?;
     let now = now(rt, zone)?;
     let mut reader = open_reader(rt, txt)?;
@@ -107,7 +108,7 @@ fn register(
     meeting: MeetingId,
     record_moment: Moment,
     csv: &str,
-    zone: &Zone<'_>,
+    zone: &OfficeZone,
 ) -> Result<Ended, Ended> {
     let mut desk = open_desk(rt, file)?;
     let now = now(rt, zone)?;
