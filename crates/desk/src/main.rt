@@ -1,25 +1,18 @@
 //! The desk of a company's general meetings.
 #![tactic(auto)]
 
-ghost use Rattle.std.specs.Prelude.{◌≡◌, false, IfOk};
-
 use desk_commands::{Plan, read_words};
 use desk_devices::{ReadDevice, WriteDevice};
+use desk_disk::DiskDesk;
 use desk_endings::{Ended, Fault, Line};
-use desk_store::Desk;
-use desk_tasks::{by_file_error, by_open, moment_at};
+use desk_tasks::moment_at;
 use desk_words::{MeetingId, Moment};
 use jiff::Timestamp;
 use office_clock::OfficeZone;
-use sqlite::{Connection, FileFrom, FileStore, Wary};
 use std::io::{self, ErrorKind};
 use std::process::ExitCode;
 use std::rt::Env;
 use std::{env, fs};
-
-/// The store of a desk's file: it waits for the disk at each commit, and supposes nothing of what a
-/// power cut leaves of a write.
-type DeskFile = FileStore<FileFrom<Wary>>;
 
 /// The words of the program, without its own name. Words that are no text ask for nothing.
 fn words(rt: &(impl Env + AllocGlobal)) -> Result<Vec<String>, Ended> {
@@ -41,31 +34,6 @@ fn by_words_error(error: io::Error) -> Ended {
     }
 }
 
-/// Opens a file as a database. It is made where it is not there.
-fn connect(rt: &HostRuntime, file: &str) -> Result<Connection<DeskFile>, Ended>
-    ensures { IfOk result (λ conn. conn.in_transaction ≡ false) }
-{
-    match Connection::open_from(rt, file, false, Wary) {
-        Ok(conn) => Ok(conn),
-        Err((error, _)) => Err(by_file_error(error)),
-    }
-}
-
-/// Opens the desk that a file is. A file that is not there is not made.
-fn open_desk(rt: &HostRuntime, file: &str) -> Result<Desk<DeskFile>, Ended> {
-    if fs::metadata(rt, file).is_err() {
-        return Err(Ended::by(Fault::Store));
-    }
-    let conn = connect(rt, file)?;
-    Desk::open(rt.alloc(), conn).map_err(|(fault, _)| by_open(fault))
-}
-
-/// Copies what was committed from the log into the desk's file. Where that fails, it is in the log,
-/// and the next opening finds it there.
-fn close(desk: Desk<DeskFile>) {
-    let _ = desk.close().close();
-}
-
 /// The moment on the office's wall clock.
 fn now(rt: &HostRuntime, zone: &OfficeZone) -> Result<Moment, Ended> {
     let instant = Timestamp::now(rt).map_err(|_| Ended::by(Fault::Clock))?;
@@ -77,28 +45,21 @@ fn open_reader(rt: &HostRuntime, file: &str) -> Result<ReadDevice<fs::File>, End
     Ok(ReadDevice::new(file))
 }
 
-fn init(rt: &HostRuntime, file: &str) -> Result<Ended, Ended> {
-    let conn = connect(rt, file)?;
-    let (ended, conn) = desk_tasks::init(rt.alloc(), conn);
-    let _ = conn.close();
-    Ok(ended)
-}
-
 fn keys(rt: &HostRuntime, file: &str, csv: &str, zone: &OfficeZone) -> Result<Ended, Ended> {
-    let mut desk = open_desk(rt, file)?;
+    let mut desk = DiskDesk::open(rt, file)?;
     let now = now(rt, zone)?;
     let mut reader = open_reader(rt, csv)?;
-    let ended = desk_tasks::keys(rt.alloc(), &mut desk, now, &mut reader);
-    close(desk);
+    let ended = desk.keys(rt.alloc(), now, &mut reader);
+    desk.close();
     Ok(ended)
 }
 
 fn days(rt: &HostRuntime, file: &str, txt: &str, zone: &OfficeZone) -> Result<Ended, Ended> {
-    let mut desk = open_desk(rt, file)?;
+    let mut desk = DiskDesk::open(rt, file)?;
     let now = now(rt, zone)?;
     let mut reader = open_reader(rt, txt)?;
-    let ended = desk_tasks::days(rt.alloc(), &mut desk, now, &mut reader);
-    close(desk);
+    let ended = desk.days(rt.alloc(), now, &mut reader);
+    desk.close();
     Ok(ended)
 }
 
@@ -110,26 +71,19 @@ fn register(
     csv: &str,
     zone: &OfficeZone,
 ) -> Result<Ended, Ended> {
-    let mut desk = open_desk(rt, file)?;
+    let mut desk = DiskDesk::open(rt, file)?;
     let now = now(rt, zone)?;
     let mut reader = open_reader(rt, csv)?;
-    let ended = desk_tasks::register(
-        rt.alloc(),
-        &mut desk,
-        now,
-        meeting,
-        record_moment,
-        &mut reader,
-    );
-    close(desk);
+    let ended = desk.register(rt.alloc(), now, meeting, record_moment, &mut reader);
+    desk.close();
     Ok(ended)
 }
 
 fn results(rt: &HostRuntime, file: &str, meeting: MeetingId) -> Result<Ended, Ended> {
-    let mut desk = open_desk(rt, file)?;
+    let mut desk = DiskDesk::open(rt, file)?;
     let mut writer = WriteDevice::new(io::writer(rt));
-    let ended = desk_tasks::results(rt.alloc(), &mut desk, meeting, &mut writer);
-    close(desk);
+    let ended = desk.results(rt.alloc(), meeting, &mut writer);
+    desk.close();
     Ok(ended)
 }
 
@@ -143,7 +97,7 @@ fn replay(rt: &HostRuntime) -> Ended {
 fn run(rt: &HostRuntime) -> Result<Ended, Ended> {
     let words = words(rt)?;
     match read_words(rt.alloc(), &words).map_err(Ended::by_words)? {
-        Plan::Init { file } => init(rt, file),
+        Plan::Init { file } => Ok(desk_disk::create(rt, file)),
         Plan::Keys { file, csv, zone } => keys(rt, file, csv, &zone),
         Plan::Days { file, txt, zone } => days(rt, file, txt, &zone),
         Plan::Register {

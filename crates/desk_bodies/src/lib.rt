@@ -18,8 +18,10 @@ mod poll;
 mod presence;
 mod register;
 mod request;
+mod route;
 mod verb;
 
 pub use ask::Ask;
 pub use request::request_of;
+pub use route::{Route, route_of};
 pub use verb::{OfficeVerb, PartyVerb, Verb};

@@ -20,8 +20,8 @@ use Rattle.desk_tables.specs.Office.{FlatLists, flat_in, office_in, office_of}
 use Rattle.desk_tables.specs.Statements.{Changes, CommitsNothing, Does, KeepsOthers, TableOf, columns_of}
 use Rattle.desk_tables.proofs.OfficeLemmas.{AreOf, are_of}
 use Rattle.desk_tables.proofs.Tests.{bound, each_is}
-use Rattle.desk_words.specs.Changes.{after}
-use Rattle.desk_changes.specs.Writes.{Holds, Writes, can_make, is_placed}
+use Rattle.desk_words.specs.Changes.{after, can_make, is_placed}
+use Rattle.desk_changes.specs.Writes.{Holds, Writes}
 use Rattle.desk_tables.specs.Standing.{IsVersionOne}
 
 -- an office: its meetings differ, and each is one

@@ -14,9 +14,9 @@ use Rattle.desk_words.specs.declared.office.OfficeLists.{OfficeLists}
 use Rattle.desk_words.specs.declared.request.Call.{Call}
 use Rattle.desk_tables.specs.Statements.{ChangesNothing, IsRead}
 use Rattle.desk_reading.specs.declared.fault.ReadFault.{ReadFault}
-use Rattle.desk_words.specs.Changes.{after_some}
+use Rattle.desk_words.specs.Changes.{after_some, can_make}
 use Rattle.meeting_core.specs.Step.{decided}
-use Rattle.desk_changes.specs.Writes.{Holds, can_make}
+use Rattle.desk_changes.specs.Writes.{Holds}
 use Rattle.desk_tables.specs.Standing.{Stands}
 
 -- what is told is so of the office for which the tables stand, and nothing is changed

@@ -13,6 +13,7 @@ use crate::reading::{failure_of, read_book};
 use desk_changes::write;
 use desk_reading::ReadFault;
 use desk_words::{Answer, Call, Caller, Change, Failure, Reply};
+use meeting_core::laws::decided_changes_can_be_made;
 use sqlite::{Alter, Error, Transaction};
 use std::alloc::{AllocError, Global};
 
@@ -110,6 +111,7 @@ fn step<S: Alter, T: Drop, F: FnOnce(&Reply) -> Result<T, AllocError>>(
         (λ _. ⊥) }
 {
     let answer = decide(tx, alloc, call)?;
+    decided_changes_can_be_made();
     write_if_any(tx, alloc, &answer)?;
     Ok(show(&answer.reply)?)
 }

@@ -3,7 +3,6 @@ use Rattle.std.proofs.Common.{◌≡◌, ℕ, Bool, true, false, List, Option, S
 use Rattle.std.specs.Prelude.{option_map}
 use Rattle.desk_words.specs.Finding.{meeting_named}
 use Rattle.desk_words.specs.Keys.{same_keys}
-use Rattle.desk_words.specs.Office.{is_office}
 use Rattle.desk_words.specs.Rulings.{Ruling, in_found, loaded}
 use Rattle.desk_words.specs.declared.caller.Caller.{Caller}
 use Rattle.desk_words.specs.declared.caller.Caller.TheVariants as caller
@@ -23,10 +22,10 @@ use Rattle.caller_view.specs.Answers.{ruling_in as party_in}
 use Rattle.caller_view.specs.Views.{meeting_at, own_of, public_of}
 use Rattle.office_answers.specs.Answers.{desk_ruling, ruling_in as office_in}
 use Rattle.office_answers.specs.Lists.{same_days}
-use Rattle.desk_words.specs.Changes.{after, after_some}
+use Rattle.desk_words.specs.Changes.{is_placed}
+use Rattle.meeting_core.specs.Decisions.{DecidedChangesCanBeMade}
 use Rattle.meeting_core.specs.Step.{decided, ruling}
 use Rattle.meeting_core.proofs.RulingLemmas.{change_of}
-use Rattle.desk_changes.specs.Writes.{can_make, is_placed}
 
 -- a change, if there is one, is made in a meeting that stands
 abbrev is_placed_if_any : OfficeLists → Option Change → Bool
@@ -68,14 +67,11 @@ accepted_placed office now (caller.Party party) (asked.Party meeting what) =
 accepted_placed office now (caller.Party party) request = refl
 
 -- the change that is decided is made in a meeting that stands
-pub decided_placed : (office : OfficeLists) (call : Call) (change : Change) → (decided office call).change ≡ Some change → is_placed office change ≡ true
+decided_placed : (office : OfficeLists) (call : Call) (change : Change) → (decided office call).change ≡ Some change → is_placed office change ≡ true
 decided_placed office call change h =
     sym (ap (is_placed_if_any office) h)
     ∙ change_of (λ found. is_placed_if_any office found ≡ true) (ruling office call.moment call.caller call.request) refl (λ _. accepted_placed office call.moment call.caller call.request)
 
 -- so the office can make it
-pub decided_can_make : (office : OfficeLists) (call : Call) (change : Change) → (decided office call).change ≡ Some change → is_office office ≡ true → is_office (after_some office (decided office call).change) ≡ true
-    → can_make office change ≡ true
-decided_can_make office call change h before later =
-    let left : is_office (after office change) ≡ true = ap (λ (found : Option Change). is_office (after_some office found)) (sym h) ∙ later in
-    rw (before, decided_placed office call change h, left) refl
+pub can_be_made : DecidedChangesCanBeMade
+can_be_made office call change h before later = rw (before, decided_placed office call change h, later) refl
