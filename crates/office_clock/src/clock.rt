@@ -1,12 +1,11 @@
 //! The office's wall clock.
 ghost use Rattle.std.specs.Prelude.{◌≡◌, ◌≤◌, ◌^◌, ◌↔◌, ℕ, pos, neg_ℤ, ◌≤ℤ◌, IfOk, Err};
-ghost use Rattle.jiff.specs.Words.{plain_zone};
-ghost use Rattle.office_days.specs.Clock.{IsSecondOf, Shows, last_moment, unix_seconds};
-ghost use Rattle.office_days.specs.declared.clock.ClockFault.TheVariants.{OutOfRange, Memory};
+ghost use Rattle.office_clock.specs.Clock.{IsSecondOf, Shows, last_moment, unix_seconds};
+ghost use Rattle.office_clock.specs.declared.clock.ClockFault.TheVariants.{OutOfRange, Memory};
 
-use desk_words::Moment;
+use crate::zone::OfficeZone;
+use desk_calendar::Moment;
 use jiff::Timestamp;
-use jiff::tz::TimeZone;
 
 /// Why an instant has no moment on the wall clock.
 #[derive(Clone, Copy, PartialEq, Eq)]
@@ -33,24 +32,24 @@ fn second_of(instant: Timestamp) -> i64
 }
 
 // What a zone's clock shows at an instant, in seconds since 1970-01-01T00:00:00 on it.
-fn second_shown(instant: Timestamp, zone: &TimeZone<'_>) -> i64
-    ensures shown { Shows (plain_zone zone.now) instant.nanosecond result }
+fn second_shown(instant: Timestamp, zone: &OfficeZone) -> i64
+    ensures shown { Shows zone.now instant.nanosecond result }
     ensures above { neg_ℤ (pos (2 ^ 62)) ≤ℤ result }
     ensures below { result ≤ℤ pos (2 ^ 62) }
 {
-    second_of(instant) + zone.to_offset(instant).seconds() as i64
+    second_of(instant) + zone.offset_at(instant) as i64
 }
 
 /// The moment that a zone's clock shows at an instant: the civil second that the instant lies in.
 /// The two instants of an hour that is repeated give one moment. The fault is `OutOfRange` exactly
 /// where the clock shows a second outside the years 1900 to 2999, and never `Memory`.
-pub fn wall_clock(instant: Timestamp, zone: &TimeZone<'_>) -> Result<Moment, ClockFault>
+pub fn wall_clock(instant: Timestamp, zone: &OfficeZone) -> Result<Moment, ClockFault>
     ensures shows { IfOk result
-        (λ moment. Shows (plain_zone zone.now) instant.nanosecond (unix_seconds moment)) }
+        (λ moment. Shows zone.now instant.nanosecond (unix_seconds moment)) }
     ensures out_of_range { (result ≡ Err OutOfRange)
         ↔
         ((moment : ℕ) → moment ≤ last_moment
-        → Shows (plain_zone zone.now) instant.nanosecond (unix_seconds moment) → ⊥) }
+        → Shows zone.now instant.nanosecond (unix_seconds moment) → ⊥) }
     ensures no_memory { (result ≡ Err Memory) → ⊥ }
 {
     let second = second_shown(instant, zone);
