@@ -138,8 +138,9 @@ fn by_party(alloc: Global, verb: PartyVerb, meeting: MeetingId, body: &[u8]) -> 
 impl Route {
     /// The request on a route, with what the body says of it. It is refused as `Unreadable` where
     /// the body does not say what the verb asks, and only there. For `notice` and `mine` the body
-    /// is not looked at. Of a field that is repeated the last value counts, and an empty body stands
-    /// for an object with no fields. The error is `Memory` only where an allocation was refused.
+    /// is not looked at. Of a field that is repeated the last value counts, and an empty body
+    /// stands for an object with no fields. The error is `Memory` only where an allocation was
+    /// refused.
     pub fn request(self, alloc: Global, body: &[u8]) -> Result<Request, Ask>
         ensures { Gives itself result (readable (asked self body.now)) }
     {
