@@ -4,7 +4,7 @@ use Rattle.sqlite.specs.Held.{Held, state}
 use Rattle.sqlite.specs.State.{HasCleanDisk}
 use Rattle.sqlite_trees.specs.View.{doubt}
 use Rattle.sqlite_trees.specs.declared.store.Store as store
-use Rattle.desk_tables.specs.Tables.{desk_schema}
+use Rattle.desk_schema.specs.Tables.{desk_schema}
 use Rattle.desk_store.specs.declared.fault.OpenFault.{OpenFault}
 
 -- outside a transaction nothing is changed; what is refused is not declared as the tables of a desk

@@ -1,7 +1,7 @@
 //! Whether the columns that a desk reads stand.
 ghost use Rattle.std.specs.Prelude.{◌≡◌, false};
 ghost use Rattle.desk_store.specs.Columns.{Asks};
-ghost use Rattle.desk_tables.specs.Tables.{desk_schema};
+ghost use Rattle.desk_schema.specs.Tables.{desk_schema};
 ghost use Rattle.sqlite.specs.Given.{IsPlain};
 ghost use Rattle.sqlite.specs.Listing.{understood};
 

@@ -1,13 +1,13 @@
 //! A desk that was kept.
 ghost use Rattle.std.specs.Prelude.{◌≡◌, ◌≢◌, ◌≤◌, ◌⊎◌, false, [], ◌∷◌, Err};
 ghost use Rattle.std.specs.Prelude.{IfErr, IfOk, IsTrue, OnErr, OnOk};
-ghost use Rattle.desk_tables.specs.Standing.{IsVersionOne, version_one};
+ghost use Rattle.desk_records.specs.Standing.{IsVersionOne, version_one};
 ghost use Rattle.desk_store.specs.Opening.{HandsBack, HoldsOffice, IsCause, IsCleanBack, IsInNone};
 ghost use Rattle.desk_store.specs.Opening.{IsVerdict, IsVersionFault, KeepsNone, KeepsOffice};
-ghost use Rattle.desk_tables.specs.Standing.{HasNoOffice, HasNoVersion, Stands};
+ghost use Rattle.desk_records.specs.Standing.{HasNoOffice, HasNoVersion, Stands};
 ghost use Rattle.desk_store.specs.declared.fault.OpenFault.TheVariants.{NotADesk, NewerVersion};
-ghost use Rattle.desk_tables.specs.Statements.{IsDesk};
-ghost use Rattle.desk_tables.specs.Tables.{desk_schema};
+ghost use Rattle.desk_schema.specs.Statements.{IsDesk};
+ghost use Rattle.desk_schema.specs.Tables.{desk_schema};
 ghost use Rattle.desk_words.specs.declared.office.OfficeLists.{OfficeLists};
 ghost use Rattle.desk_words.specs.Office.{is_office};
 ghost use Rattle.office_checks.specs.InOrder.{office_in_order};
