@@ -1,4 +1,5 @@
 pub mod ClosedLemmas
+pub mod ColumnLemmas
 pub mod DeskLemmas
 pub mod KeyLemmas
 pub mod MeetingLemmas

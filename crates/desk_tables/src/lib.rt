@@ -2,6 +2,7 @@
 #![tactic(auto)]
 
 pub mod closed;
+pub mod columns;
 pub mod desk;
 pub mod keys;
 pub mod meetings;

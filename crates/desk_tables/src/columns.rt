@@ -1,33 +1,36 @@
-//! Whether the columns that a desk reads stand.
-ghost use Rattle.std.specs.Prelude.{◌≡◌, false};
-ghost use Rattle.desk_store.specs.Columns.{Asks};
+//! Whether the columns that are read stand.
+ghost use Rattle.std.specs.Prelude.{◌≡◌, false, is_ok};
 ghost use Rattle.desk_schema.specs.Tables.{desk_schema};
+ghost use Rattle.desk_tables.specs.Columns.{Asks};
 ghost use Rattle.sqlite.specs.Given.{IsPlain};
 ghost use Rattle.sqlite.specs.Listing.{understood};
 
-use crate::fault::OpenFault;
 use sqlite::{Alter, Connection, Error};
 
+/// A column that is read does not stand.
+#[derive(Drop)]
+struct Missing;
+
 /// Whether the database understands a statement, which is not run.
-fn ask<S: Alter>(conn: &mut Connection<S>, sql: &str) -> Result<(), OpenFault>
+fn ask<S: Alter>(conn: &mut Connection<S>, sql: &str) -> Result<(), Missing>
     requires { conn.old.in_transaction ≡ false }
     ensures ended { conn.new.in_transaction ≡ false }
     ensures asked { IsPlain (understood desk_schema sql.now)
-        → Asks S.Store conn.old conn.new result }
+        → Asks S.Store conn.old conn.new (is_ok result) }
 {
     let _ = conn.is_autocommit();
     let prepared = conn.prepare(sql);
     if let Err(Error::SqlInputError(_)) = &prepared {
-        return Err(OpenFault::NotADesk);
+        return Err(Missing);
     }
     Ok(())
 }
 
 /// Asks for the columns of the desk, of its meetings, and of their resolutions and registers.
-fn ask_meetings<S: Alter>(conn: &mut Connection<S>) -> Result<(), OpenFault>
+fn ask_meetings<S: Alter>(conn: &mut Connection<S>) -> Result<(), Missing>
     requires { conn.old.in_transaction ≡ false }
     ensures ended { conn.new.in_transaction ≡ false }
-    ensures asked { Asks S.Store conn.old conn.new result }
+    ensures asked { Asks S.Store conn.old conn.new (is_ok result) }
 {
     ask(conn, "SELECT one, version FROM desk")?;
     ask(conn, "SELECT party, secret FROM keys")?;
@@ -44,10 +47,10 @@ fn ask_meetings<S: Alter>(conn: &mut Connection<S>) -> Result<(), OpenFault>
 }
 
 /// Asks for the columns of what is handed in: appointments, endings, authorities and presences.
-fn ask_papers<S: Alter>(conn: &mut Connection<S>) -> Result<(), OpenFault>
+fn ask_papers<S: Alter>(conn: &mut Connection<S>) -> Result<(), Missing>
     requires { conn.old.in_transaction ≡ false }
     ensures ended { conn.new.in_transaction ≡ false }
-    ensures asked { Asks S.Store conn.old conn.new result }
+    ensures asked { Asks S.Store conn.old conn.new (is_ok result) }
 {
     ask(
         conn,
@@ -65,10 +68,10 @@ fn ask_papers<S: Alter>(conn: &mut Connection<S>) -> Result<(), OpenFault>
 }
 
 /// Asks for the columns of demands, polls and votes.
-fn ask_polls<S: Alter>(conn: &mut Connection<S>) -> Result<(), OpenFault>
+fn ask_polls<S: Alter>(conn: &mut Connection<S>) -> Result<(), Missing>
     requires { conn.old.in_transaction ≡ false }
     ensures ended { conn.new.in_transaction ≡ false }
-    ensures asked { Asks S.Store conn.old conn.new result }
+    ensures asked { Asks S.Store conn.old conn.new (is_ok result) }
 {
     ask(
         conn,
@@ -84,13 +87,22 @@ fn ask_polls<S: Alter>(conn: &mut Connection<S>) -> Result<(), OpenFault>
     )
 }
 
-/// Asks for each column that is read. The fault is `NotADesk`, where one of them does not stand.
-pub(crate) fn ask_columns<S: Alter>(conn: &mut Connection<S>) -> Result<(), OpenFault>
+/// Asks for each column that is read.
+fn ask_columns<S: Alter>(conn: &mut Connection<S>) -> Result<(), Missing>
     requires { conn.old.in_transaction ≡ false }
     ensures ended { conn.new.in_transaction ≡ false }
-    ensures asked { Asks S.Store conn.old conn.new result }
+    ensures asked { Asks S.Store conn.old conn.new (is_ok result) }
 {
     ask_meetings(conn)?;
     ask_papers(conn)?;
     ask_polls(conn)
+}
+
+/// Whether each column that is read stands. No statement is run.
+pub fn stand<S: Alter>(conn: &mut Connection<S>) -> bool
+    requires { conn.old.in_transaction ≡ false }
+    ensures ended { conn.new.in_transaction ≡ false }
+    ensures asked { Asks S.Store conn.old conn.new result }
+{
+    ask_columns(conn).is_ok()
 }

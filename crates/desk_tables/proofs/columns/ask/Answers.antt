@@ -1,8 +1,8 @@
 use Rattle.std.proofs.Common.{◌≡◌, Err, IsTrue, rules}
 use Rattle.sqlite.specs.declared.error.Error.TheVariants.{SqlInputError}
 use Rattle.sqlite.specs.Held.{state}
-use Rattle.desk_store.proofs.ColumnLemmas.{stays_prepared, unread_if}
-use Rattle.desk_store.proofs.columns.ask.Goals as goal
+use Rattle.desk_tables.proofs.ColumnLemmas.{stays_prepared, unread_if}
+use Rattle.desk_tables.proofs.columns.ask.Goals as goal
 
 pub returns-in-Err-SqlInputError-clause-asked : goal.returns-in-Err-SqlInputError-clause-asked
 returns-in-Err-SqlInputError-clause-asked g c = λ plain.
@@ -13,7 +13,7 @@ returns-in-Err-SqlInputError-clause-asked g c = λ plain.
     record {
       clean = c.prepare-prepared.ensures.survives.clean;
       same = λ clean is_open. stays_prepared old new c.args.sql.now c.prepare-prepared.result _ (c.prepare-prepared.ensures.ok clean) (c.prepare-prepared.ensures.err clean) (c.is_autocommit.ensures.settled auto) is_open;
-      refused = λ clean. unread_if old new c.args.sql.now c.prepare-prepared.result c.in-Err-SqlInputError.field-0-0 is (c.prepare-prepared.ensures.err clean) plain;
+      missed = λ clean no. unread_if old new c.args.sql.now c.prepare-prepared.result c.in-Err-SqlInputError.field-0-0 is (c.prepare-prepared.ensures.err clean) plain;
     }
 
 pub returns-clause-asked : goal.returns-clause-asked
@@ -24,5 +24,5 @@ returns-clause-asked g c = λ plain.
     record {
       clean = c.prepare-prepared.ensures.survives.clean;
       same = λ clean is_open. stays_prepared old new c.args.sql.now c.prepare-prepared.result _ (c.prepare-prepared.ensures.ok clean) (c.prepare-prepared.ensures.err clean) (c.is_autocommit.ensures.settled auto) is_open;
-      refused = λ clean. tt;
+      missed = λ clean no. absurd cc;
     }

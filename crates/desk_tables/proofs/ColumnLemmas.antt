@@ -1,5 +1,5 @@
 -- Statements that are asked about, and not run.
-use Rattle.std.proofs.Common.{◌≡◌, ◌≢◌, ℕ, List, [], codes, Ok, Err, Result, IfErr, IfOk, OnErr, IsTrue, refl, sym, ap, subst, ◌∙◌, inl, inr, arith}
+use Rattle.std.proofs.Common.{◌≡◌, ◌≢◌, ℕ, Bool, true, false, List, [], codes, Ok, Err, Result, is_ok, IfErr, IfOk, IsTrue, refl, sym, ap, subst, ◌∙◌, inl, inr, arith}
 use Rattle.sqlite.specs.declared.error.Error.{Error}
 use Rattle.sqlite.specs.declared.error.Error.TheVariants.{SqlInputError}
 use Rattle.sqlite.specs.Effect.{Database}
@@ -14,8 +14,7 @@ use Rattle.sqlite_trees.specs.declared.error.StoreError.{StoreError}
 use Rattle.sqlite_trees.specs.declared.error.StoreError.TheVariants as kind
 use Rattle.sqlite_trees.specs.declared.store.Store as store
 use Rattle.desk_schema.specs.Tables.{desk_schema}
-use Rattle.desk_store.specs.Columns.{Asks}
-use Rattle.desk_store.specs.declared.fault.OpenFault.{OpenFault}
+use Rattle.desk_tables.specs.Columns.{Asks}
 
 -- a statement that is not run leaves the tables of the last commit
 pub stays_unrun : (old new : State) (sql : List ℕ) (e : Error) → IsNotRun old new sql [] e → (IsTrue old.is_open → old.now ≡ old.committed) → IsTrue new.is_open
@@ -55,28 +54,25 @@ module _ {X : Type 0} (old new : State) (sql : List ℕ) (r : Result X Error) wh
       → IsTrue old.is_open × (old.now.schema ≢ desk_schema)
   unread_if f is err plain = unread old new sql f (subst (λ (q : Result X Error). IfErr q (λ e. (params : Row) → IsNotRun old new sql params e)) is err []) plain
 
-module _ {S T U : Type 0} (g : store.Ghosts S) where
-  -- what is asked next is asked of the same tables
-  pub asks_then : (a b c : Held S) (t : T) (r : Result U OpenFault) → Asks g a b (Ok t) → Asks g b c r → Asks g a c r
-  asks_then a b c t r one two = record {
-    clean = let p = one.clean in let q = two.clean in omega (arith, p, q);
-    same = λ clean is_open.
-        let early : HasCleanDisk (state g b) = omega (arith, two.clean, clean) in
-        let second = two.same clean is_open in
-        let first = one.same early second.0 in
-        (first.0, second.1 ∙ first.1);
-    refused = λ clean.
-        let early : HasCleanDisk (state g b) = omega (arith, two.clean, clean) in
-        weaker r (two.refused clean) (λ bad. let first = one.same early bad.0 in (first.0, λ has. bad.1 (ap (λ (d : Database). d.schema) first.1 ∙ has)));
-  }
-    where
-      weaker : {P Q : Type 0} (r : Result U OpenFault) → OnErr r P → (P → Q) → OnErr r Q
-      weaker (Ok u) p f = tt
-      weaker (Err e) p f = f p
+-- what is asked next is asked of the same tables
+pub asks_then : {S : Type 0} (g : store.Ghosts S) (a b c : Held S) (stand : Bool) → Asks g a b true → Asks g b c stand → Asks g a c stand
+asks_then g a b c stand one two = record {
+  clean = let p = one.clean in let q = two.clean in omega (arith, p, q);
+  same = λ clean is_open.
+      let early : HasCleanDisk (state g b) = omega (arith, two.clean, clean) in
+      let second = two.same clean is_open in
+      let first = one.same early second.0 in
+      (first.0, second.1 ∙ first.1);
+  missed = λ clean no.
+      let early : HasCleanDisk (state g b) = omega (arith, two.clean, clean) in
+      let bad = two.missed clean no in
+      let first = one.same early bad.0 in
+      (first.0, λ has. bad.1 (ap (λ (d : Database). d.schema) first.1 ∙ has));
+}
 
-  -- a refusal ends the asking
-  pub asks_stop : (a b : Held S) (e : OpenFault) (r : Result U OpenFault) → r ≡ Err e → Asks {T = T} g a b (Err e) → Asks g a b r
-  asks_stop a b e r is one = subst (λ (q : Result U OpenFault). Asks g a b q) (sym is) (record { clean = one.clean; same = one.same; refused = one.refused })
+-- what is missing ends the asking
+pub asks_stop : {S T E : Type 0} {e : E} (g : store.Ghosts S) (a b : Held S) (r : Result T E) → r ≡ Err e → Asks g a b false → Asks g a b (is_ok r)
+asks_stop g a b r is one = subst (λ q. Asks g a b (is_ok q)) (sym is) one
 
 -- ---- the texts are statements over the tables of a desk
 
