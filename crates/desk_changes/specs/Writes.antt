@@ -11,9 +11,9 @@ use Rattle.desk_words.specs.declared.records.RegisterRow.{RegisterRow}
 use Rattle.desk_words.specs.declared.records.Resolution.{Resolution}
 use Rattle.desk_rows.specs.declared.kept.InMeeting.{InMeeting}
 use Rattle.desk_rows.specs.declared.kept.NumberedResolution.{NumberedResolution}
-use Rattle.desk_tables.specs.Office.{FlatLists, flat_in, office_in}
-use Rattle.desk_tables.specs.Standing.{IsVersionOne}
-use Rattle.desk_tables.specs.Statements.{IsDesk}
+use Rattle.desk_records.specs.Office.{FlatLists, flat_in, office_in}
+use Rattle.desk_records.specs.Standing.{IsVersionOne}
+use Rattle.desk_schema.specs.Statements.{IsDesk}
 use Rattle.desk_words.specs.Changes.{after, can_make}
 
 -- in a transaction the tables are those of a desk, of version 1, and they are this office

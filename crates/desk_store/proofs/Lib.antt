@@ -1,5 +1,4 @@
 pub mod CallerLemmas
-pub mod ColumnLemmas
 pub mod EmptyLemmas
 pub mod KeepingLemmas
 pub mod MakingLemmas

@@ -15,7 +15,7 @@ use Rattle.meeting_core.specs.Decisions.{DecidedChangesCanBeMade}
 use Rattle.meeting_core.specs.Step.{decided, stepped}
 use Rattle.desk_changes.specs.Writes.{Holds}
 use Rattle.desk_store.specs.Reads.{IsDecided, IsTold, WritesIfAny, can_make_if_any}
-use Rattle.desk_tables.specs.Standing.{Stands}
+use Rattle.desk_records.specs.Standing.{Stands}
 use Rattle.desk_store.proofs.KeepingLemmas.{stands_same}
 
 -- what is decided can be made

@@ -1,7 +1,6 @@
 //! The desk of one company over its tables: what it answers, and what it keeps.
 #![tactic(auto)]
 
-mod columns;
 mod create;
 mod desk;
 mod fault;
