@@ -6,4 +6,3 @@ pub mod Placed
 pub mod RulingLemmas
 pub mod Rulings
 pub mod StepLaws
-pub mod WrongAnswers
