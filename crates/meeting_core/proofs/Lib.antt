@@ -7,4 +7,3 @@ pub mod Placed
 pub mod RulingLemmas
 pub mod Rulings
 pub mod StepLaws
-pub mod WrongAnswers

@@ -1,7 +1,7 @@
 -- Laws of rulings, whatever they decide.
 use Rattle.std.proofs.Common.{◌≡◌, Bool, true, false, ◌==◌, cond, List, [], ◌∷◌, refl, ap}
 use Rattle.std.specs.Prelude.{Option, Some, None, is_some, if◌then◌else◌}
-use Rattle.desk_words.specs.Refusals.{Case, first_refusal, number_of, ascend_from}
+use Rattle.desk_words.specs.Refusals.{Case, first_refusal, number_of}
 use Rattle.desk_words.specs.Rulings.{Ruling, in_found, is_refused, loaded, refusal_in, ruled_within, settled, unless, within}
 use Rattle.desk_words.specs.declared.answer.Answer.{Answer}
 use Rattle.desk_terms.specs.declared.refusal.Refusal.{Refusal}
@@ -11,15 +11,6 @@ use Rattle.desk_terms.specs.declared.refusal.Refusal.{Refusal}
 -- where nothing is refused, what is accepted is no refusal
 pub record IsSound {C : Type 0} (ruling : Ruling C) : Type 0 where
   pub sound : first_refusal ruling.cases ≡ None → refusal_in ruling.accepted.reply ≡ None
-
-lowest_by : {C : Type 0} (refusal : Option Refusal) (accepted : Answer C) → (refusal ≡ None → refusal_in accepted.reply ≡ None)
-    → refusal_in (unless refusal accepted).reply ≡ refusal
-lowest_by None accepted h = h refl
-lowest_by (Some r) accepted h = refl
-
--- the answer is refused by the first condition that holds
-pub lowest_of : {C : Type 0} (ruling : Ruling C) → IsSound ruling → refusal_in (settled ruling).reply ≡ first_refusal ruling.cases
-lowest_of ruling s = lowest_by (first_refusal ruling.cases) ruling.accepted s.sound
 
 quiet_by : {C : Type 0} (refusal : Option Refusal) (accepted : Answer C) → (refusal ≡ None → refusal_in accepted.reply ≡ None)
     → is_refused (unless refusal accepted) ≡ true → (unless refusal accepted).change ≡ None
@@ -62,10 +53,6 @@ sound_in_found (Some x) f h = record { sound = λ _. h x }
 
 pub sound_within : {C D : Type 0} (larger : C → D) (ruling : Ruling C) → IsSound ruling → IsSound (ruled_within larger ruling)
 sound_within larger ruling s = record { sound = s.sound }
-
-pub order_in_found : {X C : Type 0} (found : Option X) (f : X → Ruling C) → ((x : X) → ascend_from 8 (f x).cases ≡ true) → ascend_from 7 (in_found found f).cases ≡ true
-order_in_found None f h = refl
-order_in_found (Some x) f h = h x
 
 -- ---- conditions by their names
 

@@ -1,7 +1,6 @@
--- Each ruling refuses in the one order, and accepts by no refusal.
-use Rattle.std.proofs.Common.{◌≡◌, ℕ, true, List, refl}
+-- What each ruling accepts is no refusal.
+use Rattle.std.proofs.Common.{◌≡◌, ℕ, List, refl}
 use Rattle.std.specs.Prelude.{None}
-use Rattle.desk_words.specs.Refusals.{are_in_order, ascend_from}
 use Rattle.desk_words.specs.Rows.{same_rows}
 use Rattle.desk_words.specs.Keys.{same_keys}
 use Rattle.desk_words.specs.Rulings.{refusal_in}
@@ -28,9 +27,7 @@ use Rattle.caller_view.specs.Public.{PublicRecord}
 use Rattle.office_answers.specs.Answers.{desk_ruling, office_ruling, ruling_in as office_in}
 use Rattle.office_answers.specs.Lists.{same_days}
 use Rattle.meeting_core.specs.Step.{ruling}
-use Rattle.meeting_core.proofs.RulingLemmas.{IsSound, loaded_accepted, order_in_found, sound_in_found, sound_within}
-
--- ---- what is accepted is no refusal
+use Rattle.meeting_core.proofs.RulingLemmas.{IsSound, loaded_accepted, sound_in_found, sound_within}
 
 party_accepts : (public : PublicRecord) (own : OwnView) (now : ℕ) (what : PartyRequest) (meeting : Meeting)
     → refusal_in (party_in public own now what meeting).accepted.reply ≡ None
@@ -61,28 +58,3 @@ sound_ruling o now (caller.Party party) (asked.Party meeting what) =
     (sound_in_found public.meeting (party_in public own now what) (party_accepts public own now what)) in
     record { sound = s.sound }
 sound_ruling o now (caller.Party party) request = record { sound = λ e. absurd (cc) }
-
--- ---- the one order
-
-party_order : (public : PublicRecord) (own : OwnView) (now : ℕ) (what : PartyRequest) (meeting : Meeting)
-    → ascend_from 8 (party_in public own now what meeting).cases ≡ true
-party_order public own now Notice meeting = refl
-party_order public own now what meeting = refl
-
-office_order : (closed : List ℕ) (now : ℕ) (what : OfficeRequest) (m : MeetingLists) → ascend_from 8 (office_in closed now what m).cases ≡ true
-office_order closed now (LoadRegister new) m = refl
-office_order closed now what m = refl
-
-desk_order : (keys : List KeyRow) (closed : List ℕ) (meetings : List MeetingLists) (what : DeskRequest) → ascend_from 7 (desk_ruling keys closed meetings what).cases ≡ true
-desk_order keys closed meetings (CallMeeting new) = refl
-desk_order keys closed meetings what = refl
-
-pub ordered_ruling : (o : OfficeLists) (now : ℕ) (who : Caller) (request : Request) → are_in_order (ruling o now who request).cases ≡ true
-ordered_ruling o now caller.Office (asked.Desk what) = desk_order o.keys o.closed o.meetings what
-ordered_ruling o now caller.Office (asked.Office meeting what) = order_in_found (meeting_at o meeting) (office_in o.closed now what) (office_order o.closed now what)
-ordered_ruling o now caller.Office (asked.Party meeting what) = refl
-ordered_ruling o now (caller.Party party) (asked.Party meeting what) =
-    let public = public_of o meeting in
-    let own = own_of o party meeting now in
-    order_in_found public.meeting (party_in public own now what) (party_order public own now what)
-ordered_ruling o now (caller.Party party) request = refl

@@ -2,7 +2,7 @@
 use Rattle.std.specs.Prelude.{Bool, true, false, ◌&&◌, not, List, [], ◌∷◌, ◌++◌}
 use Rattle.desk_words.specs.Refusals.{Case}
 use Rattle.desk_words.specs.Rulings.{Ruling, refused, ruled_within, settled}
-use Rattle.desk_words.specs.Seen.{Moment, Party}
+use Rattle.desk_words.specs.Seen.{Moment}
 use Rattle.desk_words.specs.declared.answer.Answer.{Answer}
 use Rattle.desk_words.specs.declared.caller.Caller.{Caller}
 use Rattle.desk_words.specs.declared.caller.Caller.TheVariants as caller
@@ -64,15 +64,6 @@ ruling office now who request = record {
   cases = side_cases who request ++ (asked_ruling office now who request).cases;
   accepted = (asked_ruling office now who request).accepted;
 }
-
--- what answers a party: from an office, the party, the moment and its request, a reply and at most
--- one change
-abbrev pub Answering : Type 0
-Answering = OfficeLists → Party → Moment → Request → Answer Change
-
--- the answer to a party
-abbrev pub party_answer : Answering
-party_answer office party now request = settled (ruling office now (caller.Party party) request)
 
 -- an office request of a party, or a party request of the office
 abbrev pub is_misplaced : Caller → Request → Bool

@@ -1,5 +1,5 @@
 -- What governs by the rows of the members who named a party is what governs in the meeting.
-use Rattle.std.proofs.Common.{◌≡◌, ℕ, ◌≤◌, Bool, true, false, not, ◌&&◌, ◌||◌, cond, List, [], ◌∷◌, ◌++◌, filter, map, refl, sym, ap, ◌∙◌, arith, true≢false}
+use Rattle.std.proofs.Common.{◌≡◌, ℕ, ◌≤◌, Bool, true, false, not, ◌&&◌, ◌||◌, cond, List, [], ◌∷◌, filter, map, refl, sym, ap, ◌∙◌, arith}
 use Rattle.std.specs.Prelude.{nat_le, find, reverse, Option, Some, None}
 use Rattle.std.specs.Cmp.Derive.{both_true}
 use Rattle.std.specs.List.{list_any}
@@ -11,12 +11,11 @@ use Rattle.std.proofs.lemmas.Bool.{or_right}
 use Rattle.desk_lists.proofs.Kept.{any-filter}
 use Rattle.desk_terms.specs.declared.range.TheConstants.{MOST_PLACES}
 use Rattle.desk_terms.specs.Names.{same_name}
-use Rattle.desk_terms.specs.Places.{Places}
 use Rattle.desk_words.proofs.RowLemmas.{same_name-true, same_name-refl}
 use Rattle.desk_words.specs.declared.office.MeetingLists.{MeetingLists}
 use Rattle.desk_words.specs.declared.records.Appointment.{Appointment}
 use Rattle.proxy_rules.specs.Governing.{governed_in}
-use Rattle.proxy_rules.specs.Holdings.{IsKept, are_numbered_from, are_tags, holding_of, is_given_by, is_kept}
+use Rattle.proxy_rules.specs.Holdings.{IsKept, holding_of, is_given_by, is_kept}
 use Rattle.proxy_rules.specs.declared.holdings.Holding.{Holding}
 use Rattle.proxy_rules.specs.declared.papers.Cutoffs.{Cutoffs}
 use Rattle.caller_view.specs.Own.{governed_by, governed_kept, rows_by}

@@ -2,7 +2,11 @@ mod AnyLemmas
 mod CapacityLemmas
 mod GovernedLemmas
 mod MemberRows
+mod NamedLemmas
 mod NumberLemmas
+mod OrderLemmas
 mod PlaceLemmas
 mod ProxyLemmas
 mod SecrecyLemmas
+mod WorldLemmas
+mod WrongAnswers

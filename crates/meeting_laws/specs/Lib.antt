@@ -1,2 +1,6 @@
 pub mod Laws
+pub mod Names
+pub mod Refusals
 pub mod Secrecy
+pub mod Worlds
+pub mod WrongAnswers

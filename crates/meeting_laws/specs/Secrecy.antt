@@ -1,5 +1,5 @@
 -- What is told of votes before they are declared: nothing.
-use Rattle.std.specs.Prelude.{◌≡◌, ℕ, Bool, true, false, not, ◌==◌, List, filter, Some}
+use Rattle.std.specs.Prelude.{◌≡◌, Bool, false, not, ◌==◌, List, filter, Some}
 use Rattle.desk_words.specs.Seen.{Day, Moment, Number}
 use Rattle.desk_words.specs.declared.office.MeetingLists.{MeetingLists}
 use Rattle.desk_words.specs.declared.records.CastMark.{CastMark}

@@ -1,10 +1,16 @@
-//! Laws that join what is asked and told in a meeting with its rules.
+//! Laws of the office: what a party may learn, how calls are refused, and that what is asked and
+//! told in a meeting agrees with its rules.
 #![tactic(auto)]
+
+mod refusals;
+mod worlds;
 
 ghost use Rattle.meeting_laws.specs.Laws.{DemandsByCapacity};
 ghost use Rattle.meeting_laws.specs.Secrecy.{TheOfficeIsToldOfNoVotes, VotesAreNotPublic};
 
+pub use refusals::{lowest_refusal, refused_calls_change_nothing};
 use vote_rules::laws::tallies_read_their_own_casts;
+pub use worlds::{names, running_total_is_caught, two_worlds};
 
 /// A party may demand a poll, as is read from its own things alone, exactly where it has at least
 /// one of the capacities at the meeting by which the quorum counts persons.

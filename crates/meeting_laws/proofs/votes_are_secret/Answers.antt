@@ -1,4 +1,4 @@
-use Rattle.std.proofs.Common.{◌≡◌, ◌-◌, Some, refl, ap, sym, ◌∙◌}
+use Rattle.std.proofs.Common.{◌-◌, Some, refl, ap, sym, ◌∙◌}
 use Rattle.std.specs.List.{slice_get}
 use Rattle.desk_words.specs.Finding.{poll_on}
 use Rattle.desk_words.specs.declared.change.MeetingChange.TheVariants.{SetPoll}

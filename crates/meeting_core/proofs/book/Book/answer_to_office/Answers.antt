@@ -1,4 +1,4 @@
-use Rattle.std.proofs.Common.{◌≡◌, ℕ, List, true, subst, ap, sym, ◌∙◌}
+use Rattle.std.proofs.Common.{◌≡◌, true, subst, ap, sym, ◌∙◌}
 use Rattle.std.proofs.lemmas.Result.{IfOk-weaker}
 use Rattle.std.specs.Prelude.{Option, IfOk, IfSome}
 use Rattle.desk_words.specs.Finding.{meeting_named}
