@@ -1,5 +1,2 @@
-pub mod Columns
-pub mod Making
-pub mod Opening
 pub mod Reads
 pub mod Runs

@@ -1,0 +1,7 @@
+pub mod ColumnLemmas
+pub mod EmptyLemmas
+pub mod MakingLemmas
+pub mod OneSchema
+pub mod OpeningLemmas
+pub mod OrderedOffice
+pub mod RisingLemmas

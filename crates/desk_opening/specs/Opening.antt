@@ -1,0 +1,87 @@
+-- Why a database is not opened as a desk, and what is handed back then.
+use Rattle.std.specs.Prelude.{◌≡◌, ◌⊎◌, ◌≤◌, false, List, [], ◌∷◌, Some, Result, IsTrue}
+use Rattle.std.specs.Prelude.{IfErr, IfOk, OnOk}
+use Rattle.sqlite.specs.Held.{Held, state}
+use Rattle.sqlite.specs.State.{State, HasCleanDisk, IsUnchanged}
+use Rattle.sqlite.specs.Tree.{Trees}
+use Rattle.sqlite_trees.specs.View.{IsClean}
+use Rattle.sqlite_trees.specs.declared.store.Store as store
+use Rattle.desk_words.specs.declared.office.OfficeLists.{OfficeLists}
+use Rattle.desk_words.specs.Office.{is_office}
+use Rattle.desk_rows.specs.declared.kept.Version.{Version}
+use Rattle.desk_tables.specs.Office.{office_in}
+use Rattle.desk_tables.specs.Statements.{ChangesNothing, IsRead}
+use Rattle.desk_tables.specs.Standing.{IsVersionOne}
+use Rattle.desk_reading.specs.declared.fault.ReadFault.{ReadFault}
+use Rattle.desk_reading.specs.declared.fault.ReadFault.TheVariants as reading
+use Rattle.desk_tables.specs.Standing.{HasNoOffice, HasNoVersion, IsNewer}
+use Rattle.desk_opening.specs.declared.fault.OpenFault.{OpenFault}
+use Rattle.desk_opening.specs.declared.fault.OpenFault.TheVariants.{NotADesk, NewerVersion}
+use Rattle.desk_opening.specs.declared.fault.OpenFault.TheVariants.{Store, Memory}
+use Rattle.desk_opening.specs.declared.opening.HandedBack.{HandedBack}
+use Rattle.desk_opening.specs.declared.opening.HandedBack.TheVariants as back
+
+-- what the tables hold is this, and an office
+abbrev pub HoldsOffice : State → OfficeLists → Type 0
+HoldsOffice s office = (office_in s.now.trees ≡ Some office) × IsTrue (is_office office)
+
+-- the tables are of version 1, and what they hold is this, and an office
+abbrev pub KeepsOffice : State → OfficeLists → Type 0
+KeepsOffice s office = IsVersionOne s × HoldsOffice s office
+
+-- no version is noted, or the tables are of version 1 and hold no office
+abbrev pub KeepsNone : State → Type 0
+KeepsNone s = HasNoVersion s ⊎ (IsVersionOne s × HasNoOffice s)
+
+-- tables that are no desk's are wrong in this way; of want of memory and of the store's own faults
+-- nothing is said
+abbrev pub IsFaultOf : (State → Type 0) → OpenFault → State → Type 0
+IsFaultOf Wrong NotADesk s = Wrong s
+IsFaultOf Wrong NewerVersion s = IsNewer s
+IsFaultOf Wrong Store s = Unit {0}
+IsFaultOf Wrong Memory s = Unit {0}
+
+-- why tables are not opened as a desk
+abbrev pub IsCause : OpenFault → State → Type 0
+IsCause = IsFaultOf KeepsNone
+
+-- in a transaction over the tables of a desk this is what is told of them, and nothing is changed
+pub record IsVerdict {S T : Type 0} (g : store.Ghosts S) (old new : Held S)
+    (Right : State → T → Type 0) (Wrong : State → Type 0) (result : Result T OpenFault)
+    : Type 0 where
+  pub right : IsRead g old new → IfOk result (Right (state g old))
+  pub cause : IsRead g old new → IfErr result (λ fault. IsFaultOf Wrong fault (state g old))
+  pub same : IsRead g old new → OnOk result (IsUnchanged (state g old) (state g new))
+  pub changes : ChangesNothing g old new
+
+-- why the versions that are noted are not version 1 alone
+abbrev pub IsVersionFault : OpenFault → List Version → Type 0
+IsVersionFault NotADesk versions =
+    (version : Version) → versions ≡ version ∷ [] → version.number ≡ 0
+IsVersionFault NewerVersion versions =
+    (version : Version) × (versions ≡ version ∷ []) × (2 ≤ version.number)
+IsVersionFault Store versions = ⊥
+IsVersionFault Memory versions = ⊥
+
+-- where the rows are no office's, the database is no desk
+abbrev pub fault_of_reading : ReadFault → OpenFault
+fault_of_reading reading.NoOffice = NotADesk
+fault_of_reading reading.Store = Store
+fault_of_reading reading.Memory = Memory
+
+-- so far the disk returned what was written
+abbrev pub IsCleanBack : {S : Type 0} → store.Ghosts S → HandedBack S → Type 0
+IsCleanBack g (back.Connection conn) = HasCleanDisk (state g conn)
+IsCleanBack g (back.Store store) = IsClean (g.view store)
+
+-- the tables that are handed back are these, where they can be seen
+abbrev pub HandsBack : {S : Type 0} → store.Ghosts S → Trees → HandedBack S → Type 0
+HandsBack g trees (back.Connection conn) =
+    HasCleanDisk (state g conn) → IsTrue (state g conn).is_open → (state g conn).now.trees ≡ trees
+HandsBack g trees (back.Store store) =
+    IsClean (g.view store) → IsTrue (g.view store).is_open → (g.view store).trees ≡ trees
+
+-- a connection that is handed back is in no transaction
+abbrev pub IsInNone : {S : Type 0} → HandedBack S → Type 0
+IsInNone (back.Connection conn) = conn.in_transaction ≡ false
+IsInNone (back.Store store) = Unit {0}

@@ -1,0 +1,86 @@
+//! The tables of a desk that holds nothing yet.
+ghost use Rattle.std.specs.Prelude.{◌≡◌};
+ghost use Rattle.desk_opening.specs.Making.{IsMaking, LeavesEmptyDesk};
+ghost use Rattle.desk_tables.specs.Tables.{desk_schema, no_schema, with_casts};
+ghost use Rattle.desk_tables.specs.Tables.{with_presences, with_register};
+
+use desk_tables::{
+    appointments, authorities, casts, closed, demands, desk, endings, indexes, keys, meetings,
+    polls, presences, register, resolutions,
+};
+use sqlite::{Alter, Error, Transaction};
+
+/// Makes the tables of the desk, of its meetings, and of their resolutions and registers.
+fn make_meetings<S: Alter>(tx: &mut Transaction<'_, S>) -> Result<(), Error>
+    ensures same_reference { tx.new.conn.ghost_name ≡ tx.old.conn.ghost_name }
+    ensures made { IsMaking S.Store tx.old.conn.now tx.new.conn.now result
+        no_schema with_register }
+{
+    desk::make(tx)?;
+    keys::make(tx)?;
+    closed::make(tx)?;
+    meetings::make(tx)?;
+    resolutions::make(tx)?;
+    register::make(tx)?;
+    Ok(())
+}
+
+/// Makes the tables of what is handed in: appointments, endings, authorities and presences.
+fn make_papers<S: Alter>(tx: &mut Transaction<'_, S>) -> Result<(), Error>
+    ensures same_reference { tx.new.conn.ghost_name ≡ tx.old.conn.ghost_name }
+    ensures made { IsMaking S.Store tx.old.conn.now tx.new.conn.now result
+        with_register with_presences }
+{
+    appointments::make(tx)?;
+    endings::make(tx)?;
+    authorities::make(tx)?;
+    presences::make(tx)?;
+    Ok(())
+}
+
+/// Makes the tables of demands, polls and votes.
+fn make_polls<S: Alter>(tx: &mut Transaction<'_, S>) -> Result<(), Error>
+    ensures same_reference { tx.new.conn.ghost_name ≡ tx.old.conn.ghost_name }
+    ensures made { IsMaking S.Store tx.old.conn.now tx.new.conn.now result
+        with_presences with_casts }
+{
+    demands::make(tx)?;
+    polls::make(tx)?;
+    casts::make(tx)?;
+    Ok(())
+}
+
+/// Makes the indexes.
+fn make_indexes<S: Alter>(tx: &mut Transaction<'_, S>) -> Result<(), Error>
+    ensures same_reference { tx.new.conn.ghost_name ≡ tx.old.conn.ghost_name }
+    ensures made { IsMaking S.Store tx.old.conn.now tx.new.conn.now result
+        with_casts desk_schema }
+{
+    indexes::make_appointments_by_proxy(tx)?;
+    indexes::make_authorities_by_person(tx)?;
+    indexes::make_demands_by_party(tx)?;
+    indexes::make_casts_by_voter(tx)?;
+    Ok(())
+}
+
+/// Makes the tables and indexes, all empty.
+fn make_tables<S: Alter>(tx: &mut Transaction<'_, S>) -> Result<(), Error>
+    ensures same_reference { tx.new.conn.ghost_name ≡ tx.old.conn.ghost_name }
+    ensures made { IsMaking S.Store tx.old.conn.now tx.new.conn.now result
+        no_schema desk_schema }
+{
+    make_meetings(tx)?;
+    make_papers(tx)?;
+    make_polls(tx)?;
+    make_indexes(tx)
+}
+
+/// Makes the tables of a desk that holds nothing, and notes their version.
+pub(crate) fn make_empty_desk<S: Alter>(tx: &mut Transaction<'_, S>) -> Result<(), Error>
+    ensures same_reference { tx.new.conn.ghost_name ≡ tx.old.conn.ghost_name }
+    ensures made { LeavesEmptyDesk S.Store tx.old.conn.now tx.new.conn.now result }
+{
+    make_tables(tx)?;
+    desk::add(tx)?;
+    Ok(())
+}
