@@ -6,7 +6,6 @@ use Rattle.std.specs.Option.{option_map_or}
 use Rattle.std.specs.Ordering.{is_eq}
 use Rattle.std.proofs.lemmas.List.{reverse-append, take_more}
 use Rattle.desk_terms.specs.Names.{same_name, name_cmp}
-use Rattle.desk_terms.specs.Places.{Places}
 use Rattle.proxy_rules.specs.Runs.{runs_at}
 use Rattle.proxy_rules.specs.declared.papers.Cutoffs.{Cutoffs}
 use Rattle.caller_view.specs.Kept.{Numbered}

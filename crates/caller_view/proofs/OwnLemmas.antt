@@ -20,12 +20,11 @@ use Rattle.proxy_rules.specs.Cutoffs.{cutoffs_of, is_late_poll, late_cutoffs}
 use Rattle.proxy_rules.specs.Holdings.{is_given_by}
 use Rattle.proxy_rules.specs.declared.papers.Cutoffs.{Cutoffs}
 use Rattle.proxy_rules.proofs.ListLemmas.{reverse-filter}
-use Rattle.caller_view.specs.Own.{authorised_by, governed_by, governed_kept, given_in, known_to_proxy, own_by, poll_governed, received_by, rows_by}
+use Rattle.caller_view.specs.Own.{authorised_by, governed_by, governed_kept, known_to_proxy, own_by, poll_governed, received_by, rows_by}
 use Rattle.caller_view.specs.Reads.{appointments_read, authorised_read, authorities_read, cast_on, for_poll, members_read, own_read, polls_on, polls_read, received_read, rows_read}
 use Rattle.caller_view.specs.declared.rows.AuthorityRows.{AuthorityRows}
 use Rattle.caller_view.specs.declared.rows.MemberRows.{MemberRows}
 use Rattle.caller_view.specs.declared.rows.OwnRows.{OwnRows}
-use Rattle.caller_view.specs.declared.views.OwnView.{OwnView}
 use Rattle.caller_view.proofs.ReadLemmas.{find-filter}
 
 -- what is made of those that pass

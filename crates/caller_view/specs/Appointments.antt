@@ -36,18 +36,22 @@ use_by cutoff moment = if nat_le moment cutoff then ForTheMeeting else LaterPoll
 abbrev pub given_use : Moment → Given → GivenUse
 given_use cutoff given = record { given = given; used = use_by cutoff given.appointment.moment }
 
--- when an appointment is not recorded: its places are no range, it names the party itself, it has
--- not one instruction for each resolution (section 324A), or the party gave `MOST_APPOINTMENTS`
--- already
-abbrev pub appoint_cases : Meeting → OwnView → NewAppointment → List Case
-appoint_cases meeting own new =
-    record { refusal = BadRange; holds = not (is_range new.from new.to) }
-    ∷ record { refusal = SelfNamed; holds = same_name new.proxy own.party }
+-- when an appointment over a range of places is not recorded: it names the party itself, it has not
+-- one instruction for each resolution (section 324A), or the party gave `MOST_APPOINTMENTS` already
+abbrev pub appoint_range_cases : Meeting → OwnView → NewAppointment → List Case
+appoint_range_cases meeting own new =
+    record { refusal = SelfNamed; holds = same_name new.proxy own.party }
     ∷ record {
       refusal = BadInstructions;
       holds = not (length new.instructions == length meeting.resolutions);
     }
     ∷ record { refusal = TooMany; holds = nat_le MOST_APPOINTMENTS (length own.given) } ∷ []
+
+-- when an appointment is not recorded: its places are no range, or as above
+abbrev pub appoint_cases : Meeting → OwnView → NewAppointment → List Case
+appoint_cases meeting own new =
+    record { refusal = BadRange; holds = not (is_range new.from new.to) }
+    ∷ appoint_range_cases meeting own new
 
 -- the appointment that is recorded, with the party's next number (section 324)
 abbrev pub appointment_of : OwnView → Moment → NewAppointment → Appointment

@@ -34,14 +34,12 @@ abbrev pub is_late_on : PublicRecord → Number → Bool
 is_late_on public resolution =
     there_is (is_late_poll public.closed) (poll_on public.polls resolution)
 
--- when a vote is not recorded (sections 284, 323, 324 and 324A)
-abbrev pub cast_cases : PublicRecord → Meeting → OwnView → NewCast → List Case
-cast_cases public meeting own new =
+-- when a vote on a range of places is not recorded (sections 284, 323, 324 and 324A)
+abbrev pub cast_range_cases : PublicRecord → Meeting → OwnView → NewCast → List Case
+cast_range_cases public meeting own new =
     let poll = poll_on public.polls new.resolution in
     let late = is_late_on public new.resolution in
-    no_resolution meeting new.resolution
-    ∷ record { refusal = BadRange; holds = not (is_range new.from new.to) }
-    ∷ record { refusal = TooMany; holds = has_cast_enough own new.resolution }
+    record { refusal = TooMany; holds = has_cast_enough own new.resolution }
     ∷ record { refusal = NoRegister; holds = not meeting.loaded }
     ∷ record { refusal = NoRight; holds = not (may_vote_for own new.member new.capacity) }
     ∷ record { refusal = NoPoll; holds = is_none poll }
@@ -50,6 +48,13 @@ cast_cases public meeting own new =
     ∷ record { refusal = NotYours; holds = is_not_own own late new new.capacity }
     ∷ record { refusal = AgainstInstruction; holds = is_against own late new new.capacity }
     ∷ []
+
+-- when a vote is not recorded: on no resolution of the meeting, on no range, or as above
+abbrev pub cast_cases : PublicRecord → Meeting → OwnView → NewCast → List Case
+cast_cases public meeting own new =
+    no_resolution meeting new.resolution
+    ∷ record { refusal = BadRange; holds = not (is_range new.from new.to) }
+    ∷ cast_range_cases public meeting own new
 
 -- what is cast as instructed is not recorded (section 324A)
 abbrev pub instructed_cases : PublicRecord → Meeting → OwnView → Number → List Case

@@ -1,5 +1,5 @@
 -- What is kept by member and number while a party's own things are made. For private contracts.
-use Rattle.std.specs.Prelude.{ℕ, List, [], map, Vec}
+use Rattle.std.specs.Prelude.{List, [], map, Vec}
 use Rattle.std.specs.BTreeMap.{BTreeMap, get}
 use Rattle.std.specs.Option.{option_map_or}
 use Rattle.std.specs.Ordering.{nat_cmp}

@@ -1,5 +1,5 @@
 -- A party's own things, from its rows in a meeting and the public record of the meeting.
-use Rattle.std.specs.Prelude.{ℕ, Bool, false, ◌==◌, List, [], map, filter, find, reverse, Option, Some, None, option_map, if◌then◌else◌}
+use Rattle.std.specs.Prelude.{ℕ, false, ◌==◌, List, [], map, filter, find, reverse, Option, Some, None, option_map, if◌then◌else◌}
 use Rattle.std.specs.Option.{option_map_or}
 use Rattle.desk_words.specs.Names.{same_name}
 use Rattle.desk_words.specs.Seen.{Day, Moment, Number, Party}

@@ -3,7 +3,7 @@ use Rattle.std.specs.Prelude.{List, [], map, filter, ◌==◌}
 use Rattle.desk_words.specs.Names.{same_name}
 use Rattle.desk_words.specs.Seen.{Number}
 use Rattle.desk_terms.specs.declared.kinds.Capacity.{Capacity}
-use Rattle.desk_terms.specs.declared.kinds.Capacity.TheVariants.{Member, Rep, Proxy}
+use Rattle.desk_terms.specs.declared.kinds.Capacity.TheVariants.{Rep, Proxy}
 use Rattle.desk_words.specs.declared.own.Authorised.{Authorised}
 use Rattle.desk_words.specs.declared.own.PollGoverned.{PollGoverned}
 use Rattle.desk_words.specs.declared.own.Received.{Received}

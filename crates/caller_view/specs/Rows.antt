@@ -1,5 +1,5 @@
 -- The rows of a meeting from which a party's own things are made: look-ups and filters alone.
-use Rattle.std.specs.Prelude.{Bool, false, not, List, [], ◌∷◌, map, filter, Option, Some, None}
+use Rattle.std.specs.Prelude.{false, not, List, [], ◌∷◌, map, filter, Option, Some, None}
 use Rattle.std.specs.List.{list_any}
 use Rattle.desk_words.specs.Names.{same_name}
 use Rattle.desk_words.specs.Seen.{Party}

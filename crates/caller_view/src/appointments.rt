@@ -4,7 +4,7 @@ ghost use Rattle.std.specs.Option.{option_copied};
 ghost use Rattle.desk_words.specs.Refusals.{first_refusal};
 ghost use Rattle.desk_words.specs.Rulings.{refuses, settled};
 ghost use Rattle.desk_words.specs.declared.own.Given.{Given};
-ghost use Rattle.caller_view.specs.Appointments.{appoint_cases, appoint_ruling, appointment_of, end_cases, end_ruling, given_numbered, use_by};
+ghost use Rattle.caller_view.specs.Appointments.{appoint_range_cases, appoint_ruling, appointment_of, end_cases, end_ruling, given_numbered, use_by};
 
 use crate::answers::cutoff_in;
 use crate::views::{OwnView, PublicRecord};
@@ -26,12 +26,10 @@ pub(crate) fn use_by(cutoff: Moment, moment: Moment) -> AppointmentUse
     }
 }
 
+/// Why an appointment over a range of places is not recorded.
 fn appoint_refusal(meeting: &Meeting, own: &OwnView, new: &NewAppointment) -> Option<Refusal>
-    ensures { result ≡ first_refusal (appoint_cases meeting.now own.now new.now) }
+    ensures { result ≡ first_refusal (appoint_range_cases meeting.now own.now new.now) }
 {
-    if Range::new(new.from, new.to).is_none() {
-        return Some(Refusal::BadRange);
-    }
     if new.proxy.is(own.party) {
         return Some(Refusal::SelfNamed);
     }
@@ -108,13 +106,13 @@ pub(crate) fn appoint(
     ensures sure { refuses (appoint_ruling public.now meeting.now own.now now new.now) ≡ true
         → IsOk result }
 {
+    let Some(range) = Range::new(new.from, new.to) else {
+        return Ok(refuse(Refusal::BadRange));
+    };
     if let Some(refusal) = appoint_refusal(meeting, own, new) {
         return Ok(refuse(refusal));
     }
-    match Range::new(new.from, new.to) {
-        Some(range) => appointed(public, meeting, own, now, new, range),
-        None => Ok(refuse(Refusal::BadRange)),
-    }
+    appointed(public, meeting, own, now, new, range)
 }
 
 fn find_given(given: &[Given], number: u64) -> Option<&Given>

@@ -4,7 +4,7 @@ ghost use Rattle.desk_words.specs.Refusals.{first_refusal};
 ghost use Rattle.desk_words.specs.Rulings.{settled};
 ghost use Rattle.desk_words.specs.declared.change.Entry.TheVariants as entry;
 ghost use Rattle.desk_words.specs.declared.reply.Reply.TheVariants as reply;
-ghost use Rattle.caller_view.specs.Casts.{block_of, cast_cases, cast_of, cast_ruling, cast_count, has_cast_enough, instructed_cases, instructed_ruling, is_late_on};
+ghost use Rattle.caller_view.specs.Casts.{block_of, cast_of, cast_range_cases, cast_ruling, cast_count, has_cast_enough, instructed_cases, instructed_ruling};
 
 use crate::rights::{is_against, is_not_own, is_uninstructed, may_vote_for};
 use crate::views::{OwnView, PublicRecord};
@@ -27,30 +27,15 @@ fn has_cast_enough(own: &OwnView, resolution: u64) -> bool
     cast_count(own.casts.as_slice(), resolution) >= MOST_CASTS
 }
 
-/// Whether the poll on the resolution is late, by the closed days as they stand.
-fn is_late_on(public: &PublicRecord, resolution: u64) -> bool
-    ensures { result ≡ is_late_on public.now resolution }
-{
-    match find_poll(public.polls, resolution) {
-        Some(poll) => is_late_poll(public.closed, &poll),
-        None => false,
-    }
-}
-
-fn cast_refusal(
+/// Why a vote on a range of places is not recorded, on a resolution of the meeting.
+fn range_refusal(
     public: &PublicRecord,
     meeting: &Meeting,
     own: &OwnView,
     new: &NewCast,
 ) -> Option<Refusal>
-    ensures { result ≡ first_refusal (cast_cases public.now meeting.now own.now new.now) }
+    ensures { result ≡ first_refusal (cast_range_cases public.now meeting.now own.now new.now) }
 {
-    if !meeting.has_resolution(new.resolution) {
-        return Some(Refusal::NoResolution);
-    }
-    if Range::new(new.from, new.to).is_none() {
-        return Some(Refusal::BadRange);
-    }
     if has_cast_enough(own, new.resolution) {
         return Some(Refusal::TooMany);
     }
@@ -69,7 +54,7 @@ fn cast_refusal(
     if poll.closed.is_some() {
         return Some(Refusal::PollClosed);
     }
-    let late = is_late_on(public, new.resolution);
+    let late = is_late_poll(public.closed, &poll);
     if is_not_own(own, late, new, new.capacity) {
         return Some(Refusal::NotYours);
     }
@@ -131,12 +116,15 @@ pub(crate) fn cast(
 ) -> Answer<Entry>
     ensures { result ≡ settled (cast_ruling public.now meeting.now own.now now new.now) }
 {
-    if let Some(refusal) = cast_refusal(public, meeting, own, new) {
-        return refuse(refusal);
+    if !meeting.has_resolution(new.resolution) {
+        return refuse(Refusal::NoResolution);
     }
-    match Range::new(new.from, new.to) {
-        Some(range) => recorded(cast_of(own, now, new.resolution, block_of(new, range))),
-        None => refuse(Refusal::BadRange),
+    let Some(range) = Range::new(new.from, new.to) else {
+        return refuse(Refusal::BadRange);
+    };
+    match range_refusal(public, meeting, own, new) {
+        Some(refusal) => refuse(refusal),
+        None => recorded(cast_of(own, now, new.resolution, block_of(new, range))),
     }
 }
 
@@ -166,7 +154,7 @@ fn instructed_refusal(
     if poll.closed.is_some() {
         return Some(Refusal::PollClosed);
     }
-    if is_uninstructed(own, is_late_on(public, resolution), resolution) {
+    if is_uninstructed(own, is_late_poll(public.closed, &poll), resolution) {
         return Some(Refusal::NotYours);
     }
     None

@@ -11,7 +11,7 @@ use desk_words::{
     Appointment, Listing, Meeting, Moment, Party, Poll, PollGoverned, Range, Received,
 };
 use office_days::Closed;
-use proxy_rules::{Cutoffs, Holding, cutoffs, is_late_poll, runs_by_number};
+use proxy_rules::{Cutoffs, Holding, cutoffs, is_late_poll, late_cutoffs, runs_by_number};
 use std::alloc::{AllocError, Global};
 use std::collections::BTreeMap;
 
@@ -61,9 +61,7 @@ fn late_runs(
     alloc: Global,
     members: &[MemberRows],
     closed: &Closed,
-    meeting: &Meeting,
     polls: &[Poll],
-    now: Moment,
 ) -> Result<Vec<PollRuns>, AllocError>
     ensures { IfOk result (λ late. (member : List ℕ) (number : ℕ) →
         map (poll_kept member number) late.items
@@ -73,7 +71,7 @@ fn late_runs(
     let mut late = Vec::new(alloc);
     for poll in polls {
         if is_late_poll(closed, poll) {
-            let cutoffs = cutoffs(meeting, Some(poll), closed, now);
+            let cutoffs = late_cutoffs(poll, closed);
             late.push(PollRuns {
                 resolution: poll.resolution,
                 runs: runs_for(alloc, &cutoffs, members)?,
@@ -181,6 +179,6 @@ pub(crate) fn received_from(
         ≡ map (received_by members.now closed.now meeting.now polls.now now) received.now) }
 {
     let runs = runs_for(alloc, &cutoffs(meeting, None, closed, now), members)?;
-    let late = late_runs(alloc, members, closed, meeting, polls, now)?;
+    let late = late_runs(alloc, members, closed, polls)?;
     all_with_runs(alloc, received, &runs, late.as_slice())
 }

@@ -1,13 +1,14 @@
 //! The desk of a company's general meetings.
 #![tactic(auto)]
 
-use desk_commands::{Plan, Zone, read_words};
+use desk_commands::{Plan, read_words};
 use desk_devices::{ReadDevice, WriteDevice};
 use desk_disk::DiskDesk;
 use desk_endings::{Ended, Fault, Line};
 use desk_tasks::moment_at;
 use desk_words::{MeetingId, Moment};
 use jiff::Timestamp;
+use office_clock::OfficeZone;
 use std::io::{self, ErrorKind};
 use std::process::ExitCode;
 use std::rt::Env;
@@ -34,9 +35,9 @@ fn by_words_error(error: io::Error) -> Ended {
 }
 
 /// The moment on the office's wall clock.
-fn now(rt: &HostRuntime, zone: &Zone<'_>) -> Result<Moment, Ended> {
+fn now(rt: &HostRuntime, zone: &OfficeZone) -> Result<Moment, Ended> {
     let instant = Timestamp::now(rt).map_err(|_| Ended::by(Fault::Clock))?;
-    moment_at(instant, &zone.zone)
+    moment_at(instant, zone)
 }
 
 fn open_reader(rt: &HostRuntime, file: &str) -> Result<ReadDevice<fs::File>, Ended> {
@@ -44,7 +45,7 @@ fn open_reader(rt: &HostRuntime, file: &str) -> Result<ReadDevice<fs::File>, End
     Ok(ReadDevice::new(file))
 }
 
-fn keys(rt: &HostRuntime, file: &str, csv: &str, zone: &Zone<'_>) -> Result<Ended, Ended> {
+fn keys(rt: &HostRuntime, file: &str, csv: &str, zone: &OfficeZone) -> Result<Ended, Ended> {
     let mut desk = DiskDesk::open(rt, file)?;
     let now = now(rt, zone)?;
     let mut reader = open_reader(rt, csv)?;
@@ -53,7 +54,7 @@ fn keys(rt: &HostRuntime, file: &str, csv: &str, zone: &Zone<'_>) -> Result<Ende
     Ok(ended)
 }
 
-fn days(rt: &HostRuntime, file: &str, txt: &str, zone: &Zone<'_>) -> Result<Ended, Ended> {
+fn days(rt: &HostRuntime, file: &str, txt: &str, zone: &OfficeZone) -> Result<Ended, Ended> {
     let mut desk = DiskDesk::open(rt, file)?;
     let now = now(rt, zone)?;
     let mut reader = open_reader(rt, txt)?;
@@ -68,7 +69,7 @@ fn register(
     meeting: MeetingId,
     record_moment: Moment,
     csv: &str,
-    zone: &Zone<'_>,
+    zone: &OfficeZone,
 ) -> Result<Ended, Ended> {
     let mut desk = DiskDesk::open(rt, file)?;
     let now = now(rt, zone)?;

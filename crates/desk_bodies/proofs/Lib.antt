@@ -3,3 +3,4 @@ mod CallLemmas
 mod ItemLemmas
 mod LawLemmas
 mod ReadUpTo
+mod RouteLemmas

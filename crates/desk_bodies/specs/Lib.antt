@@ -11,4 +11,5 @@ pub mod Presences
 pub mod Reads
 pub mod Registers
 pub mod Requests
+pub mod Routes
 pub mod Verbs

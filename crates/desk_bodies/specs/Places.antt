@@ -1,5 +1,5 @@
 -- What stands at a place in a JSON value: at a name in an object, or at an index in an array.
-use Rattle.std.specs.Prelude.{ℕ, Bool, false, bytes_eq, ◌==◌, List, [], ◌∷◌, Option, Some, None, option_map, option_and_then}
+use Rattle.std.specs.Prelude.{ℕ, Bool, false, ◌==◌, List, [], ◌∷◌, Option, Some, option_map, option_and_then}
 use Rattle.std.specs.Borrow.{Bor}
 use Rattle.std.specs.Option.{option_map_or}
 use Rattle.serde_json.specs.Data.{Data, Items, no_items, item}
@@ -7,7 +7,7 @@ use Rattle.serde_json.specs.View.{view}
 use Rattle.serde_json.specs.declared.value.Value.{Value}
 use Rattle.serde_json.specs.Find.{as_number, as_u64, as_bool, as_str, as_object, as_array}
 use Rattle.serde_json.specs.Events.{members_len, items_len}
-use Rattle.desk_bodies.specs.Reads.{only, ◌>>=◌}
+use Rattle.desk_bodies.specs.Reads.{◌>>=◌}
 
 -- the value at a place, if there is one
 abbrev pub there : Option (Bor Value) → Option Data

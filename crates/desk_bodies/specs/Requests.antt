@@ -1,20 +1,19 @@
 -- Requests, as a meeting, a verb and a body ask them.
-use Rattle.std.specs.Prelude.{ℕ, List, Option, Some, None, option_map, Result, ok_or, codes, bytes_eq, if◌then◌else◌}
+use Rattle.std.specs.Prelude.{ℕ, List, Option, Some, option_map, Result, ok_or}
 use Rattle.desk_terms.specs.declared.refusal.Refusal.{Refusal}
-use Rattle.desk_terms.specs.declared.refusal.Refusal.TheVariants.{Route}
-use Rattle.desk_terms.specs.Names.{meeting_of}
+use Rattle.desk_terms.specs.declared.refusal.Refusal.TheVariants as refusal
 use Rattle.desk_words.specs.declared.request.DeskRequest.TheVariants as desk
 use Rattle.desk_words.specs.declared.request.OfficeRequest.{OfficeRequest}
 use Rattle.desk_words.specs.declared.request.PartyRequest.{PartyRequest}
 use Rattle.desk_words.specs.declared.request.PartyRequest.TheVariants.{Notice, Mine}
 use Rattle.desk_words.specs.declared.request.Request.{Request}
 use Rattle.desk_words.specs.declared.request.Request.TheVariants as request
+use Rattle.desk_bodies.specs.declared.route.Route.{Route}
+use Rattle.desk_bodies.specs.declared.route.Route.TheVariants as route
 use Rattle.desk_bodies.specs.declared.verb.OfficeVerb.{OfficeVerb}
 use Rattle.desk_bodies.specs.declared.verb.OfficeVerb.TheVariants as office
 use Rattle.desk_bodies.specs.declared.verb.PartyVerb.{PartyVerb}
 use Rattle.desk_bodies.specs.declared.verb.PartyVerb.TheVariants as party
-use Rattle.desk_bodies.specs.declared.verb.Verb.{Verb}
-use Rattle.desk_bodies.specs.declared.verb.Verb.TheVariants.{Call, Closed, Keys, Office, Party}
 use Rattle.desk_bodies.specs.Answers.{readable, ◌>>=◌}
 use Rattle.desk_bodies.specs.Appointments.{appoint_in, end_in}
 use Rattle.desk_bodies.specs.Bodies.{read_by}
@@ -24,15 +23,7 @@ use Rattle.desk_bodies.specs.Keys.{keys_in}
 use Rattle.desk_bodies.specs.Polls.{order_in, start_in, close_in, declare_in, demand_in, cast_in, instructed_in}
 use Rattle.desk_bodies.specs.Presences.{open_in, presence_in, attend_in, authorise_in}
 use Rattle.desk_bodies.specs.Registers.{load_in}
-use Rattle.desk_bodies.specs.Verbs.{verb_of}
-
--- no route where there is none
-abbrev pub routed : {A : Type 0} → Option A → Result A Refusal
-routed found = ok_or found Route
-
--- `-` stands where no meeting is named
-abbrev pub unnamed : List ℕ → Option (Unit {0})
-unnamed meeting = if bytes_eq meeting (codes "-") then Some tt else None
+use Rattle.desk_bodies.specs.Routes.{route_of}
 
 -- what the office asks in a meeting, as the body says it
 abbrev pub office_asks : OfficeVerb → List ℕ → Option OfficeRequest
@@ -56,32 +47,24 @@ party_asks party.Demand body = read_by demand_in body
 party_asks party.Cast body = read_by cast_in body
 party_asks party.Instructed body = read_by instructed_in body
 
--- what a verb asks of the meeting that is named, if any
-abbrev pub in_named : List ℕ → (List ℕ → Option Request) → Result Request Refusal
-in_named meeting asking = routed (meeting_of meeting) >>= λ m. readable (asking m)
+-- what is asked on a route, as the body says it
+abbrev pub asked : Route → List ℕ → Option Request
+asked (route.Call meeting) body =
+    option_map (λ new. request.Desk (desk.CallMeeting new)) (read_by (call_in meeting) body)
+asked route.Closed body =
+    option_map (λ days. request.Desk (desk.ClosedDays days)) (read_by closed_in body)
+asked route.Keys body = option_map (λ rows. request.Desk (desk.Keys rows)) (read_by keys_in body)
+asked (route.Office meeting verb) body =
+    option_map (λ what. request.Office meeting what) (office_asks verb body)
+asked (route.Party meeting verb) body =
+    option_map (λ what. request.Party meeting what) (party_asks verb body)
 
--- what a verb asks of the whole desk, where no meeting is named
-abbrev pub in_no_meeting : List ℕ → Option Request → Result Request Refusal
-in_no_meeting meeting asking = routed (unnamed meeting) >>= λ nothing. readable asking
+-- no route where there is none
+abbrev pub routed : {A : Type 0} → Option A → Result A Refusal
+routed found = ok_or found refusal.Route
 
--- what a verb asks, and where
-abbrev pub asked : Verb → List ℕ → List ℕ → Result Request Refusal
-asked Call meeting body =
-    in_named meeting
-    (λ m. option_map (λ new. request.Desk (desk.CallMeeting new)) (read_by (call_in m) body))
-asked Closed meeting body =
-    in_no_meeting meeting
-    (option_map (λ days. request.Desk (desk.ClosedDays days)) (read_by closed_in body))
-asked Keys meeting body =
-    in_no_meeting meeting
-    (option_map (λ rows. request.Desk (desk.Keys rows)) (read_by keys_in body))
-asked (Office verb) meeting body =
-    in_named meeting (λ m. option_map (λ what. request.Office m what) (office_asks verb body))
-asked (Party verb) meeting body =
-    in_named meeting (λ m. option_map (λ what. request.Party m what) (party_asks verb body))
-
--- what the bytes ask: of a verb that is listed and a meeting's name, and only then of the body
+-- what the bytes ask: a route comes first, and only then the body
 unfoldable pub request_of : List ℕ → List ℕ → List ℕ → Result Request Refusal
 request_of meeting verb body = do
-  listed ← routed (verb_of verb)
-  asked listed meeting body
+  way ← routed (route_of meeting verb)
+  readable (asked way body)

@@ -1,9 +1,10 @@
 //! Requests, read from a meeting, a verb and a body.
 //!
-//! The verb names the request, and the body is a JSON object with exactly the fields that it asks
-//! for. A missing or a further field, a field of another type, a word that is not listed, a name,
-//! a text, a day or a moment without its form, and a list or a number outside its limits make the
-//! body unreadable. Numbers are whole, with no sign, fraction or exponent, and below 2^64.
+//! The meeting and the verb name a route, which is decided before the body is read. The body is a
+//! JSON object with exactly the fields that the verb asks for. A missing or a further field, a
+//! field of another type, a word that is not listed, a name, a text, a day or a moment without its
+//! form, and a list or a number outside its limits make the body unreadable. Numbers are whole,
+//! with no sign, fraction or exponent, and below 2^64.
 #![tactic(auto)]
 
 mod appointment;
@@ -18,8 +19,10 @@ mod poll;
 mod presence;
 mod register;
 mod request;
+mod route;
 mod verb;
 
 pub use ask::Ask;
 pub use request::request_of;
+pub use route::{Route, route_of};
 pub use verb::{OfficeVerb, PartyVerb, Verb};

@@ -1,6 +1,5 @@
 //! Requests, as a meeting, a verb and a body ask them.
 ghost use Rattle.std.specs.Prelude.{option_map};
-ghost use Rattle.desk_terms.specs.Names.{meeting_of};
 ghost use Rattle.desk_words.specs.declared.request.DeskRequest.TheVariants as desk;
 ghost use Rattle.desk_words.specs.declared.request.Request.TheVariants as request;
 ghost use Rattle.desk_bodies.specs.Answers.{Gives, itself, readable};
@@ -9,7 +8,7 @@ ghost use Rattle.desk_bodies.specs.Calls.{call_in};
 ghost use Rattle.desk_bodies.specs.Days.{closed_in};
 ghost use Rattle.desk_bodies.specs.Keys.{keys_in};
 ghost use Rattle.desk_bodies.specs.Reads.{Reads};
-ghost use Rattle.desk_bodies.specs.Requests.{office_asks, party_asks, request_of, routed, unnamed};
+ghost use Rattle.desk_bodies.specs.Requests.{asked, office_asks, party_asks, request_of};
 
 use crate::appointment::{appoint, end};
 use crate::ask::{Ask, Unread};
@@ -20,10 +19,11 @@ use crate::keys::keys;
 use crate::poll::{cast, close, declare, demand, instructed, order, start};
 use crate::presence::{attend, authorise, open, presence};
 use crate::register::load;
-use crate::verb::{OfficeVerb, PartyVerb, Verb};
+use crate::route::{Route, route_of};
+use crate::verb::{OfficeVerb, PartyVerb};
 use desk_words::{
     DayList, DeskRequest, KeyRows, MeetingId, NewMeeting, OfficeRequest, PartyRequest, Refusal,
-    Request, read_meeting,
+    Request,
 };
 use std::alloc::Global;
 
@@ -135,21 +135,22 @@ fn by_party(alloc: Global, verb: PartyVerb, meeting: MeetingId, body: &[u8]) -> 
     Ok(Request::Party { meeting, asked })
 }
 
-/// The meeting that is named.
-fn named(meeting: &[u8]) -> Result<MeetingId, Ask>
-    ensures { Gives itself result (routed (meeting_of meeting.now)) }
-{
-    read_meeting(meeting).ok_or(ROUTE)
-}
-
-/// Refuses whatever is no `-`, which stands where no meeting is named.
-fn no_meeting(meeting: &[u8]) -> Result<(), Ask>
-    ensures { Gives itself result (routed (unnamed meeting.now)) }
-{
-    if meeting == "-".as_bytes() {
-        Ok(())
-    } else {
-        Err(ROUTE)
+impl Route {
+    /// The request on a route, with what the body says of it. It is refused as `Unreadable` where
+    /// the body does not say what the verb asks, and only there. For `notice` and `mine` the body
+    /// is not looked at. Of a field that is repeated the last value counts, and an empty body
+    /// stands for an object with no fields. The error is `Memory` only where an allocation was
+    /// refused.
+    pub fn request(self, alloc: Global, body: &[u8]) -> Result<Request, Ask>
+        ensures { Gives itself result (readable (asked self body.now)) }
+    {
+        match self {
+            Route::Call(meeting) => by_call(alloc, meeting, body),
+            Route::Closed => by_closed(alloc, body),
+            Route::Keys => by_keys(alloc, body),
+            Route::Office { meeting, verb } => by_office(alloc, verb, meeting, body),
+            Route::Party { meeting, verb } => by_party(alloc, verb, meeting, body),
+        }
     }
 }
 
@@ -165,17 +166,6 @@ fn no_meeting(meeting: &[u8]) -> Result<(), Ask>
 pub fn request_of(alloc: Global, meeting: &[u8], verb: &[u8], body: &[u8]) -> Result<Request, Ask>
     ensures { Gives itself result (request_of meeting.now verb.now body.now) }
 {
-    match Verb::of_word(verb).ok_or(ROUTE)? {
-        Verb::Call => by_call(alloc, named(meeting)?, body),
-        Verb::Closed => {
-            no_meeting(meeting)?;
-            by_closed(alloc, body)
-        }
-        Verb::Keys => {
-            no_meeting(meeting)?;
-            by_keys(alloc, body)
-        }
-        Verb::Office(verb) => by_office(alloc, verb, named(meeting)?, body),
-        Verb::Party(verb) => by_party(alloc, verb, named(meeting)?, body),
-    }
+    let route = route_of(meeting, verb).ok_or(ROUTE)?;
+    route.request(alloc, body)
 }

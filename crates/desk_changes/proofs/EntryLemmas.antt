@@ -15,13 +15,13 @@ use Rattle.desk_words.specs.declared.records.Ending.{Ending}
 use Rattle.desk_words.specs.declared.records.PresenceMark.{PresenceMark}
 use Rattle.desk_rows.specs.declared.kept.InMeeting.{InMeeting as KeptOf}
 use Rattle.desk_rows.specs.Meanings.{◌>>=◌}
-use Rattle.desk_tables.specs.Contents as table
-use Rattle.desk_tables.specs.Office.{FlatLists, flat_in, office_of}
-use Rattle.desk_tables.specs.Statements.{Adds, CommitsNothing, Does, TableOf}
-use Rattle.desk_tables.proofs.FlatChanges.{appointments_changed, authorities_changed, casts_changed, demands_changed, endings_changed, presences_changed}
-use Rattle.desk_tables.proofs.ListChanges.{ListOf, received, the_appointments, the_authorities, the_casts, the_demands, the_endings, the_presences}
-use Rattle.desk_tables.proofs.OfficeLemmas.{with_changed}
-use Rattle.desk_tables.proofs.RecordLemmas.{in_meeting}
+use Rattle.desk_schema.specs.Contents as table
+use Rattle.desk_records.specs.Office.{FlatLists, flat_in, office_of}
+use Rattle.desk_schema.specs.Statements.{Adds, CommitsNothing, Does, TableOf}
+use Rattle.desk_records.proofs.FlatChanges.{appointments_changed, authorities_changed, casts_changed, demands_changed, endings_changed, presences_changed}
+use Rattle.desk_records.proofs.ListChanges.{ListOf, received, the_appointments, the_authorities, the_casts, the_demands, the_endings, the_presences}
+use Rattle.desk_records.proofs.OfficeLemmas.{with_changed}
+use Rattle.desk_records.proofs.RecordLemmas.{in_meeting}
 use Rattle.desk_words.specs.Changes.{entered}
 use Rattle.desk_changes.specs.Writes.{Writes}
 use Rattle.desk_changes.proofs.Possible.{placed_in, written_by}

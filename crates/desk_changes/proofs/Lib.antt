@@ -1,7 +1,6 @@
 pub mod EntryLemmas
 pub mod MeetingAdded
 pub mod MoveLemmas
-pub mod Placed
 pub mod Possible
 pub mod SetLemmas
 pub mod TurnLemmas

@@ -13,10 +13,10 @@ use Rattle.desk_words.specs.declared.records.Resolution.{Resolution}
 use Rattle.desk_words.proofs.RowLemmas.{same_name-refl}
 use Rattle.desk_rows.specs.declared.kept.MeetingRow.{MeetingRow}
 use Rattle.desk_rows.specs.Meanings.{◌>>=◌}
-use Rattle.desk_tables.specs.Contents.{without_resolutions}
-use Rattle.desk_tables.specs.Office.{FlatLists, have_meetings, lists_of, lists_of_all, number_before, numbered_from, of_meeting, office_of, resolutions_of}
-use Rattle.desk_tables.proofs.OfficeLemmas.{AreOf, office_is, stands_there}
-use Rattle.desk_tables.proofs.RecordLemmas.{in_meeting, name_turned, of_meeting-append, of_meeting-none, of_meeting-own, stand-append, stand-more, stand-none, stand-own, stands}
+use Rattle.desk_schema.specs.Contents.{without_resolutions}
+use Rattle.desk_records.specs.Office.{FlatLists, have_meetings, lists_of, lists_of_all, number_before, numbered_from, of_meeting, office_of, resolutions_of}
+use Rattle.desk_records.proofs.OfficeLemmas.{AreOf, office_is, stands_there}
+use Rattle.desk_records.proofs.RecordLemmas.{in_meeting, name_turned, of_meeting-append, of_meeting-none, of_meeting-own, stand-append, stand-more, stand-none, stand-own, stands}
 use Rattle.desk_words.specs.Changes.{new_lists}
 use Rattle.desk_changes.specs.Writes.{numbered}
 

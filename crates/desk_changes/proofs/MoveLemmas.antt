@@ -19,17 +19,17 @@ use Rattle.desk_words.proofs.RowLemmas.{same_name-true}
 use Rattle.desk_words.specs.declared.records.Poll.{Poll}
 use Rattle.desk_words.specs.declared.records.Tally.{Tally}
 use Rattle.desk_rows.specs.Meanings.{◌>>=◌}
-use Rattle.desk_tables.specs.Contents as table
-use Rattle.desk_tables.specs.Contents.{closed_at, declared_as, opened_at, started_at}
-use Rattle.desk_tables.specs.Office.{FlatLists, office_of}
-use Rattle.desk_tables.specs.Statements.{Adds, CommitsNothing, Does, Sets}
-use Rattle.desk_tables.proofs.FlatChanges.{meetings_changed, polls_changed}
-use Rattle.desk_tables.proofs.MeetingChanges.{meeting_opened}
-use Rattle.desk_tables.proofs.PollChanges.{poll_added, poll_moved, polls_ascend, takes_poll}
-use Rattle.desk_tables.proofs.ListLemmas.{map-once}
-use Rattle.desk_tables.proofs.OfficeLemmas.{change_named}
-use Rattle.desk_tables.proofs.RecordLemmas.{change_in, in_meeting}
-use Rattle.desk_tables.proofs.Tests.{each_is}
+use Rattle.desk_schema.specs.Contents as table
+use Rattle.desk_schema.specs.Contents.{closed_at, declared_as, opened_at, started_at}
+use Rattle.desk_records.specs.Office.{FlatLists, office_of}
+use Rattle.desk_schema.specs.Statements.{Adds, CommitsNothing, Does, Sets}
+use Rattle.desk_records.proofs.FlatChanges.{meetings_changed, polls_changed}
+use Rattle.desk_records.proofs.MeetingChanges.{meeting_opened}
+use Rattle.desk_records.proofs.PollChanges.{poll_added, poll_moved, polls_ascend, takes_poll}
+use Rattle.desk_records.proofs.ListLemmas.{map-once}
+use Rattle.desk_records.proofs.OfficeLemmas.{change_named}
+use Rattle.desk_records.proofs.RecordLemmas.{change_in, in_meeting}
+use Rattle.std.proofs.lemmas.Bool.{and_parts}
 use Rattle.desk_words.specs.Changes.{moved}
 use Rattle.desk_changes.specs.Writes.{Writes}
 use Rattle.desk_changes.proofs.Possible.{placed_in, written_by}
@@ -40,13 +40,13 @@ in_order : (x : MeetingLists) → is_meeting x ≡ true → ascends_by poll_befo
 in_order x h =
     let n = length x.meeting.resolutions in
     let opened = is_some x.meeting.opened in
-    let at_casts = each_is (are_resolutions x.meeting.resolutions && is_loaded_right x && are_appointments n x.appointments && are_endings x.appointments x.endings && are_authorities x.authorities && differ_by same_presence x.presences && are_demands n x.demands && are_polls opened n x.polls) (are_casts x.polls x.casts) h in
-    let at_polls = each_is (are_resolutions x.meeting.resolutions && is_loaded_right x && are_appointments n x.appointments && are_endings x.appointments x.endings && are_authorities x.authorities && differ_by same_presence x.presences && are_demands n x.demands) (are_polls opened n x.polls) at_casts.0 in
+    let at_casts = and_parts (are_resolutions x.meeting.resolutions && is_loaded_right x && are_appointments n x.appointments && are_endings x.appointments x.endings && are_authorities x.authorities && differ_by same_presence x.presences && are_demands n x.demands && are_polls opened n x.polls) (are_casts x.polls x.casts) h in
+    let at_polls = and_parts (are_resolutions x.meeting.resolutions && is_loaded_right x && are_appointments n x.appointments && are_endings x.appointments x.endings && are_authorities x.authorities && differ_by same_presence x.presences && are_demands n x.demands) (are_polls opened n x.polls) at_casts.0 in
     polls_ascend opened n x.polls at_polls.1
 
 all_in_order : (xs : List MeetingLists) → list_all is_meeting xs ≡ true → list_all (λ (x : MeetingLists). ascends_by poll_before x.polls) xs ≡ true
 all_in_order [] h = refl
-all_in_order (x ∷ xs) h = let parts = each_is (is_meeting x) (list_all is_meeting xs) h in rw (in_order x parts.0, all_in_order xs parts.1) refl
+all_in_order (x ∷ xs) h = let parts = and_parts (is_meeting x) (list_all is_meeting xs) h in rw (in_order x parts.0, all_in_order xs parts.1) refl
 
 -- where a meeting's polls are in order once a poll is put among them, it takes that poll
 takes_each : (id : List ℕ) (poll : Poll) (xs : List MeetingLists) → list_all is_meeting (map (change_named id (λ x. record x { polls = insert_by poll_before poll x.polls })) xs) ≡ true
@@ -54,7 +54,7 @@ takes_each : (id : List ℕ) (poll : Poll) (xs : List MeetingLists) → list_all
 takes_each id poll [] h = refl
 takes_each id poll (x ∷ xs) h =
     let put = λ (y : MeetingLists). record y { polls = insert_by poll_before poll y.polls } in
-    let parts = each_is (is_meeting (change_named id put x)) (list_all is_meeting (map (change_named id put) xs)) h in
+    let parts = and_parts (is_meeting (change_named id put x)) (list_all is_meeting (map (change_named id put) xs)) h in
     let later = takes_each id poll xs parts.1 in
     elim (cases_Bool (same_name x.meeting.id id)) [
       | inl is ↦ (let whole : is_meeting (put x) ≡ true = rw is at parts.0 in rw (is, in_order (put x) whole, later) refl)

@@ -15,14 +15,15 @@ use Rattle.desk_words.specs.declared.change.MeetingChange.{MeetingChange}
 use Rattle.desk_words.specs.declared.office.MeetingLists.{MeetingLists}
 use Rattle.desk_words.specs.declared.office.OfficeLists.{OfficeLists}
 use Rattle.desk_rows.specs.Meanings.{all_mean}
-use Rattle.desk_tables.specs.Contents as contents
-use Rattle.desk_tables.specs.Office.{FlatLists, flat_in, office_in, office_of}
-use Rattle.desk_tables.specs.Statements.{Changes, CommitsNothing, Does, KeepsOthers, TableOf, columns_of}
-use Rattle.desk_tables.proofs.OfficeLemmas.{AreOf, are_of}
-use Rattle.desk_tables.proofs.Tests.{bound, each_is}
-use Rattle.desk_words.specs.Changes.{after}
-use Rattle.desk_changes.specs.Writes.{Holds, Writes, can_make, is_placed}
-use Rattle.desk_tables.specs.Standing.{IsVersionOne}
+use Rattle.desk_schema.specs.Contents as contents
+use Rattle.desk_records.specs.Office.{FlatLists, flat_in, office_in, office_of}
+use Rattle.desk_schema.specs.Statements.{Changes, CommitsNothing, Does, KeepsOthers, TableOf, columns_of}
+use Rattle.desk_records.proofs.OfficeLemmas.{AreOf, are_of}
+use Rattle.desk_rows.proofs.MeaningLemmas.{bound}
+use Rattle.std.proofs.lemmas.Bool.{and_parts}
+use Rattle.desk_words.specs.Changes.{after, can_make, is_placed}
+use Rattle.desk_changes.specs.Writes.{Holds, Writes}
+use Rattle.desk_records.specs.Standing.{IsVersionOne}
 
 -- an office: its meetings differ, and each is one
 pub record IsOffice (office : OfficeLists) : Type 0 where
@@ -33,10 +34,10 @@ pub record IsOffice (office : OfficeLists) : Type 0 where
 
 office_parts : (office : OfficeLists) → is_office office ≡ true → IsOffice office
 office_parts office h =
-    let two = each_is (is_key_list office.keys && is_day_list office.closed) (are_meetings office.meetings) h in
-    let lists = each_is (is_key_list office.keys) (is_day_list office.closed) two.0 in
-    let meetings = each_is (nat_le (length office.meetings) 100 && differ_by same_meeting office.meetings) (list_all is_meeting office.meetings) two.1 in
-    let apart = each_is (nat_le (length office.meetings) 100) (differ_by same_meeting office.meetings) meetings.0 in
+    let two = and_parts (is_key_list office.keys && is_day_list office.closed) (are_meetings office.meetings) h in
+    let lists = and_parts (is_key_list office.keys) (is_day_list office.closed) two.0 in
+    let meetings = and_parts (nat_le (length office.meetings) 100 && differ_by same_meeting office.meetings) (list_all is_meeting office.meetings) two.1 in
+    let apart = and_parts (nat_le (length office.meetings) 100) (differ_by same_meeting office.meetings) meetings.0 in
     record { keys = lists.0; closed = lists.1; differ = apart.1; each = meetings.1 }
 
 -- an office can make a change
@@ -47,8 +48,8 @@ pub record Possible (office : OfficeLists) (change : Change) : Type 0 where
 
 pub possible : (office : OfficeLists) (change : Change) → IsTrue (can_make office change) → Possible office change
 possible office change h =
-    let two = each_is (is_office office && is_placed office change) (is_office (after office change)) h in
-    let one = each_is (is_office office) (is_placed office change) two.0 in
+    let two = and_parts (is_office office && is_placed office change) (is_office (after office change)) h in
+    let one = and_parts (is_office office) (is_placed office change) two.0 in
     record { before = office_parts office one.0; placed = one.1; later = office_parts (after office change) two.1 }
 
 found_any : {X : Type 0} (test : X → Bool) (xs : List X) → is_some (find test xs) ≡ true → list_any test xs ≡ true

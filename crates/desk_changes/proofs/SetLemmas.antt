@@ -20,15 +20,15 @@ use Rattle.desk_words.specs.declared.change.Change.TheVariants as change
 use Rattle.desk_words.specs.declared.change.MeetingChange.TheVariants.{SetRegister}
 use Rattle.desk_words.specs.declared.records.Meeting.{Meeting}
 use Rattle.desk_words.specs.declared.records.RegisterRow.{RegisterRow}
-use Rattle.desk_tables.specs.Contents as table
-use Rattle.desk_tables.specs.Contents.{loaded_at, without_resolutions}
-use Rattle.desk_tables.specs.Office.{FlatLists}
-use Rattle.desk_tables.specs.Statements.{Adds, CommitsNothing, Does, Empties, Sets, TakesOut}
-use Rattle.desk_tables.proofs.FlatChanges.{closed_changed, keys_changed, meetings_changed, register_changed}
-use Rattle.desk_tables.proofs.ListLemmas.{sort_by-sorted}
-use Rattle.desk_tables.proofs.MeetingChanges.{days_set, keys_set, register_set}
-use Rattle.desk_tables.proofs.RecordLemmas.{is_other}
-use Rattle.desk_tables.proofs.Tests.{each_is}
+use Rattle.desk_schema.specs.Contents as table
+use Rattle.desk_schema.specs.Contents.{loaded_at, without_resolutions}
+use Rattle.desk_records.specs.Office.{FlatLists}
+use Rattle.desk_schema.specs.Statements.{Adds, CommitsNothing, Does, Empties, Sets, TakesOut}
+use Rattle.desk_records.proofs.FlatChanges.{closed_changed, keys_changed, meetings_changed, register_changed}
+use Rattle.desk_records.proofs.ListLemmas.{sort_by-sorted}
+use Rattle.desk_records.proofs.MeetingChanges.{days_set, keys_set, register_set}
+use Rattle.desk_records.proofs.RecordLemmas.{is_other}
+use Rattle.std.proofs.lemmas.Bool.{and_parts}
 use Rattle.desk_words.specs.Changes.{new_lists}
 use Rattle.desk_changes.specs.Writes.{Turns, Writes, any_records, no_days, with_days, with_keys, with_resolutions, with_rows}
 use Rattle.desk_changes.proofs.MeetingAdded.{meeting_added}
@@ -36,19 +36,19 @@ use Rattle.desk_changes.proofs.Possible.{placed_in}
 use Rattle.desk_changes.proofs.TurnLemmas.{turns_by, turns_then, writes_failed, writes_from, turns_refused}
 
 keys_sorted : (keys : List KeyRow) → is_key_list keys ≡ true → sort_by caller_before keys ≡ keys
-keys_sorted keys h = sort_by-sorted (options_total nat_list_cmp_total) (λ (row : KeyRow). party_in row.caller) keys (each_is (keep_keys keys) (ascends_by caller_before keys) h).1
+keys_sorted keys h = sort_by-sorted (options_total nat_list_cmp_total) (λ (row : KeyRow). party_in row.caller) keys (and_parts (keep_keys keys) (ascends_by caller_before keys) h).1
 
 days_sorted : (days : List ℕ) → is_day_list days ≡ true → sort_by day_before days ≡ days
-days_sorted days h = sort_by-sorted nat_cmp_total (λ (day : ℕ). day) days (each_is (nat_le (length days) 2000) (ascends_by day_before days) h).1
+days_sorted days h = sort_by-sorted nat_cmp_total (λ (day : ℕ). day) days (and_parts (nat_le (length days) 2000) (ascends_by day_before days) h).1
 
 rows_sorted : (rows : List RegisterRow) → is_register rows ≡ true → sort_by member_before rows ≡ rows
-rows_sorted rows h = sort_by-sorted nat_list_cmp_total (λ (row : RegisterRow). row.member) rows (each_is (keep_limits rows) (ascends_by member_before rows) h).1
+rows_sorted rows h = sort_by-sorted nat_list_cmp_total (λ (row : RegisterRow). row.member) rows (and_parts (keep_limits rows) (ascends_by member_before rows) h).1
 
 -- where the values still differ with one more, none was like it
 differ_last : {X : Type 0} (alike : X → X → Bool) (xs : List X) (y : X) → differ_by alike (xs ++ y ∷ []) ≡ true → list_any (λ x. alike x y) xs ≡ false
 differ_last alike [] y h = refl
 differ_last alike (x ∷ xs) y h =
-    let parts = each_is (not (list_any (alike x) (xs ++ y ∷ []))) (differ_by alike (xs ++ y ∷ [])) h in
+    let parts = and_parts (not (list_any (alike x) (xs ++ y ∷ []))) (differ_by alike (xs ++ y ∷ [])) h in
     let none : (list_any (alike x) xs || (alike x y || false)) ≡ false = rw (list_any-append (alike x) xs (y ∷ [])) at (not-true (list_any (alike x) (xs ++ y ∷ [])) parts.0) in
     let last = or_parts (alike x y) false (or_parts (list_any (alike x) xs) (alike x y || false) none).1 in
     rw (last.0, differ_last alike xs y parts.1) refl

@@ -17,13 +17,14 @@ use Rattle.desk_words.specs.declared.office.OfficeLists.{OfficeLists}
 use Rattle.desk_words.specs.declared.records.RegisterRow.{RegisterRow}
 use Rattle.desk_words.specs.declared.records.Resolution.{Resolution}
 use Rattle.desk_rows.specs.Meanings.{◌>>=◌}
-use Rattle.desk_tables.specs.Contents as table
-use Rattle.desk_tables.specs.Office.{FlatLists, flat_in, office_of}
-use Rattle.desk_tables.specs.Statements.{Adds, AddsAfter, Changes, CommitsNothing, Does, TableOf}
-use Rattle.desk_tables.proofs.FlatChanges.{closed_changed, closed_held, keys_changed, register_changed, resolutions_changed}
-use Rattle.desk_tables.proofs.OfficeLemmas.{AreOf, are_of}
-use Rattle.desk_tables.proofs.RecordLemmas.{in_meeting}
-use Rattle.desk_tables.proofs.Tests.{bound, each_is}
+use Rattle.desk_schema.specs.Contents as table
+use Rattle.desk_records.specs.Office.{FlatLists, flat_in, office_of}
+use Rattle.desk_schema.specs.Statements.{Adds, AddsAfter, Changes, CommitsNothing, Does, TableOf}
+use Rattle.desk_records.proofs.FlatChanges.{closed_changed, closed_held, keys_changed, register_changed, resolutions_changed}
+use Rattle.desk_records.proofs.OfficeLemmas.{AreOf, are_of}
+use Rattle.desk_records.proofs.RecordLemmas.{in_meeting}
+use Rattle.desk_rows.proofs.MeaningLemmas.{bound}
+use Rattle.std.proofs.lemmas.Bool.{and_parts}
 use Rattle.desk_words.specs.Changes.{after}
 use Rattle.desk_changes.specs.Writes.{HoldsRecords, Turns, Writes, all_in, any_records, no_days, numbered, with_days, with_keys, with_resolutions, with_rows}
 use Rattle.desk_changes.proofs.Possible.{Possible, possible, version_kept}
@@ -51,9 +52,9 @@ lt_trans : (a b c : ℕ) → nat_lt a b ≡ true → nat_lt b c ≡ true → nat
 lt_trans a b c h k = grind (arith, nat_tests)
 
 earlier_each : (x : ℕ) (days : List ℕ) (day : ℕ) → ascends_by day_before (x ∷ days ++ day ∷ []) ≡ true → (nat_lt x day ≡ true) × (list_all (λ earlier. nat_lt earlier day) days ≡ true)
-earlier_each x [] day up = (sym (day_lt x day) ∙ (each_is (day_before x day) true up).0, refl)
+earlier_each x [] day up = (sym (day_lt x day) ∙ (and_parts (day_before x day) true up).0, refl)
 earlier_each x (y ∷ days) day up =
-    let parts = each_is (day_before x y) (ascends_by day_before (y ∷ days ++ day ∷ [])) up in
+    let parts = and_parts (day_before x y) (ascends_by day_before (y ∷ days ++ day ∷ [])) up in
     let later = earlier_each y days day parts.1 in
     (lt_trans x y day (sym (day_lt x y) ∙ parts.0) later.0, rw (later.0, later.1) refl)
 

@@ -1,33 +1,20 @@
 -- What is ensured where a change is written into the tables.
-use Rattle.std.specs.Prelude.{◌≡◌, ℕ, suc, ◌==◌, Bool, true, ◌&&◌, List, [], ◌∷◌, ◌++◌, length, map, Some, is_some, Result, OnOk, IsTrue}
+use Rattle.std.specs.Prelude.{◌≡◌, ℕ, suc, ◌==◌, Bool, true, List, [], ◌∷◌, ◌++◌, length, map, Some, Result, OnOk, IsTrue}
 use Rattle.sqlite.specs.declared.error.Error.{Error}
 use Rattle.sqlite.specs.Held.{Held, state}
 use Rattle.sqlite.specs.State.{State, HasCleanDisk, KeepsCommit, Survives}
 use Rattle.sqlite_trees.specs.declared.store.Store as store
-use Rattle.desk_words.specs.Finding.{meeting_named}
-use Rattle.desk_words.specs.Office.{is_office}
 use Rattle.desk_words.specs.declared.change.Change.{Change}
 use Rattle.desk_words.specs.declared.caller.KeyRow.{KeyRow}
-use Rattle.desk_words.specs.declared.change.Change.TheVariants as change
 use Rattle.desk_words.specs.declared.office.OfficeLists.{OfficeLists}
 use Rattle.desk_words.specs.declared.records.RegisterRow.{RegisterRow}
 use Rattle.desk_words.specs.declared.records.Resolution.{Resolution}
 use Rattle.desk_rows.specs.declared.kept.InMeeting.{InMeeting}
 use Rattle.desk_rows.specs.declared.kept.NumberedResolution.{NumberedResolution}
-use Rattle.desk_tables.specs.Office.{FlatLists, flat_in, office_in}
-use Rattle.desk_tables.specs.Standing.{IsVersionOne}
-use Rattle.desk_tables.specs.Statements.{IsDesk}
-use Rattle.desk_words.specs.Changes.{after}
-
--- the meeting in which something is changed stands
-abbrev pub is_placed : OfficeLists → Change → Bool
-is_placed office (change.InMeeting id what) = is_some (meeting_named office.meetings id)
-is_placed office other = true
-
--- a change that an office can make: in a meeting that stands, and it leaves the lists of an office
-abbrev pub can_make : OfficeLists → Change → Bool
-can_make office change =
-    is_office office && is_placed office change && is_office (after office change)
+use Rattle.desk_records.specs.Office.{FlatLists, flat_in, office_in}
+use Rattle.desk_records.specs.Standing.{IsVersionOne}
+use Rattle.desk_schema.specs.Statements.{IsDesk}
+use Rattle.desk_words.specs.Changes.{after, can_make}
 
 -- in a transaction the tables are those of a desk, of version 1, and they are this office
 pub record Holds (office : OfficeLists) (s : State) : Type 0 where

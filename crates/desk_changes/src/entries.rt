@@ -4,8 +4,8 @@ ghost use Rattle.desk_words.specs.declared.change.Change.TheVariants as change;
 ghost use Rattle.desk_words.specs.declared.change.MeetingChange.TheVariants as meeting_change;
 ghost use Rattle.desk_changes.specs.Writes.{Writes};
 
-use desk_tables::{appointments, authorities, casts, demands, endings, presences};
 use desk_words::{Entry, MeetingId};
+use meeting_tables::{appointments, authorities, casts, demands, endings, presences};
 use sqlite::{Alter, Error, Transaction};
 use std::alloc::Global;
 

@@ -4,8 +4,9 @@ ghost use Rattle.desk_words.specs.declared.change.Change.TheVariants as change;
 ghost use Rattle.desk_words.specs.declared.change.MeetingChange.TheVariants as meeting_change;
 ghost use Rattle.desk_changes.specs.Writes.{Writes};
 
-use desk_tables::polls::{self, PollName};
+use desk_schema::PollName;
 use desk_words::{MeetingId, Poll, PollChange};
+use meeting_tables::polls;
 use sqlite::{Alter, Error, Transaction};
 
 /// Adds a poll that is ordered. The error is what the database answered.

@@ -1,5 +1,5 @@
 -- What the words of the program ask for.
-use Rattle.std.specs.Prelude.{◌≡◌, ⊤, ℕ, List, Option, Some, None, Result, Ok, Err, ok_or, bytes_eq, codes, is_some, if◌then◌else◌}
+use Rattle.std.specs.Prelude.{◌≡◌, ⊤, ℕ, List, Option, Some, None, Result, Ok, Err, ok_or, bytes_eq, codes, if◌then◌else◌}
 use Rattle.clap.specs.declared.error.kind.ErrorKind.{ErrorKind}
 use Rattle.clap.specs.declared.error.kind.ErrorKind.TheVariants as kind
 use Rattle.clap.specs.Faults.{fault_of}
@@ -7,22 +7,19 @@ use Rattle.clap.specs.Simple.{subcommand_of}
 use Rattle.clap.specs.Walk.{Row, Text, first_of, is_empty}
 use Rattle.desk_calendar.specs.Texts.{moment_of}
 use Rattle.desk_terms.specs.Names.{meeting_of}
-use Rattle.jiff_tz.specs.PosixReader.{read_whole}
-use Rattle.jiff.specs.Placed.{IsPosixZone}
-use Rattle.jiff.specs.ZoneView.{plain_zone}
+use Rattle.office_clock.specs.Zones.{Rule, rule_in, rule_of}
 use Rattle.desk_commands.specs.App.{desk}
-use Rattle.desk_commands.specs.declared.zone.Zone.{Zone as ZoneOfPlan}
 use Rattle.desk_commands.specs.declared.plan.Plan.{Plan}
 use Rattle.desk_commands.specs.declared.plan.Plan.TheVariants as plan
 use Rattle.desk_commands.specs.declared.plan.WordsFault.{WordsFault}
 use Rattle.desk_commands.specs.declared.plan.WordsFault.TheVariants as fault
 
--- a command, with the texts of its files and of its zone, its meeting and its record moment
+-- a command, with the texts of its files, its meeting, its record moment and the rule of its zone
 pub data Asked : Type 0 where
   Init : Text → Asked
-  Keys : Text → Text → Text → Asked
-  Days : Text → Text → Text → Asked
-  Register : Text → List ℕ → ℕ → Text → Text → Asked
+  Keys : Text → Text → Rule → Asked
+  Days : Text → Text → Rule → Asked
+  Register : Text → List ℕ → ℕ → Text → Rule → Asked
   Results : Text → List ℕ → Asked
   Replay : Asked
 
@@ -36,25 +33,12 @@ pub data Wrong : Type 0 where
 -- a plan, as contracts see it
 abbrev pub plan_view : Plan → Asked
 plan_view (plan.Init file) = Init file.now
-plan_view (plan.Keys file csv zone) = Keys file.now csv.now zone.rule.now
-plan_view (plan.Days file txt zone) = Days file.now txt.now zone.rule.now
+plan_view (plan.Keys file csv zone) = Keys file.now csv.now (rule_of zone)
+plan_view (plan.Days file txt zone) = Days file.now txt.now (rule_of zone)
 plan_view (plan.Register file meeting record_moment csv zone) =
-    Register file.now meeting record_moment csv.now zone.rule.now
+    Register file.now meeting record_moment csv.now (rule_of zone)
 plan_view (plan.Results file meeting) = Results file.now meeting
 plan_view plan.Replay = Replay
-
--- the zone is that of its rule
-abbrev pub IsOfItsRule : ZoneOfPlan → Type 0
-IsOfItsRule zone = IsPosixZone zone.rule.now (plain_zone zone.zone)
-
--- the zone of the plan, where it has one, is that of its rule
-abbrev pub HasZoneOfRule : Plan → Type 0
-HasZoneOfRule (plan.Init file) = ⊤
-HasZoneOfRule (plan.Keys file csv zone) = IsOfItsRule zone
-HasZoneOfRule (plan.Days file txt zone) = IsOfItsRule zone
-HasZoneOfRule (plan.Register file meeting record_moment csv zone) = IsOfItsRule zone
-HasZoneOfRule (plan.Results file meeting) = ⊤
-HasZoneOfRule plan.Replay = ⊤
 
 -- the answer is that fault; of want of memory nothing is said
 abbrev pub IsWrong : {Y : Type 0} → WordsFault → Result Y Wrong → Type 0
@@ -87,10 +71,6 @@ abbrev pub ◌>>=◌ : {A B : Type 0} → Result A Wrong → (A → Result B Wro
 abbrev pub word_in : Text → List Row → Result Text Wrong
 word_in id rows = ok_or (first_of id rows) Words
 
--- the rule of a zone, if it is a POSIX rule
-abbrev pub rule_of : Text → Option Text
-rule_of text = if is_some (read_whole text) then Some text else None
-
 unfoldable pub init_in : List Row → Result Asked Wrong
 init_in rows = do
   file ← word_in (codes "FILE") rows
@@ -101,7 +81,7 @@ keys_in rows = do
   file ← word_in (codes "FILE") rows
   csv ← word_in (codes "CSV") rows
   zone ← word_in (codes "zone") rows
-  rule ← ok_or (rule_of zone) Zone
+  rule ← ok_or (rule_in zone) Zone
   Ok (Keys file csv rule)
 
 unfoldable pub days_in : List Row → Result Asked Wrong
@@ -109,7 +89,7 @@ days_in rows = do
   file ← word_in (codes "FILE") rows
   txt ← word_in (codes "TXT") rows
   zone ← word_in (codes "zone") rows
-  rule ← ok_or (rule_of zone) Zone
+  rule ← ok_or (rule_in zone) Zone
   Ok (Days file txt rule)
 
 -- all words are there first; then the meeting is read, the record moment, and the zone
@@ -122,7 +102,7 @@ register_in rows = do
   zone ← word_in (codes "zone") rows
   meeting ← ok_or (meeting_of meeting_word) Meeting
   record_moment ← ok_or (moment_of record_word) Record
-  rule ← ok_or (rule_of zone) Zone
+  rule ← ok_or (rule_in zone) Zone
   Ok (Register file meeting record_moment csv rule)
 
 unfoldable pub results_in : List Row → Result Asked Wrong

@@ -4,7 +4,5 @@
 mod app;
 mod help;
 mod plan;
-mod zone;
 
 pub use plan::{Plan, WordsFault, read_words};
-pub use zone::Zone;

@@ -1,17 +1,18 @@
 //! What the words ask for.
-ghost use Rattle.std.specs.Prelude.{◌≡◌, map, string_bytes, option_map, IfOk, IfSome};
+ghost use Rattle.std.specs.Prelude.{◌≡◌, map, string_bytes, ok_or};
 ghost use Rattle.clap.specs.Matches.{found_of};
 ghost use Rattle.clap.specs.Values.{kind_of};
 ghost use Rattle.clap.specs.Simple.{subcommand_rows_of};
 ghost use Rattle.clap.specs.Walk.{rows_of};
-ghost use Rattle.desk_commands.specs.Plans.{Gives, IsRefused, IsOfItsRule, HasZoneOfRule, plan_view, word_in, rule_of, init_in, keys_in, days_in, register_in, results_in, asked_by, asked_in, asked};
+ghost use Rattle.office_clock.specs.Zones.{rule_in, rule_of};
+ghost use Rattle.desk_commands.specs.Plans.{Gives, IsRefused, Zone, plan_view, word_in, init_in, keys_in, days_in, register_in, results_in, asked_by, asked_in, asked};
 
 use crate::app::desk_matches;
-use crate::zone::Zone;
 use clap::error::ErrorKind;
 use clap::{ArgMatches, Error};
-use desk_words::{MeetingId, Moment, read_meeting, read_moment};
-use jiff::tz::TimeZone;
+use desk_calendar::{Moment, read_moment};
+use desk_terms::{MeetingId, read_meeting};
+use office_clock::OfficeZone;
 use std::alloc::Global;
 
 /// The command that the words name, with its files and its values.
@@ -25,13 +26,13 @@ pub enum Plan<'a> {
     Keys {
         file: &'a str,
         csv: &'a str,
-        zone: Zone<'a>,
+        zone: OfficeZone,
     },
     /// Closed days are loaded from a day file.
     Days {
         file: &'a str,
         txt: &'a str,
-        zone: Zone<'a>,
+        zone: OfficeZone,
     },
     /// A register is loaded for a meeting from a register file.
     Register {
@@ -39,7 +40,7 @@ pub enum Plan<'a> {
         meeting: MeetingId,
         record_moment: Moment,
         csv: &'a str,
-        zone: Zone<'a>,
+        zone: OfficeZone,
     },
     /// The results of a meeting are printed.
     Results {
@@ -66,14 +67,13 @@ pub enum WordsFault {
     Memory,
 }
 
-/// The zone that a POSIX rule spells, or none exactly where the text is no rule.
-fn read_zone(rule: &str) -> Option<Zone<'_>>
-    ensures rule { option_map (λ z. z.rule.now) result ≡ rule_of rule.now }
-    ensures zone { IfSome result IsOfItsRule }
+/// The zone that a POSIX rule spells. The fault is exactly that the text is no rule.
+fn read_zone(rule: &str) -> Result<OfficeZone, WordsFault>
+    ensures { Gives rule_of result (ok_or (rule_in rule.now) Zone) }
 {
-    match TimeZone::posix(rule) {
-        Ok(zone) => Some(Zone { rule, zone }),
-        Err(_) => None,
+    match OfficeZone::read(rule) {
+        Ok(zone) => Ok(zone),
+        Err(_) => Err(WordsFault::Zone),
     }
 }
 
@@ -89,8 +89,7 @@ fn word<'a>(alloc: Global, matches: &ArgMatches<'a>, id: &str) -> Result<&'a str
 
 #[tactic(auto, unfolding(crate::specs::Plans::init_in))]
 fn init_in<'a>(alloc: Global, matches: &ArgMatches<'a>) -> Result<Plan<'a>, WordsFault>
-    ensures asked { Gives plan_view result (init_in (rows_of (found_of matches.now))) }
-    ensures zone { IfOk result HasZoneOfRule }
+    ensures { Gives plan_view result (init_in (rows_of (found_of matches.now))) }
 {
     let file = word(alloc, matches, "FILE")?;
     Ok(Plan::Init { file })
@@ -98,32 +97,29 @@ fn init_in<'a>(alloc: Global, matches: &ArgMatches<'a>) -> Result<Plan<'a>, Word
 
 #[tactic(auto, unfolding(crate::specs::Plans::keys_in))]
 fn keys_in<'a>(alloc: Global, matches: &ArgMatches<'a>) -> Result<Plan<'a>, WordsFault>
-    ensures asked { Gives plan_view result (keys_in (rows_of (found_of matches.now))) }
-    ensures zone { IfOk result HasZoneOfRule }
+    ensures { Gives plan_view result (keys_in (rows_of (found_of matches.now))) }
 {
     let file = word(alloc, matches, "FILE")?;
     let csv = word(alloc, matches, "CSV")?;
     let rule = word(alloc, matches, "zone")?;
-    let zone = read_zone(rule).ok_or(WordsFault::Zone)?;
+    let zone = read_zone(rule)?;
     Ok(Plan::Keys { file, csv, zone })
 }
 
 #[tactic(auto, unfolding(crate::specs::Plans::days_in))]
 fn days_in<'a>(alloc: Global, matches: &ArgMatches<'a>) -> Result<Plan<'a>, WordsFault>
-    ensures asked { Gives plan_view result (days_in (rows_of (found_of matches.now))) }
-    ensures zone { IfOk result HasZoneOfRule }
+    ensures { Gives plan_view result (days_in (rows_of (found_of matches.now))) }
 {
     let file = word(alloc, matches, "FILE")?;
     let txt = word(alloc, matches, "TXT")?;
     let rule = word(alloc, matches, "zone")?;
-    let zone = read_zone(rule).ok_or(WordsFault::Zone)?;
+    let zone = read_zone(rule)?;
     Ok(Plan::Days { file, txt, zone })
 }
 
 #[tactic(auto, unfolding(crate::specs::Plans::register_in))]
 fn register_in<'a>(alloc: Global, matches: &ArgMatches<'a>) -> Result<Plan<'a>, WordsFault>
-    ensures asked { Gives plan_view result (register_in (rows_of (found_of matches.now))) }
-    ensures zone { IfOk result HasZoneOfRule }
+    ensures { Gives plan_view result (register_in (rows_of (found_of matches.now))) }
 {
     let file = word(alloc, matches, "FILE")?;
     let meeting_word = word(alloc, matches, "MEETING")?;
@@ -132,7 +128,7 @@ fn register_in<'a>(alloc: Global, matches: &ArgMatches<'a>) -> Result<Plan<'a>, 
     let rule = word(alloc, matches, "zone")?;
     let meeting = read_meeting(meeting_word.as_bytes()).ok_or(WordsFault::Meeting)?;
     let record_moment = read_moment(record_word.as_bytes()).ok_or(WordsFault::Record)?;
-    let zone = read_zone(rule).ok_or(WordsFault::Zone)?;
+    let zone = read_zone(rule)?;
     Ok(Plan::Register {
         file,
         meeting,
@@ -144,8 +140,7 @@ fn register_in<'a>(alloc: Global, matches: &ArgMatches<'a>) -> Result<Plan<'a>, 
 
 #[tactic(auto, unfolding(crate::specs::Plans::results_in))]
 fn results_in<'a>(alloc: Global, matches: &ArgMatches<'a>) -> Result<Plan<'a>, WordsFault>
-    ensures asked { Gives plan_view result (results_in (rows_of (found_of matches.now))) }
-    ensures zone { IfOk result HasZoneOfRule }
+    ensures { Gives plan_view result (results_in (rows_of (found_of matches.now))) }
 {
     let file = word(alloc, matches, "FILE")?;
     let meeting = word(alloc, matches, "MEETING")?;
@@ -154,8 +149,7 @@ fn results_in<'a>(alloc: Global, matches: &ArgMatches<'a>) -> Result<Plan<'a>, W
 }
 
 fn plan_by<'a>(alloc: Global, name: &str, matches: &ArgMatches<'a>) -> Result<Plan<'a>, WordsFault>
-    ensures asked { Gives plan_view result (asked_by name.now (rows_of (found_of matches.now))) }
-    ensures zone { IfOk result HasZoneOfRule }
+    ensures { Gives plan_view result (asked_by name.now (rows_of (found_of matches.now))) }
 {
     match name {
         "init" => init_in(alloc, matches),
@@ -169,8 +163,7 @@ fn plan_by<'a>(alloc: Global, name: &str, matches: &ArgMatches<'a>) -> Result<Pl
 }
 
 fn plan_in<'a>(alloc: Global, matches: &ArgMatches<'a>) -> Result<Plan<'a>, WordsFault>
-    ensures asked { Gives plan_view result (asked_in (subcommand_rows_of matches.now)) }
-    ensures zone { IfOk result HasZoneOfRule }
+    ensures { Gives plan_view result (asked_in (subcommand_rows_of matches.now)) }
 {
     match matches.subcommand() {
         Some((name, under)) => plan_by(alloc, name, under),
@@ -195,8 +188,7 @@ fn refused(alloc: Global, error: &Error) -> WordsFault
 /// its values. The faults are found in their order: the words, the meeting, the record moment, the
 /// zone.
 pub fn read_words<'a>(alloc: Global, words: &'a [String]) -> Result<Plan<'a>, WordsFault>
-    ensures asked { Gives plan_view result (asked (map string_bytes words.entry.now)) }
-    ensures zone { IfOk result HasZoneOfRule }
+    ensures { Gives plan_view result (asked (map string_bytes words.entry.now)) }
 {
     match desk_matches(alloc, words) {
         Ok(matches) => plan_in(alloc, &matches),

@@ -32,6 +32,15 @@ impl fmt::Display for FillFailed {
 
 impl Error for FillFailed {}
 
+/// Why a text was not printed.
+#[derive(Clone, Copy, PartialEq, Eq)]
+pub enum PrintFault {
+    /// A write failed. What was written is a part of the text from its front, and never all of it.
+    WriteFault,
+    /// An allocation was refused. Nothing was written.
+    Memory,
+}
+
 /// The count of failures after one more. It stays at `u64::MAX`.
 pub(crate) fn counted(failures: u64) -> u64
     ensures { result ≡ one_more failures }

@@ -11,7 +11,7 @@ mod source;
 mod std_device;
 mod trial;
 
-pub use failure::{DeviceFailed, FillFailed};
+pub use failure::{DeviceFailed, FillFailed, PrintFault};
 pub use memory::{SliceSource, VecSink};
 pub use sink::{Sink, write_all};
 pub use source::{Source, read_to_fill};

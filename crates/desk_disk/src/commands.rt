@@ -7,7 +7,7 @@ ghost use Rattle.desk_files.specs.Days.{day_file};
 ghost use Rattle.desk_files.specs.Keys.{key_file};
 ghost use Rattle.desk_files.specs.Registers.{register_file};
 ghost use Rattle.desk_files.specs.declared.whole.TheConstants.{DAY_FILE_LIMIT, FILE_LIMIT};
-ghost use Rattle.desk_tables.specs.Standing.{Stands};
+ghost use Rattle.desk_records.specs.Standing.{Stands};
 ghost use Rattle.desk_tasks.specs.Loading.{Loads};
 ghost use Rattle.desk_tasks.specs.Reading.{reader_at, with_days, with_keys, with_register};
 ghost use Rattle.desk_tasks.specs.Results.{Prints};

@@ -7,8 +7,8 @@ use Rattle.desk_files.specs.Faults.{why_word}
 use Rattle.desk_files.specs.declared.fault.Why.{Why}
 use Rattle.desk_files.specs.declared.fault.FileFault.{FileFault}
 use Rattle.desk_files.specs.declared.fault.FileFault.TheVariants as file
-use Rattle.desk_papers.specs.declared.print.PrintFault.{PrintFault}
-use Rattle.desk_papers.specs.declared.print.PrintFault.TheVariants as print
+use Rattle.desk_devices.specs.declared.failure.PrintFault.{PrintFault}
+use Rattle.desk_devices.specs.declared.failure.PrintFault.TheVariants as print
 use Rattle.desk_commands.specs.declared.plan.WordsFault.{WordsFault}
 use Rattle.desk_commands.specs.declared.plan.WordsFault.TheVariants as words
 use Rattle.desk_endings.specs.declared.line.Line.{Line}

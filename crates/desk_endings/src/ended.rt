@@ -4,7 +4,8 @@ ghost use Rattle.desk_endings.specs.Endings.{ended_view, done, ending, fault_wor
 
 use crate::line::Line;
 use desk_commands::WordsFault;
-use desk_papers::{FileFault, PrintFault};
+use desk_devices::PrintFault;
+use desk_files::FileFault;
 use desk_terms::Refusal;
 
 /// How the program ends: its status, and the line that it prints, if any: with status 0 on standard

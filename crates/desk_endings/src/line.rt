@@ -2,7 +2,7 @@
 ghost use Rattle.std.specs.Prelude.{Some};
 ghost use Rattle.desk_endings.specs.Endings.{line_text};
 
-use desk_papers::Why;
+use desk_files::Why;
 use desk_terms::Refusal;
 use std::fmt;
 

@@ -5,13 +5,13 @@ use Rattle.std.proofs.lemmas.Bool.Decides.{nat_tests}
 use Rattle.sqlite.specs.State.{State}
 use Rattle.sqlite.specs.Table.{Table}
 use Rattle.sqlite.specs.Tree.{Trees}
-use Rattle.desk_tables.specs.Contents as contents
-use Rattle.desk_tables.specs.Office.{flat_in, office_in, office_of}
-use Rattle.desk_tables.specs.Statements.{AddsFirst, AreEmpty, IsDesk, IsRising, is_table, records_in, table_numbers}
-use Rattle.desk_tables.specs.Tables.{desk_schema}
+use Rattle.desk_schema.specs.Contents as contents
+use Rattle.desk_records.specs.Office.{flat_in, office_in, office_of}
+use Rattle.desk_schema.specs.Statements.{AddsFirst, AreEmpty, IsDesk, IsRising, is_table, records_in, table_numbers}
+use Rattle.desk_schema.specs.Tables.{desk_schema}
 use Rattle.desk_words.specs.Changes.{empty_office}
-use Rattle.desk_tables.specs.Standing.{version_one}
-use Rattle.desk_tables.specs.Standing.{Stands}
+use Rattle.desk_records.specs.Standing.{version_one}
+use Rattle.desk_records.specs.Standing.{Stands}
 
 number_is : (m n : ℕ) → (m == n) ≡ true → m ≡ n
 number_is m n h = grind (arith, nat_tests)

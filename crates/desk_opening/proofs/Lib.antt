@@ -1,4 +1,3 @@
-pub mod ColumnLemmas
 pub mod EmptyLemmas
 pub mod MakingLemmas
 pub mod OneSchema

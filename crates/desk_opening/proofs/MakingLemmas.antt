@@ -4,10 +4,10 @@ use Rattle.sqlite.specs.Held.{Held, state}
 use Rattle.sqlite.specs.State.{State, HasCleanDisk, KeepsCommit}
 use Rattle.sqlite.proofs.StateLemmas.{survives_then}
 use Rattle.sqlite_trees.specs.declared.store.Store as store
-use Rattle.desk_tables.specs.Standing.{version_one}
-use Rattle.desk_tables.specs.Contents as contents
-use Rattle.desk_tables.specs.Statements.{AddsFirst, CommitsNothing, Does}
-use Rattle.desk_tables.specs.Tables.{desk_schema, no_schema}
+use Rattle.desk_records.specs.Standing.{version_one}
+use Rattle.desk_schema.specs.Contents as contents
+use Rattle.desk_schema.specs.Statements.{AddsFirst, CommitsNothing, Does}
+use Rattle.desk_schema.specs.Tables.{desk_schema, no_schema}
 use Rattle.desk_opening.specs.Making.{IsMaking, LeavesEmptyDesk}
 use Rattle.desk_opening.proofs.EmptyLemmas.{empty_desk, noted}
 

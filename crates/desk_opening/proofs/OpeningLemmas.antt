@@ -12,7 +12,7 @@ use Rattle.sqlite.specs.State.{State}
 use Rattle.sqlite.specs.Tree.{Trees}
 use Rattle.sqlite_catalog.specs.Listing.{AreListed}
 use Rattle.sqlite_trees.specs.Objects.{catalog_tree}
-use Rattle.desk_tables.specs.Tables.{desk_schema}
+use Rattle.desk_schema.specs.Tables.{desk_schema}
 use Rattle.desk_opening.proofs.OneSchema.{one_schema}
 use Rattle.sqlite_trees.specs.declared.store.Store as store
 use Rattle.desk_lists.specs.Sorting.{sort_by}
@@ -26,13 +26,13 @@ use Rattle.desk_words.specs.declared.records.Resolution.{Resolution}
 use Rattle.desk_words.proofs.OfficeFacts.{meeting_facts, office_facts, register_ascends}
 use Rattle.desk_rows.specs.Meanings.{◌>>=◌}
 use Rattle.desk_rows.specs.declared.kept.MeetingRow.{MeetingRow}
-use Rattle.desk_tables.specs.Office.{FlatLists, flat_in, lists_of, lists_of_all, lists_with, of_meeting, office_in, office_of, resolutions_of}
-use Rattle.desk_tables.proofs.OfficeLemmas.{are_of}
-use Rattle.desk_tables.proofs.Tests.{bound}
+use Rattle.desk_records.specs.Office.{FlatLists, flat_in, lists_of, lists_of_all, lists_with, of_meeting, office_in, office_of, resolutions_of}
+use Rattle.desk_records.proofs.OfficeLemmas.{are_of}
+use Rattle.desk_rows.proofs.MeaningLemmas.{bound}
 use Rattle.desk_reading.specs.Reading.{IsReading}
 use Rattle.office_checks.specs.InOrder.{in_order, office_in_order}
 use Rattle.desk_opening.specs.Opening.{HoldsOffice, IsVerdict}
-use Rattle.desk_tables.specs.Standing.{HasNoOffice}
+use Rattle.desk_records.specs.Standing.{HasNoOffice}
 use Rattle.desk_opening.specs.declared.fault.OpenFault.{OpenFault}
 use Rattle.desk_opening.specs.declared.fault.OpenFault.TheVariants.{NotADesk, NewerVersion, Store, Memory}
 use Rattle.desk_opening.proofs.OrderedOffice.{office_ordered}

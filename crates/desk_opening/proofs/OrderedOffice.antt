@@ -8,7 +8,7 @@ use Rattle.desk_words.specs.declared.office.MeetingLists.{MeetingLists}
 use Rattle.desk_words.specs.declared.office.OfficeLists.{OfficeLists}
 use Rattle.desk_words.specs.declared.records.RegisterRow.{RegisterRow}
 use Rattle.desk_words.proofs.OfficeFacts.{meeting_facts, office_facts, register_ascends}
-use Rattle.desk_tables.proofs.ListLemmas.{sort_by-sorted}
+use Rattle.desk_records.proofs.ListLemmas.{sort_by-sorted}
 use Rattle.office_checks.specs.InOrder.{in_order, office_in_order}
 
 meeting_ordered : (m : MeetingLists) → is_meeting m ≡ true → in_order m ≡ m

@@ -11,8 +11,8 @@ use Rattle.sqlite_trees.specs.declared.store.Shape.{Shape}
 use Rattle.sqlite_trees.specs.declared.store.Shape.TheVariants as shape
 use Rattle.sqlite_catalog.specs.Listing.{AreListed}
 use Rattle.sqlite_catalog.proofs.LayoutLemmas.{laid_out, objects_rise}
-use Rattle.desk_tables.specs.Statements.{IsDesk, IsRising, table_numbers}
-use Rattle.desk_tables.specs.Tables.{desk_schema}
+use Rattle.desk_schema.specs.Statements.{IsDesk, IsRising, table_numbers}
+use Rattle.desk_schema.specs.Tables.{desk_schema}
 use Rattle.desk_opening.proofs.EmptyLemmas.{each_table, of_each}
 
 -- each tree of a table is ordered as a table's is

@@ -6,9 +6,9 @@ use Rattle.sqlite.specs.Schema.{Schema}
 use Rattle.sqlite.specs.State.{HasCleanDisk, KeepsCommit, Survives}
 use Rattle.sqlite_trees.specs.declared.store.Store as store
 use Rattle.desk_words.specs.Changes.{empty_office}
-use Rattle.desk_tables.specs.Statements.{AreEmpty, Makes}
-use Rattle.desk_tables.specs.Tables.{no_schema}
-use Rattle.desk_tables.specs.Standing.{Stands}
+use Rattle.desk_schema.specs.Statements.{AreEmpty, Makes}
+use Rattle.desk_schema.specs.Tables.{no_schema}
+use Rattle.desk_records.specs.Standing.{Stands}
 
 -- in a transaction the empty tables of the first schema become those of the second, and nothing is
 -- committed

@@ -9,12 +9,12 @@ use Rattle.sqlite_trees.specs.declared.store.Store as store
 use Rattle.desk_words.specs.declared.office.OfficeLists.{OfficeLists}
 use Rattle.desk_words.specs.Office.{is_office}
 use Rattle.desk_rows.specs.declared.kept.Version.{Version}
-use Rattle.desk_tables.specs.Office.{office_in}
-use Rattle.desk_tables.specs.Statements.{ChangesNothing, IsRead}
-use Rattle.desk_tables.specs.Standing.{IsVersionOne}
+use Rattle.desk_records.specs.Office.{office_in}
+use Rattle.desk_schema.specs.Statements.{ChangesNothing, IsRead}
+use Rattle.desk_records.specs.Standing.{IsVersionOne}
 use Rattle.desk_reading.specs.declared.fault.ReadFault.{ReadFault}
 use Rattle.desk_reading.specs.declared.fault.ReadFault.TheVariants as reading
-use Rattle.desk_tables.specs.Standing.{HasNoOffice, HasNoVersion, IsNewer}
+use Rattle.desk_records.specs.Standing.{HasNoOffice, HasNoVersion, IsNewer}
 use Rattle.desk_opening.specs.declared.fault.OpenFault.{OpenFault}
 use Rattle.desk_opening.specs.declared.fault.OpenFault.TheVariants.{NotADesk, NewerVersion}
 use Rattle.desk_opening.specs.declared.fault.OpenFault.TheVariants.{Store, Memory}

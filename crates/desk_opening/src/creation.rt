@@ -1,8 +1,8 @@
 //! The tables of a new desk.
 ghost use Rattle.std.specs.Prelude.{◌≡◌, ◌≢◌, false, IfErr, IfOk, IsTrue, OnErr, OnOk};
-ghost use Rattle.desk_tables.specs.Standing.{Stands};
+ghost use Rattle.desk_records.specs.Standing.{Stands};
 ghost use Rattle.desk_opening.specs.declared.fault.CreateFault.TheVariants.{NotEmpty};
-ghost use Rattle.desk_tables.specs.Tables.{no_schema};
+ghost use Rattle.desk_schema.specs.Tables.{no_schema};
 ghost use Rattle.desk_words.specs.Changes.{empty_office};
 ghost use Rattle.sqlite.specs.Held.{state};
 ghost use Rattle.sqlite.specs.State.{HasCleanDisk};

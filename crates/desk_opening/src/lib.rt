@@ -1,7 +1,6 @@
 //! The tables of a desk: made in a database that holds nothing, and opened where they were kept.
 #![tactic(auto)]
 
-mod columns;
 mod creation;
 mod fault;
 mod making;

@@ -1,12 +1,12 @@
 //! The tables of a desk that holds nothing yet.
 ghost use Rattle.std.specs.Prelude.{◌≡◌};
 ghost use Rattle.desk_opening.specs.Making.{IsMaking, LeavesEmptyDesk};
-ghost use Rattle.desk_tables.specs.Tables.{desk_schema, no_schema, with_casts};
-ghost use Rattle.desk_tables.specs.Tables.{with_presences, with_register};
+ghost use Rattle.desk_schema.specs.Tables.{desk_schema, no_schema, with_casts};
+ghost use Rattle.desk_schema.specs.Tables.{with_presences, with_register};
 
-use desk_tables::{
-    appointments, authorities, casts, closed, demands, desk, endings, indexes, keys, meetings,
-    polls, presences, register, resolutions,
+use desk_tables::{closed, desk, keys, meetings, register, resolutions};
+use meeting_tables::{
+    appointments, authorities, casts, demands, endings, indexes, polls, presences,
 };
 use sqlite::{Alter, Error, Transaction};
 

@@ -1,14 +1,14 @@
 //! The tables of a desk that was kept.
 ghost use Rattle.std.specs.Prelude.{◌≡◌, ◌≢◌, ◌≤◌, ◌⊎◌, false, [], ◌∷◌, Err};
 ghost use Rattle.std.specs.Prelude.{IfErr, IfOk, IsTrue, OnErr, OnOk};
-ghost use Rattle.desk_tables.specs.Standing.{IsVersionOne, version_one};
+ghost use Rattle.desk_records.specs.Standing.{IsVersionOne, version_one};
 ghost use Rattle.desk_opening.specs.Opening.{HandsBack, HoldsOffice, IsCause, IsCleanBack, IsInNone};
 ghost use Rattle.desk_opening.specs.Opening.{IsVerdict, IsVersionFault, KeepsNone, KeepsOffice};
-ghost use Rattle.desk_tables.specs.Standing.{HasNoOffice, HasNoVersion, Stands};
+ghost use Rattle.desk_records.specs.Standing.{HasNoOffice, HasNoVersion, Stands};
 ghost use Rattle.desk_opening.specs.declared.fault.OpenFault.TheVariants.{NotADesk, NewerVersion};
 ghost use Rattle.desk_opening.specs.declared.fault.OpenFault.TheVariants as opening;
-ghost use Rattle.desk_tables.specs.Statements.{IsDesk};
-ghost use Rattle.desk_tables.specs.Tables.{desk_schema};
+ghost use Rattle.desk_schema.specs.Statements.{IsDesk};
+ghost use Rattle.desk_schema.specs.Tables.{desk_schema};
 ghost use Rattle.desk_words.specs.declared.office.OfficeLists.{OfficeLists};
 ghost use Rattle.desk_words.specs.Office.{is_office};
 ghost use Rattle.office_checks.specs.InOrder.{office_in_order};
@@ -16,10 +16,10 @@ ghost use Rattle.sqlite.specs.Held.{state};
 ghost use Rattle.sqlite.specs.State.{HasCleanDisk};
 ghost use Rattle.sqlite_trees.specs.View.{IsClean, doubt};
 
-use crate::columns::ask_columns;
 use crate::fault::OpenFault;
 use desk_reading::{listing, read_office};
 use desk_rows::Version;
+use desk_tables::columns;
 use desk_words::{Listing, OfficeLists};
 use office_checks::office_of;
 use sqlite::{Alter, Connection, Error, ErrorCode, Transaction};
@@ -225,13 +225,10 @@ fn cause_of<S: Alter>(conn: &mut Connection<S>, fault: OpenFault) -> OpenFault
         → (result ≡ fault) ⊎ (IsTrue (state S.Store conn.old).is_open
         × ((state S.Store conn.old).now.schema ≢ desk_schema)) }
 {
-    if fault != OpenFault::Store {
-        return fault;
+    if fault == OpenFault::Store && !columns::stand(conn) {
+        return OpenFault::NotADesk;
     }
-    match ask_columns(conn) {
-        Ok(()) => fault,
-        Err(unread) => unread,
-    }
+    fault
 }
 
 /// Opens the tables of the desk that the database holds, where they are declared as `create`

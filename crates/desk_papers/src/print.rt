@@ -7,17 +7,8 @@ ghost use Rattle.desk_papers.specs.Results.{results_of};
 
 use crate::text::results_text;
 use caller_view::PublicRecord;
-use desk_devices::{Sink, write_all};
+use desk_devices::{PrintFault, Sink, write_all};
 use std::alloc::Global;
-
-/// Why the results were not printed.
-#[derive(Clone, Copy, PartialEq, Eq)]
-pub enum PrintFault {
-    /// A write failed. What was written is a part of the text from its front, and never all of it.
-    WriteFault,
-    /// An allocation was refused. Nothing was written.
-    Memory,
-}
 
 /// Writes the results of a meeting: what is known of the meeting itself, and each resolution with
 /// its state, and with the figures of its poll once that is declared. A record without a meeting

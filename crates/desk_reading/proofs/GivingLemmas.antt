@@ -19,8 +19,8 @@ use Rattle.std.specs.Prelude.{nat_le}
 use Rattle.desk_terms.specs.Names.{same_name}
 use Rattle.desk_words.proofs.RowLemmas.{same_name-true, same_name-refl}
 use Rattle.desk_rows.specs.declared.kept.InMeeting.{InMeeting}
-use Rattle.desk_tables.specs.Office.{name_meetings, of_meeting}
-use Rattle.desk_tables.proofs.Tests.{each_is}
+use Rattle.desk_records.specs.Office.{name_meetings, of_meeting}
+use Rattle.std.proofs.lemmas.Bool.{and_parts}
 use Rattle.desk_reading.specs.declared.own.OwnRecords.{OwnRecords}
 use Rattle.desk_reading.specs.Giving.{IsGivenOut, all_given_out, are_meeting_rows, given_out, is_named, meetings_own, own_of, same_own, same_row}
 use Rattle.desk_reading.specs.Own.{nothing_own}
@@ -103,7 +103,7 @@ module _ {A : Type 0} (put : List A → OwnRecords → OwnRecords) (keeps : (its
       pub one_given : (all : List OwnRecords) → differ_by same_own all ≡ true → change_first (is_named added.meeting) (put (added.item ∷ [])) (given_out put records all) ≡ given_out put (records ++ added ∷ []) all
       one_given [] differ = refl
       one_given (own ∷ all) differ =
-          let apart = each_is (not (list_any (same_own own) all)) (differ_by same_own all) differ in
+          let apart = and_parts (not (list_any (same_own own) all)) (differ_by same_own all) differ in
           let first = put (of_meeting own.meeting.id records) own in
           let same : is_named added.meeting first ≡ is_named added.meeting own = ap (λ (m : _). same_name m.id added.meeting) (keeps (of_meeting own.meeting.id records) own) in
           elim (cases_Bool (is_named added.meeting own)) [

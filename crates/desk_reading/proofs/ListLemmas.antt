@@ -29,8 +29,9 @@ use Rattle.desk_words.specs.Registers.{are_holdings, is_register, keep_limits, m
 use Rattle.desk_words.proofs.RegisterLimits.{keep_limits-permutation}
 use Rattle.desk_rows.specs.Meanings.{◌>>=◌, only}
 use Rattle.desk_rows.specs.declared.kept.NumberedResolution.{NumberedResolution}
-use Rattle.desk_tables.specs.Office.{number_before, numbered_from}
-use Rattle.desk_tables.proofs.Tests.{bound, each_is}
+use Rattle.desk_records.specs.Office.{number_before, numbered_from}
+use Rattle.desk_rows.proofs.MeaningLemmas.{bound}
+use Rattle.std.proofs.lemmas.Bool.{and_parts}
 use Rattle.desk_reading.specs.declared.fault.ReadFault.{ReadFault}
 use Rattle.desk_reading.specs.declared.fault.ReadFault.TheVariants as fault
 use Rattle.desk_reading.specs.declared.fault.ReadFault.TheVariants.{NoOffice}
@@ -128,8 +129,8 @@ ascending : (n : ℕ) (rows : List NumberedResolution) → are_numbered_from n r
 ascending n [] h = refl
 ascending n (r ∷ []) h = refl
 ascending n (r ∷ s ∷ rest) h =
-    let first = each_is (r.number == n) (are_numbered_from (suc n) (s ∷ rest)) h in
-    let next = each_is (s.number == suc n) (are_numbered_from (suc (suc n)) rest) first.1 in
+    let first = and_parts (r.number == n) (are_numbered_from (suc n) (s ∷ rest)) h in
+    let next = and_parts (s.number == suc n) (are_numbered_from (suc (suc n)) rest) first.1 in
     both_true (less_next r.number s.number n first.0 next.0) (ascending (suc n) (s ∷ rest) first.1)
 
 some_so : {X : Type 0} (b : Bool) (x y : X) → ◌≡◌ {A = Option X} (if b then Some x else None) (Some y) → (b ≡ true) × (y ≡ x)

@@ -13,8 +13,8 @@ use Rattle.desk_words.specs.declared.office.MeetingLists.{MeetingLists}
 use Rattle.desk_words.specs.declared.office.OfficeLists.{OfficeLists}
 use Rattle.desk_rows.specs.Meanings.{◌>>=◌, only}
 use Rattle.desk_rows.specs.declared.kept.MeetingRow.{MeetingRow}
-use Rattle.desk_tables.specs.Office.{FlatLists, have_meetings, lists_of, lists_of_all, lists_with, office_of, resolutions_of}
-use Rattle.desk_tables.proofs.Tests.{bound}
+use Rattle.desk_records.specs.Office.{FlatLists, have_meetings, lists_of, lists_of_all, lists_with, office_of, resolutions_of}
+use Rattle.desk_rows.proofs.MeaningLemmas.{bound}
 use Rattle.std.specs.Prelude.{Result}
 use Rattle.desk_reading.specs.declared.fault.ReadFault.{ReadFault}
 use Rattle.desk_reading.specs.declared.fault.ReadFault.TheVariants as fault

@@ -11,8 +11,8 @@ use Rattle.desk_rows.specs.Meanings.{◌>>=◌, IsFault, all_mean}
 use Rattle.desk_rows.specs.declared.fault.RowFault.{RowFault}
 use Rattle.desk_rows.specs.declared.fault.RowFault.TheVariants as row
 use Rattle.sqlite.specs.Order.{Row}
-use Rattle.desk_tables.specs.Statements.{ChangesNothing, IsDesk, IsRead, IsRising, TableOf, records_in, rows_of}
-use Rattle.desk_tables.proofs.Tests.{bound}
+use Rattle.desk_schema.specs.Statements.{ChangesNothing, IsDesk, IsRead, IsRising, TableOf, records_in, rows_of}
+use Rattle.desk_rows.proofs.MeaningLemmas.{bound}
 use Rattle.desk_reading.specs.declared.fault.ReadFault.{ReadFault}
 use Rattle.desk_reading.specs.declared.fault.ReadFault.TheVariants.{NoOffice, Store, Memory}
 use Rattle.desk_reading.specs.Reading.{IsCause, IsReading, Yields, any_at_all, fault_of_row}

@@ -8,7 +8,7 @@ use Rattle.desk_words.specs.declared.office.MeetingLists.{MeetingLists}
 use Rattle.desk_rows.specs.Meanings.{◌>>=◌}
 use Rattle.desk_rows.specs.declared.kept.InMeeting.{InMeeting}
 use Rattle.desk_rows.specs.declared.kept.MeetingRow.{MeetingRow}
-use Rattle.desk_tables.specs.Office.{name_meetings, of_meeting}
+use Rattle.desk_records.specs.Office.{name_meetings, of_meeting}
 use Rattle.desk_reading.specs.declared.fault.ReadFault.{ReadFault}
 use Rattle.desk_reading.specs.declared.fault.ReadFault.TheVariants.{NoOffice}
 use Rattle.desk_reading.specs.declared.flat.MeetingRecords.{MeetingRecords}

@@ -17,7 +17,7 @@ use Rattle.desk_words.specs.declared.records.Resolution.{Resolution}
 use Rattle.desk_rows.specs.Meanings.{◌>>=◌}
 use Rattle.desk_rows.specs.declared.kept.MeetingRow.{MeetingRow}
 use Rattle.desk_rows.specs.declared.kept.NumberedResolution.{NumberedResolution}
-use Rattle.desk_tables.specs.Office.{number_before, numbered_from, with_resolutions}
+use Rattle.desk_records.specs.Office.{number_before, numbered_from, with_resolutions}
 use Rattle.desk_reading.specs.declared.own.OwnRecords.{OwnRecords}
 
 -- a meeting without records

@@ -1,7 +1,7 @@
 //! What the tables hold, each record with its meeting.
 ghost use Rattle.std.specs.Prelude.{◌≡◌};
 ghost use Rattle.desk_reading.specs.Reading.{IsReading, any_at_all};
-ghost use Rattle.desk_tables.specs.Office.{flat_in};
+ghost use Rattle.desk_records.specs.Office.{flat_in};
 
 use crate::fault::ReadFault;
 use crate::table::listing;
@@ -38,7 +38,7 @@ pub struct FlatRecords {
 }
 
 impl Model for FlatRecords {
-    ghost use Rattle.desk_tables.specs.Office.{FlatLists};
+    ghost use Rattle.desk_records.specs.Office.{FlatLists};
 
     ghost Value = { FlatLists };
 

@@ -4,7 +4,7 @@ ghost use Rattle.std.specs.Prelude.{true, false, ◌&&◌};
 ghost use Rattle.std.specs.List.{list_any, position_from};
 ghost use Rattle.desk_lists.specs.Lists.{change_first};
 ghost use Rattle.desk_lists.specs.Ordered.{differ_by};
-ghost use Rattle.desk_tables.specs.Office.{name_meetings};
+ghost use Rattle.desk_records.specs.Office.{name_meetings};
 ghost use Rattle.desk_reading.specs.declared.fault.ReadFault.TheVariants.{NoOffice};
 ghost use Rattle.desk_reading.specs.Giving.{IsGivenOut, are_meeting_rows, given_out, is_named};
 ghost use Rattle.desk_reading.specs.Giving.{all_given_out, all_name_meetings, own_of, same_own};

@@ -7,7 +7,7 @@ ghost use Rattle.desk_words.specs.Lists.{is_key_list};
 ghost use Rattle.desk_words.specs.Office.{is_meeting, poll_before};
 ghost use Rattle.desk_words.specs.Registers.{member_before};
 ghost use Rattle.desk_words.specs.declared.limits.TheConstants.{MOST_RESOLUTIONS};
-ghost use Rattle.desk_tables.specs.Office.{number_before};
+ghost use Rattle.desk_records.specs.Office.{number_before};
 ghost use Rattle.desk_reading.specs.Own.{are_numbered_from, are_rows, lists_own, resolution_of};
 ghost use Rattle.desk_reading.specs.Own.{resolutions_own};
 ghost use Rattle.desk_reading.specs.Reading.{Yields};

@@ -3,7 +3,7 @@ ghost use Rattle.std.specs.Prelude.{◌≡◌};
 ghost use Rattle.std.specs.List.{list_all};
 ghost use Rattle.desk_reading.specs.Giving.{all_lists_own};
 ghost use Rattle.desk_reading.specs.Reading.{IsReading, Yields};
-ghost use Rattle.desk_tables.specs.Office.{office_in, office_of};
+ghost use Rattle.desk_records.specs.Office.{office_in, office_of};
 ghost use Rattle.desk_words.specs.Office.{is_meeting, is_office};
 
 use crate::fault::ReadFault;

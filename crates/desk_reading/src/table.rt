@@ -1,19 +1,17 @@
 //! What one table holds, read whole.
 ghost use Rattle.std.specs.Prelude.{◌≡◌, IfOk, refl};
 ghost use Rattle.desk_reading.specs.Reading.{IsReading, any_at_all};
-ghost use Rattle.desk_tables.specs.Contents as contents;
-ghost use Rattle.desk_tables.specs.Statements.{ChangesNothing, IsRead, Reads, TableOf, records_in};
+ghost use Rattle.desk_schema.specs.Contents as contents;
+ghost use Rattle.desk_schema.specs.Statements.{ChangesNothing, IsRead, Reads, TableOf, records_in};
 
 use crate::fault::ReadFault;
 use desk_rows::{FromRow, InMeeting, MeetingRow, NumberedResolution, Version, records};
-use desk_tables::{
-    appointments, authorities, casts, closed, demands, desk, endings, keys, meetings, polls,
-    presences, register, resolutions,
-};
+use desk_tables::{closed, desk, keys, meetings, register, resolutions};
 use desk_words::{
     Appointment, Authority, CastMark, Day, DemandMark, Ending, KeyRow, Listing, Poll, PresenceMark,
     RegisterRow,
 };
+use meeting_tables::{appointments, authorities, casts, demands, endings, polls, presences};
 use sqlite::{Alter, Error, Row, Transaction};
 use std::alloc::Global;
 

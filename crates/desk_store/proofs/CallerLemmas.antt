@@ -21,12 +21,12 @@ use Rattle.desk_words.specs.declared.caller.KeyRow.{KeyRow}
 use Rattle.desk_words.proofs.OfficeFacts.{office_facts}
 use Rattle.desk_words.proofs.RowLemmas.{same_name-true}
 use Rattle.desk_rows.specs.Meanings.{all_mean}
-use Rattle.desk_tables.specs.Contents as table
-use Rattle.desk_tables.specs.Office.{flat_in, office_of}
-use Rattle.desk_tables.specs.Statements.{ChangesNothing, Finds, IsRead}
-use Rattle.desk_tables.proofs.FlatChanges.{keys_held}
-use Rattle.desk_tables.proofs.OfficeLemmas.{are_of}
-use Rattle.desk_tables.proofs.Tests.{bound}
+use Rattle.desk_schema.specs.Contents as table
+use Rattle.desk_records.specs.Office.{flat_in, office_of}
+use Rattle.desk_schema.specs.Statements.{ChangesNothing, Finds, IsRead}
+use Rattle.desk_records.proofs.FlatChanges.{keys_held}
+use Rattle.desk_records.proofs.OfficeLemmas.{are_of}
+use Rattle.desk_rows.proofs.MeaningLemmas.{bound}
 use Rattle.desk_store.specs.Reads.{IsCallerWith, IsTold}
 
 none_passes : {X : Type 0} (test : X → Bool) (xs : List X) → list_any test xs ≡ false → find test xs ≡ None

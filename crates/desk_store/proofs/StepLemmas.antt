@@ -11,17 +11,17 @@ use Rattle.desk_words.specs.declared.office.OfficeLists.{OfficeLists}
 use Rattle.desk_words.specs.declared.request.Call.{Call}
 use Rattle.desk_reading.proofs.ReadingLemmas.{keeps_then}
 use Rattle.desk_words.specs.Changes.{after_some}
+use Rattle.meeting_core.specs.Decisions.{DecidedChangesCanBeMade}
 use Rattle.meeting_core.specs.Step.{decided, stepped}
 use Rattle.desk_changes.specs.Writes.{Holds}
-use Rattle.desk_changes.proofs.Placed.{decided_can_make}
 use Rattle.desk_store.specs.Reads.{IsDecided, IsTold, WritesIfAny, can_make_if_any}
-use Rattle.desk_tables.specs.Standing.{Stands}
+use Rattle.desk_records.specs.Standing.{Stands}
 use Rattle.desk_store.proofs.KeepingLemmas.{stands_same}
 
 -- what is decided can be made
-decided_makes : (office : OfficeLists) (call : Call) (change : Option Change) → (decided office call).change ≡ change → is_office office ≡ true → is_office (after_some office change) ≡ true → can_make_if_any office change ≡ true
-decided_makes office call None is before later = before
-decided_makes office call (Some change) is before later = decided_can_make office call change is before (ap (λ (c : Option Change). is_office (after_some office c)) is ∙ later)
+decided_makes : DecidedChangesCanBeMade → (office : OfficeLists) (call : Call) (change : Option Change) → (decided office call).change ≡ change → is_office office ≡ true → is_office (after_some office change) ≡ true → can_make_if_any office change ≡ true
+decided_makes law office call None is before later = before
+decided_makes law office call (Some change) is before later = law office call change is before later
 
 module _ {S : Type 0} (g : store.Ghosts S) (a b c : Held S) (call : Call) (answer : Answer Change) (told : IsTold g a b (Ok answer) (IsDecided call)) where
   -- while a call is decided, the tables stay the office that they are
@@ -42,13 +42,13 @@ module _ {S : Type 0} (g : store.Ghosts S) (a b c : Held S) (call : Call) (answe
         keeps_then (state g a) (state g b) (state g c) (told.changes.kept (before, stands.desk)) (writes.kept clean office (holds before inside office stands))
 
   -- where it is written, the tables are the office after the step
-  pub step_holds : {T : Type 0} (x : T) → WritesIfAny g b c (Ok x) answer.change → HasCleanDisk (state g c) → IsTrue (state g a).in_transaction → (office : OfficeLists) → Stands (state g a) office
+  pub step_holds : {T : Type 0} (x : T) → DecidedChangesCanBeMade → WritesIfAny g b c (Ok x) answer.change → HasCleanDisk (state g c) → IsTrue (state g a).in_transaction → (office : OfficeLists) → Stands (state g a) office
       → Stands (state g c) (stepped office call) × IsTrue (state g c).in_transaction × ((decided office call).reply ≡ answer.reply)
-  step_holds x writes clean inside office stands =
+  step_holds x law writes clean inside office stands =
       let before = early (Ok x) writes clean in
       let is = told.told before office stands in
       let change = ap (λ (it : Answer Change). it.change) is.is in
-      let there = writes.written clean office (holds before inside office stands) (decided_makes office call answer.change (sym change) stands.kept is.kept) in
+      let there = writes.written clean office (holds before inside office stands) (decided_makes law office call answer.change (sym change) stands.kept is.kept) in
       let left = ap (after_some office) change in (
         record {
           desk = there.desk;

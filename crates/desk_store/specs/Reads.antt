@@ -12,12 +12,12 @@ use Rattle.desk_words.specs.declared.caller.KeyRow.{KeyRow}
 use Rattle.desk_words.specs.declared.change.Change.{Change}
 use Rattle.desk_words.specs.declared.office.OfficeLists.{OfficeLists}
 use Rattle.desk_words.specs.declared.request.Call.{Call}
-use Rattle.desk_tables.specs.Statements.{ChangesNothing, IsRead}
+use Rattle.desk_schema.specs.Statements.{ChangesNothing, IsRead}
 use Rattle.desk_reading.specs.declared.fault.ReadFault.{ReadFault}
-use Rattle.desk_words.specs.Changes.{after_some}
+use Rattle.desk_words.specs.Changes.{after_some, can_make}
 use Rattle.meeting_core.specs.Step.{decided}
-use Rattle.desk_changes.specs.Writes.{Holds, can_make}
-use Rattle.desk_tables.specs.Standing.{Stands}
+use Rattle.desk_changes.specs.Writes.{Holds}
+use Rattle.desk_records.specs.Standing.{Stands}
 
 -- what is told is so of the office for which the tables stand, and nothing is changed
 pub record IsTold {S X : Type 0} (g : store.Ghosts S) (old new : Held S)

@@ -2,8 +2,8 @@
 ghost use Rattle.std.specs.Prelude.{◌≡◌, ◌≢◌, false, IfErr, IfOk, IsTrue};
 ghost use Rattle.desk_opening.specs.Opening.{HandsBack, IsCause, IsCleanBack, IsInNone};
 ghost use Rattle.desk_opening.specs.declared.fault.CreateFault.TheVariants.{NotEmpty};
-ghost use Rattle.desk_tables.specs.Standing.{Stands};
-ghost use Rattle.desk_tables.specs.Tables.{desk_schema, no_schema};
+ghost use Rattle.desk_records.specs.Standing.{Stands};
+ghost use Rattle.desk_schema.specs.Tables.{desk_schema, no_schema};
 ghost use Rattle.desk_words.specs.Changes.{empty_office};
 ghost use Rattle.desk_words.specs.declared.office.OfficeLists.{OfficeLists};
 ghost use Rattle.sqlite.specs.Held.{state};

@@ -2,7 +2,7 @@
 ghost use Rattle.std.specs.Prelude.{◌≡◌, IfOk, IsTrue, Ok, OnErr, OnOk};
 ghost use Rattle.std.specs.Fn.{FnOnceReturnsAt};
 ghost use Rattle.desk_store.specs.Reads.{IsDecided, IsTold, WritesIfAny};
-ghost use Rattle.desk_tables.specs.Standing.{Stands};
+ghost use Rattle.desk_records.specs.Standing.{Stands};
 ghost use Rattle.desk_words.specs.declared.office.OfficeLists.{OfficeLists};
 ghost use Rattle.meeting_core.specs.Step.{decided, stepped};
 ghost use Rattle.sqlite.specs.Held.{state};
@@ -13,6 +13,7 @@ use crate::reading::{failure_of, read_book};
 use desk_changes::write;
 use desk_reading::ReadFault;
 use desk_words::{Answer, Call, Change, Failure, Reply};
+use meeting_core::laws::decided_changes_can_be_made;
 use sqlite::{Alter, Error, Transaction};
 use std::alloc::{AllocError, Global};
 
@@ -71,6 +72,7 @@ fn step<S: Alter, T: Drop, F: FnOnce(&Reply) -> Result<T, AllocError>>(
         (λ _. ⊥) }
 {
     let answer = decide(tx, alloc, call)?;
+    decided_changes_can_be_made();
     write_if_any(tx, alloc, &answer)?;
     Ok(show(&answer.reply)?)
 }

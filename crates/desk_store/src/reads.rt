@@ -2,7 +2,7 @@
 ghost use Rattle.std.specs.Prelude.{◌≡◌, IfOk, IsTrue};
 ghost use Rattle.caller_view.specs.Views.{public_of};
 ghost use Rattle.desk_store.specs.Reads.{caller_with};
-ghost use Rattle.desk_tables.specs.Standing.{Stands};
+ghost use Rattle.desk_records.specs.Standing.{Stands};
 ghost use Rattle.desk_words.specs.declared.office.OfficeLists.{OfficeLists};
 ghost use Rattle.sqlite.specs.Held.{state};
 ghost use Rattle.sqlite.specs.State.{HasCleanDisk};

@@ -15,17 +15,17 @@ use Rattle.sqlite.specs.State.{State, ExecutesInside, Shown, IsUnchanged, FailsT
 use Rattle.sqlite.proofs.Callers.{IsPlain, command_of, statement_of}
 use Rattle.desk_rows.specs.Columns.{day_of, day_in}
 use Rattle.desk_rows.specs.Office.{closed_in}
-use Rattle.desk_tables.proofs.GivenNumbers.{days_below}
-use Rattle.desk_tables.specs.Tables.{desk_schema, with_keys, with_closed, closed as table}
-use Rattle.desk_tables.specs.Contents.{closed}
-use Rattle.desk_tables.specs.Statements.{IsDesk, Empties, AddsAfter, AreEmpty, rows_of}
-use Rattle.desk_tables.proofs.Adding.{adds_numbered, means_more}
-use Rattle.desk_tables.proofs.Commits.{query_keeps}
-use Rattle.desk_tables.proofs.Deleting.{chosen}
-use Rattle.desk_tables.proofs.Emptying.{empties, leaves_rows}
-use Rattle.desk_tables.proofs.Making.{made}
-use Rattle.desk_tables.proofs.Reading.{whole, reads_whole}
-use Rattle.desk_tables.proofs.Values.{cast_null, cast_int}
+use Rattle.desk_statements.proofs.GivenNumbers.{days_below}
+use Rattle.desk_schema.specs.Tables.{desk_schema, with_keys, with_closed, closed as table}
+use Rattle.desk_schema.specs.Contents.{closed}
+use Rattle.desk_schema.specs.Statements.{IsDesk, Empties, AddsAfter, AreEmpty, rows_of}
+use Rattle.desk_statements.proofs.Adding.{adds_numbered, means_more}
+use Rattle.desk_statements.proofs.Commits.{query_keeps}
+use Rattle.desk_statements.proofs.Deleting.{chosen}
+use Rattle.desk_statements.proofs.Emptying.{empties, leaves_rows}
+use Rattle.desk_statements.proofs.Making.{made}
+use Rattle.desk_statements.proofs.Reading.{whole, reads_whole}
+use Rattle.desk_statements.proofs.Values.{cast_null, cast_int}
 
 abbrev make_text : List ℕ
 make_text = codes "CREATE TABLE closed (day INTEGER NOT NULL PRIMARY KEY) STRICT"

@@ -15,15 +15,15 @@ use Rattle.sqlite.specs.State.{State, ExecutesInside, Shown, IsUnchanged, FailsT
 use Rattle.sqlite.proofs.Callers.{IsPlain, command_of, statement_of}
 use Rattle.desk_rows.specs.Columns.{number_in}
 use Rattle.desk_rows.specs.Office.{version_in}
-use Rattle.desk_tables.proofs.GivenNumbers.{none_below}
-use Rattle.desk_tables.specs.Tables.{desk_schema, no_schema, with_desk, desk as table}
-use Rattle.desk_tables.specs.Contents.{desk}
-use Rattle.desk_tables.specs.Statements.{IsDesk, AddsFirst, AreEmpty, rows_of}
-use Rattle.desk_tables.proofs.Adding.{adds_numbered, means_more}
-use Rattle.desk_tables.proofs.Commits.{query_keeps}
-use Rattle.desk_tables.proofs.Making.{made}
-use Rattle.desk_tables.proofs.Reading.{whole, reads_whole}
-use Rattle.desk_tables.proofs.Values.{cast_null, cast_int}
+use Rattle.desk_statements.proofs.GivenNumbers.{none_below}
+use Rattle.desk_schema.specs.Tables.{desk_schema, no_schema, with_desk, desk as table}
+use Rattle.desk_schema.specs.Contents.{desk}
+use Rattle.desk_schema.specs.Statements.{IsDesk, AddsFirst, AreEmpty, rows_of}
+use Rattle.desk_statements.proofs.Adding.{adds_numbered, means_more}
+use Rattle.desk_statements.proofs.Commits.{query_keeps}
+use Rattle.desk_statements.proofs.Making.{made}
+use Rattle.desk_statements.proofs.Reading.{whole, reads_whole}
+use Rattle.desk_statements.proofs.Values.{cast_null, cast_int}
 
 abbrev make_text : List ℕ
 make_text = codes "CREATE TABLE desk (one INTEGER NOT NULL PRIMARY KEY, version INTEGER NOT NULL) STRICT"

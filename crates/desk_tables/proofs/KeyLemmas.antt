@@ -21,18 +21,20 @@ use Rattle.desk_rows.specs.Columns.{spelled}
 use Rattle.desk_rows.specs.Office.{key_in}
 use Rattle.desk_terms.specs.Names.{key_of, same_name}
 use Rattle.desk_words.specs.Callers.{caller_of}
-use Rattle.desk_tables.specs.Tables.{desk_schema, with_desk, with_keys, keys as table}
-use Rattle.desk_tables.specs.Contents.{keys}
-use Rattle.desk_tables.specs.Statements.{IsDesk, columns_of, records_in, Adds, Empties, AreEmpty, rows_of}
-use Rattle.desk_tables.proofs.Adding.{adds_row, adds}
-use Rattle.desk_tables.proofs.Commits.{query_keeps}
-use Rattle.desk_tables.proofs.Deleting.{chosen, passes}
-use Rattle.desk_tables.proofs.Emptying.{empties, leaves_rows}
-use Rattle.desk_tables.proofs.Making.{made}
-use Rattle.desk_tables.proofs.Reading.{whole, reads_whole, sought, finds}
+use Rattle.desk_schema.specs.Tables.{desk_schema, with_desk, with_keys, keys as table}
+use Rattle.desk_schema.specs.Contents.{keys}
+use Rattle.desk_schema.specs.Statements.{IsDesk, columns_of, records_in, Adds, Empties, AreEmpty, rows_of}
+use Rattle.desk_statements.proofs.Adding.{adds_row, adds}
+use Rattle.desk_statements.proofs.Commits.{query_keeps}
+use Rattle.desk_statements.proofs.Deleting.{chosen, passes}
+use Rattle.desk_statements.proofs.Emptying.{empties, leaves_rows}
+use Rattle.desk_statements.proofs.Making.{made}
+use Rattle.desk_statements.proofs.Reading.{whole, reads_whole, sought, finds}
 use Rattle.desk_rows.specs.Meanings.{all_mean}
-use Rattle.desk_tables.proofs.Tests.{bound, option_ap, keys_tell, and_true}
-use Rattle.desk_tables.proofs.Values.{cast_null}
+use Rattle.desk_rows.proofs.MeaningLemmas.{bound, option_ap}
+use Rattle.desk_statements.proofs.Tests.{keys_tell}
+use Rattle.std.proofs.Math.Bool.{and-true}
+use Rattle.desk_statements.proofs.Values.{cast_null}
 
 abbrev make_text : List ℕ
 make_text = codes "CREATE TABLE keys (party TEXT NOT NULL PRIMARY KEY, secret TEXT NOT NULL UNIQUE) STRICT"
@@ -145,7 +147,7 @@ secret_is cells x h =
 
 chosen_so : (s secret : List ℕ) → key_of secret ≡ Some s → (cells : Row) (x : KeyRow) → keys.means (columns_of keys cells) ≡ Some x → passes with_secret (Text secret ∷ []) cells ≡ same_name x.secret s
 unfolding spelled
-chosen_so s secret is cells x h = and_true _ ∙ keys_tell (column cells 2) secret x.secret s (secret_is (columns_of keys cells) x h) is
+chosen_so s secret is cells x h = and-true _ ∙ keys_tell (column cells 2) secret x.secret s (secret_is (columns_of keys cells) x h) is
 
 pub finds_secret : {V : Type 0} (items : V → List Row) (s secret : List ℕ) → key_of secret ≡ Some s → (old new : State) (r : Result V Error) → IsDesk old → IfOk r (λ v. Shown find_text (Text secret ∷ []) old new (items v))
     → IfOk r (λ v. ((was : List KeyRow) → records_in keys old.now.trees ≡ Some was → all_mean keys.means (items v) ≡ Some (filter (λ x. same_name x.secret s) was)) × IsUnchanged old new)

@@ -23,14 +23,14 @@ use Rattle.desk_rows.specs.Columns.{day_in, day_of, flag_in, flag_of, integer_of
 use Rattle.desk_rows.specs.Meetings.{meeting_in}
 use Rattle.desk_terms.specs.Kinds.{company_of, meeting_kind_of}
 use Rattle.desk_terms.specs.Names.{meeting_of, same_name}
-use Rattle.desk_tables.specs.Tables.{desk_schema, with_closed, with_meetings, meetings as table, sequence}
-use Rattle.desk_tables.specs.Contents.{meetings, without_resolutions, loaded_at, opened_at}
-use Rattle.desk_tables.specs.Statements.{IsDesk, Adds, Sets, columns_of, AreEmpty, rows_of}
-use Rattle.desk_tables.proofs.Adding.{adds_row, adds}
-use Rattle.desk_tables.proofs.Commits.{query_keeps}
-use Rattle.desk_tables.proofs.Deleting.{picked, passes}
-use Rattle.desk_tables.proofs.Making.{made_counted}
-use Rattle.desk_tables.proofs.Reading.{whole, reads_whole}
+use Rattle.desk_schema.specs.Tables.{desk_schema, with_closed, with_meetings, meetings as table, sequence}
+use Rattle.desk_schema.specs.Contents.{meetings, without_resolutions, loaded_at, opened_at}
+use Rattle.desk_schema.specs.Statements.{IsDesk, Adds, Sets, columns_of, AreEmpty, rows_of}
+use Rattle.desk_statements.proofs.Adding.{adds_row, adds}
+use Rattle.desk_statements.proofs.Commits.{query_keeps}
+use Rattle.desk_statements.proofs.Deleting.{picked, passes}
+use Rattle.desk_statements.proofs.Making.{made_counted}
+use Rattle.desk_statements.proofs.Reading.{whole, reads_whole}
 use Rattle.sqlite.specs.Kind.TheVariants.{Integer, Text as Texts}
 use Rattle.sqlite.specs.Cast.{cast}
 use Rattle.sqlite.specs.Tree.{rowid}
@@ -38,10 +38,12 @@ use Rattle.sqlite.specs.Edit.{id_in}
 use Rattle.sqlite_trees.specs.View.{is_int}
 use Rattle.desk_rows.specs.declared.kept.MeetingRow.{MeetingRow}
 use Rattle.desk_rows.specs.Meanings.{◌>>=◌}
-use Rattle.desk_tables.proofs.Seq.{is_its_id}
-use Rattle.desk_tables.proofs.Tests.{bound, option_ap, names_tell, and_true, kept_spelled, kept_worded, kept_integer, kept_some_moment}
-use Rattle.desk_tables.proofs.Updating.{new_row, changes_rows, sets}
-use Rattle.desk_tables.proofs.Values.{cast_flag, cast_int, cast_null, cast_some, flag, flag_kept}
+use Rattle.desk_statements.proofs.Seq.{is_its_id}
+use Rattle.desk_rows.proofs.MeaningLemmas.{bound, option_ap}
+use Rattle.desk_statements.proofs.Tests.{names_tell, kept_spelled, kept_worded, kept_integer, kept_some_moment}
+use Rattle.std.proofs.Math.Bool.{and-true}
+use Rattle.desk_statements.proofs.Updating.{new_row, changes_rows, sets}
+use Rattle.desk_statements.proofs.Values.{cast_flag, cast_int, cast_null, cast_some, flag, flag_kept}
 
 abbrev make_text : List ℕ
 make_text = codes "CREATE TABLE meetings (seq INTEGER PRIMARY KEY AUTOINCREMENT, meeting TEXT NOT NULL UNIQUE, company TEXT NOT NULL, kind TEXT NOT NULL, given INTEGER NOT NULL, appointed INTEGER NOT NULL, record INTEGER NOT NULL, loaded INTEGER NOT NULL, opened INTEGER) STRICT"
@@ -216,7 +218,7 @@ kept_row cells x h =
 chosen_so : (m meeting : List ℕ) (rest : Row) → meeting_of meeting ≡ Some m → (cells : Row) (x : MeetingRow) → meetings.means (columns_of meetings cells) ≡ Some x
     → passes named (Text meeting ∷ rest) cells ≡ same_name x.id m
 unfolding spelled
-chosen_so m meeting rest is cells x h = and_true _ ∙ names_tell (column cells 2) meeting x.id m (parts (columns_of meetings cells) x h).id is
+chosen_so m meeting rest is cells x h = and-true _ ∙ names_tell (column cells 2) meeting x.id m (parts (columns_of meetings cells) x h).id is
 
 keeps_number : (new : List Term) (params cells : Row) → IsTrue (is_int (rowid cells)) → cast Integer (rowid cells) ≡ rowid cells
 keeps_number new params cells keyed = subst (λ v. cast Integer v ≡ v) (sym (is_its_id cells keyed)) (cast_int (id_in (rowid cells)))

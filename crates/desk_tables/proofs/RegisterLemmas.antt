@@ -22,17 +22,19 @@ use Rattle.desk_rows.specs.Columns.{natural_of, number_in, read_word, spelled, t
 use Rattle.desk_rows.specs.Meetings.{holding_in}
 use Rattle.desk_terms.specs.Kinds.{holder_kind_of}
 use Rattle.desk_terms.specs.Names.{meeting_of, party_of, same_name}
-use Rattle.desk_tables.specs.Tables.{desk_schema, with_resolutions, with_register, register as table}
-use Rattle.desk_tables.specs.Contents.{register}
-use Rattle.desk_tables.specs.Statements.{IsDesk, Adds, TakesOut, columns_of, AreEmpty, rows_of}
-use Rattle.desk_tables.proofs.Adding.{adds_row, adds}
-use Rattle.desk_tables.proofs.Commits.{query_keeps}
-use Rattle.desk_tables.proofs.Deleting.{chosen, passes}
-use Rattle.desk_tables.proofs.Emptying.{takes_out, leaves_rows}
-use Rattle.desk_tables.proofs.Making.{made}
-use Rattle.desk_tables.proofs.Reading.{whole, reads_whole}
-use Rattle.desk_tables.proofs.Tests.{bound, option_ap, names_tell, and_true}
-use Rattle.desk_tables.proofs.Values.{cast_int, cast_null}
+use Rattle.desk_schema.specs.Tables.{desk_schema, with_resolutions, with_register, register as table}
+use Rattle.desk_schema.specs.Contents.{register}
+use Rattle.desk_schema.specs.Statements.{IsDesk, Adds, TakesOut, columns_of, AreEmpty, rows_of}
+use Rattle.desk_statements.proofs.Adding.{adds_row, adds}
+use Rattle.desk_statements.proofs.Commits.{query_keeps}
+use Rattle.desk_statements.proofs.Deleting.{chosen, passes}
+use Rattle.desk_statements.proofs.Emptying.{takes_out, leaves_rows}
+use Rattle.desk_statements.proofs.Making.{made}
+use Rattle.desk_statements.proofs.Reading.{whole, reads_whole}
+use Rattle.desk_rows.proofs.MeaningLemmas.{bound, option_ap}
+use Rattle.desk_statements.proofs.Tests.{names_tell}
+use Rattle.std.proofs.Math.Bool.{and-true}
+use Rattle.desk_statements.proofs.Values.{cast_int, cast_null}
 
 abbrev make_text : List ℕ
 make_text = codes "CREATE TABLE register (meeting TEXT NOT NULL REFERENCES meetings (meeting), member TEXT NOT NULL, kind TEXT NOT NULL, name TEXT NOT NULL, shares INTEGER NOT NULL, paid INTEGER NOT NULL, PRIMARY KEY (meeting, member)) STRICT"
@@ -134,7 +136,7 @@ meeting_is cells x h =
 chosen_so : (m meeting : List ℕ) → meeting_of meeting ≡ Some m → (cells : Row) (x : InMeeting RegisterRow) → register.means (columns_of register cells) ≡ Some x
     → passes (op2 (Compare Eq Binary) (col 1 1) (col 0 0) ∷ []) (Text meeting ∷ []) cells ≡ same_name x.meeting m
 unfolding spelled
-chosen_so m meeting is cells x h = and_true _ ∙ names_tell (column cells 1) meeting x.meeting m (meeting_is (columns_of register cells) x h) is
+chosen_so m meeting is cells x h = and-true _ ∙ names_tell (column cells 1) meeting x.meeting m (meeting_is (columns_of register cells) x h) is
 
 pub empties_meeting : (m meeting : List ℕ) → meeting_of meeting ≡ Some m → (old new : State) (r : Result ℕ Error) → IsDesk old → IsTrue old.in_transaction
     → ExecutesInside 0 empty_text (Text meeting ∷ []) old new r → OnOk r (TakesOut register (λ x. same_name x.meeting m) old new)

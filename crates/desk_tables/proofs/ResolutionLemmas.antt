@@ -18,14 +18,14 @@ use Rattle.desk_rows.specs.Columns.{natural_of, number_in, read_word, spelled, t
 use Rattle.desk_rows.specs.Meetings.{resolution_in}
 use Rattle.desk_terms.specs.Kinds.{resolution_kind_of}
 use Rattle.desk_terms.specs.Names.{meeting_of}
-use Rattle.desk_tables.specs.Tables.{desk_schema, with_meetings, with_resolutions, resolutions as table}
-use Rattle.desk_tables.specs.Contents.{resolutions}
-use Rattle.desk_tables.specs.Statements.{IsDesk, Adds, AreEmpty, rows_of}
-use Rattle.desk_tables.proofs.Adding.{adds_row, adds}
-use Rattle.desk_tables.proofs.Commits.{query_keeps}
-use Rattle.desk_tables.proofs.Making.{made}
-use Rattle.desk_tables.proofs.Reading.{whole, reads_whole}
-use Rattle.desk_tables.proofs.Values.{cast_int, cast_null}
+use Rattle.desk_schema.specs.Tables.{desk_schema, with_meetings, with_resolutions, resolutions as table}
+use Rattle.desk_schema.specs.Contents.{resolutions}
+use Rattle.desk_schema.specs.Statements.{IsDesk, Adds, AreEmpty, rows_of}
+use Rattle.desk_statements.proofs.Adding.{adds_row, adds}
+use Rattle.desk_statements.proofs.Commits.{query_keeps}
+use Rattle.desk_statements.proofs.Making.{made}
+use Rattle.desk_statements.proofs.Reading.{whole, reads_whole}
+use Rattle.desk_statements.proofs.Values.{cast_int, cast_null}
 
 abbrev make_text : List ℕ
 make_text = codes "CREATE TABLE resolutions (meeting TEXT NOT NULL REFERENCES meetings (meeting), number INTEGER NOT NULL, kind TEXT NOT NULL, body TEXT NOT NULL, PRIMARY KEY (meeting, number)) STRICT"

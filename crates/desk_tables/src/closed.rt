@@ -1,8 +1,8 @@
 //! The table `closed`: the closed days (section 1173).
 ghost use Rattle.std.specs.Prelude.{◌≡◌, IfOk, nat_lt};
-ghost use Rattle.desk_tables.specs.Contents.{closed};
-ghost use Rattle.desk_tables.specs.Statements.{AddsAfter, ChangesNothing, CommitsNothing, Does, Empties, IsRead, Makes, Reads};
-ghost use Rattle.desk_tables.specs.Tables.{with_keys, with_closed};
+ghost use Rattle.desk_schema.specs.Contents.{closed};
+ghost use Rattle.desk_schema.specs.Statements.{AddsAfter, ChangesNothing, CommitsNothing, Does, Empties, IsRead, Makes, Reads};
+ghost use Rattle.desk_schema.specs.Tables.{with_keys, with_closed};
 
 use desk_rows::day_number;
 use desk_words::Day;

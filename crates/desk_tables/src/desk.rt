@@ -1,8 +1,8 @@
 //! The table `desk`: the version of the tables.
 ghost use Rattle.std.specs.Prelude.{◌≡◌, IfOk};
-ghost use Rattle.desk_tables.specs.Contents.{desk};
-ghost use Rattle.desk_tables.specs.Statements.{AddsFirst, ChangesNothing, CommitsNothing, Does, IsRead, Makes, Reads};
-ghost use Rattle.desk_tables.specs.Tables.{no_schema, with_desk};
+ghost use Rattle.desk_schema.specs.Contents.{desk};
+ghost use Rattle.desk_schema.specs.Statements.{AddsFirst, ChangesNothing, CommitsNothing, Does, IsRead, Makes, Reads};
+ghost use Rattle.desk_schema.specs.Tables.{no_schema, with_desk};
 
 use sqlite::{Alter, Error, Row, Transaction};
 

@@ -1,9 +1,9 @@
 //! The table `keys`: the keys of the callers.
 ghost use Rattle.std.specs.Prelude.{◌≡◌, IfOk};
 ghost use Rattle.desk_terms.specs.Names.{same_name};
-ghost use Rattle.desk_tables.specs.Contents.{keys};
-ghost use Rattle.desk_tables.specs.Statements.{Adds, ChangesNothing, CommitsNothing, Does, Empties, Finds, IsRead, Makes, Reads};
-ghost use Rattle.desk_tables.specs.Tables.{with_desk, with_keys};
+ghost use Rattle.desk_schema.specs.Contents.{keys};
+ghost use Rattle.desk_schema.specs.Statements.{Adds, ChangesNothing, CommitsNothing, Does, Empties, Finds, IsRead, Makes, Reads};
+ghost use Rattle.desk_schema.specs.Tables.{with_desk, with_keys};
 
 use desk_rows::{caller_text, key_text};
 use desk_words::{KeyRow, SecretKey};

@@ -1,8 +1,8 @@
 //! The table `meetings`: the meetings, in the order in which they were called (section 307).
 ghost use Rattle.std.specs.Prelude.{◌≡◌, IfOk};
-ghost use Rattle.desk_tables.specs.Contents.{loaded_at, meetings, opened_at, without_resolutions};
-ghost use Rattle.desk_tables.specs.Statements.{Adds, ChangesNothing, CommitsNothing, Does, IsRead, Makes, Reads, Sets};
-ghost use Rattle.desk_tables.specs.Tables.{with_closed, with_meetings};
+ghost use Rattle.desk_schema.specs.Contents.{loaded_at, meetings, opened_at, without_resolutions};
+ghost use Rattle.desk_schema.specs.Statements.{Adds, ChangesNothing, CommitsNothing, Does, IsRead, Makes, Reads, Sets};
+ghost use Rattle.desk_schema.specs.Tables.{with_closed, with_meetings};
 
 use desk_rows::{
     company_text, day_number, meeting_kind_text, meeting_text, moment_number, some_moment_number,

@@ -1,11 +1,11 @@
 //! The table `register`: the rows of the registers (section 113).
 ghost use Rattle.std.specs.Prelude.{◌≡◌, IfOk};
 ghost use Rattle.desk_terms.specs.Names.{same_name};
-ghost use Rattle.desk_tables.specs.Contents.{register};
-ghost use Rattle.desk_tables.specs.Statements.{Adds, ChangesNothing, CommitsNothing, Does, IsRead, Makes, Reads, TakesOut};
-ghost use Rattle.desk_tables.specs.Tables.{with_resolutions, with_register};
+ghost use Rattle.desk_schema.specs.Contents.{register};
+ghost use Rattle.desk_schema.specs.Statements.{Adds, ChangesNothing, CommitsNothing, Does, IsRead, Makes, Reads, TakesOut};
+ghost use Rattle.desk_schema.specs.Tables.{with_resolutions, with_register};
 
-use crate::numbers::whole;
+use desk_statements::whole;
 use desk_rows::{holder_kind_text, meeting_text, party_text, text_value};
 use desk_words::{MeetingId, RegisterRow};
 use sqlite::{Alter, Error, Row, Transaction, params};

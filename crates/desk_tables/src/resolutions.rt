@@ -1,10 +1,10 @@
 //! The table `resolutions`: the resolutions of which notice was given (section 283(6)).
 ghost use Rattle.std.specs.Prelude.{◌≡◌, IfOk};
-ghost use Rattle.desk_tables.specs.Contents.{resolutions};
-ghost use Rattle.desk_tables.specs.Statements.{Adds, ChangesNothing, CommitsNothing, Does, IsRead, Makes, Reads};
-ghost use Rattle.desk_tables.specs.Tables.{with_meetings, with_resolutions};
+ghost use Rattle.desk_schema.specs.Contents.{resolutions};
+ghost use Rattle.desk_schema.specs.Statements.{Adds, ChangesNothing, CommitsNothing, Does, IsRead, Makes, Reads};
+ghost use Rattle.desk_schema.specs.Tables.{with_meetings, with_resolutions};
 
-use crate::numbers::whole;
+use desk_statements::whole;
 use desk_rows::{meeting_text, resolution_kind_text, text_value};
 use desk_words::{MeetingId, Resolution};
 use sqlite::{Alter, Error, Row, Transaction, params};

@@ -9,7 +9,7 @@ use Rattle.desk_words.specs.declared.request.Call.{Call}
 use Rattle.meeting_core.specs.Step.{decided, stepped}
 use Rattle.meeting_core.proofs.StepLaws.{office_left}
 use Rattle.desk_endings.specs.Endings.{Ending}
-use Rattle.desk_tables.specs.Standing.{Stands}
+use Rattle.desk_records.specs.Standing.{Stands}
 use Rattle.desk_tasks.specs.Loading.{ended_by_reply}
 
 -- it is a refusal

@@ -9,7 +9,7 @@ use Rattle.desk_files.specs.Whole.{HasCause, IsReadWhole}
 use Rattle.desk_files.specs.declared.fault.FileFault.{FileFault}
 use Rattle.desk_files.specs.declared.fault.FileFault.TheVariants as file
 use Rattle.desk_endings.specs.Endings.{Ending}
-use Rattle.desk_tables.specs.Standing.{Stands}
+use Rattle.desk_records.specs.Standing.{Stands}
 use Rattle.desk_tasks.specs.Loading.{Follows, Loads, ended_asking, office_asked}
 use Rattle.desk_tasks.specs.Reading.{Reader, asked_by}
 

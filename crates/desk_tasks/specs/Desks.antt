@@ -4,12 +4,12 @@ use Rattle.sqlite.specs.State.{State, HasCleanDisk}
 use Rattle.sqlite.specs.declared.error.Error.{Error}
 use Rattle.sqlite.specs.declared.error.Error.TheVariants.{SqliteFailure}
 use Rattle.sqlite.specs.declared.error.ErrorCode.TheVariants.{OutOfMemory}
-use Rattle.desk_tables.specs.Tables.{no_schema}
+use Rattle.desk_schema.specs.Tables.{no_schema}
 use Rattle.desk_words.specs.Changes.{empty_office}
 use Rattle.desk_endings.specs.Endings.{Ending, ending, ended_by}
 use Rattle.desk_endings.specs.declared.ended.Fault.{Fault}
 use Rattle.desk_endings.specs.declared.ended.Fault.TheVariants as fault
-use Rattle.desk_tables.specs.Standing.{Stands}
+use Rattle.desk_records.specs.Standing.{Stands}
 use Rattle.desk_opening.specs.declared.fault.OpenFault.{OpenFault}
 use Rattle.desk_opening.specs.declared.fault.OpenFault.TheVariants as opening
 

@@ -16,7 +16,7 @@ use Rattle.desk_files.specs.declared.fault.FileFault.{FileFault}
 use Rattle.desk_files.specs.declared.fault.FileFault.TheVariants.{ReadFault}
 use Rattle.desk_endings.specs.Endings.{Ending, done, ending, ended_by, ended_by_refusal, ended_by_file}
 use Rattle.desk_endings.specs.declared.ended.Fault.TheVariants as fault
-use Rattle.desk_tables.specs.Standing.{Stands}
+use Rattle.desk_records.specs.Standing.{Stands}
 use Rattle.desk_tasks.specs.Reading.{Reader, asked_by}
 
 -- the office asks at a moment

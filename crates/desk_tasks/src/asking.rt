@@ -1,7 +1,7 @@
 //! The one request of a command.
 ghost use Rattle.std.specs.Prelude.{◌≡◌, ◌≢◌, ◌⊎◌, IfOk, IsTrue};
 ghost use Rattle.desk_endings.specs.Endings.{ended_view};
-ghost use Rattle.desk_tables.specs.Standing.{Stands};
+ghost use Rattle.desk_records.specs.Standing.{Stands};
 ghost use Rattle.desk_tasks.specs.Loading.{by_office, ended_by_failure, ended_by_reply, Answers};
 ghost use Rattle.desk_words.specs.declared.office.OfficeLists.{OfficeLists};
 ghost use Rattle.sqlite.specs.Held.{state};

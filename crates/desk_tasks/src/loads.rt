@@ -5,7 +5,7 @@ ghost use Rattle.desk_files.specs.Days.{day_file};
 ghost use Rattle.desk_files.specs.Keys.{key_file};
 ghost use Rattle.desk_files.specs.Registers.{register_file};
 ghost use Rattle.desk_files.specs.declared.whole.TheConstants.{DAY_FILE_LIMIT, FILE_LIMIT};
-ghost use Rattle.desk_tables.specs.Standing.{Stands};
+ghost use Rattle.desk_records.specs.Standing.{Stands};
 ghost use Rattle.desk_tasks.specs.Loading.{Follows, Loads};
 ghost use Rattle.desk_tasks.specs.Reading.{asked_by, reader_at, with_days, with_keys, with_register};
 ghost use Rattle.desk_words.specs.declared.office.OfficeLists.{OfficeLists};

@@ -6,7 +6,7 @@ ghost use Rattle.desk_devices.specs.Counts.{one_more};
 ghost use Rattle.desk_devices.specs.Written.{AppendsPrefix};
 ghost use Rattle.desk_endings.specs.Endings.{ended_view};
 ghost use Rattle.desk_papers.specs.Results.{results_of};
-ghost use Rattle.desk_tables.specs.Standing.{Stands};
+ghost use Rattle.desk_records.specs.Standing.{Stands};
 ghost use Rattle.desk_tasks.specs.Results.{Prints, Writer};
 ghost use Rattle.desk_words.specs.declared.office.OfficeLists.{OfficeLists};
 ghost use Rattle.sqlite.specs.Held.{state};

@@ -1,9 +1,11 @@
--- The empty office, and what a change leaves.
-use Rattle.std.specs.Prelude.{Bool, true, false, ◌==◌, List, [], ◌∷◌, ◌++◌, Option, Some, None}
+-- The empty office, what a change leaves, and which changes an office can make.
+use Rattle.std.specs.Prelude.{Bool, true, false, ◌&&◌, ◌==◌, List, [], ◌∷◌, ◌++◌, Option, Some, None}
+use Rattle.std.specs.Prelude.{is_some}
 use Rattle.desk_lists.specs.Sorting.{insert_by}
 use Rattle.desk_lists.specs.Lists.{change_first}
 use Rattle.desk_terms.specs.Names.{same_name}
-use Rattle.desk_words.specs.Office.{poll_before}
+use Rattle.desk_words.specs.Finding.{meeting_named}
+use Rattle.desk_words.specs.Office.{is_office, poll_before}
 use Rattle.desk_words.specs.Seen.{MeetingName, Number}
 use Rattle.desk_words.specs.declared.change.Change.{Change}
 use Rattle.desk_words.specs.declared.change.Change.TheVariants.{AddMeeting, SetClosedDays, SetKeys, InMeeting}
@@ -92,6 +94,16 @@ after office (InMeeting id change) = change_meeting (changed change) id office
 abbrev pub after_some : OfficeLists → Option Change → OfficeLists
 after_some office None = office
 after_some office (Some change) = after office change
+
+-- the meeting in which something is changed stands
+abbrev pub is_placed : OfficeLists → Change → Bool
+is_placed office (InMeeting id what) = is_some (meeting_named office.meetings id)
+is_placed office other = true
+
+-- a change that an office can make: in a meeting that stands, and it leaves the lists of an office
+abbrev pub can_make : OfficeLists → Change → Bool
+can_make office change =
+    is_office office && is_placed office change && is_office (after office change)
 
 -- in a meeting, a change that sets fields, and adds nothing
 abbrev pub sets_in_meeting : MeetingChange → Bool

@@ -1,9 +1,10 @@
 //! What the words of the program ask.
 use crate::endings::ended_text;
 use crate::findings::Answer;
-use desk_commands::{Plan, Zone, read_words};
+use desk_commands::{Plan, read_words};
 use desk_endings::Ended;
 use desk_words::write_moment;
+use office_clock::OfficeZone;
 use std::alloc::{AllocError, Global};
 
 /// The words, one on each line.
@@ -15,8 +16,8 @@ fn words_of(alloc: Global, given: &[u8]) -> Result<Vec<String>, AllocError> {
     Ok(words)
 }
 
-fn push_zone(text: &mut String, zone: &Zone) -> Result<(), AllocError> {
-    writeln!(text, "zone {}", zone.rule)
+fn push_zone(text: &mut String, zone: &OfficeZone) -> Result<(), AllocError> {
+    writeln!(text, "zone {zone}")
 }
 
 /// The command, and under it its files and its values, each with its name.

@@ -1,7 +1,9 @@
 pub mod AppointmentsKept
 pub mod AttendanceKept
+pub mod FoundLemmas
 pub mod MeetingKept
 pub mod OfficeKept
+pub mod Placed
 pub mod RulingLemmas
 pub mod Rulings
 pub mod StepLaws

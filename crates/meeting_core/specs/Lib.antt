@@ -1,4 +1,5 @@
 pub mod Conditions
+pub mod Decisions
 pub mod Laws
 pub mod Names
 pub mod Step

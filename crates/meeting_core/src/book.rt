@@ -1,7 +1,5 @@
 //! The book: all that an office holds, in memory.
 ghost use Rattle.std.specs.Prelude.{◌≡◌, true, IfOk, OnOk, OnErr, IsTrue, IsOk};
-ghost use Rattle.caller_view.specs.Reads.{rows_read};
-ghost use Rattle.caller_view.specs.Rows.{rows_in};
 ghost use Rattle.caller_view.specs.Views.{meeting_at, own_of, public_of};
 ghost use Rattle.caller_view.specs.Answers.{party_ruling};
 ghost use Rattle.desk_words.specs.Office.{is_office};
@@ -13,25 +11,27 @@ ghost use Rattle.office_answers.specs.Limits.{if_any, is_within_limits, keeps_li
 ghost use Rattle.desk_words.specs.Changes.{after, after_some, empty_office, sets_fields};
 ghost use Rattle.meeting_core.specs.Step.{decided, is_at_once_to, needs_no_memory, stepped};
 
+mod found;
 mod lists;
+mod perform;
 
 use crate::changes::{change_meeting, new_lists};
-use caller_view::{OwnRows, OwnView, PublicRecord, answer, own_for, own_from};
+use caller_view::{OwnView, PublicRecord, answer, own_for, own_from};
 use desk_words::{
     Answer, Call, Caller, Change, DayList, Entry, KeyRows, Listing, MeetingChange, MeetingId,
     MeetingLists, Moment, OfficeRequest, Party, PartyRequest, Refusal, Reply, Request,
     find_meeting, refuse,
 };
+use found::{public_in, rows_in, rows_read};
 pub use lists::BookFault;
-use meeting_views::{no_rows_of, rows_for, rows_of};
 use office_answers::{desk_answer, office_answer};
 use office_days::Closed;
 use std::alloc::{AllocError, Global};
 use std::marker::Model;
 
 /// All that an office holds. Contracts see it as the lists of the office, and it always holds the
-/// lists of an office: `decide` says so of any book, and `new`, `apply` and `step` of what they
-/// leave.
+/// lists of an office: `decide` says so of any book, and `new`, `apply`, `step` and `perform` of
+/// what they leave.
 #[derive(Drop)]
 pub struct Book {
     alloc: Global,
@@ -97,23 +97,7 @@ impl Book {
     pub fn public_of(&self, meeting: MeetingId) -> PublicRecord<'_>
         ensures { result ≡ public_of self.now meeting }
     {
-        match find_meeting(&self.meetings, meeting) {
-            None => PublicRecord::new(&self.closed, None, &[]),
-            Some(lists) => {
-                let polls = lists.polls.as_slice();
-                PublicRecord::new(&self.closed, Some(&lists.meeting), polls)
-            }
-        }
-    }
-
-    /// The rows of a party in a meeting; where there is none of that name, none.
-    fn rows_of(&self, party: Party, meeting: MeetingId) -> Result<OwnRows, AllocError>
-        ensures { IfOk result (λ rows. rows ≡ rows_in (meeting_at self.now meeting) party) }
-    {
-        match find_meeting(&self.meetings, meeting) {
-            None => Ok(no_rows_of(self.alloc, party)),
-            Some(lists) => rows_of(self.alloc, lists, party),
-        }
+        public_in(&self.closed, find_meeting(&self.meetings, meeting))
     }
 
     /// The own things of a party in a meeting at a moment; where there is none of that name, its
@@ -126,25 +110,10 @@ impl Book {
     ) -> Result<OwnView, AllocError>
         ensures { IfOk result (λ own. own ≡ own_of self.now party meeting now) }
     {
-        let public = self.public_of(meeting);
-        let rows = self.rows_of(party, meeting)?;
+        let found = find_meeting(&self.meetings, meeting);
+        let public = public_in(&self.closed, found);
+        let rows = rows_in(self.alloc, found, party)?;
         own_from(self.alloc, &rows, &public, now)
-    }
-
-    /// Those of the rows of a party in a meeting that the answer to a request reads.
-    fn rows_for(
-        &self,
-        party: Party,
-        meeting: MeetingId,
-        asked: &PartyRequest,
-    ) -> Result<OwnRows, AllocError>
-        ensures { IfOk result (λ rows. rows
-            ≡ rows_read asked.now (rows_in (meeting_at self.now meeting) party)) }
-    {
-        match find_meeting(&self.meetings, meeting) {
-            None => Ok(no_rows_of(self.alloc, party)),
-            Some(lists) => rows_for(self.alloc, lists, party, asked),
-        }
     }
 
     /// The answer to what a party asks in a meeting.
@@ -159,8 +128,9 @@ impl Book {
             ≡ settled (party_ruling (public_of self.now meeting)
             (own_of self.now party meeting now) now asked.now)) }
     {
-        let public = self.public_of(meeting);
-        let rows = self.rows_for(party, meeting, asked)?;
+        let found = find_meeting(&self.meetings, meeting);
+        let public = public_in(&self.closed, found);
+        let rows = rows_read(self.alloc, found, party, asked)?;
         let own = own_for(self.alloc, &rows, &public, now, asked)?;
         answer(self.alloc, &public, &own, now, asked)
     }

@@ -3,14 +3,14 @@ ghost use Rattle.std.specs.Prelude.{◌≡◌, ◌==◌, ◌<◌, [], ◌∷◌,
 ghost use Rattle.std.specs.List.{position_from};
 ghost use Rattle.desk_words.specs.declared.records.Poll.{Poll};
 ghost use Rattle.desk_lists.specs.Sorting.{insert_by};
+ghost use Rattle.desk_words.specs.Names.{same_name};
 ghost use Rattle.desk_words.specs.Office.{poll_before};
 ghost use Rattle.desk_words.specs.Changes.{change_at, change_poll, changed, entered, moved, new_lists, sets_in_meeting};
 
 use desk_words::{
     CastKind, CastMark, Entry, Filed, Listing, Meeting, MeetingChange, MeetingId, MeetingLists,
-    Moment, Poll, PollChange, find_poll,
+    Moment, Poll, PollChange,
 };
-use meeting_views::place_of_meeting;
 use std::alloc::{AllocError, Global};
 
 /// A meeting with no lists.
@@ -71,15 +71,6 @@ fn place_of_poll(polls: &[Poll], resolution: u64) -> Option<usize>
     polls.iter().position(|p| p.resolution == resolution)
 }
 
-/// Writes a poll in the place of the one on that resolution.
-fn replace_poll(lists: &mut MeetingLists, resolution: u64, poll: Poll)
-    ensures { lists.new ≡ change_poll (λ _. poll) resolution lists.old }
-{
-    if let Some(i) = place_of_poll(lists.polls.as_slice(), resolution) {
-        lists.polls.set(i, poll);
-    }
-}
-
 /// The poll that has come further.
 fn moved(poll: Poll, change: PollChange) -> Poll
     ensures { result ≡ moved change poll }
@@ -104,8 +95,10 @@ fn moved(poll: Poll, change: PollChange) -> Poll
 fn move_poll(lists: &mut MeetingLists, resolution: u64, change: PollChange)
     ensures { lists.new ≡ change_poll (moved change) resolution lists.old }
 {
-    if let Some(poll) = find_poll(lists.polls.as_slice(), resolution) {
-        replace_poll(lists, resolution, moved(poll, change));
+    let polls = lists.polls.as_slice();
+    if let Some(i) = place_of_poll(polls, resolution) {
+        let poll = polls[i];
+        lists.polls.set(i, moved(poll, change));
     }
 }
 
@@ -127,6 +120,13 @@ fn change_lists(lists: &mut MeetingLists, change: MeetingChange) -> Result<(), A
         MeetingChange::Enter(entry) => enter(lists, entry)?,
     }
     Ok(())
+}
+
+fn place_of_meeting(meetings: &[MeetingLists], id: MeetingId) -> Option<usize>
+    ensures first { result ≡ position_from (λ m. same_name m.meeting.id id) 0 meetings.now }
+    ensures bound { IfSome result (λ i. i < length meetings.now) }
+{
+    meetings.iter().position(|m| m.meeting.id.is(id))
 }
 
 /// Changes the meeting of that name. Where there is none, nothing changes. The error is want of

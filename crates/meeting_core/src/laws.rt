@@ -1,6 +1,7 @@
 //! Laws of the definitions by which the contracts speak.
 ghost use Rattle.std.specs.Prelude.{[], ◌∷◌};
 ghost use Rattle.meeting_core.specs.Conditions.{ConditionsStandInOrder, TheLowestRefusalIsAnswered};
+ghost use Rattle.meeting_core.specs.Decisions.{DecidedChangesCanBeMade};
 ghost use Rattle.meeting_core.specs.Laws.{LeavesThePublicRecord, ReadsTheViews, RefusedCallsHaveNoChange, RefusedCallsLeaveTheOffice, TellsApart};
 ghost use Rattle.meeting_core.specs.Names.{CountsNameNobody, NamesOwn};
 ghost use Rattle.meeting_core.specs.Step.{party_answer};
@@ -43,4 +44,10 @@ pub fn lowest_refusal()
 pub fn refused_calls_change_nothing()
     ensures change { RefusedCallsHaveNoChange }
     ensures office { RefusedCallsLeaveTheOffice }
+{}
+
+/// The change that an office decides on a call is one that it can make: it is made in a meeting
+/// that stands. Whoever writes changes elsewhere may rely on it.
+pub fn decided_changes_can_be_made()
+    ensures { DecidedChangesCanBeMade }
 {}

@@ -1,10 +1,8 @@
-//! What stands in the lists of a meeting, and the rows of a party in them.
+//! The rows of a party in the lists of a meeting.
 #![tactic(auto)]
 
-mod finding;
 mod members;
 mod own;
 mod rows;
 
-pub use finding::place_of_meeting;
 pub use rows::{no_rows_of, rows_for, rows_of};

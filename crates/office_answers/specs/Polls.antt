@@ -106,15 +106,20 @@ close_ruling m now resolution =
       accepted = record { reply = reply.VotingClosed; change = Some (SetPoll resolution (poll.Closed now)) };
     }
 
+-- when the result of a poll that is ordered is not declared
+abbrev pub result_cases : Option Poll → List Case
+result_cases found =
+    record { refusal = NotClosed; holds = there_is is_unclosed found }
+    ∷ record { refusal = Declared; holds = there_is is_declared found }
+    ∷ []
+
 -- when the result of a poll is not declared
 abbrev pub declare_cases : MeetingLists → Number → List Case
 declare_cases m resolution =
     let found = poll_on m.polls resolution in
     no_resolution m.meeting resolution
     ∷ record { refusal = NoPoll; holds = is_none found }
-    ∷ record { refusal = NotClosed; holds = there_is is_unclosed found }
-    ∷ record { refusal = Declared; holds = there_is is_declared found }
-    ∷ []
+    ∷ result_cases found
 
 -- the result of a poll by its count; where the resolution is not of the notice, it is not carried
 abbrev pub result_on : Option Resolution → Tally → Declaration

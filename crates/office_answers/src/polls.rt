@@ -1,14 +1,15 @@
 //! The opening of a meeting, and the way of a poll: ordered, started, closed, declared.
-ghost use Rattle.std.specs.Prelude.{◌≡◌, ◌≤◌, ◌-◌, ◌&&◌, not, true, IfOk, IsOk, IsTrue};
+ghost use Rattle.std.specs.Prelude.{◌≡◌, ◌-◌, ◌&&◌, not, true, Some, IfOk, IsOk, IsTrue, length};
 ghost use Rattle.std.specs.List.{slice_get};
-ghost use Rattle.desk_words.specs.Office.{is_meeting, is_tally};
+ghost use Rattle.desk_words.specs.Finding.{poll_on};
+ghost use Rattle.desk_words.specs.Office.{is_meeting, is_resolution, is_tally};
 ghost use Rattle.desk_words.specs.Polls.{there_is, is_started};
 ghost use Rattle.desk_words.specs.Refusals.{first_refusal};
 ghost use Rattle.desk_words.specs.Rulings.{refuses, settled};
 ghost use Rattle.office_answers.specs.Answers.{is_some_at_once, refuses_at_once};
 ghost use Rattle.office_answers.specs.Attendance.{demand_in, quorum_in};
 ghost use Rattle.office_answers.specs.Limits.{if_any, is_within_limits};
-ghost use Rattle.office_answers.specs.Polls.{open_cases, open_ruling, order_cases, order_ruling, poll_of, start_cases, start_ruling, close_cases, close_ruling, declare_cases, declare_ruling, result_on, declaration_of, tally_in};
+ghost use Rattle.office_answers.specs.Polls.{open_cases, open_ruling, order_cases, order_ruling, poll_of, start_cases, start_ruling, close_cases, close_ruling, declare_ruling, result_cases, result_on, declaration_of, tally_in};
 
 use crate::attendance::{demand_in, papers_of, quorum_in};
 use desk_words::{
@@ -16,8 +17,9 @@ use desk_words::{
     Refusal, Reply, Tally, find_poll, refuse,
 };
 use office_days::Closed;
-use poll_rules::{cutoffs, result_of, tally};
+use poll_rules::{cutoffs, result_of};
 use std::alloc::{AllocError, Global};
+use vote_rules::tally;
 
 fn open_refusal(
     alloc: Global,
@@ -257,15 +259,10 @@ pub(crate) fn close_poll(
     }
 }
 
-fn declare_refusal(lists: &MeetingLists, resolution: u64) -> Option<Refusal>
-    ensures { result ≡ first_refusal (declare_cases lists.now resolution) }
+/// Why the result of a poll that is ordered is not declared.
+fn declare_refusal(poll: &Poll) -> Option<Refusal>
+    ensures { result ≡ first_refusal (result_cases (Some poll.now)) }
 {
-    if !lists.meeting.has_resolution(resolution) {
-        return Some(Refusal::NoResolution);
-    }
-    let Some(poll) = find_poll(lists.polls.as_slice(), resolution) else {
-        return Some(Refusal::NoPoll);
-    };
     if poll.closed.is_none() {
         return Some(Refusal::NotClosed);
     }
@@ -275,18 +272,14 @@ fn declare_refusal(lists: &MeetingLists, resolution: u64) -> Option<Refusal>
     None
 }
 
+/// The result of a poll on a resolution of the meeting.
 fn result_on(meeting: &Meeting, number: u64, tally: Tally) -> Declaration
-    requires { 1 ≤ number }
+    requires { is_resolution (length meeting.now.resolutions) number ≡ true }
     ensures value { result ≡ result_on (slice_get meeting.now.resolutions (number - 1)) tally }
     ensures count { result.tally ≡ tally }
 {
-    match meeting.resolutions.as_slice().get((number - 1) as usize) {
-        None => Declaration {
-            tally,
-            carried: false,
-        },
-        Some(resolution) => result_of(resolution.kind, tally),
-    }
+    let resolution = &meeting.resolutions.as_slice()[(number - 1) as usize];
+    result_of(resolution.kind, tally)
 }
 
 /// The count of the votes on a resolution, by the cutoffs of its poll.
@@ -296,28 +289,32 @@ fn tally_in(
     lists: &MeetingLists,
     now: Moment,
     number: u64,
+    poll: &Poll,
 ) -> Result<Tally, AllocError>
-    requires { is_meeting lists.now ≡ true }
+    requires meeting { is_meeting lists.now ≡ true }
+    requires poll { poll_on lists.now.polls number ≡ Some poll.now }
     ensures { IfOk result (λ t. t ≡ tally_in lists.now closed.now now number) }
 {
-    let poll = find_poll(lists.polls.as_slice(), number);
-    let cutoffs = cutoffs(&lists.meeting, poll.as_ref(), closed, now);
+    let cutoffs = cutoffs(&lists.meeting, Some(poll), closed, now);
     tally(alloc, &cutoffs, &papers_of(lists), number)
 }
 
+/// The result of a poll on a resolution of the meeting, by the count of its votes.
 fn declaration(
     alloc: Global,
     closed: &Closed,
     lists: &MeetingLists,
     now: Moment,
     number: u64,
+    poll: &Poll,
 ) -> Result<Declaration, AllocError>
-    requires number { 1 ≤ number }
+    requires number { is_resolution (length lists.now.meeting.resolutions) number ≡ true }
     requires meeting { is_meeting lists.now ≡ true }
+    requires poll { poll_on lists.now.polls number ≡ Some poll.now }
     ensures value { IfOk result (λ d. d ≡ declaration_of lists.now closed.now now number) }
     ensures limits { IfOk result (λ d. IsTrue (is_tally d.tally)) }
 {
-    let tally = tally_in(alloc, closed, lists, now, number)?;
+    let tally = tally_in(alloc, closed, lists, now, number, poll)?;
     Ok(result_on(&lists.meeting, number, tally))
 }
 
@@ -326,7 +323,7 @@ fn declaration(
 /// `Declared`, with the count of the votes and whether the resolution is carried (sections 282 to
 /// 284), which sets the count. The votes are counted by the cutoffs of the poll, by the closed days
 /// as they stand (section 327). The error is want of memory; a refusal takes none. Its cost is that
-/// of `poll_rules::tally`.
+/// of `vote_rules::tally`.
 pub(crate) fn declare_poll(
     alloc: Global,
     closed: &Closed,
@@ -341,10 +338,16 @@ pub(crate) fn declare_poll(
     ensures sure { refuses (declare_ruling lists.now closed.now now resolution) ≡ true
         → IsOk result }
 {
-    if let Some(refusal) = declare_refusal(lists, resolution) {
+    if !lists.meeting.has_resolution(resolution) {
+        return Ok(refuse(Refusal::NoResolution));
+    }
+    let Some(poll) = find_poll(lists.polls.as_slice(), resolution) else {
+        return Ok(refuse(Refusal::NoPoll));
+    };
+    if let Some(refusal) = declare_refusal(&poll) {
         return Ok(refuse(refusal));
     }
-    let declaration = declaration(alloc, closed, lists, now, resolution)?;
+    let declaration = declaration(alloc, closed, lists, now, resolution, &poll)?;
     Ok(Answer {
         reply: Reply::Declared(declaration),
         change: Some(MeetingChange::SetPoll {

@@ -24,11 +24,10 @@ use Rattle.proxy_rules.specs.declared.pieces.GovernedPiece.{GovernedPiece}
 use Rattle.proxy_rules.specs.Governing.{governing_in}
 use Rattle.proxy_rules.specs.Holdings.{holding_by}
 use Rattle.proxy_rules.specs.Tiles.{ArePieces, shares_if}
-use Rattle.proxy_rules.proofs.TileLemmas.{places_that-pieces}
+use Rattle.proxy_rules.proofs.TileLemmas.{every_place, places_that-pieces, places_that_le}
 use Rattle.proxy_rules.proofs.ShareLemmas.{all_shares-le, shares_of-le}
 use Rattle.poll_rules.specs.DemandSums.{FitsRow, sums_by, with_row}
 use Rattle.poll_rules.specs.Demands.{by_a_representative, by_the_holder, names_one, paid_on, share_demands, shares_demanding}
-use Rattle.vote_rules.proofs.CountLemmas.{every_place, places_that_le}
 
 -- ---- the shares of a row that demand
 

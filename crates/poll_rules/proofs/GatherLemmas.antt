@@ -9,7 +9,7 @@ use Rattle.desk_lists.proofs.Kept.{any-filter}
 use Rattle.desk_terms.specs.Names.{same_name, name_cmp}
 use Rattle.desk_words.proofs.RowLemmas.{same_name-true}
 use Rattle.desk_words.specs.declared.records.Authority.{Authority}
-use Rattle.vote_rules.specs.Votes.{is_authority_of}
+use Rattle.proxy_rules.specs.Parties.{is_authority_of}
 
 -- ---- a value more
 

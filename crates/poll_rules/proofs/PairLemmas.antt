@@ -14,7 +14,7 @@ use Rattle.desk_words.specs.declared.records.PresenceMark.{PresenceMark}
 use Rattle.desk_words.specs.declared.records.RegisterRow.{RegisterRow}
 use Rattle.poll_rules.specs.Pairs.{first_qualifying, is_second, two_with_the_first}
 use Rattle.poll_rules.specs.Quorum.{are_two, is_quorum, qualifies, same_role}
-use Rattle.vote_rules.specs.Casts.{same_capacity}
+use Rattle.proxy_rules.specs.Parties.{same_capacity}
 use Rattle.poll_rules.specs.declared.roles.Role.{Role}
 use Rattle.poll_rules.proofs.GatherLemmas.{list_any-map}
 

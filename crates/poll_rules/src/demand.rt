@@ -10,10 +10,9 @@ ghost use Rattle.poll_rules.specs.DemandSums.{FitsRow, demand_from, is_one_of, s
 ghost use Rattle.poll_rules.specs.Demands.{by_a_representative, by_the_holder, demand_of, has_demanded, is_enough, names_one, shares_demanding};
 
 use desk_words::{Appointment, Authority, DemandMark, Filed, HolderKind, Party, RegisterRow};
-use proxy_rules::{Cutoffs, GovernedPiece, Holding, Papers, shares};
+use proxy_rules::{Cutoffs, GovernedPiece, Holding, Papers, authorised_by, shares};
 use std::alloc::{AllocError, Global};
 use std::collections::BTreeSet;
-use vote_rules::authorised_by;
 
 /// Which shares demand a poll, and whether they are enough (sections 321 and 329).
 #[derive(Clone, Copy, PartialEq, Eq)]

@@ -1,5 +1,5 @@
 //! The rules of a poll beside the count of its votes: the majority, the quorum of the meeting, and
-//! the demand of a poll. The count and the rules of proxies stand below it, and are handed on.
+//! the demand of a poll. The rules of proxies stand below it, and are handed on.
 #![tactic(auto)]
 
 mod demand;
@@ -15,4 +15,3 @@ pub use proxy_rules::{
     is_late_poll, runs_by_number, shares,
 };
 pub use qualifying::quorum;
-pub use vote_rules::tally;

@@ -16,10 +16,9 @@ ghost use Rattle.poll_rules.specs.Roles.{has_authority, is_proxy_in, proxy_of, r
 use crate::gathered::add_to;
 use desk_lists::in_order_once;
 use desk_words::{Authority, Capacity, Filed, HolderKind, Party, RegisterRow};
-use proxy_rules::{Cutoffs, GovernedPiece, Holding, Papers};
+use proxy_rules::{Cutoffs, GovernedPiece, Holding, Papers, authorised_by};
 use std::alloc::{AllocError, Global};
 use std::collections::BTreeMap;
-use vote_rules::authorised_by;
 
 /// A capacity in which a person acts, and the member for whose shares.
 #[derive(Clone, Copy, PartialEq, Eq)]

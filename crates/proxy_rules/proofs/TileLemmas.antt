@@ -1,5 +1,6 @@
 -- Ranges that hold places in order, each once, and counts of places over them.
 use Rattle.std.proofs.Common.{◌≡◌, ℕ, zero, suc, ◌+◌, ◌-◌, ◌<◌, ◌≤◌, min, Bool, true, false, cond, List, [], ◌∷◌, refl, sym, ap, ◌∙◌, arith, inl, inr}
+use Rattle.desk_lists.proofs.Booleans.{one_at_most}
 use Rattle.std.specs.Prelude.{◌&&◌, ◌==◌, nat_le, Option, Some, None, All, sum_by}
 use Rattle.std.specs.List.{filter_map, cons_option}
 use Rattle.std.proofs.lemmas.Bool.{cases_lt, and_from, eq-eqb, eqb-true, le-leb, leb-true, lt-leb}
@@ -44,6 +45,18 @@ tile_more first range ranges last t =
 -- a range holds its own first place
 pub holds-first : (range : Places) → range.from ≤ range.to → holds range range.from ≡ true
 holds-first range up = and_from (nat_le range.from range.from) (nat_le range.from range.to) (le-leb range.from range.from (omega arith)) (le-leb range.from range.to up)
+
+-- ---- how many places pass
+
+-- of n places at most n pass
+pub places_that_le : (test : ℕ → Bool) (n : ℕ) → places_that test n ≤ n
+places_that_le test zero = omega arith
+places_that_le test (suc n) = omega (arith, places_that_le test n, one_at_most (test (suc n)))
+
+-- all places pass
+pub every_place : (n : ℕ) → places_that (λ place. true) n ≡ n
+every_place zero = refl
+every_place (suc n) = let e = every_place n in omega (arith, e)
 
 -- ---- places that pass alike
 

@@ -1,6 +1,8 @@
--- Whose each record is.
-use Rattle.std.specs.Prelude.{Bool}
+-- Whose each record is, and in which capacities parties act.
+use Rattle.std.specs.Prelude.{Bool, true, false, List, filter, map}
 use Rattle.desk_terms.specs.Names.{same_name}
+use Rattle.desk_terms.specs.declared.kinds.Capacity.{Capacity}
+use Rattle.desk_terms.specs.declared.kinds.Capacity.TheVariants.{Member, Rep, Proxy}
 use Rattle.desk_words.specs.Seen.{Party}
 use Rattle.desk_words.specs.declared.records.Appointment.{Appointment}
 use Rattle.desk_words.specs.declared.records.Authority.{Authority}
@@ -15,6 +17,11 @@ names party a = same_name a.proxy party
 -- the party gave the authority (section 323)
 abbrev pub is_authority_of : Party → Authority → Bool
 is_authority_of corporation a = same_name a.corporation corporation
+
+-- the persons whom a corporation authorised, in order of receipt (section 323)
+abbrev pub authorised_by : List Authority → Party → List Party
+authorised_by authorities corporation =
+    map (λ (a : Authority). a.person) (filter (is_authority_of corporation) authorities)
 
 -- the authority is the party's to act by (section 323)
 abbrev pub authorises : Party → Authority → Bool
@@ -31,3 +38,10 @@ is_demanded_by party demand = same_name demand.party party
 -- the party cast it
 abbrev pub is_cast_by : Party → CastMark → Bool
 is_cast_by party cast = same_name cast.voter party
+
+-- both are the same capacity
+abbrev pub same_capacity : Capacity → Capacity → Bool
+same_capacity Member Member = true
+same_capacity Rep Rep = true
+same_capacity Proxy Proxy = true
+same_capacity _ _ = false

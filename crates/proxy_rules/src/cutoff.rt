@@ -34,7 +34,8 @@ fn meeting_cutoffs(meeting: &Meeting, closed: &Closed, now: Moment) -> Cutoffs
     }
 }
 
-fn late_cutoffs(poll: &Poll, closed: &Closed) -> Cutoffs
+/// The cutoffs for a late poll (sections 327 and 330). It takes no memory.
+pub fn late_cutoffs(poll: &Poll, closed: &Closed) -> Cutoffs
     ensures { result ≡ late_cutoffs poll.now closed.now }
 {
     Cutoffs {

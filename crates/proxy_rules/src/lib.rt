@@ -1,7 +1,8 @@
 //! The rules of proxies: until when appointments and endings count, and which appointment governs a
-//! share.
+//! share; and the persons whom a corporation authorised.
 #![tactic(auto)]
 
+mod authorities;
 mod cutoff;
 mod governor;
 mod holdings;
@@ -12,7 +13,8 @@ mod pieces;
 mod rows;
 mod runs;
 
-pub use cutoff::{cutoffs, is_late_poll};
+pub use authorities::authorised_by;
+pub use cutoff::{cutoffs, is_late_poll, late_cutoffs};
 pub use governor::governing;
 pub use holdings::{Holding, copies_at, given_by};
 pub use instructions::{allows, instructed_on};

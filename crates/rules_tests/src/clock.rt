@@ -1,15 +1,18 @@
-//! The office's wall clock, which the program does not ask yet.
+//! The office's wall clock.
 use desk_words::read_moment;
 use jiff::Timestamp;
-use jiff::tz::TimeZone;
-use office_days::{ClockFault, wall_clock};
+use office_clock::{ClockFault, OfficeZone, wall_clock};
 use std::test::Fail;
+
+fn zone(rule: &str) -> Result<OfficeZone, Fail> {
+    Ok(OfficeZone::read(rule).ok().ok_or("a zone")?)
+}
 
 /// Whether a zone's clock shows a moment at the instant at which the clock of UTC shows another.
 fn shows(rule: &str, utc: &str, expected: &str) -> Result<bool, Fail> {
     let utc = read_moment(utc.as_bytes()).ok_or("a moment")?;
     let instant = Timestamp::from_second(utc.unix_seconds())?;
-    let shown = wall_clock(instant, &TimeZone::posix(rule)?);
+    let shown = wall_clock(instant, &zone(rule)?);
     Ok(shown.ok() == read_moment(expected.as_bytes()))
 }
 
@@ -46,7 +49,7 @@ fn clocks_show_no_other_years(rt: HostRuntime) -> Result<(), Fail> {
         ("<+14>-14", 32_503_629_599, true),
         ("<+14>-14", 32_503_629_600, false),
     ] {
-        let shown = wall_clock(Timestamp::from_second(second)?, &TimeZone::posix(rule)?);
+        let shown = wall_clock(Timestamp::from_second(second)?, &zone(rule)?);
         let is_out = shown == Err(ClockFault::OutOfRange);
         assert!(rt; is_out != is_shown, "{rule} at {second}");
     }
@@ -57,7 +60,7 @@ fn clocks_show_no_other_years(rt: HostRuntime) -> Result<(), Fail> {
 #[test]
 fn a_clock_shows_the_second_that_has_begun(rt: HostRuntime) -> Result<(), Fail> {
     let instant = Timestamp::new(-1, -500_000_000)?;
-    let shown = wall_clock(instant, &TimeZone::posix("UTC0")?);
+    let shown = wall_clock(instant, &zone("UTC0")?);
     assert!(rt; shown.ok() == read_moment(b"1969-12-31T23:59:58"));
     Ok(())
 }

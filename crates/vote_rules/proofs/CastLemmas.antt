@@ -19,7 +19,8 @@ use Rattle.proxy_rules.proofs.TurnedLists.{filter_map-reverse}
 use Rattle.share_blocks.specs.Covers.{Cover, tags_of}
 use Rattle.share_blocks.specs.Pieces.{is_place}
 use Rattle.share_blocks.proofs.CoverLemmas.{tags_at-place}
-use Rattle.vote_rules.specs.Casts.{Share, find_map, instructed_way, last_cast, same_capacity, way_cast, way_over}
+use Rattle.vote_rules.specs.Casts.{Share, find_map, instructed_way, last_cast, way_cast, way_over}
+use Rattle.proxy_rules.specs.Parties.{same_capacity}
 use Rattle.vote_rules.specs.Covers.{as_proxy, cast_among, cover_of, covers_by, everywhere, way_number, way_tagged}
 use Rattle.vote_rules.specs.Received.{Entry, is_as_instructed, block_by, block_on, blocks_on, is_after, is_before, is_instructed_on, is_on_shares_of, last_instructed}
 use Rattle.vote_rules.specs.declared.received.BlockCast.{BlockCast}

@@ -4,7 +4,6 @@ use Rattle.std.specs.Prelude.{Option, Some, None, All, sum_by}
 use Rattle.std.specs.Cmp.Derive.{both_true}
 use Rattle.std.proofs.lemmas.List.Sums.{sum_by-cons, sum_by_more, sum_by_more_le, sum_by_more_le_part, sum_by-le-sum_by}
 use Rattle.std.proofs.lemmas.List.Elements.{All-cons, All-head, All-nil, All-tail}
-use Rattle.desk_lists.proofs.Booleans.{one_at_most}
 use Rattle.std.proofs.lemmas.Bool.{eqb-true, le-leb}
 use Rattle.desk_terms.specs.Places.{Places, places_that}
 use Rattle.desk_terms.specs.declared.kinds.Way.{Way}
@@ -16,13 +15,8 @@ use Rattle.proxy_rules.specs.Shares.{are_rows, shares_of}
 use Rattle.vote_rules.specs.Sums.{FitsBoth, FitsMore, added, tally_over, tally_to, votes_over}
 use Rattle.vote_rules.specs.Tallies.{is_vote, votes_to, votes, tally_by}
 use Rattle.proxy_rules.specs.Tiles.{are_tiled, places_if, places_in}
-use Rattle.proxy_rules.proofs.TileLemmas.{places_that-tiles, tiled}
+use Rattle.proxy_rules.proofs.TileLemmas.{every_place, places_that_le, places_that-tiles, tiled}
 use Rattle.proxy_rules.proofs.ShareLemmas.{shares_of-le, all_shares-le}
-
--- of n places at most n pass
-pub places_that_le : (test : ℕ → Bool) (n : ℕ) → places_that test n ≤ n
-places_that_le test zero = omega arith
-places_that_le test (suc n) = omega (arith, places_that_le test n, one_at_most (test (suc n)))
 
 -- one place more
 pub places_that_more : (test : ℕ → Bool) (n : ℕ) → places_that test (n + 1) ≡ places_that test n + cond (test (n + 1)) 1 0
@@ -129,10 +123,6 @@ places_that-alike test other zero alike = refl
 places_that-alike test other (suc n) alike =
     ap (λ b. places_that test n + cond b 1 0) (alike (suc n) (omega arith) (omega arith))
     ∙ ap (λ k. k + cond (other (suc n)) 1 0) (places_that-alike test other n (λ place low high. alike place low (omega arith)))
-
-pub every_place : (n : ℕ) → places_that (λ place. true) n ≡ n
-every_place zero = refl
-every_place (suc n) = let e = every_place n in omega (arith, e)
 
 -- ranges that hold the places 1 to n hold n places
 pub places_in-tiles : (ranges : List Places) (n : ℕ) → are_tiled 1 ranges n ≡ true → sum_by places_in ranges ≡ n

@@ -30,12 +30,13 @@ use Rattle.share_blocks.specs.Covers.{Cover}
 use Rattle.share_blocks.specs.Pieces.{is_place}
 use Rattle.share_blocks.proofs.CoverLemmas.{tags_at-place}
 use Rattle.vote_rules.specs.Ballots.{capacity_for, cuts_of, governing_at, piece_at, vote_by, vote_by_governing, vote_by_proxy, vote_if, voters_for}
-use Rattle.vote_rules.specs.Casts.{Share, find_map, instructed_way, same_capacity}
+use Rattle.vote_rules.specs.Casts.{Share, find_map, instructed_way}
+use Rattle.proxy_rules.specs.Parties.{authorised_by, same_capacity}
 use Rattle.proxy_rules.specs.Instructions.{instructed_on, same_way}
 use Rattle.vote_rules.specs.Covers.{as_proxy, cast_among, cover_of, covers_by, everywhere, way_number, pieces_by, vote_among, way_at, way_tagged}
 use Rattle.vote_rules.specs.Received.{is_after, is_before}
 use Rattle.vote_rules.specs.Tallies.{share_at}
-use Rattle.vote_rules.specs.Votes.{Casts, authorised_by, common_way, first_that_applies, valid_vote}
+use Rattle.vote_rules.specs.Votes.{Casts, common_way, first_that_applies, valid_vote}
 use Rattle.vote_rules.specs.declared.received.BlockCast.{BlockCast}
 use Rattle.vote_rules.proofs.CastLemmas.{cover_way, way_of_covers}
 use Rattle.vote_rules.proofs.ListLemmas.{All-reverse, filter_map_mapped, find-agree, find_map-agree}

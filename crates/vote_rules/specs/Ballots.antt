@@ -16,7 +16,8 @@ use Rattle.share_blocks.specs.Covers.{Cover}
 use Rattle.share_blocks.specs.Pieces.{Piece}
 use Rattle.proxy_rules.specs.Instructions.{allows, instructed_on}
 use Rattle.vote_rules.specs.Covers.{way_at}
-use Rattle.vote_rules.specs.Votes.{authorised_by, common_way, first_that_applies}
+use Rattle.proxy_rules.specs.Parties.{authorised_by}
+use Rattle.vote_rules.specs.Votes.{common_way, first_that_applies}
 use Rattle.vote_rules.specs.declared.received.BlockCast.{BlockCast}
 
 -- those who vote for the holder: the individual itself, or the representatives of the corporation

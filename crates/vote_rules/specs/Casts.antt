@@ -1,10 +1,10 @@
 -- Casts on a share of a poll. The records of all casts stand in order of receipt.
-use Rattle.std.specs.Prelude.{Bool, true, false, ◌&&◌, ◌==◌, List, [], ◌∷◌, reverse, Option, Some, None, option_and_then, if◌then◌else◌}
+use Rattle.std.specs.Prelude.{◌&&◌, ◌==◌, List, [], ◌∷◌, reverse, Option, Some, None, option_and_then, if◌then◌else◌}
 use Rattle.std.specs.Option.{option_or}
 use Rattle.desk_terms.specs.Names.{same_name}
 use Rattle.desk_terms.specs.Places.{holds}
 use Rattle.desk_terms.specs.declared.kinds.Capacity.{Capacity}
-use Rattle.desk_terms.specs.declared.kinds.Capacity.TheVariants.{Member, Rep, Proxy}
+use Rattle.desk_terms.specs.declared.kinds.Capacity.TheVariants.{Proxy}
 use Rattle.desk_terms.specs.declared.kinds.Way.{Way}
 use Rattle.desk_words.specs.Seen.{Number, Party, Place}
 use Rattle.desk_words.specs.declared.records.Appointment.{Appointment}
@@ -12,18 +12,12 @@ use Rattle.desk_words.specs.declared.records.CastKind.{CastKind}
 use Rattle.desk_words.specs.declared.records.CastKind.TheVariants as cast
 use Rattle.desk_words.specs.declared.records.CastMark.{CastMark}
 use Rattle.proxy_rules.specs.Instructions.{instructed_on}
+use Rattle.proxy_rules.specs.Parties.{same_capacity}
 
 -- the first value that a function gives over a list
 abbrev pub find_map : {X Y : Type 0} → (X → Option Y) → List X → Option Y
 find_map f [] = None
 find_map f (x ∷ xs) = option_or (f x) (find_map f xs)
-
--- both are the same capacity
-abbrev pub same_capacity : Capacity → Capacity → Bool
-same_capacity Member Member = true
-same_capacity Rep Rep = true
-same_capacity Proxy Proxy = true
-same_capacity _ _ = false
 
 -- a share in a poll: who holds it, its place in the holding, and the appointment that governs it
 -- (section 324)

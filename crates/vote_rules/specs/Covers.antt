@@ -13,7 +13,8 @@ use Rattle.desk_words.specs.declared.records.RegisterRow.{RegisterRow}
 use Rattle.share_blocks.specs.Covers.{Cover, pieces_after}
 use Rattle.share_blocks.specs.Pieces.{Piece, tags_at}
 use Rattle.share_blocks.specs.Tags.{Tag}
-use Rattle.vote_rules.specs.Casts.{Share, find_map, instructed_way, same_capacity}
+use Rattle.proxy_rules.specs.Parties.{same_capacity}
+use Rattle.vote_rules.specs.Casts.{Share, find_map, instructed_way}
 use Rattle.vote_rules.specs.Received.{is_after, is_before}
 use Rattle.vote_rules.specs.Votes.{valid_vote}
 use Rattle.vote_rules.specs.declared.received.BlockCast.{BlockCast}

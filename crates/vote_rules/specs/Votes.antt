@@ -1,7 +1,6 @@
 -- The valid vote of a share.
-use Rattle.std.specs.Prelude.{Bool, List, [], ◌∷◌, map, filter, Option, Some, None, option_map, option_and_then, if◌then◌else◌}
+use Rattle.std.specs.Prelude.{List, [], ◌∷◌, Option, Some, None, option_map, option_and_then, if◌then◌else◌}
 use Rattle.std.specs.List.{filter_map, list_all, slice_get}
-use Rattle.desk_terms.specs.Names.{same_name}
 use Rattle.desk_terms.specs.declared.kinds.Capacity.{Capacity}
 use Rattle.desk_terms.specs.declared.kinds.Capacity.TheVariants.{Member, Rep, Proxy}
 use Rattle.desk_terms.specs.declared.kinds.Way.{Way}
@@ -9,6 +8,7 @@ use Rattle.desk_words.specs.Seen.{Number, Party}
 use Rattle.desk_words.specs.declared.records.Appointment.{Appointment}
 use Rattle.desk_words.specs.declared.records.Authority.{Authority}
 use Rattle.desk_words.specs.declared.records.RegisterRow.{RegisterRow}
+use Rattle.proxy_rules.specs.Parties.{authorised_by}
 use Rattle.proxy_rules.specs.Shares.{is_corporation, is_individual}
 use Rattle.proxy_rules.specs.Instructions.{allows, instructed_on, same_way}
 
@@ -33,15 +33,6 @@ by_the_holder cast row =
 abbrev pub common_way : List Way → Option (Option Way)
 common_way ways =
     option_map (λ way. if list_all (same_way way) ways then Some way else None) (slice_get ways 0)
-
--- the authority is given by the party
-abbrev pub is_authority_of : Party → Authority → Bool
-is_authority_of corporation a = same_name a.corporation corporation
-
--- the persons whom a corporation authorised, in order of receipt (section 323)
-abbrev pub authorised_by : List Authority → Party → List Party
-authorised_by authorities corporation =
-    map (λ (a : Authority). a.person) (filter (is_authority_of corporation) authorities)
 
 -- for a corporation's share on which any person with its authority has a cast as representative:
 -- their common way (section 323)

@@ -8,12 +8,12 @@ ghost use Rattle.desk_words.specs.declared.records.Appointment.{Appointment};
 ghost use Rattle.vote_rules.specs.Ballots.{capacity_for, governing_at, piece_at, vote_by, vote_by_governing, vote_if, voters_for, ways_at};
 ghost use Rattle.vote_rules.specs.Covers.{pieces_by, way_at};
 ghost use Rattle.proxy_rules.specs.Instructions.{same_way};
-ghost use Rattle.vote_rules.specs.Votes.{authorised_by, common_way, is_authority_of};
+ghost use Rattle.vote_rules.specs.Votes.{common_way};
 
 use crate::covers::{pieces_by, way_at};
 use crate::received::BlockCast;
 use desk_words::{Appointment, Authority, Capacity, Filed, HolderKind, Party, RegisterRow, Way};
-use proxy_rules::{GovernedPiece, allows, instructed_on};
+use proxy_rules::{GovernedPiece, allows, authorised_by, instructed_on};
 use share_blocks::Blocks;
 use std::alloc::{AllocError, Global};
 use std::collections::BTreeMap;
@@ -26,31 +26,6 @@ pub(crate) struct Ballots<B: Blocks> {
     pub(crate) holders: Vec<B>,
     /// The casts of the proxy of each of the member's appointments, in the order of these.
     pub(crate) proxies: Vec<B>,
-}
-
-/// The authorities that a corporation gave.
-fn authorities_of(
-    alloc: Global,
-    authorities: &Filed<Authority>,
-    corporation: Party,
-) -> Result<Vec<Authority>, AllocError>
-    ensures { IfOk result
-        (λ own. own.items ≡ filter (is_authority_of corporation) authorities.now) }
-{
-    authorities.by_first(alloc, corporation)
-}
-
-/// The persons whom a corporation authorised, in order of receipt (section 323). The error is want
-/// of memory.
-pub fn authorised_by(
-    alloc: Global,
-    authorities: &Filed<Authority>,
-    corporation: Party,
-) -> Result<Vec<Party>, AllocError>
-    ensures { IfOk result (λ persons. persons.items ≡ authorised_by authorities.now corporation) }
-{
-    let own = authorities_of(alloc, authorities, corporation)?;
-    own.iter().map(|authority| authority.person).collect(alloc)
 }
 
 /// Those who vote for the holder of the row: the individual itself, or the representatives of the

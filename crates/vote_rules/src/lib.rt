@@ -9,5 +9,4 @@ pub mod laws;
 mod parting;
 mod received;
 
-pub use ballots::authorised_by;
 pub use counting::tally;

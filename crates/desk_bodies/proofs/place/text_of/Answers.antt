@@ -1,4 +1,4 @@
-use Rattle.std.proofs.Common.{◌≡◌, ap, subst, sym, ◌∙◌, Err, Some}
+use Rattle.std.proofs.Common.{ap, subst, sym, ◌∙◌, Err, Some}
 use Rattle.desk_terms.specs.Texts.{IsText}
 use Rattle.desk_terms.proofs.TextLemmas.{text_of-text, text_of-no_text}
 use Rattle.desk_bodies.proofs.place.text_of.Goals as goal

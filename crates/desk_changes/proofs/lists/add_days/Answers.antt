@@ -4,7 +4,7 @@ use Rattle.std.proofs.lemmas.Cmp.{nat_cmp_total}
 use Rattle.desk_lists.specs.Ordered.{ascends_by}
 use Rattle.desk_lists.proofs.Ascending.{ascends_by-take}
 use Rattle.desk_words.specs.Lists.{day_before}
-use Rattle.desk_tables.proofs.Tests.{each_is}
+use Rattle.std.proofs.lemmas.Bool.{and_parts}
 use Rattle.desk_changes.specs.Writes.{Turns, no_days, with_days}
 use Rattle.desk_changes.proofs.TurnLemmas.{day_more, earlier}
 use Rattle.desk_changes.proofs.lists.add_days.Goals as goal
@@ -15,7 +15,7 @@ loop-day-preserved g c =
     let all = c.args.days.now in
     let it = c.day-item.result in
     let next = take_more all i it c.loop-day-test.true ∙ ap (λ z. take i all ++ z ∷ []) (sym c.day-item.is) in
-    let asked = each_is (nat_le (length all) 2000) (ascends_by day_before all) c.requires in
+    let asked = and_parts (nat_le (length all) 2000) (ascends_by day_before all) c.requires in
     let up : ascends_by day_before (take i all ++ it ∷ []) ≡ true = subst (λ l. ascends_by day_before l ≡ true) next (ascends_by-take nat_cmp_total (λ (day : ℕ). day) (i + 1) all asked.1) in
     record {
       same = c.in_ok-add.ensures.same_reference ∙ c.loop-day.invariant.same;

@@ -5,11 +5,11 @@ use Rattle.desk_commands.specs.Plans.{asked_in}
 use Rattle.desk_commands.proofs.PlanLemmas.{asked-taken, wrong-refused, gives-same}
 use Rattle.desk_commands.proofs.plan.read_words.Goals as goal
 
-pub returns-in-Ok-clause-asked : goal.returns-in-Ok-clause-asked
-returns-in-Ok-clause-asked c =
+pub returns-in-Ok : goal.returns-in-Ok
+returns-in-Ok c =
     let words = map string_bytes c.args.words.now in
-    gives-same c.plan_in.result _ _ c.plan_in.ensures.asked (ap asked_in c.in-Ok.ensures.named ∙ sym (asked-taken words c.in-Ok.ensures.exact))
+    gives-same c.plan_in.result _ _ c.plan_in.ensures (ap asked_in c.in-Ok.ensures.named ∙ sym (asked-taken words c.in-Ok.ensures.exact))
 
-pub returns-in-Err-clause-asked : goal.returns-in-Err-clause-asked
-returns-in-Err-clause-asked c =
+pub returns-in-Err : goal.returns-in-Err
+returns-in-Err c =
     wrong-refused (map string_bytes c.args.words.now) (kind_of c.in-Err.error) c.refused.result c.refused.ensures c.in-Err.ensures.exact

@@ -7,7 +7,7 @@ use Rattle.sqlite.specs.Tree.{Trees}
 use Rattle.sqlite_trees.specs.Objects.{catalog_tree}
 use Rattle.sqlite_trees.specs.View.{IsClean}
 use Rattle.sqlite_catalog.specs.Listing.{AreListed}
-use Rattle.desk_tables.specs.Tables.{desk_schema}
+use Rattle.desk_schema.specs.Tables.{desk_schema}
 use Rattle.desk_opening.proofs.OneSchema.{one_schema}
 use Rattle.desk_opening.proofs.RisingLemmas.{risen}
 use Rattle.desk_opening.proofs.opening.reopened.Goals as goal

@@ -1,5 +1,5 @@
 use Rattle.std.proofs.Common.{◌≡◌, rules, refl, Err}
-use Rattle.desk_tables.specs.Office.{flat_in}
+use Rattle.desk_records.specs.Office.{flat_in}
 use Rattle.desk_reading.proofs.ReadingLemmas.{last, stop, then}
 use Rattle.desk_reading.proofs.flat.read_flat.Goals as goal
 

@@ -2,7 +2,7 @@ use Rattle.std.proofs.Common.{◌≡◌, true, refl, ap, sym, ◌∙◌, rules, 
 use Rattle.std.proofs.lemmas.Iterator.Adapters.{YieldsList-from_vec}
 use Rattle.std.proofs.lemmas.Iterator.Consumers.{YieldsList-end}
 use Rattle.std.proofs.lemmas.List.{map-id}
-use Rattle.desk_tables.specs.Office.{name_meetings}
+use Rattle.desk_records.specs.Office.{name_meetings}
 use Rattle.desk_reading.specs.Giving.{given_out, meetings_own}
 use Rattle.desk_reading.proofs.GivingLemmas.{meetings_stay, none_given, turn_given}
 use Rattle.desk_reading.proofs.giving.give_out.Goals as goal

@@ -1,6 +1,6 @@
 use Rattle.std.proofs.Common.{◌≡◌, true}
 use Rattle.desk_lists.specs.Ordered.{differ_by}
-use Rattle.desk_tables.specs.Office.{name_meetings}
+use Rattle.desk_records.specs.Office.{name_meetings}
 use Rattle.desk_reading.specs.Giving.{given_out, meetings_own, same_own}
 use Rattle.desk_reading.proofs.giving.give_out.Given as goal
 

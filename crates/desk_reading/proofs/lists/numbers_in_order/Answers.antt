@@ -8,7 +8,7 @@ use Rattle.desk_lists.proofs.Ascending.{ascends-from_answer, ascends_by-sorted}
 use Rattle.desk_lists.proofs.Numbers.{is_lt-nat_cmp}
 use Rattle.desk_lists.proofs.SortingLemmas.{sort_by-ascending}
 use Rattle.desk_rows.specs.declared.kept.NumberedResolution.{NumberedResolution}
-use Rattle.desk_tables.specs.Office.{number_before}
+use Rattle.desk_records.specs.Office.{number_before}
 use Rattle.desk_reading.proofs.OrderLemmas.{never_ascends}
 use Rattle.desk_reading.proofs.lists.numbers_in_order.Goals as goal
 

@@ -3,7 +3,7 @@ use Rattle.std.specs.Prelude.{nat_le}
 use Rattle.std.proofs.lemmas.Bool.Decides.{nat_tests}
 use Rattle.desk_lists.specs.Ordered.{ascends_by}
 use Rattle.desk_lists.specs.Sorting.{sort_by}
-use Rattle.desk_tables.specs.Office.{number_before}
+use Rattle.desk_records.specs.Office.{number_before}
 use Rattle.desk_reading.specs.Own.{are_numbered_from}
 use Rattle.desk_reading.proofs.ListLemmas.{limit_so, numbers_refused, resolutions_made, resolutions_refused, too_many, wrong_numbers}
 use Rattle.desk_reading.proofs.lists.resolution_list.Goals as goal

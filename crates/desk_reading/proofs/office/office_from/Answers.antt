@@ -4,7 +4,7 @@ use Rattle.desk_lists.specs.Sorting.{sort_by}
 use Rattle.desk_words.specs.Lists.{caller_before, day_before, is_day_list, is_key_list}
 use Rattle.desk_words.specs.Office.{is_meeting, is_office}
 use Rattle.desk_rows.specs.declared.kept.MeetingRow.{MeetingRow}
-use Rattle.desk_tables.specs.Office.{lists_of_all, office_of}
+use Rattle.desk_records.specs.Office.{lists_of_all, office_of}
 use Rattle.desk_reading.specs.Giving.{all_lists_own, all_name_meetings, are_meeting_rows, own_of}
 use Rattle.desk_reading.specs.Reading.{Yields}
 use Rattle.desk_reading.proofs.ListLemmas.{cause_by}

@@ -1,5 +1,5 @@
 use Rattle.std.proofs.Common.{◌≡◌, rules, Err}
-use Rattle.desk_tables.specs.Office.{office_of}
+use Rattle.desk_records.specs.Office.{office_of}
 use Rattle.desk_reading.proofs.ReadingLemmas.{last, stop}
 use Rattle.desk_reading.proofs.office.read_office.Goals as goal
 

@@ -2,7 +2,7 @@ use Rattle.std.proofs.Common.{◌≡◌, Some, slice_get, subst, rules}
 use Rattle.std.specs.Prelude.{option_map}
 use Rattle.desk_words.specs.declared.caller.KeyRow.{KeyRow}
 use Rattle.desk_rows.specs.Meanings.{all_mean}
-use Rattle.desk_tables.specs.Contents as table
+use Rattle.desk_schema.specs.Contents as table
 use Rattle.desk_store.proofs.CallerLemmas.{caller_told}
 use Rattle.desk_store.proofs.reading.read_caller.Goals as goal
 

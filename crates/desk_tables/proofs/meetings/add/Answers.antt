@@ -1,7 +1,7 @@
 use Rattle.std.proofs.Common.{◌≡◌, w64, rules, to_z, of_z}
 use Rattle.sqlite.specs.Held.{state}
 use Rattle.desk_tables.proofs.MeetingLemmas.{adds_meeting}
-use Rattle.desk_tables.proofs.Values.{bound_some}
+use Rattle.desk_statements.proofs.Values.{bound_some}
 use Rattle.desk_tables.proofs.meetings.add.Goals as goal
 
 pub returns-clause-added : goal.returns-clause-added

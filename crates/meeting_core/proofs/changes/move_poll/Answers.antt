@@ -1,20 +1,25 @@
-use Rattle.std.proofs.Common.{◌==◌, sym, ◌∙◌, ap}
-use Rattle.desk_lists.proofs.ChangeFirst.{change_first-found, change_first-absent}
+use Rattle.std.proofs.Common.{◌==◌, sym, ◌∙◌, ap, slice_set}
+use Rattle.std.specs.List.{position_from}
+use Rattle.std.specs.Prelude.{slice_index_or}
+use Rattle.desk_lists.proofs.ChangeFirst.{change_first-some, change_first-none}
+use Rattle.desk_words.specs.Changes.{moved}
 use Rattle.desk_words.specs.declared.records.Poll.{Poll}
-use Rattle.desk_words.specs.Finding.{poll_on}
-use Rattle.desk_words.specs.Changes.{change_poll, moved}
 use Rattle.meeting_core.proofs.changes.move_poll.Goals as goal
 
 pub returns-in-Some : goal.returns-in-Some
 returns-in-Some c =
     let m = c.args.lists.now in
-    let found = ap (λ polls. poll_on polls c.args.resolution) (sym c.as_slice.ensures) ∙ sym c.find_poll.ensures ∙ c.in-Some.is in
-    c.replace_poll.ensures
-    ∙ ap (λ (poll : Poll). change_poll (λ _. poll) c.args.resolution m) c.moved.ensures
-    ∙ ap (λ polls. record m { polls = polls }) (change_first-found (λ (p : Poll). p.resolution == c.args.resolution) (moved c.args.change) m.polls c.in-Some.poll found)
+    let test = λ (p : Poll). p.resolution == c.args.resolution in
+    let poll = c.index-polls-i.result in
+    let place = ap (position_from test 0) (sym c.as_slice-polls.ensures) ∙ sym c.place_of_poll.ensures.first ∙ c.in-Some.is in
+    let there = c.index-polls-i.is ∙ ap (λ polls. slice_index_or polls c.in-Some.i poll) c.as_slice-polls.ensures in
+    ap (λ polls. record m { polls = polls })
+    (c.set.ensures ∙ ap (slice_set m.polls c.in-Some.i) (c.moved.ensures ∙ ap (moved c.args.change) there)
+    ∙ sym (change_first-some test poll (moved c.args.change) m.polls c.in-Some.i place))
 
 pub returns-in_default : goal.returns-in_default
 returns-in_default c =
     let m = c.args.lists.now in
-    let none = ap (λ polls. poll_on polls c.args.resolution) (sym c.as_slice.ensures) ∙ sym c.find_poll.ensures ∙ c.in_default.is in
-    ap (λ polls. record m { polls = polls }) (sym (change_first-absent (λ (p : Poll). p.resolution == c.args.resolution) (moved c.args.change) m.polls none))
+    let test = λ (p : Poll). p.resolution == c.args.resolution in
+    let none = ap (position_from test 0) (sym c.as_slice-polls.ensures) ∙ sym c.place_of_poll.ensures.first ∙ c.in_default.is in
+    ap (λ polls. record m { polls = polls }) (sym (change_first-none test (moved c.args.change) 0 m.polls none))

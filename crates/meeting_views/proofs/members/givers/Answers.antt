@@ -1,6 +1,4 @@
-use Rattle.std.proofs.Common.{◌≡◌, ℕ, List, Vec, Global, false, true, not, take, ap, sym, ◌∙◌}
-use Rattle.std.specs.BTreeSet.{contains}
-use Rattle.desk_terms.specs.Names.{name_cmp}
+use Rattle.std.proofs.Common.{ℕ, List, Vec, Global, ap, sym, ◌∙◌}
 use Rattle.meeting_views.proofs.MemberLemmas.{giver-new, giver-again, is_new, is_old, seen-more}
 use Rattle.meeting_views.proofs.members.givers.Goals as goal
 use Rattle.meeting_views.proofs.members.givers.Goals.{then-branch+in_ok-push, else-branch}

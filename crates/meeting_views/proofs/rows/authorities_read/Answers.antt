@@ -2,7 +2,6 @@ use Rattle.std.proofs.Common.{◌≡◌, List, filter, map, ap, sym, ◌∙◌}
 use Rattle.std.proofs.lemmas.Result.{IfOk-weaker}
 use Rattle.desk_terms.specs.Names.{same_name}
 use Rattle.desk_terms.specs.declared.kinds.Capacity.{Capacity}
-use Rattle.desk_words.specs.declared.records.Authority.{Authority}
 use Rattle.caller_view.specs.Reads.{authorities_read}
 use Rattle.caller_view.specs.Rows.{authority_in}
 use Rattle.caller_view.specs.declared.rows.AuthorityRows.{AuthorityRows}

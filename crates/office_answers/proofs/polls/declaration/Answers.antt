@@ -1,6 +1,5 @@
-use Rattle.std.proofs.Common.{◌≡◌, ◌-◌, ap, ◌∙◌}
+use Rattle.std.proofs.Common.{◌-◌, ap, ◌∙◌}
 use Rattle.std.specs.List.{slice_get}
-use Rattle.std.specs.Option.{option_copied}
 use Rattle.desk_words.specs.Office.{is_tally}
 use Rattle.proxy_rules.specs.Cutoffs.{cutoffs_of}
 use Rattle.desk_words.specs.Finding.{poll_on}

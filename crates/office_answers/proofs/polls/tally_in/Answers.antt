@@ -1,11 +1,10 @@
-use Rattle.std.proofs.Common.{◌≡◌, [], ap, ◌∙◌}
+use Rattle.std.proofs.Common.{◌≡◌, [], ap, sym, ◌∙◌}
 use Rattle.std.proofs.lemmas.Result.{IfOk-weaker}
 use Rattle.desk_words.specs.Office.{are_numbered_after}
 use Rattle.desk_words.specs.declared.records.Tally.{Tally}
 use Rattle.proxy_rules.specs.Cutoffs.{cutoffs_of}
 use Rattle.proxy_rules.specs.Holdings.{are_tags}
 use Rattle.proxy_rules.specs.Shares.{are_rows}
-use Rattle.desk_words.specs.Finding.{poll_on}
 use Rattle.vote_rules.specs.Tallies.{tally_of}
 use Rattle.office_answers.specs.Polls.{tally_in}
 use Rattle.desk_words.proofs.OfficeFacts.{meeting_numbered}
@@ -13,13 +12,13 @@ use Rattle.office_answers.proofs.MeetingRules.{meeting_rows, meeting_tags}
 use Rattle.office_answers.proofs.polls.tally_in.Goals as goal
 
 pub tally-requires-clause-rows : goal.tally-requires-clause-rows
-tally-requires-clause-rows c = ap are_rows c.papers_of.ensures.register ∙ meeting_rows c.args.lists.now c.requires
+tally-requires-clause-rows c = ap are_rows c.papers_of.ensures.register ∙ meeting_rows c.args.lists.now c.requires.meeting
 
 pub tally-requires-clause-tags : goal.tally-requires-clause-tags
-tally-requires-clause-tags c = ap are_tags c.papers_of.ensures.appointments ∙ meeting_tags c.args.lists.now c.requires
+tally-requires-clause-tags c = ap are_tags c.papers_of.ensures.appointments ∙ meeting_tags c.args.lists.now c.requires.meeting
 
 pub tally-requires-clause-numbered : goal.tally-requires-clause-numbered
-tally-requires-clause-numbered c = ap (are_numbered_after []) c.papers_of.ensures.appointments ∙ meeting_numbered c.args.lists.now c.requires
+tally-requires-clause-numbered c = ap (are_numbered_after []) c.papers_of.ensures.appointments ∙ meeting_numbered c.args.lists.now c.requires.meeting
 
 -- the papers are the meeting's own lists
 pub returns : goal.returns
@@ -30,6 +29,6 @@ returns c =
     let number = c.args.number in
     let read = tally_of c.cutoffs-cutoffs.result papers.register.now papers.appointments.now papers.endings.now papers.authorities.now papers.casts.now number in
     let due = tally_in m c.args.closed.now c.args.now number in
-    let cutoffs = c.cutoffs-cutoffs.ensures ∙ ap (λ poll. cutoffs_of m.meeting poll c.args.closed.now c.args.now) (c.as_ref.ensures.value ∙ c.find_poll-poll.ensures ∙ ap (λ polls. poll_on polls number) c.as_slice.ensures) in
+    let cutoffs = c.cutoffs-cutoffs.ensures ∙ ap (λ poll. cutoffs_of m.meeting poll c.args.closed.now c.args.now) (sym c.requires.poll) in
     let same : read ≡ due = λ i. tally_of (cutoffs i) (is.register i) (is.appointments i) (is.endings i) (is.authorities i) (is.casts i) number in
     IfOk-weaker c.tally.result (λ (t : Tally). t ≡ read) (λ (t : Tally). t ≡ due) (λ t e. e ∙ same) c.tally.ensures

@@ -6,7 +6,7 @@ use Rattle.desk_words.specs.declared.records.Authority.{Authority}
 use Rattle.proxy_rules.specs.Shares.{is_corporation}
 use Rattle.poll_rules.specs.Gathered.{are_in}
 use Rattle.poll_rules.specs.Roles.{has_authority}
-use Rattle.vote_rules.specs.Votes.{is_authority_of}
+use Rattle.proxy_rules.specs.Parties.{is_authority_of}
 use Rattle.poll_rules.proofs.GatherLemmas.{any-authorised}
 use Rattle.poll_rules.proofs.roles.representatives.Goals as goal
 

@@ -3,7 +3,7 @@ use Rattle.std.specs.Fn.{FnOnceReturnsAt}
 use Rattle.sqlite.specs.Held.{state}
 use Rattle.sqlite.specs.State.{HasCleanDisk, KeepsCounts, Shows}
 use Rattle.meeting_core.specs.Step.{decided, stepped}
-use Rattle.desk_tables.specs.Standing.{Stands}
+use Rattle.desk_records.specs.Standing.{Stands}
 use Rattle.desk_store.proofs.KeepingLemmas.{stands_same}
 use Rattle.desk_store.proofs.ReadLemmas.{mapped_is, mapped_on}
 use Rattle.desk_store.proofs.desk.Desk.perform.Goals as goal

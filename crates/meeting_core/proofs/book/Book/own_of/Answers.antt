@@ -1,20 +1,39 @@
-use Rattle.std.proofs.Common.{◌≡◌, ap, ◌∙◌}
+use Rattle.std.proofs.Common.{◌≡◌, true, subst, ap, sym, ◌∙◌}
 use Rattle.std.proofs.lemmas.Result.{IfOk-weaker}
+use Rattle.std.specs.Prelude.{Option, IfOk, IfSome}
+use Rattle.std.specs.Option.{option_copied}
+use Rattle.desk_words.specs.Finding.{meeting_named}
+use Rattle.desk_words.specs.Ordered.{ascends_by}
+use Rattle.desk_words.specs.Registers.{member_before}
+use Rattle.desk_words.specs.declared.office.MeetingLists.{MeetingLists}
+use Rattle.desk_words.specs.declared.office.OfficeLists.{OfficeLists}
 use Rattle.caller_view.specs.Own.{own_from}
+use Rattle.caller_view.specs.Public.{PublicRecord}
 use Rattle.caller_view.specs.Rows.{rows_in}
-use Rattle.caller_view.specs.Views.{meeting_at, own_of}
+use Rattle.caller_view.specs.Views.{own_in_some, own_of}
 use Rattle.caller_view.specs.declared.rows.OwnRows.{OwnRows}
 use Rattle.caller_view.specs.declared.views.OwnView.{OwnView}
-use Rattle.caller_view.specs.Public.{PublicRecord}
+use Rattle.meeting_core.proofs.FoundLemmas.{found_ascends}
 use Rattle.meeting_core.proofs.book.Book.own_of.Goals as goal
+
+pub rows_in-requires : goal.rows_in-requires
+rows_in-requires c =
+    let o : OfficeLists = record { keys = c.self.inside.keys; closed = c.self.inside.closed; meetings = c.self.inside.meetings.items } in
+    subst (λ (found : Option MeetingLists). IfSome found (λ m. ascends_by member_before m.register ≡ true))
+    (ap (λ meetings. meeting_named meetings c.args.meeting) (sym c.deref.ensures.value) ∙ sym c.find_meeting-found.ensures)
+    (found_ascends o c.args.meeting c.self.invariant)
 
 pub returns : goal.returns
 returns c =
-    let office = c.args.self.now in
+    let o : OfficeLists = record { keys = c.self.inside.keys; closed = c.self.inside.closed; meetings = c.self.inside.meetings.items } in
+    let found = option_copied c.find_meeting-found.result in
+    let party = c.args.party in
     let now = c.args.now in
-    let rows = rows_in (meeting_at office c.args.meeting) c.args.party in
-    let due =
-    ap (λ (r : OwnRows). own_from r c.public_of-public.result now) c.in_ok-rows.ensures
-    ∙ ap (λ (p : PublicRecord). own_from rows p now) c.public_of-public.ensures in
-    IfOk-weaker c.own_from.result (λ (own : OwnView). own ≡ own_from c.in_ok-rows.rows c.public_of-public.result now)
-    (λ (own : OwnView). own ≡ own_of office c.args.party c.args.meeting now) (λ own same. same ∙ due) c.own_from.ensures.value
+    let same : found ≡ meeting_named o.meetings c.args.meeting = c.find_meeting-found.ensures ∙ ap (λ meetings. meeting_named meetings c.args.meeting) c.deref.ensures.value in
+    let due : own_from c.in_ok-rows.rows c.public_in-public.result now ≡ own_of o party c.args.meeting now =
+    ap (λ (r : OwnRows). own_from r c.public_in-public.result now) c.in_ok-rows.ensures
+    ∙ ap (λ (p : PublicRecord). own_from (rows_in found party) p now) c.public_in-public.ensures
+    ∙ ap (λ (f : Option MeetingLists). own_in_some f o.closed party now) same in
+    subst (λ (held : OfficeLists). IfOk c.own_from.result (λ (own : OwnView). own ≡ own_of held party c.args.meeting now)) c.self.view_is
+    (IfOk-weaker c.own_from.result (λ (own : OwnView). own ≡ own_from c.in_ok-rows.rows c.public_in-public.result now)
+    (λ (own : OwnView). own ≡ own_of o party c.args.meeting now) (λ own is. is ∙ due) c.own_from.ensures.value)

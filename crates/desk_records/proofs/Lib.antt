@@ -1,0 +1,7 @@
+pub mod FlatChanges
+pub mod ListChanges
+pub mod ListLemmas
+pub mod MeetingChanges
+pub mod OfficeLemmas
+pub mod PollChanges
+pub mod RecordLemmas

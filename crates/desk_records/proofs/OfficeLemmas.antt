@@ -1,0 +1,163 @@
+-- A change of the records of one meeting is a change of that meeting's lists.
+use Rattle.std.proofs.Common.{◌≡◌, inl, inr, ℕ, Bool, true, false, ◌&&◌, if◌then◌else◌, List, [], ◌∷◌, map, Option, Some, refl, sym, ap, subst, ◌∙◌}
+use Rattle.std.specs.List.{list_all, list_any}
+use Rattle.std.proofs.lemmas.Bool.{cases_Bool}
+use Rattle.desk_lists.specs.Lists.{change_first}
+use Rattle.desk_lists.specs.Ordered.{differ_by}
+use Rattle.desk_lists.specs.Sorting.{sort_by}
+use Rattle.desk_terms.specs.Names.{same_name}
+use Rattle.desk_words.specs.Lists.{caller_before, day_before}
+use Rattle.desk_words.specs.Office.{same_meeting}
+use Rattle.desk_words.specs.declared.office.MeetingLists.{MeetingLists}
+use Rattle.desk_words.specs.declared.office.OfficeLists.{OfficeLists}
+use Rattle.desk_words.specs.declared.records.Resolution.{Resolution}
+use Rattle.desk_words.proofs.RowLemmas.{same_name-true}
+use Rattle.desk_rows.specs.declared.kept.MeetingRow.{MeetingRow}
+use Rattle.desk_rows.specs.Meanings.{◌>>=◌, only}
+use Rattle.desk_records.specs.Office.{FlatLists, resolutions_of, lists_with, lists_of, lists_of_all, name_meetings, have_meetings, office_of}
+use Rattle.desk_records.proofs.ListLemmas.{any-map, map-once}
+use Rattle.desk_records.proofs.RecordLemmas.{stands}
+use Rattle.desk_rows.proofs.MeaningLemmas.{bound, option_ap}
+use Rattle.std.proofs.lemmas.Bool.{and_parts}
+
+-- ---- what is known of records that are an office
+
+-- the meetings of the records stand
+pub record AllStand (flat : FlatLists) : Type 0 where
+  pub resolutions : name_meetings flat.meetings flat.resolutions ≡ true
+  pub register : name_meetings flat.meetings flat.register ≡ true
+  pub appointments : name_meetings flat.meetings flat.appointments ≡ true
+  pub endings : name_meetings flat.meetings flat.endings ≡ true
+  pub authorities : name_meetings flat.meetings flat.authorities ≡ true
+  pub presences : name_meetings flat.meetings flat.presences ≡ true
+  pub demands : name_meetings flat.meetings flat.demands ≡ true
+  pub polls : name_meetings flat.meetings flat.polls ≡ true
+  pub casts : name_meetings flat.meetings flat.casts ≡ true
+
+all_stand : (flat : FlatLists) → have_meetings flat ≡ true → AllStand flat
+all_stand flat h =
+    let at_casts = and_parts (name_meetings flat.meetings flat.resolutions && name_meetings flat.meetings flat.register && name_meetings flat.meetings flat.appointments && name_meetings flat.meetings flat.endings && name_meetings flat.meetings flat.authorities && name_meetings flat.meetings flat.presences && name_meetings flat.meetings flat.demands && name_meetings flat.meetings flat.polls) (name_meetings flat.meetings flat.casts) h in
+    let at_polls = and_parts (name_meetings flat.meetings flat.resolutions && name_meetings flat.meetings flat.register && name_meetings flat.meetings flat.appointments && name_meetings flat.meetings flat.endings && name_meetings flat.meetings flat.authorities && name_meetings flat.meetings flat.presences && name_meetings flat.meetings flat.demands) (name_meetings flat.meetings flat.polls) at_casts.0 in
+    let at_demands = and_parts (name_meetings flat.meetings flat.resolutions && name_meetings flat.meetings flat.register && name_meetings flat.meetings flat.appointments && name_meetings flat.meetings flat.endings && name_meetings flat.meetings flat.authorities && name_meetings flat.meetings flat.presences) (name_meetings flat.meetings flat.demands) at_polls.0 in
+    let at_presences = and_parts (name_meetings flat.meetings flat.resolutions && name_meetings flat.meetings flat.register && name_meetings flat.meetings flat.appointments && name_meetings flat.meetings flat.endings && name_meetings flat.meetings flat.authorities) (name_meetings flat.meetings flat.presences) at_demands.0 in
+    let at_authorities = and_parts (name_meetings flat.meetings flat.resolutions && name_meetings flat.meetings flat.register && name_meetings flat.meetings flat.appointments && name_meetings flat.meetings flat.endings) (name_meetings flat.meetings flat.authorities) at_presences.0 in
+    let at_endings = and_parts (name_meetings flat.meetings flat.resolutions && name_meetings flat.meetings flat.register && name_meetings flat.meetings flat.appointments) (name_meetings flat.meetings flat.endings) at_authorities.0 in
+    let at_appointments = and_parts (name_meetings flat.meetings flat.resolutions && name_meetings flat.meetings flat.register) (name_meetings flat.meetings flat.appointments) at_endings.0 in
+    let at_register = and_parts (name_meetings flat.meetings flat.resolutions) (name_meetings flat.meetings flat.register) at_appointments.0 in
+    record { resolutions = at_register.0; register = at_register.1; appointments = at_appointments.1; endings = at_endings.1; authorities = at_authorities.1; presences = at_presences.1; demands = at_demands.1; polls = at_polls.1; casts = at_casts.1 }
+
+-- the records are those of an office
+pub record AreOf (flat : FlatLists) (office : OfficeLists) : Type 0 where
+  pub stand : AllStand flat
+  pub lists : lists_of_all flat flat.meetings ≡ Some office.meetings
+  pub keys : sort_by caller_before flat.keys ≡ office.keys
+  pub closed : sort_by day_before flat.closed ≡ office.closed
+
+only_is : {B : Type 0} (b : Bool) (next : Unit {0} → Option B) (x : B) → (only b >>= next) ≡ Some x → (b ≡ true) × (next tt ≡ Some x)
+only_is true next x h = (refl, h)
+only_is false next x h = absurd cc
+
+some_is : {A : Type 0} {a b : A} → ◌≡◌ {A = Option A} (Some a) (Some b) → a ≡ b
+some_is h = cc
+
+pub are_of : (flat : FlatLists) (office : OfficeLists) → office_of flat ≡ Some office → AreOf flat office
+unfolding office_of
+are_of flat office h =
+    let known = only_is (have_meetings flat) _ office h in
+    let lists = bound (lists_of_all flat flat.meetings) _ office known.1 in
+    let is = some_is lists.2 in
+    record {
+      stand = all_stand flat known.0;
+      lists = lists.1 ∙ ap (λ (o : OfficeLists). Some o.meetings) is;
+      keys = ap (λ (o : OfficeLists). o.keys) is;
+      closed = ap (λ (o : OfficeLists). o.closed) is;
+    }
+
+pub office_is : (flat : FlatLists) (office : OfficeLists) → have_meetings flat ≡ true → lists_of_all flat flat.meetings ≡ Some office.meetings → sort_by caller_before flat.keys ≡ office.keys
+    → sort_by day_before flat.closed ≡ office.closed → office_of flat ≡ Some office
+unfolding office_of
+office_is flat office stand lists keys closed = rw (stand, lists, keys, closed) refl
+
+-- ---- names of meetings
+
+-- the lists of a meeting that the records give are those of a meeting of that name
+pub named_so : (flat : FlatLists) (m : MeetingRow) (x : MeetingLists) → lists_of flat m ≡ Some x → x.meeting.id ≡ m.id
+named_so flat m x h =
+    let it = bound (resolutions_of m.id flat.resolutions) _ x h in
+    name_is (option_ap (λ (y : MeetingLists). y.meeting.id) it.2)
+  where
+    name_is : ◌≡◌ {A = Option (List ℕ)} (Some m.id) (Some x.meeting.id) → x.meeting.id ≡ m.id
+    name_is e = cc
+
+-- the meetings of the records have the names of the office's
+names_are : (flat : FlatLists) (rows : List MeetingRow) (lists : List MeetingLists) → lists_of_all flat rows ≡ Some lists → map (λ (m : MeetingRow). m.id) rows ≡ map (λ (x : MeetingLists). x.meeting.id) lists
+names_are flat [] lists h = let none : [] ≡ lists = cc in rw (← none) refl
+names_are flat (m ∷ rest) lists h =
+    let first = bound (lists_of flat m) _ lists h in
+    let later = bound (lists_of_all flat rest) _ lists first.2 in
+    let are : first.0 ∷ later.0 ≡ lists = cc in
+    rw (← are, named_so flat m first.0 first.1, names_are flat rest later.0 later.1) refl
+
+-- a meeting of the office stands among the records
+pub stands_there : (flat : FlatLists) (office : OfficeLists) (id : List ℕ) → AreOf flat office → list_any (λ (x : MeetingLists). same_name x.meeting.id id) office.meetings ≡ stands id flat.meetings
+stands_there flat office id of =
+    sym (any-map (λ (x : MeetingLists). x.meeting.id) (λ n. same_name n id) office.meetings)
+    ∙ ap (list_any (λ n. same_name n id)) (sym (names_are flat flat.meetings office.meetings of.lists))
+    ∙ any-map (λ (m : MeetingRow). m.id) (λ n. same_name n id) flat.meetings
+
+-- ---- where the lists of one meeting are changed
+
+-- the lists of the meeting of a name changed, and those of another as they are
+abbrev pub change_named : List ℕ → (MeetingLists → MeetingLists) → MeetingLists → MeetingLists
+change_named id change x = if same_name x.meeting.id id then change x else x
+
+-- an office with the meeting of a name changed
+abbrev pub with_changed : List ℕ → (MeetingLists → MeetingLists) → OfficeLists → OfficeLists
+with_changed id change office = record office { meetings = change_first (λ (x : MeetingLists). same_name x.meeting.id id) change office.meetings }
+
+-- what a change of the records makes of the lists of a meeting of a name that pass a test, and of those of the others
+pub record ChangesOne (old new : FlatLists) (row : MeetingRow → MeetingRow) (id : List ℕ) (change : MeetingLists → MeetingLists) (test : MeetingLists → Bool) : Type 0 where
+  pub meetings : new.meetings ≡ map row old.meetings
+  pub named : (m : MeetingRow) → (row m).id ≡ m.id
+  pub resolutions : new.resolutions ≡ old.resolutions
+  pub here : (m : MeetingRow) (rs : List Resolution) → test (lists_with old m rs) ≡ true → same_name m.id id ≡ true → lists_with new (row m) rs ≡ change (lists_with old m rs)
+  pub there : (m : MeetingRow) (rs : List Resolution) → same_name m.id id ≡ false → lists_with new (row m) rs ≡ lists_with old m rs
+  pub keys : new.keys ≡ old.keys
+  pub closed : new.closed ≡ old.closed
+
+module _ (old new : FlatLists) (row : MeetingRow → MeetingRow) (id : List ℕ) (change : MeetingLists → MeetingLists) (test : MeetingLists → Bool) (c : ChangesOne old new row id change test) where
+  lists_changed : (m : MeetingRow) (x : MeetingLists) → test x ≡ true → lists_of old m ≡ Some x → lists_of new (row m) ≡ Some (change_named id change x)
+  lists_changed m x good h =
+      let it = bound (resolutions_of m.id old.resolutions) (λ rs. Some (lists_with old m rs)) x h in
+      let is = some_is it.2 in
+      found it.0 it.1 ∙ ap (λ (y : MeetingLists). Some y) (elim (cases_Bool (same_name m.id id)) [
+        | inl same ↦ c.here m it.0 (ap test is ∙ good) same ∙ sym (rw same refl) ∙ ap (change_named id change) is
+        | inr other ↦ c.there m it.0 other ∙ sym (rw other refl) ∙ ap (change_named id change) is
+      ])
+    where
+      numbered_so : resolutions_of (row m).id new.resolutions ≡ resolutions_of m.id old.resolutions
+      numbered_so = ap (λ n. resolutions_of n new.resolutions) (c.named m) ∙ ap (resolutions_of m.id) c.resolutions
+
+      found : (rs : List Resolution) → resolutions_of m.id old.resolutions ≡ Some rs → lists_of new (row m) ≡ Some (lists_with new (row m) rs)
+      found rs e = ap (λ (o : Option (List Resolution)). o >>= λ r. Some (lists_with new (row m) r)) (numbered_so ∙ e)
+
+  all_changed : (rows : List MeetingRow) (lists : List MeetingLists) → list_all test lists ≡ true → lists_of_all old rows ≡ Some lists → lists_of_all new (map row rows) ≡ Some (map (change_named id change) lists)
+  all_changed [] lists good h = let none : [] ≡ lists = cc in rw (← none) refl
+  all_changed (m ∷ rest) lists good h =
+      let first = bound (lists_of old m) _ lists h in
+      let later = bound (lists_of_all old rest) _ lists first.2 in
+      let are : first.0 ∷ later.0 ≡ lists = cc in
+      let each = and_parts (test first.0) (list_all test later.0) (subst (λ l. list_all test l ≡ true) (sym are) good) in
+      rw (← are, lists_changed m first.0 each.0 first.1, all_changed rest later.0 each.1 later.1) refl
+
+  close : (a b : MeetingLists) → same_name a.meeting.id id ≡ true → same_name b.meeting.id id ≡ true → same_meeting a b ≡ true
+  close a b is also = subst (λ n. same_name a.meeting.id n ≡ true) (sym (same_name-true b.meeting.id id also)) is
+
+  -- the office is the one with that meeting changed
+  pub office_changed : (office : OfficeLists) → AreOf old office → have_meetings new ≡ true → differ_by same_meeting office.meetings ≡ true → list_all test office.meetings ≡ true
+      → office_of new ≡ Some (with_changed id change office)
+  office_changed office of stand differ good =
+      office_is new (with_changed id change office) stand
+      (ap (lists_of_all new) c.meetings ∙ all_changed old.meetings office.meetings good of.lists
+      ∙ ap (λ (l : List MeetingLists). Some l) (map-once (λ (x : MeetingLists). same_name x.meeting.id id) change same_meeting close office.meetings differ))
+      (ap (sort_by caller_before) c.keys ∙ of.keys) (ap (sort_by day_before) c.closed ∙ of.closed)

@@ -1,0 +1,146 @@
+-- What the statements do to the rows of the tables.
+use Rattle.std.specs.Prelude.{◌≡◌, ◌≢◌, ℕ, Bool, false, ◌==◌, List, [], ◌∷◌, ◌++◌, map, filter, not, Option, Some, Result, OnOk, IsTrue}
+use Rattle.std.specs.List.{AllByRecursion, list_all, list_any}
+use Rattle.sqlite.specs.declared.error.Error.{Error}
+use Rattle.sqlite.specs.Order.{Row, column}
+use Rattle.sqlite.specs.Tree.{Trees}
+use Rattle.sqlite.specs.Table.{Table}
+use Rattle.sqlite.specs.Schema.{Schema}
+use Rattle.sqlite.specs.View.{IsShaped}
+use Rattle.sqlite.specs.State.{State, HasCleanDisk, Survives, KeepsCommit, IsUnchanged}
+use Rattle.sqlite.specs.Held.{Held, state}
+use Rattle.sqlite_trees.specs.declared.store.Shape.TheVariants as shape
+use Rattle.sqlite_trees.specs.declared.store.Store as store
+use Rattle.desk_rows.specs.Meanings.{all_mean}
+use Rattle.desk_schema.specs.Tables.{desk_schema}
+
+-- the numbers by which the database knows the tables, in the order in which they are made
+abbrev pub table_numbers : List ℕ
+table_numbers = 0 ∷ 1 ∷ 4 ∷ 5 ∷ 8 ∷ 10 ∷ 12 ∷ 14 ∷ 16 ∷ 18 ∷ 20 ∷ 22 ∷ 24 ∷ []
+
+-- a table of the desk has this number
+abbrev pub is_table : ℕ → Bool
+is_table number = list_any (λ n. n == number) table_numbers
+
+-- the rows have numbers, which rise
+abbrev pub IsRising : List Row → Type 0
+IsRising = IsShaped shape.Table
+
+-- the tables are those of the desk, and the numbers of their rows rise
+pub record IsDesk (s : State) : Type 0 where
+  pub schema : s.now.schema ≡ desk_schema
+  pub rising : (number : ℕ) → IsTrue (is_table number) → IsRising (s.now.trees number)
+
+-- a table: its number, the places of its columns in a row, and what these columns mean
+pub record TableOf (A : Type 0) : Type 0 where
+  pub number : ℕ
+  pub columns : List ℕ
+  pub means : Row → Option A
+
+-- the columns of a row
+abbrev pub columns_of : {A : Type 0} → TableOf A → Row → Row
+columns_of table row = map (column row) table.columns
+
+-- the columns of each row of a table, in the order of the rows
+abbrev pub rows_of : {A : Type 0} → TableOf A → Trees → List Row
+rows_of table trees = map (columns_of table) (trees table.number)
+
+-- what the rows of a table mean
+abbrev pub records_in : {A : Type 0} → TableOf A → Trees → Option (List A)
+records_in table trees = all_mean table.means (rows_of table trees)
+
+-- the other tables keep their rows
+abbrev pub KeepsOthers : ℕ → State → State → Type 0
+KeepsOthers changed old new =
+    (number : ℕ) → IsTrue (is_table number) → number ≢ changed
+    → new.now.trees number ≡ old.now.trees number
+
+-- what the rows of a table mean is changed, and nothing else
+pub record Changes {A : Type 0} (table : TableOf A) (change : List A → List A) (old new : State)
+    : Type 0 where
+  pub records : (was : List A)
+      → records_in table old.now.trees ≡ Some was
+      → records_in table new.now.trees ≡ Some (change was)
+  pub others : KeepsOthers table.number old new
+  pub desk : IsDesk new
+  pub inside : IsTrue new.in_transaction
+
+-- a record is added after the others
+abbrev pub Adds : {A : Type 0} → TableOf A → A → State → State → Type 0
+Adds table added = Changes table (λ was. was ++ added ∷ [])
+
+-- a record is added after the others, where each of those passes the test
+abbrev pub AddsAfter : {A : Type 0} → (A → Bool) → TableOf A → A → State → State → Type 0
+AddsAfter {A} test table added old new =
+    (was : List A)
+    → records_in table old.now.trees ≡ Some was
+    → IsTrue (list_all test was)
+    → Adds table added old new
+
+-- a record is added, where there is none
+abbrev pub AddsFirst : {A : Type 0} → TableOf A → A → State → State → Type 0
+AddsFirst table = AddsAfter (λ _. false) table
+
+-- no record is left
+abbrev pub Empties : {A : Type 0} → TableOf A → State → State → Type 0
+Empties table = Changes table (λ _. [])
+
+-- the records that pass the test are taken out
+abbrev pub TakesOut : {A : Type 0} → TableOf A → (A → Bool) → State → State → Type 0
+TakesOut table test = Changes table (filter (λ it. not (test it)))
+
+-- each record is changed
+abbrev pub Sets : {A : Type 0} → TableOf A → (A → A) → State → State → Type 0
+Sets table change = Changes table (map change)
+
+-- where a statement is answered in a transaction over the tables of a desk, and the disk returned
+-- what was written, this is what it did
+abbrev pub Does : {S T : Type 0} → store.Ghosts S → Held S → Held S → Result T Error
+    → (State → State → Type 0) → Type 0
+Does g old new result Effect =
+    HasCleanDisk (state g new) → IsTrue (state g old).in_transaction → IsDesk (state g old)
+    → OnOk result (Effect (state g old) (state g new))
+
+-- nothing is committed: the last commit stands, and a crash leaves what it left before
+pub record CommitsNothing {S : Type 0} (g : store.Ghosts S) (old new : Held S) : Type 0 where
+  pub kept : HasCleanDisk (state g new)
+      → IsTrue (state g old).in_transaction
+      → KeepsCommit (state g old) (state g new)
+  pub crash : Survives (state g old) (state g new) (λ _. ⊥)
+
+-- the tables of a desk are read, and the disk returned what was written
+abbrev pub IsRead : {S : Type 0} → store.Ghosts S → Held S → Held S → Type 0
+IsRead g old new = HasCleanDisk (state g new) × IsDesk (state g old)
+
+-- these are all rows of the table, in their order, and nothing is changed
+abbrev pub Reads : {S A : Type 0} → store.Ghosts S → Held S → Held S → TableOf A → List Row → Type 0
+Reads g old new table rows =
+    (rows ≡ rows_of table (state g old).now.trees) × IsUnchanged (state g old) (state g new)
+
+-- what these rows mean is what passes the test of what the table holds, in the same order, and
+-- nothing is changed
+abbrev pub Finds : {S A : Type 0} → store.Ghosts S → Held S → Held S → TableOf A → (A → Bool)
+    → List Row → Type 0
+Finds {S} {A} g old new table test rows =
+    ((was : List A)
+    → records_in table (state g old).now.trees ≡ Some was
+    → all_mean table.means rows ≡ Some (filter test was))
+    × IsUnchanged (state g old) (state g new)
+
+-- whatever is answered, nothing is committed, and a crash leaves what it left before
+pub record ChangesNothing {S : Type 0} (g : store.Ghosts S) (old new : Held S) : Type 0 where
+  pub kept : IsRead g old new → KeepsCommit (state g old) (state g new)
+  pub crash : Survives (state g old) (state g new) (λ _. ⊥)
+
+-- the tables of this schema stand, with no row
+abbrev pub AreEmpty : Schema → State → Type 0
+AreEmpty schema s =
+    (s.now.schema ≡ schema) × AllByRecursion (λ (t : Table). s.now.trees t.tree ≡ []) schema.tables
+
+-- where a statement is answered in a transaction, and the disk returned what was written, the
+-- tables of the first schema, with no row, are now those of the second, with no row
+abbrev pub Makes : {S T : Type 0} → store.Ghosts S → Held S → Held S → Result T Error → Schema
+    → Schema → Type 0
+Makes g old new result before after =
+    HasCleanDisk (state g new) → IsTrue (state g old).in_transaction → AreEmpty before (state g old)
+    → OnOk result (AreEmpty after (state g new) × IsTrue (state g new).in_transaction)

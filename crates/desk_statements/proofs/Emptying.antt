@@ -1,0 +1,86 @@
+-- What DELETE does to the tables of the desk.
+use Rattle.std.proofs.Common.{◌≡◌, ℕ, List, [], ◌∷◌, filter, map, slice_get, Bool, true, false, not, cond, Some, None, Ok, Err, Result, OnOk, IsTrue, refl, sym, subst, ◌∙◌}
+use Rattle.sqlite.specs.Order.{Row}
+use Rattle.sqlite.specs.Term.{Term}
+use Rattle.sqlite.specs.Table.{Table}
+use Rattle.sqlite.specs.Program.{given_at}
+use Rattle.sqlite.specs.Command.TheVariants.{Delete}
+use Rattle.sqlite.specs.declared.error.Error.{Error}
+use Rattle.sqlite.specs.Listing.{understood}
+use Rattle.sqlite.specs.State.{State, ExecutesInside}
+use Rattle.sqlite.proofs.Callers.{IsPlain, command_of, statement_of, runs_as}
+use Rattle.sqlite_trees.proofs.TreeLemmas.{IsShaped-filter}
+use Rattle.sqlite_trees.specs.declared.store.Shape.TheVariants as shape
+use Rattle.desk_rows.specs.Meanings.{all_mean}
+use Rattle.desk_schema.specs.Tables.{desk_schema}
+use Rattle.desk_schema.specs.Statements.{TableOf, columns_of, is_table, IsDesk, IsRising, KeepsOthers, Empties, TakesOut}
+use Rattle.desk_statements.proofs.Deleting.{chosen, passes, deleted}
+use Rattle.desk_statements.proofs.Frames.{still, still_desk, by_number}
+use Rattle.desk_statements.proofs.GivenNumbers.{each_means}
+
+-- some rows are left, and nothing else is changed
+pub record LeavesRows (number : ℕ) (left : Row → Bool) (old new : State) : Type 0 where
+  pub rows : new.now.trees number ≡ filter left (old.now.trees number)
+  pub others : KeepsOthers number old new
+  pub desk : IsDesk new
+  pub inside : IsTrue new.in_transaction
+
+module _ (at : ℕ) (table : Table) (tests : List Term) (text : List ℕ) (params : Row)
+    (is : command_of (understood desk_schema text) ≡ Delete at (record { lets = []; body = chosen table.tree tests })) (plain : IsPlain (understood desk_schema text))
+    (there : slice_get desk_schema.tables at ≡ Some table) (numbered_so : IsTrue (is_table table.tree)) (none : given_at [] table.tree ≡ None) where
+  pub leaves_rows : (old new : State) (r : Result ℕ Error) → IsDesk old → IsTrue old.in_transaction → ExecutesInside 0 text params old new r
+      → OnOk r (LeavesRows table.tree (λ row. not (passes tests params row)) old new)
+  leaves_rows old new (Err e) was inside h = tt
+  leaves_rows old new (Ok count) was inside h =
+      let command = Delete at (record { lets = []; body = chosen table.tree tests }) in
+      let w = runs_as text params old new desk_schema was.schema command is plain count h.0 in
+      let up = was.rising table.tree numbered_so in
+      let d = deleted old new desk_schema at table tests (statement_of text (understood desk_schema text)) params count still was.schema there none up w in
+      let kept = by_number table.tree old new (λ k it listed apart other. d.kept k it listed other) in
+      record {
+        rows = d.left;
+        others = kept;
+        desk = still_desk table.tree old new was d.same_schema kept (subst IsRising (sym d.left) (IsShaped-filter shape.Table (λ row. not (passes tests params row)) (old.now.trees table.tree) up));
+        inside = w.shown.mode ∙ inside;
+      }
+
+none_left : (rows : List Row) → filter (λ row. false) rows ≡ []
+none_left [] = refl
+none_left (row ∷ rows) = none_left rows
+
+-- no row is left, so no record
+pub empties : {A : Type 0} (it : TableOf A) (old new : State) (r : Result ℕ Error) → OnOk r (LeavesRows it.number (λ row. false) old new) → OnOk r (Empties it old new)
+empties it old new (Err e) h = tt
+empties it old new (Ok count) h = record {
+  records = λ was known. rw (h.rows, none_left (old.now.trees it.number)) refl;
+  others = h.others;
+  desk = h.desk;
+  inside = h.inside;
+}
+
+-- where a row is chosen exactly where its record passes, the records that pass are taken out
+module _ {A : Type 0} (it : TableOf A) (chooses : Row → Bool) (test : A → Bool) (same : (row : Row) (x : A) → it.means (columns_of it row) ≡ Some x → chooses row ≡ test x) where
+  taken_out : (rows : List Row) (was : List A) → all_mean it.means (map (columns_of it) rows) ≡ Some was
+      → all_mean it.means (map (columns_of it) (filter (λ row. not (chooses row)) rows)) ≡ Some (filter (λ x. not (test x)) was)
+  taken_out [] was h = let none : [] ≡ was = cc in rw (← none) refl
+  taken_out (row ∷ rows) was h =
+      let each = each_means it.means (columns_of it row) (map (columns_of it) rows) was h in
+      let later = taken_out rows each.1 each.3 in
+      subst (λ l. all_mean it.means (map (columns_of it) (cond (not (chooses row)) (row ∷ filter (λ r. not (chooses r)) rows) (filter (λ r. not (chooses r)) rows))) ≡ Some (filter (λ x. not (test x)) l)) (sym each.4)
+      (go (chooses row) (test each.0) (same row each.0 each.2) (filter (λ r. not (chooses r)) rows) (filter (λ x. not (test x)) each.1) each.0 each.2 later)
+    where
+      go : (a b : Bool) → a ≡ b → (left : List Row) (kept : List A) (x : A) → it.means (columns_of it row) ≡ Some x → all_mean it.means (map (columns_of it) left) ≡ Some kept
+          → all_mean it.means (map (columns_of it) (cond (not a) (row ∷ left) left)) ≡ Some (cond (not b) (x ∷ kept) kept)
+      go true true e left kept x means later = later
+      go true false e left kept x means later = absurd cc
+      go false true e left kept x means later = absurd cc
+      go false false e left kept x means later = rw (means, later) refl
+
+  pub takes_out : (old new : State) (r : Result ℕ Error) → OnOk r (LeavesRows it.number (λ row. not (chooses row)) old new) → OnOk r (TakesOut it test old new)
+  takes_out old new (Err e) h = tt
+  takes_out old new (Ok count) h = record {
+    records = λ was known. rw h.rows (taken_out (old.now.trees it.number) was known);
+    others = h.others;
+    desk = h.desk;
+    inside = h.inside;
+  }

@@ -1,0 +1,14 @@
+pub mod Adding
+pub mod Commits
+pub mod Deleting
+pub mod Emptying
+pub mod Frames
+pub mod GivenNumbers
+pub mod Making
+pub mod Meanings
+pub mod Reading
+pub mod Seq
+pub mod Tests
+pub mod Updating
+pub mod Values
+pub mod Writing

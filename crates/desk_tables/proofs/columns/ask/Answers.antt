@@ -1,0 +1,28 @@
+use Rattle.std.proofs.Common.{◌≡◌, Err, IsTrue, rules}
+use Rattle.sqlite.specs.declared.error.Error.TheVariants.{SqlInputError}
+use Rattle.sqlite.specs.Held.{state}
+use Rattle.desk_tables.proofs.ColumnLemmas.{stays_prepared, unread_if}
+use Rattle.desk_tables.proofs.columns.ask.Goals as goal
+
+pub returns-in-Err-SqlInputError-clause-asked : goal.returns-in-Err-SqlInputError-clause-asked
+returns-in-Err-SqlInputError-clause-asked g c = λ plain.
+    let old = state g.S.Store c.args.conn.now in
+    let new = state g.S.Store c.prepare-prepared.new.self in
+    let auto : IsTrue c.is_autocommit.result = search rules in
+    let is : c.prepare-prepared.result ≡ Err (SqlInputError c.in-Err-SqlInputError.field-0-0) = search rules in
+    record {
+      clean = c.prepare-prepared.ensures.survives.clean;
+      same = λ clean is_open. stays_prepared old new c.args.sql.now c.prepare-prepared.result _ (c.prepare-prepared.ensures.ok clean) (c.prepare-prepared.ensures.err clean) (c.is_autocommit.ensures.settled auto) is_open;
+      missed = λ clean no. unread_if old new c.args.sql.now c.prepare-prepared.result c.in-Err-SqlInputError.field-0-0 is (c.prepare-prepared.ensures.err clean) plain;
+    }
+
+pub returns-clause-asked : goal.returns-clause-asked
+returns-clause-asked g c = λ plain.
+    let old = state g.S.Store c.args.conn.now in
+    let new = state g.S.Store c.prepare-prepared.new.self in
+    let auto : IsTrue c.is_autocommit.result = search rules in
+    record {
+      clean = c.prepare-prepared.ensures.survives.clean;
+      same = λ clean is_open. stays_prepared old new c.args.sql.now c.prepare-prepared.result _ (c.prepare-prepared.ensures.ok clean) (c.prepare-prepared.ensures.err clean) (c.is_autocommit.ensures.settled auto) is_open;
+      missed = λ clean no. absurd cc;
+    }

@@ -1,0 +1,59 @@
+//! What a party is told of a meeting, where it is found or where there is none.
+ghost use Rattle.std.specs.Prelude.{◌≡◌, true, IfOk, IfSome};
+ghost use Rattle.std.specs.Option.{option_copied};
+ghost use Rattle.caller_view.specs.Reads.{rows_read};
+ghost use Rattle.caller_view.specs.Rows.{rows_in};
+ghost use Rattle.caller_view.specs.Views.{public_in};
+ghost use Rattle.desk_words.specs.Ordered.{ascends_by};
+ghost use Rattle.desk_words.specs.Registers.{member_before};
+
+use caller_view::{OwnRows, PublicRecord};
+use desk_words::{MeetingLists, Party, PartyRequest};
+use meeting_views::{no_rows_of, rows_for, rows_of};
+use office_days::Closed;
+use std::alloc::{AllocError, Global};
+
+/// The public record of a meeting, which is lent; where there is none, the closed days alone.
+pub(crate) fn public_in<'a>(closed: &'a Closed, found: Option<&'a MeetingLists>) -> PublicRecord<'a>
+    ensures { result ≡ public_in (option_copied found.entry) closed.now }
+{
+    match found {
+        None => PublicRecord::new(closed, None, &[]),
+        Some(lists) => {
+            let polls = lists.polls.as_slice();
+            PublicRecord::new(closed, Some(&lists.meeting), polls)
+        }
+    }
+}
+
+/// The rows of a party in a meeting; where there is none, none.
+pub(crate) fn rows_in(
+    alloc: Global,
+    found: Option<&MeetingLists>,
+    party: Party,
+) -> Result<OwnRows, AllocError>
+    requires { IfSome (option_copied found) (λ m. ascends_by member_before m.register ≡ true) }
+    ensures { IfOk result (λ rows. rows ≡ rows_in (option_copied found.entry) party) }
+{
+    match found {
+        None => Ok(no_rows_of(alloc, party)),
+        Some(lists) => rows_of(alloc, lists, party),
+    }
+}
+
+/// Those of the rows of a party in a meeting that the answer to a request reads.
+pub(crate) fn rows_read(
+    alloc: Global,
+    found: Option<&MeetingLists>,
+    party: Party,
+    asked: &PartyRequest,
+) -> Result<OwnRows, AllocError>
+    requires { IfSome (option_copied found) (λ m. ascends_by member_before m.register ≡ true) }
+    ensures { IfOk result (λ rows. rows
+        ≡ rows_read asked.now (rows_in (option_copied found.entry) party)) }
+{
+    match found {
+        None => Ok(no_rows_of(alloc, party)),
+        Some(lists) => rows_for(alloc, lists, party, asked),
+    }
+}

@@ -1,0 +1,34 @@
+//! A call, made.
+ghost use Rattle.std.specs.Prelude.{◌≡◌, IfOk, IsTrue, Ok, OnErr};
+ghost use Rattle.std.specs.Fn.{FnOnceReturnsAt};
+ghost use Rattle.desk_words.specs.Office.{is_office};
+ghost use Rattle.meeting_core.specs.Step.{decided, stepped};
+
+use crate::book::Book;
+use desk_words::{Call, Reply};
+use std::alloc::AllocError;
+
+impl Book {
+    /// Makes one call: the book is then the office after the step. `show` is asked once for what
+    /// is answered of the reply, before the change is made. The error is want of memory, that of
+    /// `show` included, and the book is then as it was.
+    pub fn perform<T: Drop, F: FnOnce(&Reply) -> Result<T, AllocError>>(
+        &mut self,
+        call: Call,
+        show: F,
+    ) -> Result<T, AllocError>
+        requires callable { F.IsAlwaysCallable show }
+        ensures done { IfOk result (λ t.
+            FnOnceReturnsAt F.FnOnce show (decided self.old call).reply (Ok t)
+            × (self.new ≡ stepped self.old call)) }
+        ensures same { OnErr result (self.new ≡ self.old) }
+        ensures kept { IsTrue (is_office self.new) }
+    {
+        let (reply, change) = self.decide(&call)?;
+        let shown = show(&reply)?;
+        if let Some(change) = change {
+            self.apply(change)?;
+        }
+        Ok(shown)
+    }
+}

@@ -1,0 +1,102 @@
+-- What the statements on `casts` do.
+use Rattle.std.proofs.Common.{◌≡◌, ℕ, ℤ, List, [], ◌∷◌, codes, false, Bor, Option, Some, Ok, Result, OnOk, IfOk, IfErr, IsTrue, ◌⊎◌, refl}
+use Rattle.sqlite.specs.declared.types.Value.TheVariants.{Null, Int, Text}
+use Rattle.sqlite.specs.Values.{or_null}
+use Rattle.sqlite.specs.Order.{Row}
+use Rattle.sqlite.specs.Term.{Term, lit, col}
+use Rattle.sqlite.specs.Source.TheVariants.{Values}
+use Rattle.sqlite.specs.Command.TheVariants.{Insert, Select, CreateTable}
+use Rattle.sqlite.specs.Change.{created}
+use Rattle.sqlite.specs.Compile.{table_defined_by}
+use Rattle.sqlite.specs.Does.{lacks_sequence}
+use Rattle.sqlite_tied.specs.Compute.{everything}
+use Rattle.sqlite.specs.declared.error.Error.{Error}
+use Rattle.sqlite.specs.Listing.{understood, reads_listing}
+use Rattle.sqlite.specs.State.{State, ExecutesInside, Shown, IsUnchanged, FailsToQuery, IsTooLate, KeepsCommit}
+use Rattle.sqlite.proofs.Callers.{IsPlain, command_of, statement_of}
+use Rattle.desk_words.specs.declared.records.CastMark.{CastMark}
+use Rattle.desk_rows.specs.Columns.{moment_in, moment_of, natural_of, number_in, spelled}
+use Rattle.desk_rows.specs.Marks.{cast_in, cast_kind_in, cast_kind_of}
+use Rattle.desk_terms.specs.Names.{meeting_of, party_of}
+use Rattle.desk_schema.specs.Tables.{desk_schema, with_polls, with_casts, casts as table}
+use Rattle.desk_schema.specs.Contents.{casts}
+use Rattle.desk_schema.specs.Statements.{IsDesk, Adds, AreEmpty, rows_of}
+use Rattle.desk_statements.proofs.Adding.{adds_row, adds}
+use Rattle.desk_statements.proofs.Commits.{query_keeps}
+use Rattle.desk_statements.proofs.Making.{made}
+use Rattle.desk_statements.proofs.Reading.{whole, reads_whole}
+use Rattle.desk_statements.proofs.Values.{cast_int, cast_null, cast_some, cast_some_text, some_text}
+
+abbrev make_text : List ℕ
+make_text = codes "CREATE TABLE casts (seq INTEGER PRIMARY KEY AUTOINCREMENT, meeting TEXT NOT NULL REFERENCES meetings (meeting), resolution INTEGER NOT NULL, voter TEXT NOT NULL, capacity TEXT NOT NULL, member TEXT, first INTEGER, last INTEGER, way TEXT, moment INTEGER NOT NULL) STRICT"
+
+make_is : (command_of (understood with_polls make_text) ≡ CreateTable) × (statement_of make_text (understood with_polls make_text) ≡ make_text) × (table_defined_by make_text ≡ Ok table)
+unfolding understood everything
+make_is = (refl, refl, refl)
+
+make_plain : IsPlain (understood with_polls make_text)
+unfolding understood everything
+make_plain = (refl, refl)
+
+make_full : lacks_sequence (created with_polls table) ≡ false
+unfolding Rattle.sqlite_schema.specs.Names.same_name
+make_full = refl
+
+pub makes : (old new : State) (r : Result ℕ Error) → AreEmpty with_polls old → IsTrue old.in_transaction → ExecutesInside 0 make_text [] old new r
+    → OnOk r (AreEmpty with_casts new × IsTrue new.in_transaction)
+makes old new r = made old new with_polls make_text table r make_is.0 make_is.1 make_plain make_is.2 make_full
+
+abbrev add_text : List ℕ
+add_text = codes "INSERT INTO casts (meeting, resolution, voter, capacity, member, first, last, way, moment) VALUES (?1, ?2, ?3, ?4, ?5, ?6, ?7, ?8, ?9)"
+
+abbrev terms : List Term
+terms = lit Null ∷ lit Null ∷ col 0 0 ∷ col 0 1 ∷ col 0 2 ∷ col 0 3 ∷ col 0 4 ∷ col 0 5 ∷ col 0 6 ∷ col 0 7 ∷ col 0 8 ∷ []
+
+add_is : command_of (understood desk_schema add_text) ≡ Insert 13 (Values terms 11)
+unfolding understood everything
+add_is = refl
+
+add_plain : IsPlain (understood desk_schema add_text)
+unfolding understood everything
+add_plain = (refl, refl)
+
+module _ (m : List ℕ) (x : CastMark) (meeting : List ℕ) (resolution : ℤ) (voter : List ℕ) (capacity : List ℕ) (member : Option (Bor (List ℕ))) (first : Option ℤ) (last : Option ℤ) (way : Option (Bor (List ℕ))) (moment : ℤ) where
+  abbrev pub values : Row
+  values = Text meeting ∷ Int resolution ∷ Text voter ∷ Text capacity ∷ some_text member ∷ or_null Int first ∷ or_null Int last ∷ some_text way ∷ Int moment ∷ []
+
+  means : meeting_of meeting ≡ Some m → natural_of resolution ≡ Some x.resolution → party_of voter ≡ Some x.voter → cast_kind_of (Text capacity) (some_text member) (or_null Int first) (or_null Int last) (some_text way) ≡ Some x.what → moment_of moment ≡ Some x.moment → cast_in values ≡ Some (record { meeting = m; item = x })
+  unfolding cast_in cast_kind_in moment_in number_in spelled
+  means meeting_is resolution_is voter_is what_is moment_is = rw (meeting_is, resolution_is, voter_is, what_is, moment_is) refl
+
+  pub adds_cast : meeting_of meeting ≡ Some m → natural_of resolution ≡ Some x.resolution → party_of voter ≡ Some x.voter → cast_kind_of (Text capacity) (some_text member) (or_null Int first) (or_null Int last) (some_text way) ≡ Some x.what → moment_of moment ≡ Some x.moment
+      → (old new : State) (r : Result ℕ Error) → IsDesk old → IsTrue old.in_transaction → ExecutesInside 0 add_text values old new r → OnOk r (Adds casts (record { meeting = m; item = x }) old new)
+  adds_cast meeting_is resolution_is voter_is what_is moment_is old new r was inside h =
+      let cells = Null ∷ values in
+      adds casts cells (record { meeting = m; item = x }) old new r
+      (adds_row 13 (record table { tree = 24 }) terms 11 add_text values cells add_is add_plain refl refl (rw (cast_null, cast_int resolution, cast_some_text member, cast_some first, cast_some last, cast_some_text way, cast_int moment) refl) old new r was inside h)
+      (λ id. means meeting_is resolution_is voter_is what_is moment_is)
+
+abbrev all_text : List ℕ
+all_text = codes "SELECT meeting, resolution, voter, capacity, member, first, last, way, moment FROM casts ORDER BY seq"
+
+abbrev shows : List Term
+shows = col 1 2 ∷ col 1 3 ∷ col 1 4 ∷ col 1 5 ∷ col 1 6 ∷ col 1 7 ∷ col 1 8 ∷ col 1 9 ∷ col 1 10 ∷ []
+
+abbrev names : List (List ℕ)
+names = codes "meeting" ∷ codes "resolution" ∷ codes "voter" ∷ codes "capacity" ∷ codes "member" ∷ codes "first" ∷ codes "last" ∷ codes "way" ∷ codes "moment" ∷ []
+
+all_is : (command_of (understood desk_schema all_text) ≡ Select (record { lets = []; body = whole 24 shows }) names) × (reads_listing desk_schema all_text ≡ false)
+unfolding understood everything
+all_is = (refl, refl)
+
+all_plain : IsPlain (understood desk_schema all_text)
+unfolding understood everything
+all_plain = (refl, refl)
+
+pub reads : {V : Type 0} (items : V → List Row) (old new : State) (r : Result V Error) → IsDesk old → IfOk r (λ v. Shown all_text [] old new (items v))
+    → IfOk r (λ v. (items v ≡ rows_of casts old.now.trees) × IsUnchanged old new)
+reads items = reads_whole items casts shows names all_text all_is.0 all_plain all_is.1 refl refl (λ row. refl)
+
+pub reads_keeps : {V : Type 0} (items : V → List Row) (old new : State) (r : Result V Error) → IsDesk old → IfOk r (λ v. Shown all_text [] old new (items v))
+    → IfErr r (λ e. FailsToQuery all_text [] old new e ⊎ IsTooLate all_text [] old new e) → KeepsCommit old new
+reads_keeps items old new r was = query_keeps items all_text [] old new desk_schema all_plain r was.schema

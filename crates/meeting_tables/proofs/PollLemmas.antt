@@ -1,0 +1,329 @@
+-- What the statements on `polls` do.
+use Rattle.std.proofs.Common.{◌≡◌, ℕ, ℤ, Bool, true, if◌then◌else◌, ◌&&◌, List, [], ◌∷◌, codes, false, Option, Some, Ok, Result, OnOk, IfOk, IfErr, IsTrue, ◌⊎◌, refl, sym, ap, ap₂, subst, ◌∙◌}
+use Rattle.sqlite.specs.declared.types.Value.{Value}
+use Rattle.sqlite.specs.declared.types.Value.TheVariants.{Null, Int, Text}
+use Rattle.sqlite.specs.Values.{or_null}
+use Rattle.sqlite.specs.Order.{Row, column}
+use Rattle.sqlite.specs.Term.{Term, lit, col, op2}
+use Rattle.sqlite.specs.Collation.TheVariants.{Binary}
+use Rattle.sqlite_sql.specs.declared.ops.BinaryOp.TheVariants.{Compare}
+use Rattle.sqlite_sql.specs.declared.ops.CompareOp.TheVariants.{Eq}
+use Rattle.sqlite.specs.Source.TheVariants.{Values}
+use Rattle.sqlite.specs.Command.TheVariants.{Insert, Select, Update, CreateTable}
+use Rattle.sqlite.specs.Change.{created}
+use Rattle.sqlite.specs.Compile.{table_defined_by}
+use Rattle.sqlite.specs.Does.{lacks_sequence}
+use Rattle.sqlite_tied.specs.Compute.{everything}
+use Rattle.sqlite.specs.declared.error.Error.{Error}
+use Rattle.sqlite.specs.Listing.{understood, reads_listing}
+use Rattle.sqlite.specs.State.{State, ExecutesInside, Shown, IsUnchanged, FailsToQuery, IsTooLate, KeepsCommit}
+use Rattle.sqlite.proofs.Callers.{IsPlain, command_of, statement_of}
+use Rattle.desk_words.specs.declared.records.Poll.{Poll}
+use Rattle.desk_rows.specs.Columns.{flag_in, flag_of, integer_of, moment_in, moment_of, natural_of, number_in, number_of, some_moment_in, some_moment_of, spelled, spelled_of}
+use Rattle.desk_rows.specs.Marks.{declared_in, declared_of, poll_in}
+use Rattle.desk_terms.specs.Names.{meeting_of}
+use Rattle.desk_schema.specs.Tables.{desk_schema, with_demands, with_polls, polls as table}
+use Rattle.desk_schema.specs.Contents.{polls, is_named, started_at, closed_at, declared_as}
+use Rattle.desk_schema.specs.Statements.{IsDesk, Adds, Sets, columns_of, AreEmpty, rows_of}
+use Rattle.desk_statements.proofs.Adding.{adds_row, adds}
+use Rattle.desk_statements.proofs.Commits.{query_keeps}
+use Rattle.desk_statements.proofs.Deleting.{picked, passes}
+use Rattle.desk_statements.proofs.Making.{made}
+use Rattle.desk_statements.proofs.Reading.{whole, reads_whole}
+use Rattle.sqlite.specs.Kind.TheVariants.{Integer, Text as Texts}
+use Rattle.sqlite.specs.Cast.{cast}
+use Rattle.sqlite.specs.Tree.{rowid}
+use Rattle.sqlite.specs.Edit.{id_in}
+use Rattle.sqlite_trees.specs.View.{is_int}
+use Rattle.desk_words.specs.declared.records.Tally.{Tally}
+use Rattle.desk_schema.specs.declared.poll_name.PollName.{PollName}
+use Rattle.desk_rows.specs.declared.kept.InMeeting.{InMeeting}
+use Rattle.desk_rows.specs.Meanings.{◌>>=◌}
+use Rattle.desk_statements.proofs.Seq.{is_its_id}
+use Rattle.desk_rows.proofs.MeaningLemmas.{bound, option_ap}
+use Rattle.desk_statements.proofs.Tests.{names_tell, numbers_tell, kept_spelled, kept_integer, kept_some_moment, declared_stays}
+use Rattle.std.proofs.Math.Bool.{and-true}
+use Rattle.desk_statements.proofs.Updating.{new_row, changes_rows, sets}
+use Rattle.desk_statements.proofs.Values.{cast_flag, cast_int, cast_null, cast_some, flag, flag_kept}
+
+abbrev make_text : List ℕ
+make_text = codes "CREATE TABLE polls (meeting TEXT NOT NULL REFERENCES meetings (meeting), resolution INTEGER NOT NULL, ordered INTEGER NOT NULL, take INTEGER NOT NULL, chair INTEGER NOT NULL, started INTEGER, closed INTEGER, votes_for INTEGER, votes_against INTEGER, withheld INTEGER, eligible INTEGER, PRIMARY KEY (meeting, resolution)) STRICT"
+
+make_is : (command_of (understood with_demands make_text) ≡ CreateTable) × (statement_of make_text (understood with_demands make_text) ≡ make_text) × (table_defined_by make_text ≡ Ok table)
+unfolding understood everything
+make_is = (refl, refl, refl)
+
+make_plain : IsPlain (understood with_demands make_text)
+unfolding understood everything
+make_plain = (refl, refl)
+
+make_full : lacks_sequence (created with_demands table) ≡ false
+unfolding Rattle.sqlite_schema.specs.Names.same_name
+make_full = refl
+
+pub makes : (old new : State) (r : Result ℕ Error) → AreEmpty with_demands old → IsTrue old.in_transaction → ExecutesInside 0 make_text [] old new r
+    → OnOk r (AreEmpty with_polls new × IsTrue new.in_transaction)
+makes old new r = made old new with_demands make_text table r make_is.0 make_is.1 make_plain make_is.2 make_full
+
+abbrev add_text : List ℕ
+add_text = codes "INSERT INTO polls (meeting, resolution, ordered, take, chair, started, closed, votes_for, votes_against, withheld, eligible) VALUES (?1, ?2, ?3, ?4, ?5, ?6, ?7, ?8, ?9, ?10, ?11)"
+
+abbrev terms : List Term
+terms = lit Null ∷ col 0 0 ∷ col 0 1 ∷ col 0 2 ∷ col 0 3 ∷ col 0 4 ∷ col 0 5 ∷ col 0 6 ∷ col 0 7 ∷ col 0 8 ∷ col 0 9 ∷ col 0 10 ∷ []
+
+add_is : command_of (understood desk_schema add_text) ≡ Insert 12 (Values terms 12)
+unfolding understood everything
+add_is = refl
+
+add_plain : IsPlain (understood desk_schema add_text)
+unfolding understood everything
+add_plain = (refl, refl)
+
+module _ (m : List ℕ) (x : Poll) (meeting : List ℕ) (resolution : ℤ) (ordered : ℤ) (take : ℤ) (started : Option ℤ) (closed : Option ℤ) (votes_for : Option ℤ) (votes_against : Option ℤ) (withheld : Option ℤ) (eligible : Option ℤ) where
+  abbrev pub values : Row
+  values = Text meeting ∷ Int resolution ∷ Int ordered ∷ Int take ∷ flag x.chair ∷ or_null Int started ∷ or_null Int closed ∷ or_null Int votes_for ∷ or_null Int votes_against ∷ or_null Int withheld ∷ or_null Int eligible ∷ []
+
+  means : meeting_of meeting ≡ Some m → natural_of resolution ≡ Some x.resolution → moment_of ordered ≡ Some x.ordered → moment_of take ≡ Some x.take → some_moment_of (or_null Int started) ≡ Some x.started → some_moment_of (or_null Int closed) ≡ Some x.closed → declared_of (or_null Int votes_for) (or_null Int votes_against) (or_null Int withheld) (or_null Int eligible) ≡ Some x.declared → poll_in values ≡ Some (record { meeting = m; item = x })
+  unfolding poll_in declared_in flag_in moment_in number_in some_moment_in spelled
+  means meeting_is resolution_is ordered_is take_is started_is closed_is declared_is = rw (meeting_is, resolution_is, ordered_is, take_is, started_is, closed_is, declared_is, flag_kept x.chair) refl
+
+  pub adds_poll : meeting_of meeting ≡ Some m → natural_of resolution ≡ Some x.resolution → moment_of ordered ≡ Some x.ordered → moment_of take ≡ Some x.take → some_moment_of (or_null Int started) ≡ Some x.started → some_moment_of (or_null Int closed) ≡ Some x.closed → declared_of (or_null Int votes_for) (or_null Int votes_against) (or_null Int withheld) (or_null Int eligible) ≡ Some x.declared
+      → (old new : State) (r : Result ℕ Error) → IsDesk old → IsTrue old.in_transaction → ExecutesInside 0 add_text values old new r → OnOk r (Adds polls (record { meeting = m; item = x }) old new)
+  adds_poll meeting_is resolution_is ordered_is take_is started_is closed_is declared_is old new r was inside h =
+      let cells = values in
+      adds polls cells (record { meeting = m; item = x }) old new r
+      (adds_row 12 (record table { tree = 22 }) terms 12 add_text values cells add_is add_plain refl refl (rw (cast_null, cast_int resolution, cast_int ordered, cast_int take, cast_flag x.chair, cast_some started, cast_some closed, cast_some votes_for, cast_some votes_against, cast_some withheld, cast_some eligible) refl) old new r was inside h)
+      (λ id. means meeting_is resolution_is ordered_is take_is started_is closed_is declared_is)
+
+abbrev all_text : List ℕ
+all_text = codes "SELECT meeting, resolution, ordered, take, chair, started, closed, votes_for, votes_against, withheld, eligible FROM polls ORDER BY rowid"
+
+abbrev shows : List Term
+shows = col 1 1 ∷ col 1 2 ∷ col 1 3 ∷ col 1 4 ∷ col 1 5 ∷ col 1 6 ∷ col 1 7 ∷ col 1 8 ∷ col 1 9 ∷ col 1 10 ∷ col 1 11 ∷ []
+
+abbrev names : List (List ℕ)
+names = codes "meeting" ∷ codes "resolution" ∷ codes "ordered" ∷ codes "take" ∷ codes "chair" ∷ codes "started" ∷ codes "closed" ∷ codes "votes_for" ∷ codes "votes_against" ∷ codes "withheld" ∷ codes "eligible" ∷ []
+
+all_is : (command_of (understood desk_schema all_text) ≡ Select (record { lets = []; body = whole 22 shows }) names) × (reads_listing desk_schema all_text ≡ false)
+unfolding understood everything
+all_is = (refl, refl)
+
+all_plain : IsPlain (understood desk_schema all_text)
+unfolding understood everything
+all_plain = (refl, refl)
+
+pub reads : {V : Type 0} (items : V → List Row) (old new : State) (r : Result V Error) → IsDesk old → IfOk r (λ v. Shown all_text [] old new (items v))
+    → IfOk r (λ v. (items v ≡ rows_of polls old.now.trees) × IsUnchanged old new)
+reads items = reads_whole items polls shows names all_text all_is.0 all_plain all_is.1 refl refl (λ cells. refl)
+
+pub reads_keeps : {V : Type 0} (items : V → List Row) (old new : State) (r : Result V Error) → IsDesk old → IfOk r (λ v. Shown all_text [] old new (items v))
+    → IfErr r (λ e. FailsToQuery all_text [] old new e ⊎ IsTooLate all_text [] old new e) → KeepsCommit old new
+reads_keeps items old new r was = query_keeps items all_text [] old new desk_schema all_plain r was.schema
+
+abbrev named : List Term
+named = op2 (Compare Eq Binary) (col 1 1) (col 0 0) ∷ op2 (Compare Eq Binary) (col 1 2) (col 0 1) ∷ []
+
+abbrev start_text : List ℕ
+start_text = codes "UPDATE polls SET started = ?3 WHERE meeting = ?1 AND resolution = ?2"
+
+abbrev start_terms : List Term
+start_terms = col 1 0 ∷ col 1 1 ∷ col 1 2 ∷ col 1 3 ∷ col 1 4 ∷ col 1 5 ∷ col 0 2 ∷ col 1 7 ∷ col 1 8 ∷ col 1 9 ∷ col 1 10 ∷ col 1 11 ∷ []
+
+start_is : command_of (understood desk_schema start_text) ≡ Update 12 (record { lets = []; body = picked 22 named start_terms })
+unfolding understood everything
+start_is = refl
+
+start_plain : IsPlain (understood desk_schema start_text)
+unfolding understood everything
+start_plain = (refl, refl)
+
+abbrev close_text : List ℕ
+close_text = codes "UPDATE polls SET closed = ?3 WHERE meeting = ?1 AND resolution = ?2"
+
+abbrev close_terms : List Term
+close_terms = col 1 0 ∷ col 1 1 ∷ col 1 2 ∷ col 1 3 ∷ col 1 4 ∷ col 1 5 ∷ col 1 6 ∷ col 0 2 ∷ col 1 8 ∷ col 1 9 ∷ col 1 10 ∷ col 1 11 ∷ []
+
+close_is : command_of (understood desk_schema close_text) ≡ Update 12 (record { lets = []; body = picked 22 named close_terms })
+unfolding understood everything
+close_is = refl
+
+close_plain : IsPlain (understood desk_schema close_text)
+unfolding understood everything
+close_plain = (refl, refl)
+
+abbrev declare_text : List ℕ
+declare_text = codes "UPDATE polls SET votes_for = ?3, votes_against = ?4, withheld = ?5, eligible = ?6 WHERE meeting = ?1 AND resolution = ?2"
+
+abbrev declare_terms : List Term
+declare_terms = col 1 0 ∷ col 1 1 ∷ col 1 2 ∷ col 1 3 ∷ col 1 4 ∷ col 1 5 ∷ col 1 6 ∷ col 1 7 ∷ col 0 2 ∷ col 0 3 ∷ col 0 4 ∷ col 0 5 ∷ []
+
+declare_is : command_of (understood desk_schema declare_text) ≡ Update 12 (record { lets = []; body = picked 22 named declare_terms })
+unfolding understood everything
+declare_is = refl
+
+declare_plain : IsPlain (understood desk_schema declare_text)
+unfolding understood everything
+declare_plain = (refl, refl)
+
+-- what the columns of a row give, where it is that of a poll
+record IsPollRow (cells : Row) (x : InMeeting Poll) : Type 0 where
+  meeting : spelled meeting_of cells 0 ≡ Some x.meeting
+  resolution : number_in cells 1 ≡ Some x.item.resolution
+  ordered : moment_in cells 2 ≡ Some x.item.ordered
+  taken : moment_in cells 3 ≡ Some x.item.take
+  chair : flag_in cells 4 ≡ Some x.item.chair
+  started : some_moment_in cells 5 ≡ Some x.item.started
+  closed : some_moment_in cells 6 ≡ Some x.item.closed
+  declared : declared_in cells 7 ≡ Some x.item.declared
+
+parts : (cells : Row) (x : InMeeting Poll) → poll_in cells ≡ Some x → IsPollRow cells x
+unfolding poll_in
+parts cells x h =
+    let meeting = bound (spelled meeting_of cells 0) _ x h in
+    let resolution = bound (number_in cells 1) _ x meeting.2 in
+    let ordered = bound (moment_in cells 2) _ x resolution.2 in
+    let taken = bound (moment_in cells 3) _ x ordered.2 in
+    let chair = bound (flag_in cells 4) _ x taken.2 in
+    let started = bound (some_moment_in cells 5) _ x chair.2 in
+    let closed = bound (some_moment_in cells 6) _ x started.2 in
+    let declared = bound (declared_in cells 7) _ x closed.2 in
+    let is = declared.2 in
+    record {
+      meeting = meeting.1 ∙ option_ap (λ (y : InMeeting Poll). y.meeting) is;
+      resolution = resolution.1 ∙ option_ap (λ (y : InMeeting Poll). y.item.resolution) is;
+      ordered = ordered.1 ∙ option_ap (λ (y : InMeeting Poll). y.item.ordered) is;
+      taken = taken.1 ∙ option_ap (λ (y : InMeeting Poll). y.item.take) is;
+      chair = chair.1 ∙ option_ap (λ (y : InMeeting Poll). y.item.chair) is;
+      started = started.1 ∙ option_ap (λ (y : InMeeting Poll). y.item.started) is;
+      closed = closed.1 ∙ option_ap (λ (y : InMeeting Poll). y.item.closed) is;
+      declared = declared.1 ∙ option_ap (λ (y : InMeeting Poll). y.item.declared) is;
+    }
+
+whole_row : (cells : Row) (x : InMeeting Poll) → IsPollRow cells x → poll_in cells ≡ Some x
+unfolding poll_in
+whole_row cells x p = rw (p.meeting, p.resolution, p.ordered, p.taken, p.chair, p.started, p.closed, p.declared) refl
+
+-- the columns of a row that is written again
+record IsKeptRow (cells : Row) (x : InMeeting Poll) : Type 0 where
+  meeting : spelled_of meeting_of (cast Texts (column cells 1)) ≡ Some x.meeting
+  resolution : number_of (cast Integer (column cells 2)) ≡ Some x.item.resolution
+  ordered : (integer_of (cast Integer (column cells 3)) >>= moment_of) ≡ Some x.item.ordered
+  taken : (integer_of (cast Integer (column cells 4)) >>= moment_of) ≡ Some x.item.take
+  chair : (number_of (cast Integer (column cells 5)) >>= flag_of) ≡ Some x.item.chair
+  started : some_moment_of (cast Integer (column cells 6)) ≡ Some x.item.started
+  closed : some_moment_of (cast Integer (column cells 7)) ≡ Some x.item.closed
+  declared : declared_of (cast Integer (column cells 8)) (cast Integer (column cells 9)) (cast Integer (column cells 10)) (cast Integer (column cells 11)) ≡ Some x.item.declared
+
+kept_row : (cells : Row) (x : InMeeting Poll) → polls.means (columns_of polls cells) ≡ Some x → IsKeptRow cells x
+unfolding spelled moment_in flag_in number_in some_moment_in declared_in
+kept_row cells x h =
+    let p = parts (columns_of polls cells) x h in
+    let flag_part = bound (number_of (column cells 5)) flag_of x.item.chair p.chair in
+    let stays = declared_stays (column cells 8) (column cells 9) (column cells 10) (column cells 11) x.item.declared p.declared in
+    record {
+      meeting = kept_spelled meeting_of (column cells 1) x.meeting p.meeting;
+      resolution = kept_integer natural_of (column cells 2) x.item.resolution p.resolution;
+      ordered = kept_integer moment_of (column cells 3) x.item.ordered p.ordered;
+      taken = kept_integer moment_of (column cells 4) x.item.take p.taken;
+      chair = rw (kept_integer natural_of (column cells 5) flag_part.0 flag_part.1) flag_part.2;
+      started = kept_some_moment (column cells 6) x.item.started p.started;
+      closed = kept_some_moment (column cells 7) x.item.closed p.closed;
+      declared = rw (stays.0, stays.1, stays.2, stays.3) p.declared;
+    }
+
+chosen_so : (name : PollName) (meeting : List ℕ) (n : ℤ) (rest : Row) → meeting_of meeting ≡ Some name.meeting → natural_of n ≡ Some name.resolution → (cells : Row) (x : InMeeting Poll)
+    → polls.means (columns_of polls cells) ≡ Some x → passes named (Text meeting ∷ Int n ∷ rest) cells ≡ is_named name x
+unfolding spelled number_in
+chosen_so name meeting n rest is number cells x h =
+    let p = parts (columns_of polls cells) x h in
+    ap₂ ◌&&◌ (names_tell (column cells 1) meeting x.meeting name.meeting p.meeting is) (and-true _ ∙ numbers_tell (column cells 2) n x.item.resolution name.resolution p.resolution number)
+
+keeps_number : (new : List Term) (params cells : Row) → IsTrue (is_int (rowid cells)) → cast Integer (rowid cells) ≡ rowid cells
+keeps_number new params cells keyed = subst (λ v. cast Integer v ≡ v) (sym (is_its_id cells keyed)) (cast_int (id_in (rowid cells)))
+
+again : (cells : Row) (x : InMeeting Poll) → IsKeptRow cells x → (started closed a b c d : Value) (set : InMeeting Poll)
+    → set ≡ record x { item = record x.item { started = set.item.started; closed = set.item.closed; declared = set.item.declared } }
+    → some_moment_of started ≡ Some set.item.started → some_moment_of closed ≡ Some set.item.closed → declared_of a b c d ≡ Some set.item.declared
+    → poll_in (cast Texts (column cells 1) ∷ cast Integer (column cells 2) ∷ cast Integer (column cells 3) ∷ cast Integer (column cells 4) ∷ cast Integer (column cells 5) ∷ started ∷ closed ∷ a ∷ b ∷ c ∷ d ∷ []) ≡ Some set
+unfolding spelled moment_in flag_in number_in some_moment_in declared_in
+again cells x k started closed a b c d set same e f g =
+    whole_row (cast Texts (column cells 1) ∷ cast Integer (column cells 2) ∷ cast Integer (column cells 3) ∷ cast Integer (column cells 4) ∷ cast Integer (column cells 5) ∷ started ∷ closed ∷ a ∷ b ∷ c ∷ d ∷ []) set (record {
+      meeting = k.meeting ∙ ap (λ (y : InMeeting Poll). Some y.meeting) (sym same);
+      resolution = k.resolution ∙ ap (λ (y : InMeeting Poll). Some y.item.resolution) (sym same);
+      ordered = k.ordered ∙ ap (λ (y : InMeeting Poll). Some y.item.ordered) (sym same);
+      taken = k.taken ∙ ap (λ (y : InMeeting Poll). Some y.item.take) (sym same);
+      chair = k.chair ∙ ap (λ (y : InMeeting Poll). Some y.item.chair) (sym same);
+      started = e;
+      closed = f;
+      declared = g;
+    })
+
+module _ (name : PollName) (meeting : List ℕ) (n : ℤ) (is : meeting_of meeting ≡ Some name.meeting) (number : natural_of n ≡ Some name.resolution) where
+  start_sets : (z : ℤ) (moment : ℕ) → moment_of z ≡ Some moment → (cells : Row) (x : InMeeting Poll) → polls.means (columns_of polls cells) ≡ Some x
+      → polls.means (columns_of polls (if passes named (Text meeting ∷ Int n ∷ Int z ∷ []) cells then new_row (record table { tree = 22 }) start_terms (Text meeting ∷ Int n ∷ Int z ∷ []) cells else cells)) ≡ Some (started_at name moment x)
+  start_sets z moment at cells x h = go (passes named (Text meeting ∷ Int n ∷ Int z ∷ []) cells) (is_named name x) (chosen_so name meeting n (Int z ∷ []) is number cells x h)
+    where
+      set_now : some_moment_of (cast Integer (Int z)) ≡ Some (Some moment)
+      set_now = rw (cast_int z, at) refl
+
+      go : (a b : Bool) → a ≡ b → polls.means (columns_of polls (if a then new_row (record table { tree = 22 }) start_terms (Text meeting ∷ Int n ∷ Int z ∷ []) cells else cells))
+          ≡ Some (if b then record x { item = record x.item { started = Some moment } } else x)
+      go true true e =
+          let k = kept_row cells x h in
+          again cells x k (cast Integer (Int z)) (cast Integer (column cells 7)) (cast Integer (column cells 8)) (cast Integer (column cells 9)) (cast Integer (column cells 10)) (cast Integer (column cells 11)) (record x { item = record x.item { started = Some moment } }) refl set_now k.closed k.declared
+      go true false e = absurd cc
+      go false true e = absurd cc
+      go false false e = h
+
+  pub starts : (z : ℤ) (moment : ℕ) → moment_of z ≡ Some moment → (old new : State) (r : Result ℕ Error) → IsDesk old → IsTrue old.in_transaction
+      → ExecutesInside 0 start_text (Text meeting ∷ Int n ∷ Int z ∷ []) old new r → OnOk r (Sets polls (started_at name moment) old new)
+  starts z moment at old new r was inside h =
+      sets polls (λ cells. if passes named (Text meeting ∷ Int n ∷ Int z ∷ []) cells then new_row (record table { tree = 22 }) start_terms (Text meeting ∷ Int n ∷ Int z ∷ []) cells else cells) (started_at name moment) (start_sets z moment at) old new r
+      (changes_rows 12 (record table { tree = 22 }) named start_terms start_text (Text meeting ∷ Int n ∷ Int z ∷ []) start_is start_plain refl refl refl (keeps_number start_terms (Text meeting ∷ Int n ∷ Int z ∷ [])) old new r was inside h)
+
+  close_sets : (z : ℤ) (moment : ℕ) → moment_of z ≡ Some moment → (cells : Row) (x : InMeeting Poll) → polls.means (columns_of polls cells) ≡ Some x
+      → polls.means (columns_of polls (if passes named (Text meeting ∷ Int n ∷ Int z ∷ []) cells then new_row (record table { tree = 22 }) close_terms (Text meeting ∷ Int n ∷ Int z ∷ []) cells else cells)) ≡ Some (closed_at name moment x)
+  close_sets z moment at cells x h = go (passes named (Text meeting ∷ Int n ∷ Int z ∷ []) cells) (is_named name x) (chosen_so name meeting n (Int z ∷ []) is number cells x h)
+    where
+      set_now : some_moment_of (cast Integer (Int z)) ≡ Some (Some moment)
+      set_now = rw (cast_int z, at) refl
+
+      go : (a b : Bool) → a ≡ b → polls.means (columns_of polls (if a then new_row (record table { tree = 22 }) close_terms (Text meeting ∷ Int n ∷ Int z ∷ []) cells else cells))
+          ≡ Some (if b then record x { item = record x.item { closed = Some moment } } else x)
+      go true true e =
+          let k = kept_row cells x h in
+          again cells x k (cast Integer (column cells 6)) (cast Integer (Int z)) (cast Integer (column cells 8)) (cast Integer (column cells 9)) (cast Integer (column cells 10)) (cast Integer (column cells 11)) (record x { item = record x.item { closed = Some moment } }) refl k.started set_now k.declared
+      go true false e = absurd cc
+      go false true e = absurd cc
+      go false false e = h
+
+  pub closes : (z : ℤ) (moment : ℕ) → moment_of z ≡ Some moment → (old new : State) (r : Result ℕ Error) → IsDesk old → IsTrue old.in_transaction
+      → ExecutesInside 0 close_text (Text meeting ∷ Int n ∷ Int z ∷ []) old new r → OnOk r (Sets polls (closed_at name moment) old new)
+  closes z moment at old new r was inside h =
+      sets polls (λ cells. if passes named (Text meeting ∷ Int n ∷ Int z ∷ []) cells then new_row (record table { tree = 22 }) close_terms (Text meeting ∷ Int n ∷ Int z ∷ []) cells else cells) (closed_at name moment) (close_sets z moment at) old new r
+      (changes_rows 12 (record table { tree = 22 }) named close_terms close_text (Text meeting ∷ Int n ∷ Int z ∷ []) close_is close_plain refl refl refl (keeps_number close_terms (Text meeting ∷ Int n ∷ Int z ∷ [])) old new r was inside h)
+
+  abbrev figures : ℤ → ℤ → ℤ → ℤ → Row
+  figures a b c d = Text meeting ∷ Int n ∷ Int a ∷ Int b ∷ Int c ∷ Int d ∷ []
+
+  declare_sets : (a b c d : ℤ) (tally : Tally) → declared_of (Int a) (Int b) (Int c) (Int d) ≡ Some (Some tally) → (cells : Row) (x : InMeeting Poll) → polls.means (columns_of polls cells) ≡ Some x
+      → polls.means (columns_of polls (if passes named (figures a b c d) cells then new_row (record table { tree = 22 }) declare_terms (figures a b c d) cells else cells)) ≡ Some (declared_as name tally x)
+  declare_sets a b c d tally at cells x h = go (passes named (figures a b c d) cells) (is_named name x) (chosen_so name meeting n (Int a ∷ Int b ∷ Int c ∷ Int d ∷ []) is number cells x h)
+    where
+      set_now : declared_of (cast Integer (Int a)) (cast Integer (Int b)) (cast Integer (Int c)) (cast Integer (Int d)) ≡ Some (Some tally)
+      set_now = rw (cast_int a, cast_int b, cast_int c, cast_int d) at
+
+      go : (p q : Bool) → p ≡ q → polls.means (columns_of polls (if p then new_row (record table { tree = 22 }) declare_terms (figures a b c d) cells else cells))
+          ≡ Some (if q then record x { item = record x.item { declared = Some tally } } else x)
+      go true true e =
+          let k = kept_row cells x h in
+          again cells x k (cast Integer (column cells 6)) (cast Integer (column cells 7)) (cast Integer (Int a)) (cast Integer (Int b)) (cast Integer (Int c)) (cast Integer (Int d)) (record x { item = record x.item { declared = Some tally } }) refl k.started k.closed set_now
+      go true false e = absurd cc
+      go false true e = absurd cc
+      go false false e = h
+
+  pub declares : (a b c d : ℤ) (tally : Tally) → declared_of (Int a) (Int b) (Int c) (Int d) ≡ Some (Some tally) → (old new : State) (r : Result ℕ Error) → IsDesk old → IsTrue old.in_transaction
+      → ExecutesInside 0 declare_text (figures a b c d) old new r → OnOk r (Sets polls (declared_as name tally) old new)
+  declares a b c d tally at old new r was inside h =
+      sets polls (λ cells. if passes named (figures a b c d) cells then new_row (record table { tree = 22 }) declare_terms (figures a b c d) cells else cells) (declared_as name tally) (declare_sets a b c d tally at) old new r
+      (changes_rows 12 (record table { tree = 22 }) named declare_terms declare_text (figures a b c d) declare_is declare_plain refl refl refl (keeps_number declare_terms (figures a b c d)) old new r was inside h)

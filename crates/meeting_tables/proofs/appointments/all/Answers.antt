@@ -1,0 +1,14 @@
+use Rattle.sqlite.specs.Held.{state}
+use Rattle.meeting_tables.proofs.AppointmentLemmas.{reads, reads_keeps}
+use Rattle.meeting_tables.proofs.appointments.all.Goals as goal
+
+pub returns-clause-rows : goal.returns-clause-rows
+returns-clause-rows g c = λ read.
+    reads (λ v. v.items) (state g.S.Store c.args.tx.now.conn.now) (state g.S.Store c.query_all.new.self.conn.now) c.query_all.result read.1 (c.query_all.ensures.ok read.0)
+
+pub returns-clause-changes : goal.returns-clause-changes
+returns-clause-changes g c = record {
+  kept = λ read.
+      reads_keeps (λ v. v.items) (state g.S.Store c.args.tx.now.conn.now) (state g.S.Store c.query_all.new.self.conn.now) c.query_all.result read.1 (c.query_all.ensures.ok read.0) (c.query_all.ensures.err read.0);
+  crash = c.query_all.ensures.survives;
+}

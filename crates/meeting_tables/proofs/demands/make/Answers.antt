@@ -1,0 +1,7 @@
+use Rattle.sqlite.specs.Held.{state}
+use Rattle.meeting_tables.proofs.DemandLemmas.{makes}
+use Rattle.meeting_tables.proofs.demands.make.Goals as goal
+
+pub returns-clause-made : goal.returns-clause-made
+returns-clause-made g c = λ clean inside empty.
+    makes (state g.S.Store c.args.tx.now.conn.now) (state g.S.Store c.execute.new.self.conn.now) c.execute.result empty inside (c.execute.ensures.runs clean inside)

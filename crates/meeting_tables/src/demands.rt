@@ -1,0 +1,59 @@
+//! The table `demands`: the demands of polls, in order of receipt (sections 321 and 329).
+ghost use Rattle.std.specs.Prelude.{◌≡◌, IfOk};
+ghost use Rattle.desk_schema.specs.Contents.{demands};
+ghost use Rattle.desk_schema.specs.Statements.{Adds, ChangesNothing, CommitsNothing, Does, IsRead, Makes, Reads};
+ghost use Rattle.desk_schema.specs.Tables.{with_presences, with_demands};
+
+use desk_statements::whole;
+use desk_rows::{meeting_text, moment_number, party_text};
+use desk_words::{DemandMark, MeetingId};
+use sqlite::{Alter, Error, Row, Transaction, params};
+
+/// Makes the table, after that of presences.
+pub fn make<S: Alter>(tx: &mut Transaction<'_, S>) -> Result<usize, Error>
+    ensures same_reference { tx.new.conn.ghost_name ≡ tx.old.conn.ghost_name }
+    ensures made { Makes S.Store tx.old.conn.now tx.new.conn.now result with_presences
+        with_demands }
+    ensures commits { CommitsNothing S.Store tx.old.conn.now tx.new.conn.now }
+{
+    tx.execute(
+        "CREATE TABLE demands (seq INTEGER PRIMARY KEY AUTOINCREMENT, meeting TEXT NOT NULL REFERENCES meetings (meeting), resolution INTEGER NOT NULL, party TEXT NOT NULL, moment INTEGER NOT NULL, UNIQUE (meeting, resolution, party)) STRICT",
+        &[],
+    )
+}
+
+/// Adds a party's demand of a poll in a meeting.
+pub fn add<S: Alter>(
+    tx: &mut Transaction<'_, S>,
+    meeting: MeetingId,
+    demand: &DemandMark,
+) -> Result<usize, Error>
+    ensures same_reference { tx.new.conn.ghost_name ≡ tx.old.conn.ghost_name }
+    ensures added { Does S.Store tx.old.conn.now tx.new.conn.now result
+        (Adds demands (record { meeting = meeting; item = demand.now })) }
+    ensures commits { CommitsNothing S.Store tx.old.conn.now tx.new.conn.now }
+{
+    let resolution = whole(demand.resolution)?;
+    tx.execute(
+        "INSERT INTO demands (meeting, resolution, party, moment) VALUES (?1, ?2, ?3, ?4)",
+        params![
+            meeting_text(&meeting),
+            resolution,
+            party_text(&demand.party),
+            moment_number(demand.moment)
+        ],
+    )
+}
+
+/// The rows, in order of receipt.
+pub fn all<S: Alter>(tx: &mut Transaction<'_, S>) -> Result<Vec<Row>, Error>
+    ensures same_reference { tx.new.conn.ghost_name ≡ tx.old.conn.ghost_name }
+    ensures rows { IsRead S.Store tx.old.conn.now tx.new.conn.now
+        → IfOk result (λ rows. Reads S.Store tx.old.conn.now tx.new.conn.now demands rows.items) }
+    ensures changes { ChangesNothing S.Store tx.old.conn.now tx.new.conn.now }
+{
+    tx.query_all(
+        "SELECT meeting, resolution, party, moment FROM demands ORDER BY seq",
+        &[],
+    )
+}

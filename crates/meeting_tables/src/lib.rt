@@ -1,0 +1,11 @@
+//! The tables of what is handed in and held at a meeting, and the statements on them.
+#![tactic(auto)]
+
+pub mod appointments;
+pub mod authorities;
+pub mod casts;
+pub mod demands;
+pub mod endings;
+pub mod indexes;
+pub mod polls;
+pub mod presences;

@@ -1,6 +1,0 @@
-use Rattle.desk_words.specs.declared.records.Authority.{Authority}
-use Rattle.proxy_rules.proofs.NameLemmas.{found-named}
-use Rattle.vote_rules.proofs.ballots.authorities_of.Goals as goal
-
-pub returns : goal.returns
-returns c = found-named (λ (x : Authority). x.corporation) c.args.corporation c.args.authorities.now c.by_first.result c.by_first.ensures
