@@ -1,11 +1,5 @@
 pub mod CallerLemmas
-pub mod EmptyLemmas
 pub mod KeepingLemmas
-pub mod MakingLemmas
-pub mod OneSchema
-pub mod OpeningLemmas
-pub mod OrderedOffice
 pub mod ReadLemmas
-pub mod RisingLemmas
 pub mod RunLaws
 pub mod StepLemmas

@@ -10,7 +10,7 @@ use Rattle.desk_reading.specs.declared.fault.ReadFault.{ReadFault}
 use Rattle.desk_reading.specs.Reading.{IsReading}
 use Rattle.office_checks.specs.InOrder.{office_in_order}
 use Rattle.desk_store.specs.Reads.{IsTold, IsWhole}
-use Rattle.desk_store.proofs.OrderedOffice.{office_ordered}
+use Rattle.desk_opening.proofs.OrderedOffice.{office_ordered}
 
 pub mapped_ok : {X E D : Type 0} (Q : E → D → Type 0) (P : X → Type 0) (s : Result X E) (r : Result X D) → MatchResult s (λ x. r ≡ Ok x) (λ e. IsErrAnd r (Q e)) → IfOk s P → IfOk r P
 mapped_ok Q P (Ok x) r is h = subst (λ q. IfOk q P) (sym is) h

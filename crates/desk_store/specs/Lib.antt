@@ -1,4 +1,2 @@
-pub mod Making
-pub mod Opening
 pub mod Reads
 pub mod Runs

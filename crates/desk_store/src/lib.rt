@@ -1,17 +1,13 @@
 //! The desk of one company over its tables: what it answers, and what it keeps.
 #![tactic(auto)]
 
-mod create;
 mod desk;
-mod fault;
 pub mod laws;
-mod making;
-mod open;
+mod opening;
 mod perform;
 mod reading;
 mod reads;
 
 pub use desk::Desk;
-pub use fault::{CreateFault, OpenFault};
-pub use open::HandedBack;
+pub use desk_opening::{CreateFault, HandedBack, OpenFault};
 pub use reads::KeptRecord;

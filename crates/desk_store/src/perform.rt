@@ -12,13 +12,13 @@ use crate::desk::Desk;
 use crate::reading::{failure_of, read_book};
 use desk_changes::write;
 use desk_reading::ReadFault;
-use desk_words::{Answer, Call, Caller, Change, Failure, Reply};
+use desk_words::{Answer, Call, Change, Failure, Reply};
 use meeting_core::laws::decided_changes_can_be_made;
 use sqlite::{Alter, Error, Transaction};
 use std::alloc::{AllocError, Global};
 
 /// What is decided of a call, over all that the tables hold.
-fn decide_by_book<S: Alter>(
+fn decide<S: Alter>(
     tx: &mut Transaction<'_, S>,
     alloc: Global,
     call: &Call,
@@ -29,45 +29,6 @@ fn decide_by_book<S: Alter>(
     let book = read_book(tx, alloc)?;
     let (reply, change) = book.decide(call)?;
     Ok(Answer { reply, change })
-}
-
-/// What is decided of a call of the office.
-fn decide_for_office<S: Alter>(
-    tx: &mut Transaction<'_, S>,
-    alloc: Global,
-    call: &Call,
-) -> Result<Answer<Change>, ReadFault>
-    ensures same_reference { tx.new.conn.ghost_name ≡ tx.old.conn.ghost_name }
-    ensures tells { IsTold S.Store tx.old.conn.now tx.new.conn.now result (IsDecided call.now) }
-{
-    decide_by_book(tx, alloc, call)
-}
-
-/// What is decided of a call of a party.
-fn decide_for_party<S: Alter>(
-    tx: &mut Transaction<'_, S>,
-    alloc: Global,
-    call: &Call,
-) -> Result<Answer<Change>, ReadFault>
-    ensures same_reference { tx.new.conn.ghost_name ≡ tx.old.conn.ghost_name }
-    ensures tells { IsTold S.Store tx.old.conn.now tx.new.conn.now result (IsDecided call.now) }
-{
-    decide_by_book(tx, alloc, call)
-}
-
-/// What is decided of a call.
-fn decide<S: Alter>(
-    tx: &mut Transaction<'_, S>,
-    alloc: Global,
-    call: &Call,
-) -> Result<Answer<Change>, ReadFault>
-    ensures same_reference { tx.new.conn.ghost_name ≡ tx.old.conn.ghost_name }
-    ensures tells { IsTold S.Store tx.old.conn.now tx.new.conn.now result (IsDecided call.now) }
-{
-    match call.caller {
-        Caller::Office => decide_for_office(tx, alloc, call),
-        Caller::Party(_) => decide_for_party(tx, alloc, call),
-    }
 }
 
 /// Writes what an answer changes, which may be nothing.

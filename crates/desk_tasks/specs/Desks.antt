@@ -10,8 +10,8 @@ use Rattle.desk_endings.specs.Endings.{Ending, ending, ended_by}
 use Rattle.desk_endings.specs.declared.ended.Fault.{Fault}
 use Rattle.desk_endings.specs.declared.ended.Fault.TheVariants as fault
 use Rattle.desk_records.specs.Standing.{Stands}
-use Rattle.desk_store.specs.declared.fault.OpenFault.{OpenFault}
-use Rattle.desk_store.specs.declared.fault.OpenFault.TheVariants as opening
+use Rattle.desk_opening.specs.declared.fault.OpenFault.{OpenFault}
+use Rattle.desk_opening.specs.declared.fault.OpenFault.TheVariants as opening
 
 -- a database that held nothing is a desk that holds nothing; or it held something, or the store
 -- failed, or memory ran out

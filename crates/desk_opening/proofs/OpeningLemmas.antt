@@ -1,12 +1,19 @@
 -- What is read of tables when they are opened.
-use Rattle.std.proofs.Common.{◌≡◌, ◌≢◌, true, false, List, [], ◌∷◌, map, Option, Some, Ok, Err, Result, OnOk, IsTrue, IsPermutation, refl, sym, ap, subst, ◌∙◌, inl, inr, true≢false}
+use Rattle.std.proofs.Common.{◌≡◌, ◌≢◌, true, false, List, [], ◌∷◌, map, Option, Some, Ok, Err, Result, IfOk, OnOk, IsTrue, IsPermutation, refl, sym, ap, subst, ◌∙◌, inl, inr, true≢false}
 use Rattle.std.specs.List.{list_all}
 use Rattle.std.specs.Cmp.{first_so, second_so}
 use Rattle.std.specs.Cmp.Lexicographic.{nat_list_cmp_total}
 use Rattle.std.proofs.lemmas.Bool.{cases_Bool}
 use Rattle.std.proofs.lemmas.List.Sorted.{IsPermutation-trans}
 use Rattle.sqlite.specs.Held.{Held, state}
+use Rattle.sqlite.specs.Effect.{IsDatabase}
+use Rattle.sqlite.specs.Schema.{Schema}
+use Rattle.sqlite.specs.State.{State}
 use Rattle.sqlite.specs.Tree.{Trees}
+use Rattle.sqlite_catalog.specs.Listing.{AreListed}
+use Rattle.sqlite_trees.specs.Objects.{catalog_tree}
+use Rattle.desk_schema.specs.Tables.{desk_schema}
+use Rattle.desk_opening.proofs.OneSchema.{one_schema}
 use Rattle.sqlite_trees.specs.declared.store.Store as store
 use Rattle.desk_lists.specs.Sorting.{sort_by}
 use Rattle.desk_lists.proofs.SortingLemmas.{IsPermutation-sort_by, sort_by-ascending}
@@ -24,11 +31,11 @@ use Rattle.desk_records.proofs.OfficeLemmas.{are_of}
 use Rattle.desk_rows.proofs.MeaningLemmas.{bound}
 use Rattle.desk_reading.specs.Reading.{IsReading}
 use Rattle.office_checks.specs.InOrder.{in_order, office_in_order}
-use Rattle.desk_store.specs.Opening.{HoldsOffice, IsVerdict}
+use Rattle.desk_opening.specs.Opening.{HoldsOffice, IsVerdict}
 use Rattle.desk_records.specs.Standing.{HasNoOffice}
-use Rattle.desk_store.specs.declared.fault.OpenFault.{OpenFault}
-use Rattle.desk_store.specs.declared.fault.OpenFault.TheVariants.{NotADesk, NewerVersion, Store, Memory}
-use Rattle.desk_store.proofs.OrderedOffice.{office_ordered}
+use Rattle.desk_opening.specs.declared.fault.OpenFault.{OpenFault}
+use Rattle.desk_opening.specs.declared.fault.OpenFault.TheVariants.{NotADesk, NewerVersion, Store, Memory}
+use Rattle.desk_opening.proofs.OrderedOffice.{office_ordered}
 
 some_is : {A : Type 0} {a b : A} → ◌≡◌ {A = Option A} (Some a) (Some b) → a ≡ b
 some_is h = cc
@@ -66,15 +73,18 @@ office_stays trees office h so =
     ap (λ ms. record office { meetings = ms }) (meetings_stay flat.0 flat.0.meetings office.meetings are.lists (office_facts (office_in_order office) so).each)
 
 -- what is judged of lists that were read is so of the tables
-pub lists_judged : {S T : Type 0} (g : store.Ghosts S) (a b : Held S) (lists : OfficeLists) (r : Result T OpenFault) → IsReading g a b is_office (Ok lists) office_in
-    → OnOk r (IsTrue (is_office (office_in_order lists))) → (r ≡ Err NotADesk → is_office (office_in_order lists) ≡ false) → r ≢ Err NewerVersion → IsVerdict g a b HoldsOffice HasNoOffice r
-lists_judged g a b lists (Ok t) read right wrong other = record {
-  right = λ is. (lists, read.told is, subst (λ (o : OfficeLists). IsTrue (is_office o)) (office_stays (state g a).now.trees lists (read.told is) right) right);
+pub lists_judged : {S : Type 0} (g : store.Ghosts S) (a b : Held S) (lists : OfficeLists) (r : Result OfficeLists OpenFault) → IsReading g a b is_office (Ok lists) office_in
+    → IfOk r (λ office. office ≡ office_in_order lists) → IfOk r (λ office. IsTrue (is_office office)) → (r ≡ Err NotADesk → is_office (office_in_order lists) ≡ false) → r ≢ Err NewerVersion → IsVerdict g a b HoldsOffice HasNoOffice r
+lists_judged g a b lists (Ok t) read ordered right wrong other = record {
+  right = λ is.
+      let stays = office_stays (state g a).now.trees lists (read.told is) (subst (λ (o : OfficeLists). is_office o ≡ true) ordered right) in
+      let same : t ≡ lists = ordered ∙ stays in
+      (read.told is ∙ ap (λ (o : OfficeLists). Some o) (sym same), right);
   cause = λ is. tt;
   same = read.same;
   changes = read.changes;
 }
-lists_judged g a b lists (Err NotADesk) read right wrong other = record {
+lists_judged g a b lists (Err NotADesk) read ordered right wrong other = record {
   right = λ is. tt;
   cause = λ is office h.
       let same : lists ≡ office = some_is (sym (read.told is) ∙ h) in
@@ -85,6 +95,13 @@ lists_judged g a b lists (Err NotADesk) read right wrong other = record {
   same = λ is. tt;
   changes = read.changes;
 }
-lists_judged g a b lists (Err NewerVersion) read right wrong other = absurd (other refl)
-lists_judged g a b lists (Err Store) read right wrong other = record { right = λ is. tt; cause = λ is. tt; same = λ is. tt; changes = read.changes }
-lists_judged g a b lists (Err Memory) read right wrong other = record { right = λ is. tt; cause = λ is. tt; same = λ is. tt; changes = read.changes }
+lists_judged g a b lists (Err NewerVersion) read ordered right wrong other = absurd (other refl)
+lists_judged g a b lists (Err Store) read ordered right wrong other = record { right = λ is. tt; cause = λ is. tt; same = λ is. tt; changes = read.changes }
+lists_judged g a b lists (Err Memory) read ordered right wrong other = record { right = λ is. tt; cause = λ is. tt; same = λ is. tt; changes = read.changes }
+
+-- tables that are the same are declared alike, where those of a desk are
+pub schema_was : (old new : State) → new.now.trees ≡ old.now.trees → IsDatabase old.now → IsDatabase new.now → new.now.schema ≡ desk_schema → old.now.schema ≡ desk_schema
+schema_was old new same was is has =
+    let here : AreListed (old.now.trees catalog_tree) new.now.schema = subst (λ (t : Trees). AreListed (t catalog_tree) new.now.schema) same is.lists.listed in
+    let there : AreListed (old.now.trees catalog_tree) desk_schema = subst (λ (s : Schema). AreListed (old.now.trees catalog_tree) s) has here in
+    one_schema _ desk_schema old.now.schema refl there was.lists.listed

@@ -1,6 +1,6 @@
 -- Why a database is not opened as a desk, and what is handed back then.
 use Rattle.std.specs.Prelude.{◌≡◌, ◌⊎◌, ◌≤◌, false, List, [], ◌∷◌, Some, Result, IsTrue}
-use Rattle.std.specs.Prelude.{IfErr, OnOk}
+use Rattle.std.specs.Prelude.{IfErr, IfOk, OnOk}
 use Rattle.sqlite.specs.Held.{Held, state}
 use Rattle.sqlite.specs.State.{State, HasCleanDisk, IsUnchanged}
 use Rattle.sqlite.specs.Tree.{Trees}
@@ -15,20 +15,19 @@ use Rattle.desk_records.specs.Standing.{IsVersionOne}
 use Rattle.desk_reading.specs.declared.fault.ReadFault.{ReadFault}
 use Rattle.desk_reading.specs.declared.fault.ReadFault.TheVariants as reading
 use Rattle.desk_records.specs.Standing.{HasNoOffice, HasNoVersion, IsNewer}
-use Rattle.desk_store.specs.declared.fault.OpenFault.{OpenFault}
-use Rattle.desk_store.specs.declared.fault.OpenFault.TheVariants.{NotADesk, NewerVersion}
-use Rattle.desk_store.specs.declared.fault.OpenFault.TheVariants.{Store, Memory}
-use Rattle.desk_store.specs.declared.open.HandedBack.{HandedBack}
-use Rattle.desk_store.specs.declared.open.HandedBack.TheVariants as back
+use Rattle.desk_opening.specs.declared.fault.OpenFault.{OpenFault}
+use Rattle.desk_opening.specs.declared.fault.OpenFault.TheVariants.{NotADesk, NewerVersion}
+use Rattle.desk_opening.specs.declared.fault.OpenFault.TheVariants.{Store, Memory}
+use Rattle.desk_opening.specs.declared.opening.HandedBack.{HandedBack}
+use Rattle.desk_opening.specs.declared.opening.HandedBack.TheVariants as back
 
--- what the tables hold is an office
-abbrev pub HoldsOffice : State → Type 0
-HoldsOffice s =
-    (office : OfficeLists) × (office_in s.now.trees ≡ Some office) × IsTrue (is_office office)
+-- what the tables hold is this, and an office
+abbrev pub HoldsOffice : State → OfficeLists → Type 0
+HoldsOffice s office = (office_in s.now.trees ≡ Some office) × IsTrue (is_office office)
 
--- the tables are of version 1, and what they hold is an office
-abbrev pub KeepsOffice : State → Type 0
-KeepsOffice s = IsVersionOne s × HoldsOffice s
+-- the tables are of version 1, and what they hold is this, and an office
+abbrev pub KeepsOffice : State → OfficeLists → Type 0
+KeepsOffice s office = IsVersionOne s × HoldsOffice s office
 
 -- no version is noted, or the tables are of version 1 and hold no office
 abbrev pub KeepsNone : State → Type 0
@@ -46,10 +45,11 @@ IsFaultOf Wrong Memory s = Unit {0}
 abbrev pub IsCause : OpenFault → State → Type 0
 IsCause = IsFaultOf KeepsNone
 
--- in a transaction over the tables of a desk this is what they are, and nothing is changed
+-- in a transaction over the tables of a desk this is what is told of them, and nothing is changed
 pub record IsVerdict {S T : Type 0} (g : store.Ghosts S) (old new : Held S)
-    (Right Wrong : State → Type 0) (result : Result T OpenFault) : Type 0 where
-  pub right : IsRead g old new → OnOk result (Right (state g old))
+    (Right : State → T → Type 0) (Wrong : State → Type 0) (result : Result T OpenFault)
+    : Type 0 where
+  pub right : IsRead g old new → IfOk result (Right (state g old))
   pub cause : IsRead g old new → IfErr result (λ fault. IsFaultOf Wrong fault (state g old))
   pub same : IsRead g old new → OnOk result (IsUnchanged (state g old) (state g new))
   pub changes : ChangesNothing g old new

@@ -8,9 +8,9 @@ use Rattle.sqlite_trees.specs.Objects.{catalog_tree}
 use Rattle.sqlite_trees.specs.View.{IsClean}
 use Rattle.sqlite_catalog.specs.Listing.{AreListed}
 use Rattle.desk_schema.specs.Tables.{desk_schema}
-use Rattle.desk_store.proofs.OneSchema.{one_schema}
-use Rattle.desk_store.proofs.RisingLemmas.{risen}
-use Rattle.desk_store.proofs.open.reopened.Goals as goal
+use Rattle.desk_opening.proofs.OneSchema.{one_schema}
+use Rattle.desk_opening.proofs.RisingLemmas.{risen}
+use Rattle.desk_opening.proofs.opening.reopened.Goals as goal
 
 pub returns-in-Ok-clause-same : goal.returns-in-Ok-clause-same
 returns-in-Ok-clause-same g c = λ clear.
@@ -24,8 +24,8 @@ returns-in-Ok-clause-same g c = λ clear.
     let auto : IsTrue c.is_autocommit.result = search rules in
     c.in-Ok.ensures.trees clear ∙ (undone.undone is_open).0 ∙ sym (ap (λ (d : Database). d.trees) (c.is_autocommit.ensures.settled auto was_open))
 
-pub returns-in-Ok-clause-desk : goal.returns-in-Ok-clause-desk
-returns-in-Ok-clause-desk g c = λ clear has.
+pub returns-in-Ok-clause-schema : goal.returns-in-Ok-clause-schema
+returns-in-Ok-clause-schema g c = λ clear has.
     let store = c.into_store-store.result in
     let v = g.S.Store.view store in
     let late : IsClean v = omega (arith, c.in-Ok.ensures.clean, clear) in
@@ -39,8 +39,16 @@ returns-in-Ok-clause-desk g c = λ clear has.
     let lived = c.schema.ensures.live was_open in
     let new : AreListed ((state g.S.Store c.args.conn).now.trees catalog_tree) c.in-Ok.conn.schema = subst (λ (t : Trees). AreListed (t catalog_tree) c.in-Ok.conn.schema) same live.0.lists.listed in
     let old : AreListed ((state g.S.Store c.args.conn).now.trees catalog_tree) desk_schema = subst (λ (s : Schema). AreListed ((state g.S.Store c.args.conn).now.trees catalog_tree) s) has lived.0.lists.listed in
-    let is : c.in-Ok.conn.schema ≡ desk_schema = one_schema _ desk_schema c.in-Ok.conn.schema refl old new in
-    risen v (state g.S.Store c.in-Ok.conn) is (c.in-Ok.ensures.trees clear) (g.met.S.Alter.listed store whole) (g.met.S.Store.ordered store whole) live.0.lists.listed
+    one_schema _ desk_schema c.in-Ok.conn.schema refl old new
+
+pub returns-in-Ok-clause-desk : goal.returns-in-Ok-clause-desk
+returns-in-Ok-clause-desk g c = λ clear has.
+    let store = c.into_store-store.result in
+    let v = g.S.Store.view store in
+    let late : IsClean v = omega (arith, c.in-Ok.ensures.clean, clear) in
+    let whole : v.is_broken ≡ false = sym (c.is_broken.ensures late) ∙ c.if-is_broken.false in
+    let live = (c.in-Ok.ensures.opens clear).1 (c.in-Ok.ensures.opens clear).0.is_open in
+    risen v (state g.S.Store c.in-Ok.conn) has (c.in-Ok.ensures.trees clear) (g.met.S.Alter.listed store whole) (g.met.S.Store.ordered store whole) live.0.lists.listed
 
 pub returns-in-Err-clause-kept : goal.returns-in-Err-clause-kept
 returns-in-Err-clause-kept g c = λ clear stands.

@@ -13,7 +13,7 @@ use Rattle.sqlite_catalog.specs.Listing.{AreListed}
 use Rattle.sqlite_catalog.proofs.LayoutLemmas.{laid_out, objects_rise}
 use Rattle.desk_schema.specs.Statements.{IsDesk, IsRising, table_numbers}
 use Rattle.desk_schema.specs.Tables.{desk_schema}
-use Rattle.desk_store.proofs.EmptyLemmas.{each_table, of_each}
+use Rattle.desk_opening.proofs.EmptyLemmas.{each_table, of_each}
 
 -- each tree of a table is ordered as a table's is
 all_shaped : (shapes : ℕ → Shape) (trees : Trees) (tables : List Table) → IsOrdered shapes trees → AllByRecursion (λ (t : Table). shapes t.tree ≡ shape.Table) tables

@@ -1,8 +1,8 @@
 //! Why a desk was not created or opened.
 ghost use Rattle.std.specs.Prelude.{◌≡◌, ◌≢◌, ◌⊎◌};
-ghost use Rattle.desk_store.specs.Opening.{fault_of_reading};
-ghost use Rattle.desk_store.specs.declared.fault.CreateFault.TheVariants.{NotEmpty};
-ghost use Rattle.desk_store.specs.declared.fault.OpenFault.TheVariants as opening;
+ghost use Rattle.desk_opening.specs.Opening.{fault_of_reading};
+ghost use Rattle.desk_opening.specs.declared.fault.CreateFault.TheVariants.{NotEmpty};
+ghost use Rattle.desk_opening.specs.declared.fault.OpenFault.TheVariants as opening;
 
 use desk_reading::ReadFault;
 use sqlite::{Error, ErrorCode};

@@ -1,17 +1,15 @@
-//! A new desk.
+//! The tables of a new desk.
 ghost use Rattle.std.specs.Prelude.{◌≡◌, ◌≢◌, false, IfErr, IfOk, IsTrue, OnErr, OnOk};
 ghost use Rattle.desk_records.specs.Standing.{Stands};
-ghost use Rattle.desk_store.specs.declared.fault.CreateFault.TheVariants.{NotEmpty};
+ghost use Rattle.desk_opening.specs.declared.fault.CreateFault.TheVariants.{NotEmpty};
 ghost use Rattle.desk_schema.specs.Tables.{no_schema};
 ghost use Rattle.desk_words.specs.Changes.{empty_office};
 ghost use Rattle.sqlite.specs.Held.{state};
 ghost use Rattle.sqlite.specs.State.{HasCleanDisk};
 
-use crate::desk::Desk;
 use crate::fault::CreateFault;
 use crate::making::make_empty_desk;
 use sqlite::{Alter, Connection, Error};
-use std::alloc::Global;
 
 /// Whether the database has no table, no index and no view.
 fn has_nothing<S: Alter>(conn: &Connection<S>) -> bool
@@ -39,34 +37,32 @@ fn make_desk<S: Alter>(conn: &mut Connection<S>) -> Result<(), Error>
     tx.commit()
 }
 
-impl<S: Alter + Drop> Desk<S> {
-    /// Makes the tables of a desk that holds nothing, in one transaction. The fault is `NotEmpty`
-    /// exactly where the database has a table, an index or a view. A refusal hands the connection
-    /// back, its tables as they were.
-    pub fn create(
-        alloc: Global,
-        conn: Connection<S>,
-    ) -> Result<Desk<S>, (CreateFault, Connection<S>)>
-        requires { conn.in_transaction ≡ false }
-        ensures made { IfOk result (λ desk. HasCleanDisk (state S.Store desk)
-            → Stands (state S.Store desk) empty_office) }
-        ensures empty { IfOk result (λ _. (state S.Store conn).now.schema ≡ no_schema) }
-        ensures not_empty { IfErr result (λ e. e.0 ≡ NotEmpty
-            → (state S.Store conn).now.schema ≢ no_schema) }
-        ensures cause { IfErr result (λ e. e.0 ≢ NotEmpty
-            → (state S.Store conn).now.schema ≡ no_schema) }
-        ensures same { IfErr result (λ e. HasCleanDisk (state S.Store e.1)
-            → IsTrue (state S.Store e.1).is_open
-            → (state S.Store e.1).now ≡ (state S.Store conn).now) }
-        ensures ended { IfErr result (λ e. e.1.in_transaction ≡ false) }
-    {
-        if !has_nothing(&conn) {
-            return Err((CreateFault::NotEmpty, conn));
-        }
-        let mut conn = conn;
-        match make_desk(&mut conn) {
-            Ok(()) => Ok(Desk { conn, alloc }),
-            Err(error) => Err((CreateFault::from(error), conn)),
-        }
+/// Makes the tables of a desk that holds nothing, in one transaction. The fault is `NotEmpty` exactly
+/// where the database has a table, an index or a view. A refusal hands the connection back, its
+/// tables as they were.
+pub fn create<S: Alter + Drop>(
+    conn: Connection<S>,
+) -> Result<Connection<S>, (CreateFault, Connection<S>)>
+    requires { conn.in_transaction ≡ false }
+    ensures made { IfOk result (λ made. HasCleanDisk (state S.Store made)
+        → Stands (state S.Store made) empty_office) }
+    ensures empty { IfOk result (λ _. (state S.Store conn).now.schema ≡ no_schema) }
+    ensures none { IfOk result (λ made. made.in_transaction ≡ false) }
+    ensures not_empty { IfErr result (λ e. e.0 ≡ NotEmpty
+        → (state S.Store conn).now.schema ≢ no_schema) }
+    ensures cause { IfErr result (λ e. e.0 ≢ NotEmpty
+        → (state S.Store conn).now.schema ≡ no_schema) }
+    ensures same { IfErr result (λ e. HasCleanDisk (state S.Store e.1)
+        → IsTrue (state S.Store e.1).is_open
+        → (state S.Store e.1).now ≡ (state S.Store conn).now) }
+    ensures ended { IfErr result (λ e. e.1.in_transaction ≡ false) }
+{
+    if !has_nothing(&conn) {
+        return Err((CreateFault::NotEmpty, conn));
+    }
+    let mut conn = conn;
+    match make_desk(&mut conn) {
+        Ok(()) => Ok(conn),
+        Err(error) => Err((CreateFault::from(error), conn)),
     }
 }

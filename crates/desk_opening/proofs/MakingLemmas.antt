@@ -8,8 +8,8 @@ use Rattle.desk_records.specs.Standing.{version_one}
 use Rattle.desk_schema.specs.Contents as contents
 use Rattle.desk_schema.specs.Statements.{AddsFirst, CommitsNothing, Does}
 use Rattle.desk_schema.specs.Tables.{desk_schema, no_schema}
-use Rattle.desk_store.specs.Making.{IsMaking, LeavesEmptyDesk}
-use Rattle.desk_store.proofs.EmptyLemmas.{empty_desk, noted}
+use Rattle.desk_opening.specs.Making.{IsMaking, LeavesEmptyDesk}
+use Rattle.desk_opening.proofs.EmptyLemmas.{empty_desk, noted}
 
 keeps_then : (a b c : State) → KeepsCommit a b → KeepsCommit b c → KeepsCommit a c
 keeps_then a b c p q = record { was_open = λ o. p.was_open (q.was_open o); committed = λ o. q.committed o ∙ p.committed (q.was_open o) }

@@ -1,6 +1,6 @@
 //! The tables of a desk that holds nothing yet.
 ghost use Rattle.std.specs.Prelude.{◌≡◌};
-ghost use Rattle.desk_store.specs.Making.{IsMaking, LeavesEmptyDesk};
+ghost use Rattle.desk_opening.specs.Making.{IsMaking, LeavesEmptyDesk};
 ghost use Rattle.desk_schema.specs.Tables.{desk_schema, no_schema, with_casts};
 ghost use Rattle.desk_schema.specs.Tables.{with_presences, with_register};
 

@@ -1,0 +1,6 @@
+pub mod EmptyLemmas
+pub mod MakingLemmas
+pub mod OneSchema
+pub mod OpeningLemmas
+pub mod OrderedOffice
+pub mod RisingLemmas

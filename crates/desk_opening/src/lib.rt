@@ -1,0 +1,11 @@
+//! The tables of a desk: made in a database that holds nothing, and opened where they were kept.
+#![tactic(auto)]
+
+mod creation;
+mod fault;
+mod making;
+mod opening;
+
+pub use creation::create;
+pub use fault::{CreateFault, OpenFault};
+pub use opening::{HandedBack, open};
