@@ -1,6 +1,6 @@
 //! The tables of a desk that was kept.
 ghost use Rattle.std.specs.Prelude.{◌≡◌, ◌≢◌, ◌≤◌, ◌⊎◌, false, [], ◌∷◌, Err};
-ghost use Rattle.std.specs.Prelude.{IfErr, IfOk, IsTrue, OnErr, OnOk};
+ghost use Rattle.std.specs.Prelude.{IfErr, IfOk, IsTrue, OnOk};
 ghost use Rattle.desk_records.specs.Standing.{IsVersionOne, version_one};
 ghost use Rattle.desk_opening.specs.Opening.{HandsBack, HoldsOffice, IsCause, IsCleanBack, IsInNone};
 ghost use Rattle.desk_opening.specs.Opening.{IsVerdict, IsVersionFault, KeepsNone, KeepsOffice};
@@ -123,10 +123,7 @@ fn read_lists<S: Alter>(
 }
 
 /// The office that tables of version 1 hold. The version is asked first.
-fn read_desk<S: Alter>(
-    tx: &mut Transaction<'_, S>,
-    alloc: Global,
-) -> Result<OfficeLists, OpenFault>
+fn read_desk<S: Alter>(tx: &mut Transaction<'_, S>, alloc: Global) -> Result<OfficeLists, OpenFault>
     ensures same_reference { tx.new.conn.ghost_name ≡ tx.old.conn.ghost_name }
     ensures read { IsVerdict S.Store tx.old.conn.now tx.new.conn.now KeepsOffice KeepsNone result }
     ensures office { IfOk result (λ office. IsTrue (is_office office)) }
