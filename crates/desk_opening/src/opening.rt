@@ -2,8 +2,9 @@
 ghost use Rattle.std.specs.Prelude.{◌≡◌, ◌≢◌, ◌≤◌, ◌⊎◌, false, [], ◌∷◌, Err};
 ghost use Rattle.std.specs.Prelude.{IfErr, IfOk, IsTrue, OnOk};
 ghost use Rattle.desk_records.specs.Standing.{IsVersionOne, version_one};
-ghost use Rattle.desk_opening.specs.Opening.{HandsBack, HoldsOffice, IsCause, IsCleanBack, IsInNone};
-ghost use Rattle.desk_opening.specs.Opening.{IsVerdict, IsVersionFault, KeepsNone, KeepsOffice};
+ghost use Rattle.desk_opening.specs.Opening.{HandsBack, HoldsOffice, IsCause, IsCleanBack};
+ghost use Rattle.desk_opening.specs.Opening.{IsInNone, IsVerdict, IsVersionFault, KeepsNone};
+ghost use Rattle.desk_opening.specs.Opening.{KeepsOffice};
 ghost use Rattle.desk_records.specs.Standing.{HasNoOffice, HasNoVersion, Stands};
 ghost use Rattle.desk_opening.specs.declared.fault.OpenFault.TheVariants.{NotADesk, NewerVersion};
 ghost use Rattle.desk_opening.specs.declared.fault.OpenFault.TheVariants as opening;
@@ -229,12 +230,12 @@ fn cause_of<S: Alter>(conn: &mut Connection<S>, fault: OpenFault) -> OpenFault
 }
 
 /// Opens the tables of the desk that the database holds, where they are declared as `create`
-/// declares them, and gives the office that they hold. The fault is `NotADesk` only where no version
-/// of the tables is noted, or what those of version 1 hold is no office; over other tables it is so
-/// too where a column that is read does not stand. It is `NewerVersion` only where a later version is
-/// noted, which is asked before the other tables are read. A refusal hands back the connection, or
-/// the store where that could not be read again, its tables as they were. A limit of steps that was
-/// set on the connection is not kept.
+/// declares them, and gives the office that they hold. The fault is `NotADesk` only where no
+/// version of the tables is noted, or what those of version 1 hold is no office; over other tables
+/// it is so too where a column that is read does not stand. It is `NewerVersion` only where a later
+/// version is noted, which is asked before the other tables are read. A refusal hands back the
+/// connection, or the store where that could not be read again, its tables as they were. A limit of
+/// steps that was set on the connection is not kept.
 pub fn open<S: Alter + Drop>(
     alloc: Global,
     conn: Connection<S>,
