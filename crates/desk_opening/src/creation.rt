@@ -37,9 +37,9 @@ fn make_desk<S: Alter>(conn: &mut Connection<S>) -> Result<(), Error>
     tx.commit()
 }
 
-/// Makes the tables of a desk that holds nothing, in one transaction. The fault is `NotEmpty` exactly
-/// where the database has a table, an index or a view. A refusal hands the connection back, its
-/// tables as they were.
+/// Makes the tables of a desk that holds nothing, in one transaction. The fault is `NotEmpty`
+/// exactly where the database has a table, an index or a view. A refusal hands the connection back,
+/// its tables as they were.
 pub fn create<S: Alter + Drop>(
     conn: Connection<S>,
 ) -> Result<Connection<S>, (CreateFault, Connection<S>)>

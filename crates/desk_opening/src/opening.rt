@@ -1,9 +1,10 @@
 //! The tables of a desk that was kept.
 ghost use Rattle.std.specs.Prelude.{◌≡◌, ◌≢◌, ◌≤◌, ◌⊎◌, false, [], ◌∷◌, Err};
-ghost use Rattle.std.specs.Prelude.{IfErr, IfOk, IsTrue, OnErr, OnOk};
+ghost use Rattle.std.specs.Prelude.{IfErr, IfOk, IsTrue, OnOk};
 ghost use Rattle.desk_records.specs.Standing.{IsVersionOne, version_one};
-ghost use Rattle.desk_opening.specs.Opening.{HandsBack, HoldsOffice, IsCause, IsCleanBack, IsInNone};
-ghost use Rattle.desk_opening.specs.Opening.{IsVerdict, IsVersionFault, KeepsNone, KeepsOffice};
+ghost use Rattle.desk_opening.specs.Opening.{HandsBack, HoldsOffice, IsCause, IsCleanBack};
+ghost use Rattle.desk_opening.specs.Opening.{IsInNone, IsVerdict, IsVersionFault, KeepsNone};
+ghost use Rattle.desk_opening.specs.Opening.{KeepsOffice};
 ghost use Rattle.desk_records.specs.Standing.{HasNoOffice, HasNoVersion, Stands};
 ghost use Rattle.desk_opening.specs.declared.fault.OpenFault.TheVariants.{NotADesk, NewerVersion};
 ghost use Rattle.desk_opening.specs.declared.fault.OpenFault.TheVariants as opening;
@@ -123,10 +124,7 @@ fn read_lists<S: Alter>(
 }
 
 /// The office that tables of version 1 hold. The version is asked first.
-fn read_desk<S: Alter>(
-    tx: &mut Transaction<'_, S>,
-    alloc: Global,
-) -> Result<OfficeLists, OpenFault>
+fn read_desk<S: Alter>(tx: &mut Transaction<'_, S>, alloc: Global) -> Result<OfficeLists, OpenFault>
     ensures same_reference { tx.new.conn.ghost_name ≡ tx.old.conn.ghost_name }
     ensures read { IsVerdict S.Store tx.old.conn.now tx.new.conn.now KeepsOffice KeepsNone result }
     ensures office { IfOk result (λ office. IsTrue (is_office office)) }
@@ -232,12 +230,12 @@ fn cause_of<S: Alter>(conn: &mut Connection<S>, fault: OpenFault) -> OpenFault
 }
 
 /// Opens the tables of the desk that the database holds, where they are declared as `create`
-/// declares them, and gives the office that they hold. The fault is `NotADesk` only where no version
-/// of the tables is noted, or what those of version 1 hold is no office; over other tables it is so
-/// too where a column that is read does not stand. It is `NewerVersion` only where a later version is
-/// noted, which is asked before the other tables are read. A refusal hands back the connection, or
-/// the store where that could not be read again, its tables as they were. A limit of steps that was
-/// set on the connection is not kept.
+/// declares them, and gives the office that they hold. The fault is `NotADesk` only where no
+/// version of the tables is noted, or what those of version 1 hold is no office; over other tables
+/// it is so too where a column that is read does not stand. It is `NewerVersion` only where a later
+/// version is noted, which is asked before the other tables are read. A refusal hands back the
+/// connection, or the store where that could not be read again, its tables as they were. A limit of
+/// steps that was set on the connection is not kept.
 pub fn open<S: Alter + Drop>(
     alloc: Global,
     conn: Connection<S>,
