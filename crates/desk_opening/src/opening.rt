@@ -223,10 +223,13 @@ fn cause_of<S: Alter>(conn: &mut Connection<S>, fault: OpenFault) -> OpenFault
         → (result ≡ fault) ⊎ (IsTrue (state S.Store conn.old).is_open
         × ((state S.Store conn.old).now.schema ≢ desk_schema)) }
 {
-    if fault == OpenFault::Store && !columns::stand(conn) {
-        return OpenFault::NotADesk;
+    if fault != OpenFault::Store {
+        return fault;
     }
-    fault
+    if columns::stand(conn) {
+        return fault;
+    }
+    OpenFault::NotADesk
 }
 
 /// Opens the tables of the desk that the database holds, where they are declared as `create`

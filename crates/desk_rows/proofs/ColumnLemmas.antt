@@ -1,12 +1,12 @@
 -- Texts, and that what is kept reads back.
-use Rattle.std.proofs.Common.{◌≡◌, ◌≤◌, ◌⊎◌, ◌==◌, ℕ, ℤ, pos, negsuc, ◌+ℤ◌, ◌-ℤ◌, List, [], ◌∷◌, map, Option, Some, None, false, true, not, IsUtf8, IsTrue, inl, inr, refl, sym, ap, ◌∙◌, arith, nat_le, bytes_eq, true≢false}
+use Rattle.std.proofs.Common.{◌≡◌, ◌≤◌, ℕ, ℤ, pos, ◌+ℤ◌, ◌-ℤ◌, List, Some, None, true, IsUtf8, inl, inr, refl, arith, nat_le}
 use Rattle.std.specs.Str.{is_utf8, chars}
 use Rattle.std.proofs.lemmas.Str.{IsUtf8-from_is_utf8, is_utf8-from_IsUtf8}
 use Rattle.std.proofs.lemmas.Bool.{cases_Bool}
 use Rattle.std.proofs.lemmas.Bool.Decides.{nat_tests}
 use Rattle.std.proofs.lemmas.Int.{ints}
 use Rattle.desk_terms.specs.Kinds.{company_word, company_of, meeting_kind_word, meeting_kind_of, resolution_kind_word, resolution_kind_of, holder_kind_word, holder_kind_of, capacity_word, capacity_of, way_word, way_of}
-use Rattle.desk_terms.specs.Names.{Holds, letters_of, is_name, is_party, is_key, meeting_of, party_of, key_of, office_name}
+use Rattle.desk_terms.specs.Names.{Holds, letters_of, is_name, is_party, is_key, meeting_of, party_of, key_of}
 use Rattle.desk_terms.specs.Texts.{IsText}
 use Rattle.desk_terms.specs.declared.kinds.Company.{Company}
 use Rattle.desk_terms.specs.declared.kinds.Company.TheVariants as company
@@ -23,7 +23,7 @@ use Rattle.desk_terms.specs.declared.kinds.Way.TheVariants as way
 use Rattle.sqlite.specs.declared.types.Value.TheVariants.{Null, Text}
 use Rattle.desk_words.specs.declared.records.CastKind.TheVariants.{AsInstructed}
 use Rattle.desk_rows.specs.Marks.{cast_kind_of, instructed_word}
-use Rattle.desk_rows.specs.Columns.{string_of, natural_of, up_to, day_of, moment_of, text_of, read_word}
+use Rattle.desk_rows.specs.Columns.{string_of, natural_of, day_of, moment_of, text_of, read_word}
 
 -- a text is itself
 pub string_is : (bytes : List ℕ) → IsUtf8 bytes → string_of bytes ≡ Some bytes

@@ -1,5 +1,5 @@
-//! What the statements on any table of the desk have in common: numbers as they are kept, and what a
-//! statement of a form does to the rows of a table.
+//! What the statements on any table of the desk have in common: numbers as they are kept, and what
+//! a statement of a form does to the rows of a table.
 #![tactic(auto)]
 
 mod numbers;

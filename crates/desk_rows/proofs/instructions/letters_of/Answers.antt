@@ -1,4 +1,4 @@
-use Rattle.std.proofs.Common.{rules, ◌≡◌, map, string_bytes, arith}
+use Rattle.std.proofs.Common.{◌≡◌, map, string_bytes, arith}
 use Rattle.std.proofs.lemmas.Grind.{common_steps}
 use Rattle.desk_rows.specs.Instructions.{instruction_letter}
 use Rattle.desk_rows.proofs.InstructionLemmas.{letters_read}
