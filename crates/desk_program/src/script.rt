@@ -6,7 +6,6 @@ ghost use Rattle.desk_devices.specs.Counts.{one_more};
 ghost use Rattle.desk_lines.specs.Lines.{lines_of};
 ghost use Rattle.desk_lines.specs.Reading.{longest_input, longest_line, unread, SameWhole};
 ghost use Rattle.desk_replies.specs.Replies.{reply_bytes};
-ghost use Rattle.meeting_core.specs.Step.{decided, stepped};
 ghost use Rattle.desk_program.specs.ReplayRuns.{as_line};
 ghost use Rattle.desk_program.specs.Transcript.{text_or_failure, unless_refused, AreAnswered, IsReplayedUntil};
 ghost use Rattle.desk_program.specs.ReplaySteps.{standing, Turns, Stops, HasEndedFor};
@@ -16,7 +15,7 @@ use desk_bodies::Ask;
 use desk_devices::{DeviceFailed, Sink, Source, write_all};
 use desk_lines::{LineReader, NextLine, ReadFault};
 use desk_replies::reply_text;
-use desk_words::{Call, Refusal, Reply};
+use desk_words::{Refusal, Reply};
 use meeting_core::Book;
 use std::alloc::{AllocError, Global};
 
@@ -60,23 +59,8 @@ fn reply_line(alloc: Global, reply: &Reply) -> Result<Vec<u8>, AllocError>
     Ok(text)
 }
 
-/// Takes one step of the book, and returns the line that gives its reply. The text is made before
-/// the change is, so that a text which is refused memory changes nothing.
-fn perform(alloc: Global, book: &mut Book, call: Call) -> Result<Vec<u8>, AllocError>
-    ensures text { IfOk result
-        (λ text. text.items ≡ as_line (reply_bytes (decided book.old call).reply)) }
-    ensures ok { OnOk result (book.new ≡ stepped book.old call) }
-    ensures err { OnErr result (book.new ≡ book.old) }
-{
-    let (reply, change) = book.decide(&call)?;
-    let text = reply_line(alloc, &reply)?;
-    if let Some(change) = change {
-        book.apply(change)?;
-    }
-    Ok(text)
-}
-
-/// Answers one line that is not too long.
+/// Answers one line that is not too long. The text is made before the change is, so that a text
+/// which is refused memory changes nothing.
 fn answer(alloc: Global, book: &mut Book, line: &[u8]) -> Result<Vec<u8>, AllocError>
     requires { length line.now ≤ longest_line }
     ensures text { IfOk result
@@ -85,7 +69,7 @@ fn answer(alloc: Global, book: &mut Book, line: &[u8]) -> Result<Vec<u8>, AllocE
     ensures err { OnErr result (book.new ≡ book.old) }
 {
     match call_of(alloc, line) {
-        Ok(call) => perform(alloc, book, call),
+        Ok(call) => book.perform(call, |reply| reply_line(alloc, reply)),
         Err(Ask::Refused(refusal)) => reply_line(alloc, &Reply::Refused(refusal)),
         Err(Ask::Memory) => Err(AllocError),
     }
