@@ -5,7 +5,9 @@ ghost use Rattle.desk_schema.specs.Tables.{desk_schema, no_schema, with_casts};
 ghost use Rattle.desk_schema.specs.Tables.{with_presences, with_register};
 
 use desk_tables::{closed, desk, keys, meetings, register, resolutions};
-use meeting_tables::{appointments, authorities, casts, demands, endings, indexes, polls, presences};
+use meeting_tables::{
+    appointments, authorities, casts, demands, endings, indexes, polls, presences,
+};
 use sqlite::{Alter, Error, Transaction};
 
 /// Makes the tables of the desk, of its meetings, and of their resolutions and registers.

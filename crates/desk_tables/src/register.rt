@@ -5,8 +5,8 @@ ghost use Rattle.desk_schema.specs.Contents.{register};
 ghost use Rattle.desk_schema.specs.Statements.{Adds, ChangesNothing, CommitsNothing, Does, IsRead, Makes, Reads, TakesOut};
 ghost use Rattle.desk_schema.specs.Tables.{with_resolutions, with_register};
 
-use desk_statements::whole;
 use desk_rows::{holder_kind_text, meeting_text, party_text, text_value};
+use desk_statements::whole;
 use desk_words::{MeetingId, RegisterRow};
 use sqlite::{Alter, Error, Row, Transaction, params};
 

@@ -4,8 +4,8 @@ ghost use Rattle.desk_schema.specs.Contents.{resolutions};
 ghost use Rattle.desk_schema.specs.Statements.{Adds, ChangesNothing, CommitsNothing, Does, IsRead, Makes, Reads};
 ghost use Rattle.desk_schema.specs.Tables.{with_meetings, with_resolutions};
 
-use desk_statements::whole;
 use desk_rows::{meeting_text, resolution_kind_text, text_value};
+use desk_statements::whole;
 use desk_words::{MeetingId, Resolution};
 use sqlite::{Alter, Error, Row, Transaction, params};
 

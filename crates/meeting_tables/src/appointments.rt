@@ -4,8 +4,8 @@ ghost use Rattle.desk_schema.specs.Contents.{appointments};
 ghost use Rattle.desk_schema.specs.Statements.{Adds, ChangesNothing, CommitsNothing, Does, IsRead, Makes, Reads};
 ghost use Rattle.desk_schema.specs.Tables.{with_register, with_appointments};
 
-use desk_statements::whole;
 use desk_rows::{letters_of, meeting_text, moment_number, party_text, range_numbers};
+use desk_statements::whole;
 use desk_words::{Appointment, MeetingId};
 use sqlite::{Alter, Error, Row, Transaction, params};
 use std::alloc::Global;

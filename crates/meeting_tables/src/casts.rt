@@ -4,8 +4,8 @@ ghost use Rattle.desk_schema.specs.Contents.{casts};
 ghost use Rattle.desk_schema.specs.Statements.{Adds, ChangesNothing, CommitsNothing, Does, IsRead, Makes, Reads};
 ghost use Rattle.desk_schema.specs.Tables.{with_polls, with_casts};
 
-use desk_statements::whole;
 use desk_rows::{cast_columns, meeting_text, moment_number, party_text};
+use desk_statements::whole;
 use desk_words::{CastMark, MeetingId};
 use sqlite::{Alter, Error, Row, Transaction, params};
 

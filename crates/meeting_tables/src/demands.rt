@@ -4,8 +4,8 @@ ghost use Rattle.desk_schema.specs.Contents.{demands};
 ghost use Rattle.desk_schema.specs.Statements.{Adds, ChangesNothing, CommitsNothing, Does, IsRead, Makes, Reads};
 ghost use Rattle.desk_schema.specs.Tables.{with_presences, with_demands};
 
-use desk_statements::whole;
 use desk_rows::{meeting_text, moment_number, party_text};
+use desk_statements::whole;
 use desk_words::{DemandMark, MeetingId};
 use sqlite::{Alter, Error, Row, Transaction, params};
 

@@ -76,8 +76,7 @@ impl Named {
             let Ok(call) = call_of(alloc, line.as_bytes()) else {
                 continue;
             };
-            let reply = book.step(call)?;
-            let text = reply_text(alloc, &reply)?;
+            let text = book.perform(call, |reply| reply_text(alloc, reply))?;
             writeln!(told, "{}", String::from_utf8_lossy(alloc, &text)?)?;
         }
         Ok(told)

@@ -185,7 +185,9 @@ impl Office {
             return Ok(String::from_str(alloc, "no call")?);
         };
         self.named.take(alloc, line, &call)?;
-        let beside = reply_text(alloc, &self.beside.step(again)?)?;
+        let beside = self
+            .beside
+            .perform(again, |reply| reply_text(alloc, reply))?;
         let mut answer = match desk.perform(call, |reply| reply_text(alloc, reply)) {
             Ok(text) => String::from_utf8_lossy(alloc, &text)?,
             Err(failure) => String::from_str(alloc, failure_word(failure))?,
