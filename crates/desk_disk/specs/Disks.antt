@@ -4,6 +4,7 @@ use Rattle.sqlite.specs.Files.{file_state}
 use Rattle.sqlite.specs.State.{State}
 use Rattle.desk_endings.specs.Endings.{Ending, ending, ended_by}
 use Rattle.desk_endings.specs.declared.ended.Fault.TheVariants as fault
+use Rattle.desk_tasks.specs.Desks.{EndsUnopened}
 use Rattle.desk_disk.specs.declared.disk.DiskDesk.{DiskDesk}
 
 -- the tables, as the connection to the file shows them
@@ -19,8 +20,6 @@ abbrev pub EndsCreating : Ending → Type 0
 EndsCreating end =
     (end ≡ ending 0 (codes "created")) ⊎ ((end ≡ ended_by fault.NotEmpty) ⊎ FailsToConnect end)
 
--- the file is no desk, or a later version's, or could not be read
+-- the file is no desk that can be opened, or could not be opened, read or written
 abbrev pub EndsOpening : Ending → Type 0
-EndsOpening end =
-    (end ≡ ended_by fault.NotADesk)
-    ⊎ ((end ≡ ended_by fault.NewerVersion) ⊎ FailsToConnect end)
+EndsOpening end = EndsUnopened end ⊎ FailsToConnect end

@@ -1,11 +1,15 @@
 //! A desk in a file, made, opened and closed.
 ghost use Rattle.std.specs.Prelude.{◌≡◌, false, IfErr, IfOk};
-ghost use Rattle.desk_disk.specs.Disks.{EndsCreating, EndsOpening, FailsToConnect};
+ghost use Rattle.desk_disk.specs.Disks.{EndsCreating, EndsOpening, FailsToConnect, tables_of};
 ghost use Rattle.desk_endings.specs.Endings.{ended_view};
+ghost use Rattle.desk_records.specs.Standing.{Stands};
+ghost use Rattle.desk_schema.specs.Tables.{desk_schema};
+ghost use Rattle.desk_words.specs.declared.office.OfficeLists.{OfficeLists};
+ghost use Rattle.sqlite.specs.State.{HasCleanDisk};
 
 use desk_endings::{Ended, Fault};
 use desk_store::Desk;
-use desk_tasks::{by_file_error, by_open, init};
+use desk_tasks::{by_file_error, init, open};
 use sqlite::{Connection, FileFrom, FileStore, Wary};
 use std::fs;
 use std::rt::HostRuntime;
@@ -56,16 +60,17 @@ impl DiskDesk {
     /// Opens the desk that a file is. A file that is not there is not made, and ends the program
     /// with `Store`.
     pub fn open(rt: &HostRuntime, file: &str) -> Result<DiskDesk, Ended>
-        ensures { IfErr result (λ ended. EndsOpening (ended_view ended)) }
+        ensures stands { IfOk result (λ disk. HasCleanDisk (tables_of disk)
+            → (tables_of disk).now.schema ≡ desk_schema
+            → (office : OfficeLists) × Stands (tables_of disk) office) }
+        ensures fault { IfErr result (λ ended. EndsOpening (ended_view ended)) }
     {
         if fs::metadata(rt, file).is_err() {
             return Err(Ended::by(Fault::Store));
         }
         let conn = connect(rt, file)?;
-        match Desk::open(rt.alloc(), conn) {
-            Ok(desk) => Ok(DiskDesk { desk }),
-            Err((fault, _)) => Err(by_open(fault)),
-        }
+        let desk = open(rt.alloc(), conn)?;
+        Ok(DiskDesk { desk })
     }
 
     /// Copies what was committed from the log into the desk's file. Where that fails, it is in the

@@ -29,6 +29,10 @@ open_fault opening.NewerVersion = fault.NewerVersion
 open_fault opening.Store = fault.Store
 open_fault opening.Memory = fault.Memory
 
+-- the program ends by a fault for which a database was not opened as a desk
+abbrev pub EndsUnopened : Ending → Type 0
+EndsUnopened end = (why : OpenFault) × (end ≡ ended_by (open_fault why))
+
 -- the fault for which a file was not opened as a database
 abbrev pub file_fault : Error → Fault
 file_fault (SqliteFailure OutOfMemory) = fault.Memory

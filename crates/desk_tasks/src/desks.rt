@@ -1,7 +1,10 @@
 //! The making and the opening of a desk.
-ghost use Rattle.std.specs.Prelude.{◌≡◌, ◌≢◌, false, IsTrue};
+ghost use Rattle.std.specs.Prelude.{◌≡◌, ◌≢◌, false, IfErr, IfOk, IsTrue};
 ghost use Rattle.desk_endings.specs.Endings.{ended_by, ended_view};
-ghost use Rattle.desk_tasks.specs.Desks.{Creates, file_fault, open_fault};
+ghost use Rattle.desk_records.specs.Standing.{Stands};
+ghost use Rattle.desk_schema.specs.Tables.{desk_schema};
+ghost use Rattle.desk_tasks.specs.Desks.{Creates, EndsUnopened, file_fault, open_fault};
+ghost use Rattle.desk_words.specs.declared.office.OfficeLists.{OfficeLists};
 ghost use Rattle.sqlite.specs.Held.{state};
 ghost use Rattle.sqlite.specs.State.{HasCleanDisk};
 
@@ -30,7 +33,7 @@ pub fn init<S: Alter + Drop>(alloc: Global, conn: Connection<S>) -> (Ended, Conn
 }
 
 /// How the program ends where a database is not opened as a desk: with status 3 and the fault.
-pub fn by_open(fault: OpenFault) -> Ended
+fn by_open(fault: OpenFault) -> Ended
     ensures { ended_view result ≡ ended_by (open_fault fault) }
 {
     Ended::by(match fault {
@@ -39,6 +42,24 @@ pub fn by_open(fault: OpenFault) -> Ended
         OpenFault::Store => Fault::Store,
         OpenFault::Memory => Fault::Memory,
     })
+}
+
+/// Opens the desk that a database holds. Where it holds none the program ends with status 3 and the
+/// fault, and what was opened is let go.
+pub fn open<S: Alter + Drop>(alloc: Global, conn: Connection<S>) -> Result<Desk<S>, Ended>
+    requires { conn.in_transaction ≡ false }
+    ensures stands { IfOk result (λ desk. HasCleanDisk (state S.Store desk)
+        → (state S.Store desk).now.schema ≡ desk_schema
+        → (office : OfficeLists) × Stands (state S.Store desk) office) }
+    ensures same { IfOk result (λ desk. HasCleanDisk (state S.Store desk)
+        → (state S.Store conn).now.schema ≡ desk_schema
+        → (state S.Store desk).now.trees ≡ (state S.Store conn).now.trees) }
+    ensures fault { IfErr result (λ ended. EndsUnopened (ended_view ended)) }
+{
+    match Desk::open(alloc, conn) {
+        Ok(desk) => Ok(desk),
+        Err((fault, _)) => Err(by_open(fault)),
+    }
 }
 
 /// How the program ends where a file is not opened as a database: with status 3, and `Memory` or

@@ -10,7 +10,7 @@ mod printing;
 mod replaying;
 
 pub use clock::moment_at;
-pub use desks::{by_file_error, by_open, init};
+pub use desks::{by_file_error, init, open};
 pub use loads::{days, keys, register};
 pub use printing::results;
 pub use replaying::replay;
