@@ -245,13 +245,13 @@ register_if true rows h = or_right (no_rows rows) (is_register rows) h
 register_if false rows h = ap (λ b. b || is_register rows) h
 
 -- what of a meeting's lists the right rests on
-record Facts (m : MeetingLists) : Type 0 where
+pub record Facts (m : MeetingLists) : Type 0 where
   pub rows : are_rows m.register ≡ true
   pub numbered : are_numbered_after [] m.appointments ≡ true
   pub tags : are_tags m.appointments ≡ true
 
 -- they are among the second and the third of the nine conditions of a meeting
-facts : (m : MeetingLists) → is_meeting m ≡ true → Facts m
+pub facts : (m : MeetingLists) → is_meeting m ≡ true → Facts m
 facts m h =
     let resolutions = length m.meeting.resolutions in
     let three = first_so _ _ (first_so _ _ (first_so _ _ (first_so _ _ (first_so _ _ (first_so _ _ h))))) in
@@ -266,7 +266,7 @@ facts m h =
     }
 
 -- what is kept of a member in a meeting is such as an office keeps
-kept_in : (m : MeetingLists) (member : List ℕ) → Facts m → is_kept (holding_of m.register m.appointments m.endings member) ≡ true
+pub kept_in : (m : MeetingLists) (member : List ℕ) → Facts m → is_kept (holding_of m.register m.appointments m.endings member) ≡ true
 kept_in m member f = kept-is (holding_of m.register m.appointments m.endings member) (kept_of m.register m.appointments m.endings member f.rows f.numbered f.tags)
 
 -- whether a party governs shares, by its own things, is whether some appointment that names it does

@@ -38,7 +38,7 @@ any-among p q (a ∷ rest) same =
     λ i. head i || tail i
 
 -- the name is the member's
-abbrev of : List ℕ → List ℕ → Bool
+abbrev pub of : List ℕ → List ℕ → Bool
 of member name = same_name name member
 
 -- the rows are the member's
@@ -73,7 +73,7 @@ rows-found m (name ∷ names) member =
     turned false false = refl
 
 -- each once they are the same parties
-any-each_once : (member : List ℕ) (names : List (List ℕ)) → list_any (of member) (each_once names) ≡ list_any (of member) names
+pub any-each_once : (member : List ℕ) (names : List (List ℕ)) → list_any (of member) (each_once names) ≡ list_any (of member) names
 any-each_once member [] = refl
 any-each_once member (name ∷ names) =
     (elim (of member name) as (λ b. of member name ≡ b
@@ -91,7 +91,7 @@ any-each_once member (name ∷ names) =
       | false ↦ λ _. refl
     ]) refl
 
-any-givers : (member : List ℕ) (given : List Appointment) → list_any (of member) (map (λ (a : Appointment). a.member) given) ≡ list_any (is_given_by member) given
+pub any-givers : (member : List ℕ) (given : List Appointment) → list_any (of member) (map (λ (a : Appointment). a.member) given) ≡ list_any (is_given_by member) given
 any-givers member [] = refl
 any-givers member (a ∷ given) = ap (λ b. same_name a.member member || b) (any-givers member given)
 

@@ -5,8 +5,10 @@ mod MemberRows
 mod NamedLemmas
 mod NumberLemmas
 mod OrderLemmas
+mod OwnThingsLemmas
 mod PlaceLemmas
 mod ProxyLemmas
 mod SecrecyLemmas
 mod WorldLemmas
 mod WrongAnswers
+mod WrongTellings

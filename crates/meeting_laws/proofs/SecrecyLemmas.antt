@@ -7,7 +7,7 @@ use Rattle.vote_rules.specs.Laws.{casts_on}
 use Rattle.meeting_laws.specs.Secrecy.{casts_off}
 
 -- where what passes one test passes another too, it is found among what passes that
-filter-within : {X : Type 0} (test wider : X → Bool) (xs : List X) → ((x : X) → test x ≡ true → wider x ≡ true) → filter test (filter wider xs) ≡ filter test xs
+pub filter-within : {X : Type 0} (test wider : X → Bool) (xs : List X) → ((x : X) → test x ≡ true → wider x ≡ true) → filter test (filter wider xs) ≡ filter test xs
 filter-within test wider [] within = refl
 filter-within test wider (x ∷ xs) within =
     (elim (wider x) as (λ w. wider x ≡ w → filter test (cond w (x ∷ filter wider xs) (filter wider xs)) ≡ filter test (x ∷ xs)) [

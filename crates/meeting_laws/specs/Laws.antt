@@ -1,12 +1,22 @@
 -- Laws of a party's own things.
-use Rattle.std.specs.Prelude.{◌≡◌, true, List, None}
+use Rattle.std.specs.Prelude.{◌≡◌, true, List, filter, map, None}
 use Rattle.desk_words.specs.Office.{is_meeting}
 use Rattle.desk_words.specs.Seen.{Day, Moment, Party}
 use Rattle.desk_words.specs.declared.office.MeetingLists.{MeetingLists}
-use Rattle.proxy_rules.specs.Cutoffs.{cutoffs_of}
+use Rattle.desk_words.specs.declared.own.PollGoverned.{PollGoverned}
+use Rattle.desk_words.specs.declared.own.Received.{Received}
+use Rattle.desk_words.specs.declared.records.Appointment.{Appointment}
+use Rattle.desk_words.specs.declared.records.Poll.{Poll}
+use Rattle.desk_terms.specs.Places.{Places}
+use Rattle.proxy_rules.specs.Cutoffs.{cutoffs_of, is_late_poll, late_cutoffs}
+use Rattle.proxy_rules.specs.Governing.{governed_in}
+use Rattle.proxy_rules.specs.Holdings.{holding_of}
+use Rattle.proxy_rules.specs.Parties.{names}
+use Rattle.proxy_rules.specs.declared.papers.Cutoffs.{Cutoffs}
 use Rattle.poll_rules.specs.Quorum.{qualifies}
 use Rattle.poll_rules.specs.Roles.{roles_of}
 use Rattle.caller_view.specs.Attendance.{may_demand}
+use Rattle.caller_view.specs.Own.{known_to_proxy}
 use Rattle.caller_view.specs.Views.{own_in}
 
 -- a party may demand a poll, which is read from its own things alone, exactly where some row of the
@@ -19,3 +29,30 @@ DemandsByCapacity =
     ≡ qualifies
     (roles_of (cutoffs_of m.meeting None closed now) m.register m.appointments m.endings
     m.authorities party)
+
+-- the shares that an appointment governs in a meeting, in runs, by what the meeting keeps of the
+-- member who gave it: its shares, its appointments and its endings (section 324)
+abbrev pub shares_governed : MeetingLists → Cutoffs → Appointment → List Places
+shares_governed m cutoffs a =
+    governed_in cutoffs (holding_of m.register m.appointments m.endings a.member) a.number
+
+-- those that it governs for a late poll (section 327)
+abbrev pub governed_for_poll : MeetingLists → List Day → Appointment → Poll → PollGoverned
+governed_for_poll m closed a poll = record {
+  resolution = poll.resolution;
+  governs = shares_governed m (late_cutoffs poll closed) a;
+}
+
+-- an appointment as its proxy is to know it: with what it governs for the meeting, and for each
+-- late poll
+abbrev pub known_in : MeetingLists → List Day → Moment → Appointment → Received
+known_in m closed now a =
+    known_to_proxy a (shares_governed m (cutoffs_of m.meeting None closed now) a)
+    (map (governed_for_poll m closed a) (filter (is_late_poll closed) m.polls))
+
+-- own things tell a proxy of each appointment that names it what it governs by the rules
+abbrev pub OwnThingsTellWhatGoverns : Type 0
+OwnThingsTellWhatGoverns =
+    (m : MeetingLists) (closed : List Day) (party : Party) (now : Moment) → is_meeting m ≡ true
+    → (own_in m closed party now).received
+    ≡ map (known_in m closed now) (filter (names party) m.appointments)

@@ -2,12 +2,16 @@
 //! told in a meeting agrees with its rules.
 #![tactic(auto)]
 
+mod own_things;
 mod refusals;
 mod worlds;
 
 ghost use Rattle.meeting_laws.specs.Laws.{DemandsByCapacity};
 ghost use Rattle.meeting_laws.specs.Secrecy.{TheOfficeIsToldOfNoVotes, VotesAreNotPublic};
 
+pub use own_things::{
+    others_things_are_caught, own_things_are_ones_own, own_things_tell_what_governs,
+};
 pub use refusals::{lowest_refusal, refused_calls_change_nothing};
 use vote_rules::laws::tallies_read_their_own_casts;
 pub use worlds::{names, running_total_is_caught, two_worlds};

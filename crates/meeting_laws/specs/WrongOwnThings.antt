@@ -1,0 +1,54 @@
+-- Wrong tellings of own things, and for each two meetings that differ in another member's record
+-- alone, and that it tells apart.
+use Rattle.std.specs.Prelude.{◌≡◌, IsTrue, nat_lt, [], ◌∷◌, length, map}
+use Rattle.desk_words.specs.Office.{is_meeting}
+use Rattle.desk_words.specs.Seen.{Party}
+use Rattle.desk_words.specs.declared.office.MeetingLists.{MeetingLists}
+use Rattle.desk_words.specs.declared.records.DemandMark.{DemandMark}
+use Rattle.caller_view.specs.Views.{own_in}
+use Rattle.meeting_laws.specs.OwnThings.{Telling, what_concerns}
+use Rattle.meeting_laws.specs.WrongAnswers.{another, meeting_with}
+
+-- everybody's votes are told as the party's
+abbrev pub votes_of_all : Telling
+votes_of_all m closed party now = record (own_in m closed party now) { casts = m.casts }
+
+-- the party is told that it is present where anybody is
+abbrev pub presence_of_any : Telling
+presence_of_any m closed party now = record (own_in m closed party now) {
+  present = nat_lt 0 (length m.presences);
+}
+
+-- a demand, as though the party had made it
+abbrev pub as_demanded_by : Party → DemandMark → DemandMark
+as_demanded_by party demand = record demand { party = party }
+
+-- everybody's demands are told as though the party had made them: it learns how many there are, and
+-- nobody's name
+abbrev pub demands_of_all : Telling
+demands_of_all m closed party now = record (own_in m closed party now) {
+  demands = map (as_demanded_by party) m.demands;
+}
+
+-- the meeting of two members, in which nothing is received
+abbrev pub quiet_meeting : MeetingLists
+quiet_meeting = meeting_with []
+
+-- the same meeting, where the other member is present
+abbrev pub meeting_with_presence : MeetingLists
+meeting_with_presence = record quiet_meeting {
+  presences = record { party = another; moment = 0 } ∷ [];
+}
+
+-- the same meeting, where the other member demanded the poll
+abbrev pub meeting_with_demand : MeetingLists
+meeting_with_demand = record quiet_meeting {
+  demands = record { resolution = 1; party = another; moment = 0 } ∷ [];
+}
+
+-- two meetings that agree in what concerns a party are told apart by what it is told as its own
+pub record TellsMore (telling : Telling) (one other : MeetingLists) (party : Party) : Type 0 where
+  pub first : IsTrue (is_meeting one)
+  pub second : IsTrue (is_meeting other)
+  pub agree : what_concerns party one ≡ what_concerns party other
+  pub apart : telling one [] party 0 ≡ telling other [] party 0 → ⊥
