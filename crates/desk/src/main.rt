@@ -49,18 +49,14 @@ fn keys(rt: &HostRuntime, file: &str, csv: &str, zone: &OfficeZone) -> Result<En
     let mut desk = DiskDesk::open(rt, file)?;
     let now = now(rt, zone)?;
     let mut reader = open_reader(rt, csv)?;
-    let ended = desk.keys(rt.alloc(), now, &mut reader);
-    desk.close();
-    Ok(ended)
+    Ok(desk.keys(rt.alloc(), now, &mut reader))
 }
 
 fn days(rt: &HostRuntime, file: &str, txt: &str, zone: &OfficeZone) -> Result<Ended, Ended> {
     let mut desk = DiskDesk::open(rt, file)?;
     let now = now(rt, zone)?;
     let mut reader = open_reader(rt, txt)?;
-    let ended = desk.days(rt.alloc(), now, &mut reader);
-    desk.close();
-    Ok(ended)
+    Ok(desk.days(rt.alloc(), now, &mut reader))
 }
 
 fn register(
@@ -74,17 +70,13 @@ fn register(
     let mut desk = DiskDesk::open(rt, file)?;
     let now = now(rt, zone)?;
     let mut reader = open_reader(rt, csv)?;
-    let ended = desk.register(rt.alloc(), now, meeting, record_moment, &mut reader);
-    desk.close();
-    Ok(ended)
+    Ok(desk.register(rt.alloc(), now, meeting, record_moment, &mut reader))
 }
 
 fn results(rt: &HostRuntime, file: &str, meeting: MeetingId) -> Result<Ended, Ended> {
     let mut desk = DiskDesk::open(rt, file)?;
     let mut writer = WriteDevice::new(io::writer(rt));
-    let ended = desk.results(rt.alloc(), meeting, &mut writer);
-    desk.close();
-    Ok(ended)
+    Ok(desk.results(rt.alloc(), meeting, &mut writer))
 }
 
 fn replay(rt: &HostRuntime) -> Ended {

@@ -23,10 +23,12 @@ pub struct DiskDesk {
     pub(crate) desk: Desk<DeskFile>,
 }
 
-// It is written out, so that a caller does not prove again how each part is dropped.
+/// Copies what was committed from the log into the desk's file. Where that fails, it is in the log,
+/// and the next opening finds it there.
 impl Drop for DiskDesk {
     fn drop(self) {
-        let DiskDesk { desk: _ } = self;
+        let DiskDesk { desk } = self;
+        let _ = desk.close().close();
     }
 }
 
@@ -71,12 +73,5 @@ impl DiskDesk {
         let conn = connect(rt, file)?;
         let desk = open(rt.alloc(), conn)?;
         Ok(DiskDesk { desk })
-    }
-
-    /// Copies what was committed from the log into the desk's file. Where that fails, it is in the
-    /// log, and the next opening finds it there.
-    pub fn close(self) {
-        let DiskDesk { desk } = self;
-        let _ = desk.close().close();
     }
 }

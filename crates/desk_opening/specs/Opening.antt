@@ -12,8 +12,8 @@ use Rattle.desk_rows.specs.declared.kept.Version.{Version}
 use Rattle.desk_records.specs.Office.{office_in}
 use Rattle.desk_schema.specs.Statements.{ChangesNothing, IsRead}
 use Rattle.desk_records.specs.Standing.{IsVersionOne}
-use Rattle.desk_reading.specs.declared.fault.ReadFault.{ReadFault}
-use Rattle.desk_reading.specs.declared.fault.ReadFault.TheVariants as reading
+use Rattle.office_lists.specs.declared.fault.ReadFault.{ReadFault}
+use Rattle.office_lists.specs.declared.fault.ReadFault.TheVariants as reading
 use Rattle.desk_records.specs.Standing.{HasNoOffice, HasNoVersion, IsNewer}
 use Rattle.desk_opening.specs.declared.fault.OpenFault.{OpenFault}
 use Rattle.desk_opening.specs.declared.fault.OpenFault.TheVariants.{NotADesk, NewerVersion}

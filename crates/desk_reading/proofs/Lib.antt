@@ -1,5 +1,1 @@
-pub mod GivingLemmas
-pub mod ListLemmas
-pub mod OfficeLemmas
-pub mod OrderLemmas
 pub mod ReadingLemmas

@@ -13,9 +13,10 @@ use Rattle.desk_rows.specs.declared.fault.RowFault.TheVariants as row
 use Rattle.sqlite.specs.Order.{Row}
 use Rattle.desk_schema.specs.Statements.{ChangesNothing, IsDesk, IsRead, IsRising, TableOf, records_in, rows_of}
 use Rattle.desk_rows.proofs.MeaningLemmas.{bound}
-use Rattle.desk_reading.specs.declared.fault.ReadFault.{ReadFault}
-use Rattle.desk_reading.specs.declared.fault.ReadFault.TheVariants.{NoOffice, Store, Memory}
-use Rattle.desk_reading.specs.Reading.{IsCause, IsReading, Yields, any_at_all, fault_of_row}
+use Rattle.office_lists.specs.declared.fault.ReadFault.{ReadFault}
+use Rattle.office_lists.specs.declared.fault.ReadFault.TheVariants.{NoOffice, Store, Memory}
+use Rattle.desk_reading.specs.Reading.{IsReading}
+use Rattle.office_lists.specs.Yields.{IsCause, Yields, any_at_all, fault_of_row}
 
 pub desk_same : (old new : State) → IsUnchanged old new → IsDesk old → IsDesk new
 desk_same old new h desk =

@@ -1,3 +1,1 @@
-pub mod Giving
-pub mod Own
 pub mod Reading

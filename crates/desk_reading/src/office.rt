@@ -1,51 +1,14 @@
 //! The office that the tables are.
 ghost use Rattle.std.specs.Prelude.{◌≡◌};
-ghost use Rattle.std.specs.List.{list_all};
-ghost use Rattle.desk_reading.specs.Giving.{all_lists_own};
-ghost use Rattle.desk_reading.specs.Reading.{IsReading, Yields};
-ghost use Rattle.desk_records.specs.Office.{office_in, office_of};
-ghost use Rattle.desk_words.specs.Office.{is_meeting, is_office};
+ghost use Rattle.desk_reading.specs.Reading.{IsReading};
+ghost use Rattle.desk_records.specs.Office.{office_in};
+ghost use Rattle.desk_words.specs.Office.{is_office};
 
-use crate::fault::ReadFault;
-use crate::flat::{FlatRecords, read_flat};
-use crate::giving::meetings_with;
-use crate::lists::{day_list, key_rows};
-use crate::own::OwnRecords;
-use desk_words::{Listing, MeetingLists, OfficeLists};
+use crate::flat::read_flat;
+use desk_words::OfficeLists;
+use office_lists::{ReadFault, office_from};
 use sqlite::{Alter, Transaction};
 use std::alloc::Global;
-
-/// The lists of each meeting. The fault is `NoOffice` only where the records of one are no
-/// meeting's lists.
-fn lists_from(alloc: Global, all: Vec<OwnRecords>) -> Result<Listing<MeetingLists>, ReadFault>
-    ensures { Yields (list_all is_meeting) result (all_lists_own all.items) }
-{
-    let mut lists = Listing::new(alloc);
-    for own in all {
-        lists.push(own.into_lists(alloc)?)?;
-    }
-    Ok(lists)
-}
-
-/// The office that the records are. The fault is `NoOffice` only where they are no office's.
-fn office_from(alloc: Global, flat: FlatRecords) -> Result<OfficeLists, ReadFault>
-    ensures { Yields is_office result (office_of flat) }
-{
-    let FlatRecords {
-        keys,
-        closed,
-        meetings,
-        records,
-    } = flat;
-    let keys = key_rows(keys)?;
-    let closed = day_list(closed)?;
-    let meetings = meetings_with(alloc, meetings.as_slice(), records)?;
-    Ok(OfficeLists {
-        keys,
-        closed,
-        meetings: lists_from(alloc, meetings)?,
-    })
-}
 
 /// The office that the tables hold. The fault is `NoOffice` only where they hold none.
 pub fn read_office<S: Alter>(

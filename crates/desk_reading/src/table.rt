@@ -1,10 +1,10 @@
 //! What one table holds, read whole.
 ghost use Rattle.std.specs.Prelude.{◌≡◌, IfOk, refl};
-ghost use Rattle.desk_reading.specs.Reading.{IsReading, any_at_all};
+ghost use Rattle.desk_reading.specs.Reading.{IsReading};
 ghost use Rattle.desk_schema.specs.Contents as contents;
 ghost use Rattle.desk_schema.specs.Statements.{ChangesNothing, IsRead, Reads, TableOf, records_in};
+ghost use Rattle.office_lists.specs.Yields.{any_at_all};
 
-use crate::fault::ReadFault;
 use desk_rows::{FromRow, InMeeting, MeetingRow, NumberedResolution, Version, records};
 use desk_tables::{closed, desk, keys, meetings, register, resolutions};
 use desk_words::{
@@ -12,6 +12,7 @@ use desk_words::{
     RegisterRow,
 };
 use meeting_tables::{appointments, authorities, casts, demands, endings, polls, presences};
+use office_lists::ReadFault;
 use sqlite::{Alter, Error, Row, Transaction};
 use std::alloc::Global;
 

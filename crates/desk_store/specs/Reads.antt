@@ -13,7 +13,7 @@ use Rattle.desk_words.specs.declared.change.Change.{Change}
 use Rattle.desk_words.specs.declared.office.OfficeLists.{OfficeLists}
 use Rattle.desk_words.specs.declared.request.Call.{Call}
 use Rattle.desk_schema.specs.Statements.{ChangesNothing, IsRead}
-use Rattle.desk_reading.specs.declared.fault.ReadFault.{ReadFault}
+use Rattle.office_lists.specs.declared.fault.ReadFault.{ReadFault}
 use Rattle.desk_words.specs.Changes.{after_some, can_make}
 use Rattle.meeting_core.specs.Step.{decided}
 use Rattle.desk_changes.specs.Writes.{Holds}

@@ -32,12 +32,23 @@ use std::marker::Model;
 /// All that an office holds. Contracts see it as the lists of the office, and it always holds the
 /// lists of an office: `decide` says so of any book, and `new`, `apply`, `step` and `perform` of
 /// what they leave.
-#[derive(Drop)]
 pub struct Book {
     alloc: Global,
     keys: KeyRows,
     closed: Closed,
     meetings: Vec<MeetingLists>,
+}
+
+// It is written out, so that a caller does not prove again how each part is dropped.
+impl Drop for Book {
+    fn drop(self) {
+        let Book {
+            alloc: _,
+            keys: _,
+            closed: _,
+            meetings: _,
+        } = self;
+    }
 }
 
 impl Model for Book {

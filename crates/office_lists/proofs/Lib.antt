@@ -1,0 +1,4 @@
+pub mod GivingLemmas
+pub mod ListLemmas
+pub mod OfficeLemmas
+pub mod OrderLemmas

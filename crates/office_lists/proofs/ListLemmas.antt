@@ -1,0 +1,235 @@
+-- The lists of an office that rows are, and rows that are none.
+use Rattle.std.proofs.Common.{◌≡◌, ℕ, suc, ◌==◌, Bool, true, false, ◌&&◌, ◌||◌, if◌then◌else◌, nat_eq, ◌<◌, IsTrue, map, List, [], ◌∷◌, length, Option, Some, None, inl, inr, refl, sym, ap, subst, ◌∙◌, true≢false, arith}
+use Rattle.std.specs.Prelude.{◌↔◌, Contains, IsPermutation, Result, Err, nat_le, nat_lt, is_some}
+use Rattle.desk_words.specs.declared.lists.ListFault.{ListFault}
+use Rattle.desk_words.specs.declared.lists.ListFault.TheVariants.{Limit, Memory}
+use Rattle.std.specs.Cmp.{first_so, second_so}
+use Rattle.std.specs.Cmp.Derive.{both_true}
+use Rattle.std.specs.Cmp.Lexicographic.{nat_list_cmp_total, options_total}
+use Rattle.std.specs.List.{list_all}
+use Rattle.std.proofs.lemmas.Bool.{cases_Bool}
+use Rattle.std.proofs.lemmas.Bool.Decides.{nat_tests}
+use Rattle.std.proofs.lemmas.Cmp.{nat_cmp_total}
+use Rattle.std.proofs.lemmas.List.{length-map}
+use Rattle.std.proofs.lemmas.List.Sorted.{length_permutation, IsPermutation-sym}
+use Rattle.std.proofs.lemmas.Map.Made.{distinct_count-le}
+use Rattle.desk_lists.specs.Ordered.{ascends_by, differ_by}
+use Rattle.desk_lists.specs.Sorting.{insert_by, sort_by}
+use Rattle.desk_lists.proofs.Ascending.{differ_by_key-IsPermutation, differs-from_ascends_by, same_list-from_Contains}
+use Rattle.desk_lists.proofs.SortingLemmas.{IsPermutation-sort_by}
+use Rattle.desk_words.specs.Callers.{party_in}
+use Rattle.desk_words.specs.declared.caller.KeyRow.{KeyRow}
+use Rattle.desk_words.specs.declared.office.MeetingLists.{MeetingLists}
+use Rattle.desk_words.specs.declared.records.Poll.{Poll}
+use Rattle.desk_words.specs.declared.records.RegisterRow.{RegisterRow}
+use Rattle.desk_words.specs.declared.records.Resolution.{Resolution}
+use Rattle.desk_words.specs.Lists.{are_keys, are_resolutions, caller_before, day_before, day_count, is_day_list, is_key_list, keep_keys, key_list_of, same_caller, same_secret}
+use Rattle.desk_words.specs.Office.{are_appointments, are_authorities, are_casts, are_demands, are_endings, are_polls, implies, is_loaded_right, is_meeting, is_poll, no_rows, poll_before, same_presence}
+use Rattle.desk_words.specs.Registers.{are_holdings, is_register, keep_limits, member_before, register_of, same_member}
+use Rattle.desk_words.proofs.RegisterLimits.{keep_limits-permutation}
+use Rattle.desk_rows.specs.Meanings.{◌>>=◌, only}
+use Rattle.desk_rows.specs.declared.kept.NumberedResolution.{NumberedResolution}
+use Rattle.desk_records.specs.Office.{number_before, numbered_from}
+use Rattle.desk_rows.proofs.MeaningLemmas.{bound}
+use Rattle.std.proofs.lemmas.Bool.{and_parts}
+use Rattle.office_lists.specs.declared.fault.ReadFault.{ReadFault}
+use Rattle.office_lists.specs.declared.fault.ReadFault.TheVariants as fault
+use Rattle.office_lists.specs.declared.fault.ReadFault.TheVariants.{NoOffice}
+use Rattle.office_lists.specs.Yields.{IsCause}
+use Rattle.office_lists.specs.declared.own.OwnRecords.{OwnRecords}
+use Rattle.office_lists.specs.Own.{are_numbered_from, are_rows, lists_own, lists_own_with, resolution_of, resolutions_own}
+
+pub second_false : (a b : Bool) → b ≡ false → (a && b) ≡ false
+second_false true b h = h
+second_false false b h = refl
+
+-- what is either of two holds, where it is not the first
+made_so : {X : Type 0} (b : Bool) (x y : X) → ◌≡◌ {A = Option X} (if b then Some x else None) (Some y) → y ≡ x
+made_so true x y h = let same : x ≡ y = cc in sym same
+made_so false x y h = absurd cc
+
+none_so : {X : Type 0} (b : Bool) (x : X) → ◌≡◌ {A = Option X} (if b then Some x else None) None → b ≡ false
+none_so true x h = absurd cc
+none_so false x h = refl
+
+-- ---- keys
+
+keep_keys-permutation : (xs ys : List KeyRow) → IsPermutation xs ys → keep_keys xs ≡ true → keep_keys ys ≡ true
+keep_keys-permutation xs ys moved h =
+    both_true (ap (λ n. nat_le n 40000) (length_permutation xs ys moved) ∙ first_so (nat_le (length xs) 40000) (differ_by same_secret xs) h)
+    (differ_by_key-IsPermutation nat_list_cmp_total (λ (row : KeyRow). row.secret) xs ys moved ∙ second_so (nat_le (length xs) 40000) (differ_by same_secret xs) h)
+
+pub keys_made : (rows list : List KeyRow) → key_list_of rows ≡ Some list → Some (sort_by caller_before rows) ≡ Some list
+keys_made rows list h = ap (λ l. Some l) (sym (made_so (are_keys rows) (sort_by caller_before rows) list h))
+
+pub keys_refused : (rows : List KeyRow) → key_list_of rows ≡ None → is_key_list (sort_by caller_before rows) ≡ false
+keys_refused rows none =
+    let sorted = sort_by caller_before rows in
+    let moved = IsPermutation-sort_by caller_before rows in
+    elim (cases_Bool (is_key_list sorted)) [
+      | inl is ↦
+          let kept = keep_keys-permutation sorted rows (IsPermutation-sym rows sorted moved) (first_so (keep_keys sorted) (ascends_by caller_before sorted) is) in
+          let up = second_so (keep_keys sorted) (ascends_by caller_before sorted) is in
+          let total = options_total nat_list_cmp_total in
+          let callers : differ_by same_caller rows ≡ true =
+          sym (differ_by_key-IsPermutation total (λ (row : KeyRow). party_in row.caller) rows sorted moved) ∙ differs-from_ascends_by total (λ (row : KeyRow). party_in row.caller) sorted up in
+          absurd (true≢false (sym (both_true kept callers) ∙ none_so (are_keys rows) sorted none))
+      | inr other ↦ other
+    ]
+
+-- ---- registers
+
+pub register_made : (rows list : List RegisterRow) → register_of rows ≡ Some list → Some (sort_by member_before rows) ≡ Some list
+register_made rows list h = ap (λ l. Some l) (sym (made_so (are_holdings rows) (sort_by member_before rows) list h))
+
+sorted_some : (x : RegisterRow) (xs : List RegisterRow) → no_rows (insert_by member_before x xs) ≡ false
+sorted_some x [] = refl
+sorted_some x (y ∷ ys) = go (member_before x y)
+  where
+    go : (b : Bool) → no_rows (if b then x ∷ y ∷ ys else y ∷ insert_by member_before x ys) ≡ false
+    go true = refl
+    go false = refl
+
+some_rows : (rows : List RegisterRow) → (length rows == 0) ≡ false → no_rows (sort_by member_before rows) ≡ false
+some_rows [] h = absurd (true≢false h)
+some_rows (x ∷ xs) h = sorted_some x (sort_by member_before xs)
+
+pub register_refused : (rows : List RegisterRow) → (length rows == 0) ≡ false → register_of rows ≡ None → are_rows (sort_by member_before rows) ≡ false
+register_refused rows some none =
+    let sorted = sort_by member_before rows in
+    let moved = IsPermutation-sort_by member_before rows in
+    let no_register : is_register sorted ≡ false =
+    elim (cases_Bool (is_register sorted)) [
+      | inl is ↦
+          let kept = keep_limits-permutation sorted rows (IsPermutation-sym rows sorted moved) (first_so (keep_limits sorted) (ascends_by member_before sorted) is) in
+          let up = second_so (keep_limits sorted) (ascends_by member_before sorted) is in
+          let members : differ_by same_member rows ≡ true =
+          sym (differ_by_key-IsPermutation nat_list_cmp_total (λ (row : RegisterRow). row.member) rows sorted moved) ∙ differs-from_ascends_by nat_list_cmp_total (λ (row : RegisterRow). row.member) sorted up in
+          absurd (true≢false (sym (both_true kept members) ∙ none_so (are_holdings rows) sorted none))
+      | inr other ↦ other
+    ] in
+    ap (λ b. b || is_register sorted) (some_rows rows some) ∙ no_register
+
+-- ---- resolutions
+
+numbered_is : (n : ℕ) (rows : List NumberedResolution) → numbered_from n rows ≡ (if are_numbered_from n rows then Some (map resolution_of rows) else None)
+numbered_is n [] = refl
+numbered_is n (r ∷ rest) = go (r.number == n) (are_numbered_from (suc n) rest) (numbered_from (suc n) rest) (numbered_is (suc n) rest)
+  where
+    go : (b c : Bool) (o : Option (List Resolution)) → o ≡ (if c then Some (map resolution_of rest) else None)
+        → (only b >>= λ _. o >>= λ later. Some (r.resolution ∷ later)) ≡ (if b && c then Some (map resolution_of (r ∷ rest)) else None)
+    go true true o e = rw e refl
+    go true false o e = rw e refl
+    go false c o e = refl
+
+less_next : (a b n : ℕ) → (a == n) ≡ true → (b == suc n) ≡ true → nat_lt a b ≡ true
+less_next a b n h k = grind (arith, nat_tests)
+
+ascending : (n : ℕ) (rows : List NumberedResolution) → are_numbered_from n rows ≡ true → ascends_by number_before rows ≡ true
+ascending n [] h = refl
+ascending n (r ∷ []) h = refl
+ascending n (r ∷ s ∷ rest) h =
+    let first = and_parts (r.number == n) (are_numbered_from (suc n) (s ∷ rest)) h in
+    let next = and_parts (s.number == suc n) (are_numbered_from (suc (suc n)) rest) first.1 in
+    both_true (less_next r.number s.number n first.0 next.0) (ascending (suc n) (s ∷ rest) first.1)
+
+some_so : {X : Type 0} (b : Bool) (x y : X) → ◌≡◌ {A = Option X} (if b then Some x else None) (Some y) → (b ≡ true) × (y ≡ x)
+some_so true x y h = let same : x ≡ y = cc in (refl, sym same)
+some_so false x y h = absurd cc
+
+-- what is found of rows in order
+found_so : (rows : List NumberedResolution) (found : List Resolution) → resolutions_own rows ≡ Some found → (are_numbered_from 1 (sort_by number_before rows) ≡ true) × (found ≡ map resolution_of (sort_by number_before rows))
+found_so rows found h = some_so (are_numbered_from 1 (sort_by number_before rows)) (map resolution_of (sort_by number_before rows)) found (sym (numbered_is 1 (sort_by number_before rows)) ∙ h)
+
+-- where a number stands twice, they are not numbered 1, 2, ..
+pub numbers_refused : (rows : List NumberedResolution) → ascends_by number_before (sort_by number_before rows) ≡ false → (found : List Resolution) → resolutions_own rows ≡ Some found → are_resolutions found ≡ false
+numbers_refused rows falls found h = absurd (true≢false (sym (ascending 1 (sort_by number_before rows) (found_so rows found h).0) ∙ falls))
+
+pub wrong_numbers : (rows sorted : List NumberedResolution) → sorted ≡ sort_by number_before rows → are_numbered_from 1 sorted ≡ false → (found : List Resolution) → resolutions_own rows ≡ Some found → are_resolutions found ≡ false
+wrong_numbers rows sorted is wrong found h = absurd (true≢false (sym (found_so rows found h).0 ∙ ap (are_numbered_from 1) (sym is) ∙ wrong))
+
+pub too_many : (rows sorted : List NumberedResolution) → sorted ≡ sort_by number_before rows → nat_le (length sorted) 50 ≡ false → (found : List Resolution) → resolutions_own rows ≡ Some found → are_resolutions found ≡ false
+too_many rows sorted is many found h =
+    let count : length found ≡ length sorted = ap length (found_so rows found h).1 ∙ length-map (sort_by number_before rows) resolution_of ∙ ap length (sym is) in
+    second_false (nat_le 1 (length found)) (nat_le (length found) 50) (ap (λ n. nat_le n 50) count ∙ many)
+
+pub resolutions_made : (rows sorted : List NumberedResolution) (made : List Resolution) → sorted ≡ sort_by number_before rows → are_numbered_from 1 sorted ≡ true → made ≡ map resolution_of sorted → resolutions_own rows ≡ Some made
+resolutions_made rows sorted made is numbered same =
+    ap (numbered_from 1) (sym is) ∙ numbered_is 1 sorted ∙ ap (λ b. if b then Some (map resolution_of sorted) else None) numbered ∙ ap (λ l. Some l) (sym same)
+
+pub resolutions_refused : (rows sorted : List NumberedResolution) (made : List Resolution) → sorted ≡ sort_by number_before rows → made ≡ map resolution_of sorted → are_resolutions made ≡ false
+    → (found : List Resolution) → resolutions_own rows ≡ Some found → are_resolutions found ≡ false
+resolutions_refused rows sorted made is same wrong found h =
+    ap are_resolutions ((found_so rows found h).1 ∙ ap (map resolution_of) (sym is) ∙ sym same) ∙ wrong
+
+-- ---- days
+
+pub days_refused : (days : List ℕ) → 2000 < day_count days → is_day_list days ≡ false
+days_refused days many =
+    let le = distinct_count-le nat_eq days in
+    let wrong : nat_le (length days) 2000 ≡ false = grind (arith, nat_tests, le) in
+    ap (λ b. b && ascends_by day_before days) wrong
+
+pub days_made : (list days : List ℕ) → IsTrue (is_day_list list) → ascends_by day_before days ≡ true → ((day : ℕ) → Contains list day ↔ Contains days day) → list ≡ days
+days_made list days kept up same =
+    same_list-from_Contains nat_cmp_total (λ (day : ℕ). day) list days (second_so (nat_le (length list) 2000) (ascends_by day_before list) kept) up (λ z. (same z).0) (λ z. (same z).1)
+
+-- ---- the lists of a meeting
+
+-- where its resolutions are none
+pub resolutions_wrong : (own : OwnRecords) → ((found : List Resolution) → resolutions_own own.resolutions ≡ Some found → are_resolutions found ≡ false) → (m : MeetingLists) → lists_own own ≡ Some m → is_meeting m ≡ false
+resolutions_wrong own none m h =
+    let it = bound (resolutions_own own.resolutions) (λ rs. Some (lists_own_with own rs)) m h in
+    let same : lists_own_with own it.0 ≡ m = cc in
+    subst (λ (x : MeetingLists). is_meeting x ≡ false) same (rw (none it.0 it.1) refl)
+
+loaded_wrong : (m : MeetingLists) → are_rows m.register ≡ false → is_loaded_right m ≡ false
+loaded_wrong m none = go m.meeting.loaded (no_rows m.register) (is_register m.register) none
+  where
+    go : (loaded none_there register : Bool) → (none_there || register) ≡ false → ((if loaded then register else none_there) && implies (is_some m.meeting.opened) m.meeting.loaded) ≡ false
+    go loaded true register h = absurd (true≢false h)
+    go loaded false true h = absurd (true≢false h)
+    go true false false h = refl
+    go false false false h = refl
+
+-- where its rows are no register's
+pub rows_wrong : (own : OwnRecords) → are_rows (sort_by member_before own.register) ≡ false → (m : MeetingLists) → lists_own own ≡ Some m → is_meeting m ≡ false
+rows_wrong own none m h =
+    let it = bound (resolutions_own own.resolutions) (λ rs. Some (lists_own_with own rs)) m h in
+    let lists = lists_own_with own it.0 in
+    let same : lists ≡ m = cc in
+    subst (λ (x : MeetingLists). is_meeting x ≡ false) same (rw (second_false (are_resolutions it.0) (is_loaded_right lists) (loaded_wrong lists none)) refl)
+
+polls_wrong_order : (opened : Bool) (count : ℕ) (polls : List Poll) → ascends_by poll_before polls ≡ false → are_polls opened count polls ≡ false
+polls_wrong_order opened count [] h = absurd (true≢false h)
+polls_wrong_order opened count (p ∷ ps) h = second_false (opened && list_all (is_poll count) (p ∷ ps)) (ascends_by poll_before (p ∷ ps)) h
+
+-- where a poll stands twice
+pub polls_wrong : (own : OwnRecords) → ascends_by poll_before (sort_by poll_before own.polls) ≡ false → (m : MeetingLists) → lists_own own ≡ Some m → is_meeting m ≡ false
+polls_wrong own none m h =
+    let it = bound (resolutions_own own.resolutions) (λ rs. Some (lists_own_with own rs)) m h in
+    let lists = lists_own_with own it.0 in
+    let same : lists ≡ m = cc in
+    let count = length it.0 in
+    let before =
+    are_resolutions it.0 && is_loaded_right lists && are_appointments count lists.appointments && are_endings lists.appointments lists.endings
+    && are_authorities lists.authorities && differ_by same_presence lists.presences && are_demands count lists.demands in
+    let polls = are_polls (is_some lists.meeting.opened) count lists.polls in
+    subst (λ (x : MeetingLists). is_meeting x ≡ false) same
+    (ap (λ b. b && are_casts lists.polls lists.casts) (second_false before polls (polls_wrong_order (is_some lists.meeting.opened) count lists.polls none)))
+
+-- ---- what a list is refused for
+
+pub limit_so : {X : Type 0} {P : Type 0} (e : ListFault) → (◌≡◌ {A = Result X ListFault} (Err e) (Err Limit) ↔ P) → (◌≡◌ {A = Result X ListFault} (Err e) (Err Memory) → ⊥) → P
+limit_so Limit h other = h.0 refl
+limit_so Memory h other = absurd (other refl)
+
+pub wrong_for : {X : Type 0} (right : X → Bool) (y x : X) → Some y ≡ Some x → right y ≡ false → right x ≡ false
+wrong_for right y x h wrong = let same : y ≡ x = cc in subst (λ z. right z ≡ false) same wrong
+
+-- where a part is refused for a cause, the whole is
+pub cause_by : {X Y : Type 0} (part : X → Bool) (whole : Y → Bool) (e : ReadFault) (a : Option X) (b : Option Y)
+    → (((x : X) → a ≡ Some x → part x ≡ false) → (y : Y) → b ≡ Some y → whole y ≡ false) → IsCause part e a → IsCause whole e b
+cause_by part whole NoOffice a b leads h = leads h
+cause_by part whole fault.Store a b leads h = tt
+cause_by part whole fault.Memory a b leads h = tt

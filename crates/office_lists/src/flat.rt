@@ -1,0 +1,51 @@
+//! The records of the tables, each with its meeting.
+use desk_rows::{InMeeting, MeetingRow, NumberedResolution};
+use desk_words::{
+    Appointment, Authority, CastMark, Day, DemandMark, Ending, KeyRow, Listing, Poll, PresenceMark,
+    RegisterRow,
+};
+use std::marker::Model;
+
+/// The records that name a meeting, each list in the order of its table's rows.
+#[derive(Drop)]
+pub struct MeetingRecords {
+    pub resolutions: Listing<InMeeting<NumberedResolution>>,
+    pub register: Listing<InMeeting<RegisterRow>>,
+    pub appointments: Listing<InMeeting<Appointment>>,
+    pub endings: Listing<InMeeting<Ending>>,
+    pub authorities: Listing<InMeeting<Authority>>,
+    pub presences: Listing<InMeeting<PresenceMark>>,
+    pub demands: Listing<InMeeting<DemandMark>>,
+    pub polls: Listing<InMeeting<Poll>>,
+    pub casts: Listing<InMeeting<CastMark>>,
+}
+
+/// The records of the tables but that of the version, each list in the order of its table's rows.
+#[derive(Drop)]
+pub struct FlatRecords {
+    pub keys: Listing<KeyRow>,
+    pub closed: Listing<Day>,
+    pub meetings: Listing<MeetingRow>,
+    pub records: MeetingRecords,
+}
+
+impl Model for FlatRecords {
+    ghost use Rattle.desk_records.specs.Office.{FlatLists};
+
+    ghost Value = { FlatLists };
+
+    ghost view = { λ f. record {
+      keys = f.keys;
+      closed = f.closed;
+      meetings = f.meetings;
+      resolutions = f.records.resolutions;
+      register = f.records.register;
+      appointments = f.records.appointments;
+      endings = f.records.endings;
+      authorities = f.records.authorities;
+      presences = f.records.presences;
+      demands = f.records.demands;
+      polls = f.records.polls;
+      casts = f.records.casts;
+    } };
+}

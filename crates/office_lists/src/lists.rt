@@ -1,0 +1,185 @@
+//! The lists of an office, each put in its order.
+ghost use Rattle.std.specs.Prelude.{◌≡◌, ◌≤◌, Some, None, false, true, length, map, IfOk, IfSome};
+ghost use Rattle.desk_lists.specs.Ordered.{ascends_by};
+ghost use Rattle.desk_lists.specs.Sorting.{sort_by};
+ghost use Rattle.desk_words.specs.Lists.{are_resolutions, caller_before, day_before, is_day_list};
+ghost use Rattle.desk_words.specs.Lists.{is_key_list};
+ghost use Rattle.desk_words.specs.Office.{is_meeting, poll_before};
+ghost use Rattle.desk_words.specs.Registers.{member_before};
+ghost use Rattle.desk_words.specs.declared.limits.TheConstants.{MOST_RESOLUTIONS};
+ghost use Rattle.desk_records.specs.Office.{number_before};
+ghost use Rattle.office_lists.specs.Own.{are_numbered_from, are_rows, lists_own, resolution_of};
+ghost use Rattle.office_lists.specs.Own.{resolutions_own};
+ghost use Rattle.office_lists.specs.Yields.{Yields};
+
+use crate::fault::ReadFault;
+use crate::own::OwnRecords;
+use desk_lists::{ascend, into_order};
+use desk_rows::NumberedResolution;
+use desk_words::limits::MOST_RESOLUTIONS;
+use desk_words::{
+    Day, DayList, KeyRow, KeyRows, Listing, Meeting, MeetingLists, Poll, Register, RegisterRow,
+    Resolution, Resolutions,
+};
+use std::alloc::{AllocError, Global};
+
+/// The keys in the order of callers.
+pub fn key_rows(rows: Listing<KeyRow>) -> Result<KeyRows, ReadFault>
+    ensures { Yields is_key_list result (Some (sort_by caller_before rows)) }
+{
+    match KeyRows::new(rows.into_vec()) {
+        Ok(rows) => Ok(rows),
+        Err(_) => Err(ReadFault::NoOffice),
+    }
+}
+
+/// The days in order, or none where a day stands twice.
+fn days_in_order(days: Vec<Day>) -> Option<Vec<Day>>
+    ensures some { IfSome result (λ v. v.items ≡ sort_by day_before days.items) }
+    ensures ascending { IfSome result (λ v. ascends_by day_before v.items ≡ true) }
+    ensures none { result ≡ None
+        → ascends_by day_before (sort_by day_before days.items) ≡ false }
+{
+    let mut days = days;
+    days.sort_unstable_by_key(|day| *day);
+    if !days.is_sorted_by(|first, second| first.cmp(second).is_lt()) {
+        return None;
+    }
+    Some(days)
+}
+
+/// The closed days in order.
+pub fn day_list(days: Listing<Day>) -> Result<DayList, ReadFault>
+    ensures { Yields is_day_list result (Some (sort_by day_before days)) }
+{
+    let Some(days) = days_in_order(days.into_vec()) else {
+        return Err(ReadFault::NoOffice);
+    };
+    match DayList::new(days) {
+        Ok(days) => Ok(days),
+        Err(_) => Err(ReadFault::NoOffice),
+    }
+}
+
+/// The rows of a register in the order of members; there may be none.
+fn register_rows(rows: Listing<RegisterRow>) -> Result<Listing<RegisterRow>, ReadFault>
+    ensures { Yields are_rows result (Some (sort_by member_before rows)) }
+{
+    if rows.is_empty() {
+        return Ok(rows);
+    }
+    match Register::new(rows.into_vec()) {
+        Ok(register) => Ok(register.into_listing()),
+        Err(_) => Err(ReadFault::NoOffice),
+    }
+}
+
+/// The polls in the order of resolutions.
+fn poll_list(polls: Listing<Poll>) -> Result<Listing<Poll>, ReadFault>
+    ensures { Yields (ascends_by poll_before) result (Some (sort_by poll_before polls)) }
+{
+    let mut polls = polls.into_vec();
+    into_order(&mut polls);
+    if !ascend(&polls) {
+        return Err(ReadFault::NoOffice);
+    }
+    Ok(Listing::from_vec(polls))
+}
+
+/// The resolutions in the order of their numbers, or none where a number stands twice.
+fn numbers_in_order(rows: Vec<NumberedResolution>) -> Option<Vec<NumberedResolution>>
+    ensures some { IfSome result (λ v. v.items ≡ sort_by number_before rows.items) }
+    ensures none { result ≡ None
+        → ascends_by number_before (sort_by number_before rows.items) ≡ false }
+{
+    let mut rows = rows;
+    rows.sort_unstable_by_key(|row| row.number);
+    if !rows.is_sorted_by(|first, second| first.number.cmp(&second.number).is_lt()) {
+        return None;
+    }
+    Some(rows)
+}
+
+/// Whether the numbers are 1, 2, ..
+fn are_numbered(rows: &[NumberedResolution]) -> bool
+    requires { length rows.now ≤ MOST_RESOLUTIONS }
+    ensures { result ≡ are_numbered_from 1 rows.now }
+{
+    let mut wanted = 1;
+    for row in rows {
+        if row.number != wanted {
+            return false;
+        }
+        wanted += 1;
+    }
+    true
+}
+
+/// The resolutions without their numbers. The error is want of memory.
+fn without_numbers(
+    alloc: Global,
+    rows: Vec<NumberedResolution>,
+) -> Result<Vec<Resolution>, AllocError>
+    ensures { IfOk result (λ v. v.items ≡ map resolution_of rows.items) }
+{
+    let mut resolutions = Vec::new(alloc);
+    for row in rows {
+        resolutions.push(row.resolution)?;
+    }
+    Ok(resolutions)
+}
+
+/// The resolutions of a meeting, in the order of their numbers, which are 1, 2, ..
+fn resolution_list(
+    alloc: Global,
+    rows: Listing<NumberedResolution>,
+) -> Result<Resolutions, ReadFault>
+    ensures { Yields are_resolutions result (resolutions_own rows) }
+{
+    let Some(rows) = numbers_in_order(rows.into_vec()) else {
+        return Err(ReadFault::NoOffice);
+    };
+    if rows.len() > MOST_RESOLUTIONS {
+        return Err(ReadFault::NoOffice);
+    }
+    if !are_numbered(&rows) {
+        return Err(ReadFault::NoOffice);
+    }
+    let resolutions = without_numbers(alloc, rows)?;
+    match Resolutions::new(resolutions) {
+        Ok(resolutions) => Ok(resolutions),
+        Err(_) => Err(ReadFault::NoOffice),
+    }
+}
+
+impl OwnRecords {
+    /// The lists of the meeting. The fault is `NoOffice` only where its records are no
+    /// meeting's lists.
+    pub fn into_lists(self, alloc: Global) -> Result<MeetingLists, ReadFault>
+        ensures { Yields is_meeting result (lists_own self) }
+    {
+        let row = self.meeting;
+        let meeting = Meeting {
+            id: row.id,
+            company: row.company,
+            kind: row.kind,
+            given: row.given,
+            appointed: row.appointed,
+            record_moment: row.record_moment,
+            resolutions: resolution_list(alloc, self.resolutions)?,
+            loaded: row.loaded,
+            opened: row.opened,
+        };
+        Ok(MeetingLists {
+            meeting,
+            register: register_rows(self.register)?,
+            appointments: self.appointments,
+            endings: self.endings,
+            authorities: self.authorities,
+            presences: self.presences,
+            demands: self.demands,
+            polls: poll_list(self.polls)?,
+            casts: self.casts,
+        })
+    }
+}
