@@ -1,9 +1,10 @@
 -- The records that were reached, one after the other, are those of the text.
-use Rattle.std.proofs.Common.{◌≡◌, ◌≤◌, ◌+◌, ◌-◌, ℕ, zero, suc, Bool, true, false, cond, List, [], ◌∷◌, ◌++◌, length, Option, Some, None, refl, sym, ap, subst, ◌∙◌, arith, append-nil}
+use Rattle.std.proofs.Common.{◌≡◌, ◌<◌, ◌≤◌, ◌+◌, ◌-◌, ℕ, zero, suc, Bool, true, false, cond, List, [], ◌∷◌, ◌++◌, length, Option, Some, None, refl, sym, ap, subst, ◌∙◌, arith, append-nil}
+use Rattle.std.specs.Option.{unwrap_or}
 use Rattle.std.specs.Prelude.{◌==◌, ◌&&◌}
 use Rattle.std.proofs.lemmas.Bool.{false≢true}
 use Rattle.csv.specs.Machine.{Read, next_record, step, in_field, start_field, start_record, after_end, ends_with, ends_at_end, is_end, is_byte, fields_after, field_after}
-use Rattle.csv.specs.Reading.{Reached, records, records_from, records_next}
+use Rattle.csv.specs.Reading.{ReadRecord, Reached, records, records_from, records_next, source_of}
 use Rattle.csv.specs.declared.parser.Action.{Action}
 use Rattle.csv.specs.declared.parser.Action.TheVariants as act
 use Rattle.csv.specs.declared.parser.Config.{Config}
@@ -11,6 +12,8 @@ use Rattle.csv.specs.declared.parser.State.{State}
 use Rattle.csv.specs.declared.parser.State.TheVariants as st
 use Rattle.csv.specs.declared.parser.Terminator.{Terminator}
 use Rattle.csv.specs.declared.parser.Terminator.TheVariants as term
+use Rattle.csv.specs.declared.reader.Reader.{Reader}
+use Rattle.csv.proofs.ReadFacts.{rows-more}
 
 -- ---- after a record the end of the text ends no further one
 
@@ -66,7 +69,7 @@ step-quiet cfg st.AfterCr c = quiet-cond (c == 10) (st.StartRecord, act.Skip) (s
 -- ---- each record takes a byte, or the end of the text
 
 -- how many records the bytes that are left may still give
-abbrev left_after : State → List ℕ → ℕ
+abbrev pub left_after : State → List ℕ → ℕ
 left_after s xs = length xs + cond (ends_at_end s) 1 0
 
 last-shorter : (b : Bool) (fields : List (List ℕ)) (p : Read) → cond b (Some (fields, st.StartRecord, [])) None ≡ Some p → left_after p.1 p.2 + 1 ≤ 0 + cond b 1 0
@@ -106,6 +109,19 @@ reached-length cfg s xs (r ∷ rs) s2 ys h =
     let later = reached-length cfg h.0.1 h.0.2 rs s2 ys h.3 in
     let now = next-shorter cfg s [] [] xs h.0 h.1 in
     omega (arith, later, now)
+
+fewer-known : (s s2 : State) (known known2 : Option (List ℕ)) (y z : List ℕ) → known ≡ Some y → known2 ≡ Some z → left_after s2 z < left_after s y
+    → left_after s2 (unwrap_or known2 []) < left_after s (unwrap_or known [])
+fewer-known s s2 known known2 y z is is2 h = rw (is, is2) h
+
+-- where a reader has read a record, fewer may still come
+pub fewer-left : {R : Type 0} (rem : R → Option (List ℕ)) (a b : Reader R) (fields : List (List ℕ)) (cfg : Config) (y : List ℕ) → a.config ≡ cfg → source_of rem a ≡ Some y → ReadRecord rem a b true fields
+    → left_after b.state (unwrap_or (source_of rem b) []) < left_after a.state (unwrap_or (source_of rem a) [])
+unfolding Reached
+fewer-left rem a b fields cfg y config known read =
+    let m = rows-more rem a b fields cfg a.state y y [] config known (refl, refl) read in
+    let taken : 1 + left_after b.state m.0 ≤ left_after a.state y = reached-length cfg a.state y (fields ∷ []) b.state m.0 m.2 in
+    fewer-known a.state b.state (source_of rem a) (source_of rem b) y m.0 known m.1 (omega (arith, taken))
 
 -- ---- the records of the text
 

@@ -1,8 +1,11 @@
 -- Files of records: a header, and rows under it.
-use Rattle.std.specs.Prelude.{ℕ, ◌+◌, Bool, List, [], ◌∷◌, ◌++◌, length, fold, Option, Some, None, Result, Ok, Err, if◌then◌else◌}
+use Rattle.std.specs.Prelude.{◌≡◌, ℕ, ◌+◌, true, Bool, List, [], ◌∷◌, ◌++◌, length, fold, Option, Some, None, Result, Ok, Err, if◌then◌else◌}
+use Rattle.std.specs.Borrow.{Bor}
 use Rattle.std.specs.Option.{unwrap_or}
-use Rattle.csv.specs.Reading.{default_config, records, strip_bom}
+use Rattle.csv.specs.Reading.{Ready, default_config, is_flexible, reader_config, reader_trim, records, strip_bom}
 use Rattle.csv.specs.Records.{field_at}
+use Rattle.csv.specs.declared.reader.Reader.{Reader}
+use Rattle.csv.specs.declared.reader.Trim.TheVariants as trim
 use Rattle.desk_files.specs.declared.fault.FileFault.{FileFault}
 use Rattle.desk_files.specs.declared.fault.FileFault.TheVariants.{BadRow}
 use Rattle.desk_files.specs.declared.fault.Why.TheVariants as why
@@ -11,6 +14,17 @@ use Rattle.desk_files.specs.Faults.{◌>>=◌}
 -- the records of a text, as `csv` reads them, a byte order mark at its front dropped
 abbrev pub records_of : List ℕ → List (List (List ℕ))
 records_of text = records default_config (strip_bom text)
+
+-- the bytes that are left of a slice
+abbrev pub left_of_slice : Bor (List ℕ) → Option (List ℕ)
+left_of_slice slice = Some slice.now
+
+-- each read is of one record, with the fields as they stand, however many there are
+pub record ReadsRecords (reader : Reader (Bor (List ℕ))) : Type 0 where
+  pub one_each : Ready reader
+  pub untrimmed : reader_trim reader ≡ trim.None
+  pub of_any_length : is_flexible reader ≡ true
+  pub by_default : reader_config reader ≡ default_config
 
 -- the field of a record in a column, counted from 0; nothing where the record has no such field
 abbrev pub column : ℕ → List (List ℕ) → List ℕ

@@ -1,11 +1,13 @@
 //! Files of records: a header, and rows under it.
-ghost use Rattle.std.specs.Prelude.{◌≡◌, [], option_map};
+ghost use Rattle.std.specs.Prelude.{◌≡◌, [], true, option_map, IfOk, OnErr, OnOk};
+ghost use Rattle.csv.specs.Reading.{ReadRecord, has_failed};
 ghost use Rattle.csv.specs.Records.{fields_of};
 ghost use Rattle.desk_files.specs.Faults.{Gives};
-ghost use Rattle.desk_files.specs.Tables.{one_record_more, one_row_more, table_of, under_header};
+ghost use Rattle.desk_files.specs.Tables.{ReadsRecords, left_of_slice, one_record_more, one_row_more};
+ghost use Rattle.desk_files.specs.Tables.{table_of, under_header};
 
 use crate::fault::{FileFault, Why};
-use csv::{ByteRecord, ReaderBuilder};
+use csv::{ByteRecord, ErrorKind, Reader, ReaderBuilder};
 use std::alloc::{AllocError, Global};
 
 /// What is gathered of the rows of a file, one record after another.
@@ -72,6 +74,29 @@ fn under_header<T: Gather>(found: Option<T>) -> Result<T, FileFault>
     })
 }
 
+/// Reads the next record of a slice, and says whether there is one. The error says that the reader
+/// has stopped. It stops for want of memory, and where a read fails, which over a slice none does; a
+/// record may have any number of fields.
+fn next_record(reader: &mut Reader<&[u8]>, fields: &mut ByteRecord) -> Result<bool, AllocError>
+    requires { ReadsRecords reader.old }
+    ensures reads { IfOk result
+        (λ found. ReadRecord left_of_slice reader.old reader.new found (fields_of fields.new)) }
+    ensures goes_on { OnOk result (ReadsRecords reader.new) }
+    ensures stopped { OnErr result (has_failed reader.new ≡ true) }
+{
+    let error = match reader.read_byte_record(fields) {
+        Ok(found) => return Ok(found),
+        Err(error) => error,
+    };
+    match error.kind() {
+        ErrorKind::OutOfMemory | ErrorKind::Io(_) => Err(AllocError),
+        ErrorKind::UnequalLengths { .. }
+        | ErrorKind::Utf8 { .. }
+        | ErrorKind::Serialize(_)
+        | ErrorKind::Deserialize { .. } => unreachable!(),
+    }
+}
+
 /// What is gathered of the records under the header of a file: its rows, or its first fault.
 pub(crate) fn rows_under_header<T: Gather>(alloc: Global, bytes: &[u8]) -> Result<T, FileFault>
     ensures { Gives T.seen result (table_of T.names_columns T.row_after bytes.now) }
@@ -83,18 +108,11 @@ pub(crate) fn rows_under_header<T: Gather>(alloc: Global, bytes: &[u8]) -> Resul
     // One record serves for all, so that none is copied.
     let mut fields = ByteRecord::new(alloc);
     let mut found = None;
-    for _ in 0..bytes.len() + 1 {
-        // Over a slice no read fails, so an error is of memory.
-        let Ok(another) = reader.read_byte_record(&mut fields) else {
-            return Err(FileFault::Memory);
-        };
-        if !another {
-            return under_header(found);
-        }
+    while next_record(&mut reader, &mut fields)? {
         found = match one_record_more(alloc, bytes.len(), found, &fields) {
             Ok(more) => more,
             Err(fault) => return Err(fault),
         };
     }
-    Err(FileFault::Memory)
+    under_header(found)
 }
