@@ -1,6 +1,7 @@
 mod AnyLemmas
 mod CapacityLemmas
 mod GovernedLemmas
+mod LoadLemmas
 mod MemberRows
 mod NamedLemmas
 mod NumberLemmas

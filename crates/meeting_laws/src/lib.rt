@@ -2,6 +2,7 @@
 //! told in a meeting agrees with its rules.
 #![tactic(auto)]
 
+mod loads;
 mod own_things;
 mod refusals;
 mod worlds;
@@ -9,6 +10,7 @@ mod worlds;
 ghost use Rattle.meeting_laws.specs.Laws.{DemandsByCapacity};
 ghost use Rattle.meeting_laws.specs.Secrecy.{TheOfficeIsToldOfNoVotes, VotesAreNotPublic};
 
+pub use loads::{loads_act_once, loads_that_act_twice_are_caught};
 pub use own_things::{
     others_things_are_caught, own_things_are_ones_own, own_things_tell_what_governs,
 };
