@@ -9,6 +9,7 @@ mod OrderLemmas
 mod OwnThingsLemmas
 mod PlaceLemmas
 mod ProxyLemmas
+mod ReadLemmas
 mod SecrecyLemmas
 mod WorldLemmas
 mod WrongAnswers
