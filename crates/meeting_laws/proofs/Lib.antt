@@ -1,5 +1,6 @@
 mod AnyLemmas
 mod CapacityLemmas
+mod CastLemmas
 mod GovernedLemmas
 mod LoadLemmas
 mod MemberRows

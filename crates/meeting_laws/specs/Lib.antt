@@ -2,6 +2,7 @@ pub mod Laws
 pub mod Loads
 pub mod Names
 pub mod OwnThings
+pub mod Proxies
 pub mod Reads
 pub mod Refusals
 pub mod Secrecy
