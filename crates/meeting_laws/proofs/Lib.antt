@@ -1,6 +1,8 @@
 mod AnyLemmas
 mod CapacityLemmas
+mod CastLemmas
 mod GovernedLemmas
+mod LoadLemmas
 mod MemberRows
 mod NamedLemmas
 mod NumberLemmas
@@ -8,6 +10,7 @@ mod OrderLemmas
 mod OwnThingsLemmas
 mod PlaceLemmas
 mod ProxyLemmas
+mod ReadLemmas
 mod SecrecyLemmas
 mod WorldLemmas
 mod WrongAnswers

@@ -1,9 +1,10 @@
 -- Whether any place of 1 to n passes a test.
-use Rattle.std.proofs.Common.{◌≡◌, ℕ, zero, suc, ◌+◌, Bool, true, false, not, ◌&&◌, ◌||◌, cond, List, [], ◌∷◌, refl, sym, ap, ◌∙◌, arith, add-zero}
-use Rattle.std.specs.Prelude.{nat_lt, ◌==◌}
+use Rattle.std.proofs.Common.{◌≡◌, ℕ, zero, suc, ◌+◌, ◌≤◌, Bool, true, false, not, ◌&&◌, ◌||◌, cond, List, [], ◌∷◌, refl, sym, ap, ◌∙◌, arith, add-zero}
+use Rattle.std.specs.Prelude.{nat_eq, nat_lt, ◌==◌}
 use Rattle.std.specs.List.{list_any}
 use Rattle.std.proofs.Math.Bool.{or-false, or-true}
-use Rattle.std.proofs.lemmas.Bool.{lt-ltb}
+use Rattle.std.proofs.lemmas.Bool.{lt-ltb, or_right}
+use Rattle.std.proofs.lemmas.Bool.Decides.{nat_tests}
 use Rattle.desk_terms.specs.Places.{Places, places_that}
 use Rattle.proxy_rules.specs.Runs.{joined, runs_that}
 use Rattle.caller_view.specs.Rights.{no_runs}
@@ -37,6 +38,38 @@ some_place-any test xs (suc n) =
     ∙ any-either (λ x. some_place (test x) n) (λ x. test x (suc n)) xs
     ∙ ap (λ b. b || list_any (λ x. test x (suc n)) xs) (some_place-any test xs n)
     ∙ sym (last_too (places_that (λ place. list_any (λ x. test x place) xs) n) (list_any (λ x. test x (suc n)) xs))
+
+-- a place that passes is one of those that do
+pub some_place-is : (test : ℕ → Bool) (n place : ℕ) → 1 ≤ place → place ≤ n → test place ≡ true → some_place test n ≡ true
+some_place-is test zero place one below passes = absurd (omega (arith, one, below))
+some_place-is test (suc n) place one below passes =
+    last_too (places_that test n) (test (suc n))
+    ∙ (elim (nat_eq place (suc n)) as (λ b. nat_eq place (suc n) ≡ b → (some_place test n || test (suc n)) ≡ true) [
+      | true ↦ λ same.
+          let is : place ≡ suc n = grind (arith, nat_tests, same) in
+          or_right (some_place test n) (test (suc n)) (ap test (sym is) ∙ passes)
+      | false ↦ λ other.
+          let before : place ≤ n = grind (arith, nat_tests, other, below) in
+          ap (λ b. b || test (suc n)) (some_place-is test n place one before passes)
+    ]) refl
+
+-- a place of 1 to n that passes
+pub record Passing (test : ℕ → Bool) (n : ℕ) : Type 0 where
+  pub place : ℕ
+  pub one : 1 ≤ place
+  pub below : place ≤ n
+  pub passes : test place ≡ true
+
+-- where some place passes, there is one that does
+pub some_place-found : (test : ℕ → Bool) (n : ℕ) → some_place test n ≡ true → Passing test n
+some_place-found test zero h = absurd (cc)
+some_place-found test (suc n) h =
+    (elim (test (suc n)) as (λ b. test (suc n) ≡ b → (some_place test n || b) ≡ true → Passing test (suc n)) [
+      | true ↦ λ passes _. record { place = suc n; one = omega arith; below = omega arith; passes = passes }
+      | false ↦ λ fails some.
+          let found = some_place-found test n (sym (or-false (some_place test n)) ∙ some) in
+          record { place = found.place; one = found.one; below = omega (arith, found.below); passes = found.passes }
+    ]) refl (sym (last_too (places_that test n) (test (suc n))) ∙ h)
 
 -- ---- runs
 

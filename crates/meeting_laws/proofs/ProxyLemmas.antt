@@ -83,40 +83,40 @@ governing-own cutoffs shares given ended member place a governing =
     let last = kept_is (is_ended cutoffs holding) (last_over cutoffs holding place) a (share_is (has_share holding place) (option_and_then (unended cutoffs holding) (last_over cutoffs holding place)) a governing) in
     In-filter (is_given_by member) given a (In-reverse (filter (is_given_by member) given) a (In-find (is_over cutoffs place) (reverse (filter (is_given_by member) given)) a last))
 
--- ---- the proxy that governs
+-- ---- what governs passes a test
 
--- the appointment names the person, is the member's, and has the number of the one found
-abbrev is_found : List ℕ → List ℕ → Option Appointment → Appointment → Bool
-is_found person member found a =
-    same_name a.proxy person && (same_name member a.member && option_map_or (λ (b : Appointment). b.number == a.number) found false)
+-- the appointment passes a test, is the member's, and has the number of the one found
+abbrev is_found : (Appointment → Bool) → List ℕ → Option Appointment → Appointment → Bool
+is_found test member found a =
+    test a && (same_name member a.member && option_map_or (λ (b : Appointment). b.number == a.number) found false)
 
--- some appointment that names the person is the one found exactly where the one found names the person
-found-named : (given : List Appointment) (person member : List ℕ) (found : Option Appointment) → are_numbered_after [] given ≡ true
+-- some appointment that passes is the one found exactly where the one found passes
+found-passing : (given : List Appointment) (test : Appointment → Bool) (member : List ℕ) (found : Option Appointment) → are_numbered_after [] given ≡ true
     → ((a : Appointment) → found ≡ Some a → Kept (is_given_by member) given a)
-    → list_any (is_found person member found) given ≡ option_map_or (λ (a : Appointment). same_name a.proxy person) found false
-found-named given person member None numbered each =
-    ap (λ test. list_any test given) (λ i (a : Appointment). nobody (same_name a.proxy person) (same_name member a.member) i)
+    → list_any (is_found test member found) given ≡ option_map_or test found false
+found-passing given test member None numbered each =
+    ap (λ passes. list_any passes given) (λ i (a : Appointment). nobody (test a) (same_name member a.member) i)
     ∙ any-none given
   where
     nobody : (a b : Bool) → (a && (b && false)) ≡ false
     nobody a b = ap (λ c. a && c) (and-false b) ∙ and-false a
-found-named given person member (Some b) numbered each =
+found-passing given test member (Some b) numbered each =
     let own = each b refl in
-    both_ways (list_any (is_found person member (Some b)) given) (same_name b.proxy person)
+    both_ways (list_any (is_found test member (Some b)) given) (test b)
     (λ some.
-    let found = In-any (is_found person member (Some b)) given some in
+    let found = In-any (is_found test member (Some b)) given some in
     let a = found.0 in
     let passes = found.1.1 in
-    let names = first_so (same_name a.proxy person) (same_name member a.member && b.number == a.number) passes in
-    let rest = second_so (same_name a.proxy person) (same_name member a.member && b.number == a.number) passes in
+    let tested = first_so (test a) (same_name member a.member && b.number == a.number) passes in
+    let rest = second_so (test a) (same_name member a.member && b.number == a.number) passes in
     let of_member = same_name-sym a.member member ∙ first_so (same_name member a.member) (b.number == a.number) rest in
     let number = eqb-true b.number a.number (second_so (same_name member a.member) (b.number == a.number) rest) in
     let same = same_appointment given b a member numbered own.here found.1.0 own.passes of_member number in
-    ap (λ (c : Appointment). same_name c.proxy person) same ∙ names)
-    (λ names.
+    ap test same ∙ tested)
+    (λ tested.
     let of_member = same_name-sym member b.member ∙ own.passes in
-    any-In (is_found person member (Some b)) given b own.here
-    (and_from (same_name b.proxy person) (same_name member b.member && b.number == b.number) names
+    any-In (is_found test member (Some b)) given b own.here
+    (and_from (test b) (same_name member b.member && b.number == b.number) tested
     (and_from (same_name member b.member) (b.number == b.number) of_member (eq-eqb b.number b.number refl))))
 
 module _ (cutoffs : Cutoffs) (shares : ℕ) (given : List Appointment) (ended : List Ending) (member : List ℕ) where
@@ -131,12 +131,18 @@ module _ (cutoffs : Cutoffs) (shares : ℕ) (given : List Appointment) (ended : 
         | false ↦ λ e. refl
       ]) refl
 
+  -- some appointment that passes governs the place exactly where the one that governs it passes
+  pub governing-passing : (test : Appointment → Bool) (place : ℕ) → are_numbered_after [] given ≡ true
+      → list_any (λ a. test a && (same_name member a.member && governs cutoffs (holding_with shares given ended a.member) a.number place)) given
+      ≡ option_map_or test (governing_in cutoffs (holding_with shares given ended member) place) false
+  governing-passing test place numbered =
+      ap (λ passes. list_any passes given)
+      (λ i (a : Appointment). test a && of_the_member a.member a.number place i)
+      ∙ found-passing given test member (governing_in cutoffs (holding_with shares given ended member) place) numbered
+      (governing-own cutoffs shares given ended member place)
+
   -- some appointment that names the person governs the place exactly where the one that governs it names the person
   pub governing-named : (person : List ℕ) (place : ℕ) → are_numbered_after [] given ≡ true
       → list_any (λ a. same_name a.proxy person && (same_name member a.member && governs cutoffs (holding_with shares given ended a.member) a.number place)) given
       ≡ is_proxy_at cutoffs (holding_with shares given ended member) person place
-  governing-named person place numbered =
-      ap (λ test. list_any test given)
-      (λ i (a : Appointment). same_name a.proxy person && of_the_member a.member a.number place i)
-      ∙ found-named given person member (governing_in cutoffs (holding_with shares given ended member) place) numbered
-      (governing-own cutoffs shares given ended member place)
+  governing-named person place numbered = governing-passing (λ a. same_name a.proxy person) place numbered

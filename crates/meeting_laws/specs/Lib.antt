@@ -1,8 +1,12 @@
 pub mod Laws
+pub mod Loads
 pub mod Names
 pub mod OwnThings
+pub mod Proxies
+pub mod Reads
 pub mod Refusals
 pub mod Secrecy
 pub mod Worlds
 pub mod WrongAnswers
+pub mod WrongLoads
 pub mod WrongOwnThings

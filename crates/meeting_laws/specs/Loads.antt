@@ -1,0 +1,63 @@
+-- Loads: a file that comes twice in turn acts once.
+use Rattle.std.specs.Prelude.{◌≡◌, Bool, true, false, nat_le}
+use Rattle.desk_words.specs.Changes.{after_some}
+use Rattle.desk_words.specs.Rulings.{replied}
+use Rattle.desk_words.specs.Seen.{Moment}
+use Rattle.desk_words.specs.declared.answer.Answer.{Answer}
+use Rattle.desk_words.specs.declared.change.Change.{Change}
+use Rattle.desk_words.specs.declared.office.OfficeLists.{OfficeLists}
+use Rattle.desk_words.specs.declared.reply.Reply.{Reply}
+use Rattle.desk_words.specs.declared.reply.Reply.TheVariants as reply
+use Rattle.desk_words.specs.declared.request.Call.{Call}
+use Rattle.desk_words.specs.declared.request.DeskRequest.TheVariants as desk
+use Rattle.desk_words.specs.declared.request.OfficeRequest.TheVariants.{LoadRegister}
+use Rattle.desk_words.specs.declared.request.Request.{Request}
+use Rattle.desk_words.specs.declared.request.Request.TheVariants as asked
+use Rattle.meeting_core.specs.Step.{decided, stepped}
+
+-- what decides calls: from an office and a call, a reply and at most one change
+abbrev pub Deciding : Type 0
+Deciding = OfficeLists → Call → Answer Change
+
+-- the office after a call that is so decided
+abbrev pub after_call : Deciding → OfficeLists → Call → OfficeLists
+after_call deciding office call = after_some office (deciding office call).change
+
+-- closed days, keys or the register of a meeting are to be loaded (sections 1173 and 113)
+abbrev pub is_load : Request → Bool
+is_load (asked.Desk (desk.ClosedDays days)) = true
+is_load (asked.Desk (desk.Keys rows)) = true
+is_load (asked.Office meeting (LoadRegister new)) = true
+is_load other = false
+
+-- a load is accepted: it is loaded, or it is what is held
+abbrev pub accepts_load : Reply → Bool
+accepts_load reply.Loaded = true
+accepts_load reply.Same = true
+accepts_load other = false
+
+-- the moment at which a load comes again is in turn: for closed days and keys any, for a register,
+-- which may come too early, the same or a later one (section 113)
+abbrev pub is_in_turn : Request → Moment → Moment → Bool
+is_in_turn (asked.Desk what) first again = true
+is_in_turn other first again = nat_le first again
+
+-- the same call at another moment
+abbrev pub again_at : Moment → Call → Call
+again_at moment call = record call { moment = moment }
+
+-- a load that was accepted and comes again in turn is answered as the same, without a change
+abbrev pub AnswersSameAgain : Deciding → Type 0
+AnswersSameAgain deciding =
+    (office : OfficeLists) (call : Call) (again : Moment) → is_load call.request ≡ true
+    → accepts_load (deciding office call).reply ≡ true
+    → is_in_turn call.request call.moment again ≡ true
+    → deciding (after_call deciding office call) (again_at again call) ≡ replied reply.Same
+
+-- so two such loads in turn leave the office that one of them leaves
+abbrev pub LeavesTheOfficeOfOne : Type 0
+LeavesTheOfficeOfOne =
+    (office : OfficeLists) (call : Call) (again : Moment) → is_load call.request ≡ true
+    → accepts_load (decided office call).reply ≡ true
+    → is_in_turn call.request call.moment again ≡ true
+    → stepped (stepped office call) (again_at again call) ≡ stepped office call

@@ -1,0 +1,63 @@
+-- Wrong ways to decide loads, and an office and a load that each of them acts on twice.
+use Rattle.std.specs.Prelude.{◌≡◌, IsTrue, [], ◌∷◌, Option, Some, None}
+use Rattle.desk_words.specs.Office.{is_office}
+use Rattle.desk_words.specs.Rulings.{replied}
+use Rattle.desk_words.specs.Seen.{Moment}
+use Rattle.desk_words.specs.declared.answer.Answer.{Answer}
+use Rattle.desk_words.specs.declared.caller.Caller.TheVariants as caller
+use Rattle.desk_words.specs.declared.change.Change.{Change}
+use Rattle.desk_words.specs.declared.change.Change.TheVariants.{InMeeting, SetClosedDays, SetKeys}
+use Rattle.desk_words.specs.declared.change.MeetingChange.TheVariants.{SetRegister}
+use Rattle.desk_words.specs.declared.office.OfficeLists.{OfficeLists}
+use Rattle.desk_words.specs.declared.reply.Reply.{Reply}
+use Rattle.desk_words.specs.declared.reply.Reply.TheVariants as reply
+use Rattle.desk_words.specs.declared.request.Call.{Call}
+use Rattle.desk_words.specs.declared.request.DeskRequest.TheVariants as desk
+use Rattle.desk_words.specs.declared.request.OfficeRequest.TheVariants.{LoadRegister}
+use Rattle.desk_words.specs.declared.request.Request.{Request}
+use Rattle.desk_words.specs.declared.request.Request.TheVariants as asked
+use Rattle.meeting_core.specs.Step.{decided}
+use Rattle.meeting_laws.specs.Loads.{Deciding, accepts_load, after_call, again_at, is_in_turn, is_load}
+
+-- the change that a load makes, were it held or not
+abbrev pub change_by : Request → Option Change
+change_by (asked.Desk (desk.ClosedDays days)) = Some (SetClosedDays days)
+change_by (asked.Desk (desk.Keys rows)) = Some (SetKeys rows)
+change_by (asked.Office meeting (LoadRegister new)) =
+    Some (InMeeting meeting (SetRegister new.rows))
+change_by other = None
+
+-- the answer, but what is held is answered so
+abbrev pub where_held : Answer Change → Answer Change → Reply → Answer Change
+where_held wrong right reply.Same = wrong
+where_held wrong right other = right
+
+-- what is held is loaded once more
+abbrev pub loads_anew : Deciding
+loads_anew office call =
+    let right = decided office call in where_held
+    (record { reply = reply.Loaded; change = change_by call.request }) right right.reply
+
+-- what is held is told to be the same, and is written once more
+abbrev pub writes_anew : Deciding
+writes_anew office call =
+    let right = decided office call in where_held
+    (record { reply = reply.Same; change = change_by call.request }) right right.reply
+
+-- the load of one closed day
+abbrev pub a_load : Call
+a_load = record {
+  moment = 0;
+  caller = caller.Office;
+  request = asked.Desk (desk.ClosedDays (1 ∷ []));
+}
+
+-- a load that was accepted in an office acts again when it comes again in turn
+pub record ActsTwice (deciding : Deciding) (office : OfficeLists) (call : Call) (again : Moment)
+    : Type 0 where
+  pub is_one : IsTrue (is_office office)
+  pub load : IsTrue (is_load call.request)
+  pub accepted : IsTrue (accepts_load (deciding office call).reply)
+  pub in_turn : IsTrue (is_in_turn call.request call.moment again)
+  pub acts : deciding (after_call deciding office call) (again_at again call)
+      ≡ replied reply.Same → ⊥

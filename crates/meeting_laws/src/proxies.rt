@@ -1,0 +1,11 @@
+//! Which proxy a vote is ruled by.
+ghost use Rattle.meeting_laws.specs.Proxies.{InstructionsBindByTheRules, ProxiesGovernByTheRules};
+
+/// A party governs a member's share for a poll, late or not, as is read from its own things alone,
+/// exactly where the appointment that governs the share by the rules names it; and its vote as
+/// proxy is against an instruction exactly where such an appointment instructs it otherwise on some
+/// share of the range.
+pub fn proxies_cast_by_the_rules()
+    ensures governs { ProxiesGovernByTheRules }
+    ensures instructed { InstructionsBindByTheRules }
+{}
