@@ -1,5 +1,5 @@
 -- A call that is decided, and written.
-use Rattle.std.proofs.Common.{◌≡◌, true, Option, Some, None, Ok, Err, Result, IsTrue, sym, ap, subst, ◌∙◌, arith}
+use Rattle.std.proofs.Common.{◌≡◌, true, Option, Some, None, Ok, Err, Result, IsErr, IsTrue, sym, ap, subst, ◌∙◌, arith}
 use Rattle.sqlite.specs.declared.error.Error.{Error}
 use Rattle.sqlite.specs.Held.{Held, state}
 use Rattle.sqlite.specs.State.{HasCleanDisk, KeepsCommit}
@@ -8,7 +8,6 @@ use Rattle.desk_words.specs.Office.{is_office}
 use Rattle.desk_words.specs.declared.answer.Answer.{Answer}
 use Rattle.desk_words.specs.declared.change.Change.{Change}
 use Rattle.desk_words.specs.declared.office.OfficeLists.{OfficeLists}
-use Rattle.desk_words.specs.declared.reply.Reply.{Reply}
 use Rattle.office_lists.specs.declared.fault.ReadFault.{ReadFault}
 use Rattle.desk_words.specs.declared.request.Call.{Call}
 use Rattle.desk_reading.proofs.ReadingLemmas.{keeps_then}
@@ -26,25 +25,24 @@ decided_makes law office call None is before later = before
 decided_makes law office call (Some change) is before later = law office call change is before later
 
 -- what is decided of the office that was read is told of it
-pub answer_told : {S : Type 0} (g : store.Ghosts S) (a b : Held S) (call : Call) (book : OfficeLists) (answer : Answer Change) (r : Result (Answer Change) ReadFault) → r ≡ Ok answer → IsTold g a b (Ok book) IsWhole
-    → answer.reply ≡ (decided book call).reply → answer.change ≡ (decided book call).change → IsTrue (is_office (after_some book answer.change)) → IsTold g a b r (IsDecided call)
-answer_told g a b call book answer r is read reply change kept = subst (λ (q : Result (Answer Change) ReadFault). IsTold g a b q (IsDecided call)) (sym is) (record {
+pub answer_told : {S : Type 0} (g : store.Ghosts S) (a b : Held S) (call : Call) (book : OfficeLists) (answer : Answer Change) → IsTold g a b (Ok book) IsWhole
+    → answer.reply ≡ (decided book call).reply → answer.change ≡ (decided book call).change → IsTrue (is_office (after_some book answer.change)) → IsTold g a b (Ok answer) (IsDecided call)
+answer_told g a b call book answer read reply change kept = record {
   told = λ clean office stands.
       let same : book ≡ office = read.told clean office stands in
+      let is : answer ≡ decided book call = λ i. record { reply = reply i; change = change i } in
       record {
-        is = ap (λ (p : Reply × Option Change). record { reply = p.0; change = p.1 }) (pair reply change) ∙ ap (λ (o : OfficeLists). decided o call) same;
+        is = is ∙ ap (λ (o : OfficeLists). decided o call) same;
         kept = subst (λ (o : OfficeLists). IsTrue (is_office (after_some o answer.change))) same kept;
       };
   same = read.same;
   changes = read.changes;
-})
-  where
-    pair : {A B : Type 0} {x y : A} {u v : B} → x ≡ y → u ≡ v → (x, u) ≡ (y, v)
-    pair p q = λ i. (p i, q i)
+}
 
 -- where the office is not read, or nothing is decided, nothing is told of it
-pub unread_told : {S X Y : Type 0} (g : store.Ghosts S) (a b : Held S) (IsSo : OfficeLists → X → Type 0) (IsThat : OfficeLists → Y → Type 0) (old : Result X ReadFault) (r : Result Y ReadFault) (e : ReadFault) → r ≡ Err e → IsTold g a b old IsSo → IsTold g a b r IsThat
-unread_told g a b IsSo IsThat old r e is read = subst (λ (q : Result _ ReadFault). IsTold g a b q IsThat) (sym is) (record { told = λ clean office stands. tt; same = λ done. tt; changes = read.changes })
+pub failed_told : {S X Y : Type 0} (g : store.Ghosts S) (a b : Held S) (IsSo : OfficeLists → X → Type 0) (IsThat : OfficeLists → Y → Type 0) (old : Result X ReadFault) (r : Result Y ReadFault) → IsErr r → IsTold g a b old IsSo → IsTold g a b r IsThat
+failed_told g a b IsSo IsThat old (Ok y) bad read = absurd cc
+failed_told g a b IsSo IsThat old (Err e) bad read = record { told = λ clean office stands. tt; same = λ done. tt; changes = read.changes }
 
 module _ {S : Type 0} (g : store.Ghosts S) (a b c : Held S) (call : Call) (answer : Answer Change) (told : IsTold g a b (Ok answer) (IsDecided call)) where
   -- while a call is decided, the tables stay the office that they are
