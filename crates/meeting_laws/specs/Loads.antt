@@ -1,10 +1,11 @@
 -- Loads: a file that comes twice in turn acts once.
-use Rattle.std.specs.Prelude.{◌≡◌, Bool, true, false, nat_le}
+use Rattle.std.specs.Prelude.{◌≡◌, ⊤, Bool, true, false, nat_le, Some, option_map}
 use Rattle.desk_words.specs.Changes.{after_some}
 use Rattle.desk_words.specs.Rulings.{replied}
 use Rattle.desk_words.specs.Seen.{Moment}
 use Rattle.desk_words.specs.declared.answer.Answer.{Answer}
 use Rattle.desk_words.specs.declared.change.Change.{Change}
+use Rattle.desk_words.specs.declared.office.MeetingLists.{MeetingLists}
 use Rattle.desk_words.specs.declared.office.OfficeLists.{OfficeLists}
 use Rattle.desk_words.specs.declared.reply.Reply.{Reply}
 use Rattle.desk_words.specs.declared.reply.Reply.TheVariants as reply
@@ -13,6 +14,7 @@ use Rattle.desk_words.specs.declared.request.DeskRequest.TheVariants as desk
 use Rattle.desk_words.specs.declared.request.OfficeRequest.TheVariants.{LoadRegister}
 use Rattle.desk_words.specs.declared.request.Request.{Request}
 use Rattle.desk_words.specs.declared.request.Request.TheVariants as asked
+use Rattle.caller_view.specs.Views.{meeting_at}
 use Rattle.meeting_core.specs.Step.{decided, stepped}
 
 -- what decides calls: from an office and a call, a reply and at most one change
@@ -45,6 +47,20 @@ is_in_turn other first again = nat_le first again
 -- the same call at another moment
 abbrev pub again_at : Moment → Call → Call
 again_at moment call = record call { moment = moment }
+
+-- the office holds what is to be loaded
+abbrev pub HoldsLoad : OfficeLists → Request → Type 0
+HoldsLoad office (asked.Desk (desk.ClosedDays days)) = office.closed ≡ days
+HoldsLoad office (asked.Desk (desk.Keys rows)) = office.keys ≡ rows
+HoldsLoad office (asked.Office meeting (LoadRegister new)) =
+    option_map (λ (m : MeetingLists). m.register) (meeting_at office meeting) ≡ Some new.rows
+HoldsLoad office other = ⊤
+
+-- a load that is accepted acts: what was to be loaded is held after it
+abbrev pub HoldsWhatIsLoaded : Deciding → Type 0
+HoldsWhatIsLoaded deciding =
+    (office : OfficeLists) (call : Call) → accepts_load (deciding office call).reply ≡ true
+    → HoldsLoad (after_call deciding office call) call.request
 
 -- a load that was accepted and comes again in turn is answered as the same, without a change
 abbrev pub AnswersSameAgain : Deciding → Type 0

@@ -1,5 +1,5 @@
-//! Laws of the office: what a party may learn, how calls are refused, and that what is asked and
-//! told in a meeting agrees with its rules.
+//! Laws of the office: what a party may learn, how calls are refused and files loaded, and that what
+//! is asked and told in a meeting agrees with its rules.
 #![tactic(auto)]
 
 mod loads;
@@ -12,7 +12,7 @@ mod worlds;
 ghost use Rattle.meeting_laws.specs.Laws.{DemandsByCapacity};
 ghost use Rattle.meeting_laws.specs.Secrecy.{TheOfficeIsToldOfNoVotes, VotesAreNotPublic};
 
-pub use loads::{loads_act_once, loads_that_act_twice_are_caught};
+pub use loads::{loads_act_once, wrong_loads_are_caught};
 pub use own_things::{
     others_things_are_caught, own_things_are_ones_own, own_things_tell_what_governs,
 };
