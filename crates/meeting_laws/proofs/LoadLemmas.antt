@@ -36,8 +36,8 @@ use Rattle.office_answers.specs.Calls.{load_cases, load_ruling}
 use Rattle.office_answers.specs.Lists.{same_days}
 use Rattle.caller_view.specs.Views.{meeting_at}
 use Rattle.meeting_core.proofs.RulingLemmas.{fails}
-use Rattle.meeting_core.specs.Step.{decided, stepped}
-use Rattle.meeting_laws.specs.Loads.{AnswersSameAgain, Deciding, HoldsLoad, HoldsWhatIsLoaded, LeavesTheOfficeOfOne, accepts_load, is_in_turn, is_load}
+use Rattle.meeting_core.specs.Step.{after_reply, decided, run_of, stepped}
+use Rattle.meeting_laws.specs.Loads.{AnswersSameAgain, Deciding, HoldsLoad, HoldsWhatIsLoaded, LeavesTheOfficeOfOne, RunsAsOfOne, accepts_load, is_in_turn, is_load}
 use Rattle.meeting_laws.specs.WrongLoads.{ActsNever, ActsTwice, a_load, loads_anew, tells_alone, writes_anew}
 
 -- ---- what is loaded is held
@@ -203,10 +203,16 @@ load_again o first again (caller.Party party) (asked.Party id what) load accepte
 load_again o first again (caller.Party party) other load accepted turn = absurd (cc)
 
 pub same_again : AnswersSameAgain decided
-same_again o call again load accepted turn = load_again o call.moment again call.caller call.request load accepted turn
+same_again o call again comes = load_again o call.moment again call.caller call.request comes.load comes.accepted comes.in_turn
 
 pub office_of_one : LeavesTheOfficeOfOne
-office_of_one o call again load accepted turn = ap (λ (a : Answer Change). after_some (stepped o call) a.change) (same_again o call again load accepted turn)
+office_of_one o call again comes = ap (λ (a : Answer Change). after_some (stepped o call) a.change) (same_again o call again comes)
+
+pub run_of_one : RunsAsOfOne
+run_of_one o call again later comes =
+    let same = same_again o call again comes in
+    let left = office_of_one o call again comes in
+    λ i. after_reply (decided o call).reply (after_reply (same i).reply (run_of (left i) later))
 
 -- ---- wrong ways to decide them
 
@@ -227,21 +233,17 @@ written answer = is_some answer.change
 pub loaded_twice : ActsTwice loads_anew empty_office a_load 0
 loaded_twice = record {
   is_one = refl;
-  load = refl;
-  accepted = refl;
-  in_turn = refl;
+  comes = record { load = refl; accepted = refl; in_turn = refl };
   acts = λ h. absurd (true≢false (ap written h));
 }
 
 pub written_twice : ActsTwice writes_anew empty_office a_load 0
 written_twice = record {
   is_one = refl;
-  load = refl;
-  accepted = refl;
-  in_turn = refl;
+  comes = record { load = refl; accepted = refl; in_turn = refl };
   acts = λ h. absurd (true≢false (ap written h));
 }
 
 -- what acts twice breaks the law
 pub caught_by : (deciding : Deciding) → ActsTwice deciding empty_office a_load 0 → AnswersSameAgain deciding → ⊥
-caught_by deciding twice law = twice.acts (law empty_office a_load 0 twice.load twice.accepted twice.in_turn)
+caught_by deciding twice law = twice.acts (law empty_office a_load 0 twice.comes)

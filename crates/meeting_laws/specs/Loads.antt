@@ -1,5 +1,5 @@
 -- Loads: a file that comes twice in turn acts once.
-use Rattle.std.specs.Prelude.{◌≡◌, ⊤, Bool, true, false, nat_le, Some, option_map}
+use Rattle.std.specs.Prelude.{◌≡◌, ⊤, Bool, true, false, nat_le, List, ◌∷◌, Some, IsTrue, option_map}
 use Rattle.desk_words.specs.Changes.{after_some}
 use Rattle.desk_words.specs.Rulings.{replied}
 use Rattle.desk_words.specs.Seen.{Moment}
@@ -15,7 +15,7 @@ use Rattle.desk_words.specs.declared.request.OfficeRequest.TheVariants.{LoadRegi
 use Rattle.desk_words.specs.declared.request.Request.{Request}
 use Rattle.desk_words.specs.declared.request.Request.TheVariants as asked
 use Rattle.caller_view.specs.Views.{meeting_at}
-use Rattle.meeting_core.specs.Step.{decided, stepped}
+use Rattle.meeting_core.specs.Step.{after_reply, decided, run_of, stepped}
 
 -- what decides calls: from an office and a call, a reply and at most one change
 abbrev pub Deciding : Type 0
@@ -62,18 +62,30 @@ HoldsWhatIsLoaded deciding =
     (office : OfficeLists) (call : Call) → accepts_load (deciding office call).reply ≡ true
     → HoldsLoad (after_call deciding office call) call.request
 
--- a load that was accepted and comes again in turn is answered as the same, without a change
+-- a load that was accepted in an office comes again, in turn, at another moment
+pub record ComesAgain (deciding : Deciding) (office : OfficeLists) (call : Call) (again : Moment)
+    : Type 0 where
+  pub load : IsTrue (is_load call.request)
+  pub accepted : IsTrue (accepts_load (deciding office call).reply)
+  pub in_turn : IsTrue (is_in_turn call.request call.moment again)
+
+-- a load that comes again is answered as the same, without a change
 abbrev pub AnswersSameAgain : Deciding → Type 0
 AnswersSameAgain deciding =
-    (office : OfficeLists) (call : Call) (again : Moment) → is_load call.request ≡ true
-    → accepts_load (deciding office call).reply ≡ true
-    → is_in_turn call.request call.moment again ≡ true
+    (office : OfficeLists) (call : Call) (again : Moment) → ComesAgain deciding office call again
     → deciding (after_call deciding office call) (again_at again call) ≡ replied reply.Same
 
--- so two such loads in turn leave the office that one of them leaves
+-- so both together leave the office that one of them leaves
 abbrev pub LeavesTheOfficeOfOne : Type 0
 LeavesTheOfficeOfOne =
-    (office : OfficeLists) (call : Call) (again : Moment) → is_load call.request ≡ true
-    → accepts_load (decided office call).reply ≡ true
-    → is_in_turn call.request call.moment again ≡ true
+    (office : OfficeLists) (call : Call) (again : Moment) → ComesAgain decided office call again
     → stepped (stepped office call) (again_at again call) ≡ stepped office call
+
+-- and a run is as though the load had come once, but for one reply more, that it is the same
+abbrev pub RunsAsOfOne : Type 0
+RunsAsOfOne =
+    (office : OfficeLists) (call : Call) (again : Moment) (later : List Call)
+    → ComesAgain decided office call again
+    → run_of office (call ∷ again_at again call ∷ later)
+    ≡ after_reply (decided office call).reply
+    (after_reply reply.Same (run_of (stepped office call) later))

@@ -48,14 +48,19 @@ binds_otherwise party new a =
 abbrev pub some_pass : (Place → Bool) → Place → Place → Bool
 some_pass test from to = nat_lt 0 (places_that (λ place. nat_le from place && test place) to)
 
+-- the party governs a member's share for the poll of a vote, as is read from its own things
+abbrev pub is_told_to_govern : MeetingLists → List Day → Party → Moment → NewCast → Place → Bool
+is_told_to_govern m closed party now new place =
+    let late = is_late_in m closed new.resolution in
+    is_governed (own_in m closed party now).received late new place
+
 -- a party governs a member's share for the poll of a vote, as is read from its own things, exactly
 -- where the appointment that governs the share by the rules names the party (sections 324 and 327)
 abbrev pub ProxiesGovernByTheRules : Type 0
 ProxiesGovernByTheRules =
     (m : MeetingLists) (closed : List Day) (party : Party) (now : Moment) (new : NewCast)
     (place : Place) → is_meeting m ≡ true
-    → is_governed (own_in m closed party now).received (is_late_in m closed new.resolution) new
-    place
+    → is_told_to_govern m closed party now new place
     ≡ option_map_or (names party) (governing_for m closed now new place) false
 
 -- a vote as proxy on a range is against an instruction, as is read from the party's own things,

@@ -1,17 +1,18 @@
 //! What is loaded twice.
 ghost use Rattle.desk_words.specs.Changes.{empty_office};
 ghost use Rattle.meeting_core.specs.Step.{decided};
-ghost use Rattle.meeting_laws.specs.Loads.{AnswersSameAgain, HoldsWhatIsLoaded, LeavesTheOfficeOfOne};
+ghost use Rattle.meeting_laws.specs.Loads.{AnswersSameAgain, HoldsWhatIsLoaded, LeavesTheOfficeOfOne, RunsAsOfOne};
 ghost use Rattle.meeting_laws.specs.WrongLoads.{ActsNever, ActsTwice, a_load, loads_anew, tells_alone, writes_anew};
 
 /// A file that comes twice in turn acts once. Closed days, keys or a register that are accepted, as
 /// loaded or as what is held, are held after it. When they come again, closed days and keys at any
 /// moment and a register at the same or any later one, they are answered as the same, without a
-/// change.
+/// change, and all calls after them are answered as though they had come once.
 pub fn loads_act_once()
     ensures held { HoldsWhatIsLoaded decided }
     ensures same { AnswersSameAgain decided }
     ensures office { LeavesTheOfficeOfOne }
+    ensures run { RunsAsOfOne }
 {}
 
 /// These laws can fail: where what is held is loaded once more, and where it is told to be the same
