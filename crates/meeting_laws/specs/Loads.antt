@@ -62,7 +62,7 @@ HoldsWhatIsLoaded deciding =
     (office : OfficeLists) (call : Call) → accepts_load (deciding office call).reply ≡ true
     → HoldsLoad (after_call deciding office call) call.request
 
--- a load that was accepted in an office comes again, in turn, at another moment
+-- a load that was accepted in an office comes again in turn, at some moment
 pub record ComesAgain (deciding : Deciding) (office : OfficeLists) (call : Call) (again : Moment)
     : Type 0 where
   pub load : IsTrue (is_load call.request)
