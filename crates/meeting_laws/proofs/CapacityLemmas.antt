@@ -23,7 +23,7 @@ use Rattle.desk_words.specs.declared.records.RegisterRow.{RegisterRow}
 use Rattle.desk_words.specs.declared.own.Authorised.{Authorised}
 use Rattle.desk_words.specs.declared.own.Received.{Received}
 use Rattle.proxy_rules.specs.Cutoffs.{cutoffs_of}
-use Rattle.proxy_rules.specs.Governing.{governed_in, governs}
+use Rattle.proxy_rules.specs.Governing.{governed_in, governing_in, governs}
 use Rattle.proxy_rules.specs.Holdings.{are_tags, holding_by, holding_of, holding_with, is_kept}
 use Rattle.proxy_rules.specs.Shares.{are_rows, is_corporation, is_individual, row_of, shares_of, shares_by}
 use Rattle.proxy_rules.specs.Parties.{authorises, names}
@@ -46,7 +46,7 @@ use Rattle.meeting_laws.proofs.AnyLemmas.{any-alike, any-and, any-either, any-tu
 use Rattle.meeting_laws.proofs.MemberRows.{row_of-any, rows_differ, rows_held}
 use Rattle.meeting_laws.proofs.GovernedLemmas.{any-among, governed-by_member, kept-is}
 use Rattle.meeting_laws.proofs.PlaceLemmas.{runs_that-some, some_place, some_place-and, some_place-any}
-use Rattle.meeting_laws.proofs.ProxyLemmas.{governing-named}
+use Rattle.meeting_laws.proofs.ProxyLemmas.{governing-passing}
 
 -- ---- the capacities that a row gives
 
@@ -202,29 +202,38 @@ module _ (cutoffs : Cutoffs) (m : MeetingLists) (party : List ℕ) where
       ∙ governed-if a (row_of m.register a.member)
       ∙ row_of-any (λ row. governs_of a (shares_of row)) m.register a.member (rows_differ m.register rows)
 
-  -- some appointment that names the party governs a share of the row exactly where the party is a proxy for it
-  proxy-any : (row : RegisterRow) → are_numbered_after [] m.appointments ≡ true
-      → list_any (λ a. names party a && governs_row a row) m.appointments ≡ proxy_for_row row
-  proxy-any row numbered =
+  -- some share of the row is governed by an appointment that passes
+  abbrev passes_in : (Appointment → Bool) → RegisterRow → Bool
+  passes_in test row = some_place (λ place. option_map_or test (governing_in cutoffs (holding_by m.appointments m.endings row) place) false) (shares_of row)
+
+  -- some appointment that passes governs a share of the row exactly where some share is governed by one
+  passing-any : (test : Appointment → Bool) (row : RegisterRow) → are_numbered_after [] m.appointments ≡ true
+      → list_any (λ a. test a && governs_row a row) m.appointments ≡ passes_in test row
+  passing-any test row numbered =
       let shares = shares_of row in
       let of_member : Appointment → ℕ → Bool = λ a place. same_name row.member a.member && governs_place a shares place in
-      ap (λ test. list_any test m.appointments)
+      ap (λ passes. list_any passes m.appointments)
       (λ i (a : Appointment).
-      (ap (λ b. names party a && b) (some_place-and (same_name row.member a.member) (governs_place a shares) shares)
-      ∙ some_place-and (names party a) (of_member a) shares) i)
-      ∙ some_place-any (λ a place. names party a && of_member a place) m.appointments shares
-      ∙ ap (λ test. some_place test shares)
-      (λ i place. governing-named cutoffs shares m.appointments m.endings row.member party place numbered i)
+      (ap (λ b. test a && b) (some_place-and (same_name row.member a.member) (governs_place a shares) shares)
+      ∙ some_place-and (test a) (of_member a) shares) i)
+      ∙ some_place-any (λ a place. test a && of_member a place) m.appointments shares
+      ∙ ap (λ passes. some_place passes shares)
+      (λ i place. governing-passing cutoffs shares m.appointments m.endings row.member test place numbered i)
+
+  -- some appointment that passes governs shares exactly where some share of some row is governed by one
+  pub passing-rows : (test : Appointment → Bool) → are_rows m.register ≡ true → are_numbered_after [] m.appointments ≡ true
+      → list_any (λ a. test a && governs_some a) m.appointments ≡ list_any (passes_in test) m.register
+  passing-rows test rows numbered =
+      ap (λ passes. list_any passes m.appointments)
+      (λ i (a : Appointment).
+      (ap (λ b. test a && b) (governed-any a rows) ∙ sym (any-and (test a) (governs_row a) m.register)) i)
+      ∙ any-turned (λ a row. test a && governs_row a row) m.appointments m.register
+      ∙ ap (λ passes. list_any passes m.register) (λ i row. passing-any test row numbered i)
 
   -- a party governs shares exactly where some row makes it a proxy
   as_proxy : are_rows m.register ≡ true → are_numbered_after [] m.appointments ≡ true
       → list_any (λ a. names party a && governs_some a) m.appointments ≡ list_any proxy_for_row m.register
-  as_proxy rows numbered =
-      ap (λ test. list_any test m.appointments)
-      (λ i (a : Appointment).
-      (ap (λ b. names party a && b) (governed-any a rows) ∙ sym (any-and (names party a) (governs_row a) m.register)) i)
-      ∙ any-turned (λ a row. names party a && governs_row a row) m.appointments m.register
-      ∙ ap (λ test. list_any test m.register) (λ i row. proxy-any row numbered i)
+  as_proxy rows numbered = passing-rows (names party) rows numbered
 
   -- a party has a capacity exactly where some row gives it one of the three
   by_capacity : qualifies (roles_of cutoffs m.register m.appointments m.endings m.authorities party)

@@ -1,6 +1,6 @@
 -- What a proxy may vote on by its own things is what the rules give it.
 use Rattle.std.proofs.Common.{◌≡◌, ℕ, ◌+◌, ◌≤◌, Bool, true, false, not, ◌&&◌, cond, List, [], ◌∷◌, find, filter, map, refl, sym, ap, ◌∙◌, arith, inl, inr}
-use Rattle.std.specs.Prelude.{◌==◌, nat_le, nat_lt, Option, Some, None, option_map, option_and_then}
+use Rattle.std.specs.Prelude.{◌==◌, nat_le, nat_lt, Option, Some, None, option_map, option_and_then, is_some}
 use Rattle.std.specs.Cmp.{both_ways, first_so, second_so}
 use Rattle.std.specs.List.{list_any}
 use Rattle.std.specs.Option.{option_map_or}
@@ -34,12 +34,12 @@ use Rattle.proxy_rules.specs.declared.papers.Cutoffs.{Cutoffs}
 use Rattle.proxy_rules.proofs.NameLemmas.{same_name-sym}
 use Rattle.proxy_rules.proofs.RunLemmas.{are_in-runs_that, are_parted-runs_that}
 use Rattle.poll_rules.proofs.GatherLemmas.{list_any-map}
-use Rattle.caller_view.specs.Rights.{forbids, governed_for, governs_at, is_against, is_governed, meets}
+use Rattle.caller_view.specs.Rights.{forbids, governed_for, governs_at, instructs, is_against, is_governed, is_uninstructed, meets, no_runs}
 use Rattle.caller_view.specs.Views.{own_in}
 use Rattle.meeting_laws.specs.Laws.{known_in, shares_governed}
-use Rattle.meeting_laws.specs.Proxies.{InstructionsBindByTheRules, ProxiesGovernByTheRules, binds_otherwise, governing_for, is_late_in, some_pass}
+use Rattle.meeting_laws.specs.Proxies.{InstructedByTheRules, InstructionsBindByTheRules, ProxiesGovernByTheRules, binds_otherwise, cutoffs_on, governing_for, instructs_it, is_instructed_in, is_late_in, some_pass}
 use Rattle.meeting_laws.proofs.AnyLemmas.{any-and, any-In, In-any}
-use Rattle.meeting_laws.proofs.CapacityLemmas.{facts}
+use Rattle.meeting_laws.proofs.CapacityLemmas.{facts, passing-rows}
 use Rattle.meeting_laws.proofs.NumberLemmas.{In}
 use Rattle.meeting_laws.proofs.OwnThingsLemmas.{what_governs}
 use Rattle.meeting_laws.proofs.PlaceLemmas.{some_place, some_place-and, some_place-any, some_place-found, some_place-is}
@@ -167,22 +167,50 @@ module _ (cutoffs : Cutoffs) (holding : Holding) (number : ℕ) where
 
 -- ---- what a proxy is told
 
+module _ (m : MeetingLists) (closed party : List ℕ) (now resolution : ℕ) where
+  -- what a proxy knows of an appointment for the poll is what the appointment governs by the cutoffs of the poll
+  known-governs : (a : Appointment) → governed_for (is_late_in m closed resolution) resolution (known_in m closed now a) ≡ shares_governed m (cutoffs_on m closed now resolution) a
+  known-governs a = by_the_cutoffs m.meeting closed now (λ cutoffs. shares_governed m cutoffs a) m.polls resolution (poll_on m.polls resolution) refl
+
+  -- whether any appointment that is known to the party passes, by all appointments
+  known-any : (test : Received → Bool) → is_meeting m ≡ true
+      → list_any test (own_in m closed party now).received ≡ list_any (λ a. names party a && test (known_in m closed now a)) m.appointments
+  known-any test h =
+      ap (list_any test) (what_governs m closed party now h)
+      ∙ list_any-map test (known_in m closed now) (filter (names party) m.appointments)
+      ∙ any-filter (λ a. test (known_in m closed now a)) (names party) m.appointments
+
+  -- three conditions
+  joined-and : (a b c : Bool) → (a && (b && c)) ≡ ((a && b) && c)
+  joined-and true b c = refl
+  joined-and false b c = refl
+
+  instructed-rules : is_meeting m ≡ true
+      → is_uninstructed (own_in m closed party now) (is_late_in m closed resolution) resolution
+      ≡ not (list_any (is_instructed_in m closed now party resolution) m.register)
+  instructed-rules h =
+      let told : Appointment → Bool = λ a. is_some (instructed_on resolution a.instructions) in
+      let f = facts m h in
+      ap not
+      (known-any (instructs (is_late_in m closed resolution) resolution) h
+      ∙ ap (λ test. list_any test m.appointments)
+      (λ i (a : Appointment).
+      (ap (λ runs. names party a && (told a && not (no_runs runs))) (known-governs a)
+      ∙ joined-and (names party a) (told a) (not (no_runs (shares_governed m (cutoffs_on m closed now resolution) a)))) i)
+      ∙ passing-rows (cutoffs_on m closed now resolution) m party (instructs_it party resolution) f.rows f.numbered)
+
 module _ (m : MeetingLists) (closed party : List ℕ) (now : ℕ) (new : NewCast) where
   abbrev late : Bool
-  late = is_late_in m closed new
+  late = is_late_in m closed new.resolution
 
   -- the cutoffs of the poll of the vote
   abbrev cutoffs_for : Cutoffs
-  cutoffs_for = cutoffs_of m.meeting (poll_on m.polls new.resolution) closed now
+  cutoffs_for = cutoffs_on m closed now new.resolution
 
   -- the member of the appointment is that of the vote, and the appointment governs the place
   abbrev own_governs : Appointment → ℕ → Bool
   own_governs a place =
       same_name new.member a.member && governs cutoffs_for (holding_with (shares_by m.register new.member) m.appointments m.endings a.member) a.number place
-
-  -- what a proxy knows of an appointment for the poll is what the appointment governs by the cutoffs of the poll
-  known-governs : (a : Appointment) → governed_for late new.resolution (known_in m closed now a) ≡ shares_governed m cutoffs_for a
-  known-governs a = by_the_cutoffs m.meeting closed now (λ cutoffs. shares_governed m cutoffs a) m.polls new.resolution (poll_on m.polls new.resolution) refl
 
   -- of the member of the vote the shares are those of the vote's member
   own-shares : (a : Appointment) (place : ℕ)
@@ -195,14 +223,6 @@ module _ (m : MeetingLists) (closed party : List ℕ) (now : ℕ) (new : NewCast
       ]) refl
       ∙ ap (λ b. b && asks new.member) (same_name-sym a.member new.member)
 
-  -- whether any appointment that is known to the party passes, by all appointments
-  known-any : (test : Received → Bool) → is_meeting m ≡ true
-      → list_any test (own_in m closed party now).received ≡ list_any (λ a. names party a && test (known_in m closed now a)) m.appointments
-  known-any test h =
-      ap (list_any test) (what_governs m closed party now h)
-      ∙ list_any-map test (known_in m closed now) (filter (names party) m.appointments)
-      ∙ any-filter (λ a. test (known_in m closed now a)) (names party) m.appointments
-
   -- whether the one that governs a place passes, by all appointments
   passing : (test : Appointment → Bool) (place : ℕ) → is_meeting m ≡ true
       → list_any (λ a. test a && own_governs a place) m.appointments ≡ option_map_or test (governing_for m closed now new place) false
@@ -212,14 +232,14 @@ module _ (m : MeetingLists) (closed party : List ℕ) (now : ℕ) (new : NewCast
   -- an appointment governs the place by what is known of it
   governs-known : (a : Appointment) (place : ℕ) → governs_at late new place (known_in m closed now a) ≡ own_governs a place
   governs-known a place =
-      ap (λ runs. same_name a.member new.member && list_any (λ (run : Places). holds run place) runs) (known-governs a)
+      ap (λ runs. same_name a.member new.member && list_any (λ (run : Places). holds run place) runs) (known-governs m closed party now new.resolution a)
       ∙ ap (λ b. same_name a.member new.member && b) (runs-hold cutoffs_for (holding_of m.register m.appointments m.endings a.member) a.number place)
       ∙ own-shares a place
 
   governed-rules : (place : ℕ) → is_meeting m ≡ true
       → is_governed (own_in m closed party now).received late new place ≡ option_map_or (names party) (governing_for m closed now new place) false
   governed-rules place h =
-      known-any (governs_at late new place) h
+      known-any m closed party now new.resolution (governs_at late new place) h
       ∙ ap (λ test. list_any test m.appointments) (λ i (a : Appointment). names party a && governs-known a place i)
       ∙ passing (names party) place h
 
@@ -247,7 +267,7 @@ module _ (m : MeetingLists) (closed party : List ℕ) (now : ℕ) (new : NewCast
   forbids-known a one up =
       let own = same_name a.member new.member && otherwise a in
       let within : ℕ → Bool = λ place. nat_le new.from place && governs_there a place in
-      ap (λ runs. names party a && (own && list_any (meets new.from new.to) runs)) (known-governs a)
+      ap (λ runs. names party a && (own && list_any (meets new.from new.to) runs)) (known-governs m closed party now new.resolution a)
       ∙ ap (λ b. names party a && (own && b)) (runs-meet cutoffs_for (holding_of m.register m.appointments m.endings a.member) a.number new.from new.to one up)
       ∙ ap (λ b. names party a && b) (some_place-and own within new.to)
       ∙ some_place-and (names party a) (λ place. own && within place) new.to
@@ -267,7 +287,7 @@ module _ (m : MeetingLists) (closed party : List ℕ) (now : ℕ) (new : NewCast
       → is_against (own_in m closed party now) late new Proxy
       ≡ some_pass (λ place. option_map_or (binds_otherwise party new) (governing_for m closed now new place) false) new.from new.to
   bound-rules h one up =
-      known-any (forbids late new) h
+      known-any m closed party now new.resolution (forbids late new) h
       ∙ ap (λ test. list_any test m.appointments) (λ i (a : Appointment). forbids-known a one up i)
       ∙ some_place-any
       (λ a place. names party a && ((same_name a.member new.member && otherwise a) && (nat_le new.from place && governs_there a place)))
@@ -283,3 +303,6 @@ bound_by_the_rules m closed party now new h range =
     let one = first_so (nat_le 1 new.from) (nat_le new.from new.to) ends in
     let up = second_so (nat_le 1 new.from) (nat_le new.from new.to) ends in
     bound-rules m closed party now new h (leb-true 1 new.from one) (leb-true new.from new.to up)
+
+pub instructed_by_the_rules : InstructedByTheRules
+instructed_by_the_rules m closed party now resolution h = instructed-rules m closed party now resolution h

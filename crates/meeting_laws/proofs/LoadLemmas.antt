@@ -1,16 +1,18 @@
 -- A load that was accepted is what is held when it comes again.
 use Rattle.std.proofs.Common.{◌≡◌, ℕ, Bool, true, false, not, ◌==◌, cond, List, [], ◌∷◌, refl, ap, sym, ◌∙◌, arith, true≢false}
-use Rattle.std.specs.Prelude.{Option, Some, None, is_some, nat_le, nat_lt, length}
+use Rattle.std.specs.Prelude.{option_map, Option, Some, None, is_some, nat_le, nat_lt, length}
+use Rattle.std.specs.Cmp.{first_so, second_so}
 use Rattle.std.specs.Cmp.Derive.{both_true}
-use Rattle.std.proofs.lemmas.Bool.{eq-eqb}
+use Rattle.std.specs.List.{list_all, zip}
+use Rattle.std.proofs.lemmas.Bool.{eq-eqb, eqb-true}
 use Rattle.std.proofs.lemmas.Bool.Decides.{nat_tests}
 use Rattle.desk_terms.specs.Names.{same_name}
 use Rattle.desk_terms.specs.Refusals.{first_refusal}
 use Rattle.desk_terms.specs.declared.refusal.Refusal.TheVariants.{OtherRecord, Opened, Early}
-use Rattle.desk_words.proofs.RowLemmas.{each_same_key-Decides, same_name-refl, same_rows-Decides}
+use Rattle.desk_words.proofs.RowLemmas.{each_same_key-Decides, same_name-refl, same_name-true, same_rows-Decides}
 use Rattle.desk_words.specs.Changes.{after, after_some, change_at, changed, empty_office}
 use Rattle.desk_words.specs.Finding.{meeting_named}
-use Rattle.desk_words.specs.Keys.{same_keys}
+use Rattle.desk_words.specs.Keys.{same_key_row, same_keys}
 use Rattle.desk_words.specs.Rows.{same_rows}
 use Rattle.desk_words.specs.Rulings.{in_found, loaded, replied, ruled_within, settled, unless, within}
 use Rattle.desk_words.specs.declared.answer.Answer.{Answer}
@@ -23,6 +25,7 @@ use Rattle.desk_words.specs.declared.change.MeetingChange.TheVariants.{SetRegist
 use Rattle.desk_words.specs.declared.office.MeetingLists.{MeetingLists}
 use Rattle.desk_words.specs.declared.office.OfficeLists.{OfficeLists}
 use Rattle.desk_words.specs.declared.records.Meeting.{Meeting}
+use Rattle.desk_words.specs.declared.records.RegisterRow.{RegisterRow}
 use Rattle.desk_words.specs.declared.reply.Reply.TheVariants as reply
 use Rattle.desk_words.specs.declared.request.DeskRequest.TheVariants as desk
 use Rattle.desk_words.specs.declared.request.NewRegister.{NewRegister}
@@ -33,9 +36,9 @@ use Rattle.office_answers.specs.Calls.{load_cases, load_ruling}
 use Rattle.office_answers.specs.Lists.{same_days}
 use Rattle.caller_view.specs.Views.{meeting_at}
 use Rattle.meeting_core.proofs.RulingLemmas.{fails}
-use Rattle.meeting_core.specs.Step.{decided, stepped}
-use Rattle.meeting_laws.specs.Loads.{AnswersSameAgain, Deciding, LeavesTheOfficeOfOne, accepts_load, is_in_turn, is_load}
-use Rattle.meeting_laws.specs.WrongLoads.{ActsTwice, a_load, loads_anew, writes_anew}
+use Rattle.meeting_core.specs.Step.{after_reply, decided, run_of, stepped}
+use Rattle.meeting_laws.specs.Loads.{AnswersSameAgain, Deciding, HoldsLoad, HoldsWhatIsLoaded, LeavesTheOfficeOfOne, RunsAsOfOne, accepts_load, is_in_turn, is_load}
+use Rattle.meeting_laws.specs.WrongLoads.{ActsNever, ActsTwice, a_load, loads_anew, tells_alone, writes_anew}
 
 -- ---- what is loaded is held
 
@@ -116,7 +119,75 @@ register_again o (Some m) id first again new found turn accepted =
               ∙ register_same (changed (SetRegister new.rows) m) id again new none ((same_rows-Decides new.rows new.rows).1 refl)
         ]) refl
 
+-- ---- what was loaded is held
+
+-- keys that are the same are equal
+keys-equal : (held rows : List KeyRow) → same_keys held rows ≡ true → held ≡ rows
+keys-equal held rows same =
+    let each = list_all (λ pair. same_key_row pair.0 pair.1) (zip held rows) in
+    let long = eqb-true (length held) (length rows) (first_so (length held == length rows) each same) in
+    (each_same_key-Decides held rows each long refl).0 (second_so (length held == length rows) each same)
+
+-- closed days
+days_held : (o : OfficeLists) (days : List ℕ) → (after_some o (loaded (same_days o.closed days) (SetClosedDays days)).change).closed ≡ days
+days_held o days =
+    (elim (same_days o.closed days) as (λ b. same_days o.closed days ≡ b → (after_some o (loaded b (SetClosedDays days)).change).closed ≡ days) [
+      | true ↦ λ same. same_name-true o.closed days same
+      | false ↦ λ other. refl
+    ]) refl
+
+-- keys
+keys_held : (o : OfficeLists) (rows : List KeyRow) → (after_some o (loaded (same_keys o.keys rows) (SetKeys rows)).change).keys ≡ rows
+keys_held o rows =
+    (elim (same_keys o.keys rows) as (λ b. same_keys o.keys rows ≡ b → (after_some o (loaded b (SetKeys rows)).change).keys ≡ rows) [
+      | true ↦ λ same. keys-equal o.keys rows same
+      | false ↦ λ other. refl
+    ]) refl
+
+-- the register of a meeting, if it is found
+abbrev register_in : Option MeetingLists → Option (List RegisterRow)
+register_in found = option_map (λ (m : MeetingLists). m.register) found
+
+-- a register
+register_held : (o : OfficeLists) (found : Option MeetingLists) (id : List ℕ) (now : ℕ) (new : NewRegister) → meeting_at o id ≡ found
+    → accepts_load (register_answer found id now new).reply ≡ true
+    → register_in (meeting_at (after_some o (register_answer found id now new).change) id) ≡ Some new.rows
+register_held o None id now new found accepted = absurd (true≢false (sym accepted))
+register_held o (Some m) id now new found accepted =
+    (elim (first_refusal (load_cases m.meeting now new)) as (λ refusal. accepts_load (unless refusal (settle (same_rows m.register new.rows))).reply ≡ true
+    → register_in (meeting_at (after_some o (unless refusal (settle (same_rows m.register new.rows))).change) id) ≡ Some new.rows) [
+      | Some refusal ↦ λ accepted. absurd (cc)
+      | None ↦ λ accepted. by_rows
+    ]) accepted
+  where
+    settle : Bool → Answer Change
+    settle same = within (InMeeting id) (loaded same (SetRegister new.rows))
+
+    by_rows : register_in (meeting_at (after_some o (settle (same_rows m.register new.rows)).change) id) ≡ Some new.rows
+    by_rows =
+        (elim (same_rows m.register new.rows) as (λ b. same_rows m.register new.rows ≡ b
+        → register_in (meeting_at (after_some o (settle b).change) id) ≡ Some new.rows) [
+          | true ↦ λ same. ap register_in found ∙ ap (λ (rows : List RegisterRow). Some rows) ((same_rows-Decides m.register new.rows).0 same)
+          | false ↦ λ other. ap register_in (changed_found (changed (SetRegister new.rows)) id o.meetings m (λ x. refl) found)
+        ]) refl
+
 -- ---- all loads
+
+-- a load is held
+held_by : (o : OfficeLists) (now : ℕ) (who : Caller) (request : Request)
+    → accepts_load (decided o (record { moment = now; caller = who; request = request })).reply ≡ true
+    → HoldsLoad (stepped o (record { moment = now; caller = who; request = request })) request
+held_by o now caller.Office (asked.Desk (desk.ClosedDays days)) accepted = days_held o days
+held_by o now caller.Office (asked.Desk (desk.Keys rows)) accepted = keys_held o rows
+held_by o now caller.Office (asked.Desk other) accepted = tt
+held_by o now caller.Office (asked.Office id (LoadRegister new)) accepted = register_held o (meeting_at o id) id now new refl accepted
+held_by o now caller.Office (asked.Office id other) accepted = tt
+held_by o now caller.Office (asked.Party id what) accepted = tt
+held_by o now (caller.Party party) (asked.Party id what) accepted = tt
+held_by o now (caller.Party party) other accepted = absurd (cc)
+
+pub load_held : HoldsWhatIsLoaded decided
+load_held o call accepted = held_by o call.moment call.caller call.request accepted
 
 -- a load comes again
 load_again : (o : OfficeLists) (first again : ℕ) (who : Caller) (request : Request) → is_load request ≡ true
@@ -132,12 +203,28 @@ load_again o first again (caller.Party party) (asked.Party id what) load accepte
 load_again o first again (caller.Party party) other load accepted turn = absurd (cc)
 
 pub same_again : AnswersSameAgain decided
-same_again o call again load accepted turn = load_again o call.moment again call.caller call.request load accepted turn
+same_again o call again comes = load_again o call.moment again call.caller call.request comes.load comes.accepted comes.in_turn
 
 pub office_of_one : LeavesTheOfficeOfOne
-office_of_one o call again load accepted turn = ap (λ (a : Answer Change). after_some (stepped o call) a.change) (same_again o call again load accepted turn)
+office_of_one o call again comes = ap (λ (a : Answer Change). after_some (stepped o call) a.change) (same_again o call again comes)
+
+pub run_of_one : RunsAsOfOne
+run_of_one o call again later comes =
+    let same = same_again o call again comes in
+    let left = office_of_one o call again comes in
+    λ i. after_reply (decided o call).reply (after_reply (same i).reply (run_of (left i) later))
 
 -- ---- wrong ways to decide them
+
+pub never_written : ActsNever tells_alone empty_office a_load
+never_written = record {
+  is_one = refl;
+  accepted = refl;
+  lacks = λ h. (let days : 0 ≡ 1 = ap length h in absurd (omega arith));
+}
+
+pub never_caught : HoldsWhatIsLoaded tells_alone → ⊥
+never_caught law = never_written.lacks (law empty_office a_load never_written.accepted)
 
 -- what is written is seen
 abbrev written : Answer Change → Bool
@@ -146,21 +233,17 @@ written answer = is_some answer.change
 pub loaded_twice : ActsTwice loads_anew empty_office a_load 0
 loaded_twice = record {
   is_one = refl;
-  load = refl;
-  accepted = refl;
-  in_turn = refl;
+  comes = record { load = refl; accepted = refl; in_turn = refl };
   acts = λ h. absurd (true≢false (ap written h));
 }
 
 pub written_twice : ActsTwice writes_anew empty_office a_load 0
 written_twice = record {
   is_one = refl;
-  load = refl;
-  accepted = refl;
-  in_turn = refl;
+  comes = record { load = refl; accepted = refl; in_turn = refl };
   acts = λ h. absurd (true≢false (ap written h));
 }
 
 -- what acts twice breaks the law
 pub caught_by : (deciding : Deciding) → ActsTwice deciding empty_office a_load 0 → AnswersSameAgain deciding → ⊥
-caught_by deciding twice law = twice.acts (law empty_office a_load 0 twice.load twice.accepted twice.in_turn)
+caught_by deciding twice law = twice.acts (law empty_office a_load 0 twice.comes)

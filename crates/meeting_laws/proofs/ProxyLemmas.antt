@@ -16,7 +16,6 @@ use Rattle.proxy_rules.specs.Holdings.{are_numbered_from, holding_with, is_given
 use Rattle.proxy_rules.specs.declared.papers.Cutoffs.{Cutoffs}
 use Rattle.proxy_rules.proofs.KeptLemmas.{numbered_from-own}
 use Rattle.proxy_rules.proofs.NameLemmas.{same_name-sym}
-use Rattle.poll_rules.specs.Roles.{is_proxy_at}
 use Rattle.meeting_laws.proofs.AnyLemmas.{any-none, any-In, In-any, In-find, In-reverse}
 use Rattle.meeting_laws.proofs.NumberLemmas.{In, In-filter, Kept, filter-In}
 
@@ -140,9 +139,3 @@ module _ (cutoffs : Cutoffs) (shares : ℕ) (given : List Appointment) (ended : 
       (λ i (a : Appointment). test a && of_the_member a.member a.number place i)
       ∙ found-passing given test member (governing_in cutoffs (holding_with shares given ended member) place) numbered
       (governing-own cutoffs shares given ended member place)
-
-  -- some appointment that names the person governs the place exactly where the one that governs it names the person
-  pub governing-named : (person : List ℕ) (place : ℕ) → are_numbered_after [] given ≡ true
-      → list_any (λ a. same_name a.proxy person && (same_name member a.member && governs cutoffs (holding_with shares given ended a.member) a.number place)) given
-      ≡ is_proxy_at cutoffs (holding_with shares given ended member) person place
-  governing-named person place numbered = governing-passing (λ a. same_name a.proxy person) place numbered

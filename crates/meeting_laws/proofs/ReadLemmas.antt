@@ -1,11 +1,13 @@
 -- What is read of the rows gives what is read of the own things.
-use Rattle.std.proofs.Common.{◌≡◌, ℕ, Bool, true, false, cond, List, [], ◌∷◌, filter, refl, ap, sym, ◌∙◌}
+use Rattle.std.proofs.Common.{◌≡◌, ℕ, Bool, true, false, cond, List, [], ◌∷◌, filter, refl, ap, sym, ◌∙◌, true≢false}
 use Rattle.std.specs.Prelude.{◌==◌, Some, None}
 use Rattle.std.specs.Option.{option_map_or}
 use Rattle.desk_terms.specs.Names.{same_name}
 use Rattle.desk_terms.specs.declared.kinds.Capacity.{Capacity}
 use Rattle.desk_terms.specs.declared.kinds.Capacity.TheVariants.{Rep, Proxy}
-use Rattle.desk_words.specs.Rulings.{settled}
+use Rattle.desk_words.specs.Rulings.{is_refused, settled}
+use Rattle.desk_words.specs.declared.answer.Answer.{Answer}
+use Rattle.desk_words.specs.declared.change.Entry.{Entry}
 use Rattle.desk_words.specs.declared.records.Appointment.{Appointment}
 use Rattle.desk_words.specs.declared.records.CastMark.{CastMark}
 use Rattle.desk_words.specs.declared.request.NewCast.{NewCast}
@@ -17,12 +19,15 @@ use Rattle.caller_view.specs.Own.{nothing_of, own_by, own_from}
 use Rattle.caller_view.specs.Public.{PublicRecord}
 use Rattle.caller_view.specs.Reads.{appointments_read, authorities_read, cast_on, members_read, own_read, polls_read, rows_read}
 use Rattle.caller_view.specs.Rows.{no_rows_of, rows_in}
-use Rattle.caller_view.specs.Views.{meeting_at}
+use Rattle.caller_view.specs.Views.{own_in, public_in, meeting_at}
 use Rattle.caller_view.specs.declared.rows.AuthorityRows.{AuthorityRows}
 use Rattle.caller_view.specs.declared.rows.MemberRows.{MemberRows}
 use Rattle.caller_view.specs.declared.rows.OwnRows.{OwnRows}
 use Rattle.caller_view.proofs.OwnLemmas.{own-read}
 use Rattle.caller_view.proofs.ReadLemmas.{ruling-own_read}
+use Rattle.meeting_laws.specs.WrongAnswers.{a_member, own_vote}
+use Rattle.meeting_laws.specs.WrongOwnThings.{quiet_meeting}
+use Rattle.meeting_laws.specs.WrongReads.{ReadsTooLittle, reads_no_row}
 use Rattle.meeting_laws.specs.Reads.{ReadsEnough, RowsGiveOwnThings, RowsReadAreEnough}
 
 -- what passes a test passes it again
@@ -100,3 +105,14 @@ pub own_of_rows : RowsGiveOwnThings
 own_of_rows office meeting rows public now same known =
     ap (λ made. own_from made public now) same
     ∙ ap (λ record_of. own_from (rows_in (meeting_at office meeting) rows.party) record_of now) known
+
+-- ---- a wrong reading
+
+pub row_missed : ReadsTooLittle reads_no_row quiet_meeting a_member own_vote
+row_missed = record {
+  is_one = refl;
+  apart = λ h. absurd (true≢false (ap (λ (a : Answer Entry). is_refused a) h));
+}
+
+pub row_missed_caught : ReadsEnough reads_no_row → ⊥
+row_missed_caught law = row_missed.apart (law (public_in (Some quiet_meeting) []) (own_in quiet_meeting [] a_member 0) 0 own_vote)

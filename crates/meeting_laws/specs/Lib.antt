@@ -10,3 +10,4 @@ pub mod Worlds
 pub mod WrongAnswers
 pub mod WrongLoads
 pub mod WrongOwnThings
+pub mod WrongReads

@@ -1,10 +1,11 @@
 -- Loads: a file that comes twice in turn acts once.
-use Rattle.std.specs.Prelude.{◌≡◌, Bool, true, false, nat_le}
+use Rattle.std.specs.Prelude.{◌≡◌, ⊤, Bool, true, false, nat_le, List, ◌∷◌, Some, IsTrue, option_map}
 use Rattle.desk_words.specs.Changes.{after_some}
 use Rattle.desk_words.specs.Rulings.{replied}
 use Rattle.desk_words.specs.Seen.{Moment}
 use Rattle.desk_words.specs.declared.answer.Answer.{Answer}
 use Rattle.desk_words.specs.declared.change.Change.{Change}
+use Rattle.desk_words.specs.declared.office.MeetingLists.{MeetingLists}
 use Rattle.desk_words.specs.declared.office.OfficeLists.{OfficeLists}
 use Rattle.desk_words.specs.declared.reply.Reply.{Reply}
 use Rattle.desk_words.specs.declared.reply.Reply.TheVariants as reply
@@ -13,7 +14,8 @@ use Rattle.desk_words.specs.declared.request.DeskRequest.TheVariants as desk
 use Rattle.desk_words.specs.declared.request.OfficeRequest.TheVariants.{LoadRegister}
 use Rattle.desk_words.specs.declared.request.Request.{Request}
 use Rattle.desk_words.specs.declared.request.Request.TheVariants as asked
-use Rattle.meeting_core.specs.Step.{decided, stepped}
+use Rattle.caller_view.specs.Views.{meeting_at}
+use Rattle.meeting_core.specs.Step.{after_reply, decided, run_of, stepped}
 
 -- what decides calls: from an office and a call, a reply and at most one change
 abbrev pub Deciding : Type 0
@@ -46,18 +48,44 @@ is_in_turn other first again = nat_le first again
 abbrev pub again_at : Moment → Call → Call
 again_at moment call = record call { moment = moment }
 
--- a load that was accepted and comes again in turn is answered as the same, without a change
+-- the office holds what is to be loaded
+abbrev pub HoldsLoad : OfficeLists → Request → Type 0
+HoldsLoad office (asked.Desk (desk.ClosedDays days)) = office.closed ≡ days
+HoldsLoad office (asked.Desk (desk.Keys rows)) = office.keys ≡ rows
+HoldsLoad office (asked.Office meeting (LoadRegister new)) =
+    option_map (λ (m : MeetingLists). m.register) (meeting_at office meeting) ≡ Some new.rows
+HoldsLoad office other = ⊤
+
+-- a load that is accepted acts: what was to be loaded is held after it
+abbrev pub HoldsWhatIsLoaded : Deciding → Type 0
+HoldsWhatIsLoaded deciding =
+    (office : OfficeLists) (call : Call) → accepts_load (deciding office call).reply ≡ true
+    → HoldsLoad (after_call deciding office call) call.request
+
+-- a load that was accepted in an office comes again in turn, at some moment
+pub record ComesAgain (deciding : Deciding) (office : OfficeLists) (call : Call) (again : Moment)
+    : Type 0 where
+  pub load : IsTrue (is_load call.request)
+  pub accepted : IsTrue (accepts_load (deciding office call).reply)
+  pub in_turn : IsTrue (is_in_turn call.request call.moment again)
+
+-- a load that comes again is answered as the same, without a change
 abbrev pub AnswersSameAgain : Deciding → Type 0
 AnswersSameAgain deciding =
-    (office : OfficeLists) (call : Call) (again : Moment) → is_load call.request ≡ true
-    → accepts_load (deciding office call).reply ≡ true
-    → is_in_turn call.request call.moment again ≡ true
+    (office : OfficeLists) (call : Call) (again : Moment) → ComesAgain deciding office call again
     → deciding (after_call deciding office call) (again_at again call) ≡ replied reply.Same
 
--- so two such loads in turn leave the office that one of them leaves
+-- so both together leave the office that one of them leaves
 abbrev pub LeavesTheOfficeOfOne : Type 0
 LeavesTheOfficeOfOne =
-    (office : OfficeLists) (call : Call) (again : Moment) → is_load call.request ≡ true
-    → accepts_load (decided office call).reply ≡ true
-    → is_in_turn call.request call.moment again ≡ true
+    (office : OfficeLists) (call : Call) (again : Moment) → ComesAgain decided office call again
     → stepped (stepped office call) (again_at again call) ≡ stepped office call
+
+-- and a run is as though the load had come once, but for one reply more, that it is the same
+abbrev pub RunsAsOfOne : Type 0
+RunsAsOfOne =
+    (office : OfficeLists) (call : Call) (again : Moment) (later : List Call)
+    → ComesAgain decided office call again
+    → run_of office (call ∷ again_at again call ∷ later)
+    ≡ after_reply (decided office call).reply
+    (after_reply reply.Same (run_of (stepped office call) later))

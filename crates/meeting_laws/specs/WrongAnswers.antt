@@ -19,6 +19,7 @@ use Rattle.desk_words.specs.declared.records.RegisterRow.{RegisterRow}
 use Rattle.desk_words.specs.declared.reply.Reply.{Reply}
 use Rattle.desk_words.specs.declared.reply.Reply.TheVariants as reply
 use Rattle.desk_words.specs.declared.request.Request.{Request}
+use Rattle.desk_words.specs.declared.request.PartyRequest.{PartyRequest}
 use Rattle.desk_words.specs.declared.request.PartyRequest.TheVariants.{Cast}
 use Rattle.desk_words.specs.declared.request.Request.TheVariants as asked
 use Rattle.caller_view.specs.Views.{meeting_at}
@@ -124,10 +125,12 @@ vote_of_another = record {
   moment = 0;
 }
 
+-- the member's vote for the resolution on its own share
+abbrev pub own_vote : PartyRequest
+own_vote =
+    Cast
+    (record { resolution = 1; capacity = Member; member = a_member; from = 1; to = 1; way = For })
+
 -- what the member asks
 abbrev pub vote_wanted : Request
-vote_wanted =
-    asked.Party a_meeting
-    (Cast
-    (record
-    { resolution = 1; capacity = Member; member = a_member; from = 1; to = 1; way = For }))
+vote_wanted = asked.Party a_meeting own_vote

@@ -1,4 +1,5 @@
--- Wrong ways to decide loads, and an office and a load that each of them acts on twice.
+-- Wrong ways to decide loads, and an office and a load on which each of them acts twice, or
+-- never.
 use Rattle.std.specs.Prelude.{◌≡◌, IsTrue, [], ◌∷◌, Option, Some, None}
 use Rattle.desk_words.specs.Office.{is_office}
 use Rattle.desk_words.specs.Rulings.{replied}
@@ -17,7 +18,7 @@ use Rattle.desk_words.specs.declared.request.OfficeRequest.TheVariants.{LoadRegi
 use Rattle.desk_words.specs.declared.request.Request.{Request}
 use Rattle.desk_words.specs.declared.request.Request.TheVariants as asked
 use Rattle.meeting_core.specs.Step.{decided}
-use Rattle.meeting_laws.specs.Loads.{Deciding, accepts_load, after_call, again_at, is_in_turn, is_load}
+use Rattle.meeting_laws.specs.Loads.{ComesAgain, Deciding, HoldsLoad, accepts_load, after_call, again_at}
 
 -- the change that a load makes, were it held or not
 abbrev pub change_by : Request → Option Change
@@ -27,7 +28,7 @@ change_by (asked.Office meeting (LoadRegister new)) =
     Some (InMeeting meeting (SetRegister new.rows))
 change_by other = None
 
--- the answer, but what is held is answered so
+-- the wrong answer where what is to be loaded is held, and else the right one
 abbrev pub where_held : Answer Change → Answer Change → Reply → Answer Change
 where_held wrong right reply.Same = wrong
 where_held wrong right other = right
@@ -44,6 +45,10 @@ writes_anew office call =
     let right = decided office call in where_held
     (record { reply = reply.Same; change = change_by call.request }) right right.reply
 
+-- what is loaded is told to be, and is not written
+abbrev pub tells_alone : Deciding
+tells_alone office call = replied (decided office call).reply
+
 -- the load of one closed day
 abbrev pub a_load : Call
 a_load = record {
@@ -52,12 +57,16 @@ a_load = record {
   request = asked.Desk (desk.ClosedDays (1 ∷ []));
 }
 
--- a load that was accepted in an office acts again when it comes again in turn
+-- a load that comes again in an office acts again
 pub record ActsTwice (deciding : Deciding) (office : OfficeLists) (call : Call) (again : Moment)
     : Type 0 where
   pub is_one : IsTrue (is_office office)
-  pub load : IsTrue (is_load call.request)
-  pub accepted : IsTrue (accepts_load (deciding office call).reply)
-  pub in_turn : IsTrue (is_in_turn call.request call.moment again)
+  pub comes : ComesAgain deciding office call again
   pub acts : deciding (after_call deciding office call) (again_at again call)
       ≡ replied reply.Same → ⊥
+
+-- what is accepted in an office as a load is not held after it
+pub record ActsNever (deciding : Deciding) (office : OfficeLists) (call : Call) : Type 0 where
+  pub is_one : IsTrue (is_office office)
+  pub accepted : IsTrue (accepts_load (deciding office call).reply)
+  pub lacks : HoldsLoad (after_call deciding office call) call.request → ⊥

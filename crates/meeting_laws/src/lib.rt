@@ -1,5 +1,5 @@
-//! Laws of the office: what a party may learn, how calls are refused, and that what is asked and
-//! told in a meeting agrees with its rules.
+//! Laws of the office: what a party may learn, how calls are refused and files loaded, and that
+//! what is asked and told in a meeting agrees with its rules.
 #![tactic(auto)]
 
 mod loads;
@@ -12,12 +12,12 @@ mod worlds;
 ghost use Rattle.meeting_laws.specs.Laws.{DemandsByCapacity};
 ghost use Rattle.meeting_laws.specs.Secrecy.{TheOfficeIsToldOfNoVotes, VotesAreNotPublic};
 
-pub use loads::{loads_act_once, loads_that_act_twice_are_caught};
+pub use loads::{loads_act_once, wrong_loads_are_caught};
 pub use own_things::{
     others_things_are_caught, own_things_are_ones_own, own_things_tell_what_governs,
 };
 pub use proxies::proxies_cast_by_the_rules;
-pub use reads::{rows_give_own_things, what_is_read_is_enough};
+pub use reads::{rows_give_own_things, too_little_read_is_caught, what_is_read_is_enough};
 pub use refusals::{lowest_refusal, refused_calls_change_nothing};
 use vote_rules::laws::tallies_read_their_own_casts;
 pub use worlds::{names, running_total_is_caught, two_worlds};
