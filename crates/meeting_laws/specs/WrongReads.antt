@@ -8,7 +8,7 @@ use Rattle.caller_view.specs.Reads.{own_read}
 use Rattle.caller_view.specs.Views.{own_in, public_in}
 use Rattle.meeting_laws.specs.Reads.{Reading, answered}
 
--- the party's own row is not read
+-- the party's own holding is not read
 abbrev pub reads_no_row : Reading
 reads_no_row asked own = record (own_read asked own) { row = None }
 

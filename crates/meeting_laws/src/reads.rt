@@ -13,7 +13,7 @@ pub fn what_is_read_is_enough()
     ensures rows { RowsReadAreEnough }
 {}
 
-/// That law can fail: where a party's own row is not read, a member's vote on its own share is
+/// That law can fail: where a party's own holding is not read, a member's vote on its own share is
 /// refused that is else recorded.
 pub fn too_little_read_is_caught()
     ensures row { ReadsTooLittle reads_no_row quiet_meeting a_member own_vote }
