@@ -1,4 +1,5 @@
 pub mod Kinds
+pub mod Limits
 pub mod Names
 pub mod Places
 pub mod Refusals

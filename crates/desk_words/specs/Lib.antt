@@ -3,6 +3,7 @@ pub mod Changes
 pub mod Finding
 pub mod Keys
 pub mod Laws
+pub mod Limits
 pub mod Lists
 pub mod Majority
 pub mod Office
