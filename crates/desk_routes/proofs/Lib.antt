@@ -1,2 +1,3 @@
 pub mod Chained
 mod PhraseLemmas
+mod TargetLemmas

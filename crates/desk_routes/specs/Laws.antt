@@ -1,11 +1,13 @@
 -- Laws of what is asked and answered over HTTP.
 use Rattle.std.specs.Prelude.{◌≡◌, ℕ, ◌≤◌, List, ◌++◌, length, Some, None, option_map, codes}
+use Rattle.desk_bodies.specs.Routes.{route_of}
+use Rattle.desk_bodies.specs.declared.route.Route.{Route}
 use Rattle.desk_terms.specs.Refusals.{number_of}
 use Rattle.desk_terms.specs.declared.refusal.Refusal.{Refusal}
 use Rattle.desk_routes.specs.Methods.{method_of}
 use Rattle.desk_routes.specs.ReplyTexts.{reply_text}
 use Rattle.desk_routes.specs.Statuses.{refusal_status}
-use Rattle.desk_routes.specs.Targets.{target_route}
+use Rattle.desk_routes.specs.Targets.{served, target_route}
 
 -- each refusal from the eighth on is a conflict
 abbrev pub RulesConflict : Type 0
@@ -37,3 +39,20 @@ pub record TargetsAreToldApart : Type 0 where
   pub register : target_route (codes "/m/G1/register") ≡ None
   pub closed : target_route (codes "/m/-/closed") ≡ None
   pub keys : target_route (codes "/m/-/keys") ≡ None
+
+-- `/m/`, a meeting, a slash and a verb
+abbrev pub target_of : List ℕ → List ℕ → List ℕ
+target_of meeting verb = codes "/m/" ++ (meeting ++ (codes "/" ++ verb))
+
+-- a target has the route of the meeting and the verb that it is spelled with, if that is served,
+-- and no other target has one
+pub record TargetsAreSpelled : Type 0 where
+  pub named : (meeting verb : List ℕ) (way : Route)
+      → route_of meeting verb ≡ Some way
+      → served way ≡ Some way
+      → target_route (target_of meeting verb) ≡ Some way
+  pub no_other : (target : List ℕ) (way : Route)
+      → target_route target ≡ Some way
+      → (meeting : List ℕ) × (verb : List ℕ) × (target ≡ target_of meeting verb)
+      × (route_of meeting verb ≡ Some way)
+      × (served way ≡ Some way)

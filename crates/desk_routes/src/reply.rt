@@ -65,7 +65,8 @@ pub fn write_reply<W: Sink>(
     ensures works { OnOk result (W.failures writer.new ≡ W.failures writer.old) }
     ensures failed { OnErr result (W.failures writer.new ≡ one_more (W.failures writer.old)) }
     ensures partly { OnErr result
-        (AppendsPrefix (W.contents writer.old) (W.contents writer.new) (reply_text status body.now)) }
+        (AppendsPrefix (W.contents writer.old) (W.contents writer.new)
+        (reply_text status body.now)) }
 {
     write_status(status, writer)?;
     write_headers(body.len(), writer)?;
