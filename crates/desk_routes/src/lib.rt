@@ -8,6 +8,7 @@ mod reply;
 mod status;
 mod target;
 
+pub use http::StatusCode;
 pub use method::{is_method_of, method_of};
 pub use reply::{failure_reply, write_reply};
 pub use status::status_of;
