@@ -1,6 +1,6 @@
 //! Register files.
 ghost use Rattle.std.specs.Prelude.{◌≡◌, ◌+◌, ◌<◌, ◌≤◌, IfOk, IfErr, IfSome, IsTrue};
-ghost use Rattle.std.specs.Prelude.{bytes_eq, ok_or};
+ghost use Rattle.std.specs.Prelude.{◌≢◌, None, Err, bytes_eq, ok_or};
 ghost use Rattle.csv.specs.Records.{fields_of};
 ghost use Rattle.desk_terms.specs.Kinds.{holder_kind_of, holder_kind_word};
 ghost use Rattle.desk_terms.specs.Texts.{text_of};
@@ -67,7 +67,8 @@ fn read_kind(bytes: &[u8]) -> Option<HolderKind>
 }
 
 fn read_text(alloc: Global, line: u64, bytes: &[u8]) -> Result<Text, FileFault>
-    ensures { Gives itself result (ok_or (text_of bytes.now) (FileFault.BadRow line Why.Name)) }
+    ensures text { Gives itself result (ok_or (text_of bytes.now) (FileFault.BadRow line Why.Name)) }
+    ensures memory { (result ≡ Err FileFault.Memory) → text_of bytes.now ≢ None }
 {
     match Text::new(alloc, bytes) {
         Ok(text) => Ok(text),
@@ -206,7 +207,8 @@ fn with_row(alloc: Global, so_far: RowsSoFar, fields: &ByteRecord) -> Result<Row
 
 /// The register of the rows, of which there must be one.
 fn as_register(so_far: RowsSoFar) -> Result<Register, FileFault>
-    ensures { Gives itself result (as_register so_far) }
+    ensures register { Gives itself result (as_register so_far) }
+    ensures no_memory { (result ≡ Err FileFault.Memory) → ⊥ }
 {
     let RowsSoFar { rows, .. } = so_far;
     match Register::new(rows) {
@@ -215,7 +217,7 @@ fn as_register(so_far: RowsSoFar) -> Result<Register, FileFault>
             line: 1,
             why: Why::Rows,
         }),
-        Err(ListFault::Memory) => Err(FileFault::Memory),
+        Err(ListFault::Memory) => unreachable!(),
     }
 }
 
