@@ -1,10 +1,10 @@
 //! Key files.
-ghost use Rattle.std.specs.Prelude.{◌≡◌, ◌+◌, ◌≤◌, Err, IfErr, IfSome};
+ghost use Rattle.std.specs.Prelude.{◌≡◌, ℕ, ◌+◌, ◌≤◌, List, Err, IfErr};
 ghost use Rattle.csv.specs.Records.{fields_of};
 ghost use Rattle.desk_files.specs.Faults.{Gives, IfJudged, itself};
 ghost use Rattle.desk_files.specs.Keys.{is_key_header, key_in, next_key, as_key_list, key_file};
 ghost use Rattle.desk_files.specs.Tables.{one_row_more};
-ghost use Rattle.desk_files.specs.Whole.{HasCause, IsReadWhole};
+ghost use Rattle.desk_files.specs.Whole.{HasCause, HaveCome, IsReadWhole};
 ghost use Rattle.desk_files.specs.declared.fault.FileFault.TheVariants.{Memory};
 
 use crate::columns::column;
@@ -168,7 +168,8 @@ fn keys_in(alloc: Global, bytes: &[u8]) -> Result<KeyRows, FileFault>
 /// was refused.
 pub fn read_keys<S: Source>(alloc: Global, source: &mut S) -> Result<KeyRows, FileFault>
     ensures spelled { IfJudged result
-        (IfSome (S.remaining source.old) (λ bytes. Gives itself result (key_file bytes))) }
+        ((bytes : List ℕ) × HaveCome bytes (S.remaining source.old) (S.passed source.old)
+        (S.passed source.new) × Gives itself result (key_file bytes)) }
     ensures whole { IfJudged result
         (IsReadWhole FILE_LIMIT (S.remaining source.old) (S.remaining source.new)
         (S.passed source.old) (S.passed source.new) (S.failures source.old)

@@ -1,5 +1,5 @@
 //! Register files.
-ghost use Rattle.std.specs.Prelude.{◌≡◌, ◌+◌, ◌<◌, ◌≤◌, IfOk, IfErr, IfSome, IsTrue};
+ghost use Rattle.std.specs.Prelude.{◌≡◌, ℕ, ◌+◌, ◌<◌, ◌≤◌, List, IfOk, IfErr, IsTrue};
 ghost use Rattle.std.specs.Prelude.{◌≢◌, None, Err, bytes_eq, ok_or};
 ghost use Rattle.csv.specs.Records.{fields_of};
 ghost use Rattle.desk_terms.specs.Kinds.{holder_kind_of, holder_kind_word};
@@ -9,7 +9,7 @@ ghost use Rattle.desk_files.specs.Faults.{Gives, IfJudged, itself};
 ghost use Rattle.desk_files.specs.Registers.{is_register_header, row_in, next_spelled};
 ghost use Rattle.desk_files.specs.Registers.{next_row, as_register, register_file};
 ghost use Rattle.desk_files.specs.Tables.{one_row_more};
-ghost use Rattle.desk_files.specs.Whole.{HasCause, IsReadWhole};
+ghost use Rattle.desk_files.specs.Whole.{HasCause, HaveCome, IsReadWhole};
 
 use crate::columns::column;
 use crate::fault::{FileFault, Why};
@@ -252,7 +252,8 @@ fn register_in(alloc: Global, bytes: &[u8]) -> Result<Register, FileFault>
 /// one; `Memory`, that an allocation was refused.
 pub fn read_register<S: Source>(alloc: Global, source: &mut S) -> Result<Register, FileFault>
     ensures spelled { IfJudged result
-        (IfSome (S.remaining source.old) (λ bytes. Gives itself result (register_file bytes))) }
+        ((bytes : List ℕ) × HaveCome bytes (S.remaining source.old) (S.passed source.old)
+        (S.passed source.new) × Gives itself result (register_file bytes)) }
     ensures whole { IfJudged result
         (IsReadWhole FILE_LIMIT (S.remaining source.old) (S.remaining source.new)
         (S.passed source.old) (S.passed source.new) (S.failures source.old)
