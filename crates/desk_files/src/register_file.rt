@@ -67,7 +67,8 @@ fn read_kind(bytes: &[u8]) -> Option<HolderKind>
 }
 
 fn read_text(alloc: Global, line: u64, bytes: &[u8]) -> Result<Text, FileFault>
-    ensures text { Gives itself result (ok_or (text_of bytes.now) (FileFault.BadRow line Why.Name)) }
+    ensures text { Gives itself result
+        (ok_or (text_of bytes.now) (FileFault.BadRow line Why.Name)) }
     ensures memory { (result ≡ Err FileFault.Memory) → text_of bytes.now ≢ None }
 {
     match Text::new(alloc, bytes) {

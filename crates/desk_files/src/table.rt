@@ -3,8 +3,8 @@ ghost use Rattle.std.specs.Prelude.{◌≡◌, [], true, option_map, Err, IfNone
 ghost use Rattle.csv.specs.Reading.{ReadRecord, has_failed};
 ghost use Rattle.csv.specs.Records.{fields_of};
 ghost use Rattle.desk_files.specs.Faults.{Gives};
-ghost use Rattle.desk_files.specs.Tables.{ReadsRecords, left_of_slice, one_record_more, one_row_more};
-ghost use Rattle.desk_files.specs.Tables.{table_of, under_header};
+ghost use Rattle.desk_files.specs.Tables.{ReadsRecords, left_of_slice, one_record_more};
+ghost use Rattle.desk_files.specs.Tables.{one_row_more, table_of, under_header};
 ghost use Rattle.desk_files.specs.declared.fault.FileFault.TheVariants.{Memory};
 
 use crate::fault::{FileFault, Why};
@@ -79,8 +79,8 @@ fn under_header<T: Gather>(found: Option<T>) -> Result<T, FileFault>
 }
 
 /// Reads the next record of a slice, and says whether there is one. The error says that the reader
-/// has stopped. It stops for want of memory, and where a read fails, which over a slice none does; a
-/// record may have any number of fields.
+/// has stopped. It stops for want of memory, and where a read fails, which over a slice none does;
+/// a record may have any number of fields.
 fn next_record(reader: &mut Reader<&[u8]>, fields: &mut ByteRecord) -> Result<bool, AllocError>
     requires { ReadsRecords reader.old }
     ensures reads { IfOk result
