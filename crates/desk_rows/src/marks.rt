@@ -1,7 +1,7 @@
 //! Rows of presences, demands, polls and casts.
 ghost use Rattle.std.specs.Prelude.{◌≡◌};
 ghost use Rattle.sqlite.specs.Order.{column};
-ghost use Rattle.desk_rows.specs.Meanings.{Gives, itself};
+ghost use Rattle.desk_rows.specs.Meanings.{Reads, itself};
 ghost use Rattle.desk_rows.specs.Marks.{presence_in, demand_in, tally_of, declared_in, poll_in, block_of, is_instructed, cast_kind_in, cast_in};
 
 use crate::column::{
@@ -53,7 +53,7 @@ impl FromRow for InMeeting<DemandMark> {
 
 #[tactic(auto, unfolding(crate::specs::Columns::number_in))]
 fn tally_in(row: &Row) -> Result<Tally, RowFault>
-    ensures { Gives itself result
+    ensures { Reads itself result
         (tally_of (column row.now 7) (column row.now 8) (column row.now 9) (column row.now 10)) }
 {
     let votes_for = number_in(row, 7)?;
@@ -70,7 +70,7 @@ fn tally_in(row: &Row) -> Result<Tally, RowFault>
 
 #[tactic(auto, unfolding(crate::specs::Marks::declared_in))]
 fn declared_in(row: &Row) -> Result<Option<Tally>, RowFault>
-    ensures { Gives itself result (declared_in row.now 7) }
+    ensures { Reads itself result (declared_in row.now 7) }
 {
     if is_null(row, 7) && is_null(row, 8) && is_null(row, 9) && is_null(row, 10) {
         return Ok(None);
@@ -108,7 +108,7 @@ impl FromRow for InMeeting<Poll> {
 
 #[tactic(auto, unfolding(crate::specs::Columns::number_in, crate::specs::Columns::spelled, crate::specs::Columns::worded))]
 fn block_in(row: &Row) -> Result<Block, RowFault>
-    ensures { Gives itself result
+    ensures { Reads itself result
         (block_of (column row.now 3) (column row.now 4) (column row.now 5) (column row.now 6)
         (column row.now 7)) }
 {
@@ -127,14 +127,14 @@ fn block_in(row: &Row) -> Result<Block, RowFault>
 }
 
 fn is_instructed(row: &Row) -> Result<bool, RowFault>
-    ensures { Gives itself result (is_instructed (column row.now 3)) }
+    ensures { Reads itself result (is_instructed (column row.now 3)) }
 {
     Ok(word_in(row, 3)? == "instructed")
 }
 
 #[tactic(auto, unfolding(crate::specs::Marks::cast_kind_in))]
 fn cast_kind_in(row: &Row) -> Result<CastKind, RowFault>
-    ensures { Gives itself result (cast_kind_in row.now 3) }
+    ensures { Reads itself result (cast_kind_in row.now 3) }
 {
     if !is_instructed(row)? {
         return Ok(CastKind::Block(block_in(row)?));

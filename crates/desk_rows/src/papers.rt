@@ -1,7 +1,7 @@
 //! Rows of appointments, endings and authorities.
 ghost use Rattle.std.specs.Prelude.{◌≡◌};
 ghost use Rattle.desk_terms.specs.Places.{range_of};
-ghost use Rattle.desk_rows.specs.Meanings.{Gives, itself};
+ghost use Rattle.desk_rows.specs.Meanings.{Gives, Reads, itself};
 ghost use Rattle.desk_rows.specs.Columns.{spelled};
 ghost use Rattle.desk_rows.specs.Instructions.{instructions_of};
 ghost use Rattle.desk_rows.specs.Papers.{appointment_in, ending_in, authority_in};
@@ -24,7 +24,7 @@ fn instructions_in(alloc: Global, row: &Row, at: usize) -> Result<Listing<Instr>
 
 /// The range with these ends.
 pub(crate) fn range_of(from: u64, to: u64) -> Result<Range, RowFault>
-    ensures { Gives itself result (range_of from to) }
+    ensures { Reads itself result (range_of from to) }
 {
     Range::new(from, to).ok_or(RowFault::Unreadable)
 }
