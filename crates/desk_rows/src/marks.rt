@@ -20,7 +20,9 @@ impl FromRow for InMeeting<PresenceMark> {
     ghost means = { presence_in };
 
     #[tactic(auto, unfolding(crate::specs::Marks::presence_in))]
-    fn from_row(_: Global, row: &Row) -> Result<InMeeting<PresenceMark>, RowFault> {
+    fn from_row(_: Global, row: &Row) -> Result<InMeeting<PresenceMark>, RowFault>
+        ensures { Reads itself result (presence_in row.now) }
+    {
         let meeting = meeting_in(row, 0)?;
         let party = party_in(row, 1)?;
         let moment = moment_in(row, 2)?;
@@ -35,7 +37,9 @@ impl FromRow for InMeeting<DemandMark> {
     ghost means = { demand_in };
 
     #[tactic(auto, unfolding(crate::specs::Marks::demand_in))]
-    fn from_row(_: Global, row: &Row) -> Result<InMeeting<DemandMark>, RowFault> {
+    fn from_row(_: Global, row: &Row) -> Result<InMeeting<DemandMark>, RowFault>
+        ensures { Reads itself result (demand_in row.now) }
+    {
         let meeting = meeting_in(row, 0)?;
         let resolution = number_in(row, 1)?;
         let party = party_in(row, 2)?;
@@ -82,7 +86,9 @@ impl FromRow for InMeeting<Poll> {
     ghost means = { poll_in };
 
     #[tactic(auto, unfolding(crate::specs::Marks::poll_in))]
-    fn from_row(_: Global, row: &Row) -> Result<InMeeting<Poll>, RowFault> {
+    fn from_row(_: Global, row: &Row) -> Result<InMeeting<Poll>, RowFault>
+        ensures { Reads itself result (poll_in row.now) }
+    {
         let meeting = meeting_in(row, 0)?;
         let resolution = number_in(row, 1)?;
         let ordered = moment_in(row, 2)?;
@@ -150,7 +156,9 @@ impl FromRow for InMeeting<CastMark> {
     ghost means = { cast_in };
 
     #[tactic(auto, unfolding(crate::specs::Marks::cast_in))]
-    fn from_row(_: Global, row: &Row) -> Result<InMeeting<CastMark>, RowFault> {
+    fn from_row(_: Global, row: &Row) -> Result<InMeeting<CastMark>, RowFault>
+        ensures { Reads itself result (cast_in row.now) }
+    {
         let meeting = meeting_in(row, 0)?;
         let resolution = number_in(row, 1)?;
         let voter = party_in(row, 2)?;

@@ -61,7 +61,9 @@ impl FromRow for InMeeting<Ending> {
     ghost means = { ending_in };
 
     #[tactic(auto, unfolding(crate::specs::Papers::ending_in))]
-    fn from_row(_: Global, row: &Row) -> Result<InMeeting<Ending>, RowFault> {
+    fn from_row(_: Global, row: &Row) -> Result<InMeeting<Ending>, RowFault>
+        ensures { Reads itself result (ending_in row.now) }
+    {
         let meeting = meeting_in(row, 0)?;
         let member = party_in(row, 1)?;
         let number = number_in(row, 2)?;
@@ -81,7 +83,9 @@ impl FromRow for InMeeting<Authority> {
     ghost means = { authority_in };
 
     #[tactic(auto, unfolding(crate::specs::Papers::authority_in))]
-    fn from_row(_: Global, row: &Row) -> Result<InMeeting<Authority>, RowFault> {
+    fn from_row(_: Global, row: &Row) -> Result<InMeeting<Authority>, RowFault>
+        ensures { Reads itself result (authority_in row.now) }
+    {
         let meeting = meeting_in(row, 0)?;
         let corporation = party_in(row, 1)?;
         let person = party_in(row, 2)?;
