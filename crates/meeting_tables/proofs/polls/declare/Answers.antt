@@ -2,6 +2,7 @@ use Rattle.std.proofs.Common.{◌≡◌, w64, rules, to_z, of_z, Some, refl}
 use Rattle.sqlite.specs.Held.{state}
 use Rattle.sqlite.specs.declared.types.Value.TheVariants.{Int}
 use Rattle.desk_rows.specs.Marks.{declared_of}
+use Rattle.desk_statements.proofs.Commits.{writes_nothing}
 use Rattle.meeting_tables.proofs.PollLemmas.{declares}
 use Rattle.meeting_tables.proofs.polls.declare.Goals as goal
 
@@ -18,3 +19,6 @@ returns-clause-set g c = λ clean inside desk.
     c.in_ok-votes_for.votes_for c.in_ok-votes_against.votes_against c.in_ok-withheld.withheld c.in_ok-eligible.eligible c.args.tally figures
     (state g.S.Store c.args.tx.now.conn.now) (state g.S.Store c.execute.new.self.conn.now) c.execute.result desk inside
     (rw (c.params-to_sql.ensures, c.params-to_sql-2.ensures, c.params-to_sql-3.ensures, c.params-to_sql-4.ensures, c.params-to_sql-5.ensures, c.params-to_sql-6.ensures, same_resolution, same_votes_for, same_votes_against, same_withheld, same_eligible) at (c.execute.ensures.runs clean inside))
+
+pub returns-clause-commits : goal.returns-clause-commits
+returns-clause-commits g c = writes_nothing g.S.Store c.args.tx.now.conn.now c.execute.new.self.conn.now _ _ c.execute.result c.execute.ensures.ended c.execute.ensures.runs c.execute.ensures.survives
