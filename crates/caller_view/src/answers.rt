@@ -7,23 +7,15 @@ ghost use Rattle.caller_view.specs.Appointments.{cutoff_in, given_use};
 use crate::appointments::{appoint, end, use_by};
 use crate::attendance::{attend, authorise, demand};
 use crate::casts::{cast, instructed};
+use crate::copies::copies_of;
 use crate::notices::notice_in;
 use crate::views::{OwnView, PublicRecord};
 use desk_words::{
-    Answer, CastMark, Entry, Given, GivenUse, Listing, Meeting, Mine, Moment, PartyRequest,
-    Received, Refusal, RegisterRow, Reply, refuse, tell,
+    Answer, Entry, Given, GivenUse, Listing, Meeting, Mine, Moment, PartyRequest, Received,
+    Refusal, Reply, refuse, tell,
 };
 use proxy_rules::cutoffs;
 use std::alloc::{AllocError, Global};
-
-pub(crate) fn copy_row(row: &Option<RegisterRow>) -> Result<Option<RegisterRow>, AllocError>
-    ensures { IfOk result (λ r. r ≡ row.now) }
-{
-    match row {
-        None => Ok(None),
-        Some(row) => Ok(Some(row.clone()?)),
-    }
-}
 
 fn used(given: &Given, cutoff: Moment) -> Result<GivenUse, AllocError>
     ensures { IfOk result (λ u. u ≡ given_use cutoff given.now) }
@@ -50,12 +42,6 @@ fn copy_received(received: &Listing<Received>) -> Result<Listing<Received>, Allo
     received.clone()
 }
 
-pub(crate) fn copy_casts(casts: &Listing<CastMark>) -> Result<Listing<CastMark>, AllocError>
-    ensures { IfOk result (λ l. l ≡ casts.now) }
-{
-    casts.clone()
-}
-
 /// The last moment at which an appointment counts for the meeting.
 pub(crate) fn cutoff_in(public: &PublicRecord, meeting: &Meeting, now: Moment) -> Moment
     ensures { result ≡ cutoff_in public.now meeting.now now }
@@ -74,16 +60,20 @@ fn mine(
     ensures { IfOk result (λ m. m ≡ mine_of public.now meeting.now own.now now) }
 {
     let cutoff = cutoff_in(public, meeting, now);
+    let given = given_uses(alloc, own.given.as_slice(), cutoff)?;
+    let received = copy_received(&own.received)?;
+    let authorised = own.authorised.clone()?;
+    let copies = copies_of(&own.row, &own.persons, &own.demands, &own.casts)?;
     Ok(Mine {
         meeting: meeting.id,
-        row: copy_row(&own.row)?,
-        given: Listing::from_vec(given_uses(alloc, own.given.as_slice(), cutoff)?),
-        persons: own.persons.clone()?,
-        received: copy_received(&own.received)?,
-        authorised: own.authorised.clone()?,
+        row: copies.row,
+        given: Listing::from_vec(given),
+        persons: copies.persons,
+        received,
+        authorised,
         present: own.present,
-        demands: own.demands.clone()?,
-        casts: copy_casts(&own.casts)?,
+        demands: copies.demands,
+        casts: copies.casts,
     })
 }
 

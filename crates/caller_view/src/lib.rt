@@ -5,6 +5,7 @@ mod answers;
 mod appointments;
 mod attendance;
 mod casts;
+mod copies;
 mod given;
 mod governed;
 mod notices;

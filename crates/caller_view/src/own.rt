@@ -7,7 +7,7 @@ ghost use Rattle.caller_view.specs.Rows.{rows_of};
 ghost use Rattle.caller_view.specs.Views.{own_in, public_in};
 ghost use Rattle.caller_view.specs.declared.rows.OwnRows.{OwnRows};
 
-use crate::answers::{copy_casts, copy_row};
+use crate::copies::copies_of;
 use crate::given::{authorised_from, given_from};
 use crate::governed::received_from;
 use crate::rows::OwnRows;
@@ -46,17 +46,20 @@ fn own_by(
 {
     let received = rows.received.as_slice();
     let members = rows.members.as_slice();
+    let given = given_from(alloc, rows.given.as_slice(), rows.ended.as_slice())?;
+    let received = received_from(alloc, received, members, closed, meeting, polls, now)?;
     let authorised = authorised_from(alloc, rows.authorised.as_slice())?;
+    let copies = copies_of(&rows.row, &rows.persons, &rows.demands, &rows.casts)?;
     Ok(OwnView {
         party: rows.party,
-        row: copy_row(&rows.row)?,
-        given: given_from(alloc, rows.given.as_slice(), rows.ended.as_slice())?,
-        persons: rows.persons.clone()?,
-        received: received_from(alloc, received, members, closed, meeting, polls, now)?,
+        row: copies.row,
+        given,
+        persons: copies.persons,
+        received,
         authorised: Listing::from_vec(authorised),
         present: rows.present,
-        demands: rows.demands.clone()?,
-        casts: copy_casts(&rows.casts)?,
+        demands: copies.demands,
+        casts: copies.casts,
     })
 }
 

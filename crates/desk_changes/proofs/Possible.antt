@@ -86,6 +86,6 @@ written_by g old new change table effect n apart does commits next = record {
   written = λ clean office h can.
       let done = does clean h.inside h.desk in
       record { desk = done.desk; version = version_kept table.number (state g old) (state g new) apart done.others h.version; inside = done.inside; means = becomes change (state g old) (state g new) office h can (next done) };
-  kept = λ clean office h. commits.kept clean h.inside;
+  kept = commits.kept;
   crash = commits.crash;
 }

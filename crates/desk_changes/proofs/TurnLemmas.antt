@@ -68,7 +68,7 @@ module _ {S : Type 0} (g : store.Ghosts S) where
   pub nothing_turned : (held : Held S) (test : FlatLists → Bool) (change : FlatLists → FlatLists) → ((flat : FlatLists) → change flat ≡ flat) → Turns {T = Unit {0}} g held held (Ok tt) test change
   nothing_turned held test change same = record {
     done = λ clean flat has good. subst (λ f. HoldsRecords f (state g held)) (sym (same flat)) has;
-    kept = λ clean flat has good. record { was_open = λ o. o; committed = λ o. refl };
+    kept = λ clean. record { was_open = λ o. o; committed = λ o. refl };
     crash = record {
       clean = omega arith;
       shield = λ h. h;
@@ -86,17 +86,17 @@ module _ {S : Type 0} (g : store.Ghosts S) where
       done = λ clean flat has good.
           let early : HasCleanDisk (state g b) = omega (arith, two.crash.clean) in
           two.done clean (first flat) (one.done early flat has good) (fits flat good);
-      kept = λ clean flat has good.
+      kept = λ clean.
           let early : HasCleanDisk (state g b) = omega (arith, two.crash.clean) in
-          let before = one.kept early flat has good in
-          let behind = two.kept clean (first flat) (one.done early flat has good) (fits flat good) in
+          let before = one.kept early in
+          let behind = two.kept clean in
           record { was_open = λ o. before.was_open (behind.was_open o); committed = λ o. behind.committed o ∙ before.committed (behind.was_open o) };
       crash = survives_then (state g a) (state g b) (state g c) (λ _. ⊥) (λ _. ⊥) (λ _. ⊥) (λ _ db none. none) (λ _ db none. none) one.crash two.crash;
     }
 
   -- a statement is refused
   pub turns_refused : {T : Type 0} (a b : Held S) (e : Error) (test : FlatLists → Bool) (change : FlatLists → FlatLists) → CommitsNothing g a b → Turns {T = T} g a b (Err e) test change
-  turns_refused a b e test change commits = record { done = λ clean flat has good. tt; kept = λ clean flat has good. commits.kept clean has.inside; crash = commits.crash }
+  turns_refused a b e test change commits = record { done = λ clean flat has good. tt; kept = commits.kept; crash = commits.crash }
 
   -- statements that are refused change nothing that is promised
   pub turns_err : {T U : Type 0} (a b : Held S) (r : Result T Error) (answer : Result U Error) (test : FlatLists → Bool) (turn change : FlatLists → FlatLists) → IsErr answer → Turns g a b r test turn → Turns g a b answer test change
@@ -116,7 +116,7 @@ module _ {S : Type 0} (g : store.Ghosts S) where
       → Turns {T = Unit {0}} g a b (Ok tt) any_records change
   turns_by a b n its effect change apart does commits flatly = record {
     done = λ clean flat has good. let it = does clean has.inside has.desk in record { desk = it.desk; version = version_kept its.number (state g a) (state g b) apart it.others has.version; inside = it.inside; means = flatly flat has.means it };
-    kept = λ clean flat has good. commits.kept clean has.inside;
+    kept = commits.kept;
     crash = commits.crash;
   }
 
@@ -131,9 +131,7 @@ module _ {S : Type 0} (g : store.Ghosts S) where
         let flat = bound (flat_in (state g a).now.trees) office_of office h.means in
         on_ok r (turns.done clean flat.0 (record { desk = h.desk; version = h.version; inside = h.inside; means = flat.1 }) refl) (λ has.
         record { desk = has.desk; version = has.version; inside = has.inside; means = ap (λ (o : Option FlatLists). o >>= office_of) has.means ∙ next flat.0 office (are_of flat.0 office flat.2) (possible office change can) });
-    kept = λ clean office h.
-        let flat = bound (flat_in (state g a).now.trees) office_of office h.means in
-        turns.kept clean flat.0 (record { desk = h.desk; version = h.version; inside = h.inside; means = flat.1 }) refl;
+    kept = turns.kept;
     crash = turns.crash;
   }
 
@@ -142,9 +140,7 @@ module _ {S : Type 0} (g : store.Ghosts S) where
   writes_failed a b r (Ok x) change turn bad turns = absurd cc
   writes_failed a b r (Err e) change turn bad turns = record {
     written = λ clean office h can. tt;
-    kept = λ clean office h.
-        let flat = bound (flat_in (state g a).now.trees) office_of office h.means in
-        turns.kept clean flat.0 (record { desk = h.desk; version = h.version; inside = h.inside; means = flat.1 }) refl;
+    kept = turns.kept;
     crash = turns.crash;
   }
 
@@ -196,10 +192,10 @@ module _ {S : Type 0} (g : store.Ghosts S) where
             means = closed_changed (state g b) (state g c) (with_days days flat) mid.means (λ was. was ++ day ∷ []) it
                 ∙ ap (λ l. Some (record flat { closed = l })) (append_assoc flat.closed days (day ∷ []));
           };
-      kept = λ clean flat has good.
+      kept = λ clean.
           let early : HasCleanDisk (state g b) = omega (arith, commits.crash.clean) in
-          let before = turns.kept early flat has good in
-          let behind = commits.kept clean (turns.done early flat has good).inside in
+          let before = turns.kept early in
+          let behind = commits.kept clean in
           record { was_open = λ o. before.was_open (behind.was_open o); committed = λ o. behind.committed o ∙ before.committed (behind.was_open o) };
       crash = survives_then (state g a) (state g b) (state g c) (λ _. ⊥) (λ _. ⊥) (λ _. ⊥) (λ _ db none. none) (λ _ db none. none) turns.crash commits.crash;
     }

@@ -31,8 +31,7 @@ pub record Writes {S T : Type 0} (g : store.Ghosts S) (old new : Held S) (result
   pub written : HasCleanDisk (state g new) → (office : OfficeLists) → Holds office (state g old)
       → IsTrue (can_make office change) → OnOk result (Holds (after office change) (state g new))
   -- whatever is answered, nothing is committed
-  pub kept : HasCleanDisk (state g new) → (office : OfficeLists) → Holds office (state g old)
-      → KeepsCommit (state g old) (state g new)
+  pub kept : HasCleanDisk (state g new) → KeepsCommit (state g old) (state g new)
   -- and a crash leaves what it left before
   pub crash : Survives (state g old) (state g new) (λ _. ⊥)
 
@@ -52,8 +51,7 @@ pub record Turns {S T : Type 0} (g : store.Ghosts S) (old new : Held S) (result 
   pub done : HasCleanDisk (state g new) → (flat : FlatLists) → HoldsRecords flat (state g old)
       → IsTrue (test flat) → OnOk result (HoldsRecords (change flat) (state g new))
   -- whatever is answered, nothing is committed
-  pub kept : HasCleanDisk (state g new) → (flat : FlatLists) → HoldsRecords flat (state g old)
-      → IsTrue (test flat) → KeepsCommit (state g old) (state g new)
+  pub kept : HasCleanDisk (state g new) → KeepsCommit (state g old) (state g new)
   -- and a crash leaves what it left before
   pub crash : Survives (state g old) (state g new) (λ _. ⊥)
 

@@ -1,5 +1,5 @@
 -- A command that takes one argument more.
-use Rattle.std.proofs.Common.{◌≡◌, Bool, true, false, ◌||◌, refl, ap, ap₂, ◌∙◌}
+use Rattle.std.proofs.Common.{◌≡◌, Bool, true, false, ◌||◌, refl, ap, ap₂, ◌∙◌, Result, Ok, Err, IfOk, IsOkAnd}
 use Rattle.clap.specs.Built.{AddsArg}
 use Rattle.clap.specs.Simple.{App, app_of, with_rule, with_subcommand}
 use Rattle.clap.specs.Walk.{Rule, rule_of}
@@ -21,3 +21,9 @@ pub takes-under : (old under new : Command) (a b : App) → TakesUnder old under
 takes-under old under new a b takes above below =
     let is = takes above.1 below.1 in
     (is.0 ∙ ap₂ with_subcommand above.0 (ap (λ (app : App). app.top) below.0), is.1)
+
+-- one command more under another, where it could be made
+pub takes-made : {E : Type 0} (old : Command) (made : Result Command E) (new : Command) (a b : App) → IsOkAnd made (λ under. TakesUnder old under new) → IsCommand old a
+    → IfOk made (λ under. IsCommand under b) → IsCommand new (with_subcommand a b.top)
+takes-made old (Ok under) new a b takes above below = takes-under old under new a b takes above below
+takes-made old (Err e) new a b takes above below = absurd takes

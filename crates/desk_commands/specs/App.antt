@@ -18,36 +18,33 @@ zone =
       defaults = codes "GMT0BST,M3.5.0/1,M10.5.0" ∷ [];
     }
 
+-- a command that takes the file of a desk
+abbrev pub on_file : Text → App
+on_file name = with_rule (new_app name) (wanted (codes "FILE"))
+
+-- a command that takes the file of a desk and a meeting
+abbrev pub on_meeting : Text → App
+on_meeting name = with_rule (on_file name) (wanted (codes "MEETING"))
+
+-- the command, and a file that it loads by the clock of a zone
+abbrev pub loading : Text → App → App
+loading id a = with_rule (with_rule a (wanted id)) zone
+
 abbrev pub init : App
-init = with_rule (new_app (codes "init")) (wanted (codes "FILE"))
+init = on_file (codes "init")
 
 abbrev pub keys : App
-keys =
-    with_rule
-    (with_rule (with_rule (new_app (codes "keys")) (wanted (codes "FILE"))) (wanted (codes "CSV")))
-    zone
+keys = loading (codes "CSV") (on_file (codes "keys"))
 
 abbrev pub days : App
-days =
-    with_rule
-    (with_rule (with_rule (new_app (codes "days")) (wanted (codes "FILE"))) (wanted (codes "TXT")))
-    zone
+days = loading (codes "TXT") (on_file (codes "days"))
 
 abbrev pub register : App
 register =
-    with_rule
-    (with_rule
-    (with_rule
-    (with_rule (with_rule (new_app (codes "register")) (wanted (codes "FILE")))
-    (wanted (codes "MEETING")))
-    (wanted (codes "RECORD")))
-    (wanted (codes "CSV")))
-    zone
+    loading (codes "CSV") (with_rule (on_meeting (codes "register")) (wanted (codes "RECORD")))
 
 abbrev pub results : App
-results =
-    with_rule (with_rule (new_app (codes "results")) (wanted (codes "FILE")))
-    (wanted (codes "MEETING"))
+results = on_meeting (codes "results")
 
 abbrev pub replay : App
 replay = new_app (codes "replay")

@@ -1,5 +1,5 @@
 //! The commands of the program, and the words that each takes.
-ghost use Rattle.std.specs.Prelude.{◌≡◌, IfOk, false, map, string_bytes};
+ghost use Rattle.std.specs.Prelude.{◌≡◌, IfOk, IsOkAnd, false, map, string_bytes};
 ghost use Rattle.clap.specs.Faults.{fault_of};
 ghost use Rattle.clap.specs.Kinds.{FailsBy};
 ghost use Rattle.clap.specs.Simple.{app_of, subcommand_of, subcommand_rows_of, with_rule, with_subcommand, new_app};
@@ -54,53 +54,55 @@ fn with_zone<'a>(alloc: Global, command: Command<'a>) -> Result<Command<'a>, All
     command.arg(zone(alloc))
 }
 
-fn init<'a>(alloc: Global) -> Result<Command<'a>, AllocError>
-    ensures { IfOk result (λ c. spec.IsCommand c spec.init) }
+/// A command that takes the file of a desk.
+fn on_file<'a>(alloc: Global, name: &'a str, about: &'a str) -> Result<Command<'a>, AllocError>
+    ensures { IfOk result (λ c. spec.IsCommand c (spec.on_file name.entry.now)) }
 {
-    let init = named(alloc, "init", help::INIT);
-    let init = with_word(alloc, init, "FILE", help::FILE)?;
-    Ok(init)
+    let named = named(alloc, name, about);
+    with_word(alloc, named, "FILE", help::FILE)
+}
+
+/// A command that takes the file of a desk and a meeting.
+fn on_meeting<'a>(alloc: Global, name: &'a str, about: &'a str) -> Result<Command<'a>, AllocError>
+    ensures { IfOk result (λ c. spec.IsCommand c (spec.on_meeting name.entry.now)) }
+{
+    let on_file = on_file(alloc, name, about)?;
+    with_word(alloc, on_file, "MEETING", help::MEETING)
+}
+
+/// The command, and a file that it loads by the clock of a zone.
+fn loading<'a>(
+    alloc: Global,
+    command: Command<'a>,
+    id: &'a str,
+    help: &'a str,
+) -> Result<Command<'a>, AllocError>
+    ensures { IfOk result (λ c. spec.Extends command.entry c (spec.loading id.entry.now)) }
+{
+    let with_file = with_word(alloc, command, id, help)?;
+    with_zone(alloc, with_file)
 }
 
 fn keys<'a>(alloc: Global) -> Result<Command<'a>, AllocError>
     ensures { IfOk result (λ c. spec.IsCommand c spec.keys) }
 {
-    let keys = named(alloc, "keys", help::KEYS);
-    let with_file = with_word(alloc, keys, "FILE", help::FILE)?;
-    let with_csv = with_word(alloc, with_file, "CSV", help::KEY_FILE)?;
-    let whole = with_zone(alloc, with_csv)?;
-    Ok(whole)
+    let keys = on_file(alloc, "keys", help::KEYS)?;
+    loading(alloc, keys, "CSV", help::KEY_FILE)
 }
 
 fn days<'a>(alloc: Global) -> Result<Command<'a>, AllocError>
     ensures { IfOk result (λ c. spec.IsCommand c spec.days) }
 {
-    let days = named(alloc, "days", help::DAYS);
-    let with_file = with_word(alloc, days, "FILE", help::FILE)?;
-    let with_txt = with_word(alloc, with_file, "TXT", help::DAY_FILE)?;
-    let whole = with_zone(alloc, with_txt)?;
-    Ok(whole)
+    let days = on_file(alloc, "days", help::DAYS)?;
+    loading(alloc, days, "TXT", help::DAY_FILE)
 }
 
 fn register<'a>(alloc: Global) -> Result<Command<'a>, AllocError>
     ensures { IfOk result (λ c. spec.IsCommand c spec.register) }
 {
-    let register = named(alloc, "register", help::REGISTER);
-    let with_file = with_word(alloc, register, "FILE", help::FILE)?;
-    let with_meeting = with_word(alloc, with_file, "MEETING", help::MEETING)?;
-    let with_record = with_word(alloc, with_meeting, "RECORD", help::RECORD)?;
-    let with_csv = with_word(alloc, with_record, "CSV", help::REGISTER_FILE)?;
-    let whole = with_zone(alloc, with_csv)?;
-    Ok(whole)
-}
-
-fn results<'a>(alloc: Global) -> Result<Command<'a>, AllocError>
-    ensures { IfOk result (λ c. spec.IsCommand c spec.results) }
-{
-    let results = named(alloc, "results", help::RESULTS);
-    let with_file = with_word(alloc, results, "FILE", help::FILE)?;
-    let with_meeting = with_word(alloc, with_file, "MEETING", help::MEETING)?;
-    Ok(with_meeting)
+    let register = on_meeting(alloc, "register", help::REGISTER)?;
+    let with_record = with_word(alloc, register, "RECORD", help::RECORD)?;
+    loading(alloc, with_record, "CSV", help::REGISTER_FILE)
 }
 
 /// The command, and one command more under it.
@@ -108,6 +110,18 @@ fn with_command<'a>(command: Command<'a>, under: Command<'a>) -> Result<Command<
     ensures { IfOk result (λ c. spec.TakesUnder command.entry under.entry c) }
 {
     command.subcommand(under)
+}
+
+/// The command, and one command more under it, if that could be made.
+fn with_made<'a>(
+    command: Command<'a>,
+    under: Result<Command<'a>, AllocError>,
+) -> Result<Command<'a>, AllocError>
+    ensures { IfOk result
+        (λ c. IsOkAnd under.entry (λ made. spec.TakesUnder command.entry made c)) }
+{
+    let made = under?;
+    with_command(command, made)
 }
 
 /// The program's name is given, since it is not among the words: else the help of a command lacks it.
@@ -125,20 +139,13 @@ fn top<'a>(alloc: Global) -> Result<Command<'a>, AllocError>
 fn desk<'a>(alloc: Global) -> Result<Command<'a>, AllocError>
     ensures { IfOk result (λ c. spec.IsCommand c spec.desk) }
 {
-    let init = init(alloc)?;
-    let keys = keys(alloc)?;
-    let days = days(alloc)?;
-    let register = register(alloc)?;
-    let results = results(alloc)?;
-    let replay = named(alloc, "replay", help::REPLAY);
     let top = top(alloc)?;
-    let first = with_command(top, init)?;
-    let second = with_command(first, keys)?;
-    let third = with_command(second, days)?;
-    let fourth = with_command(third, register)?;
-    let fifth = with_command(fourth, results)?;
-    let sixth = with_command(fifth, replay)?;
-    Ok(sixth)
+    let first = with_made(top, on_file(alloc, "init", help::INIT))?;
+    let second = with_made(first, keys(alloc))?;
+    let third = with_made(second, days(alloc))?;
+    let fourth = with_made(third, register(alloc))?;
+    let fifth = with_made(fourth, on_meeting(alloc, "results", help::RESULTS))?;
+    with_command(fifth, named(alloc, "replay", help::REPLAY))
 }
 
 /// What `clap` makes of the words, the program's own name not among them.

@@ -13,6 +13,11 @@ pub record IsReadWhole (limit : ℕ) (old new : Option (List ℕ))
   pub known_within : IfSome old (λ bytes. length bytes ≤ limit)
   pub none_failed : failures' ≡ failures
 
+-- these bytes came: as many as the source gave, and those that it held, where these are known
+pub record HaveCome (bytes : List ℕ) (held : Option (List ℕ)) (passed passed' : ℕ) : Type 0 where
+  pub count : passed' ≡ passed + length bytes
+  pub known : IfSome held (λ known. bytes ≡ known)
+
 -- why the bytes were not read: one read failed, or one byte more came than the limit; for want of
 -- memory no read failed
 abbrev pub HasCause : FileFault → ℕ → ℕ → ℕ → ℕ → ℕ → Type 0

@@ -1,12 +1,12 @@
 //! Files of closed days.
-ghost use Rattle.std.specs.Prelude.{◌≡◌, ◌+◌, ◌≤◌, length, position, Ok, IfOk, IfErr, IfSome};
+ghost use Rattle.std.specs.Prelude.{◌≡◌, ℕ, ◌+◌, ◌≤◌, List, length, position, Ok, IfOk, IfErr};
 ghost use Rattle.std.specs.BTreeSet.{keys, IsOrdered};
 ghost use Rattle.std.specs.Ordering.{nat_cmp};
 ghost use Rattle.csv.specs.Reading.{is_bom, strip_bom};
 ghost use Rattle.desk_lines.specs.Lines.{is_feed, without_return, first_line, after_line};
 ghost use Rattle.desk_files.specs.Days.{with_day, with_line, day_file};
 ghost use Rattle.desk_files.specs.Faults.{Gives, IfJudged, itself};
-ghost use Rattle.desk_files.specs.Whole.{HasCause, IsReadWhole};
+ghost use Rattle.desk_files.specs.Whole.{HasCause, HaveCome, IsReadWhole};
 
 use crate::fault::{FileFault, Why};
 use crate::whole::{DAY_FILE_LIMIT, read_whole};
@@ -151,7 +151,8 @@ fn days_in(alloc: Global, bytes: &[u8]) -> Result<DayList, FileFault>
 /// `Memory`, that an allocation was refused.
 pub fn read_days<S: Source>(alloc: Global, source: &mut S) -> Result<DayList, FileFault>
     ensures spelled { IfJudged result
-        (IfSome (S.remaining source.old) (λ bytes. Gives itself result (day_file bytes))) }
+        ((bytes : List ℕ) × HaveCome bytes (S.remaining source.old) (S.passed source.old)
+        (S.passed source.new) × Gives itself result (day_file bytes)) }
     ensures whole { IfJudged result
         (IsReadWhole DAY_FILE_LIMIT (S.remaining source.old) (S.remaining source.new)
         (S.passed source.old) (S.passed source.new) (S.failures source.old)

@@ -1,10 +1,11 @@
 //! Key files.
-ghost use Rattle.std.specs.Prelude.{◌≡◌, ◌+◌, ◌≤◌, IfErr, IfSome};
+ghost use Rattle.std.specs.Prelude.{◌≡◌, ℕ, ◌+◌, ◌≤◌, List, Err, IfErr};
 ghost use Rattle.csv.specs.Records.{fields_of};
 ghost use Rattle.desk_files.specs.Faults.{Gives, IfJudged, itself};
 ghost use Rattle.desk_files.specs.Keys.{is_key_header, key_in, next_key, as_key_list, key_file};
 ghost use Rattle.desk_files.specs.Tables.{one_row_more};
-ghost use Rattle.desk_files.specs.Whole.{HasCause, IsReadWhole};
+ghost use Rattle.desk_files.specs.Whole.{HasCause, HaveCome, IsReadWhole};
+ghost use Rattle.desk_files.specs.declared.fault.FileFault.TheVariants.{Memory};
 
 use crate::columns::column;
 use crate::fault::{FileFault, Why};
@@ -38,7 +39,8 @@ fn is_key_header(fields: &ByteRecord) -> bool
 /// The key that a record spells by itself.
 #[tactic(auto, unfolding(crate::specs::Keys::key_in))]
 fn key_in(line: u64, fields: &ByteRecord) -> Result<KeyRow, FileFault>
-    ensures { Gives itself result (key_in line (fields_of fields.now)) }
+    ensures key { Gives itself result (key_in line (fields_of fields.now)) }
+    ensures no_memory { (result ≡ Err Memory) → ⊥ }
 {
     let bad = |why| FileFault::BadRow { line, why };
     if fields.len() != 2 {
@@ -131,7 +133,8 @@ fn with_key(so_far: KeysSoFar, fields: &ByteRecord) -> Result<KeysSoFar, FileFau
 }
 
 fn as_key_list(so_far: KeysSoFar) -> Result<KeyRows, FileFault>
-    ensures { Gives itself result (as_key_list so_far) }
+    ensures keys { Gives itself result (as_key_list so_far) }
+    ensures no_memory { (result ≡ Err Memory) → ⊥ }
 {
     let KeysSoFar { rows, .. } = so_far;
     match KeyRows::new(rows) {
@@ -141,7 +144,7 @@ fn as_key_list(so_far: KeysSoFar) -> Result<KeyRows, FileFault>
             line: 1,
             why: Why::Rows,
         }),
-        Err(ListFault::Memory) => Err(FileFault::Memory),
+        Err(ListFault::Memory) => unreachable!(),
     }
 }
 
@@ -165,7 +168,8 @@ fn keys_in(alloc: Global, bytes: &[u8]) -> Result<KeyRows, FileFault>
 /// was refused.
 pub fn read_keys<S: Source>(alloc: Global, source: &mut S) -> Result<KeyRows, FileFault>
     ensures spelled { IfJudged result
-        (IfSome (S.remaining source.old) (λ bytes. Gives itself result (key_file bytes))) }
+        ((bytes : List ℕ) × HaveCome bytes (S.remaining source.old) (S.passed source.old)
+        (S.passed source.new) × Gives itself result (key_file bytes)) }
     ensures whole { IfJudged result
         (IsReadWhole FILE_LIMIT (S.remaining source.old) (S.remaining source.new)
         (S.passed source.old) (S.passed source.new) (S.failures source.old)

@@ -10,6 +10,7 @@ mod day_file;
 mod fault;
 mod faultless;
 mod key_file;
+pub mod laws;
 mod number;
 mod register_file;
 mod table;

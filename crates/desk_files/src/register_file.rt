@@ -1,6 +1,6 @@
 //! Register files.
-ghost use Rattle.std.specs.Prelude.{◌≡◌, ◌+◌, ◌<◌, ◌≤◌, IfOk, IfErr, IfSome, IsTrue};
-ghost use Rattle.std.specs.Prelude.{bytes_eq, ok_or};
+ghost use Rattle.std.specs.Prelude.{◌≡◌, ℕ, ◌+◌, ◌<◌, ◌≤◌, List, IfOk, IfErr, IsTrue};
+ghost use Rattle.std.specs.Prelude.{◌≢◌, None, Err, bytes_eq, ok_or};
 ghost use Rattle.csv.specs.Records.{fields_of};
 ghost use Rattle.desk_terms.specs.Kinds.{holder_kind_of, holder_kind_word};
 ghost use Rattle.desk_terms.specs.Texts.{text_of};
@@ -9,7 +9,7 @@ ghost use Rattle.desk_files.specs.Faults.{Gives, IfJudged, itself};
 ghost use Rattle.desk_files.specs.Registers.{is_register_header, row_in, next_spelled};
 ghost use Rattle.desk_files.specs.Registers.{next_row, as_register, register_file};
 ghost use Rattle.desk_files.specs.Tables.{one_row_more};
-ghost use Rattle.desk_files.specs.Whole.{HasCause, IsReadWhole};
+ghost use Rattle.desk_files.specs.Whole.{HasCause, HaveCome, IsReadWhole};
 
 use crate::columns::column;
 use crate::fault::{FileFault, Why};
@@ -67,7 +67,9 @@ fn read_kind(bytes: &[u8]) -> Option<HolderKind>
 }
 
 fn read_text(alloc: Global, line: u64, bytes: &[u8]) -> Result<Text, FileFault>
-    ensures { Gives itself result (ok_or (text_of bytes.now) (FileFault.BadRow line Why.Name)) }
+    ensures text { Gives itself result
+        (ok_or (text_of bytes.now) (FileFault.BadRow line Why.Name)) }
+    ensures memory { (result ≡ Err FileFault.Memory) → text_of bytes.now ≢ None }
 {
     match Text::new(alloc, bytes) {
         Ok(text) => Ok(text),
@@ -206,7 +208,8 @@ fn with_row(alloc: Global, so_far: RowsSoFar, fields: &ByteRecord) -> Result<Row
 
 /// The register of the rows, of which there must be one.
 fn as_register(so_far: RowsSoFar) -> Result<Register, FileFault>
-    ensures { Gives itself result (as_register so_far) }
+    ensures register { Gives itself result (as_register so_far) }
+    ensures no_memory { (result ≡ Err FileFault.Memory) → ⊥ }
 {
     let RowsSoFar { rows, .. } = so_far;
     match Register::new(rows) {
@@ -215,7 +218,7 @@ fn as_register(so_far: RowsSoFar) -> Result<Register, FileFault>
             line: 1,
             why: Why::Rows,
         }),
-        Err(ListFault::Memory) => Err(FileFault::Memory),
+        Err(ListFault::Memory) => unreachable!(),
     }
 }
 
@@ -250,7 +253,8 @@ fn register_in(alloc: Global, bytes: &[u8]) -> Result<Register, FileFault>
 /// one; `Memory`, that an allocation was refused.
 pub fn read_register<S: Source>(alloc: Global, source: &mut S) -> Result<Register, FileFault>
     ensures spelled { IfJudged result
-        (IfSome (S.remaining source.old) (λ bytes. Gives itself result (register_file bytes))) }
+        ((bytes : List ℕ) × HaveCome bytes (S.remaining source.old) (S.passed source.old)
+        (S.passed source.new) × Gives itself result (register_file bytes)) }
     ensures whole { IfJudged result
         (IsReadWhole FILE_LIMIT (S.remaining source.old) (S.remaining source.new)
         (S.passed source.old) (S.passed source.new) (S.failures source.old)

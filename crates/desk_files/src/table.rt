@@ -1,10 +1,11 @@
 //! Files of records: a header, and rows under it.
-ghost use Rattle.std.specs.Prelude.{◌≡◌, [], true, option_map, IfOk, OnErr, OnOk};
+ghost use Rattle.std.specs.Prelude.{◌≡◌, [], true, option_map, Err, IfNone, IfOk, OnErr, OnOk};
 ghost use Rattle.csv.specs.Reading.{ReadRecord, has_failed};
 ghost use Rattle.csv.specs.Records.{fields_of};
 ghost use Rattle.desk_files.specs.Faults.{Gives};
-ghost use Rattle.desk_files.specs.Tables.{ReadsRecords, left_of_slice, one_record_more, one_row_more};
-ghost use Rattle.desk_files.specs.Tables.{table_of, under_header};
+ghost use Rattle.desk_files.specs.Tables.{ReadsRecords, left_of_slice, one_record_more};
+ghost use Rattle.desk_files.specs.Tables.{one_row_more, table_of, under_header};
+ghost use Rattle.desk_files.specs.declared.fault.FileFault.TheVariants.{Memory};
 
 use crate::fault::{FileFault, Why};
 use csv::{ByteRecord, ErrorKind, Reader, ReaderBuilder};
@@ -47,9 +48,11 @@ fn one_record_more<T: Gather>(
     found: Option<T>,
     fields: &ByteRecord,
 ) -> Result<Option<T>, FileFault>
-    ensures { Gives (option_map T.seen) result
+    ensures rows { Gives (option_map T.seen) result
         (one_record_more T.names_columns T.row_after (option_map T.seen found)
         (fields_of fields.now)) }
+    ensures memory { (result ≡ Err Memory)
+        → IfNone found (T.names_columns (fields_of fields.now) ≡ true) }
 {
     match found {
         None => {
@@ -66,7 +69,8 @@ fn one_record_more<T: Gather>(
 }
 
 fn under_header<T: Gather>(found: Option<T>) -> Result<T, FileFault>
-    ensures { Gives T.seen result (under_header (option_map T.seen found)) }
+    ensures rows { Gives T.seen result (under_header (option_map T.seen found)) }
+    ensures no_memory { (result ≡ Err Memory) → ⊥ }
 {
     found.ok_or(FileFault::BadRow {
         line: 1,
@@ -75,8 +79,8 @@ fn under_header<T: Gather>(found: Option<T>) -> Result<T, FileFault>
 }
 
 /// Reads the next record of a slice, and says whether there is one. The error says that the reader
-/// has stopped. It stops for want of memory, and where a read fails, which over a slice none does; a
-/// record may have any number of fields.
+/// has stopped. It stops for want of memory, and where a read fails, which over a slice none does;
+/// a record may have any number of fields.
 fn next_record(reader: &mut Reader<&[u8]>, fields: &mut ByteRecord) -> Result<bool, AllocError>
     requires { ReadsRecords reader.old }
     ensures reads { IfOk result

@@ -1,6 +1,6 @@
 //! The reading of a whole file.
-ghost use Rattle.std.specs.Prelude.{◌≡◌, ℕ, ◌+◌, ◌≤◌, length, IfOk, IfErr, IfSome};
-ghost use Rattle.desk_files.specs.Whole.{HasCause, IsOfReading, IsReadWhole};
+ghost use Rattle.std.specs.Prelude.{◌≡◌, ℕ, ◌+◌, ◌≤◌, length, IfOk, IfErr};
+ghost use Rattle.desk_files.specs.Whole.{HasCause, HaveCome, IsOfReading, IsReadWhole};
 
 use crate::fault::FileFault;
 use desk_devices::{FillFailed, Source, read_to_fill};
@@ -29,7 +29,8 @@ pub(crate) fn read_whole<S: Source>(
         (S.failures source.new)) }
     ensures few { IfOk result (λ bytes. length bytes.items ≤ limit) }
     ensures bytes { IfOk result
-        (λ bytes. IfSome (S.remaining source.old) (λ known. bytes.items ≡ known)) }
+        (λ bytes. HaveCome bytes.items (S.remaining source.old) (S.passed source.old)
+        (S.passed source.new)) }
     ensures cause { IfErr result
         (λ fault. IsOfReading fault
         × HasCause fault limit (S.passed source.old) (S.passed source.new)

@@ -1,4 +1,5 @@
 pub mod EmptyLemmas
+pub mod FaultLemmas
 pub mod MakingLemmas
 pub mod OneSchema
 pub mod OpeningLemmas

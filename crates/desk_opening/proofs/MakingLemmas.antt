@@ -25,6 +25,6 @@ made_and_noted g a b c t u v one added commits = record {
   kept = λ clean inside empty.
       let early : HasCleanDisk (state g b) = omega (arith, commits.crash.clean, clean) in
       let done = one.made early inside empty in
-      keeps_then (state g a) (state g b) (state g c) (one.kept early inside empty) (commits.kept clean done.1);
+      keeps_then (state g a) (state g b) (state g c) (one.kept early inside empty) (commits.kept clean);
   crash = survives_then (state g a) (state g b) (state g c) (λ _. ⊥) (λ _. ⊥) (λ _. ⊥) (λ _ _ none. none) (λ _ _ none. none) one.crash commits.crash;
 }

@@ -1,6 +1,9 @@
 -- Why a database is not opened as a desk, and what is handed back then.
 use Rattle.std.specs.Prelude.{◌≡◌, ◌⊎◌, ◌≤◌, false, List, [], ◌∷◌, Some, Result, IsTrue}
 use Rattle.std.specs.Prelude.{IfErr, IfOk, OnOk}
+use Rattle.sqlite.specs.declared.error.Error.{Error}
+use Rattle.sqlite.specs.declared.error.Error.TheVariants.{SqliteFailure}
+use Rattle.sqlite.specs.declared.error.ErrorCode.TheVariants.{OutOfMemory}
 use Rattle.sqlite.specs.Held.{Held, state}
 use Rattle.sqlite.specs.State.{State, HasCleanDisk, IsUnchanged}
 use Rattle.sqlite.specs.Tree.{Trees}
@@ -15,6 +18,10 @@ use Rattle.desk_records.specs.Standing.{IsVersionOne}
 use Rattle.office_lists.specs.declared.fault.ReadFault.{ReadFault}
 use Rattle.office_lists.specs.declared.fault.ReadFault.TheVariants as reading
 use Rattle.desk_records.specs.Standing.{HasNoOffice, HasNoVersion, IsNewer}
+use Rattle.desk_tables.specs.declared.columns.ColumnFault.{ColumnFault}
+use Rattle.desk_tables.specs.declared.columns.ColumnFault.TheVariants as column
+use Rattle.desk_opening.specs.declared.fault.CreateFault.{CreateFault}
+use Rattle.desk_opening.specs.declared.fault.CreateFault.TheVariants as creating
 use Rattle.desk_opening.specs.declared.fault.OpenFault.{OpenFault}
 use Rattle.desk_opening.specs.declared.fault.OpenFault.TheVariants.{NotADesk, NewerVersion}
 use Rattle.desk_opening.specs.declared.fault.OpenFault.TheVariants.{Store, Memory}
@@ -68,6 +75,21 @@ abbrev pub fault_of_reading : ReadFault → OpenFault
 fault_of_reading reading.NoOffice = NotADesk
 fault_of_reading reading.Store = Store
 fault_of_reading reading.Memory = Memory
+
+-- why a desk was not made: want of memory, or what the store refused
+abbrev pub creating_fault : Error → CreateFault
+creating_fault (SqliteFailure OutOfMemory) = creating.Memory
+creating_fault other = creating.Store
+
+-- why a database was not opened: want of memory, or what the store refused
+abbrev pub opening_fault : Error → OpenFault
+opening_fault (SqliteFailure OutOfMemory) = Memory
+opening_fault other = Store
+
+-- where a column that is read is missing, the database is no desk
+abbrev pub fault_of_columns : ColumnFault → OpenFault
+fault_of_columns column.Missing = NotADesk
+fault_of_columns (column.Refused error) = opening_fault error
 
 -- so far the disk returned what was written
 abbrev pub IsCleanBack : {S : Type 0} → store.Ghosts S → HandedBack S → Type 0

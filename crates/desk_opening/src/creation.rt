@@ -40,6 +40,7 @@ fn make_desk<S: Alter>(conn: &mut Connection<S>) -> Result<(), Error>
 /// Makes the tables of a desk that holds nothing, in one transaction. The fault is `NotEmpty`
 /// exactly where the database has a table, an index or a view. A refusal hands the connection back,
 /// its tables as they were.
+#[tactic(auto, using(crate::proofs::FaultLemmas::never_not_empty))]
 pub fn create<S: Alter + Drop>(
     conn: Connection<S>,
 ) -> Result<Connection<S>, (CreateFault, Connection<S>)>

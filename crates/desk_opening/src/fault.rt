@@ -1,10 +1,10 @@
 //! Why a desk was not created or opened.
-ghost use Rattle.std.specs.Prelude.{◌≡◌, ◌≢◌, ◌⊎◌};
-ghost use Rattle.desk_opening.specs.Opening.{fault_of_reading};
-ghost use Rattle.desk_opening.specs.declared.fault.CreateFault.TheVariants.{NotEmpty};
-ghost use Rattle.desk_opening.specs.declared.fault.OpenFault.TheVariants as opening;
+ghost use Rattle.std.specs.Prelude.{◌≡◌};
+ghost use Rattle.desk_opening.specs.Opening.{creating_fault, opening_fault};
+ghost use Rattle.desk_opening.specs.Opening.{fault_of_columns, fault_of_reading};
 
 use desk_reading::ReadFault;
+use desk_tables::columns::ColumnFault;
 use sqlite::{Error, ErrorCode};
 
 /// Why a desk was not created.
@@ -32,7 +32,7 @@ pub enum OpenFault {
 }
 
 impl From<Error> for CreateFault {
-    ghost from_gives = { λ _ fault. fault ≢ NotEmpty };
+    ghost from_gives = { λ error fault. fault ≡ creating_fault error };
 
     fn from(error: Error) -> CreateFault {
         match error {
@@ -43,12 +43,23 @@ impl From<Error> for CreateFault {
 }
 
 impl From<Error> for OpenFault {
-    ghost from_gives = { λ _ fault. (fault ≡ opening.Store) ⊎ (fault ≡ opening.Memory) };
+    ghost from_gives = { λ error fault. fault ≡ opening_fault error };
 
     fn from(error: Error) -> OpenFault {
         match error {
             Error::SqliteFailure(ErrorCode::OutOfMemory) => OpenFault::Memory,
             _ => OpenFault::Store,
+        }
+    }
+}
+
+impl From<ColumnFault> for OpenFault {
+    ghost from_gives = { λ fault made. made ≡ fault_of_columns fault };
+
+    fn from(fault: ColumnFault) -> OpenFault {
+        match fault {
+            ColumnFault::Missing => OpenFault::NotADesk,
+            ColumnFault::Refused(error) => OpenFault::from(error),
         }
     }
 }

@@ -10,6 +10,7 @@ ghost use Rattle.desk_opening.specs.declared.fault.OpenFault.TheVariants.{NotADe
 ghost use Rattle.desk_opening.specs.declared.fault.OpenFault.TheVariants as opening;
 ghost use Rattle.desk_schema.specs.Statements.{IsDesk};
 ghost use Rattle.desk_schema.specs.Tables.{desk_schema};
+ghost use Rattle.desk_tables.specs.Columns.{HasColumns};
 ghost use Rattle.desk_words.specs.declared.office.OfficeLists.{OfficeLists};
 ghost use Rattle.desk_words.specs.Office.{is_office};
 ghost use Rattle.office_checks.specs.InOrder.{office_in_order};
@@ -37,6 +38,7 @@ pub enum HandedBack<S: Alter> {
 
 /// Opens the store of the connection once more. Only what is known of a store as it is opened says
 /// that the numbers of the rows of each table rise.
+#[tactic(auto, using(crate::proofs::FaultLemmas::of_the_store))]
 fn reopened<S: Alter + Drop>(
     alloc: Global,
     conn: Connection<S>,
@@ -159,7 +161,30 @@ fn examine<S: Alter>(conn: &mut Connection<S>, alloc: Global) -> Result<OfficeLi
     read
 }
 
+/// Judges whether each column that is read stands. The fault is `NotADesk` only where one does not.
+fn judge_columns<S: Alter>(conn: &mut Connection<S>) -> Result<(), OpenFault>
+    requires { conn.old.in_transaction ≡ false }
+    ensures ended { conn.new.in_transaction ≡ false }
+    ensures clean { doubt (state S.Store conn.old).is_clean
+        ≤ doubt (state S.Store conn.new).is_clean }
+    ensures same { HasCleanDisk (state S.Store conn.new) → IsTrue (state S.Store conn.new).is_open
+        → IsTrue (state S.Store conn.old).is_open
+        × ((state S.Store conn.new).now ≡ (state S.Store conn.old).now) }
+    ensures columns { HasCleanDisk (state S.Store conn.new)
+        → OnOk result (IsTrue (state S.Store conn.old).is_open
+        × HasColumns (state S.Store conn.old).now.schema) }
+    ensures no_desk { HasCleanDisk (state S.Store conn.new) → result ≡ Err NotADesk
+        → IsTrue (state S.Store conn.old).is_open
+        × ((state S.Store conn.old).now.schema ≢ desk_schema) }
+    ensures fault { IfErr result (λ fault. (fault ≢ NotADesk)
+        → (fault ≡ opening.Store) ⊎ (fault ≡ opening.Memory)) }
+{
+    columns::ask_columns(conn)?;
+    Ok(())
+}
+
 /// Whether the store is open, which a commit of nothing tells.
+#[tactic(auto, using(crate::proofs::FaultLemmas::of_the_store))]
 fn ask_open<S: Alter>(conn: &mut Connection<S>) -> Result<(), OpenFault>
     requires { conn.old.in_transaction ≡ false }
     ensures ended { conn.new.in_transaction ≡ false }
@@ -178,8 +203,8 @@ fn ask_open<S: Alter>(conn: &mut Connection<S>) -> Result<(), OpenFault>
     Ok(())
 }
 
-/// The office that tables of version 1 hold, where they are as they were and the store is open
-/// still.
+/// The office that tables of version 1 hold, where each column that is read stands, they are as they
+/// were and the store is open still.
 fn kept_office<S: Alter>(conn: &mut Connection<S>, alloc: Global) -> Result<OfficeLists, OpenFault>
     requires { conn.old.in_transaction ≡ false }
     ensures ended { conn.new.in_transaction ≡ false }
@@ -190,6 +215,8 @@ fn kept_office<S: Alter>(conn: &mut Connection<S>, alloc: Global) -> Result<Offi
     ensures stands { HasCleanDisk (state S.Store conn.new) → IsDesk (state S.Store conn.old)
         → IfOk result (Stands (state S.Store conn.new)) }
     ensures office { IfOk result (λ office. IsTrue (is_office office)) }
+    ensures columns { HasCleanDisk (state S.Store conn.new)
+        → OnOk result (HasColumns (state S.Store conn.new).now.schema) }
     ensures schema { HasCleanDisk (state S.Store conn.new) → IsTrue (state S.Store conn.old).is_open
         → OnOk result ((state S.Store conn.new).now.schema ≡ desk_schema
         → (state S.Store conn.old).now.schema ≡ desk_schema) }
@@ -204,6 +231,7 @@ fn kept_office<S: Alter>(conn: &mut Connection<S>, alloc: Global) -> Result<Offi
 {
     let _ = conn.schema();
     let office = examine(conn, alloc)?;
+    judge_columns(conn)?;
     ask_open(conn)?;
     let _ = conn.schema();
     Ok(office)
@@ -226,16 +254,17 @@ fn cause_of<S: Alter>(conn: &mut Connection<S>, fault: OpenFault) -> OpenFault
     if fault != OpenFault::Store {
         return fault;
     }
-    if columns::stand(conn) {
-        return fault;
+    match judge_columns(conn) {
+        Err(OpenFault::NotADesk) => OpenFault::NotADesk,
+        _ => fault,
     }
-    OpenFault::NotADesk
 }
 
 /// Opens the tables of the desk that the database holds, where they are declared as `create`
-/// declares them, and gives the office that they hold. The fault is `NotADesk` only where no
-/// version of the tables is noted, or what those of version 1 hold is no office; over other tables
-/// it is so too where a column that is read does not stand. It is `NewerVersion` only where a later
+/// declares them, and gives the office that they hold. Whatever tables it holds, it is opened only
+/// where each column that is read stands. The fault is `NotADesk` only where no version of the
+/// tables is noted, or what those of version 1 hold is no office; over other tables it is so too
+/// where a column that is read does not stand. It is `NewerVersion` only where a later
 /// version is noted, which is asked before the other tables are read. A refusal hands back the
 /// connection, or the store where that could not be read again, its tables as they were. A limit of
 /// steps that was set on the connection is not kept.
@@ -254,6 +283,8 @@ pub fn open<S: Alter + Drop>(
         → (state S.Store opened.0).now.trees ≡ (state S.Store conn).now.trees) }
     ensures is_open { IfOk result (λ opened. HasCleanDisk (state S.Store opened.0)
         → IsTrue (state S.Store opened.0).is_open) }
+    ensures columns { IfOk result (λ opened. HasCleanDisk (state S.Store opened.0)
+        → HasColumns (state S.Store opened.0).now.schema) }
     ensures office { IfOk result (λ opened. IsTrue (is_office opened.1)) }
     ensures none { IfOk result (λ opened. opened.0.in_transaction ≡ false) }
     ensures cause { IfErr result (λ e. IsCleanBack S.Store e.1

@@ -1,6 +1,9 @@
 -- One reading of the tables after another.
 use Rattle.std.proofs.Common.{◌≡◌, ◌≢◌, List, Bool, Option, Some, None, Ok, Err, Result, OnOk, refl, sym, ap, subst, ◌∙◌, arith, true≢false}
 use Rattle.std.proofs.lemmas.Result.{on_ok_weaker}
+use Rattle.sqlite.specs.declared.error.Error.{Error}
+use Rattle.sqlite.specs.declared.error.Error.TheVariants.{SqliteFailure}
+use Rattle.sqlite.specs.declared.error.ErrorCode.TheVariants.{OutOfMemory}
 use Rattle.sqlite.specs.Effect.{Database}
 use Rattle.sqlite.specs.Held.{Held, state}
 use Rattle.sqlite.specs.State.{State, HasCleanDisk, IsUnchanged, KeepsCommit, Survives}
@@ -16,7 +19,7 @@ use Rattle.desk_rows.proofs.MeaningLemmas.{bound}
 use Rattle.office_lists.specs.declared.fault.ReadFault.{ReadFault}
 use Rattle.office_lists.specs.declared.fault.ReadFault.TheVariants.{NoOffice, Store, Memory}
 use Rattle.desk_reading.specs.Reading.{IsReading}
-use Rattle.office_lists.specs.Yields.{IsCause, Yields, any_at_all, fault_of_row}
+use Rattle.office_lists.specs.Yields.{IsCause, Yields, any_at_all, fault_of_error, fault_of_row}
 
 pub desk_same : (old new : State) → IsUnchanged old new → IsDesk old → IsDesk new
 desk_same old new h desk =
@@ -57,6 +60,7 @@ module _ {S : Type 0} (g : store.Ghosts S) where
     kept = λ read.
         let first = read_first a b c two.crash read in
         keeps_then (state g a) (state g b) (state g c) (one.kept first) (two.kept (read_second a b c (same first) read));
+    was_open = λ clean is_open. one.was_open (omega (arith, two.crash.clean, clean)) (two.was_open clean is_open);
     crash = survives_then (state g a) (state g b) (state g c) (λ _. ⊥) (λ _. ⊥) (λ _. ⊥) (λ _ _ none. none) (λ _ _ none. none) one.crash two.crash;
   }
 
@@ -106,10 +110,9 @@ module _ {S : Type 0} (g : store.Ghosts S) where
 
 -- ---- one table
 
-pub no_cause : {X : Type 0} (right : X → Bool) (e : ReadFault) (said : Option X) → e ≢ NoOffice → IsCause right e said
-no_cause right NoOffice said other = absurd (other refl)
-no_cause right Store said other = tt
-no_cause right Memory said other = tt
+pub error_cause : {X : Type 0} (right : X → Bool) (e : Error) (said : Option X) → IsCause right (fault_of_error e) said
+error_cause right (SqliteFailure OutOfMemory) said = tt
+error_cause right other said = tt
 
 pub row_cause : {X : Type 0} (right : X → Bool) (fault : RowFault) (said : Option X) → IsFault fault said → IsCause right (fault_of_row fault) said
 row_cause right row.Unreadable said none = λ x h. absurd (let no : ◌≡◌ {A = Option _} None (Some x) = sym none ∙ h in cc)

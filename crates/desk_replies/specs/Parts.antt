@@ -2,11 +2,14 @@
 use Rattle.std.specs.Prelude.{ℕ, List, [], ◌∷◌, codes}
 use Rattle.serde_json.specs.Data.{Data, boolean, string}
 use Rattle.desk_terms.specs.Kinds.{company_word, meeting_kind_word}
+use Rattle.desk_words.specs.declared.own.Given.{Given}
+use Rattle.desk_words.specs.declared.own.Received.{Received}
+use Rattle.desk_words.specs.declared.reply.Declaration.{Declaration}
 use Rattle.desk_words.specs.declared.reply.Mine.{Mine}
 use Rattle.desk_words.specs.declared.reply.Notice.{Notice}
 use Rattle.desk_words.specs.declared.reply.NoticedPoll.{NoticedPoll}
-use Rattle.desk_replies.specs.Appointments.{given_data, received_data}
-use Rattle.desk_replies.specs.Forms.{day_data, moment_data, or_null, listed}
+use Rattle.desk_replies.specs.Appointments.{given_data, instruction_data, received_data, run_data}
+use Rattle.desk_replies.specs.Forms.{whole, day_data, moment_data, or_null, listed}
 use Rattle.desk_replies.specs.Replies.{authorised_data, cast_data, demand_data, person_data}
 
 -- the members of a party's own things that are lists
@@ -37,4 +40,31 @@ notice_head n =
     ∷ (codes "cutoff", moment_data n.cutoff)
     ∷ (codes "given", day_data n.given)
     ∷ (codes "kind", string (meeting_kind_word n.kind))
+    ∷ []
+
+-- the members of the result of a poll
+abbrev pub result_members : Declaration → List (List ℕ × Data)
+result_members d =
+    (codes "against", whole d.tally.votes_against)
+    ∷ (codes "carried", boolean d.carried)
+    ∷ (codes "eligible", whole d.tally.eligible)
+    ∷ (codes "for", whole d.tally.votes_for)
+    ∷ (codes "withheld", whole d.tally.withheld)
+    ∷ []
+
+-- the members of an appointment that the party gave, before its proxy's name
+abbrev pub given_head : Given → List (List ℕ × Data)
+given_head g =
+    (codes "ended", or_null moment_data g.ended)
+    ∷ (codes "from", whole g.appointment.range.from)
+    ∷ (codes "instructions", listed instruction_data g.appointment.instructions)
+    ∷ (codes "number", whole g.appointment.number)
+    ∷ []
+
+-- the members of an appointment that names the party, before its member's name
+abbrev pub received_head : Received → List (List ℕ × Data)
+received_head r =
+    (codes "from", whole r.range.from)
+    ∷ (codes "governs", listed run_data r.governs)
+    ∷ (codes "instructions", listed instruction_data r.instructions)
     ∷ []

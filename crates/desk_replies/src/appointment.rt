@@ -1,11 +1,13 @@
 //! Appointments of proxies, as JSON.
 ghost use Rattle.std.specs.Prelude.{◌≡◌, IfOk};
-ghost use Rattle.serde_json.specs.View.{view};
+ghost use Rattle.serde_json.specs.View.{view, members_view};
 ghost use Rattle.desk_replies.specs.Appointments.{instruction_data, use_word, given_data, appointed_data, ended_data};
+ghost use Rattle.desk_replies.specs.Forms.{members};
+ghost use Rattle.desk_replies.specs.Parts.{given_head};
 
-use crate::shown::{Shown, list_value, value_or_null};
-use desk_words::{AppointmentReceipt, AppointmentUse, GivenUse, Instr};
-use serde_json::{Value, json};
+use crate::shown::{Shown, put_list, put_number, put_or_null, put_shown, put_text};
+use desk_words::{AppointmentReceipt, AppointmentUse, Given, GivenUse, Instr};
+use serde_json::{Map, Value};
 use std::alloc::{AllocError, Global};
 
 /// The words for what an appointment counts for.
@@ -26,24 +28,35 @@ impl Shown for Instr {
     }
 }
 
+/// The members of an appointment before its proxy's name.
+fn given_head(alloc: Global, given: &Given) -> Result<Map<String, Value>, AllocError>
+    ensures { IfOk result (λ map. members_view map.entries ≡ members (given_head given.now)) }
+{
+    let appointment = &given.appointment;
+    let mut map = Map::new(alloc);
+    put_or_null(alloc, &mut map, "ended", &given.ended)?;
+    put_number(alloc, &mut map, "from", appointment.range.from())?;
+    put_list(
+        alloc,
+        &mut map,
+        "instructions",
+        appointment.instructions.as_slice(),
+    )?;
+    put_number(alloc, &mut map, "number", appointment.number)?;
+    Ok(map)
+}
+
 impl Shown for GivenUse {
     ghost shown = { given_data };
 
     fn value(&self, alloc: Global) -> Result<Value, AllocError> {
         let appointment = &self.given.appointment;
-        let ended = value_or_null(alloc, &self.given.ended)?;
-        let instructions = list_value(alloc, appointment.instructions.as_slice())?;
-        let received = appointment.moment.value(alloc)?;
-        json!(in alloc; {
-            "ended": ended,
-            "from": appointment.range.from(),
-            "instructions": instructions,
-            "number": appointment.number,
-            "proxy": appointment.proxy.as_str(),
-            "received": received,
-            "to": appointment.range.to(),
-            "use": use_word(self.used)
-        })
+        let mut map = given_head(alloc, &self.given)?;
+        put_text(alloc, &mut map, "proxy", appointment.proxy.as_str())?;
+        put_shown(alloc, &mut map, "received", &appointment.moment)?;
+        put_number(alloc, &mut map, "to", appointment.range.to())?;
+        put_text(alloc, &mut map, "use", use_word(self.used))?;
+        Ok(Value::Object(map))
     }
 }
 
@@ -54,16 +67,19 @@ pub(crate) fn appointed_value(
 ) -> Result<Value, AllocError>
     ensures { IfOk result (λ v. view v ≡ appointed_data receipt) }
 {
-    json!(in alloc; {
-        "number": receipt.number,
-        "ok": "appointed",
-        "use": use_word(receipt.used)
-    })
+    let mut map = Map::new(alloc);
+    put_number(alloc, &mut map, "number", receipt.number)?;
+    put_text(alloc, &mut map, "ok", "appointed")?;
+    put_text(alloc, &mut map, "use", use_word(receipt.used))?;
+    Ok(Value::Object(map))
 }
 
 /// The object that answers a party that ended its appointment of that number.
 pub(crate) fn ended_value(alloc: Global, number: u64) -> Result<Value, AllocError>
     ensures { IfOk result (λ v. view v ≡ ended_data number) }
 {
-    json!(in alloc; {"number": number, "ok": "ended"})
+    let mut map = Map::new(alloc);
+    put_number(alloc, &mut map, "number", number)?;
+    put_text(alloc, &mut map, "ok", "ended")?;
+    Ok(Value::Object(map))
 }

@@ -5,12 +5,12 @@ ghost use Rattle.desk_replies.specs.Forms.{moment_data, members};
 ghost use Rattle.desk_replies.specs.Replies.{row_data, person_data, authorised_data, demand_data, cast_kind_data, cast_data, mine_data};
 ghost use Rattle.desk_replies.specs.Parts.{mine_lists};
 
-use crate::shown::{Shown, put_list, value_or_null};
+use crate::shown::{Shown, put_list, put_number, put_or_null, put_text};
 use desk_words::{
     Authorised, Authority, Block, CastKind, CastMark, DemandMark, Mine, Moment, RegisterRow,
     write_moment,
 };
-use serde_json::{Map, Value, json, put};
+use serde_json::{Map, Value, put};
 use std::alloc::{AllocError, Global};
 
 impl Shown for Moment {
@@ -26,12 +26,12 @@ impl Shown for RegisterRow {
     ghost shown = { row_data };
 
     fn value(&self, alloc: Global) -> Result<Value, AllocError> {
-        json!(in alloc; {
-            "kind": self.kind.word(),
-            "name": self.name.as_str(),
-            "paid": self.paid,
-            "shares": self.shares
-        })
+        let mut map = Map::new(alloc);
+        put_text(alloc, &mut map, "kind", self.kind.word())?;
+        put_text(alloc, &mut map, "name", self.name.as_str())?;
+        put_number(alloc, &mut map, "paid", self.paid)?;
+        put_number(alloc, &mut map, "shares", self.shares)?;
+        Ok(Value::Object(map))
     }
 }
 
@@ -47,7 +47,10 @@ impl Shown for Authorised {
     ghost shown = { authorised_data };
 
     fn value(&self, alloc: Global) -> Result<Value, AllocError> {
-        json!(in alloc; {"corporation": self.corporation.as_str(), "shares": self.shares})
+        let mut map = Map::new(alloc);
+        put_text(alloc, &mut map, "corporation", self.corporation.as_str())?;
+        put_number(alloc, &mut map, "shares", self.shares)?;
+        Ok(Value::Object(map))
     }
 }
 
@@ -62,14 +65,23 @@ impl Shown for DemandMark {
 fn block_value(alloc: Global, resolution: u64, block: Block) -> Result<Value, AllocError>
     ensures { IfOk result (λ v. view v ≡ cast_kind_data resolution (CastKind.Block block)) }
 {
-    json!(in alloc; {
-        "as": block.capacity.word(),
-        "from": block.range.from(),
-        "member": block.member.as_str(),
-        "resolution": resolution,
-        "to": block.range.to(),
-        "way": block.way.word()
-    })
+    let mut map = Map::new(alloc);
+    put_text(alloc, &mut map, "as", block.capacity.word())?;
+    put_number(alloc, &mut map, "from", block.range.from())?;
+    put_text(alloc, &mut map, "member", block.member.as_str())?;
+    put_number(alloc, &mut map, "resolution", resolution)?;
+    put_number(alloc, &mut map, "to", block.range.to())?;
+    put_text(alloc, &mut map, "way", block.way.word())?;
+    Ok(Value::Object(map))
+}
+
+fn as_instructed_value(alloc: Global, resolution: u64) -> Result<Value, AllocError>
+    ensures { IfOk result (λ v. view v ≡ cast_kind_data resolution CastKind.AsInstructed) }
+{
+    let mut map = Map::new(alloc);
+    put_text(alloc, &mut map, "as", "instructed")?;
+    put_number(alloc, &mut map, "resolution", resolution)?;
+    Ok(Value::Object(map))
 }
 
 impl Shown for CastMark {
@@ -78,9 +90,7 @@ impl Shown for CastMark {
     fn value(&self, alloc: Global) -> Result<Value, AllocError> {
         match self.what {
             CastKind::Block(block) => block_value(alloc, self.resolution, block),
-            CastKind::AsInstructed => {
-                json!(in alloc; {"as": "instructed", "resolution": self.resolution})
-            }
+            CastKind::AsInstructed => as_instructed_value(alloc, self.resolution),
         }
     }
 }
@@ -103,13 +113,10 @@ fn mine_lists(alloc: Global, mine: &Mine) -> Result<Map<String, Value>, AllocErr
 pub(crate) fn mine_value(alloc: Global, mine: &Mine) -> Result<Value, AllocError>
     ensures { IfOk result (λ v. view v ≡ mine_data mine.now) }
 {
-    let meeting = Value::try_from_str(alloc, mine.meeting.as_str())?;
-    let ok = Value::try_from_str(alloc, "mine")?;
-    let row = value_or_null(alloc, &mine.row)?;
     let mut map = mine_lists(alloc, mine)?;
-    put(&mut map, alloc, "meeting", meeting)?;
-    put(&mut map, alloc, "ok", ok)?;
+    put_text(alloc, &mut map, "meeting", mine.meeting.as_str())?;
+    put_text(alloc, &mut map, "ok", "mine")?;
     put(&mut map, alloc, "present", Value::Bool(mine.present))?;
-    put(&mut map, alloc, "row", row)?;
+    put_or_null(alloc, &mut map, "row", &mine.row)?;
     Ok(Value::Object(map))
 }

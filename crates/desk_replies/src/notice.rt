@@ -3,11 +3,11 @@ ghost use Rattle.std.specs.Prelude.{◌≡◌, IfOk};
 ghost use Rattle.serde_json.specs.View.{view, members_view};
 ghost use Rattle.desk_replies.specs.Forms.{day_data, members};
 ghost use Rattle.desk_replies.specs.Notices.{result_data, noticed_poll_data, noticed_resolution_data, notice_data};
-ghost use Rattle.desk_replies.specs.Parts.{poll_head, notice_head};
+ghost use Rattle.desk_replies.specs.Parts.{result_members, poll_head, notice_head};
 
-use crate::shown::{Shown, list_value, value_or_null};
+use crate::shown::{Shown, put_list, put_number, put_or_null, put_shown, put_text};
 use desk_words::{Day, Declaration, Notice, NoticedPoll, NoticedResolution, write_day};
-use serde_json::{Map, Value, json, put};
+use serde_json::{Map, Value, put};
 use std::alloc::{AllocError, Global};
 
 impl Shown for Day {
@@ -19,17 +19,28 @@ impl Shown for Day {
     }
 }
 
+/// The members of the result of a poll.
+pub(crate) fn result_members(
+    alloc: Global,
+    declared: Declaration,
+) -> Result<Map<String, Value>, AllocError>
+    ensures { IfOk result (λ map. members_view map.entries ≡ members (result_members declared)) }
+{
+    let mut map = Map::new(alloc);
+    put_number(alloc, &mut map, "against", declared.tally.votes_against)?;
+    put(&mut map, alloc, "carried", Value::Bool(declared.carried))?;
+    put_number(alloc, &mut map, "eligible", declared.tally.eligible)?;
+    put_number(alloc, &mut map, "for", declared.tally.votes_for)?;
+    put_number(alloc, &mut map, "withheld", declared.tally.withheld)?;
+    Ok(map)
+}
+
 impl Shown for Declaration {
     ghost shown = { result_data };
 
     fn value(&self, alloc: Global) -> Result<Value, AllocError> {
-        json!(in alloc; {
-            "against": self.tally.votes_against,
-            "carried": self.carried,
-            "eligible": self.tally.eligible,
-            "for": self.tally.votes_for,
-            "withheld": self.tally.withheld
-        })
+        let map = result_members(alloc, *self)?;
+        Ok(Value::Object(map))
     }
 }
 
@@ -37,12 +48,10 @@ impl Shown for Declaration {
 fn poll_head(alloc: Global, noticed: &NoticedPoll) -> Result<Map<String, Value>, AllocError>
     ensures { IfOk result (λ map. members_view map.entries ≡ members (poll_head noticed.now)) }
 {
-    let closed = value_or_null(alloc, &noticed.closed)?;
-    let cutoff = noticed.cutoff.value(alloc)?;
     let mut map = Map::new(alloc);
     put(&mut map, alloc, "chair", Value::Bool(noticed.chair))?;
-    put(&mut map, alloc, "closed", closed)?;
-    put(&mut map, alloc, "cutoff", cutoff)?;
+    put_or_null(alloc, &mut map, "closed", &noticed.closed)?;
+    put_shown(alloc, &mut map, "cutoff", &noticed.cutoff)?;
     put(&mut map, alloc, "late", Value::Bool(noticed.late))?;
     Ok(map)
 }
@@ -51,15 +60,11 @@ impl Shown for NoticedPoll {
     ghost shown = { noticed_poll_data };
 
     fn value(&self, alloc: Global) -> Result<Value, AllocError> {
-        let ordered = self.ordered.value(alloc)?;
-        let result = value_or_null(alloc, &self.result)?;
-        let started = value_or_null(alloc, &self.started)?;
-        let take = self.take.value(alloc)?;
         let mut map = poll_head(alloc, self)?;
-        put(&mut map, alloc, "ordered", ordered)?;
-        put(&mut map, alloc, "result", result)?;
-        put(&mut map, alloc, "started", started)?;
-        put(&mut map, alloc, "take", take)?;
+        put_shown(alloc, &mut map, "ordered", &self.ordered)?;
+        put_or_null(alloc, &mut map, "result", &self.result)?;
+        put_or_null(alloc, &mut map, "started", &self.started)?;
+        put_shown(alloc, &mut map, "take", &self.take)?;
         Ok(Value::Object(map))
     }
 }
@@ -68,13 +73,12 @@ impl Shown for NoticedResolution {
     ghost shown = { noticed_resolution_data };
 
     fn value(&self, alloc: Global) -> Result<Value, AllocError> {
-        let poll = value_or_null(alloc, &self.poll)?;
-        json!(in alloc; {
-            "kind": self.kind.word(),
-            "number": self.number,
-            "poll": poll,
-            "text": self.text.as_str()
-        })
+        let mut map = Map::new(alloc);
+        put_text(alloc, &mut map, "kind", self.kind.word())?;
+        put_number(alloc, &mut map, "number", self.number)?;
+        put_or_null(alloc, &mut map, "poll", &self.poll)?;
+        put_text(alloc, &mut map, "text", self.text.as_str())?;
+        Ok(Value::Object(map))
     }
 }
 
@@ -82,17 +86,12 @@ impl Shown for NoticedResolution {
 fn notice_head(alloc: Global, notice: &Notice) -> Result<Map<String, Value>, AllocError>
     ensures { IfOk result (λ map. members_view map.entries ≡ members (notice_head notice.now)) }
 {
-    let appointed = notice.appointed.value(alloc)?;
-    let company = Value::try_from_str(alloc, notice.company.word())?;
-    let cutoff = notice.cutoff.value(alloc)?;
-    let given = notice.given.value(alloc)?;
-    let kind = Value::try_from_str(alloc, notice.kind.word())?;
     let mut map = Map::new(alloc);
-    put(&mut map, alloc, "appointed", appointed)?;
-    put(&mut map, alloc, "company", company)?;
-    put(&mut map, alloc, "cutoff", cutoff)?;
-    put(&mut map, alloc, "given", given)?;
-    put(&mut map, alloc, "kind", kind)?;
+    put_shown(alloc, &mut map, "appointed", &notice.appointed)?;
+    put_text(alloc, &mut map, "company", notice.company.word())?;
+    put_shown(alloc, &mut map, "cutoff", &notice.cutoff)?;
+    put_shown(alloc, &mut map, "given", &notice.given)?;
+    put_text(alloc, &mut map, "kind", notice.kind.word())?;
     Ok(map)
 }
 
@@ -100,17 +99,17 @@ fn notice_head(alloc: Global, notice: &Notice) -> Result<Map<String, Value>, All
 pub(crate) fn notice_value(alloc: Global, notice: &Notice) -> Result<Value, AllocError>
     ensures { IfOk result (λ v. view v ≡ notice_data notice.now) }
 {
-    let meeting = Value::try_from_str(alloc, notice.meeting.as_str())?;
-    let ok = Value::try_from_str(alloc, "notice")?;
-    let opened = value_or_null(alloc, &notice.opened)?;
-    let record_moment = notice.record_moment.value(alloc)?;
-    let resolutions = list_value(alloc, notice.resolutions.as_slice())?;
     let mut map = notice_head(alloc, notice)?;
-    put(&mut map, alloc, "meeting", meeting)?;
-    put(&mut map, alloc, "ok", ok)?;
-    put(&mut map, alloc, "opened", opened)?;
-    put(&mut map, alloc, "record", record_moment)?;
+    put_text(alloc, &mut map, "meeting", notice.meeting.as_str())?;
+    put_text(alloc, &mut map, "ok", "notice")?;
+    put_or_null(alloc, &mut map, "opened", &notice.opened)?;
+    put_shown(alloc, &mut map, "record", &notice.record_moment)?;
     put(&mut map, alloc, "register", Value::Bool(notice.loaded))?;
-    put(&mut map, alloc, "resolutions", resolutions)?;
+    put_list(
+        alloc,
+        &mut map,
+        "resolutions",
+        notice.resolutions.as_slice(),
+    )?;
     Ok(Value::Object(map))
 }

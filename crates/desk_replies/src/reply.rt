@@ -6,34 +6,35 @@ ghost use Rattle.desk_replies.specs.Replies.{ok_data, declaration_data, refusal_
 
 use crate::appointment::{appointed_value, ended_value};
 use crate::mine::mine_value;
-use crate::notice::notice_value;
+use crate::notice::{notice_value, result_members};
+use crate::shown::{put_number, put_text};
 use desk_words::{Declaration, Refusal, Reply};
-use serde_json::{Value, json};
+use serde_json::{Map, Value};
 use std::alloc::{AllocError, Global};
 
 fn ok_value(alloc: Global, word: &str) -> Result<Value, AllocError>
     ensures { IfOk result (λ v. view v ≡ ok_data word.now) }
 {
-    json!(in alloc; {"ok": word})
+    let mut map = Map::new(alloc);
+    put_text(alloc, &mut map, "ok", word)?;
+    Ok(Value::Object(map))
 }
 
 fn declaration_value(alloc: Global, declared: Declaration) -> Result<Value, AllocError>
     ensures { IfOk result (λ v. view v ≡ declaration_data declared) }
 {
-    json!(in alloc; {
-        "against": declared.tally.votes_against,
-        "carried": declared.carried,
-        "eligible": declared.tally.eligible,
-        "for": declared.tally.votes_for,
-        "ok": "declared",
-        "withheld": declared.tally.withheld
-    })
+    let mut map = result_members(alloc, declared)?;
+    put_text(alloc, &mut map, "ok", "declared")?;
+    Ok(Value::Object(map))
 }
 
 fn refusal_value(alloc: Global, refusal: Refusal) -> Result<Value, AllocError>
     ensures { IfOk result (λ v. view v ≡ refusal_data refusal) }
 {
-    json!(in alloc; {"code": refusal.number(), "refused": refusal.name()})
+    let mut map = Map::new(alloc);
+    put_number(alloc, &mut map, "code", u64::from(refusal.number()))?;
+    put_text(alloc, &mut map, "refused", refusal.name())?;
+    Ok(Value::Object(map))
 }
 
 fn reply_value(alloc: Global, reply: &Reply) -> Result<Value, AllocError>

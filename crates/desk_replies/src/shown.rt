@@ -1,8 +1,8 @@
 //! What replies show, as JSON.
 ghost use Rattle.std.specs.Prelude.{◌≡◌, IfOk, OnOk, OnErr};
 ghost use Rattle.serde_json.specs.View.{view, members_view};
-ghost use Rattle.serde_json.specs.Data.{put as with_member};
-ghost use Rattle.desk_replies.specs.Forms.{listed, or_null};
+ghost use Rattle.serde_json.specs.Data.{string, put as with_member};
+ghost use Rattle.desk_replies.specs.Forms.{whole, listed, or_null};
 
 use serde_json::{Map, Value, put};
 use std::alloc::{AllocError, Global};
@@ -53,4 +53,64 @@ pub(crate) fn value_or_null<T: Shown>(alloc: Global, item: &Option<T>) -> Result
         Some(item) => item.value(alloc),
         None => Ok(Value::Null),
     }
+}
+
+/// Gives an object the form of this under a key. With an error the object stays as it was.
+pub(crate) fn put_shown<T: Shown>(
+    alloc: Global,
+    map: &mut Map<String, Value>,
+    key: &str,
+    item: &T,
+) -> Result<(), AllocError>
+    ensures ok { OnOk result (members_view map.new.entries
+        ≡ with_member key.now (T.shown item.now) (members_view map.old.entries)) }
+    ensures err { OnErr result (map.new.entries ≡ map.old.entries) }
+{
+    let value = item.value(alloc)?;
+    put(map, alloc, key, value)
+}
+
+/// Gives an object the form of what is there, or null, under a key. With an error the object stays
+/// as it was.
+pub(crate) fn put_or_null<T: Shown>(
+    alloc: Global,
+    map: &mut Map<String, Value>,
+    key: &str,
+    item: &Option<T>,
+) -> Result<(), AllocError>
+    ensures ok { OnOk result (members_view map.new.entries
+        ≡ with_member key.now (or_null T.shown item.now) (members_view map.old.entries)) }
+    ensures err { OnErr result (map.new.entries ≡ map.old.entries) }
+{
+    let value = value_or_null(alloc, item)?;
+    put(map, alloc, key, value)
+}
+
+/// Gives an object a number under a key. With an error the object stays as it was.
+pub(crate) fn put_number(
+    alloc: Global,
+    map: &mut Map<String, Value>,
+    key: &str,
+    number: u64,
+) -> Result<(), AllocError>
+    ensures ok { OnOk result (members_view map.new.entries
+        ≡ with_member key.now (whole number) (members_view map.old.entries)) }
+    ensures err { OnErr result (map.new.entries ≡ map.old.entries) }
+{
+    put(map, alloc, key, Value::from(number))
+}
+
+/// Gives an object a text under a key. With an error the object stays as it was.
+pub(crate) fn put_text(
+    alloc: Global,
+    map: &mut Map<String, Value>,
+    key: &str,
+    text: &str,
+) -> Result<(), AllocError>
+    ensures ok { OnOk result (members_view map.new.entries
+        ≡ with_member key.now (string text.now) (members_view map.old.entries)) }
+    ensures err { OnErr result (map.new.entries ≡ map.old.entries) }
+{
+    let value = Value::try_from_str(alloc, text)?;
+    put(map, alloc, key, value)
 }

@@ -1,5 +1,5 @@
 -- What a row of presences, demands, polls and casts means.
-use Rattle.std.specs.Prelude.{ℕ, ◌+◌, Bool, ◌&&◌, List, Option, Some, None, bytes_eq, codes, if◌then◌else◌}
+use Rattle.std.specs.Prelude.{ℕ, ◌+◌, ◌^◌, ◌≤◌, ◌⊎◌, Bool, ◌&&◌, List, Option, Some, None, bytes_eq, codes, if◌then◌else◌}
 use Rattle.sqlite.specs.declared.types.Value.{Value}
 use Rattle.sqlite.specs.Order.{Row, column}
 use Rattle.desk_terms.specs.Kinds.{capacity_of, way_of}
@@ -52,6 +52,12 @@ tally_of a b c d = do
         withheld = withheld;
         eligible = eligible;
       })
+
+-- a figure of the count is above 2^63 - 1, the highest number that is kept
+abbrev pub HasTooHighFigure : Tally → Type 0
+HasTooHighFigure tally =
+    (2 ^ 63 ≤ tally.votes_for) ⊎ (2 ^ 63 ≤ tally.votes_against) ⊎ (2 ^ 63 ≤ tally.withheld)
+    ⊎ (2 ^ 63 ≤ tally.eligible)
 
 -- the count that is declared, or none where the four columns are all NULL
 abbrev pub declared_of : Value → Value → Value → Value → Option (Option Tally)

@@ -14,6 +14,12 @@ abbrev pub Gives : {X Y : Type 0} → (X → Y) → Result X RowFault → Option
 Gives seen (Ok x) meaning = meaning ≡ Some (seen x)
 Gives seen (Err fault) meaning = IsFault fault meaning
 
+-- what was returned, as contracts see it, is what is meant, and where that is nothing it is told as
+-- unreadable; no memory is asked for
+abbrev pub Reads : {X Y : Type 0} → (X → Y) → Result X RowFault → Option Y → Type 0
+Reads seen (Ok x) meaning = meaning ≡ Some (seen x)
+Reads seen (Err fault) meaning = (fault ≡ Unreadable) × (meaning ≡ None)
+
 -- as it is
 abbrev pub itself : {X : Type 0} → X → X
 itself x = x

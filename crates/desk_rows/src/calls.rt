@@ -1,6 +1,8 @@
 //! Rows of meetings, of their resolutions and of their registers.
-ghost use Rattle.std.specs.Prelude.{◌≡◌};
-ghost use Rattle.desk_rows.specs.Meanings.{Gives, itself};
+ghost use Rattle.std.specs.Prelude.{◌≡◌, Err, IsSome};
+ghost use Rattle.desk_rows.specs.Columns.{text_of, worded};
+ghost use Rattle.desk_rows.specs.declared.fault.RowFault.TheVariants.{Memory};
+ghost use Rattle.desk_rows.specs.Meanings.{Gives, Reads, itself};
 ghost use Rattle.desk_rows.specs.Meetings.{meeting_in, resolution_in, holding_in};
 
 use crate::column::{
@@ -18,7 +20,9 @@ impl FromRow for MeetingRow {
     ghost means = { meeting_in };
 
     #[tactic(auto, unfolding(crate::specs::Meetings::meeting_in))]
-    fn from_row(_: Global, row: &Row) -> Result<MeetingRow, RowFault> {
+    fn from_row(_: Global, row: &Row) -> Result<MeetingRow, RowFault>
+        ensures { Reads itself result (meeting_in row.now) }
+    {
         let id = meeting_in(row, 0)?;
         let company = company_in(row, 1)?;
         let kind = meeting_kind_in(row, 2)?;
@@ -44,7 +48,10 @@ impl FromRow for InMeeting<NumberedResolution> {
     ghost means = { resolution_in };
 
     #[tactic(auto, unfolding(crate::specs::Meetings::resolution_in))]
-    fn from_row(alloc: Global, row: &Row) -> Result<InMeeting<NumberedResolution>, RowFault> {
+    fn from_row(alloc: Global, row: &Row) -> Result<InMeeting<NumberedResolution>, RowFault>
+        ensures row { Gives itself result (resolution_in row.now) }
+        ensures memory { result ≡ Err Memory → IsSome (worded text_of row.now 3) }
+    {
         let meeting = meeting_in(row, 0)?;
         let number = number_in(row, 1)?;
         let kind = resolution_kind_in(row, 2)?;
@@ -61,7 +68,10 @@ impl FromRow for InMeeting<RegisterRow> {
     ghost means = { holding_in };
 
     #[tactic(auto, unfolding(crate::specs::Meetings::holding_in))]
-    fn from_row(alloc: Global, row: &Row) -> Result<InMeeting<RegisterRow>, RowFault> {
+    fn from_row(alloc: Global, row: &Row) -> Result<InMeeting<RegisterRow>, RowFault>
+        ensures row { Gives itself result (holding_in row.now) }
+        ensures memory { result ≡ Err Memory → IsSome (worded text_of row.now 3) }
+    {
         let meeting = meeting_in(row, 0)?;
         let member = party_in(row, 1)?;
         let kind = holder_kind_in(row, 2)?;

@@ -1,11 +1,12 @@
 //! What stands in a column of a row.
-ghost use Rattle.std.specs.Prelude.{◌≡◌, ℤ, Option, Some, IfSome, ◌+ℤ◌, pos};
+ghost use Rattle.std.specs.Prelude.{◌≡◌, ℤ, Option, Some, IfSome, IsSome, Err, ◌+ℤ◌, pos};
 ghost use Rattle.sqlite.specs.Order.{column};
 ghost use Rattle.sqlite.specs.Value.{owned};
 ghost use Rattle.desk_terms.specs.Kinds.{company_of, meeting_kind_of, resolution_kind_of, holder_kind_of, capacity_of, way_of};
 ghost use Rattle.desk_terms.specs.Names.{party_of, meeting_of, key_of};
 ghost use Rattle.desk_words.specs.Callers.{caller_of};
-ghost use Rattle.desk_rows.specs.Meanings.{Gives, itself};
+ghost use Rattle.desk_rows.specs.declared.fault.RowFault.TheVariants.{Memory};
+ghost use Rattle.desk_rows.specs.Meanings.{Gives, Reads, itself};
 ghost use Rattle.desk_rows.specs.Columns.{bytes_of, integer_of, natural_of, string_of, flag_of, word_of, text_of, day_of, moment_of, some_moment_of, is_null, spelled, worded, number_in, flag_in, day_in, moment_in, some_moment_in};
 
 use crate::fault::RowFault;
@@ -31,7 +32,7 @@ fn value_in(row: &Row, at: usize) -> ValueRef<'_>
 
 /// The bytes of the text in a column.
 pub(crate) fn bytes_in(row: &Row, at: usize) -> Result<&[u8], RowFault>
-    ensures { Gives (λ b. b.now) result (bytes_of (column row.now at)) }
+    ensures { Reads (λ b. b.now) result (bytes_of (column row.now at)) }
 {
     match row.get_ref(at) {
         Ok(ValueRef::Text(bytes)) => Ok(bytes),
@@ -41,7 +42,7 @@ pub(crate) fn bytes_in(row: &Row, at: usize) -> Result<&[u8], RowFault>
 
 /// The whole number in a column.
 pub(crate) fn integer_in(row: &Row, at: usize) -> Result<i64, RowFault>
-    ensures { Gives itself result (integer_of (column row.now at)) }
+    ensures { Reads itself result (integer_of (column row.now at)) }
 {
     match row.get_ref(at) {
         Ok(ValueRef::Int(n)) => Ok(n),
@@ -58,7 +59,7 @@ pub(crate) fn is_null(row: &Row, at: usize) -> bool
 
 #[tactic(auto, using(crate::proofs::ColumnLemmas::string_is, crate::proofs::ColumnLemmas::no_string))]
 fn string_of(bytes: &[u8]) -> Result<&str, RowFault>
-    ensures { Gives (λ s. s.now) result (string_of bytes.now) }
+    ensures { Reads (λ s. s.now) result (string_of bytes.now) }
 {
     match str::from_utf8(bytes) {
         Ok(string) => Ok(string),
@@ -67,13 +68,13 @@ fn string_of(bytes: &[u8]) -> Result<&str, RowFault>
 }
 
 pub(crate) fn word_in(row: &Row, at: usize) -> Result<&str, RowFault>
-    ensures { Gives (λ s. s.now) result (word_of (column row.now at)) }
+    ensures { Reads (λ s. s.now) result (word_of (column row.now at)) }
 {
     string_of(bytes_in(row, at)?)
 }
 
 fn natural_of(n: i64) -> Result<u64, RowFault>
-    ensures { Gives itself result (natural_of n) }
+    ensures { Reads itself result (natural_of n) }
 {
     u64::try_from(n).map_err(|_| RowFault::Unreadable)
 }
@@ -81,7 +82,7 @@ fn natural_of(n: i64) -> Result<u64, RowFault>
 /// The number in a column, which is not negative.
 #[tactic(auto, unfolding(crate::specs::Columns::number_in))]
 pub(crate) fn number_in(row: &Row, at: usize) -> Result<u64, RowFault>
-    ensures { Gives itself result (number_in row.now at) }
+    ensures { Reads itself result (number_in row.now at) }
 {
     natural_of(integer_in(row, at)?)
 }
@@ -89,7 +90,7 @@ pub(crate) fn number_in(row: &Row, at: usize) -> Result<u64, RowFault>
 /// No or yes, which is 0 or 1.
 #[tactic(auto, unfolding(crate::specs::Columns::flag_in))]
 pub(crate) fn flag_in(row: &Row, at: usize) -> Result<bool, RowFault>
-    ensures { Gives itself result (flag_in row.now at) }
+    ensures { Reads itself result (flag_in row.now at) }
 {
     match number_in(row, at)? {
         0 => Ok(false),
@@ -99,7 +100,7 @@ pub(crate) fn flag_in(row: &Row, at: usize) -> Result<bool, RowFault>
 }
 
 fn day_of(days: i64) -> Result<Day, RowFault>
-    ensures { Gives itself result (day_of days) }
+    ensures { Reads itself result (day_of days) }
 {
     let since_1900 = days
         .checked_add(UNIX_DAY)
@@ -108,7 +109,7 @@ fn day_of(days: i64) -> Result<Day, RowFault>
 }
 
 fn moment_of(seconds: i64) -> Result<Moment, RowFault>
-    ensures { Gives itself result (moment_of seconds) }
+    ensures { Reads itself result (moment_of seconds) }
 {
     let since_1900 = seconds
         .checked_add(UNIX_SECOND)
@@ -119,7 +120,7 @@ fn moment_of(seconds: i64) -> Result<Moment, RowFault>
 /// The day in a column.
 #[tactic(auto, unfolding(crate::specs::Columns::day_in))]
 pub(crate) fn day_in(row: &Row, at: usize) -> Result<Day, RowFault>
-    ensures { Gives itself result (day_in row.now at) }
+    ensures { Reads itself result (day_in row.now at) }
 {
     day_of(integer_in(row, at)?)
 }
@@ -127,7 +128,7 @@ pub(crate) fn day_in(row: &Row, at: usize) -> Result<Day, RowFault>
 /// The moment in a column.
 #[tactic(auto, unfolding(crate::specs::Columns::moment_in))]
 pub(crate) fn moment_in(row: &Row, at: usize) -> Result<Moment, RowFault>
-    ensures { Gives itself result (moment_in row.now at) }
+    ensures { Reads itself result (moment_in row.now at) }
 {
     moment_of(integer_in(row, at)?)
 }
@@ -135,7 +136,7 @@ pub(crate) fn moment_in(row: &Row, at: usize) -> Result<Moment, RowFault>
 /// The moment in a column, or none where it is NULL.
 #[tactic(auto, unfolding(crate::specs::Columns::some_moment_in))]
 pub(crate) fn some_moment_in(row: &Row, at: usize) -> Result<Option<Moment>, RowFault>
-    ensures { Gives itself result (some_moment_in row.now at) }
+    ensures { Reads itself result (some_moment_in row.now at) }
 {
     match value_in(row, at) {
         ValueRef::Null => Ok(None),
@@ -147,7 +148,7 @@ pub(crate) fn some_moment_in(row: &Row, at: usize) -> Result<Option<Moment>, Row
 /// The meeting that a column names.
 #[tactic(auto, unfolding(crate::specs::Columns::spelled))]
 pub(crate) fn meeting_in(row: &Row, at: usize) -> Result<MeetingId, RowFault>
-    ensures { Gives itself result (spelled meeting_of row.now at) }
+    ensures { Reads itself result (spelled meeting_of row.now at) }
 {
     read_meeting(bytes_in(row, at)?).ok_or(RowFault::Unreadable)
 }
@@ -155,7 +156,7 @@ pub(crate) fn meeting_in(row: &Row, at: usize) -> Result<MeetingId, RowFault>
 /// The party that a column names.
 #[tactic(auto, unfolding(crate::specs::Columns::spelled))]
 pub(crate) fn party_in(row: &Row, at: usize) -> Result<Party, RowFault>
-    ensures { Gives itself result (spelled party_of row.now at) }
+    ensures { Reads itself result (spelled party_of row.now at) }
 {
     read_party(bytes_in(row, at)?).ok_or(RowFault::Unreadable)
 }
@@ -163,7 +164,7 @@ pub(crate) fn party_in(row: &Row, at: usize) -> Result<Party, RowFault>
 /// The caller that a column names.
 #[tactic(auto, unfolding(crate::specs::Columns::spelled))]
 pub(crate) fn caller_in(row: &Row, at: usize) -> Result<Caller, RowFault>
-    ensures { Gives itself result (spelled caller_of row.now at) }
+    ensures { Reads itself result (spelled caller_of row.now at) }
 {
     read_caller(bytes_in(row, at)?).ok_or(RowFault::Unreadable)
 }
@@ -171,55 +172,56 @@ pub(crate) fn caller_in(row: &Row, at: usize) -> Result<Caller, RowFault>
 /// The key in a column.
 #[tactic(auto, unfolding(crate::specs::Columns::spelled))]
 pub(crate) fn key_in(row: &Row, at: usize) -> Result<SecretKey, RowFault>
-    ensures { Gives itself result (spelled key_of row.now at) }
+    ensures { Reads itself result (spelled key_of row.now at) }
 {
     read_key(bytes_in(row, at)?).ok_or(RowFault::Unreadable)
 }
 
 #[tactic(auto, unfolding(crate::specs::Columns::worded))]
 pub(crate) fn company_in(row: &Row, at: usize) -> Result<Company, RowFault>
-    ensures { Gives itself result (worded company_of row.now at) }
+    ensures { Reads itself result (worded company_of row.now at) }
 {
     Company::of_word(word_in(row, at)?).ok_or(RowFault::Unreadable)
 }
 
 #[tactic(auto, unfolding(crate::specs::Columns::worded))]
 pub(crate) fn meeting_kind_in(row: &Row, at: usize) -> Result<MeetingKind, RowFault>
-    ensures { Gives itself result (worded meeting_kind_of row.now at) }
+    ensures { Reads itself result (worded meeting_kind_of row.now at) }
 {
     MeetingKind::of_word(word_in(row, at)?).ok_or(RowFault::Unreadable)
 }
 
 #[tactic(auto, unfolding(crate::specs::Columns::worded))]
 pub(crate) fn resolution_kind_in(row: &Row, at: usize) -> Result<ResKind, RowFault>
-    ensures { Gives itself result (worded resolution_kind_of row.now at) }
+    ensures { Reads itself result (worded resolution_kind_of row.now at) }
 {
     ResKind::of_word(word_in(row, at)?).ok_or(RowFault::Unreadable)
 }
 
 #[tactic(auto, unfolding(crate::specs::Columns::worded))]
 pub(crate) fn holder_kind_in(row: &Row, at: usize) -> Result<HolderKind, RowFault>
-    ensures { Gives itself result (worded holder_kind_of row.now at) }
+    ensures { Reads itself result (worded holder_kind_of row.now at) }
 {
     HolderKind::of_word(word_in(row, at)?).ok_or(RowFault::Unreadable)
 }
 
 #[tactic(auto, unfolding(crate::specs::Columns::worded))]
 pub(crate) fn capacity_in(row: &Row, at: usize) -> Result<Capacity, RowFault>
-    ensures { Gives itself result (worded capacity_of row.now at) }
+    ensures { Reads itself result (worded capacity_of row.now at) }
 {
     Capacity::of_word(word_in(row, at)?).ok_or(RowFault::Unreadable)
 }
 
 #[tactic(auto, unfolding(crate::specs::Columns::worded))]
 pub(crate) fn way_in(row: &Row, at: usize) -> Result<Way, RowFault>
-    ensures { Gives itself result (worded way_of row.now at) }
+    ensures { Reads itself result (worded way_of row.now at) }
 {
     Way::of_word(word_in(row, at)?).ok_or(RowFault::Unreadable)
 }
 
 fn text_of(alloc: Global, string: &str) -> Result<Text, RowFault>
-    ensures { Gives itself result (text_of string.now) }
+    ensures text { Gives itself result (text_of string.now) }
+    ensures memory { result ≡ Err Memory → IsSome (text_of string.now) }
 {
     match Text::new(alloc, string.as_bytes()) {
         Ok(text) => Ok(text),
@@ -228,10 +230,11 @@ fn text_of(alloc: Global, string: &str) -> Result<Text, RowFault>
     }
 }
 
-/// The text in a column.
+/// The text in a column. The fault is `Unreadable` exactly where there is none, and else `Memory`.
 #[tactic(auto, unfolding(crate::specs::Columns::worded))]
 pub(crate) fn text_in(alloc: Global, row: &Row, at: usize) -> Result<Text, RowFault>
-    ensures { Gives itself result (worded text_of row.now at) }
+    ensures text { Gives itself result (worded text_of row.now at) }
+    ensures memory { result ≡ Err Memory → IsSome (worded text_of row.now at) }
 {
     text_of(alloc, word_in(row, at)?)
 }

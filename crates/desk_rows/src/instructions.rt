@@ -1,6 +1,6 @@
 //! Instructions as letters, one for each resolution (section 324A).
 ghost use Rattle.std.specs.Prelude.{◌≡◌, IfOk, Some, map, string_bytes};
-ghost use Rattle.desk_rows.specs.Meanings.{Gives, itself};
+ghost use Rattle.desk_rows.specs.Meanings.{Gives, Reads, itself};
 ghost use Rattle.desk_rows.specs.Instructions.{instruction_letter, instruction_of, instructions_of};
 
 use crate::fault::RowFault;
@@ -33,7 +33,7 @@ pub fn letters_of(alloc: Global, instructions: &[Instr]) -> Result<String, Alloc
 }
 
 fn instruction(letter: u8) -> Result<Instr, RowFault>
-    ensures { Gives itself result (instruction_of letter) }
+    ensures { Reads itself result (instruction_of letter) }
 {
     match letter {
         b'F' => Ok(Instr::For),

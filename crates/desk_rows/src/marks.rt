@@ -1,7 +1,7 @@
 //! Rows of presences, demands, polls and casts.
 ghost use Rattle.std.specs.Prelude.{◌≡◌};
 ghost use Rattle.sqlite.specs.Order.{column};
-ghost use Rattle.desk_rows.specs.Meanings.{Gives, itself};
+ghost use Rattle.desk_rows.specs.Meanings.{Reads, itself};
 ghost use Rattle.desk_rows.specs.Marks.{presence_in, demand_in, tally_of, declared_in, poll_in, block_of, is_instructed, cast_kind_in, cast_in};
 
 use crate::column::{
@@ -20,7 +20,9 @@ impl FromRow for InMeeting<PresenceMark> {
     ghost means = { presence_in };
 
     #[tactic(auto, unfolding(crate::specs::Marks::presence_in))]
-    fn from_row(_: Global, row: &Row) -> Result<InMeeting<PresenceMark>, RowFault> {
+    fn from_row(_: Global, row: &Row) -> Result<InMeeting<PresenceMark>, RowFault>
+        ensures { Reads itself result (presence_in row.now) }
+    {
         let meeting = meeting_in(row, 0)?;
         let party = party_in(row, 1)?;
         let moment = moment_in(row, 2)?;
@@ -35,7 +37,9 @@ impl FromRow for InMeeting<DemandMark> {
     ghost means = { demand_in };
 
     #[tactic(auto, unfolding(crate::specs::Marks::demand_in))]
-    fn from_row(_: Global, row: &Row) -> Result<InMeeting<DemandMark>, RowFault> {
+    fn from_row(_: Global, row: &Row) -> Result<InMeeting<DemandMark>, RowFault>
+        ensures { Reads itself result (demand_in row.now) }
+    {
         let meeting = meeting_in(row, 0)?;
         let resolution = number_in(row, 1)?;
         let party = party_in(row, 2)?;
@@ -53,7 +57,7 @@ impl FromRow for InMeeting<DemandMark> {
 
 #[tactic(auto, unfolding(crate::specs::Columns::number_in))]
 fn tally_in(row: &Row) -> Result<Tally, RowFault>
-    ensures { Gives itself result
+    ensures { Reads itself result
         (tally_of (column row.now 7) (column row.now 8) (column row.now 9) (column row.now 10)) }
 {
     let votes_for = number_in(row, 7)?;
@@ -70,7 +74,7 @@ fn tally_in(row: &Row) -> Result<Tally, RowFault>
 
 #[tactic(auto, unfolding(crate::specs::Marks::declared_in))]
 fn declared_in(row: &Row) -> Result<Option<Tally>, RowFault>
-    ensures { Gives itself result (declared_in row.now 7) }
+    ensures { Reads itself result (declared_in row.now 7) }
 {
     if is_null(row, 7) && is_null(row, 8) && is_null(row, 9) && is_null(row, 10) {
         return Ok(None);
@@ -82,7 +86,9 @@ impl FromRow for InMeeting<Poll> {
     ghost means = { poll_in };
 
     #[tactic(auto, unfolding(crate::specs::Marks::poll_in))]
-    fn from_row(_: Global, row: &Row) -> Result<InMeeting<Poll>, RowFault> {
+    fn from_row(_: Global, row: &Row) -> Result<InMeeting<Poll>, RowFault>
+        ensures { Reads itself result (poll_in row.now) }
+    {
         let meeting = meeting_in(row, 0)?;
         let resolution = number_in(row, 1)?;
         let ordered = moment_in(row, 2)?;
@@ -108,7 +114,7 @@ impl FromRow for InMeeting<Poll> {
 
 #[tactic(auto, unfolding(crate::specs::Columns::number_in, crate::specs::Columns::spelled, crate::specs::Columns::worded))]
 fn block_in(row: &Row) -> Result<Block, RowFault>
-    ensures { Gives itself result
+    ensures { Reads itself result
         (block_of (column row.now 3) (column row.now 4) (column row.now 5) (column row.now 6)
         (column row.now 7)) }
 {
@@ -127,14 +133,14 @@ fn block_in(row: &Row) -> Result<Block, RowFault>
 }
 
 fn is_instructed(row: &Row) -> Result<bool, RowFault>
-    ensures { Gives itself result (is_instructed (column row.now 3)) }
+    ensures { Reads itself result (is_instructed (column row.now 3)) }
 {
     Ok(word_in(row, 3)? == "instructed")
 }
 
 #[tactic(auto, unfolding(crate::specs::Marks::cast_kind_in))]
 fn cast_kind_in(row: &Row) -> Result<CastKind, RowFault>
-    ensures { Gives itself result (cast_kind_in row.now 3) }
+    ensures { Reads itself result (cast_kind_in row.now 3) }
 {
     if !is_instructed(row)? {
         return Ok(CastKind::Block(block_in(row)?));
@@ -150,7 +156,9 @@ impl FromRow for InMeeting<CastMark> {
     ghost means = { cast_in };
 
     #[tactic(auto, unfolding(crate::specs::Marks::cast_in))]
-    fn from_row(_: Global, row: &Row) -> Result<InMeeting<CastMark>, RowFault> {
+    fn from_row(_: Global, row: &Row) -> Result<InMeeting<CastMark>, RowFault>
+        ensures { Reads itself result (cast_in row.now) }
+    {
         let meeting = meeting_in(row, 0)?;
         let resolution = number_in(row, 1)?;
         let voter = party_in(row, 2)?;

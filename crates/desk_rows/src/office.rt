@@ -1,6 +1,6 @@
 //! Rows of the desk's version, the keys and the closed days.
 ghost use Rattle.std.specs.Prelude.{◌≡◌};
-ghost use Rattle.desk_rows.specs.Meanings.{Gives, itself};
+ghost use Rattle.desk_rows.specs.Meanings.{Reads, itself};
 ghost use Rattle.desk_rows.specs.Office.{version_in, key_in, closed_in};
 
 use crate::column::{caller_in, day_in, key_in, number_in};
@@ -15,7 +15,9 @@ impl FromRow for Version {
     ghost means = { version_in };
 
     #[tactic(auto, unfolding(crate::specs::Office::version_in))]
-    fn from_row(_: Global, row: &Row) -> Result<Version, RowFault> {
+    fn from_row(_: Global, row: &Row) -> Result<Version, RowFault>
+        ensures { Reads itself result (version_in row.now) }
+    {
         if number_in(row, 0)? != 1 {
             return Err(RowFault::Unreadable);
         }
@@ -28,7 +30,9 @@ impl FromRow for KeyRow {
     ghost means = { key_in };
 
     #[tactic(auto, unfolding(crate::specs::Office::key_in))]
-    fn from_row(_: Global, row: &Row) -> Result<KeyRow, RowFault> {
+    fn from_row(_: Global, row: &Row) -> Result<KeyRow, RowFault>
+        ensures { Reads itself result (key_in row.now) }
+    {
         let caller = caller_in(row, 0)?;
         let secret = key_in(row, 1)?;
         Ok(KeyRow { caller, secret })
@@ -39,7 +43,9 @@ impl FromRow for Day {
     ghost means = { closed_in };
 
     #[tactic(auto, unfolding(crate::specs::Office::closed_in))]
-    fn from_row(_: Global, row: &Row) -> Result<Day, RowFault> {
+    fn from_row(_: Global, row: &Row) -> Result<Day, RowFault>
+        ensures { Reads itself result (closed_in row.now) }
+    {
         day_in(row, 0)
     }
 }

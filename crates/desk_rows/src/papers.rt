@@ -1,7 +1,7 @@
 //! Rows of appointments, endings and authorities.
 ghost use Rattle.std.specs.Prelude.{◌≡◌};
 ghost use Rattle.desk_terms.specs.Places.{range_of};
-ghost use Rattle.desk_rows.specs.Meanings.{Gives, itself};
+ghost use Rattle.desk_rows.specs.Meanings.{Gives, Reads, itself};
 ghost use Rattle.desk_rows.specs.Columns.{spelled};
 ghost use Rattle.desk_rows.specs.Instructions.{instructions_of};
 ghost use Rattle.desk_rows.specs.Papers.{appointment_in, ending_in, authority_in};
@@ -24,7 +24,7 @@ fn instructions_in(alloc: Global, row: &Row, at: usize) -> Result<Listing<Instr>
 
 /// The range with these ends.
 pub(crate) fn range_of(from: u64, to: u64) -> Result<Range, RowFault>
-    ensures { Gives itself result (range_of from to) }
+    ensures { Reads itself result (range_of from to) }
 {
     Range::new(from, to).ok_or(RowFault::Unreadable)
 }
@@ -61,7 +61,9 @@ impl FromRow for InMeeting<Ending> {
     ghost means = { ending_in };
 
     #[tactic(auto, unfolding(crate::specs::Papers::ending_in))]
-    fn from_row(_: Global, row: &Row) -> Result<InMeeting<Ending>, RowFault> {
+    fn from_row(_: Global, row: &Row) -> Result<InMeeting<Ending>, RowFault>
+        ensures { Reads itself result (ending_in row.now) }
+    {
         let meeting = meeting_in(row, 0)?;
         let member = party_in(row, 1)?;
         let number = number_in(row, 2)?;
@@ -81,7 +83,9 @@ impl FromRow for InMeeting<Authority> {
     ghost means = { authority_in };
 
     #[tactic(auto, unfolding(crate::specs::Papers::authority_in))]
-    fn from_row(_: Global, row: &Row) -> Result<InMeeting<Authority>, RowFault> {
+    fn from_row(_: Global, row: &Row) -> Result<InMeeting<Authority>, RowFault>
+        ensures { Reads itself result (authority_in row.now) }
+    {
         let meeting = meeting_in(row, 0)?;
         let corporation = party_in(row, 1)?;
         let person = party_in(row, 2)?;

@@ -1,5 +1,5 @@
 //! The values by which names, words, days and moments are kept, so that they read back.
-ghost use Rattle.std.specs.Prelude.{◌≡◌, ◌≤◌, ◌^◌, Some, IfSome, IsNone};
+ghost use Rattle.std.specs.Prelude.{◌≡◌, ◌≤◌, ◌^◌, ◌↔◌, Some, IfSome, IsNone, IsSomeAnd};
 ghost use Rattle.sqlite.specs.Values.{or_null};
 ghost use Rattle.sqlite.specs.declared.types.Value.TheVariants.{Int, Text as Words};
 ghost use Rattle.desk_terms.specs.Kinds.{company_of, meeting_kind_of, resolution_kind_of, holder_kind_of, capacity_of, way_of};
@@ -7,7 +7,7 @@ ghost use Rattle.desk_terms.specs.Names.{party_of, meeting_of, key_of};
 ghost use Rattle.desk_terms.specs.Places.{range_of};
 ghost use Rattle.desk_words.specs.Callers.{caller_of};
 ghost use Rattle.desk_rows.specs.Columns.{day_of, moment_of, some_moment_of, natural_of, text_of, read_word};
-ghost use Rattle.desk_rows.specs.Marks.{declared_of, cast_kind_of};
+ghost use Rattle.desk_rows.specs.Marks.{HasTooHighFigure, declared_of, cast_kind_of};
 
 use desk_words::{
     Caller, Capacity, CastKind, Company, Day, HolderKind, MeetingId, MeetingKind, Moment, Party,
@@ -135,11 +135,11 @@ pub fn some_moment_number(moment: Option<Moment>) -> Option<i64>
     }
 }
 
-/// A number, or none where it is above 2^63 - 1, the highest that is kept.
+/// A number, or none exactly where it is above 2^63 - 1, the highest that is kept.
 #[tactic(auto, using(crate::proofs::ColumnLemmas::number_kept))]
 pub fn whole_number(number: u64) -> Option<i64>
     ensures kept { IfSome result (λ n. natural_of n ≡ Some number) }
-    ensures refused { IsNone result → 2 ^ 63 ≤ number }
+    ensures refused { IsNone result ↔ (2 ^ 63 ≤ number) }
 {
     i64::try_from(number).ok()
 }
@@ -162,9 +162,10 @@ pub struct TallyColumns {
     pub eligible: Option<i64>,
 }
 
-/// The values of the columns of what is declared, or none where a figure is above 2^63 - 1.
+/// The values of the columns of what is declared, or none exactly where a figure is above 2^63 - 1.
 pub fn tally_columns(declared: Option<Tally>) -> Option<TallyColumns>
-    ensures { IfSome result
+    ensures refused { IsNone result ↔ IsSomeAnd declared HasTooHighFigure }
+    ensures kept { IfSome result
         (λ t. declared_of (or_null Int t.votes_for) (or_null Int t.votes_against)
         (or_null Int t.withheld) (or_null Int t.eligible)
         ≡ Some declared) }

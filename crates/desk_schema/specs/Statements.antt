@@ -103,9 +103,7 @@ Does g old new result Effect =
 
 -- nothing is committed: the last commit stands, and a crash leaves what it left before
 pub record CommitsNothing {S : Type 0} (g : store.Ghosts S) (old new : Held S) : Type 0 where
-  pub kept : HasCleanDisk (state g new)
-      → IsTrue (state g old).in_transaction
-      → KeepsCommit (state g old) (state g new)
+  pub kept : HasCleanDisk (state g new) → KeepsCommit (state g old) (state g new)
   pub crash : Survives (state g old) (state g new) (λ _. ⊥)
 
 -- the tables of a desk are read, and the disk returned what was written
@@ -127,9 +125,15 @@ Finds {S} {A} g old new table test rows =
     → all_mean table.means rows ≡ Some (filter test was))
     × IsUnchanged (state g old) (state g new)
 
--- whatever is answered, nothing is committed, and a crash leaves what it left before
+-- where the disk returned what was written, a store that is open was open before
+abbrev pub WasOpen : State → State → Type 0
+WasOpen old new = HasCleanDisk new → IsTrue new.is_open → IsTrue old.is_open
+
+-- whatever is answered, nothing is committed, no store is opened again, and a crash leaves what it
+-- left before
 pub record ChangesNothing {S : Type 0} (g : store.Ghosts S) (old new : Held S) : Type 0 where
   pub kept : IsRead g old new → KeepsCommit (state g old) (state g new)
+  pub was_open : WasOpen (state g old) (state g new)
   pub crash : Survives (state g old) (state g new) (λ _. ⊥)
 
 -- the tables of this schema stand, with no row

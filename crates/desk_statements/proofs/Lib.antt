@@ -6,6 +6,7 @@ pub mod Frames
 pub mod GivenNumbers
 pub mod Making
 pub mod Meanings
+pub mod NumberLemmas
 pub mod Reading
 pub mod Seq
 pub mod Tests

@@ -2,6 +2,7 @@
 //! a statement of a form does to the rows of a table.
 #![tactic(auto)]
 
+pub mod laws;
 mod numbers;
 
 pub use numbers::{tally, whole};

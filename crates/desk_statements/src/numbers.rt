@@ -1,9 +1,11 @@
 //! Numbers as the tables keep them.
-ghost use Rattle.std.specs.Prelude.{◌≡◌, IfOk, Some};
+ghost use Rattle.std.specs.Prelude.{◌≡◌, ◌≤◌, ◌^◌, IfErr, IfOk, IsSomeAnd, Some};
+ghost use Rattle.sqlite.specs.declared.error.Error.TheVariants.{SqliteFailure};
+ghost use Rattle.sqlite.specs.declared.error.ErrorCode.TheVariants.{TooBig};
 ghost use Rattle.sqlite.specs.Values.{or_null};
 ghost use Rattle.sqlite.specs.declared.types.Value.TheVariants.{Int};
 ghost use Rattle.desk_rows.specs.Columns.{natural_of};
-ghost use Rattle.desk_rows.specs.Marks.{declared_of};
+ghost use Rattle.desk_rows.specs.Marks.{HasTooHighFigure, declared_of};
 
 use desk_rows::{TallyColumns, tally_columns, whole_number};
 use desk_words::Tally;
@@ -12,16 +14,21 @@ use sqlite::{Error, ErrorCode};
 /// A number is above 2^63 - 1, the highest that is kept.
 const TOO_BIG: Error = Error::SqliteFailure(ErrorCode::TooBig);
 
-/// A number as it is kept; the error is `TooBig`.
+/// A number as it is kept. The error is `TooBig`, exactly where the number is above 2^63 - 1, as
+/// none of an office is.
 pub fn whole(number: u64) -> Result<i64, Error>
-    ensures { IfOk result (λ n. natural_of n ≡ Some number) }
+    ensures kept { IfOk result (λ n. natural_of n ≡ Some number) }
+    ensures refused { IfErr result (λ e. (e ≡ SqliteFailure TooBig) × (2 ^ 63 ≤ number)) }
 {
     whole_number(number).ok_or(TOO_BIG)
 }
 
-/// The four figures of what is declared as they are kept; the error is `TooBig`.
+/// The four figures of what is declared as they are kept. The error is `TooBig`, exactly where one
+/// of them is above 2^63 - 1, as none of an office is.
 pub fn tally(declared: Option<Tally>) -> Result<TallyColumns, Error>
-    ensures { IfOk result
+    ensures refused { IfErr result
+        (λ e. (e ≡ SqliteFailure TooBig) × IsSomeAnd declared HasTooHighFigure) }
+    ensures kept { IfOk result
         (λ t. declared_of (or_null Int t.votes_for) (or_null Int t.votes_against)
         (or_null Int t.withheld) (or_null Int t.eligible)
         ≡ Some declared) }

@@ -1,4 +1,5 @@
 pub mod CallerLemmas
+pub mod JoinLemmas
 pub mod KeepingLemmas
 pub mod ReadLemmas
 pub mod RunLaws

@@ -1,5 +1,5 @@
 -- What is told of the office for which the tables stand.
-use Rattle.std.proofs.Common.{◌≡◌, Option, Some, Ok, Err, Result, IfOk, OnOk, IsErrAnd, sym, ap, subst, ◌∙◌}
+use Rattle.std.proofs.Common.{◌≡◌, Option, Some, Ok, Err, Result, IfErr, IfOk, OnOk, IsErr, IsErrAnd, refl, sym, ap, subst, ◌∙◌}
 use Rattle.std.specs.Prelude.{MatchResult}
 use Rattle.sqlite.specs.Held.{Held}
 use Rattle.sqlite_trees.specs.declared.store.Store as store
@@ -46,3 +46,11 @@ mapped_is Q P s r x is got h = subst (λ q. IfOk q P) got (mapped_ok Q P s r is 
 pub mapped_on : {X E D : Type 0} {W : Type 0} (Q : E → D → Type 0) (s : Result X E) (r : Result X D) (x : X) → MatchResult s (λ x. r ≡ Ok x) (λ e. IsErrAnd r (Q e)) → r ≡ Ok x → OnOk s W → W
 mapped_on Q (Ok y) r x is got h = h
 mapped_on Q (Err e) r x is got h = absurd (subst (λ q. IsErrAnd q (Q e)) got is)
+
+pub mapped_failed : {X E D : Type 0} (Q : E → D → Type 0) (s : Result X E) (r : Result X D) {d : D} → MatchResult s (λ x. r ≡ Ok x) (λ e. IsErrAnd r (Q e)) → r ≡ Err d → IsErr s
+mapped_failed Q (Ok x) r is got = absurd cc
+mapped_failed Q (Err e) r is got = refl
+
+pub error_of : {X E : Type 0} (P : E → Type 0) (r : Result X E) → IsErr r → IfErr r P → (e : E) × P e
+error_of P (Ok x) failed h = absurd cc
+error_of P (Err e) failed h = (e, h)

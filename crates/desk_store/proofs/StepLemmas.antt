@@ -2,7 +2,7 @@
 use Rattle.std.proofs.Common.{◌≡◌, true, Option, Some, None, Ok, Err, Result, IsErr, IsTrue, sym, ap, subst, ◌∙◌, arith}
 use Rattle.sqlite.specs.declared.error.Error.{Error}
 use Rattle.sqlite.specs.Held.{Held, state}
-use Rattle.sqlite.specs.State.{HasCleanDisk, KeepsCommit}
+use Rattle.sqlite.specs.State.{HasCleanDisk, IsUnchanged, KeepsCommit}
 use Rattle.sqlite_trees.specs.declared.store.Store as store
 use Rattle.desk_words.specs.Office.{is_office}
 use Rattle.desk_words.specs.declared.answer.Answer.{Answer}
@@ -15,6 +15,7 @@ use Rattle.desk_words.specs.Changes.{after_some}
 use Rattle.meeting_core.specs.Decisions.{DecidedChangesCanBeMade}
 use Rattle.meeting_core.specs.Step.{decided, stepped}
 use Rattle.desk_changes.specs.Writes.{Holds}
+use Rattle.desk_schema.specs.Statements.{WasOpen}
 use Rattle.desk_store.specs.Reads.{IsDecided, IsTold, IsWhole, WritesIfAny, can_make_if_any}
 use Rattle.desk_records.specs.Standing.{Stands}
 use Rattle.desk_store.proofs.KeepingLemmas.{stands_same}
@@ -57,10 +58,22 @@ module _ {S : Type 0} (g : store.Ghosts S) (a b c : Held S) (call : Call) (answe
     early clean = omega (arith, writes.crash.clean, clean)
 
     -- whatever comes of it, nothing is committed
-    pub step_keeps : HasCleanDisk (state g c) → IsTrue (state g a).in_transaction → (office : OfficeLists) → Stands (state g a) office → KeepsCommit (state g a) (state g c)
-    step_keeps clean inside office stands =
+    pub step_keeps : HasCleanDisk (state g c) → (office : OfficeLists) → Stands (state g a) office → KeepsCommit (state g a) (state g c)
+    step_keeps clean office stands =
         let before = early clean in
-        keeps_then (state g a) (state g b) (state g c) (told.changes.kept (before, stands.desk)) (writes.kept clean office (holds before inside office stands))
+        keeps_then (state g a) (state g b) (state g c) (told.changes.kept (before, stands.desk)) (writes.kept clean)
+
+    -- and no store is opened
+    pub step_opened : WasOpen (state g a) (state g c)
+    step_opened clean is_open = told.changes.was_open (early clean) ((writes.kept clean).was_open is_open)
+
+    -- where nothing is decided to change, nothing is changed
+    pub step_still : HasCleanDisk (state g c) → (office : OfficeLists) → Stands (state g a) office → (decided office call).change ≡ None → IsUnchanged (state g a) (state g c)
+    step_still clean office stands none =
+        let before = early clean in
+        let is = told.told before office stands in
+        let same = writes.still (ap (λ (it : Answer Change). it.change) is.is ∙ none) in
+        subst (λ (h : Held S). IsUnchanged (state g a) (state g h)) (sym same) (told.same (before, stands.desk))
 
   -- where it is written, the tables are the office after the step
   pub step_holds : {T : Type 0} (x : T) → DecidedChangesCanBeMade → WritesIfAny g b c (Ok x) answer.change → HasCleanDisk (state g c) → IsTrue (state g a).in_transaction → (office : OfficeLists) → Stands (state g a) office

@@ -1,2 +1,4 @@
+pub mod Faults
+pub mod Joins
 pub mod Reads
 pub mod Runs

@@ -56,6 +56,6 @@ pub record WritesIfAny {S T : Type 0} (g : store.Ghosts S) (old new : Held S)
   pub written : HasCleanDisk (state g new) → (office : OfficeLists) → Holds office (state g old)
       → IsTrue (can_make_if_any office change)
       → OnOk result (Holds (after_some office change) (state g new))
-  pub kept : HasCleanDisk (state g new) → (office : OfficeLists) → Holds office (state g old)
-      → KeepsCommit (state g old) (state g new)
+  pub still : change ≡ None → new ≡ old
+  pub kept : HasCleanDisk (state g new) → KeepsCommit (state g old) (state g new)
   pub crash : Survives (state g old) (state g new) (λ _. ⊥)

@@ -1,11 +1,12 @@
 //! Laws of calls on a desk.
-ghost use Rattle.desk_store.specs.Runs.{RunsGoOn};
+ghost use Rattle.desk_store.specs.Runs.{CallsAreARun};
 
-/// The calls on a desk are a run, those that failed left out. A desk that is created stands for the
-/// office of no call; where it stands for the office of a run, `perform` leaves it standing for that
-/// of the run with its call at the end, or, after a failure, for the same. Rows of a register, keys
-/// or closed days that equal those held change nothing, so a file that comes twice in turn acts
-/// once.
-pub fn calls_are_a_run()
-    ensures { RunsGoOn }
+use sqlite::Alter;
+
+/// What is asked of a desk is a run of the calls that were made, readings and calls that failed
+/// left out. Where a desk stood for an office, and whatever was asked of it led, as `perform`,
+/// `caller_of`, `book` and `public` promise, to a desk whose disk returned what was written and
+/// whose store is open, that one stands for the office after the run.
+pub fn calls_are_a_run<S: Alter>()
+    ensures { CallsAreARun S.Store }
 {}

@@ -1,12 +1,14 @@
 //! A call, made and kept.
-ghost use Rattle.std.specs.Prelude.{◌≡◌, IfOk, IsTrue, Ok, OnErr, OnOk};
+ghost use Rattle.std.specs.Prelude.{◌≡◌, IfOk, IsTrue, None, Ok, OnOk};
 ghost use Rattle.std.specs.Fn.{FnOnceReturnsAt};
+ghost use Rattle.desk_schema.specs.Statements.{WasOpen};
+ghost use Rattle.desk_store.specs.Joins.{AreAfter, IsAsItWas, Leaves, made_by};
 ghost use Rattle.desk_store.specs.Reads.{IsDecided, IsTold, WritesIfAny};
 ghost use Rattle.desk_records.specs.Standing.{Stands};
 ghost use Rattle.desk_words.specs.declared.office.OfficeLists.{OfficeLists};
 ghost use Rattle.meeting_core.specs.Step.{decided, stepped};
 ghost use Rattle.sqlite.specs.Held.{state};
-ghost use Rattle.sqlite.specs.State.{HasCleanDisk, KeepsCommit, Survives};
+ghost use Rattle.sqlite.specs.State.{HasCleanDisk, IsUnchanged, KeepsCommit, Survives};
 
 use crate::desk::Desk;
 use crate::reading::{failure_of, read_book};
@@ -64,10 +66,14 @@ fn step<S: Alter, T: Drop, F: FnOnce(&Reply) -> Result<T, AllocError>>(
         → IsTrue (state S.Store tx.old.conn.now).in_transaction → (office : OfficeLists)
         → Stands (state S.Store tx.old.conn.now) office
         → OnOk result (IsTrue (state S.Store tx.new.conn.now).in_transaction) }
-    ensures kept { HasCleanDisk (state S.Store tx.new.conn.now)
-        → IsTrue (state S.Store tx.old.conn.now).in_transaction → (office : OfficeLists)
+    ensures kept { HasCleanDisk (state S.Store tx.new.conn.now) → (office : OfficeLists)
         → Stands (state S.Store tx.old.conn.now) office
         → KeepsCommit (state S.Store tx.old.conn.now) (state S.Store tx.new.conn.now) }
+    ensures was_open { WasOpen (state S.Store tx.old.conn.now) (state S.Store tx.new.conn.now) }
+    ensures still { HasCleanDisk (state S.Store tx.new.conn.now) → (office : OfficeLists)
+        → Stands (state S.Store tx.old.conn.now) office → (decided office call.now).change ≡ None
+        → OnOk result (IsUnchanged (state S.Store tx.old.conn.now)
+        (state S.Store tx.new.conn.now)) }
     ensures crash { Survives (state S.Store tx.old.conn.now) (state S.Store tx.new.conn.now)
         (λ _. ⊥) }
 {
@@ -92,10 +98,15 @@ impl<S: Alter> Desk<S> {
             → Stands (state S.Store self.old) office
             → IfOk result (λ t. FnOnceReturnsAt F.FnOnce show (decided office call).reply (Ok t)
             × Stands (state S.Store self.new) (stepped office call)) }
-        ensures same { HasCleanDisk (state S.Store self.new)
-            → IsTrue (state S.Store self.new).is_open → (office : OfficeLists)
-            → Stands (state S.Store self.old) office
-            → OnErr result (Stands (state S.Store self.new) office) }
+        ensures leaves { Leaves (made_by result call) (state S.Store self.old)
+            (state S.Store self.new) }
+        ensures stays_open { HasCleanDisk (state S.Store self.new)
+            → OnOk result (IsTrue (state S.Store self.new).is_open) }
+        ensures still { HasCleanDisk (state S.Store self.new) → (office : OfficeLists)
+            → Stands (state S.Store self.old) office → (decided office call).change ≡ None
+            → OnOk result (IsAsItWas (state S.Store self.old) (state S.Store self.new)) }
+        ensures crash { Survives (state S.Store self.old) (state S.Store self.new)
+            (AreAfter (state S.Store self.old) call) }
     {
         let _ = self.conn.is_autocommit();
         let mut tx = self.conn.transaction();

@@ -1,5 +1,6 @@
 //! What the tables tell, read within a transaction.
 ghost use Rattle.std.specs.Prelude.{◌≡◌};
+ghost use Rattle.desk_store.specs.Faults.{failure_of, fault_of_book};
 ghost use Rattle.desk_store.specs.Reads.{IsCallerWith, IsTold, IsWhole};
 
 use desk_reading::{ReadFault, read_office};
@@ -10,7 +11,9 @@ use meeting_core::{Book, BookFault};
 use sqlite::{Alter, Transaction};
 use std::alloc::Global;
 
-fn fault_of_book(fault: BookFault) -> ReadFault {
+fn fault_of_book(fault: BookFault) -> ReadFault
+    ensures { result ≡ fault_of_book fault }
+{
     match fault {
         BookFault::NoOffice => ReadFault::NoOffice,
         BookFault::Memory => ReadFault::Memory,
@@ -18,7 +21,9 @@ fn fault_of_book(fault: BookFault) -> ReadFault {
 }
 
 /// How a call fails where its tables are not read or not written.
-pub(crate) fn failure_of(fault: ReadFault) -> Failure {
+pub(crate) fn failure_of(fault: ReadFault) -> Failure
+    ensures { result ≡ failure_of fault }
+{
     match fault {
         ReadFault::NoOffice | ReadFault::Store => Failure::Store,
         ReadFault::Memory => Failure::Memory,

@@ -1,5 +1,6 @@
 //! What the tables say, without a change.
-ghost use Rattle.std.specs.Prelude.{◌≡◌, IfOk, IsTrue};
+ghost use Rattle.std.specs.Prelude.{◌≡◌, IfOk, IsTrue, None, OnOk};
+ghost use Rattle.desk_store.specs.Joins.{Leaves};
 ghost use Rattle.caller_view.specs.Views.{public_of};
 ghost use Rattle.desk_store.specs.Reads.{caller_with};
 ghost use Rattle.desk_records.specs.Standing.{Stands};
@@ -46,26 +47,30 @@ impl<S: Alter> Desk<S> {
         ensures found { HasCleanDisk (state S.Store self.new) → (office : OfficeLists)
             → Stands (state S.Store self.old) office
             → IfOk result (λ caller. caller ≡ caller_with office.keys key.now) }
-        ensures same { HasCleanDisk (state S.Store self.new)
-            → IsTrue (state S.Store self.new).is_open → (office : OfficeLists)
-            → Stands (state S.Store self.old) office → Stands (state S.Store self.new) office }
+        ensures leaves { Leaves None (state S.Store self.old) (state S.Store self.new) }
+        ensures stays_open { HasCleanDisk (state S.Store self.new)
+            → OnOk result (IsTrue (state S.Store self.new).is_open) }
     {
         let _ = self.conn.is_autocommit();
         let mut tx = self.conn.transaction();
-        read_caller(&mut tx, self.alloc, key).map_err(failure_of)
+        let found = read_caller(&mut tx, self.alloc, key).map_err(failure_of)?;
+        tx.commit().map_err(|error| failure_of(error.into()))?;
+        Ok(found)
     }
 
     /// The office that the tables hold, in memory.
     pub fn book(&mut self) -> Result<Book, Failure>
         ensures held { HasCleanDisk (state S.Store self.new) → (office : OfficeLists)
             → Stands (state S.Store self.old) office → IfOk result (λ book. book ≡ office) }
-        ensures same { HasCleanDisk (state S.Store self.new)
-            → IsTrue (state S.Store self.new).is_open → (office : OfficeLists)
-            → Stands (state S.Store self.old) office → Stands (state S.Store self.new) office }
+        ensures leaves { Leaves None (state S.Store self.old) (state S.Store self.new) }
+        ensures stays_open { HasCleanDisk (state S.Store self.new)
+            → OnOk result (IsTrue (state S.Store self.new).is_open) }
     {
         let _ = self.conn.is_autocommit();
         let mut tx = self.conn.transaction();
-        read_book(&mut tx, self.alloc).map_err(failure_of)
+        let book = read_book(&mut tx, self.alloc).map_err(failure_of)?;
+        tx.commit().map_err(|error| failure_of(error.into()))?;
+        Ok(book)
     }
 
     /// The public record of a meeting; where there is none of that name, the closed days alone.
@@ -73,9 +78,9 @@ impl<S: Alter> Desk<S> {
         ensures held { HasCleanDisk (state S.Store self.new) → (office : OfficeLists)
             → Stands (state S.Store self.old) office
             → IfOk result (λ kept. kept ≡ public_of office meeting) }
-        ensures same { HasCleanDisk (state S.Store self.new)
-            → IsTrue (state S.Store self.new).is_open → (office : OfficeLists)
-            → Stands (state S.Store self.old) office → Stands (state S.Store self.new) office }
+        ensures leaves { Leaves None (state S.Store self.old) (state S.Store self.new) }
+        ensures stays_open { HasCleanDisk (state S.Store self.new)
+            → OnOk result (IsTrue (state S.Store self.new).is_open) }
     {
         let book = self.book()?;
         Ok(KeptRecord { book, meeting })

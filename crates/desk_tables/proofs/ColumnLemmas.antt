@@ -1,20 +1,27 @@
 -- Statements that are asked about, and not run.
-use Rattle.std.proofs.Common.{◌≡◌, ◌≢◌, ℕ, Bool, true, false, List, [], codes, Ok, Err, Result, is_ok, IfErr, IfOk, IsTrue, refl, sym, ap, subst, ◌∙◌, inl, inr, arith}
+use Rattle.std.proofs.Common.{◌≡◌, ◌≢◌, ℕ, true, List, [], ◌∷◌, ◌++◌, codes, Ok, Err, Result, is_ok, IfErr, IfOk, IsTrue, refl, sym, ap, subst, ◌∙◌, inl, inr, arith}
+use Rattle.std.specs.List.{AllByRecursion}
+use Rattle.std.proofs.lemmas.Result.{on_ok_weaker}
 use Rattle.sqlite.specs.declared.error.Error.{Error}
 use Rattle.sqlite.specs.declared.error.Error.TheVariants.{SqlInputError}
 use Rattle.sqlite.specs.Effect.{Database}
 use Rattle.sqlite.specs.Given.{IsPlain}
 use Rattle.sqlite.specs.Held.{Held, state}
 use Rattle.sqlite.specs.Listing.{understood}
+use Rattle.sqlite.specs.Outline.{Outline}
+use Rattle.sqlite.specs.Steps.{Outlines}
 use Rattle.sqlite.specs.State.{State, HasCleanDisk, IsNotRun, IsUnchanged, store_error}
 use Rattle.sqlite.specs.Order.{Row}
+use Rattle.sqlite_resolve.specs.declared.compiled.Compiled.{Compiled}
 use Rattle.sqlite_resolve.specs.declared.error.CompileError.{CompileError}
 use Rattle.sqlite_tied.specs.Compute.{everything}
 use Rattle.sqlite_trees.specs.declared.error.StoreError.{StoreError}
 use Rattle.sqlite_trees.specs.declared.error.StoreError.TheVariants as kind
 use Rattle.sqlite_trees.specs.declared.store.Store as store
 use Rattle.desk_schema.specs.Tables.{desk_schema}
-use Rattle.desk_tables.specs.Columns.{Asks}
+use Rattle.desk_tables.specs.Columns.{AreUnderstood, Asks}
+use Rattle.desk_tables.specs.declared.columns.ColumnFault.{ColumnFault}
+use Rattle.desk_tables.specs.declared.columns.ColumnFault.TheVariants.{Missing, Refused}
 
 -- a statement that is not run leaves the tables of the last commit
 pub stays_unrun : (old new : State) (sql : List ℕ) (e : Error) → IsNotRun old new sql [] e → (IsTrue old.is_open → old.now ≡ old.committed) → IsTrue new.is_open
@@ -54,15 +61,36 @@ module _ {X : Type 0} (old new : State) (sql : List ℕ) (r : Result X Error) wh
       → IsTrue old.is_open × (old.now.schema ≢ desk_schema)
   unread_if f is err plain = unread old new sql f (subst (λ (q : Result X Error). IfErr q (λ e. (params : Row) → IsNotRun old new sql params e)) is err []) plain
 
+pub not_missing : (e : Error) → ◌≡◌ {A = Result (Unit {0}) ColumnFault} (Err (Refused e)) (Err Missing) → ⊥
+not_missing e h = cc
+
+-- a text that is compiled was a statement over the tables of the last commit
+pub stood : (old new : State) (sql : List ℕ) (r : Result Outline Error) → is_ok r ≡ true → IfOk r (λ s. (s.text ≡ sql) × IsUnchanged old new) → IfOk r (Outlines (understood old.now.schema sql))
+    → IsTrue old.is_open × AreUnderstood old.now.schema (sql ∷ [])
+stood old new sql (Ok s) is same shape = (same.1.0.was_open, (go (understood old.now.schema sql) shape, tt))
+  where
+    go : (c : Result Compiled CompileError) → Outlines c s → is_ok c ≡ true
+    go (Ok c) h = refl
+    go (Err e) h = absurd h
+stood old new sql (Err e) is same shape = absurd cc
+
+both : {X : Type 0} (P : X → Type 0) (xs ys : List X) → AllByRecursion P xs → AllByRecursion P ys → AllByRecursion P (xs ++ ys)
+both P [] ys h k = k
+both P (x ∷ xs) ys h k = (h.0, both P xs ys h.1 k)
+
 -- what is asked next is asked of the same tables
-pub asks_then : {S : Type 0} (g : store.Ghosts S) (a b c : Held S) (stand : Bool) → Asks g a b true → Asks g b c stand → Asks g a c stand
-asks_then g a b c stand one two = record {
+pub asks_then : {S T U : Type 0} {t : T} (g : store.Ghosts S) (a b c : Held S) (texts more : List (List ℕ)) (r : Result U ColumnFault) → Asks {T = T} g a b texts (Ok t) → Asks g b c more r → Asks g a c (texts ++ more) r
+asks_then g a b c texts more r one two = record {
   clean = let p = one.clean in let q = two.clean in omega (arith, p, q);
   same = λ clean is_open.
       let early : HasCleanDisk (state g b) = omega (arith, two.clean, clean) in
       let second = two.same clean is_open in
       let first = one.same early second.0 in
       (first.0, second.1 ∙ first.1);
+  stand = λ clean.
+      let early : HasCleanDisk (state g b) = omega (arith, two.clean, clean) in
+      let mine = one.stand early in
+      on_ok_weaker r (λ h. (mine.0, both _ texts more mine.1 (subst (λ (d : Database). AreUnderstood d.schema more) (one.same early h.0).1 h.1))) (two.stand clean);
   missed = λ clean no.
       let early : HasCleanDisk (state g b) = omega (arith, two.clean, clean) in
       let bad = two.missed clean no in
@@ -71,8 +99,13 @@ asks_then g a b c stand one two = record {
 }
 
 -- what is missing ends the asking
-pub asks_stop : {S T E : Type 0} {e : E} (g : store.Ghosts S) (a b : Held S) (r : Result T E) → r ≡ Err e → Asks g a b false → Asks g a b (is_ok r)
-asks_stop g a b r is one = subst (λ q. Asks g a b (is_ok q)) (sym is) one
+pub asks_stop : {S T U : Type 0} {e : ColumnFault} (g : store.Ghosts S) (a b : Held S) (texts whole : List (List ℕ)) (r : Result U ColumnFault) → r ≡ Err e → Asks {T = T} g a b texts (Err e) → Asks g a b whole r
+asks_stop {e = e} g a b texts whole r is one = subst (λ q. Asks g a b whole q) (sym is) (record {
+  clean = one.clean;
+  same = one.same;
+  stand = λ _. tt;
+  missed = λ clean no. let same : e ≡ Missing = cc in one.missed clean (ap (λ (f : ColumnFault). Err f) same);
+})
 
 -- ---- the texts are statements over the tables of a desk
 

@@ -1,36 +1,51 @@
 //! Whether the columns that are read stand.
-ghost use Rattle.std.specs.Prelude.{◌≡◌, false, is_ok};
+ghost use Rattle.std.specs.Prelude.{◌≡◌, ◌++◌, ◌∷◌, [], false};
 ghost use Rattle.desk_schema.specs.Tables.{desk_schema};
-ghost use Rattle.desk_tables.specs.Columns.{Asks};
+ghost use Rattle.desk_tables.specs.Columns.{Asks, meeting_columns, paper_columns, poll_columns};
+ghost use Rattle.desk_tables.specs.declared.columns.ColumnFault.TheVariants.{Refused};
 ghost use Rattle.sqlite.specs.Given.{IsPlain};
 ghost use Rattle.sqlite.specs.Listing.{understood};
 
 use sqlite::{Alter, Connection, Error};
 
-/// A column that is read does not stand.
-#[derive(Drop)]
-struct Missing;
+/// Why columns are not known to stand.
+#[derive(Clone, Copy, PartialEq, Eq)]
+pub enum ColumnFault {
+    /// A column that is read does not stand.
+    Missing,
+    /// The store refused to say, want of memory among its causes.
+    Refused(Error),
+}
+
+impl From<Error> for ColumnFault {
+    ghost from_gives = { λ error fault. fault ≡ Refused error };
+
+    fn from(error: Error) -> ColumnFault {
+        ColumnFault::Refused(error)
+    }
+}
 
 /// Whether the database understands a statement, which is not run.
-fn ask<S: Alter>(conn: &mut Connection<S>, sql: &str) -> Result<(), Missing>
+fn ask<S: Alter>(conn: &mut Connection<S>, sql: &str) -> Result<(), ColumnFault>
     requires { conn.old.in_transaction ≡ false }
     ensures ended { conn.new.in_transaction ≡ false }
     ensures asked { IsPlain (understood desk_schema sql.now)
-        → Asks S.Store conn.old conn.new (is_ok result) }
+        → Asks S.Store conn.old conn.new (sql.now ∷ []) result }
 {
     let _ = conn.is_autocommit();
     let prepared = conn.prepare(sql);
     if let Err(Error::SqlInputError(_)) = &prepared {
-        return Err(Missing);
+        return Err(ColumnFault::Missing);
     }
+    prepared?;
     Ok(())
 }
 
 /// Asks for the columns of the desk, of its meetings, and of their resolutions and registers.
-fn ask_meetings<S: Alter>(conn: &mut Connection<S>) -> Result<(), Missing>
+fn ask_meetings<S: Alter>(conn: &mut Connection<S>) -> Result<(), ColumnFault>
     requires { conn.old.in_transaction ≡ false }
     ensures ended { conn.new.in_transaction ≡ false }
-    ensures asked { Asks S.Store conn.old conn.new (is_ok result) }
+    ensures asked { Asks S.Store conn.old conn.new meeting_columns result }
 {
     ask(conn, "SELECT one, version FROM desk")?;
     ask(conn, "SELECT party, secret FROM keys")?;
@@ -47,10 +62,10 @@ fn ask_meetings<S: Alter>(conn: &mut Connection<S>) -> Result<(), Missing>
 }
 
 /// Asks for the columns of what is handed in: appointments, endings, authorities and presences.
-fn ask_papers<S: Alter>(conn: &mut Connection<S>) -> Result<(), Missing>
+fn ask_papers<S: Alter>(conn: &mut Connection<S>) -> Result<(), ColumnFault>
     requires { conn.old.in_transaction ≡ false }
     ensures ended { conn.new.in_transaction ≡ false }
-    ensures asked { Asks S.Store conn.old conn.new (is_ok result) }
+    ensures asked { Asks S.Store conn.old conn.new paper_columns result }
 {
     ask(
         conn,
@@ -68,10 +83,10 @@ fn ask_papers<S: Alter>(conn: &mut Connection<S>) -> Result<(), Missing>
 }
 
 /// Asks for the columns of demands, polls and votes.
-fn ask_polls<S: Alter>(conn: &mut Connection<S>) -> Result<(), Missing>
+fn ask_polls<S: Alter>(conn: &mut Connection<S>) -> Result<(), ColumnFault>
     requires { conn.old.in_transaction ≡ false }
     ensures ended { conn.new.in_transaction ≡ false }
-    ensures asked { Asks S.Store conn.old conn.new (is_ok result) }
+    ensures asked { Asks S.Store conn.old conn.new poll_columns result }
 {
     ask(
         conn,
@@ -87,22 +102,13 @@ fn ask_polls<S: Alter>(conn: &mut Connection<S>) -> Result<(), Missing>
     )
 }
 
-/// Asks for each column that is read.
-fn ask_columns<S: Alter>(conn: &mut Connection<S>) -> Result<(), Missing>
+/// Whether each column that is read stands. No statement is run.
+pub fn ask_columns<S: Alter>(conn: &mut Connection<S>) -> Result<(), ColumnFault>
     requires { conn.old.in_transaction ≡ false }
     ensures ended { conn.new.in_transaction ≡ false }
-    ensures asked { Asks S.Store conn.old conn.new (is_ok result) }
+    ensures asked { Asks S.Store conn.old conn.new (meeting_columns ++ paper_columns ++ poll_columns) result }
 {
     ask_meetings(conn)?;
     ask_papers(conn)?;
     ask_polls(conn)
-}
-
-/// Whether each column that is read stands. No statement is run.
-pub fn stand<S: Alter>(conn: &mut Connection<S>) -> bool
-    requires { conn.old.in_transaction ≡ false }
-    ensures ended { conn.new.in_transaction ≡ false }
-    ensures asked { Asks S.Store conn.old conn.new result }
-{
-    ask_columns(conn).is_ok()
 }

@@ -13,14 +13,15 @@ use Rattle.desk_records.specs.Standing.{Stands}
 use Rattle.desk_opening.specs.declared.fault.OpenFault.{OpenFault}
 use Rattle.desk_opening.specs.declared.fault.OpenFault.TheVariants as opening
 
--- a database that held nothing is a desk that holds nothing; or it held something, or the store
--- failed, or memory ran out
+-- a database that held something is told to be not empty, and no other is; one that held nothing
+-- is a desk that holds nothing, or the store failed, or memory ran out
 abbrev pub Creates : State → State → Ending → Type 0
 Creates before after end =
     ((end ≡ ending 0 (codes "created")) × (before.now.schema ≡ no_schema)
     × (HasCleanDisk after → Stands after empty_office))
     ⊎ (((end ≡ ended_by fault.NotEmpty) × (before.now.schema ≢ no_schema))
-    ⊎ ((end ≡ ended_by fault.Store) ⊎ (end ≡ ended_by fault.Memory)))
+    ⊎ (((end ≡ ended_by fault.Store) ⊎ (end ≡ ended_by fault.Memory))
+    × (before.now.schema ≡ no_schema)))
 
 -- the fault for which a database was not opened as a desk
 abbrev pub open_fault : OpenFault → Fault

@@ -1,5 +1,5 @@
 -- How a command that loads a file ends, and what office it leaves.
-use Rattle.std.specs.Prelude.{◌≡◌, ◌⊎◌, ℕ, List, Result, Ok, Err, IfSome, codes}
+use Rattle.std.specs.Prelude.{◌≡◌, ◌⊎◌, ℕ, List, Result, Ok, Err, codes}
 use Rattle.sqlite.specs.State.{State}
 use Rattle.desk_words.specs.Seen.{Moment}
 use Rattle.desk_words.specs.declared.caller.Caller.TheVariants as caller
@@ -11,7 +11,7 @@ use Rattle.desk_words.specs.declared.reply.Reply.TheVariants as reply
 use Rattle.desk_words.specs.declared.request.Call.{Call}
 use Rattle.desk_words.specs.declared.request.Request.{Request}
 use Rattle.meeting_core.specs.Step.{decided, stepped}
-use Rattle.desk_files.specs.Whole.{IsReadWhole, HasCause}
+use Rattle.desk_files.specs.Whole.{HaveCome, IsReadWhole, HasCause}
 use Rattle.desk_files.specs.declared.fault.FileFault.{FileFault}
 use Rattle.desk_files.specs.declared.fault.FileFault.TheVariants.{ReadFault}
 use Rattle.desk_endings.specs.Endings.{Ending, done, ending, ended_by, ended_by_refusal, ended_by_file}
@@ -60,17 +60,17 @@ Follows office now file end tables =
     ((end ≡ ended_asking office now file) × Stands tables (office_asked office now file))
     ⊎ ((end ≡ ended_by fault.Store) ⊎ (end ≡ ended_by fault.Memory))
 
--- the whole file was read, the office asked for what it spells, and the program ended so: `file` is
--- what its bytes spell, or its first fault
+-- the whole file was read, the office asked for what it spells, and the program ended so: `bytes`
+-- came, and spell that or have the first fault that is told
 pub record HasAsked {X : Type 0} (spelled_by : List ℕ → Result X FileFault) (asking : X → Request)
     (limit : ℕ) (before after : Reader) (held : OfficeLists) (now : Moment) (end : Ending)
     (tables : State) : Type 0 where
-  pub file : Result X FileFault
-  pub spelled : IfSome before.rest (λ bytes. file ≡ spelled_by bytes)
+  pub bytes : List ℕ
+  pub came : HaveCome bytes before.rest before.passed after.passed
   pub whole : IsReadWhole limit before.rest after.rest before.passed after.passed
       before.failures after.failures
-  pub ended : end ≡ ended_asking held now (asked_by asking file)
-  pub stands : Stands tables (office_asked held now (asked_by asking file))
+  pub ended : end ≡ ended_asking held now (asked_by asking (spelled_by bytes))
+  pub stands : Stands tables (office_asked held now (asked_by asking (spelled_by bytes)))
 
 -- it stopped before: the store failed, memory ran out, or the file could not be read or had more
 -- bytes than the limit

@@ -1,5 +1,8 @@
 -- What is made of records, and why nothing is.
 use Rattle.std.specs.Prelude.{◌≡◌, Bool, true, false, Option, Some, Result, Ok, Err}
+use Rattle.sqlite.specs.declared.error.Error.{Error}
+use Rattle.sqlite.specs.declared.error.Error.TheVariants.{SqliteFailure}
+use Rattle.sqlite.specs.declared.error.ErrorCode.TheVariants.{OutOfMemory}
 use Rattle.desk_rows.specs.declared.fault.RowFault.{RowFault}
 use Rattle.desk_rows.specs.declared.fault.RowFault.TheVariants as row
 use Rattle.office_lists.specs.declared.fault.ReadFault.{ReadFault}
@@ -9,6 +12,11 @@ use Rattle.office_lists.specs.declared.fault.ReadFault.TheVariants.{NoOffice, St
 abbrev pub fault_of_row : RowFault → ReadFault
 fault_of_row row.Unreadable = NoOffice
 fault_of_row row.Memory = Memory
+
+-- why a statement was not answered: want of memory, or what the store refused
+abbrev pub fault_of_error : Error → ReadFault
+fault_of_error (SqliteFailure OutOfMemory) = Memory
+fault_of_error other = Store
 
 -- where there is no office, what is said is nothing, or not right; of other faults nothing is said
 abbrev pub IsCause : {X : Type 0} → (X → Bool) → ReadFault → Option X → Type 0

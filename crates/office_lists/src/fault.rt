@@ -1,8 +1,8 @@
 //! Why the office of the tables was not read.
-ghost use Rattle.std.specs.Prelude.{◌≡◌, ◌≢◌};
+ghost use Rattle.std.specs.Prelude.{◌≡◌};
 ghost use Rattle.desk_rows.specs.declared.fault.RowFault.TheVariants as row;
-ghost use Rattle.office_lists.specs.declared.fault.ReadFault.TheVariants.{NoOffice, Memory};
-ghost use Rattle.office_lists.specs.Yields.{fault_of_row};
+ghost use Rattle.office_lists.specs.declared.fault.ReadFault.TheVariants.{Memory};
+ghost use Rattle.office_lists.specs.Yields.{fault_of_error, fault_of_row};
 
 use desk_rows::RowFault;
 use sqlite::{Error, ErrorCode};
@@ -20,7 +20,7 @@ pub enum ReadFault {
 }
 
 impl From<Error> for ReadFault {
-    ghost from_gives = { λ _ fault. fault ≢ NoOffice };
+    ghost from_gives = { λ error fault. fault ≡ fault_of_error error };
 
     fn from(error: Error) -> ReadFault {
         match error {

@@ -5,7 +5,7 @@ ghost use Rattle.std.specs.List.{filter_map, list_all, slice_get};
 ghost use Rattle.desk_terms.specs.Names.{name_cmp};
 ghost use Rattle.desk_terms.specs.declared.kinds.Capacity.TheVariants.{Proxy};
 ghost use Rattle.desk_words.specs.declared.records.Appointment.{Appointment};
-ghost use Rattle.vote_rules.specs.Ballots.{capacity_for, governing_at, piece_at, vote_by, vote_by_governing, vote_if, voters_for, ways_at};
+ghost use Rattle.vote_rules.specs.Ballots.{capacity_for, governing_at, piece_at, vote_by, vote_by_governing, vote_by_proxy, vote_if, voters_for, ways_at};
 ghost use Rattle.vote_rules.specs.Covers.{pieces_by, way_at};
 ghost use Rattle.proxy_rules.specs.Instructions.{same_way};
 ghost use Rattle.vote_rules.specs.Votes.{common_way};
@@ -130,6 +130,20 @@ fn vote_if(told: Option<Way>, way: Way) -> Option<Way>
     if allows(told, way) { Some(way) } else { None }
 }
 
+/// The vote by the proxy of an appointment, by what its casts leave.
+fn vote_by_proxy<B: Blocks>(
+    blocks: &B,
+    appointment: &Appointment,
+    resolution: u64,
+    place: u64,
+) -> Option<Way>
+    ensures { result ≡ vote_by_proxy resolution place appointment.now (B.pieces blocks.now) }
+{
+    let told = instructed_on(appointment.instructions.as_slice(), resolution);
+    let way = way_at(blocks, place, told)?;
+    vote_if(told, way)
+}
+
 /// The vote by the proxy of the appointment that stands there among the member's.
 fn vote_by_governing<B: Blocks>(
     proxies: &[B],
@@ -144,9 +158,7 @@ fn vote_by_governing<B: Blocks>(
     let at = by?;
     let appointment = appointed.get(at)?;
     let blocks = proxies.get(at)?;
-    let told = instructed_on(appointment.instructions.as_slice(), resolution);
-    let way = way_at(blocks, place, told)?;
-    vote_if(told, way)
+    vote_by_proxy(blocks, appointment, resolution, place)
 }
 
 /// The ways in which the holder's voters cast on the place.

@@ -6,7 +6,7 @@ use Rattle.desk_files.proofs.key_file.keys_in.Goals as goal
 
 pub returns-in-Ok : goal.returns-in-Ok
 unfolding key_file
-returns-in-Ok c = gives-same itself c.as_key_list.result _ (key_file c.args.bytes.now) c.as_key_list.ensures (ap (λ rows. rows >>= as_key_list) c.in-Ok.ensures)
+returns-in-Ok c = gives-same itself c.as_key_list.result _ (key_file c.args.bytes.now) c.as_key_list.ensures.keys (ap (λ rows. rows >>= as_key_list) c.in-Ok.ensures)
 
 pub returns-in-Err : goal.returns-in-Err
 unfolding key_file

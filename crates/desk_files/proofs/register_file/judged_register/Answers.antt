@@ -6,7 +6,7 @@ use Rattle.desk_files.proofs.register_file.judged_register.Goals as goal
 
 pub returns-in-Ok : goal.returns-in-Ok
 unfolding register_file
-returns-in-Ok c = gives-same itself c.as_register.result _ (register_file c.args.bytes.now) c.as_register.ensures (ap (λ rows. rows >>= as_register) c.in-Ok.ensures)
+returns-in-Ok c = gives-same itself c.as_register.result _ (register_file c.args.bytes.now) c.as_register.ensures.register (ap (λ rows. rows >>= as_register) c.in-Ok.ensures)
 
 pub returns-in-Err : goal.returns-in-Err
 unfolding register_file

@@ -6,11 +6,17 @@ use Rattle.desk_files.specs.declared.fault.Why.TheVariants as why
 use Rattle.desk_terms.proofs.TextLemmas.{text_of-text, text_of-no_text}
 use Rattle.desk_files.proofs.register_file.read_text.Goals as goal
 
-pub returns-in-Ok : goal.returns-in-Ok
-returns-in-Ok c =
+pub returns-in-Ok-clause-text : goal.returns-in-Ok-clause-text
+returns-in-Ok-clause-text c =
     let made = c.in-Ok.ensures.ok in
     ap (λ o. ok_or o (BadRow c.args.line why.Name)) (text_of-text c.args.bytes.now (subst IsText made.0 made.1)) ∙ ap (λ t. Ok t) (sym made.0)
 
-pub returns-in-Err-Form : goal.returns-in-Err-Form
-returns-in-Err-Form c =
+pub returns-in-Err-Form-clause-text : goal.returns-in-Err-Form-clause-text
+returns-in-Err-Form-clause-text c =
     ap (λ o. ok_or o (BadRow c.args.line why.Name)) (text_of-no_text c.args.bytes.now (c.in-Err-Form.ensures.form.0 (ap (λ e. Err e) c.in-Err-Form.field-0-is)))
+
+pub returns-in-Err-Memory-clause-memory : goal.returns-in-Err-Memory-clause-memory
+returns-in-Err-Memory-clause-memory c = λ h none.
+    let other = c.in-Err-Memory.ensures.form.1 (λ text. let some = sym none ∙ text_of-text c.args.bytes.now text in absurd (cc)) in
+    let same = sym other ∙ ap (λ e. Err e) c.in-Err-Memory.field-0-is in
+    absurd (cc)

@@ -40,7 +40,7 @@ loop-found-preserved g c =
     let inv = c.loop-found.invariant in
     let s = rw c.if-branch.true at c.in_ok-next_record.ensures.reads in
     let m = rows-more left_of_slice c.loop-found.reader c.next_record.new.reader (fields_of c.next_record.new.fields) default_config st.StartRecord (strip_bom c.args.bytes.now) inv.1 inv.3 inv.0.by_default inv.2 inv.4 s in
-    (c.in_ok-next_record.ensures.goes_on, m.0, m.1, _, m.2, rows_in-more g.T.Gather.names_columns g.T.Gather.row_after inv.3 (fields_of c.next_record.new.fields) _ inv.5 ∙ c.in-Ok.ensures)
+    (c.in_ok-next_record.ensures.goes_on, m.0, m.1, _, m.2, rows_in-more g.T.Gather.names_columns g.T.Gather.row_after inv.3 (fields_of c.next_record.new.fields) _ inv.5 ∙ c.in-Ok.ensures.rows)
 
 pub returns-in-Err : goal.returns-in-Err
 returns-in-Err g c =
@@ -48,7 +48,7 @@ returns-in-Err g c =
     let s = rw c.if-branch.true at c.in_ok-next_record.ensures.reads in
     let m = rows-more left_of_slice c.loop-found.reader c.next_record.new.reader (fields_of c.next_record.new.fields) default_config st.StartRecord (strip_bom c.args.bytes.now) inv.1 inv.3 inv.0.by_default inv.2 inv.4 s in
     let more = rows_in-more g.T.Gather.names_columns g.T.Gather.row_after inv.3 (fields_of c.next_record.new.fields) _ inv.5 in
-    gives-fault g.T.Gather.seen (option_map g.T.Gather.seen) c.in-Err.fault _ (table_of g.T.Gather.names_columns g.T.Gather.row_after c.args.bytes.now) c.in-Err.ensures
+    gives-fault g.T.Gather.seen (option_map g.T.Gather.seen) c.in-Err.fault _ (table_of g.T.Gather.names_columns g.T.Gather.row_after c.args.bytes.now) c.in-Err.ensures.rows
     (λ h. ap (λ found. found >>= under_header) (rows-faulty g.T.Gather.names_columns g.T.Gather.row_after c.args.bytes.now _ c.next_record.new.reader.state m.0 c.in-Err.fault m.2 (more ∙ h)))
 
 pub returns : goal.returns
@@ -56,5 +56,5 @@ returns g c =
     let inv = c.loop-found.invariant in
     let s = rw c.if-branch.false at c.in_ok-next_record.ensures.reads in
     let ends = rows-end left_of_slice c.loop-found.reader c.next_record.new.reader (fields_of c.next_record.new.fields) default_config inv.1 inv.0.by_default inv.2 s in
-    gives-same g.T.Gather.seen c.under_header.result _ (table_of g.T.Gather.names_columns g.T.Gather.row_after c.args.bytes.now) c.under_header.ensures
+    gives-same g.T.Gather.seen c.under_header.result _ (table_of g.T.Gather.names_columns g.T.Gather.row_after c.args.bytes.now) c.under_header.ensures.rows
     (ap (λ found. found >>= under_header) (rows-whole g.T.Gather.names_columns g.T.Gather.row_after c.args.bytes.now inv.3 c.loop-found.reader.state inv.1 _ inv.4 ends inv.5))

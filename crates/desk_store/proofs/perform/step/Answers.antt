@@ -1,6 +1,6 @@
 use Rattle.std.proofs.Common.{Ok, rules, subst, sym}
 use Rattle.std.specs.Fn.{FnOnceReturnsAt}
-use Rattle.desk_store.proofs.StepLemmas.{step_holds, step_keeps}
+use Rattle.desk_store.proofs.StepLemmas.{step_holds, step_keeps, step_opened, step_still}
 use Rattle.desk_store.proofs.perform.step.Goals as goal
 
 pub returns-in_err-write_if_any-clause-kept : goal.returns-in_err-write_if_any-clause-kept
@@ -24,3 +24,19 @@ returns-clause-inside g c = λ clean inside office stands.
 pub returns-clause-kept : goal.returns-clause-kept
 returns-clause-kept g c =
     step_keeps g.S.Store c.args.tx.now.conn.now c.decide.new.tx.conn.now c.write_if_any.new.tx.conn.now c.args.call.now c.in_ok-answer.answer c.in_ok-answer.ensures.tells _ c.in_ok-write_if_any.ensures.writes
+
+pub returns-in_err-write_if_any-clause-was_open : goal.returns-in_err-write_if_any-clause-was_open
+returns-in_err-write_if_any-clause-was_open g c =
+    step_opened g.S.Store c.args.tx.now.conn.now c.decide.new.tx.conn.now c.write_if_any.new.tx.conn.now c.args.call.now c.in_ok-answer.answer c.in_ok-answer.ensures.tells _ c.in_err-write_if_any.ensures.writes
+
+pub returns-in_err-show-clause-was_open : goal.returns-in_err-show-clause-was_open
+returns-in_err-show-clause-was_open g c =
+    step_opened g.S.Store c.args.tx.now.conn.now c.decide.new.tx.conn.now c.write_if_any.new.tx.conn.now c.args.call.now c.in_ok-answer.answer c.in_ok-answer.ensures.tells _ c.in_ok-write_if_any.ensures.writes
+
+pub returns-clause-was_open : goal.returns-clause-was_open
+returns-clause-was_open g c =
+    step_opened g.S.Store c.args.tx.now.conn.now c.decide.new.tx.conn.now c.write_if_any.new.tx.conn.now c.args.call.now c.in_ok-answer.answer c.in_ok-answer.ensures.tells _ c.in_ok-write_if_any.ensures.writes
+
+pub returns-clause-still : goal.returns-clause-still
+returns-clause-still g c =
+    step_still g.S.Store c.args.tx.now.conn.now c.decide.new.tx.conn.now c.write_if_any.new.tx.conn.now c.args.call.now c.in_ok-answer.answer c.in_ok-answer.ensures.tells _ c.in_ok-write_if_any.ensures.writes

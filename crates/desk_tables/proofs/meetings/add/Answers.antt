@@ -1,5 +1,6 @@
 use Rattle.std.proofs.Common.{◌≡◌, w64, rules, to_z, of_z}
 use Rattle.sqlite.specs.Held.{state}
+use Rattle.desk_statements.proofs.Commits.{writes_nothing}
 use Rattle.desk_tables.proofs.MeetingLemmas.{adds_meeting}
 use Rattle.desk_statements.proofs.Values.{bound_some}
 use Rattle.desk_tables.proofs.meetings.add.Goals as goal
@@ -13,3 +14,6 @@ returns-clause-added g c = λ clean inside desk.
     c.meeting_text.ensures c.company_text.ensures c.meeting_kind_text.ensures c.day_number.ensures c.moment_number.ensures c.moment_number-2.ensures c.some_moment_number.ensures
     (state g.S.Store c.args.tx.now.conn.now) (state g.S.Store c.execute.new.self.conn.now) c.execute.result desk inside
     (rw (c.params-to_sql.ensures, c.params-to_sql-2.ensures, c.params-to_sql-3.ensures, c.params-to_sql-4.ensures, c.params-to_sql-5.ensures, c.params-to_sql-6.ensures, c.params-to_sql-7.ensures, c.params-to_sql-8.ensures, bound_some c.some_moment_number.result, same_0, same_1, same_2) at (c.execute.ensures.runs clean inside))
+
+pub returns-clause-commits : goal.returns-clause-commits
+returns-clause-commits g c = writes_nothing g.S.Store c.args.tx.now.conn.now c.execute.new.self.conn.now _ _ c.execute.result c.execute.ensures.ended c.execute.ensures.runs c.execute.ensures.survives

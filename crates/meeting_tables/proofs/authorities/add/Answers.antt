@@ -1,5 +1,6 @@
 use Rattle.std.proofs.Common.{◌≡◌, w64, rules, to_z, of_z}
 use Rattle.sqlite.specs.Held.{state}
+use Rattle.desk_statements.proofs.Commits.{writes_nothing}
 use Rattle.meeting_tables.proofs.AuthorityLemmas.{adds_authority}
 use Rattle.meeting_tables.proofs.authorities.add.Goals as goal
 
@@ -10,3 +11,6 @@ returns-clause-added g c = λ clean inside desk.
     c.meeting_text.ensures c.party_text.ensures c.party_text-2.ensures c.moment_number.ensures
     (state g.S.Store c.args.tx.now.conn.now) (state g.S.Store c.execute.new.self.conn.now) c.execute.result desk inside
     (rw (c.params-to_sql.ensures, c.params-to_sql-2.ensures, c.params-to_sql-3.ensures, c.params-to_sql-4.ensures, same_0) at (c.execute.ensures.runs clean inside))
+
+pub returns-clause-commits : goal.returns-clause-commits
+returns-clause-commits g c = writes_nothing g.S.Store c.args.tx.now.conn.now c.execute.new.self.conn.now _ _ c.execute.result c.execute.ensures.ended c.execute.ensures.runs c.execute.ensures.survives

@@ -1,4 +1,5 @@
 use Rattle.sqlite.specs.Held.{state}
+use Rattle.desk_statements.proofs.Commits.{query_opened}
 use Rattle.meeting_tables.proofs.CastLemmas.{reads, reads_keeps}
 use Rattle.meeting_tables.proofs.casts.all.Goals as goal
 
@@ -10,5 +11,7 @@ pub returns-clause-changes : goal.returns-clause-changes
 returns-clause-changes g c = record {
   kept = λ read.
       reads_keeps (λ v. v.items) (state g.S.Store c.args.tx.now.conn.now) (state g.S.Store c.query_all.new.self.conn.now) c.query_all.result read.1 (c.query_all.ensures.ok read.0) (c.query_all.ensures.err read.0);
+  was_open = λ clean.
+      query_opened (λ v. v.items) _ _ (state g.S.Store c.args.tx.now.conn.now) (state g.S.Store c.query_all.new.self.conn.now) c.query_all.result (c.query_all.ensures.ok clean) (c.query_all.ensures.err clean);
   crash = c.query_all.ensures.survives;
 }

@@ -1,0 +1,25 @@
+-- The laws of heads, and the limits by their numbers.
+use Rattle.std.specs.Prelude.{◌≡◌, ◌⊎◌, List, ℕ}
+use Rattle.httparse.specs.Grammar.{RequestHead, EndsInTarget}
+use Rattle.desk_heads.specs.Heads.{HasHead, head_place, IsFront}
+use Rattle.desk_heads.specs.declared.front.Front.{Front}
+use Rattle.desk_heads.specs.declared.front.TheConstants.{LONGEST_HEAD, MOST_FIELDS}
+use Rattle.desk_heads.specs.declared.length.TheConstants.{LONGEST_BODY}
+
+-- an input has one head at most
+abbrev pub HasOneHead : Type 0
+HasOneHead =
+    (input : List ℕ) (h k : RequestHead) (rest rest' : List ℕ)
+    → HasHead input h rest → HasHead input k rest' → (h ≡ k) × (rest ≡ rest')
+
+-- an input has one front, but where its first 8,192 bytes end inside the target
+abbrev pub HasOneFront : Type 0
+HasOneFront =
+    (input : List ℕ) (a b : Front)
+    → IsFront a input → IsFront b input → (a ≡ b) ⊎ EndsInTarget (head_place input)
+
+-- what each limit is
+pub record LimitsAre : Type 0 where
+  pub head : LONGEST_HEAD ≡ 8192
+  pub fields : MOST_FIELDS ≡ 32
+  pub body : LONGEST_BODY ≡ 65536

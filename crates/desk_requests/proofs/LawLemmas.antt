@@ -1,0 +1,58 @@
+-- An input spells one thing at most.
+use Rattle.std.proofs.Common.{◌≡◌, ℕ, ◌⊎◌, inl, inr, true, List, Option, Some, None, Result, Ok, Err, refl, sym, ap, subst, ◌∙◌}
+use Rattle.httparse.specs.Grammar.{EndsInTarget}
+use Rattle.desk_terms.specs.declared.refusal.Refusal.{Refusal}
+use Rattle.desk_words.specs.declared.request.Request.{Request}
+use Rattle.desk_heads.specs.Heads.{IsFront, asked_in, head_place}
+use Rattle.desk_heads.specs.Laws.{HasOneFront, HasOneHead}
+use Rattle.desk_heads.specs.declared.front.Front.{Front}
+use Rattle.desk_heads.specs.declared.front.Front.TheVariants as front
+use Rattle.desk_requests.specs.Asked.{key_in, request_in}
+use Rattle.desk_requests.specs.Laws.{SpellsOne, is_said, is_told}
+use Rattle.desk_requests.specs.Received.{Asks, Hears, IsWith, SpellsAt}
+use Rattle.desk_requests.specs.declared.received.Received.{Received}
+use Rattle.desk_requests.specs.declared.received.Received.TheVariants.{With}
+use Rattle.desk_requests.specs.declared.received.Unheard.{Unheard}
+use Rattle.desk_requests.specs.declared.received.Unheard.TheVariants as unheard
+
+-- what is heard where nothing fails
+abbrev unheard_of : Result Request Refusal → Result Request Unheard
+unheard_of (Ok request) = Ok request
+unheard_of (Err why) = Err (unheard.Refused why)
+
+-- what is heard, where it is said
+heard-said : (said : Result Request Refusal) (heard : Result Request Unheard) → Hears said heard → is_said heard ≡ true → heard ≡ unheard_of said
+heard-said said (Ok request) h told = rw h refl
+heard-said said (Err (unheard.Refused why)) h told = rw h refl
+heard-said said (Err unheard.Memory) h told = absurd (cc)
+heard-said said (Err unheard.Failed) h told = absurd (cc)
+
+with-one : (key : Option (List ℕ)) (said : Result Request Refusal) (a b : Received) → IsWith key said a → IsWith key said b → is_told a ≡ true → is_told b ≡ true → a ≡ b
+with-one None said a b x y told_a told_b = x ∙ sym y
+with-one (Some key) said a b (heard, is, hears) (other, is_other, hears_other) told_a told_b =
+    let one = heard-said said heard hears (rw is at told_a) in
+    let two = heard-said said other hears_other (rw is_other at told_b) in
+    is ∙ ap (With key) (one ∙ sym two) ∙ sym is_other
+
+same-front : HasOneHead → (input : List ℕ) (front : Front) (a b : Received) → SpellsAt front input a → SpellsAt front input b → is_told a ≡ true → is_told b ≡ true → a ≡ b
+same-front one_head input front.Whole a b (head, behind, has, few, asks) (other, rest, has_other, few_other, asks_other) told_a told_b =
+    let one = one_head input head other behind rest has has_other in
+    let asks_here : Asks (asked_in other) rest a = subst (λ h. Asks (asked_in h) rest a) one.0 (subst (λ r. Asks (asked_in head) r a) one.1 asks) in
+    with-one (key_in (asked_in other)) (request_in (asked_in other) rest) a b asks_here asks_other told_a told_b
+same-front one_head input front.TooLarge a b (is, x) (is_other, y) told_a told_b = x ∙ sym y
+same-front one_head input front.Unreadable a b (is, x) (is_other, y) told_a told_b = x ∙ sym y
+
+front-is : (input : List ℕ) (front : Front) (a : Received) → SpellsAt front input a → IsFront front input
+front-is input front.Whole a (head, behind, has, few, asks) = (head, behind, has, few)
+front-is input front.TooLarge a (is, x) = is
+front-is input front.Unreadable a (is, x) = is
+
+by-front : HasOneHead → (input : List ℕ) (front other : Front) (a b : Received) → (front ≡ other) ⊎ EndsInTarget (head_place input)
+    → SpellsAt front input a → SpellsAt other input b → is_told a ≡ true → is_told b ≡ true → (a ≡ b) ⊎ EndsInTarget (head_place input)
+by-front one_head input front other a b (inl same) x y told_a told_b =
+    inl (same-front one_head input other a b (subst (λ f. SpellsAt f input a) same x) y told_a told_b)
+by-front one_head input front other a b (inr ends) x y told_a told_b = inr ends
+
+pub spells-one : HasOneFront → HasOneHead → SpellsOne
+spells-one one_front one_head input a b (front, x) (other, y) told_a told_b =
+    by-front one_head input front other a b (one_front input front other (front-is input front a x) (front-is input other b y)) x y told_a told_b

@@ -1,0 +1,4 @@
+mod BodyLemmas
+mod CameLemmas
+mod LawLemmas
+mod SpellLemmas

@@ -1,0 +1,66 @@
+-- What a head and the bytes behind it ask: first the key, then the route, the method, the size of
+-- the body, and what the body says.
+use Rattle.std.specs.Prelude.{ℕ, List, length, take, nat_le, Option, Some, None, Result, Ok, Err, ok_or, codes, if◌then◌else◌}
+use Rattle.desk_terms.specs.Names.{key_of}
+use Rattle.desk_terms.specs.declared.refusal.Refusal.{Refusal}
+use Rattle.desk_terms.specs.declared.refusal.Refusal.TheVariants as refusal
+use Rattle.desk_words.specs.declared.request.Request.{Request}
+use Rattle.desk_bodies.specs.declared.route.Route.{Route}
+use Rattle.desk_bodies.specs.Answers.{◌>>=◌, readable}
+use Rattle.desk_bodies.specs.Reads as reads
+use Rattle.desk_bodies.specs.Requests.{asked}
+use Rattle.desk_heads.specs.Fields.{only_value}
+use Rattle.desk_heads.specs.Heads.{Asked}
+use Rattle.desk_heads.specs.Length.{body_length}
+use Rattle.desk_heads.specs.declared.length.BodyLength.{BodyLength}
+use Rattle.desk_heads.specs.declared.length.BodyLength.TheVariants.{Bytes, TooLarge, Unreadable}
+use Rattle.desk_routes.specs.Methods.{is_method_of}
+use Rattle.desk_routes.specs.Targets.{target_route}
+use Rattle.desk_requests.specs.declared.asked.Way.{Way}
+
+-- the name of the field that holds the key
+abbrev pub key_name : List ℕ
+key_name = codes "desk-key"
+
+-- the key: the value of the one field `Desk-Key`, if it has the form of a key
+unfoldable pub key_in : Asked → Option (List ℕ)
+key_in head = reads.◌>>=◌ (only_value key_name head.fields) key_of
+
+-- the route, if it has this method
+abbrev pub by_method : List ℕ → Route → Result Route Refusal
+by_method method route = if is_method_of method route then Ok route else Err refusal.Method
+
+-- the route that the target names, by its own method
+unfoldable pub route_in : Asked → Result Route Refusal
+route_in head = do
+  route ← ok_or (target_route head.target) refusal.Route
+  by_method head.method route
+
+-- the size of the body, if it is within its limit
+abbrev pub size_of : BodyLength → Result ℕ Refusal
+size_of (Bytes size) = Ok size
+size_of TooLarge = Err refusal.TooLarge
+size_of Unreadable = Err refusal.Unreadable
+
+-- where the request goes, and how many bytes its body has
+unfoldable pub way_in : Asked → Result Way Refusal
+way_in head = do
+  route ← route_in head
+  size ← size_of (body_length head.fields)
+  Ok (record { route = route; size = size })
+
+-- the first bytes of some, if there are so many
+abbrev pub front_of : ℕ → List ℕ → Option (List ℕ)
+front_of size bytes = if nat_le size (length bytes) then Some (take size bytes) else None
+
+-- what is asked on a route by a body of this size; what stands behind the body is not looked at
+unfoldable pub request_by : Route → ℕ → List ℕ → Result Request Refusal
+request_by route size behind = do
+  body ← readable (front_of size behind)
+  readable (asked route body)
+
+-- what a head asks, with the bytes behind it
+unfoldable pub request_in : Asked → List ℕ → Result Request Refusal
+request_in head behind = do
+  way ← way_in head
+  request_by way.route way.size behind

@@ -1,0 +1,85 @@
+-- What a request over HTTP spells.
+use Rattle.std.specs.Prelude.{◌≡◌, ℕ, ◌+◌, ◌≤◌, List, length, Bool, true, false, Option, Some, None, Result, Ok, Err, IfSome, if◌then◌else◌, ⊤}
+use Rattle.std.specs.Io.KnownBytes.{Consumes}
+use Rattle.desk_terms.specs.declared.refusal.Refusal.{Refusal}
+use Rattle.desk_terms.specs.declared.refusal.Refusal.TheVariants as refusal
+use Rattle.desk_words.specs.declared.request.Request.{Request}
+use Rattle.desk_bodies.specs.declared.ask.Ask.{Ask}
+use Rattle.desk_bodies.specs.declared.ask.Ask.TheVariants as ask
+use Rattle.desk_heads.specs.Heads.{Asked, HasHead, IsFront, asked_in}
+use Rattle.desk_heads.specs.declared.front.Front.{Front}
+use Rattle.desk_heads.specs.declared.front.Front.TheVariants as front
+use Rattle.desk_heads.specs.declared.front.TheConstants.{MOST_FIELDS}
+use Rattle.httparse.specs.Grammar.{RequestHead}
+use Rattle.desk_requests.specs.Asked.{front_of, key_in, request_in}
+use Rattle.desk_requests.specs.declared.received.Received.{Received}
+use Rattle.desk_requests.specs.declared.received.Received.TheVariants.{Refused, With}
+use Rattle.desk_requests.specs.declared.received.Unheard.{Unheard}
+use Rattle.desk_requests.specs.declared.received.Unheard.TheVariants as unheard
+
+-- why nothing is asked, where the body was not read
+abbrev pub unheard_by : Ask → Unheard
+unheard_by (ask.Refused refusal) = unheard.Refused refusal
+unheard_by ask.Memory = unheard.Memory
+
+-- it is refused so; want of memory and a source that failed say nothing
+abbrev pub IsWhy : Result Request Refusal → Unheard → Type 0
+IsWhy said (unheard.Refused refusal) = said ≡ Err refusal
+IsWhy said unheard.Memory = ⊤
+IsWhy said unheard.Failed = ⊤
+
+-- what is said is heard so
+abbrev pub Hears : Result Request Refusal → Result Request Unheard → Type 0
+Hears said (Ok request) = said ≡ Ok request
+Hears said (Err why) = IsWhy said why
+
+-- with no key it is refused as `Key`, and else it is what is said with that key
+abbrev pub IsWith : Option (List ℕ) → Result Request Refusal → Received → Type 0
+IsWith None said received = received ≡ Refused refusal.Key
+IsWith (Some key) said received =
+    (heard : Result Request Unheard) × (received ≡ With key heard) × Hears said heard
+
+-- what a head asks with the bytes behind it
+abbrev pub Asks : Asked → List ℕ → Received → Type 0
+Asks head behind received = IsWith (key_in head) (request_in head behind) received
+
+-- what is asked where an input has that front
+abbrev pub SpellsAt : Front → List ℕ → Received → Type 0
+SpellsAt front.Whole input received =
+    (head : RequestHead) × (behind : List ℕ) × HasHead input head behind
+    × (length head.fields ≤ MOST_FIELDS) × Asks (asked_in head) behind received
+SpellsAt front.TooLarge input received =
+    IsFront front.TooLarge input × (received ≡ Refused refusal.TooLarge)
+SpellsAt front.Unreadable input received =
+    IsFront front.Unreadable input × (received ≡ Refused refusal.Unreadable)
+
+-- what an input asks
+abbrev pub Spells : List ℕ → Received → Type 0
+Spells input received = (front : Front) × SpellsAt front input received
+
+-- whether the source failed in the body
+abbrev pub is_unheard : Result Request Unheard → Bool
+is_unheard (Ok request) = false
+is_unheard (Err (unheard.Refused refusal)) = false
+is_unheard (Err unheard.Memory) = false
+is_unheard (Err unheard.Failed) = true
+
+abbrev pub is_cut_off : Received → Bool
+is_cut_off (Refused refusal) = false
+is_cut_off (With key heard) = is_unheard heard
+
+-- some bytes came of a source, at most so many, and this holds of them, and of the whole input
+-- where its bytes are known
+pub record Came
+    (Holds : List ℕ → Type 0) (most : ℕ) (known left : Option (List ℕ)) (passed passed' : ℕ)
+    : Type 0 where
+  pub bytes : List ℕ
+  pub consumed : Consumes known left bytes
+  pub counted : passed' ≡ passed + length bytes
+  pub bound : length bytes ≤ most
+  pub holds : Holds bytes
+  pub holds_known : IfSome known Holds
+
+-- the body stands at the front of the bytes, or, where it is not whole, those are too few
+abbrev pub IsBody : Bool → List ℕ → List ℕ → Type 0
+IsBody whole body bytes = front_of (length body) bytes ≡ (if whole then Some body else None)

@@ -1,0 +1,130 @@
+//! A request, read from a source.
+ghost use Rattle.std.specs.Prelude.{◌≡◌, ◌++◌, ◌+◌, ◌≤◌, ℕ, List, true, false, length, IfOk, OnErr};
+ghost use Rattle.desk_bodies.specs.Answers.{readable};
+ghost use Rattle.desk_bodies.specs.Requests.{asked};
+ghost use Rattle.desk_devices.specs.Counts.{one_more};
+ghost use Rattle.desk_heads.specs.declared.front.TheConstants.{LONGEST_HEAD};
+ghost use Rattle.desk_heads.specs.declared.length.TheConstants.{LONGEST_BODY};
+ghost use Rattle.desk_requests.specs.Asked.{request_by, request_in};
+ghost use Rattle.desk_requests.specs.Received.{Asks, Came, Hears, IsBody, Spells, is_cut_off, is_unheard};
+
+use crate::asked::{Way, key_in, way_in};
+use crate::body::read_body;
+use crate::received::{Received, Unheard};
+use desk_bodies::Route;
+use desk_devices::{DeviceFailed, Source};
+use desk_heads::{Front, HeadReader, LONGEST_BODY};
+use desk_words::{Refusal, Request};
+use std::alloc::Global;
+
+/// What is asked on a route by a whole body.
+fn asked(alloc: Global, route: Route, body: &[u8]) -> Result<Request, Unheard>
+    ensures asked { Hears (readable (asked route body.now)) result }
+    ensures heard { is_unheard result ≡ false }
+{
+    Ok(route.request(alloc, body)?)
+}
+
+/// What is asked on a route by a body, which may not be whole.
+fn asked_by(alloc: Global, route: Route, whole: bool, body: &[u8]) -> Result<Request, Unheard>
+    ensures asked { (behind : List ℕ) → IsBody whole body.now behind
+        → Hears (request_by route (length body.now) behind) result }
+    ensures heard { is_unheard result ≡ false }
+{
+    if whole {
+        asked(alloc, route, body)
+    } else {
+        Err(Unheard::Refused(Refusal::Unreadable))
+    }
+}
+
+/// What is asked on a way by the body that fills the buffer.
+fn request_by<S: Source>(
+    alloc: Global,
+    way: Way,
+    behind: &[u8],
+    source: &mut S,
+    body: &mut [u8],
+) -> Result<Request, Unheard>
+    requires { length body.old ≡ way.size }
+    ensures came { Came
+        (λ bytes. Hears (request_by way.route way.size (behind.now ++ bytes)) result)
+        way.size
+        (S.remaining source.old) (S.remaining source.new)
+        (S.passed source.old) (S.passed source.new) }
+    ensures works { is_unheard result ≡ false → S.failures source.new ≡ S.failures source.old }
+    ensures failed { is_unheard result ≡ true
+        → S.failures source.new ≡ one_more (S.failures source.old) }
+{
+    match read_body(behind, source, body) {
+        Ok(whole) => asked_by(alloc, way.route, whole, body),
+        Err(DeviceFailed) => Err(Unheard::Failed),
+    }
+}
+
+/// What is asked with a head, whose body is read on.
+fn request_in<S: Source>(
+    alloc: Global,
+    head: &HeadReader,
+    source: &mut S,
+) -> Result<Request, Unheard>
+    ensures came { Came
+        (λ bytes. Hears (request_in head.now.asked (head.now.rest ++ bytes)) result)
+        LONGEST_BODY
+        (S.remaining source.old) (S.remaining source.new)
+        (S.passed source.old) (S.passed source.new) }
+    ensures works { is_unheard result ≡ false → S.failures source.new ≡ S.failures source.old }
+    ensures failed { is_unheard result ≡ true
+        → S.failures source.new ≡ one_more (S.failures source.old) }
+{
+    let way = way_in(head)?;
+    let mut buffer = [0; LONGEST_BODY];
+    request_by(alloc, way, head.rest(), source, &mut buffer[..way.size])
+}
+
+/// What a head asks, with the bytes behind it.
+fn received<S: Source>(alloc: Global, head: &HeadReader, source: &mut S) -> Received
+    ensures came { Came
+        (λ bytes. Asks head.now.asked (head.now.rest ++ bytes) result)
+        LONGEST_BODY
+        (S.remaining source.old) (S.remaining source.new)
+        (S.passed source.old) (S.passed source.new) }
+    ensures works { is_cut_off result ≡ false → S.failures source.new ≡ S.failures source.old }
+    ensures failed { is_cut_off result ≡ true
+        → S.failures source.new ≡ one_more (S.failures source.old) }
+{
+    match key_in(head) {
+        None => Received::Refused(Refusal::Key),
+        Some(key) => {
+            let asked = request_in(alloc, head, source);
+            Received::With { key, asked }
+        }
+    }
+}
+
+/// Reads one request: its head, of at most 8,192 bytes, and, where its key, route, method and size
+/// let it, its body of at most 65,536. No byte behind the request is asked for, though some may be
+/// taken with the head. It asks no table and no clock.
+///
+/// The error is one failed call of the source before the whole head had come. A source that fails
+/// in the body is told as `Failed` beside the key.
+pub fn read_request<S: Source>(alloc: Global, source: &mut S) -> Result<Received, DeviceFailed>
+    // What the bytes spell that came, as those behind them do not tell otherwise.
+    ensures came { Came
+        (λ input. IfOk result (λ received. Spells input received))
+        (LONGEST_HEAD + LONGEST_BODY)
+        (S.remaining source.old) (S.remaining source.new)
+        (S.passed source.old) (S.passed source.new) }
+    ensures works { IfOk result (λ received. is_cut_off received ≡ false
+        → S.failures source.new ≡ S.failures source.old) }
+    ensures cut_off { IfOk result (λ received. is_cut_off received ≡ true
+        → S.failures source.new ≡ one_more (S.failures source.old)) }
+    ensures failed { OnErr result (S.failures source.new ≡ one_more (S.failures source.old)) }
+{
+    let mut head = HeadReader::new();
+    match head.read(source)? {
+        Front::Whole => Ok(received(alloc, &head, source)),
+        Front::TooLarge => Ok(Received::Refused(Refusal::TooLarge)),
+        Front::Unreadable => Ok(Received::Refused(Refusal::Unreadable)),
+    }
+}

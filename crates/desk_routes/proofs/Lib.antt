@@ -1,0 +1,3 @@
+pub mod Chained
+mod PhraseLemmas
+mod TargetLemmas

@@ -1,0 +1,5 @@
+pub mod Laws
+pub mod Methods
+pub mod ReplyTexts
+pub mod Statuses
+pub mod Targets

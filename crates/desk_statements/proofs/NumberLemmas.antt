@@ -1,0 +1,133 @@
+-- The numbers of an office are below 2^63.
+use Rattle.std.proofs.Common.{◌≡◌, ℕ, ◌+◌, ◌^◌, ◌<◌, ◌==◌, ◌&&◌, ◌||◌, Bool, true, false, cond, List, [], ◌∷◌, length, Option, Some, None, is_some, inl, inr, refl, sym, subst, arith, nat_le, true≢false}
+use Rattle.std.specs.Cmp.{first_so, second_so}
+use Rattle.std.specs.List.{list_all, list_any}
+use Rattle.std.proofs.lemmas.Bool.{cases_Bool}
+use Rattle.std.proofs.lemmas.Bool.Decides.{nat_tests}
+use Rattle.desk_terms.specs.Names.{same_name}
+use Rattle.desk_terms.specs.declared.range.TheConstants.{MOST_PLACES}
+use Rattle.desk_lists.specs.Ordered.{differ_by, ascends_by}
+use Rattle.desk_words.specs.declared.limits.TheConstants.{MOST_APPOINTMENTS, MOST_PENCE, MOST_RESOLUTIONS, MOST_ROWS, MOST_SHARES}
+use Rattle.desk_words.specs.declared.records.RegisterRow.{RegisterRow}
+use Rattle.desk_words.specs.declared.records.Appointment.{Appointment}
+use Rattle.desk_words.specs.declared.records.Ending.{Ending}
+use Rattle.desk_words.specs.declared.records.DemandMark.{DemandMark}
+use Rattle.desk_words.specs.declared.records.Poll.{Poll}
+use Rattle.desk_words.specs.declared.records.Tally.{Tally}
+use Rattle.desk_words.specs.declared.records.CastMark.{CastMark}
+use Rattle.desk_words.specs.Registers.{all_shares, is_holding, is_register, keep_limits, member_before}
+use Rattle.desk_words.specs.Office.{are_numbered_after, are_polls, implies, is_appointment, is_cast_on, is_declared_right, is_ending_of, is_poll, is_resolution, is_tally, no_rows, poll_before, same_demand, same_ending}
+use Rattle.desk_words.proofs.OfficeFacts.{meeting_facts}
+use Rattle.desk_statements.specs.Numbers.{OfficesAreKept, is_kept, is_tally_kept}
+
+both_true : (a b : Bool) → a ≡ true → b ≡ true → (a && b) ≡ true
+both_true a b h k = rw (h, k) refl
+
+-- what passes one test passes another
+all_so : {X : Type 0} (p q : X → Bool) (xs : List X) → ((x : X) → p x ≡ true → q x ≡ true) → list_all p xs ≡ true → list_all q xs ≡ true
+all_so p q [] next h = refl
+all_so p q (x ∷ xs) next h = both_true (q x) (list_all q xs) (next x (first_so (p x) (list_all p xs) h)) (all_so p q xs next (second_so (p x) (list_all p xs) h))
+
+-- what some element tells
+from_any : {X : Type 0} (p q : X → Bool) (r : Bool) (xs : List X) → ((x : X) → p x ≡ true → q x ≡ true → r ≡ true) → list_any p xs ≡ true → list_all q xs ≡ true → r ≡ true
+from_any p q r [] next some all = absurd (true≢false (sym some))
+from_any p q r (x ∷ xs) next some all = elim (cases_Bool (p x)) [
+  | inl is ↦ next x is (first_so (q x) (list_all q xs) all)
+  | inr fails ↦ from_any p q r xs next (subst (λ b. (b || list_any p xs) ≡ true) fails some) (second_so (q x) (list_all q xs) all)
+]
+
+kept_below : (n k : ℕ) → nat_le n k ≡ true → k < 2 ^ 63 → is_kept n ≡ true
+kept_below n k h small = grind (arith, nat_tests)
+
+same_number : (m n : ℕ) → (m == n) ≡ true → is_kept m ≡ true → is_kept n ≡ true
+same_number m n h k = let same : m ≡ n = grind (arith, nat_tests) in subst (λ l. is_kept l ≡ true) same k
+
+few_places : MOST_PLACES < 2 ^ 63
+few_places = omega arith
+
+few_pence : MOST_PENCE < 2 ^ 63
+few_pence = omega arith
+
+few_resolutions : MOST_RESOLUTIONS < 2 ^ 63
+few_resolutions = omega arith
+
+few_appointments : MOST_APPOINTMENTS < 2 ^ 63
+few_appointments = omega arith
+
+holding : (row : RegisterRow) → is_holding row ≡ true → (is_kept row.shares && is_kept row.paid) ≡ true
+holding row h =
+    let shares = first_so (nat_le 1 row.shares && nat_le row.shares MOST_PLACES) (nat_le row.paid MOST_PENCE) h in
+    both_true (is_kept row.shares) (is_kept row.paid) (kept_below row.shares MOST_PLACES (second_so (nat_le 1 row.shares) (nat_le row.shares MOST_PLACES) shares) few_places)
+    (kept_below row.paid MOST_PENCE (second_so (nat_le 1 row.shares && nat_le row.shares MOST_PLACES) (nat_le row.paid MOST_PENCE) h) few_pence)
+
+rows_of : (loaded : Bool) (rows : List RegisterRow) → cond loaded (is_register rows) (no_rows rows) ≡ true → list_all (λ (row : RegisterRow). is_kept row.shares && is_kept row.paid) rows ≡ true
+rows_of true rows h =
+    let limits = first_so (keep_limits rows) (ascends_by member_before rows) h in
+    let each = first_so (nat_le 1 (length rows) && nat_le (length rows) MOST_ROWS && list_all is_holding rows) (nat_le (all_shares rows) MOST_SHARES) limits in
+    all_so is_holding (λ (row : RegisterRow). is_kept row.shares && is_kept row.paid) rows holding (second_so (nat_le 1 (length rows) && nat_le (length rows) MOST_ROWS) (list_all is_holding rows) each)
+rows_of false [] h = refl
+rows_of false (row ∷ rows) h = absurd (true≢false (sym h))
+
+resolution : (resolutions n : ℕ) → nat_le resolutions MOST_RESOLUTIONS ≡ true → is_resolution resolutions n ≡ true → is_kept n ≡ true
+resolution resolutions n few h =
+    let up : nat_le n resolutions ≡ true = second_so (nat_le 1 n) (nat_le n resolutions) h in
+    let both : nat_le n MOST_RESOLUTIONS ≡ true = grind (arith, nat_tests) in
+    kept_below n MOST_RESOLUTIONS both few_resolutions
+
+figures : (t : Tally) → is_tally t ≡ true → is_tally_kept (Some t) ≡ true
+figures t h =
+    let votes : nat_le (t.votes_for + t.votes_against + t.withheld) t.eligible ≡ true = first_so (nat_le (t.votes_for + t.votes_against + t.withheld) t.eligible) (nat_le t.eligible MOST_PLACES) h in
+    let shares : nat_le t.eligible MOST_PLACES ≡ true = second_so (nat_le (t.votes_for + t.votes_against + t.withheld) t.eligible) (nat_le t.eligible MOST_PLACES) h in
+    let a : nat_le t.votes_for MOST_PLACES ≡ true = grind (arith, nat_tests) in
+    let b : nat_le t.votes_against MOST_PLACES ≡ true = grind (arith, nat_tests) in
+    let c : nat_le t.withheld MOST_PLACES ≡ true = grind (arith, nat_tests) in
+    let p = kept_below t.votes_for MOST_PLACES a few_places in
+    let q = kept_below t.votes_against MOST_PLACES b few_places in
+    let r = kept_below t.withheld MOST_PLACES c few_places in
+    let s = kept_below t.eligible MOST_PLACES shares few_places in
+    rw (p, q, r, s) refl
+
+declared : (t : Option Tally) → is_declared_right t ≡ true → is_tally_kept t ≡ true
+declared None h = refl
+declared (Some t) h = figures t h
+
+poll : (resolutions : ℕ) → nat_le resolutions MOST_RESOLUTIONS ≡ true → (p : Poll) → is_poll resolutions p ≡ true → (is_kept p.resolution && is_tally_kept p.declared) ≡ true
+poll resolutions few p h =
+    let a = is_resolution resolutions p.resolution in
+    let b = implies (is_some p.closed) (is_some p.started) in
+    let c = implies (is_some p.declared) (is_some p.closed) in
+    let d = is_declared_right p.declared in
+    let on : a ≡ true = first_so a b (first_so (a && b) c (first_so (a && b && c) d h)) in
+    both_true (is_kept p.resolution) (is_tally_kept p.declared) (resolution resolutions p.resolution few on) (declared p.declared (second_so (a && b && c) d h))
+
+polls_are : (opened : Bool) (resolutions : ℕ) (ps : List Poll) → nat_le resolutions MOST_RESOLUTIONS ≡ true → are_polls opened resolutions ps ≡ true → list_all (λ (p : Poll). is_kept p.resolution && is_tally_kept p.declared) ps ≡ true
+polls_are opened resolutions [] few h = refl
+polls_are opened resolutions (p ∷ ps) few h =
+    let each = first_so (opened && list_all (is_poll resolutions) (p ∷ ps)) (ascends_by poll_before (p ∷ ps)) h in
+    all_so (is_poll resolutions) (λ (p : Poll). is_kept p.resolution && is_tally_kept p.declared) (p ∷ ps) (poll resolutions few) (second_so opened (list_all (is_poll resolutions) (p ∷ ps)) each)
+
+pub offices_are_kept : OfficesAreKept
+offices_are_kept m h =
+    let f = meeting_facts m h in
+    let n = length m.meeting.resolutions in
+    let few : nat_le n MOST_RESOLUTIONS ≡ true = second_so (nat_le 1 n) (nat_le n MOST_RESOLUTIONS) f.resolutions in
+    let given = all_so (is_appointment n) (λ (a : Appointment). is_kept a.number) m.appointments (λ a is. kept_below a.number MOST_APPOINTMENTS (first_so (nat_le a.number MOST_APPOINTMENTS) (length a.instructions == n) is) few_appointments)
+    (second_so (are_numbered_after [] m.appointments) (list_all (is_appointment n) m.appointments) f.appointments) in
+    let held = polls_are (is_some m.meeting.opened) n m.polls few f.polls in
+    let ended = first_so (list_all (λ e. list_any (is_ending_of e) m.appointments) m.endings) (differ_by same_ending m.endings) f.endings in
+    let cast_each = first_so (list_all (λ c. list_any (is_cast_on c) m.polls) m.casts) _ f.casts in
+    record {
+      resolutions = kept_below n MOST_RESOLUTIONS few few_resolutions;
+      register = rows_of m.meeting.loaded m.register (first_so (cond m.meeting.loaded (is_register m.register) (no_rows m.register)) (implies (is_some m.meeting.opened) m.meeting.loaded) f.loaded);
+      appointments = given;
+      endings = all_so (λ e. list_any (is_ending_of e) m.appointments) (λ (e : Ending). is_kept e.number) m.endings
+          (λ e some. from_any (is_ending_of e) (λ (a : Appointment). is_kept a.number) (is_kept e.number) m.appointments (λ a is kept. same_number a.number e.number (second_so (same_name a.member e.member) (a.number == e.number) is) kept) some given)
+          ended;
+      demands = all_so (λ (d : DemandMark). is_resolution n d.resolution) (λ (d : DemandMark). is_kept d.resolution) m.demands (λ d on. resolution n d.resolution few on)
+          (first_so (list_all (λ (d : DemandMark). is_resolution n d.resolution) m.demands) (differ_by same_demand m.demands) f.demands);
+      polls = held;
+      casts = all_so (λ c. list_any (is_cast_on c) m.polls) (λ (c : CastMark). is_kept c.resolution) m.casts
+          (λ c some. from_any (is_cast_on c) (λ (p : Poll). is_kept p.resolution && is_tally_kept p.declared) (is_kept c.resolution) m.polls
+          (λ p is kept. same_number p.resolution c.resolution (first_so (p.resolution == c.resolution) (is_some p.started) is) (first_so (is_kept p.resolution) (is_tally_kept p.declared) kept)) some held)
+          cast_each;
+    }

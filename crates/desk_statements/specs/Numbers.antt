@@ -1,0 +1,38 @@
+-- The numbers of an office are kept.
+use Rattle.std.specs.Prelude.{ℕ, ◌^◌, Bool, true, ◌&&◌, nat_lt, length, Option, Some, None, IsTrue}
+use Rattle.std.specs.List.{list_all}
+use Rattle.desk_words.specs.declared.office.MeetingLists.{MeetingLists}
+use Rattle.desk_words.specs.declared.records.RegisterRow.{RegisterRow}
+use Rattle.desk_words.specs.declared.records.Appointment.{Appointment}
+use Rattle.desk_words.specs.declared.records.Ending.{Ending}
+use Rattle.desk_words.specs.declared.records.DemandMark.{DemandMark}
+use Rattle.desk_words.specs.declared.records.Poll.{Poll}
+use Rattle.desk_words.specs.declared.records.Tally.{Tally}
+use Rattle.desk_words.specs.declared.records.CastMark.{CastMark}
+use Rattle.desk_words.specs.Office.{is_meeting}
+
+-- the number is at most 2^63 - 1, the highest that is kept
+abbrev pub is_kept : ℕ → Bool
+is_kept n = nat_lt n (2 ^ 63)
+
+-- each figure of what is declared is kept
+abbrev pub is_tally_kept : Option Tally → Bool
+is_tally_kept None = true
+is_tally_kept (Some t) =
+    is_kept t.votes_for && is_kept t.votes_against && is_kept t.withheld && is_kept t.eligible
+
+-- each number of the records of a meeting is kept
+pub record NumbersAreKept (m : MeetingLists) : Type 0 where
+  pub resolutions : IsTrue (is_kept (length m.meeting.resolutions))
+  pub register : IsTrue
+      (list_all (λ (row : RegisterRow). is_kept row.shares && is_kept row.paid) m.register)
+  pub appointments : IsTrue (list_all (λ (a : Appointment). is_kept a.number) m.appointments)
+  pub endings : IsTrue (list_all (λ (e : Ending). is_kept e.number) m.endings)
+  pub demands : IsTrue (list_all (λ (d : DemandMark). is_kept d.resolution) m.demands)
+  pub polls : IsTrue
+      (list_all (λ (p : Poll). is_kept p.resolution && is_tally_kept p.declared) m.polls)
+  pub casts : IsTrue (list_all (λ (c : CastMark). is_kept c.resolution) m.casts)
+
+-- each number of the records of an office is kept
+abbrev pub OfficesAreKept : Type 0
+OfficesAreKept = (m : MeetingLists) → IsTrue (is_meeting m) → NumbersAreKept m

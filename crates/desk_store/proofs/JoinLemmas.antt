@@ -1,0 +1,106 @@
+-- What is left of a desk where what was done in a transaction is committed, or its commit fails.
+use Rattle.std.proofs.Common.{◌≡◌, inl, inr, Option, None, Ok, Err, Result, IsErr, true, false, IsTrue, sym, ap, subst, ◌∙◌, true≢false, arith}
+use Rattle.sqlite.specs.Held.{Held, state}
+use Rattle.sqlite.specs.State.{State, HasCleanDisk, IsUnchanged, KeepsCommit, KeepsCounts, Shows, Survives}
+use Rattle.sqlite.specs.Steps.{FailsToCommit}
+use Rattle.sqlite.specs.Tree.{Trees}
+use Rattle.sqlite.specs.declared.error.Error.{Error}
+use Rattle.sqlite.proofs.StateLemmas.{survives_then}
+use Rattle.sqlite_trees.specs.declared.store.Store as store
+use Rattle.desk_words.specs.declared.office.OfficeLists.{OfficeLists}
+use Rattle.desk_words.specs.declared.request.Call.{Call}
+use Rattle.desk_records.specs.Office.{office_in}
+use Rattle.desk_records.specs.Standing.{Stands}
+use Rattle.desk_schema.specs.Statements.{WasOpen}
+use Rattle.meeting_core.specs.Step.{stepped}
+use Rattle.office_lists.specs.declared.fault.ReadFault.{ReadFault}
+use Rattle.desk_store.specs.Joins.{AreAfter, IsAsItWas, Leaves, after_call, made_by}
+use Rattle.desk_store.specs.Reads.{IsTold}
+use Rattle.desk_store.proofs.KeepingLemmas.{stands_same}
+
+-- what is done within a transaction commits nothing
+pub record IsWithin (old new : State) : Type 0 where
+  pub crash : Survives old new (λ _. ⊥)
+  pub was_open : WasOpen old new
+  pub kept : HasCleanDisk new → (office : OfficeLists) → Stands old office → KeepsCommit old new
+
+-- what is told in a transaction is told within it
+pub told_within : {S X : Type 0} (g : store.Ghosts S) (first b : Held S) (r : Result X ReadFault) (IsSo : OfficeLists → X → Type 0) → IsTold g first b r IsSo → IsWithin (state g first) (state g b)
+told_within g first b r IsSo told = record { crash = told.changes.crash; was_open = told.changes.was_open; kept = λ clean office stands. told.changes.kept (clean, stands.desk) }
+
+-- a call that failed was not made
+pub leaves_failed : {T E : Type 0} (old new : State) (r : Result T E) (call : Call) → IsErr r → Leaves None old new → Leaves (made_by r call) old new
+leaves_failed old new (Ok x) call failed leaves = absurd cc
+leaves_failed old new (Err e) call failed leaves = leaves
+
+-- a: the desk before; first: where the transaction is begun; b: where it is to be committed; new: behind it
+module _ {S : Type 0} (g : store.Ghosts S) (a first b new : Held S) (begun : first ≡ record a { in_transaction = true }) (within : IsWithin (state g first) (state g b)) (ended : new.in_transaction ≡ false)
+    (last : Survives (state g b) (state g new) (λ db. db ≡ (state g b).now.trees)) where
+  mid_clean : HasCleanDisk (state g new) → HasCleanDisk (state g b)
+  mid_clean clean = omega (arith, last.clean, clean)
+
+  -- what survives the transaction survives from the desk before it
+  from_desk : Survives (state g a) (state g b) (λ _. ⊥)
+  from_desk =
+      let h = subst (λ (it : Held S). Survives (state g it) (state g b) (λ _. ⊥)) begun within.crash in
+      record { clean = h.clean; shield = h.shield; counts = h.counts; limit = h.limit; closes = h.closes; crash = h.crash }
+
+  desk_clean : HasCleanDisk (state g new) → HasCleanDisk (state g a)
+  desk_clean clean = omega (arith, from_desk.clean, last.clean, clean)
+
+  desk_open : IsTrue (state g first).is_open → IsTrue (state g a).is_open
+  desk_open is_open = sym (ap (λ (it : Held S). (state g it).is_open) begun) ∙ is_open
+
+  stands_begun : (office : OfficeLists) → Stands (state g a) office → Stands (state g first) office
+  stands_begun office stands = stands_same (state g a) (state g first) office (ap (λ (it : Held S). (state g it).now) begun) stands
+
+  pub committed : (made : Option Call) → (HasCleanDisk (state g new) → Shows (state g b) (state g new) (state g b).now (state g b).now false)
+      → (HasCleanDisk (state g b) → (office : OfficeLists) → Stands (state g first) office → Stands (state g b) (after_call office made)) → Leaves made (state g a) (state g new)
+  committed made shows there = record {
+    was_clean = desk_clean;
+    was_open = λ clean is_open. desk_open (within.was_open (mid_clean clean) (shows clean).was_open);
+    ended = ended;
+    stands = λ clean is_open office stands. stands_same (state g b) (state g new) (after_call office made) (shows clean).now_is (there (mid_clean clean) office (stands_begun office stands));
+  }
+
+  -- the commit fails, of a transaction that has not ended
+  module _ (fails : HasCleanDisk (state g new) → (e : Error) × FailsToCommit (state g b) (state g new) e) (settled : IsTrue (state g a).is_open → (state g a).now ≡ (state g a).committed)
+      (inside : HasCleanDisk (state g b) → (office : OfficeLists) → Stands (state g first) office → IsTrue (state g b).in_transaction) where
+    opened : {e : Error} → FailsToCommit (state g b) (state g new) e → IsTrue (state g new).is_open → IsTrue (state g b).is_open
+    opened (inl h) is_open = h.3.was_open is_open
+    opened (inr h) is_open = h.2.0.was_open
+
+    undone : HasCleanDisk (state g new) → IsTrue (state g new).is_open → (office : OfficeLists) → Stands (state g a) office → {e : Error} → FailsToCommit (state g b) (state g new) e → Stands (state g new) office
+    undone clean is_open office stands (inl h) =
+        let kept = within.kept (mid_clean clean) office (stands_begun office stands) in
+        let mid_open = h.3.was_open is_open in
+        let committed_is = ap (λ (it : Held S). (state g it).committed) begun in
+        stands_same (state g a) (state g new) office ((h.3.undone is_open).0 ∙ kept.committed mid_open ∙ committed_is ∙ sym (settled (desk_open (kept.was_open mid_open)))) stands
+    undone clean is_open office stands (inr h) = absurd (true≢false (sym (inside (mid_clean clean) office (stands_begun office stands)) ∙ h.1))
+
+    pub not_committed : Leaves None (state g a) (state g new)
+    not_committed = record {
+      was_clean = desk_clean;
+      was_open = λ clean is_open. desk_open (within.was_open (mid_clean clean) (opened (fails clean).1 is_open));
+      ended = ended;
+      stands = λ clean is_open office stands. undone clean is_open office stands (fails clean).1;
+    }
+
+  -- where nothing was changed in the transaction, its commit leaves all as it was
+  pub as_it_was : (IsTrue (state g a).is_open → (state g a).now ≡ (state g a).committed) → IsUnchanged (state g first) (state g b) → Shows (state g b) (state g new) (state g b).now (state g b).now false → KeepsCounts (state g b) (state g new)
+      → IsAsItWas (state g a) (state g new)
+  as_it_was settled same shows counts =
+      let now_is = shows.now_is ∙ same.0.now_is ∙ ap (λ (it : Held S). (state g it).now) begun in
+      let was_open = desk_open same.0.was_open in (
+        record { was_open = was_open; is_open = shows.is_open; now_is = now_is; committed_is = shows.committed_is ∙ same.0.now_is ∙ ap (λ (it : Held S). (state g it).now) begun ∙ settled was_open; mode = shows.mode },
+        record {
+          changes = counts.changes ∙ same.1.changes ∙ ap (λ (it : Held S). (state g it).changes) begun;
+          last_rowid = counts.last_rowid ∙ same.1.last_rowid ∙ ap (λ (it : Held S). (state g it).last_rowid) begun;
+        },
+      )
+
+  -- a crash leaves what it left before, or what is committed: the office after the step
+  pub survives_call : (call : Call) → (HasCleanDisk (state g b) → (office : OfficeLists) → Stands (state g first) office → Stands (state g b) (stepped office call)) → Survives (state g a) (state g new) (AreAfter (state g a) call)
+  survives_call call there =
+      survives_then (state g a) (state g b) (state g new) (λ _. ⊥) (λ db. db ≡ (state g b).now.trees) (AreAfter (state g a) call) (λ _ db none. absurd none)
+      (λ clean db is office stands. ap office_in is ∙ (there (mid_clean clean) office (stands_begun office stands)).holds) from_desk last
