@@ -23,8 +23,6 @@ pub enum Question<'a> {
     File(FileKind),
     /// What the words of the program ask.
     Words,
-    /// What is printed as the results of a meeting, after a script of requests.
-    Results(&'a str),
     /// How the program ends by the fault of this word.
     Fault(&'a str),
     /// How it ends by the refusal of this number.
@@ -84,7 +82,6 @@ fn read_question(line: &str) -> Option<Question<'_>> {
         ("words", "") => Some(Question::Words),
         ("done", "") => Some(Question::Done),
         (_, "") => None,
-        ("results", meeting) => Some(Question::Results(meeting)),
         ("fault", word) => Some(Question::Fault(word)),
         ("refusal", number) => Some(Question::Refusal(number)),
         _ => None,

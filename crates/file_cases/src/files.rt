@@ -9,7 +9,7 @@ use crate::findings::Answer;
 use desk_devices::{FailAt, ShortReads, SliceSource};
 use desk_endings::Ended;
 use desk_papers::{FileFault, read_days, read_keys, read_register};
-use desk_words::{Caller, DayList, KeyRows, Register, Source, write_day};
+use desk_words::{Caller, DayList, KeyRows, Register, write_day};
 use std::alloc::{AllocError, Global};
 
 /// The most bytes of a file that is read in several ways.
@@ -47,27 +47,13 @@ fn days_text(alloc: Global, days: &DayList) -> Result<String, AllocError> {
     Ok(text)
 }
 
-/// What a source of a file spells, or its fault.
-fn spelled<S: Source>(alloc: Global, kind: FileKind, source: &mut S) -> Result<String, AllocError> {
-    let found = match kind {
-        FileKind::Register => read_register(alloc, source).map(|register| register_text(
-            alloc, &register,
-        )),
-        FileKind::Keys => read_keys(alloc, source).map(|keys| keys_text(alloc, &keys)),
-        FileKind::Days => read_days(alloc, source).map(|days| days_text(alloc, &days)),
-    };
-    match found {
-        Ok(text) => text,
-        Err(fault) => fault_text(alloc, fault),
-    }
-}
-
 fn fault_text(alloc: Global, fault: FileFault) -> Result<String, AllocError> {
     ended_text(alloc, Ended::by_file(fault))
 }
 
-/// What is spelled where at most so many bytes come at a time, and the read of that number fails.
-fn spelled_so(
+/// What the bytes of a file spell, or its fault, where at most so many of them come at a time, and
+/// the read of that number fails, or none where it is 0.
+fn spelled(
     alloc: Global,
     kind: FileKind,
     bytes: &[u8],
@@ -75,7 +61,18 @@ fn spelled_so(
     failing: u64,
 ) -> Result<String, AllocError> {
     let short = ShortReads::new(SliceSource::new(bytes), most.max(1));
-    spelled(alloc, kind, &mut FailAt::new(short, failing))
+    let mut source = FailAt::new(short, failing);
+    let found = match kind {
+        FileKind::Register => read_register(alloc, &mut source).map(|register| register_text(
+            alloc, &register,
+        )),
+        FileKind::Keys => read_keys(alloc, &mut source).map(|keys| keys_text(alloc, &keys)),
+        FileKind::Days => read_days(alloc, &mut source).map(|days| days_text(alloc, &days)),
+    };
+    match found {
+        Ok(text) => text,
+        Err(fault) => fault_text(alloc, fault),
+    }
 }
 
 /// Reads a small file a few bytes at a time, first with no failure and then with each read failing
@@ -90,7 +87,7 @@ fn read_by(
     let failed = fault_text(alloc, FileFault::ReadFault)?;
     let reads = bytes.len().div_ceil(most.max(1)).saturating_add(1) as u64;
     for failing in 0..=reads.saturating_add(1) {
-        let spelled = spelled_so(alloc, kind, bytes, most, failing)?;
+        let spelled = spelled(alloc, kind, bytes, most, failing)?;
         let is_due = if 1 <= failing && failing <= reads {
             spelled == failed
         } else {
@@ -109,7 +106,7 @@ fn read_by(
 
 /// What the bytes of a file spell, or its fault.
 pub fn file_answer(alloc: Global, kind: FileKind, bytes: &[u8]) -> Result<Answer, AllocError> {
-    let text = spelled(alloc, kind, &mut SliceSource::new(bytes))?;
+    let text = spelled(alloc, kind, bytes, bytes.len(), 0)?;
     let mut answer = Answer::new(alloc, text);
     if bytes.len() <= SMALL {
         for most in [1, 7] {

@@ -1,5 +1,5 @@
 //! Runs case files: what a file that the office hands in spells, what the words of the program ask,
-//! what is printed as the results of a meeting, and how the program ends.
+//! and how the program ends.
 //!
 //! The words of the program are the names of the case files. It prints each answer that differs
 //! from the one that is expected, and at last how many cases there were. It ends with status 0 only
@@ -11,7 +11,6 @@ mod endings;
 mod files;
 mod findings;
 mod given;
-mod results;
 mod words;
 
 use crate::case::{Case, Question, read_cases};
@@ -19,7 +18,6 @@ use crate::endings::{fault_answer, refusal_answer, well_ended};
 use crate::files::file_answer;
 use crate::findings::{Answer, Findings};
 use crate::given::bytes_of;
-use crate::results::results_answer;
 use crate::words::words_answer;
 use anyhow::{Context, Result};
 use std::alloc::{AllocError, Global};
@@ -32,7 +30,6 @@ fn answer_to(alloc: Global, case: &Case) -> Result<Answer, AllocError> {
     match case.question {
         Question::File(kind) => file_answer(alloc, kind, &given),
         Question::Words => words_answer(alloc, &given),
-        Question::Results(meeting) => results_answer(alloc, meeting, &given),
         Question::Fault(word) => fault_answer(alloc, word),
         Question::Refusal(number) => refusal_answer(alloc, number),
         Question::Done => well_ended(alloc),

@@ -3,8 +3,7 @@ use crate::endings::ended_text;
 use crate::findings::Answer;
 use desk_commands::{Plan, read_words};
 use desk_endings::Ended;
-use desk_words::write_moment;
-use office_clock::OfficeZone;
+use desk_words::{Moment, write_moment};
 use std::alloc::{AllocError, Global};
 
 /// The words, one on each line.
@@ -16,22 +15,19 @@ fn words_of(alloc: Global, given: &[u8]) -> Result<Vec<String>, AllocError> {
     Ok(words)
 }
 
-fn push_zone(text: &mut String, zone: &OfficeZone) -> Result<(), AllocError> {
-    writeln!(text, "zone {zone}")
+fn moment_text(alloc: Global, moment: Moment) -> Result<String, AllocError> {
+    String::from_utf8_lossy(alloc, &write_moment(moment))
 }
 
 /// The command, and under it its files and its values, each with its name.
 fn plan_text(alloc: Global, plan: &Plan) -> Result<String, AllocError> {
-    let mut text = String::new(alloc);
     match plan {
-        Plan::Init { file } => writeln!(text, "init\nFILE {file}")?,
+        Plan::Init { file } => format!(in alloc; "init\nFILE {file}\n"),
         Plan::Keys { file, csv, zone } => {
-            writeln!(text, "keys\nFILE {file}\nCSV {csv}")?;
-            push_zone(&mut text, zone)?;
+            format!(in alloc; "keys\nFILE {file}\nCSV {csv}\nzone {zone}\n")
         }
         Plan::Days { file, txt, zone } => {
-            writeln!(text, "days\nFILE {file}\nTXT {txt}")?;
-            push_zone(&mut text, zone)?;
+            format!(in alloc; "days\nFILE {file}\nTXT {txt}\nzone {zone}\n")
         }
         Plan::Register {
             file,
@@ -40,18 +36,17 @@ fn plan_text(alloc: Global, plan: &Plan) -> Result<String, AllocError> {
             csv,
             zone,
         } => {
-            let moment = write_moment(*record_moment);
-            let moment = String::from_utf8_lossy(alloc, &moment)?;
-            writeln!(text, "register\nFILE {file}\nMEETING {}", meeting.as_str())?;
-            writeln!(text, "RECORD {moment}\nCSV {csv}")?;
-            push_zone(&mut text, zone)?;
+            let meeting = meeting.as_str();
+            let at = moment_text(alloc, *record_moment)?;
+            format!(in alloc;
+                "register\nFILE {file}\nMEETING {meeting}\nRECORD {at}\nCSV {csv}\nzone {zone}\n"
+            )
         }
         Plan::Results { file, meeting } => {
-            writeln!(text, "results\nFILE {file}\nMEETING {}", meeting.as_str())?;
+            format!(in alloc; "results\nFILE {file}\nMEETING {}\n", meeting.as_str())
         }
-        Plan::Replay => writeln!(text, "replay")?,
+        Plan::Replay => String::from_str(alloc, "replay\n"),
     }
-    Ok(text)
 }
 
 /// The plan that the words ask for, or how the program ends by their fault.

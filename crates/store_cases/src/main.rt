@@ -1,17 +1,22 @@
 //! Runs case files against a desk whose tables are kept in a database in memory: calls, the
 //! commands of the program, and what is done to the database itself.
 //!
-//! Beside the desk a book in memory makes the same calls, and has to answer alike; after each call
-//! the two have to hold the same, as far as the notices of all meetings and the own things of all
-//! parties tell. The words of the program are the names of the case files. It prints each answer
-//! that differs from the one that is expected, and at last how many there were. It ends with status
-//! 0 only where there is a case and all is as expected.
+//! Beside the desk a book in memory makes the same calls, and has to answer alike; after each call,
+//! each file that is loaded and each opening the two have to hold the same, as far as their replies
+//! tell: the keys, the notices of all meetings, and the own things of all parties that were named.
+//!
+//! The words of the program are the names of the case files. It prints each answer that differs from
+//! the one that is expected, and at last how many there were. It ends with status 0 only where there
+//! is a case and all is as expected.
 #![tactic(auto)]
 
+mod beside;
 mod case;
 mod findings;
-mod named;
+mod handed;
 mod office;
+mod printed;
+mod tables;
 
 use crate::case::{Asked, read_case};
 use crate::findings::Findings;
@@ -28,7 +33,7 @@ fn run_case(alloc: Global, findings: &mut Findings, name: &str, text: &str) -> R
     let mut office = Office::new(alloc)?;
     for step in &case.steps {
         let answer = match step.asked {
-            Asked::Call(line) => office.call(line)?,
+            Asked::Call(line) => office.call(line, true)?,
             Asked::Command(words) => office.command(words, &step.file(alloc)?)?,
         };
         findings.compare(alloc, name, step, &answer)?;

@@ -1,59 +1,27 @@
 //! A desk over a database in memory, and a book beside it.
-use crate::named::Named;
-use anyhow::{Result, anyhow};
-use desk_devices::{SliceSource, VecSink};
+use crate::beside::Beside;
+use crate::handed::Handed;
+use crate::tables::Tables;
+use desk_devices::VecSink;
 use desk_endings::Ended;
 use desk_program::call_of;
-use desk_replies::reply_text;
-use desk_store::{CreateFault, Desk, HandedBack, OpenFault};
-use desk_tasks::{days, keys, register, results};
-use desk_words::{Caller, Failure, read_key, read_meeting, read_moment};
-use meeting_core::Book;
-use sqlite::{Connection, MemStore};
+use desk_words::{Call, Caller, Failure, read_key, read_meeting};
 use std::alloc::{AllocError, Global};
-use std::mem;
-
-/// Where the tables are.
-#[derive(Drop)]
-enum Kept {
-    /// In a database that no desk has.
-    Connection(Connection<MemStore>),
-    /// With a desk.
-    Desk(Desk<MemStore>),
-    /// A refusal handed back their store alone.
-    Nowhere,
-}
 
 /// A desk over a database in memory, and a book that makes the same calls.
 #[derive(Drop)]
 pub struct Office {
     alloc: Global,
-    kept: Kept,
-    beside: Book,
-    named: Named,
+    tables: Tables,
+    beside: Beside,
+    /// Whether a statement was run since a desk last had the database.
+    is_altered: bool,
 }
 
 fn failure_word(failure: Failure) -> &'static str {
     match failure {
         Failure::Store => "Store",
         Failure::Memory => "Memory",
-    }
-}
-
-fn create_word(fault: CreateFault) -> &'static str {
-    match fault {
-        CreateFault::NotEmpty => "NotEmpty",
-        CreateFault::Store => "Store",
-        CreateFault::Memory => "Memory",
-    }
-}
-
-fn open_word(fault: OpenFault) -> &'static str {
-    match fault {
-        OpenFault::NotADesk => "NotADesk",
-        OpenFault::NewerVersion => "NewerVersion",
-        OpenFault::Store => "Store",
-        OpenFault::Memory => "Memory",
     }
 }
 
@@ -65,242 +33,179 @@ fn ended_text(alloc: Global, ended: &Ended) -> Result<String, AllocError> {
     }
 }
 
+/// Adds a line to an answer where the book beside the desk answers otherwise.
+fn compare_answers(answer: &mut String, beside: &[u8]) -> Result<(), AllocError> {
+    if answer.as_bytes() != beside {
+        answer.push_str("\nthe book beside it answers otherwise")?;
+    }
+    Ok(())
+}
+
 impl Office {
     /// A database without tables, and an empty book.
     pub fn new(alloc: Global) -> Result<Office, AllocError> {
         Ok(Office {
             alloc,
-            kept: Kept::Connection(Connection::open_in_memory(alloc)?),
-            beside: Book::new(alloc),
-            named: Named::new(alloc),
+            tables: Tables::new(alloc)?,
+            beside: Beside::new(alloc),
+            is_altered: false,
         })
     }
 
-    /// The database, where no desk has it.
-    fn take_connection(&mut self) -> Option<Connection<MemStore>> {
-        match mem::replace(&mut self.kept, Kept::Nowhere) {
-            Kept::Connection(conn) => Some(conn),
-            kept => {
-                self.kept = kept;
-                None
-            }
+    /// Whether the desk holds what the book beside it holds, as far as their replies tell.
+    fn is_like_its_book(&mut self) -> Result<bool, AllocError> {
+        match self.tables.book() {
+            Some(Ok(book)) => self.beside.is_like(&book),
+            Some(Err(_)) => Ok(false),
+            None => Ok(true),
         }
     }
 
-    /// Makes a desk of the database.
-    fn create(&mut self) -> &'static str {
-        let Some(conn) = self.take_connection() else {
-            return "no database";
-        };
-        if !conn.is_autocommit() {
-            self.kept = Kept::Connection(conn);
-            return "a transaction";
+    /// Adds a line to an answer where the book beside the desk holds something else.
+    fn compare(&mut self, answer: &mut String) -> Result<(), AllocError> {
+        if !self.is_like_its_book()? {
+            answer.push_str("\nthe book beside it holds something else")?;
         }
-        match Desk::create(self.alloc, conn) {
-            Ok(desk) => {
-                self.kept = Kept::Desk(desk);
-                "created"
-            }
-            Err((fault, conn)) => {
-                self.kept = Kept::Connection(conn);
-                create_word(fault)
+        Ok(())
+    }
+
+    /// Begins anew, with a database without tables.
+    fn renew(&mut self) -> Result<String, AllocError> {
+        *self = Office::new(self.alloc)?;
+        String::from_str(self.alloc, "a database without tables")
+    }
+
+    /// Takes the desk's own book as the one beside it, where statements changed the tables.
+    fn take_altered(&mut self) {
+        if self.is_altered {
+            if let Some(Ok(book)) = self.tables.book() {
+                self.beside.set_book(book);
+                self.is_altered = false;
             }
         }
     }
 
     /// Opens the database as a desk.
-    fn open(&mut self) -> &'static str {
-        let Some(conn) = self.take_connection() else {
-            return "no database";
-        };
-        if !conn.is_autocommit() {
-            self.kept = Kept::Connection(conn);
-            return "a transaction";
-        }
-        match Desk::open(self.alloc, conn) {
-            Ok(desk) => {
-                self.kept = Kept::Desk(desk);
-                "opened"
-            }
-            Err((fault, HandedBack::Connection(conn))) => {
-                self.kept = Kept::Connection(conn);
-                open_word(fault)
-            }
-            Err((fault, HandedBack::Store(_))) => open_word(fault),
-        }
-    }
-
-    /// Takes the database from the desk.
-    fn close(&mut self) -> &'static str {
-        match mem::replace(&mut self.kept, Kept::Nowhere) {
-            Kept::Desk(desk) => {
-                self.kept = Kept::Connection(desk.close());
-                "closed"
-            }
-            kept => {
-                self.kept = kept;
-                "no desk"
-            }
-        }
-    }
-
-    /// Runs a statement on a database that no desk has.
-    fn statement(&mut self, sql: &str) -> &'static str {
-        match &mut self.kept {
-            Kept::Connection(conn) => match conn.execute(sql, &[]) {
-                Ok(_) => "done",
-                Err(_) => "not done",
-            },
-            _ => "no database",
-        }
-    }
-
-    /// Whether the desk holds what the book beside it holds, as far as parties are told.
-    fn is_like_its_book(&mut self) -> Result<bool> {
-        let Kept::Desk(desk) = &mut self.kept else {
-            return Ok(true);
-        };
-        match desk.book() {
-            Ok(mut book) => {
-                Ok(
-                    self.named
-                        .are_alike(self.alloc, &mut book, &mut self.beside)?,
-                )
-            }
-            Err(_) => Ok(false),
-        }
-    }
-
-    /// The answer to a call; a further line tells where the book beside the desk answers otherwise,
-    /// or holds something else afterwards.
-    pub fn call(&mut self, line: &str) -> Result<String> {
-        let alloc = self.alloc;
-        let Kept::Desk(desk) = &mut self.kept else {
-            return Ok(String::from_str(alloc, "no desk")?);
-        };
-        let (Ok(call), Ok(again)) = (
-            call_of(alloc, line.as_bytes()),
-            call_of(alloc, line.as_bytes()),
-        ) else {
-            return Ok(String::from_str(alloc, "no call")?);
-        };
-        self.named.take(alloc, line, &call)?;
-        let beside = self
-            .beside
-            .perform(again, |reply| reply_text(alloc, reply))?;
-        let mut answer = match desk.perform(call, |reply| reply_text(alloc, reply)) {
-            Ok(text) => String::from_utf8_lossy(alloc, &text)?,
-            Err(failure) => String::from_str(alloc, failure_word(failure))?,
-        };
-        if answer.as_bytes() != beside.as_slice() {
-            answer.push_str("\nthe book beside it answers otherwise")?;
-        }
-        if !self.is_like_its_book()? {
-            answer.push_str("\nthe book beside it holds something else")?;
-        }
+    fn open(&mut self) -> Result<String, AllocError> {
+        let word = self.tables.open();
+        let mut answer = String::from_str(self.alloc, word)?;
+        self.take_altered();
+        self.compare(&mut answer)?;
         Ok(answer)
     }
 
-    /// The answer to a call whose reply can not be shown for want of memory.
-    fn unshown(&mut self, line: &str) -> Result<String> {
-        let alloc = self.alloc;
-        let Kept::Desk(desk) = &mut self.kept else {
-            return Ok(String::from_str(alloc, "no desk")?);
-        };
-        let Ok(call) = call_of(alloc, line.as_bytes()) else {
-            return Ok(String::from_str(alloc, "no call")?);
-        };
-        let shown: Result<(), Failure> = desk.perform(call, |_| Err(AllocError));
-        let mut answer = match shown {
-            Ok(()) => String::from_str(alloc, "shown")?,
-            Err(failure) => String::from_str(alloc, failure_word(failure))?,
-        };
-        if !self.is_like_its_book()? {
-            answer.push_str("\nthe book beside it holds something else")?;
+    /// Runs a statement on a database that no desk has.
+    fn execute(&mut self, sql: &str) -> &'static str {
+        self.is_altered = true;
+        self.tables.execute(sql)
+    }
+
+    /// What the desk answers to a call, whose reply can be shown or not for want of memory.
+    fn answer_to(&mut self, call: Call, is_shown: bool) -> Result<String, AllocError> {
+        match self.tables.perform(call, is_shown) {
+            Some(Ok(text)) => String::from_utf8_lossy(self.alloc, &text),
+            Some(Err(failure)) => String::from_str(self.alloc, failure_word(failure)),
+            None => String::from_str(self.alloc, "no desk"),
         }
+    }
+
+    /// The answer to a call, whose reply can be shown or not for want of memory; then the book
+    /// beside the desk does not make it. A further line tells where that book answers otherwise, or
+    /// holds something else afterwards.
+    pub fn call(&mut self, line: &str, is_shown: bool) -> Result<String, AllocError> {
+        let line = line.as_bytes();
+        let (Ok(call), Ok(again)) = (call_of(self.alloc, line), call_of(self.alloc, line)) else {
+            return String::from_str(self.alloc, "no call");
+        };
+        self.beside.take_names(&call, line)?;
+        let mut answer = self.answer_to(call, is_shown)?;
+        if is_shown {
+            let beside = self.beside.perform(again)?;
+            compare_answers(&mut answer, &beside)?;
+        }
+        self.compare(&mut answer)?;
         Ok(answer)
     }
 
     /// The caller whose key it is.
     fn caller(&mut self, key: &str) -> &'static str {
-        let (Kept::Desk(desk), Some(key)) = (&mut self.kept, read_key(key.as_bytes())) else {
-            return "no desk, or no key";
+        let Some(key) = read_key(key.as_bytes()) else {
+            return "no key";
         };
-        match desk.caller_of(&key) {
-            Ok(None) => "nobody",
-            Ok(Some(Caller::Office)) => "the office",
-            Ok(Some(Caller::Party(_))) => "a party",
-            Err(failure) => failure_word(failure),
+        match self.tables.caller_of(&key) {
+            Some(Ok(None)) => "nobody",
+            Some(Ok(Some(Caller::Office))) => "the office",
+            Some(Ok(Some(Caller::Party(_)))) => "a party",
+            Some(Err(failure)) => failure_word(failure),
+            None => "no desk",
         }
     }
 
-    /// Loads the file by a command of the office. The book beside the desk then holds what the desk
-    /// holds.
-    fn load(&mut self, command: &str, words: &str, file: &[u8]) -> Result<Ended> {
-        let alloc = self.alloc;
-        let Kept::Desk(desk) = &mut self.kept else {
-            return Err(anyhow!("no desk"));
-        };
-        let mut parts = words.split(' ');
-        let moment = read_moment(parts.next().unwrap_or("").as_bytes());
-        let now = moment.ok_or(anyhow!("no moment"))?;
-        let mut source = SliceSource::new(file);
-        let ended = match command {
-            "keys" => keys(alloc, desk, now, &mut source),
-            "days" => days(alloc, desk, now, &mut source),
-            _ => {
-                let meeting = read_meeting(parts.next().unwrap_or("").as_bytes());
-                let meeting = meeting.ok_or(anyhow!("no meeting"))?;
-                let record = read_moment(parts.next().unwrap_or("").as_bytes());
-                let record = record.ok_or(anyhow!("no record moment"))?;
-                register(alloc, desk, now, meeting, record, &mut source)
-            }
-        };
-        match desk.book() {
-            Ok(book) => self.beside = book,
-            Err(_) => return Err(anyhow!("no book")),
-        }
-        Ok(ended)
+    /// Adds a line to the answer of a command that loads a file, where that command would end
+    /// otherwise by the book beside the desk.
+    fn compare_load(&mut self, handed: &Handed, answer: &mut String) -> Result<(), AllocError> {
+        let ended = self.beside.load(handed)?;
+        let beside = ended_text(self.alloc, &ended)?;
+        compare_answers(answer, beside.as_bytes())
     }
 
-    /// The results that are printed of a meeting, and how the command ends.
-    fn results(&mut self, meeting: &str) -> Result<String> {
-        let alloc = self.alloc;
-        let Kept::Desk(desk) = &mut self.kept else {
-            return Err(anyhow!("no desk"));
+    /// Loads the file by a command of the office. A further line tells where the command would end
+    /// otherwise by the book beside the desk, or where that holds something else afterwards.
+    fn load(&mut self, command: &str, words: &str, file: &[u8]) -> Result<String, AllocError> {
+        let Some(handed) = Handed::read(command, words, file) else {
+            return String::from_str(self.alloc, "no command");
         };
-        let meeting = read_meeting(meeting.as_bytes()).ok_or(anyhow!("no meeting"))?;
-        let mut sink = VecSink::new(alloc);
-        let ended = results(alloc, desk, meeting, &mut sink);
-        let mut text = String::from_utf8_lossy(alloc, sink.as_slice())?;
-        text.push_str(&ended_text(alloc, &ended)?)?;
-        Ok(text)
+        let Some(ended) = self.tables.load(&handed) else {
+            return String::from_str(self.alloc, "no desk");
+        };
+        let mut answer = ended_text(self.alloc, &ended)?;
+        self.compare_load(&handed, &mut answer)?;
+        self.compare(&mut answer)?;
+        Ok(answer)
+    }
+
+    /// The results that are printed of a meeting, and how the command ends. A further line tells
+    /// where the book beside the desk prints something else, or else than the front of it where a
+    /// write fails.
+    fn results(&mut self, meeting: &str) -> Result<String, AllocError> {
+        let Some(meeting) = read_meeting(meeting.as_bytes()) else {
+            return String::from_str(self.alloc, "no meeting");
+        };
+        let mut sink = VecSink::new(self.alloc);
+        let Some(ended) = self.tables.results(meeting, &mut sink) else {
+            return String::from_str(self.alloc, "no desk");
+        };
+        let mut answer = String::from_utf8_lossy(self.alloc, sink.as_slice())?;
+        answer.push_str(&ended_text(self.alloc, &ended)?)?;
+        self.beside
+            .compare_results(meeting, sink.as_slice(), &mut answer)?;
+        Ok(answer)
+    }
+
+    /// The answer in one word to what is done to the database itself, or asked of a key.
+    fn word(&mut self, command: &str, rest: &str) -> &'static str {
+        match command {
+            "create" => self.tables.create(),
+            "close" => self.tables.close(),
+            "sql" => self.execute(rest),
+            "caller" => self.caller(rest),
+            _ => "no command",
+        }
     }
 
     /// The answer to a command, or to what is done to the database itself.
-    pub fn command(&mut self, words: &str, file: &[u8]) -> Result<String> {
+    pub fn command(&mut self, words: &str, file: &[u8]) -> Result<String, AllocError> {
         let (command, rest) = match words.split_once(' ') {
             Some(both) => both,
             None => (words, ""),
         };
-        let word = match command {
-            "new" => {
-                *self = Office::new(self.alloc)?;
-                "a database without tables"
-            }
-            "create" => self.create(),
+        match command {
+            "new" => self.renew(),
             "open" => self.open(),
-            "close" => self.close(),
-            "sql" => self.statement(rest),
-            "caller" => self.caller(rest),
-            "unshown" => return self.unshown(rest),
-            "results" => return self.results(rest),
-            "keys" | "days" | "register" => {
-                let ended = self.load(command, rest, file)?;
-                return Ok(ended_text(self.alloc, &ended)?);
-            }
-            _ => "no command",
-        };
-        Ok(String::from_str(self.alloc, word)?)
+            "unshown" => self.call(rest, false),
+            "results" => self.results(rest),
+            "keys" | "days" | "register" => self.load(command, rest, file),
+            _ => String::from_str(self.alloc, self.word(command, rest)),
+        }
     }
 }

@@ -1,0 +1,188 @@
+//! A database in memory, with a desk over it or without.
+ghost use Rattle.std.specs.Prelude.{◌≡◌, false, IfOk};
+
+use crate::handed::{FileKind, Handed};
+use desk_devices::{SliceSource, VecSink};
+use desk_endings::Ended;
+use desk_replies::reply_text;
+use desk_store::{CreateFault, Desk, HandedBack, OpenFault};
+use desk_tasks::{days, keys, register, results};
+use desk_words::{Call, Caller, Failure, MeetingId, SecretKey};
+use meeting_core::Book;
+use sqlite::{Connection, MemStore};
+use std::alloc::{AllocError, Global};
+use std::mem;
+
+/// Where the tables are.
+#[derive(Drop)]
+enum Kept {
+    /// In a database that no desk has.
+    Connection(Connection<MemStore>),
+    /// With a desk.
+    Desk(Desk<MemStore>),
+    /// A refusal handed back their store alone.
+    Nowhere,
+}
+
+/// A database in memory, with a desk over it or without. It alone names the store, so that what
+/// uses it proves nothing of that store again.
+pub struct Tables {
+    alloc: Global,
+    kept: Kept,
+}
+
+// It is written out, so that a caller does not prove again how each part is dropped.
+impl Drop for Tables {
+    fn drop(self) {
+        let Tables { alloc: _, kept: _ } = self;
+    }
+}
+
+fn create_word(fault: CreateFault) -> &'static str {
+    match fault {
+        CreateFault::NotEmpty => "NotEmpty",
+        CreateFault::Store => "Store",
+        CreateFault::Memory => "Memory",
+    }
+}
+
+fn open_word(fault: OpenFault) -> &'static str {
+    match fault {
+        OpenFault::NotADesk => "NotADesk",
+        OpenFault::NewerVersion => "NewerVersion",
+        OpenFault::Store => "Store",
+        OpenFault::Memory => "Memory",
+    }
+}
+
+impl Tables {
+    /// A database without tables, that no desk has. The error is want of memory.
+    pub fn new(alloc: Global) -> Result<Tables, AllocError> {
+        let kept = Kept::Connection(Connection::open_in_memory(alloc)?);
+        Ok(Tables { alloc, kept })
+    }
+
+    fn desk(&mut self) -> Option<&mut Desk<MemStore>> {
+        match &mut self.kept {
+            Kept::Desk(desk) => Some(desk),
+            _ => None,
+        }
+    }
+
+    /// Takes the database, where no desk has it and no transaction is begun; or tells which of
+    /// these is not so.
+    fn take_database(&mut self) -> Result<Connection<MemStore>, &'static str>
+        ensures { IfOk result (λ conn. conn.in_transaction ≡ false) }
+    {
+        match mem::replace(&mut self.kept, Kept::Nowhere) {
+            Kept::Connection(conn) if conn.is_autocommit() => Ok(conn),
+            Kept::Connection(conn) => {
+                self.kept = Kept::Connection(conn);
+                Err("a transaction")
+            }
+            kept => {
+                self.kept = kept;
+                Err("no database")
+            }
+        }
+    }
+
+    /// Makes a desk of the database, and tells how that ended.
+    pub fn create(&mut self) -> &'static str {
+        let conn = match self.take_database() {
+            Ok(conn) => conn,
+            Err(word) => return word,
+        };
+        let (kept, word) = match Desk::create(self.alloc, conn) {
+            Ok(desk) => (Kept::Desk(desk), "created"),
+            Err((fault, conn)) => (Kept::Connection(conn), create_word(fault)),
+        };
+        self.kept = kept;
+        word
+    }
+
+    /// Opens the database as a desk, and tells how that ended.
+    pub fn open(&mut self) -> &'static str {
+        let conn = match self.take_database() {
+            Ok(conn) => conn,
+            Err(word) => return word,
+        };
+        let (kept, word) = match Desk::open(self.alloc, conn) {
+            Ok(desk) => (Kept::Desk(desk), "opened"),
+            Err((fault, HandedBack::Connection(conn))) => {
+                (Kept::Connection(conn), open_word(fault))
+            }
+            Err((fault, HandedBack::Store(_))) => (Kept::Nowhere, open_word(fault)),
+        };
+        self.kept = kept;
+        word
+    }
+
+    /// Takes the database from the desk, and tells whether there was one.
+    pub fn close(&mut self) -> &'static str {
+        let (kept, word) = match mem::replace(&mut self.kept, Kept::Nowhere) {
+            Kept::Desk(desk) => (Kept::Connection(desk.close()), "closed"),
+            kept => (kept, "no desk"),
+        };
+        self.kept = kept;
+        word
+    }
+
+    /// Runs a statement on a database that no desk has, and tells whether it was done.
+    pub fn execute(&mut self, sql: &str) -> &'static str {
+        match &mut self.kept {
+            Kept::Connection(conn) => match conn.execute(sql, &[]) {
+                Ok(_) => "done",
+                Err(_) => "not done",
+            },
+            _ => "no database",
+        }
+    }
+
+    /// What the desk answers to a call, where there is a desk. Where the reply is not to be shown,
+    /// that fails for want of memory.
+    pub fn perform(&mut self, call: Call, is_shown: bool) -> Option<Result<Vec<u8>, Failure>> {
+        let alloc = self.alloc;
+        let desk = self.desk()?;
+        Some(desk.perform(call, |reply| {
+            if is_shown {
+                reply_text(alloc, reply)
+            } else {
+                Err(AllocError)
+            }
+        }))
+    }
+
+    /// How the command ends that loads a file, where there is a desk.
+    pub fn load(&mut self, handed: &Handed) -> Option<Ended> {
+        let alloc = self.alloc;
+        let now = handed.now;
+        let desk = self.desk()?;
+        let mut source = SliceSource::new(handed.bytes);
+        Some(match handed.kind {
+            FileKind::Keys => keys(alloc, desk, now, &mut source),
+            FileKind::Days => days(alloc, desk, now, &mut source),
+            FileKind::Register {
+                meeting,
+                record_moment,
+            } => register(alloc, desk, now, meeting, record_moment, &mut source),
+        })
+    }
+
+    /// Prints the results of a meeting, where there is a desk, and gives how that command ends.
+    pub fn results(&mut self, meeting: MeetingId, sink: &mut VecSink) -> Option<Ended> {
+        let alloc = self.alloc;
+        let desk = self.desk()?;
+        Some(results(alloc, desk, meeting, sink))
+    }
+
+    /// The caller whose key it is, where there is a desk.
+    pub fn caller_of(&mut self, key: &SecretKey) -> Option<Result<Option<Caller>, Failure>> {
+        Some(self.desk()?.caller_of(key))
+    }
+
+    /// What the desk holds, where there is a desk.
+    pub fn book(&mut self) -> Option<Result<Book, Failure>> {
+        Some(self.desk()?.book())
+    }
+}
