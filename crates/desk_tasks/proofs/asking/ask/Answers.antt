@@ -12,3 +12,6 @@ returns-in-Ok-clause-same g c = λ clean is_open office stands other.
     let answered = c.in-Ok.ensures.done clean office stands in
     let ended : ended_view c.in-Ok.ended ≡ ended_by_reply (decided office call).reply = search rules in
     stays office call (ended_view c.in-Ok.ended) (state g.S.Store c.perform.new.self) ended other answered.1
+
+pub returns-in-Err-clause-same : goal.returns-in-Err-clause-same
+returns-in-Err-clause-same g c = λ clean is_open office stands other. c.in-Err.ensures.leaves.stands clean is_open office stands
