@@ -1,0 +1,9 @@
+//! Tests of what HTTP asks and is answered, over bytes in memory.
+#![tactic(auto)]
+
+#[cfg(test)]
+mod heads;
+#[cfg(test)]
+mod replies;
+#[cfg(test)]
+mod requests;
