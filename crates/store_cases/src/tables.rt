@@ -1,6 +1,4 @@
 //! A database in memory, with a desk over it or without.
-ghost use Rattle.std.specs.Prelude.{◌≡◌, false, IfOk};
-
 use crate::handed::{FileKind, Handed};
 use desk_devices::{SliceSource, VecSink};
 use desk_endings::Ended;
@@ -69,53 +67,58 @@ impl Tables {
         }
     }
 
-    /// Takes the database, where no desk has it and no transaction is begun; or tells which of
-    /// these is not so.
-    fn take_database(&mut self) -> Result<Connection<MemStore>, &'static str>
-        ensures { IfOk result (λ conn. conn.in_transaction ≡ false) }
-    {
+    /// Takes the database, where no desk has it.
+    fn take_connection(&mut self) -> Option<Connection<MemStore>> {
         match mem::replace(&mut self.kept, Kept::Nowhere) {
-            Kept::Connection(conn) if conn.is_autocommit() => Ok(conn),
-            Kept::Connection(conn) => {
-                self.kept = Kept::Connection(conn);
-                Err("a transaction")
-            }
+            Kept::Connection(conn) => Some(conn),
             kept => {
                 self.kept = kept;
-                Err("no database")
+                None
             }
         }
     }
 
     /// Makes a desk of the database, and tells how that ended.
     pub fn create(&mut self) -> &'static str {
-        let conn = match self.take_database() {
-            Ok(conn) => conn,
-            Err(word) => return word,
+        let Some(conn) = self.take_connection() else {
+            return "no database";
         };
-        let (kept, word) = match Desk::create(self.alloc, conn) {
-            Ok(desk) => (Kept::Desk(desk), "created"),
-            Err((fault, conn)) => (Kept::Connection(conn), create_word(fault)),
-        };
-        self.kept = kept;
-        word
+        if !conn.is_autocommit() {
+            self.kept = Kept::Connection(conn);
+            return "a transaction";
+        }
+        match Desk::create(self.alloc, conn) {
+            Ok(desk) => {
+                self.kept = Kept::Desk(desk);
+                "created"
+            }
+            Err((fault, conn)) => {
+                self.kept = Kept::Connection(conn);
+                create_word(fault)
+            }
+        }
     }
 
     /// Opens the database as a desk, and tells how that ended.
     pub fn open(&mut self) -> &'static str {
-        let conn = match self.take_database() {
-            Ok(conn) => conn,
-            Err(word) => return word,
+        let Some(conn) = self.take_connection() else {
+            return "no database";
         };
-        let (kept, word) = match Desk::open(self.alloc, conn) {
-            Ok(desk) => (Kept::Desk(desk), "opened"),
-            Err((fault, HandedBack::Connection(conn))) => {
-                (Kept::Connection(conn), open_word(fault))
+        if !conn.is_autocommit() {
+            self.kept = Kept::Connection(conn);
+            return "a transaction";
+        }
+        match Desk::open(self.alloc, conn) {
+            Ok(desk) => {
+                self.kept = Kept::Desk(desk);
+                "opened"
             }
-            Err((fault, HandedBack::Store(_))) => (Kept::Nowhere, open_word(fault)),
-        };
-        self.kept = kept;
-        word
+            Err((fault, HandedBack::Connection(conn))) => {
+                self.kept = Kept::Connection(conn);
+                open_word(fault)
+            }
+            Err((fault, HandedBack::Store(_))) => open_word(fault),
+        }
     }
 
     /// Takes the database from the desk, and tells whether there was one.
