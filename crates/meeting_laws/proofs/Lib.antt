@@ -11,6 +11,7 @@ mod OwnThingsLemmas
 mod PlaceLemmas
 mod ProxyLemmas
 mod ReadLemmas
+mod RunLemmas
 mod SecrecyLemmas
 mod WorldLemmas
 mod WrongAnswers

@@ -5,6 +5,7 @@ pub mod OwnThings
 pub mod Proxies
 pub mod Reads
 pub mod Refusals
+pub mod Runs
 pub mod Secrecy
 pub mod Worlds
 pub mod WrongAnswers

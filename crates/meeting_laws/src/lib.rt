@@ -7,6 +7,7 @@ mod own_things;
 mod proxies;
 mod reads;
 mod refusals;
+mod runs;
 mod worlds;
 
 ghost use Rattle.meeting_laws.specs.Laws.{DemandsByCapacity};
@@ -19,6 +20,7 @@ pub use own_things::{
 pub use proxies::proxies_cast_by_the_rules;
 pub use reads::{rows_give_own_things, too_little_read_is_caught, what_is_read_is_enough};
 pub use refusals::{lowest_refusal, refused_calls_change_nothing};
+pub use runs::runs_go_on;
 use vote_rules::laws::tallies_read_their_own_casts;
 pub use worlds::{names, running_total_is_caught, two_worlds};
 
