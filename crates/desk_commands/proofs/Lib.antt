@@ -1,2 +1,3 @@
 pub mod AppLemmas
+pub mod NumberLemmas
 pub mod PlanLemmas

@@ -1,6 +1,7 @@
 -- The commands of the program, over the words of `clap`.
 use Rattle.std.specs.Prelude.{◌≡◌, false, true, [], ◌∷◌, Some, codes}
 use Rattle.clap.specs.Walk.{Rule, Text}
+use Rattle.clap.specs.declared.builder.value_parser.ValueParser.TheVariants as parser
 use Rattle.clap.specs.declared.builder.command.Command.{Command}
 use Rattle.clap.specs.declared.builder.command.Command.TheViews.{out-Command}
 use Rattle.clap.specs.Simple.{App, app_of, new_app, new_rule, with_rule, with_subcommand}
@@ -16,6 +17,26 @@ zone =
       long = Some (codes "zone");
       value_names = 1;
       defaults = codes "GMT0BST,M3.5.0/1,M10.5.0" ∷ [];
+    }
+
+-- the port, which must be given
+abbrev pub port : Rule
+port =
+    record (new_rule (codes "port")) {
+      long = Some (codes "port");
+      value_names = 1;
+      parser = Some (parser.Unsigned 1 65535);
+      required = true;
+    }
+
+-- how many requests are served, which is a million where no other number is given
+abbrev pub requests : Rule
+requests =
+    record (new_rule (codes "requests")) {
+      long = Some (codes "requests");
+      value_names = 1;
+      defaults = codes "1000000" ∷ [];
+      parser = Some (parser.Unsigned 1 1000000000);
     }
 
 -- a command that takes the file of a desk
@@ -43,6 +64,9 @@ abbrev pub register : App
 register =
     loading (codes "CSV") (with_rule (on_meeting (codes "register")) (wanted (codes "RECORD")))
 
+abbrev pub serve : App
+serve = with_rule (with_rule (with_rule (on_file (codes "serve")) port) requests) zone
+
 abbrev pub results : App
 results = on_meeting (codes "results")
 
@@ -54,16 +78,17 @@ top =
     record (new_app (codes "desk"))
     { top = record (new_app (codes "desk")).top { subcommand_required = true; arg_required_else_help = true; no_binary_name = true } }
 
--- the program: its six commands
+-- the program with the commands that make a desk and load files into it
+abbrev pub with_loads : App
+with_loads =
+    with_subcommand
+    (with_subcommand (with_subcommand (with_subcommand top init.top) keys.top) days.top)
+    register.top
+
+-- the program: its seven commands
 abbrev pub desk : App
 desk =
-    with_subcommand
-    (with_subcommand
-    (with_subcommand
-    (with_subcommand (with_subcommand (with_subcommand top init.top) keys.top) days.top)
-    register.top)
-    results.top)
-    replay.top
+    with_subcommand (with_subcommand (with_subcommand with_loads serve.top) results.top) replay.top
 
 -- the command is that one, and has no argument that is global
 abbrev pub IsCommand : Command → App → Type 0

@@ -1,5 +1,7 @@
 -- What the words of the program ask for.
 use Rattle.std.specs.Prelude.{◌≡◌, ⊤, ℕ, List, Option, Some, None, Result, Ok, Err, ok_or, bytes_eq, codes, if◌then◌else◌}
+use Rattle.std.specs.Str.Parse.{digits_value, without_leading_plus}
+use Rattle.clap.specs.ValueTests.{is_unsigned_in}
 use Rattle.clap.specs.declared.error.kind.ErrorKind.{ErrorKind}
 use Rattle.clap.specs.declared.error.kind.ErrorKind.TheVariants as kind
 use Rattle.clap.specs.Faults.{fault_of}
@@ -14,12 +16,14 @@ use Rattle.desk_commands.specs.declared.plan.Plan.TheVariants as plan
 use Rattle.desk_commands.specs.declared.plan.WordsFault.{WordsFault}
 use Rattle.desk_commands.specs.declared.plan.WordsFault.TheVariants as fault
 
--- a command, with the texts of its files, its meeting, its record moment and the rule of its zone
+-- a command, with the texts of its files, its meeting, its record moment, its port, its number of
+-- requests and the rule of its zone
 pub data Asked : Type 0 where
   Init : Text → Asked
   Keys : Text → Text → Rule → Asked
   Days : Text → Text → Rule → Asked
   Register : Text → List ℕ → ℕ → Text → Rule → Asked
+  Serve : Text → ℕ → ℕ → Rule → Asked
   Results : Text → List ℕ → Asked
   Replay : Asked
 
@@ -37,6 +41,7 @@ plan_view (plan.Keys file csv zone) = Keys file.now csv.now (rule_of zone)
 plan_view (plan.Days file txt zone) = Days file.now txt.now (rule_of zone)
 plan_view (plan.Register file meeting record_moment csv zone) =
     Register file.now meeting record_moment csv.now (rule_of zone)
+plan_view (plan.Serve file port requests zone) = Serve file.now port requests (rule_of zone)
 plan_view (plan.Results file meeting) = Results file.now meeting
 plan_view plan.Replay = Replay
 
@@ -70,6 +75,12 @@ abbrev pub ◌>>=◌ : {A B : Type 0} → Result A Wrong → (A → Result B Wro
 -- the word that is given for an id
 abbrev pub word_in : Text → List Row → Result Text Wrong
 word_in id rows = ok_or (first_of id rows) Words
+
+-- the number that a word spells, where `clap` takes it for one within the bounds
+abbrev pub number_in : ℕ → ℕ → Text → Option ℕ
+number_in least most word =
+    if is_unsigned_in least most word
+    then Some (digits_value 10 (without_leading_plus word)) else None
 
 unfoldable pub init_in : List Row → Result Asked Wrong
 init_in rows = do
@@ -105,6 +116,18 @@ register_in rows = do
   rule ← ok_or (rule_in zone) Zone
   Ok (Register file meeting record_moment csv rule)
 
+-- all words are there first; then the port is read, the number of requests, and the zone
+unfoldable pub serve_in : List Row → Result Asked Wrong
+serve_in rows = do
+  file ← word_in (codes "FILE") rows
+  port_word ← word_in (codes "port") rows
+  requests_word ← word_in (codes "requests") rows
+  zone ← word_in (codes "zone") rows
+  port ← ok_or (number_in 1 65535 port_word) Words
+  requests ← ok_or (number_in 1 1000000000 requests_word) Words
+  rule ← ok_or (rule_in zone) Zone
+  Ok (Serve file port requests rule)
+
 unfoldable pub results_in : List Row → Result Asked Wrong
 results_in rows = do
   file ← word_in (codes "FILE") rows
@@ -119,6 +142,7 @@ asked_by name rows =
     else if bytes_eq name (codes "keys") then keys_in rows
     else if bytes_eq name (codes "days") then days_in rows
     else if bytes_eq name (codes "register") then register_in rows
+    else if bytes_eq name (codes "serve") then serve_in rows
     else if bytes_eq name (codes "results") then results_in rows
     else if bytes_eq name (codes "replay") then Ok Replay
     else Err Words

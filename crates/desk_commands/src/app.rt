@@ -7,6 +7,7 @@ ghost use Rattle.clap.specs.Walk.{rule_of};
 ghost use Rattle.desk_commands.specs.App as spec;
 
 use crate::help;
+use clap::builder::ValueParser;
 use clap::{Arg, ArgMatches, Command, Error};
 use std::alloc::{AllocError, Global};
 
@@ -34,6 +35,37 @@ fn zone<'a>(alloc: Global) -> Arg<'a>
         .help(help::ZONE)
 }
 
+/// The argument, whose value is a number within the bounds.
+fn within<'a>(arg: Arg<'a>, least: u64, most: u64) -> Arg<'a>
+    ensures { result ≡ record arg.entry { value_parser = Some (ValueParser.Unsigned least most) } }
+{
+    arg.value_parser(ValueParser::unsigned(least, most))
+}
+
+fn port<'a>(alloc: Global) -> Arg<'a>
+    ensures rule { rule_of result ≡ spec.port }
+    ensures local { result.global ≡ false }
+{
+    let port = Arg::new(alloc, "port")
+        .long("port")
+        .value_name("N")
+        .required(true)
+        .help(help::PORT);
+    within(port, 1, 65_535)
+}
+
+fn requests<'a>(alloc: Global) -> Arg<'a>
+    ensures rule { rule_of result ≡ spec.requests }
+    ensures local { result.global ≡ false }
+{
+    let requests = Arg::new(alloc, "requests")
+        .long("requests")
+        .value_name("N")
+        .default_value("1000000")
+        .help(help::REQUESTS);
+    within(requests, 1, 1_000_000_000)
+}
+
 /// The command, and one word more that it takes.
 fn with_word<'a>(
     alloc: Global,
@@ -52,6 +84,20 @@ fn with_zone<'a>(alloc: Global, command: Command<'a>) -> Result<Command<'a>, All
     ensures { IfOk result (λ c. spec.Extends command.entry c (λ a. with_rule a spec.zone)) }
 {
     command.arg(zone(alloc))
+}
+
+/// The command, and the port that it takes.
+fn with_port<'a>(alloc: Global, command: Command<'a>) -> Result<Command<'a>, AllocError>
+    ensures { IfOk result (λ c. spec.Extends command.entry c (λ a. with_rule a spec.port)) }
+{
+    command.arg(port(alloc))
+}
+
+/// The command, and the number of requests that it takes.
+fn with_requests<'a>(alloc: Global, command: Command<'a>) -> Result<Command<'a>, AllocError>
+    ensures { IfOk result (λ c. spec.Extends command.entry c (λ a. with_rule a spec.requests)) }
+{
+    command.arg(requests(alloc))
 }
 
 /// A command that takes the file of a desk.
@@ -105,6 +151,15 @@ fn register<'a>(alloc: Global) -> Result<Command<'a>, AllocError>
     loading(alloc, with_record, "CSV", help::REGISTER_FILE)
 }
 
+fn serve<'a>(alloc: Global) -> Result<Command<'a>, AllocError>
+    ensures { IfOk result (λ c. spec.IsCommand c spec.serve) }
+{
+    let serve = on_file(alloc, "serve", help::SERVE)?;
+    let with_port = with_port(alloc, serve)?;
+    let with_requests = with_requests(alloc, with_port)?;
+    with_zone(alloc, with_requests)
+}
+
 /// The command, and one command more under it.
 fn with_command<'a>(command: Command<'a>, under: Command<'a>) -> Result<Command<'a>, AllocError>
     ensures { IfOk result (λ c. spec.TakesUnder command.entry under.entry c) }
@@ -136,16 +191,24 @@ fn top<'a>(alloc: Global) -> Result<Command<'a>, AllocError>
         .bin_name("desk")
 }
 
-fn desk<'a>(alloc: Global) -> Result<Command<'a>, AllocError>
-    ensures { IfOk result (λ c. spec.IsCommand c spec.desk) }
+/// The program, and the commands that make a desk and load files into it.
+fn with_loads<'a>(alloc: Global) -> Result<Command<'a>, AllocError>
+    ensures { IfOk result (λ c. spec.IsCommand c spec.with_loads) }
 {
     let top = top(alloc)?;
     let first = with_made(top, on_file(alloc, "init", help::INIT))?;
     let second = with_made(first, keys(alloc))?;
     let third = with_made(second, days(alloc))?;
-    let fourth = with_made(third, register(alloc))?;
-    let fifth = with_made(fourth, on_meeting(alloc, "results", help::RESULTS))?;
-    with_command(fifth, named(alloc, "replay", help::REPLAY))
+    with_made(third, register(alloc))
+}
+
+fn desk<'a>(alloc: Global) -> Result<Command<'a>, AllocError>
+    ensures { IfOk result (λ c. spec.IsCommand c spec.desk) }
+{
+    let with_loads = with_loads(alloc)?;
+    let fifth = with_made(with_loads, serve(alloc))?;
+    let sixth = with_made(fifth, on_meeting(alloc, "results", help::RESULTS))?;
+    with_command(sixth, named(alloc, "replay", help::REPLAY))
 }
 
 /// What `clap` makes of the words, the program's own name not among them.

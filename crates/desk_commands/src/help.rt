@@ -3,10 +3,10 @@
 pub(crate) const DESK: &str =
     "Keeps the desk of a company's general meetings: the register, proxies, polls and results.
 
-A desk is one file. The office makes it once with `init`, and then loads keys, closed days and registers
-into it. Each command ends with status 0 where it did its work; with 1 where the desk refuses the request,
-which standard error names; with 2 where the words are wrong; and with 3 where a file, memory or the clock
-fails.";
+A desk is one file. The office makes it once with `init`, loads keys, closed days and registers into it, and
+lets parties reach it with `serve`. Each command ends with status 0 where it did its work; with 1 where the
+desk refuses the request, which standard error names; with 2 where the words are wrong; and with 3 where a
+file, memory, a socket or the clock fails.";
 
 pub(crate) const INIT: &str =
     "Makes a new desk in a file that does not exist or is empty. Prints `created`.";
@@ -29,6 +29,12 @@ saves it: the line `member,kind,name,shares,paid`, and then a line for each hold
 `same` where these are the rows held. A fault of the file ends with status 3 and its line, as
 `BadRow 2 kind`, and nothing is loaded; a refusal ends with status 1, as `refused 20 Opened`.";
 
+pub(crate) const SERVE: &str =
+    "Serves the desk over HTTP, to this machine alone: listens on 127.0.0.1, prints `listening`, and answers one
+connection after another, each with one request. It ends after as many as were asked for. While it runs, it
+holds the file, and another command on the file ends with status 3 and `Store`. A port that cannot be had
+ends with status 3 and `Socket`.";
+
 pub(crate) const RESULTS: &str =
     "Prints the results of a meeting: the meeting, and each resolution with its state and, once its poll is
 declared, the figures.";
@@ -48,5 +54,9 @@ pub(crate) const REGISTER_FILE: &str = "The file of the register";
 pub(crate) const MEETING: &str = "The name of the meeting: 1 to 16 of A to Z and 0 to 9";
 
 pub(crate) const RECORD: &str = "The record moment of the meeting, as 2026-06-16T18:00:00";
+
+pub(crate) const PORT: &str = "The port to listen on: 1 to 65535";
+
+pub(crate) const REQUESTS: &str = "How many connections are answered: 1 to 1000000000";
 
 pub(crate) const ZONE: &str = "The zone of the office's wall clock, as a POSIX rule";

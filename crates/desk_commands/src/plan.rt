@@ -5,7 +5,7 @@ ghost use Rattle.clap.specs.Values.{kind_of};
 ghost use Rattle.clap.specs.Simple.{subcommand_rows_of};
 ghost use Rattle.clap.specs.Walk.{rows_of};
 ghost use Rattle.office_clock.specs.Zones.{rule_in, rule_of};
-ghost use Rattle.desk_commands.specs.Plans.{Gives, IsRefused, Zone, plan_view, word_in, init_in, keys_in, days_in, register_in, results_in, asked_by, asked_in, asked};
+ghost use Rattle.desk_commands.specs.Plans.{Gives, IsRefused, Words, Zone, plan_view, word_in, init_in, keys_in, days_in, register_in, serve_in, number_in, results_in, asked_by, asked_in, asked};
 
 use crate::app::desk_matches;
 use clap::error::ErrorKind;
@@ -40,6 +40,13 @@ pub enum Plan<'a> {
         meeting: MeetingId,
         record_moment: Moment,
         csv: &'a str,
+        zone: OfficeZone,
+    },
+    /// The desk is served on a port of this machine, to at most so many connections.
+    Serve {
+        file: &'a str,
+        port: u16,
+        requests: u32,
         zone: OfficeZone,
     },
     /// The results of a meeting are printed.
@@ -83,6 +90,44 @@ fn word<'a>(alloc: Global, matches: &ArgMatches<'a>, id: &str) -> Result<&'a str
 {
     match matches.get_str(id) {
         Some(word) => Ok(word),
+        None => Err(WordsFault::Words(String::new(alloc))),
+    }
+}
+
+/// The port that a word spells: 1 to 65,535.
+fn port_of(word: &str) -> Option<u16>
+    ensures { result ≡ number_in 1 65535 word.now }
+{
+    match word.parse::<u16>() {
+        Ok(port) => { if port == 0 { None } else { Some(port) } }
+        Err(_) => None,
+    }
+}
+
+/// The number of requests that a word spells: 1 to 1,000,000,000.
+fn requests_of(word: &str) -> Option<u32>
+    ensures { result ≡ number_in 1 1000000000 word.now }
+{
+    match word.parse::<u32>() {
+        Ok(requests) => {
+            if requests == 0 {
+                None
+            } else if requests > 1_000_000_000 {
+                None
+            } else {
+                Some(requests)
+            }
+        }
+        Err(_) => None,
+    }
+}
+
+/// The number that was read. `clap` gives no matches with a word that spells none within the bounds.
+fn taken<T>(alloc: Global, read: Option<T>) -> Result<T, WordsFault>
+    ensures { Gives (λ number. number) result (ok_or read Words) }
+{
+    match read {
+        Some(number) => Ok(number),
         None => Err(WordsFault::Words(String::new(alloc))),
     }
 }
@@ -138,6 +183,25 @@ fn register_in<'a>(alloc: Global, matches: &ArgMatches<'a>) -> Result<Plan<'a>, 
     })
 }
 
+#[tactic(auto, unfolding(crate::specs::Plans::serve_in))]
+fn serve_in<'a>(alloc: Global, matches: &ArgMatches<'a>) -> Result<Plan<'a>, WordsFault>
+    ensures { Gives plan_view result (serve_in (rows_of (found_of matches.now))) }
+{
+    let file = word(alloc, matches, "FILE")?;
+    let port_word = word(alloc, matches, "port")?;
+    let requests_word = word(alloc, matches, "requests")?;
+    let rule = word(alloc, matches, "zone")?;
+    let port = taken(alloc, port_of(port_word))?;
+    let requests = taken(alloc, requests_of(requests_word))?;
+    let zone = read_zone(rule)?;
+    Ok(Plan::Serve {
+        file,
+        port,
+        requests,
+        zone,
+    })
+}
+
 #[tactic(auto, unfolding(crate::specs::Plans::results_in))]
 fn results_in<'a>(alloc: Global, matches: &ArgMatches<'a>) -> Result<Plan<'a>, WordsFault>
     ensures { Gives plan_view result (results_in (rows_of (found_of matches.now))) }
@@ -156,6 +220,7 @@ fn plan_by<'a>(alloc: Global, name: &str, matches: &ArgMatches<'a>) -> Result<Pl
         "keys" => keys_in(alloc, matches),
         "days" => days_in(alloc, matches),
         "register" => register_in(alloc, matches),
+        "serve" => serve_in(alloc, matches),
         "results" => results_in(alloc, matches),
         "replay" => Ok(Plan::Replay),
         _ => Err(WordsFault::Words(String::new(alloc))),

@@ -42,6 +42,14 @@ fn plan_text(alloc: Global, plan: &Plan) -> Result<String, AllocError> {
                 "register\nFILE {file}\nMEETING {meeting}\nRECORD {at}\nCSV {csv}\nzone {zone}\n"
             )
         }
+        Plan::Serve {
+            file,
+            port,
+            requests,
+            zone,
+        } => {
+            format!(in alloc; "serve\nFILE {file}\nport {port}\nrequests {requests}\nzone {zone}\n")
+        }
         Plan::Results { file, meeting } => {
             format!(in alloc; "results\nFILE {file}\nMEETING {}\n", meeting.as_str())
         }
