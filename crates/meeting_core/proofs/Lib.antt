@@ -1,5 +1,6 @@
 pub mod AppointmentsKept
 pub mod AttendanceKept
+pub mod EntryLemmas
 pub mod FoundLemmas
 pub mod MeetingKept
 pub mod OfficeKept

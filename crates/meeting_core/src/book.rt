@@ -165,6 +165,23 @@ impl Book {
         office_answer(self.alloc, &self.closed, found, now, asked)
     }
 
+    /// The answer to what a party asks in a meeting, as a change of the office.
+    fn entry_for(
+        &self,
+        party: Party,
+        meeting: MeetingId,
+        now: Moment,
+        asked: &PartyRequest,
+    ) -> Result<Answer<Change>, AllocError>
+        ensures { IfOk result (λ a. a
+            ≡ within (λ entry. change.InMeeting meeting (meeting_change.Enter entry))
+            (settled (party_ruling (public_of self.now meeting)
+            (own_of self.now party meeting now) now asked.now))) }
+    {
+        let answer = self.answer_to_party(party, meeting, now, asked)?;
+        Ok(entering(meeting, answer))
+    }
+
     fn answer_to(&self, call: &Call) -> Result<Answer<Change>, AllocError>
         ensures answer { IfOk result (λ a. a ≡ decided self.now call.now) }
         ensures limits { IfOk result (λ a. if_any keeps_limits a.change ≡ true) }
@@ -185,8 +202,7 @@ impl Book {
             },
             Caller::Party(party) => match &call.request {
                 Request::Party { meeting, asked } => {
-                    let answer = self.answer_to_party(party, *meeting, call.moment, asked)?;
-                    Ok(entering(*meeting, answer))
+                    self.entry_for(party, *meeting, call.moment, asked)
                 }
                 Request::Desk(_) | Request::Office { .. } => Ok(refuse(Refusal::OfficeOnly)),
             },
