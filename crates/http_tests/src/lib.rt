@@ -5,5 +5,3 @@
 mod heads;
 #[cfg(test)]
 mod replies;
-#[cfg(test)]
-mod requests;
