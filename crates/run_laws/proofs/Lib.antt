@@ -1,0 +1,8 @@
+mod DeskLemmas
+mod FoundLemmas
+mod ListLemmas
+mod OfficeLemmas
+mod PartLemmas
+mod PartyLemmas
+mod RunLemmas
+mod WrongRuns

@@ -1,0 +1,4 @@
+pub mod Isolation
+pub mod Parts
+pub mod Traces
+pub mod WrongWays
