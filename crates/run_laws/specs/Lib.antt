@@ -1,4 +1,5 @@
 pub mod Isolation
 pub mod Parts
 pub mod Traces
+pub mod WrongTellings
 pub mod WrongWays

@@ -2,11 +2,15 @@
 //! it.
 #![tactic(auto)]
 
-ghost use Rattle.std.specs.Prelude.{[]};
+mod wrong_ways;
+
 ghost use Rattle.meeting_core.specs.Step.{decided};
-ghost use Rattle.meeting_laws.specs.WrongAnswers.{office_with};
-ghost use Rattle.run_laws.specs.Isolation.{IsolatesCalls, IsolatesRuns, IsolatesSteps, RunsAreTheDesks, StepsIsolateRuns};
-ghost use Rattle.run_laws.specs.WrongWays.{TellsRunsApart, both_appoint, both_vote, member_appoints, member_votes, tells_all_numbers, tells_the_count, the_member};
+ghost use Rattle.run_laws.specs.Isolation.{IsolatesCalls, IsolatesSteps, RunsAreTheDesks, StepsIsolateRuns};
+
+pub use wrong_ways::{
+    limits_over_all_are_caught, numbers_over_all_are_caught, running_total_is_caught,
+    told_demands_are_caught, votes_on_shares_are_caught,
+};
 
 /// What others do changes no reply to a party but by what the trace of the calls shows it. The
 /// trace has the party's own calls whole, and what its sources give: the appointments, endings and
@@ -25,22 +29,4 @@ pub fn isolation()
     ensures runs { StepsIsolateRuns }
     ensures calls { IsolatesCalls decided }
     ensures desk { RunsAreTheDesks }
-{}
-
-/// The law of runs can fail: a desk that tells a voter how the votes stood gives a member another
-/// reply where another member voted before it, of which nothing is shown to it.
-pub fn running_total_is_caught()
-    ensures apart { TellsRunsApart tells_the_count the_member (office_with []) member_votes
-        both_vote }
-    ensures caught { IsolatesRuns tells_the_count → ⊥ }
-    ensures steps_caught { IsolatesSteps tells_the_count → ⊥ }
-{}
-
-/// The law of runs can fail: a desk that numbers the appointments of all members together gives a
-/// member another reply where another member appointed before it, of which nothing is shown to it.
-pub fn numbers_over_all_are_caught()
-    ensures apart { TellsRunsApart tells_all_numbers the_member (office_with []) member_appoints
-        both_appoint }
-    ensures caught { IsolatesRuns tells_all_numbers → ⊥ }
-    ensures steps_caught { IsolatesSteps tells_all_numbers → ⊥ }
 {}

@@ -3,7 +3,7 @@ use Rattle.meeting_laws.specs.WrongAnswers.{office_with}
 use Rattle.run_laws.specs.WrongWays.{both_vote, member_votes, tells_the_count, the_member}
 use Rattle.run_laws.proofs.RunLemmas.{runs_isolated}
 use Rattle.run_laws.proofs.WrongRuns.{caught_by, votes_apart}
-use Rattle.run_laws.proofs.running_total_is_caught.Goals as goal
+use Rattle.run_laws.proofs.wrong_ways.running_total_is_caught.Goals as goal
 
 pub returns-clause-apart : goal.returns-clause-apart
 returns-clause-apart c = votes_apart

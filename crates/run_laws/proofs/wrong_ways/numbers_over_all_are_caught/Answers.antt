@@ -3,7 +3,7 @@ use Rattle.meeting_laws.specs.WrongAnswers.{office_with}
 use Rattle.run_laws.specs.WrongWays.{both_appoint, member_appoints, tells_all_numbers, the_member}
 use Rattle.run_laws.proofs.RunLemmas.{runs_isolated}
 use Rattle.run_laws.proofs.WrongRuns.{caught_by, numbers_apart}
-use Rattle.run_laws.proofs.numbers_over_all_are_caught.Goals as goal
+use Rattle.run_laws.proofs.wrong_ways.numbers_over_all_are_caught.Goals as goal
 
 pub returns-clause-apart : goal.returns-clause-apart
 returns-clause-apart c = numbers_apart

@@ -1,0 +1,14 @@
+use Rattle.run_laws.specs.WrongTellings.{both_authorise, limits_all, meeting_with_authorities, member_authorises, office_of}
+use Rattle.run_laws.specs.WrongWays.{the_member}
+use Rattle.run_laws.proofs.RunLemmas.{runs_isolated}
+use Rattle.run_laws.proofs.WrongRuns.{caught_by, limits_apart}
+use Rattle.run_laws.proofs.wrong_ways.limits_over_all_are_caught.Goals as goal
+
+pub returns-clause-apart : goal.returns-clause-apart
+returns-clause-apart c = limits_apart
+
+pub returns-clause-caught : goal.returns-clause-caught
+returns-clause-caught c = caught_by limits_all the_member (office_of meeting_with_authorities) member_authorises both_authorise limits_apart
+
+pub returns-clause-steps_caught : goal.returns-clause-steps_caught
+returns-clause-steps_caught c = λ steps. caught_by limits_all the_member (office_of meeting_with_authorities) member_authorises both_authorise limits_apart (runs_isolated limits_all steps)

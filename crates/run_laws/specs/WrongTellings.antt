@@ -1,0 +1,167 @@
+-- More wrong ways to decide calls: each tells a party something that others did.
+use Rattle.std.specs.Prelude.{ℕ, zero, suc, Bool, false, nat_le, List, [], ◌∷◌, filter, length, codes, Option, Some, None, if◌then◌else◌}
+use Rattle.desk_terms.specs.Names.{in_places, same_name}
+use Rattle.desk_terms.specs.declared.kinds.Capacity.TheVariants.{Proxy}
+use Rattle.desk_terms.specs.declared.kinds.Instr.TheVariants.{Free}
+use Rattle.desk_terms.specs.declared.kinds.Way.TheVariants.{For}
+use Rattle.desk_terms.specs.declared.refusal.Refusal.TheVariants.{TooMany}
+use Rattle.desk_words.specs.Rulings.{refused}
+use Rattle.desk_words.specs.Seen.{Day, Moment, Number, Party}
+use Rattle.desk_words.specs.declared.answer.Answer.{Answer}
+use Rattle.desk_words.specs.declared.change.Change.{Change}
+use Rattle.desk_words.specs.declared.limits.TheConstants.{MOST_AUTHORITIES}
+use Rattle.desk_words.specs.declared.office.MeetingLists.{MeetingLists}
+use Rattle.desk_words.specs.declared.office.OfficeLists.{OfficeLists}
+use Rattle.desk_words.specs.declared.records.Authority.{Authority}
+use Rattle.desk_words.specs.declared.records.CastKind.{CastKind}
+use Rattle.desk_words.specs.declared.records.CastKind.TheVariants.{AsInstructed, Block}
+use Rattle.desk_words.specs.declared.records.CastMark.{CastMark}
+use Rattle.desk_words.specs.declared.reply.Reply.{Reply}
+use Rattle.desk_words.specs.declared.reply.Reply.TheVariants as reply
+use Rattle.desk_words.specs.declared.request.Call.{Call}
+use Rattle.desk_words.specs.declared.request.PartyRequest.{PartyRequest}
+use Rattle.desk_words.specs.declared.request.PartyRequest.TheVariants.{Authorise, Cast, Demand, Mine}
+use Rattle.desk_words.specs.declared.request.Request.TheVariants as asked
+use Rattle.caller_view.specs.Views.{meeting_at}
+use Rattle.office_answers.specs.Attendance.{demand_in}
+use Rattle.meeting_laws.specs.Loads.{Deciding}
+use Rattle.meeting_laws.specs.Worlds.{Answering, party_answer}
+use Rattle.meeting_laws.specs.WrongAnswers.{a_member, another, meeting_with, one_share}
+use Rattle.run_laws.specs.WrongWays.{call_by, deciding_by}
+
+-- an office of one meeting
+abbrev pub office_of : MeetingLists → OfficeLists
+office_of m = record { keys = []; closed = []; meetings = m ∷ [] }
+
+-- ---- whether the demands are enough
+
+-- where a demand is noted, the reply tells whether those before it are enough (section 321)
+abbrev pub told_whether_enough : Option MeetingLists → List Day → Moment → Number → Reply → Reply
+told_whether_enough (Some m) closed now resolution reply.Noted =
+    if (demand_in m closed now resolution).reached then reply.Same else reply.Noted
+told_whether_enough found closed now resolution other = other
+
+-- a party that demands a poll is answered so
+abbrev pub enough_demands : Answering
+enough_demands office party now (asked.Party meeting (Demand resolution)) =
+    let right = party_answer office party now (asked.Party meeting (Demand resolution)) in record right {
+      reply = told_whether_enough (meeting_at office meeting) office.closed now resolution
+          right.reply;
+    }
+enough_demands office party now request = party_answer office party now request
+
+-- the third wrong way: a party is told whether enough others demanded the poll
+abbrev pub tells_whether_enough : Deciding
+tells_whether_enough = deciding_by enough_demands
+
+-- a meeting of the member, who has one share of 101, and of the other member, where both are
+-- present and no poll is ordered
+abbrev pub meeting_of_unequals : MeetingLists
+meeting_of_unequals = record (meeting_with []) {
+  register = record (one_share a_member) { paid = 1 }
+      ∷ record (one_share another) { shares = 100; paid = 1 } ∷ [];
+  presences = record { party = a_member; moment = 0 } ∷ record { party = another; moment = 0 } ∷ [];
+  polls = [];
+}
+
+-- the member demands the poll
+abbrev pub member_demands : List Call
+member_demands = call_by a_member (Demand 1) ∷ []
+
+-- the other member demands it, and then the member
+abbrev pub both_demand : List Call
+both_demand = call_by another (Demand 1) ∷ member_demands
+
+-- ---- whether others voted on the party's shares
+
+-- the vote is on shares of the party
+abbrev pub is_block_on : Party → CastKind → Bool
+is_block_on party (Block block) = same_name block.member party
+is_block_on party AsInstructed = false
+
+-- among its own things the party is told the votes on its shares, whoever cast them
+abbrev pub told_votes_on : Option MeetingLists → Party → Reply → Reply
+told_votes_on (Some m) party (reply.Mine mine) =
+    reply.Mine
+    (record mine { casts = filter (λ (c : CastMark). is_block_on party c.what) m.casts })
+told_votes_on found party other = other
+
+-- a party that asks for its own things is answered so
+abbrev pub votes_on_shares : Answering
+votes_on_shares office party now (asked.Party meeting Mine) =
+    let right = party_answer office party now (asked.Party meeting Mine) in record right {
+      reply = told_votes_on (meeting_at office meeting) party right.reply;
+    }
+votes_on_shares office party now request = party_answer office party now request
+
+-- the fourth wrong way: a member is told that somebody voted on its shares
+abbrev pub tells_votes_on_shares : Deciding
+tells_votes_on_shares = deciding_by votes_on_shares
+
+-- the meeting where the member appointed the other member
+abbrev pub meeting_with_proxy : MeetingLists
+meeting_with_proxy = record (meeting_with []) {
+  appointments = record {
+    member = a_member;
+    number = 1;
+    proxy = another;
+    range = record { from = 1; to = 1 };
+    instructions = Free ∷ [];
+    moment = 0;
+  } ∷ [];
+}
+
+-- the member asks for its own things
+abbrev pub member_asks : List Call
+member_asks = call_by a_member Mine ∷ []
+
+-- the vote of the other member as the member's proxy
+abbrev pub proxy_vote : PartyRequest
+proxy_vote =
+    Cast
+    (record { resolution = 1; capacity = Proxy; member = a_member; from = 1; to = 1; way = For })
+
+-- the proxy votes, and then the member asks
+abbrev pub proxy_votes_first : List Call
+proxy_votes_first = call_by another proxy_vote ∷ member_asks
+
+-- ---- limits over all
+
+-- an authority is refused where all parties together gave as many as one may
+abbrev pub counted_over_all : Option MeetingLists → Answer Change → Answer Change
+counted_over_all None right = right
+counted_over_all (Some m) right =
+    if nat_le MOST_AUTHORITIES (length m.authorities) then refused TooMany else right
+
+-- a party that authorises a person is answered so
+abbrev pub limit_over_all : Answering
+limit_over_all office party now (asked.Party meeting (Authorise person)) =
+    counted_over_all (meeting_at office meeting)
+    (party_answer office party now (asked.Party meeting (Authorise person)))
+limit_over_all office party now request = party_answer office party now request
+
+-- the fifth wrong way: the authorities of all parties are counted against the limit of each
+abbrev pub limits_all : Deciding
+limits_all = deciding_by limit_over_all
+
+-- so many authorities of the other member
+abbrev pub authorities_to : ℕ → List Authority
+authorities_to zero = []
+authorities_to (suc n) =
+    record { corporation = another; person = n ∷ []; moment = 0 } ∷ authorities_to n
+
+-- the meeting where the other member gave 63 authorities
+abbrev pub meeting_with_authorities : MeetingLists
+meeting_with_authorities = record (meeting_with []) { authorities = authorities_to 63 }
+
+-- a party authorises a third party
+abbrev pub authorises_third : PartyRequest
+authorises_third = Authorise (in_places 16 (codes "C"))
+
+-- the member authorises a third party
+abbrev pub member_authorises : List Call
+member_authorises = call_by a_member authorises_third ∷ []
+
+-- the other member does, and then the member
+abbrev pub both_authorise : List Call
+both_authorise = call_by another authorises_third ∷ member_authorises

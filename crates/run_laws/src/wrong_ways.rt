@@ -1,0 +1,52 @@
+//! Wrong ways to decide calls, which the law of runs refuses: each gives a member another reply
+//! where another member did something before, of which nothing is shown to it.
+ghost use Rattle.std.specs.Prelude.{[]};
+ghost use Rattle.meeting_laws.specs.WrongAnswers.{office_with};
+ghost use Rattle.run_laws.specs.Isolation.{IsolatesRuns, IsolatesSteps};
+ghost use Rattle.run_laws.specs.WrongTellings.{both_authorise, both_demand, limits_all, meeting_of_unequals, meeting_with_authorities, meeting_with_proxy, member_asks, member_authorises, member_demands, office_of, proxy_votes_first, tells_votes_on_shares, tells_whether_enough};
+ghost use Rattle.run_laws.specs.WrongWays.{TellsRunsApart, both_appoint, both_vote, member_appoints, member_votes, tells_all_numbers, tells_the_count, the_member};
+
+/// A desk that tells a voter how the votes stood gives a member another reply where another member
+/// voted before it.
+pub fn running_total_is_caught()
+    ensures apart { TellsRunsApart tells_the_count the_member (office_with []) member_votes
+        both_vote }
+    ensures caught { IsolatesRuns tells_the_count → ⊥ }
+    ensures steps_caught { IsolatesSteps tells_the_count → ⊥ }
+{}
+
+/// A desk that numbers the appointments of all members together gives a member another reply where
+/// another member appointed before it.
+pub fn numbers_over_all_are_caught()
+    ensures apart { TellsRunsApart tells_all_numbers the_member (office_with []) member_appoints
+        both_appoint }
+    ensures caught { IsolatesRuns tells_all_numbers → ⊥ }
+    ensures steps_caught { IsolatesSteps tells_all_numbers → ⊥ }
+{}
+
+/// A desk that tells a party which demands a poll whether others demanded enough gives a member
+/// another reply where another member demanded the poll before it.
+pub fn told_demands_are_caught()
+    ensures apart { TellsRunsApart tells_whether_enough the_member (office_of meeting_of_unequals)
+        member_demands both_demand }
+    ensures caught { IsolatesRuns tells_whether_enough → ⊥ }
+    ensures steps_caught { IsolatesSteps tells_whether_enough → ⊥ }
+{}
+
+/// A desk that tells a member the votes on its shares, whoever cast them, gives it another reply
+/// where its proxy voted before.
+pub fn votes_on_shares_are_caught()
+    ensures apart { TellsRunsApart tells_votes_on_shares the_member (office_of meeting_with_proxy)
+        member_asks proxy_votes_first }
+    ensures caught { IsolatesRuns tells_votes_on_shares → ⊥ }
+    ensures steps_caught { IsolatesSteps tells_votes_on_shares → ⊥ }
+{}
+
+/// A desk that counts the authorities of all parties against the limit of each refuses a member
+/// where another member authorised a person before it.
+pub fn limits_over_all_are_caught()
+    ensures apart { TellsRunsApart limits_all the_member (office_of meeting_with_authorities)
+        member_authorises both_authorise }
+    ensures caught { IsolatesRuns limits_all → ⊥ }
+    ensures steps_caught { IsolatesSteps limits_all → ⊥ }
+{}
