@@ -1,19 +1,29 @@
 -- What is wrong with wrong ways to decide calls is caught by the law of runs.
-use Rattle.std.proofs.Common.{◌≡◌, ℕ, Bool, true, false, cond, List, [], ◌∷◌, length, refl, ap, sym, arith, true≢false}
+use Rattle.std.proofs.Common.{◌∙◌, subst, ◌≡◌, ℕ, Bool, true, false, cond, List, [], ◌∷◌, length, refl, ap, sym, arith, true≢false}
 use Rattle.std.specs.Prelude.{Some, None}
+use Rattle.std.specs.Option.{option_map_or}
+use Rattle.std.proofs.Math.Bool.{or-false}
 use Rattle.desk_terms.specs.Names.{same_name}
+use Rattle.desk_words.proofs.RowLemmas.{same_name-true}
+use Rattle.desk_words.specs.Changes.{changed}
+use Rattle.desk_words.specs.declared.change.MeetingChange.TheVariants.{SetRegister}
 use Rattle.desk_words.specs.declared.office.MeetingLists.{MeetingLists}
 use Rattle.desk_words.specs.declared.office.OfficeLists.{OfficeLists}
+use Rattle.desk_words.specs.declared.records.RegisterRow.{RegisterRow}
 use Rattle.desk_words.specs.declared.reply.Reply.{Reply}
 use Rattle.desk_words.specs.declared.reply.Reply.TheVariants as reply
 use Rattle.desk_words.specs.declared.request.Call.{Call}
+use Rattle.desk_words.specs.declared.request.PartyRequest.TheVariants.{Mine}
+use Rattle.proxy_rules.specs.Shares.{row_of}
+use Rattle.caller_view.specs.Views.{public_in, public_of}
 use Rattle.office_days.specs.Days.{greatest_that, numbers_that}
-use Rattle.meeting_laws.specs.Loads.{Deciding}
-use Rattle.meeting_laws.specs.WrongAnswers.{a_meeting, meeting_with, office_with}
+use Rattle.meeting_laws.specs.Loads.{Deciding, after_call}
+use Rattle.meeting_laws.specs.WrongAnswers.{a_meeting, a_member, another, meeting_with, office_with, one_share}
 use Rattle.run_laws.specs.Isolation.{Alike, IsolatesRuns}
-use Rattle.run_laws.specs.Parts.{IsSourced, Viewer, is_sourced_in}
-use Rattle.run_laws.specs.WrongTellings.{both_authorise, both_demand, limits_all, meeting_of_unequals, meeting_with_authorities, meeting_with_proxy, member_asks, member_authorises, member_demands, office_of, proxy_votes_first, tells_votes_on_shares, tells_whether_enough}
-use Rattle.run_laws.specs.WrongWays.{TellsRunsApart, both_appoint, both_vote, member_appoints, member_votes, tells_all_numbers, tells_the_count, the_member}
+use Rattle.run_laws.specs.Parts.{IsSourced, Viewer, is_near, is_sourced_in, rows_near}
+use Rattle.run_laws.specs.WrongTellings.{load_of, loaded_alone, loaded_both, meeting_unloaded, tells_the_place, the_other, both_authorise, both_demand, limits_all, meeting_of_unequals, meeting_with_authorities, meeting_with_proxy, member_asks, member_authorises, member_demands, office_of, proxy_votes_first, tells_votes_on_shares, tells_whether_enough}
+use Rattle.run_laws.specs.Traces.{Office, Register, Whole}
+use Rattle.run_laws.specs.WrongWays.{call_by, TellsRunsApart, both_appoint, both_vote, member_appoints, member_votes, tells_all_numbers, tells_the_count, the_member}
 
 -- nobody named or authorised the member in the office
 sourced : IsSourced the_member (office_with [])
@@ -103,6 +113,50 @@ limits_apart = record {
   near_again = refl;
   same = refl;
   apart = λ h. (let told : false ≡ true = ap is_refusal h in absurd (true≢false (sym told)));
+}
+
+-- ---- a place in the register
+
+-- nobody named or authorised the other member in the meeting before its register is loaded
+sourced_other : IsSourced the_other (office_of meeting_unloaded)
+sourced_other id =
+    elim (same_name a_meeting id) as (λ b. is_sourced_in the_other (cond b (Some meeting_unloaded) None) ≡ true) [ true ↦ refl | false ↦ refl ]
+
+-- the rows near the other member are the same, whether the member's row stands before its own or not
+rows-same : (member : List ℕ) → rows_near the_other (one_share another ∷ []) member ≡ rows_near the_other (one_share a_member ∷ one_share another ∷ []) member
+rows-same member =
+    let alone = one_share another ∷ [] in
+    let both = one_share a_member ∷ one_share another ∷ [] in
+    (elim (is_near the_other member) as (λ b. is_near the_other member ≡ b → cond b (row_of alone member) None ≡ cond b (row_of both member) None) [
+      | true ↦ λ is. (
+          let name : member ≡ another = same_name-true member another (sym (or-false (same_name member another)) ∙ is) in
+          subst (λ who. row_of alone who ≡ row_of both who) (sym name) refl)
+      | false ↦ λ far. refl
+    ]) refl
+
+-- and so is what is public
+abbrev after_load : List RegisterRow → OfficeLists
+after_load rows = after_call tells_the_place (office_of meeting_unloaded) (load_of rows)
+
+public-same : (id : List ℕ) → public_of (after_load (one_share another ∷ [])) id ≡ public_of (after_load (one_share a_member ∷ one_share another ∷ [])) id
+public-same id =
+    let alone = changed (SetRegister (one_share another ∷ [])) meeting_unloaded in
+    let both = changed (SetRegister (one_share a_member ∷ one_share another ∷ [])) meeting_unloaded in
+    elim (same_name a_meeting id) as (λ b. public_in (cond b (Some alone) None) [] ≡ public_in (cond b (Some both) None) []) [ true ↦ refl | false ↦ refl ]
+
+-- the place that the last reply tells
+abbrev place_told : List Reply → ℕ
+place_told (reply.Mine mine ∷ replies) = option_map_or (λ (row : RegisterRow). row.paid) mine.row 0
+place_told other = 0
+
+pub place_apart : TellsRunsApart tells_the_place the_other (office_of meeting_unloaded) loaded_alone loaded_both
+place_apart = record {
+  is_one = refl;
+  alike = record { parts = λ id. refl; first = sourced_other; second = sourced_other };
+  near = refl;
+  near_again = refl;
+  same = λ i. Office (Register a_meeting 0 0 (λ member. rows-same member i)) (λ id. public-same id i) ∷ Whole (call_by another Mine) ∷ [];
+  apart = λ h. (let told : 1 ≡ 2 = ap place_told h in absurd (omega arith));
 }
 
 -- what tells two such lists apart breaks the law

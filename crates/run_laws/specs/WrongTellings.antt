@@ -1,13 +1,15 @@
 -- More wrong ways to decide calls: each tells a party something that others did.
-use Rattle.std.specs.Prelude.{ℕ, zero, suc, Bool, false, nat_le, List, [], ◌∷◌, filter, length, codes, Option, Some, None, if◌then◌else◌}
+use Rattle.std.specs.Prelude.{ℕ, zero, suc, Bool, false, nat_le, List, [], ◌∷◌, filter, length, codes, Option, Some, None, option_map, if◌then◌else◌}
 use Rattle.desk_terms.specs.Names.{in_places, same_name}
 use Rattle.desk_terms.specs.declared.kinds.Capacity.TheVariants.{Proxy}
 use Rattle.desk_terms.specs.declared.kinds.Instr.TheVariants.{Free}
 use Rattle.desk_terms.specs.declared.kinds.Way.TheVariants.{For}
 use Rattle.desk_terms.specs.declared.refusal.Refusal.TheVariants.{TooMany}
+use Rattle.desk_words.specs.Changes.{new_lists}
 use Rattle.desk_words.specs.Rulings.{refused}
 use Rattle.desk_words.specs.Seen.{Day, Moment, Number, Party}
 use Rattle.desk_words.specs.declared.answer.Answer.{Answer}
+use Rattle.desk_words.specs.declared.caller.Caller.TheVariants as caller
 use Rattle.desk_words.specs.declared.change.Change.{Change}
 use Rattle.desk_words.specs.declared.limits.TheConstants.{MOST_AUTHORITIES}
 use Rattle.desk_words.specs.declared.office.MeetingLists.{MeetingLists}
@@ -16,9 +18,11 @@ use Rattle.desk_words.specs.declared.records.Authority.{Authority}
 use Rattle.desk_words.specs.declared.records.CastKind.{CastKind}
 use Rattle.desk_words.specs.declared.records.CastKind.TheVariants.{AsInstructed, Block}
 use Rattle.desk_words.specs.declared.records.CastMark.{CastMark}
+use Rattle.desk_words.specs.declared.records.RegisterRow.{RegisterRow}
 use Rattle.desk_words.specs.declared.reply.Reply.{Reply}
 use Rattle.desk_words.specs.declared.reply.Reply.TheVariants as reply
 use Rattle.desk_words.specs.declared.request.Call.{Call}
+use Rattle.desk_words.specs.declared.request.OfficeRequest.TheVariants.{LoadRegister}
 use Rattle.desk_words.specs.declared.request.PartyRequest.{PartyRequest}
 use Rattle.desk_words.specs.declared.request.PartyRequest.TheVariants.{Authorise, Cast, Demand, Mine}
 use Rattle.desk_words.specs.declared.request.Request.TheVariants as asked
@@ -26,7 +30,8 @@ use Rattle.caller_view.specs.Views.{meeting_at}
 use Rattle.office_answers.specs.Attendance.{demand_in}
 use Rattle.meeting_laws.specs.Loads.{Deciding}
 use Rattle.meeting_laws.specs.Worlds.{Answering, party_answer}
-use Rattle.meeting_laws.specs.WrongAnswers.{a_member, another, meeting_with, one_share}
+use Rattle.meeting_laws.specs.WrongAnswers.{a_meeting, a_member, another, meeting_with, one_share, opened_meeting}
+use Rattle.run_laws.specs.Parts.{Viewer}
 use Rattle.run_laws.specs.WrongWays.{call_by, deciding_by}
 
 -- an office of one meeting
@@ -165,3 +170,61 @@ member_authorises = call_by a_member authorises_third ∷ []
 -- the other member does, and then the member
 abbrev pub both_authorise : List Call
 both_authorise = call_by another authorises_third ∷ member_authorises
+
+-- ---- how many others stand before the party in the register
+
+-- the place of a party's row in a register, from 1
+abbrev pub place_in : Party → List RegisterRow → ℕ
+place_in party [] = 0
+place_in party (row ∷ rows) =
+    if same_name row.member party then 1 else suc (place_in party rows)
+
+-- among its own things the party is told the place of its row, in place of what is paid up
+abbrev pub told_place : Option MeetingLists → Party → Reply → Reply
+told_place (Some m) party (reply.Mine mine) =
+    reply.Mine
+    (record mine {
+      row = option_map (λ (row : RegisterRow). record row { paid = place_in party m.register })
+          mine.row;
+    })
+told_place found party other = other
+
+-- a party that asks for its own things is answered so
+abbrev pub place_of_row : Answering
+place_of_row office party now (asked.Party meeting Mine) =
+    let right = party_answer office party now (asked.Party meeting Mine) in record right {
+      reply = told_place (meeting_at office meeting) party right.reply;
+    }
+place_of_row office party now request = party_answer office party now request
+
+-- the sixth wrong way: a member is told where it stands in the register
+abbrev pub tells_the_place : Deciding
+tells_the_place = deciding_by place_of_row
+
+-- the meeting before its register is loaded
+abbrev pub meeting_unloaded : MeetingLists
+meeting_unloaded = new_lists (record opened_meeting { loaded = false; opened = None })
+
+-- the other member, whom nobody names or authorises
+abbrev pub the_other : Viewer
+the_other = record { party = another; sources = [] }
+
+-- the office loads a register of these rows
+abbrev pub load_of : List RegisterRow → Call
+load_of rows = record {
+  moment = 0;
+  caller = caller.Office;
+  request = asked.Office a_meeting (LoadRegister (record { record_moment = 0; rows = rows }));
+}
+
+-- the other member asks for its own things
+abbrev pub other_asks : List Call
+other_asks = call_by another Mine ∷ []
+
+-- a register of the other member's row alone is loaded, and then it asks
+abbrev pub loaded_alone : List Call
+loaded_alone = load_of (one_share another ∷ []) ∷ other_asks
+
+-- a register of the rows of both is loaded, and then the other member asks
+abbrev pub loaded_both : List Call
+loaded_both = load_of (one_share a_member ∷ one_share another ∷ []) ∷ other_asks

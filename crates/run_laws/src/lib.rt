@@ -8,8 +8,8 @@ ghost use Rattle.meeting_core.specs.Step.{decided};
 ghost use Rattle.run_laws.specs.Isolation.{IsolatesCalls, IsolatesSteps, RunsAreTheDesks, StepsIsolateRuns};
 
 pub use wrong_ways::{
-    limits_over_all_are_caught, numbers_over_all_are_caught, running_total_is_caught,
-    told_demands_are_caught, votes_on_shares_are_caught,
+    limits_over_all_are_caught, numbers_over_all_are_caught, places_in_the_register_are_caught,
+    running_total_is_caught, told_demands_are_caught, votes_on_shares_are_caught,
 };
 
 /// What others do changes no reply to a party but by what the trace of the calls shows it. The

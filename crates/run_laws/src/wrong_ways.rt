@@ -3,7 +3,7 @@
 ghost use Rattle.std.specs.Prelude.{[]};
 ghost use Rattle.meeting_laws.specs.WrongAnswers.{office_with};
 ghost use Rattle.run_laws.specs.Isolation.{IsolatesRuns, IsolatesSteps};
-ghost use Rattle.run_laws.specs.WrongTellings.{both_authorise, both_demand, limits_all, meeting_of_unequals, meeting_with_authorities, meeting_with_proxy, member_asks, member_authorises, member_demands, office_of, proxy_votes_first, tells_votes_on_shares, tells_whether_enough};
+ghost use Rattle.run_laws.specs.WrongTellings.{loaded_alone, loaded_both, meeting_unloaded, tells_the_place, the_other, both_authorise, both_demand, limits_all, meeting_of_unequals, meeting_with_authorities, meeting_with_proxy, member_asks, member_authorises, member_demands, office_of, proxy_votes_first, tells_votes_on_shares, tells_whether_enough};
 ghost use Rattle.run_laws.specs.WrongWays.{TellsRunsApart, both_appoint, both_vote, member_appoints, member_votes, tells_all_numbers, tells_the_count, the_member};
 
 /// A desk that tells a voter how the votes stood gives a member another reply where another member
@@ -49,4 +49,13 @@ pub fn limits_over_all_are_caught()
         member_authorises both_authorise }
     ensures caught { IsolatesRuns limits_all → ⊥ }
     ensures steps_caught { IsolatesSteps limits_all → ⊥ }
+{}
+
+/// A desk that tells a member the place of its row in the register gives it another reply where the
+/// register that the office loaded has the row of another member before its own.
+pub fn places_in_the_register_are_caught()
+    ensures apart { TellsRunsApart tells_the_place the_other (office_of meeting_unloaded)
+        loaded_alone loaded_both }
+    ensures caught { IsolatesRuns tells_the_place → ⊥ }
+    ensures steps_caught { IsolatesSteps tells_the_place → ⊥ }
 {}
