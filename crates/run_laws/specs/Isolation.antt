@@ -45,8 +45,8 @@ pub record IsolatesSteps (deciding : Deciding) : Type 0 where
       → IsSourced viewer office
       → IsSourced viewer (after_call deciding office call)
 
--- two runs end alike to a viewer: the replies to it are the same, one for one, and the offices after
--- them are one to it
+-- two runs end alike to a viewer: the replies to it are the same, one for one, and the offices
+-- after them are one to it
 pub record EndAlike (deciding : Deciding) (viewer : Viewer) (one other : OfficeLists)
     (calls again : List Call) : Type 0 where
   pub replies : replies_to viewer.party calls (run_by deciding one calls).replies

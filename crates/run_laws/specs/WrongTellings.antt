@@ -7,7 +7,7 @@ use Rattle.desk_terms.specs.declared.kinds.Way.TheVariants.{For}
 use Rattle.desk_terms.specs.declared.refusal.Refusal.TheVariants.{TooMany}
 use Rattle.desk_words.specs.Changes.{new_lists}
 use Rattle.desk_words.specs.Rulings.{refused}
-use Rattle.desk_words.specs.Seen.{Day, Moment, Number, Party}
+use Rattle.desk_words.specs.Seen.{Day, MeetingName, Moment, Number, Party}
 use Rattle.desk_words.specs.declared.answer.Answer.{Answer}
 use Rattle.desk_words.specs.declared.caller.Caller.TheVariants as caller
 use Rattle.desk_words.specs.declared.change.Change.{Change}
@@ -46,13 +46,18 @@ told_whether_enough (Some m) closed now resolution reply.Noted =
     if (demand_in m closed now resolution).reached then reply.Same else reply.Noted
 told_whether_enough found closed now resolution other = other
 
+-- the answer with that reply
+abbrev pub with_demands_told : OfficeLists → MeetingName → Moment → Number → Answer Change
+    → Answer Change
+with_demands_told office meeting now resolution right = record right {
+  reply = told_whether_enough (meeting_at office meeting) office.closed now resolution right.reply;
+}
+
 -- a party that demands a poll is answered so
 abbrev pub enough_demands : Answering
 enough_demands office party now (asked.Party meeting (Demand resolution)) =
-    let right = party_answer office party now (asked.Party meeting (Demand resolution)) in record right {
-      reply = told_whether_enough (meeting_at office meeting) office.closed now resolution
-          right.reply;
-    }
+    with_demands_told office meeting now resolution
+    (party_answer office party now (asked.Party meeting (Demand resolution)))
 enough_demands office party now request = party_answer office party now request
 
 -- the third wrong way: a party is told whether enough others demanded the poll
