@@ -1,8 +1,10 @@
 mod DeskLemmas
 mod FoundLemmas
+mod HiddenLemmas
 mod ListLemmas
 mod OfficeLemmas
 mod PartLemmas
 mod PartyLemmas
 mod RunLemmas
+mod SecretRuns
 mod WrongRuns

@@ -52,7 +52,7 @@ office_after o now request = stepped o (record { moment = now; caller = caller.O
 
 -- ---- what is asked of the whole desk
 
-loaded-either : {C : Type 0} (P : Option C → Type 0) (same : Bool) (change : C) → P None → P (Some change) → P (loaded same change).change
+pub loaded-either : {C : Type 0} (P : Option C → Type 0) (same : Bool) (change : C) → P None → P (Some change) → P (loaded same change).change
 loaded-either P true change none some = none
 loaded-either P false change none some = some
 
@@ -70,7 +70,7 @@ desk-view view o (desk.Keys rows) id same =
 -- ---- what is asked in a meeting
 
 -- what holds of no change, and of the accepted one where the meeting is found, holds of the answer's
-office-change : (P : Option Change → Type 0) (found : Option MeetingLists) (at : List ℕ) (f : MeetingLists → Ruling MeetingChange) → P None
+pub office-change : (P : Option Change → Type 0) (found : Option MeetingLists) (at : List ℕ) (f : MeetingLists → Ruling MeetingChange) → P None
     → ((m : MeetingLists) → P (option_map (InMeeting at) (f m).accepted.change))
     → P (settled (ruled_within (InMeeting at) (in_found found f))).change
 office-change P None at f none some = none

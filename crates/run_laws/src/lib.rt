@@ -2,11 +2,13 @@
 //! it.
 #![tactic(auto)]
 
+mod votes;
 mod wrong_ways;
 
 ghost use Rattle.meeting_core.specs.Step.{decided};
 ghost use Rattle.run_laws.specs.Isolation.{IsolatesCalls, IsolatesSteps, RunsAreTheDesks, StepsIsolateRuns};
 
+pub use votes::secrecy;
 pub use wrong_ways::{
     limits_over_all_are_caught, numbers_over_all_are_caught, places_in_the_register_are_caught,
     running_total_is_caught, told_demands_are_caught, votes_on_shares_are_caught,
