@@ -39,12 +39,12 @@ fn make_desk<S: Alter>(conn: &mut Connection<S>) -> Result<(), Error>
 
 /// Makes the tables of a desk that holds nothing, in one transaction. The fault is `NotEmpty`
 /// exactly where the database has a table, an index or a view. A refusal hands the connection back,
-/// its tables as they were.
+/// its tables as they were. A connection in a transaction is refused, as `NotEmpty` or `Store`, and
+/// is handed back as it was.
 #[tactic(auto, using(crate::proofs::FaultLemmas::never_not_empty))]
 pub fn create<S: Alter + Drop>(
     conn: Connection<S>,
 ) -> Result<Connection<S>, (CreateFault, Connection<S>)>
-    requires { conn.in_transaction ≡ false }
     ensures made { IfOk result (λ made. HasCleanDisk (state S.Store made)
         → Stands (state S.Store made) empty_office) }
     ensures empty { IfOk result (λ _. (state S.Store conn).now.schema ≡ no_schema) }
@@ -56,10 +56,16 @@ pub fn create<S: Alter + Drop>(
     ensures same { IfErr result (λ e. HasCleanDisk (state S.Store e.1)
         → IsTrue (state S.Store e.1).is_open
         → (state S.Store e.1).now ≡ (state S.Store conn).now) }
-    ensures ended { IfErr result (λ e. e.1.in_transaction ≡ false) }
+    ensures ended { IfErr result (λ e. conn.in_transaction ≡ false
+        → e.1.in_transaction ≡ false) }
+    ensures inside { IsTrue conn.in_transaction → IfErr result (λ e. e.1 ≡ conn) }
+    ensures outside { OnOk result (conn.in_transaction ≡ false) }
 {
     if !has_nothing(&conn) {
         return Err((CreateFault::NotEmpty, conn));
+    }
+    if !conn.is_autocommit() {
+        return Err((CreateFault::Store, conn));
     }
     let mut conn = conn;
     match make_desk(&mut conn) {

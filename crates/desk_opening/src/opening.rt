@@ -8,6 +8,7 @@ ghost use Rattle.desk_opening.specs.Opening.{KeepsOffice};
 ghost use Rattle.desk_records.specs.Standing.{HasNoOffice, HasNoVersion, Stands};
 ghost use Rattle.desk_opening.specs.declared.fault.OpenFault.TheVariants.{NotADesk, NewerVersion};
 ghost use Rattle.desk_opening.specs.declared.fault.OpenFault.TheVariants as opening;
+ghost use Rattle.desk_opening.specs.declared.opening.HandedBack.TheVariants as back;
 ghost use Rattle.desk_schema.specs.Statements.{IsDesk};
 ghost use Rattle.desk_schema.specs.Tables.{desk_schema};
 ghost use Rattle.desk_tables.specs.Columns.{HasColumns};
@@ -266,13 +267,13 @@ fn cause_of<S: Alter>(conn: &mut Connection<S>, fault: OpenFault) -> OpenFault
 /// tables is noted, or what those of version 1 hold is no office; over other tables it is so too
 /// where a column that is read does not stand. It is `NewerVersion` only where a later
 /// version is noted, which is asked before the other tables are read. A refusal hands back the
-/// connection, or the store where that could not be read again, its tables as they were. A limit of
-/// steps that was set on the connection is not kept.
+/// connection, or the store where that could not be read again, its tables as they were. A connection
+/// in a transaction is refused as `Store` and handed back as it was. A limit of steps that was set on
+/// the connection is not kept.
 pub fn open<S: Alter + Drop>(
     alloc: Global,
     conn: Connection<S>,
 ) -> Result<(Connection<S>, OfficeLists), (OpenFault, HandedBack<S>)>
-    requires { conn.in_transaction ≡ false }
     ensures stands { IfOk result (λ opened. HasCleanDisk (state S.Store opened.0)
         → (state S.Store opened.0).now.schema ≡ desk_schema
         → Stands (state S.Store opened.0) opened.1) }
@@ -291,8 +292,13 @@ pub fn open<S: Alter + Drop>(
         → (state S.Store conn).now.schema ≡ desk_schema
         → IsCause e.0 (state S.Store conn)) }
     ensures kept { IfErr result (λ e. HandsBack S.Store (state S.Store conn).now.trees e.1) }
-    ensures ended { IfErr result (λ e. IsInNone e.1) }
+    ensures ended { IfErr result (λ e. conn.in_transaction ≡ false → IsInNone e.1) }
+    ensures inside { IsTrue conn.in_transaction
+        → result ≡ Err (opening.Store, back.Connection conn) }
 {
+    if !conn.is_autocommit() {
+        return Err((OpenFault::Store, HandedBack::Connection(conn)));
+    }
     let mut conn = match reopened(alloc, conn) {
         Ok(conn) => conn,
         Err((fault, store)) => return Err((fault, HandedBack::Store(store))),

@@ -32,6 +32,13 @@ impl<S: Alter> Model for Desk<S> {
 }
 
 impl<S: Alter> Desk<S> {
+    /// Nothing is done: a desk is in no transaction, which contracts elsewhere see of it here.
+    pub fn rests(&self)
+        ensures { self.now.in_transaction ≡ false }
+    {
+        let _ = self.conn.is_autocommit();
+    }
+
     /// Hands the connection back. It takes no memory.
     pub fn close(self) -> Connection<S>
         ensures same { result ≡ self }

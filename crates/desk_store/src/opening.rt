@@ -1,9 +1,12 @@
 //! A new desk, and one that was kept.
-ghost use Rattle.std.specs.Prelude.{◌≡◌, ◌≢◌, false, IfErr, IfOk, IsTrue};
+ghost use Rattle.std.specs.Prelude.{◌≡◌, ◌≢◌, false, Err, IfErr, IfOk, IsTrue};
 ghost use Rattle.desk_opening.specs.Opening.{HandsBack, IsCause, IsCleanBack, IsInNone};
 ghost use Rattle.desk_opening.specs.declared.fault.CreateFault.TheVariants.{NotEmpty};
+ghost use Rattle.desk_opening.specs.declared.fault.OpenFault.TheVariants as opening;
+ghost use Rattle.desk_opening.specs.declared.opening.HandedBack.TheVariants as back;
 ghost use Rattle.desk_records.specs.Standing.{Stands};
 ghost use Rattle.desk_schema.specs.Tables.{desk_schema, no_schema};
+ghost use Rattle.desk_tables.specs.Columns.{HasColumns};
 ghost use Rattle.desk_words.specs.Changes.{empty_office};
 ghost use Rattle.desk_words.specs.declared.office.OfficeLists.{OfficeLists};
 ghost use Rattle.sqlite.specs.Held.{state};
@@ -17,12 +20,12 @@ use std::alloc::Global;
 impl<S: Alter + Drop> Desk<S> {
     /// Makes the tables of a desk that holds nothing, in one transaction. The fault is `NotEmpty`
     /// exactly where the database has a table, an index or a view. A refusal hands the connection
-    /// back, its tables as they were.
+    /// back, its tables as they were. A connection in a transaction is refused, as `NotEmpty` or
+    /// `Store`, and is handed back as it was.
     pub fn create(
         alloc: Global,
         conn: Connection<S>,
     ) -> Result<Desk<S>, (CreateFault, Connection<S>)>
-        requires { conn.in_transaction ≡ false }
         ensures made { IfOk result (λ desk. HasCleanDisk (state S.Store desk)
             → Stands (state S.Store desk) empty_office) }
         ensures empty { IfOk result (λ _. (state S.Store conn).now.schema ≡ no_schema) }
@@ -33,7 +36,9 @@ impl<S: Alter + Drop> Desk<S> {
         ensures same { IfErr result (λ e. HasCleanDisk (state S.Store e.1)
             → IsTrue (state S.Store e.1).is_open
             → (state S.Store e.1).now ≡ (state S.Store conn).now) }
-        ensures ended { IfErr result (λ e. e.1.in_transaction ≡ false) }
+        ensures ended { IfErr result (λ e. conn.in_transaction ≡ false
+            → e.1.in_transaction ≡ false) }
+        ensures inside { IsTrue conn.in_transaction → IfErr result (λ e. e.1 ≡ conn) }
     {
         match desk_opening::create(conn) {
             Ok(conn) => Ok(Desk { conn, alloc }),
@@ -46,10 +51,10 @@ impl<S: Alter + Drop> Desk<S> {
     /// of version 1 hold is no office; over other tables it is so too where a column that is read
     /// does not stand. It is `NewerVersion` only where a later version is noted, which is asked
     /// before the other tables are read. A refusal hands back the connection, or the store where
-    /// that could not be read again, its tables as they were. A limit of steps that was set on the
-    /// connection is not kept.
+    /// that could not be read again, its tables as they were. A connection in a transaction is refused as
+    /// `Store` and handed back as it was. A limit of steps that was set on the connection is not
+    /// kept.
     pub fn open(alloc: Global, conn: Connection<S>) -> Result<Desk<S>, (OpenFault, HandedBack<S>)>
-        requires { conn.in_transaction ≡ false }
         ensures stands { IfOk result (λ desk. HasCleanDisk (state S.Store desk)
             → (state S.Store conn).now.schema ≡ desk_schema
             → (office : OfficeLists) × Stands (state S.Store desk) office) }
@@ -59,11 +64,17 @@ impl<S: Alter + Drop> Desk<S> {
         ensures same { IfOk result (λ desk. HasCleanDisk (state S.Store desk)
             → (state S.Store conn).now.schema ≡ desk_schema
             → (state S.Store desk).now.trees ≡ (state S.Store conn).now.trees) }
+        ensures is_open { IfOk result (λ desk. HasCleanDisk (state S.Store desk)
+            → IsTrue (state S.Store desk).is_open) }
+        ensures columns { IfOk result (λ desk. HasCleanDisk (state S.Store desk)
+            → HasColumns (state S.Store desk).now.schema) }
         ensures cause { IfErr result (λ e. IsCleanBack S.Store e.1
             → (state S.Store conn).now.schema ≡ desk_schema
             → IsCause e.0 (state S.Store conn)) }
         ensures kept { IfErr result (λ e. HandsBack S.Store (state S.Store conn).now.trees e.1) }
-        ensures ended { IfErr result (λ e. IsInNone e.1) }
+        ensures ended { IfErr result (λ e. conn.in_transaction ≡ false → IsInNone e.1) }
+        ensures inside { IsTrue conn.in_transaction
+            → result ≡ Err (opening.Store, back.Connection conn) }
     {
         match desk_opening::open(alloc, conn) {
             Ok((conn, _)) => Ok(Desk { conn, alloc }),

@@ -3,6 +3,7 @@ ghost use Rattle.std.specs.Prelude.{◌≡◌, ◌≢◌, false, IfErr, IfOk, Is
 ghost use Rattle.desk_endings.specs.Endings.{ended_by, ended_view};
 ghost use Rattle.desk_records.specs.Standing.{Stands};
 ghost use Rattle.desk_schema.specs.Tables.{desk_schema};
+ghost use Rattle.desk_tables.specs.Columns.{HasColumns};
 ghost use Rattle.desk_tasks.specs.Desks.{Creates, EndsUnopened, file_fault, open_fault};
 ghost use Rattle.desk_words.specs.declared.office.OfficeLists.{OfficeLists};
 ghost use Rattle.sqlite.specs.Held.{state};
@@ -15,14 +16,13 @@ use std::alloc::Global;
 
 /// Makes a new desk in a database that holds nothing, and ends with status 0 and `created`. It ends
 /// with 3 and `NotEmpty` where the database has a table, an index or a view, and with 3 and `Store`
-/// or `Memory` where it fails. The connection is handed back, in no transaction; with any other
-/// status than 0 its tables are as they were.
+/// or `Memory` where it fails, or the connection is in a transaction. The connection is handed back,
+/// in no transaction where it was in none; with any other status than 0 its tables are as they were.
 pub fn init<S: Alter + Drop>(alloc: Global, conn: Connection<S>) -> (Ended, Connection<S>)
-    requires { conn.in_transaction ≡ false }
     ensures creates { Creates (state S.Store conn) (state S.Store result.1) (ended_view result.0) }
     ensures same { HasCleanDisk (state S.Store result.1) → IsTrue (state S.Store result.1).is_open
         → result.0.status ≢ 0 → (state S.Store result.1).now ≡ (state S.Store conn).now }
-    ensures ended { result.1.in_transaction ≡ false }
+    ensures ended { conn.in_transaction ≡ false → result.1.in_transaction ≡ false }
 {
     match Desk::create(alloc, conn) {
         Ok(desk) => (Ended::told("created"), desk.close()),
@@ -47,13 +47,16 @@ fn by_open(fault: OpenFault) -> Ended
 /// Opens the desk that a database holds. Where it holds none the program ends with status 3 and the
 /// fault, and what was opened is let go.
 pub fn open<S: Alter + Drop>(alloc: Global, conn: Connection<S>) -> Result<Desk<S>, Ended>
-    requires { conn.in_transaction ≡ false }
     ensures stands { IfOk result (λ desk. HasCleanDisk (state S.Store desk)
         → (state S.Store desk).now.schema ≡ desk_schema
         → (office : OfficeLists) × Stands (state S.Store desk) office) }
     ensures same { IfOk result (λ desk. HasCleanDisk (state S.Store desk)
         → (state S.Store conn).now.schema ≡ desk_schema
         → (state S.Store desk).now.trees ≡ (state S.Store conn).now.trees) }
+    ensures is_open { IfOk result (λ desk. HasCleanDisk (state S.Store desk)
+        → IsTrue (state S.Store desk).is_open) }
+    ensures columns { IfOk result (λ desk. HasCleanDisk (state S.Store desk)
+        → HasColumns (state S.Store desk).now.schema) }
     ensures fault { IfErr result (λ ended. EndsUnopened (ended_view ended)) }
 {
     match Desk::open(alloc, conn) {

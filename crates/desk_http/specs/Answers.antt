@@ -1,0 +1,74 @@
+-- What is replied to what was received, and which call is made of it.
+use Rattle.std.specs.Prelude.{◌≡◌, ◌⊎◌, Option, Some, None, Result, Ok, Err}
+use Rattle.sqlite.specs.State.{State, HasCleanDisk}
+use Rattle.desk_terms.specs.declared.refusal.Refusal.TheVariants.{Key}
+use Rattle.desk_words.specs.Seen.{Moment}
+use Rattle.desk_words.specs.declared.caller.Caller.{Caller}
+use Rattle.desk_words.specs.declared.office.OfficeLists.{OfficeLists}
+use Rattle.desk_words.specs.declared.reply.Reply.{Reply}
+use Rattle.desk_words.specs.declared.reply.Reply.TheVariants as reply
+use Rattle.desk_words.specs.declared.request.Call.{Call}
+use Rattle.desk_words.specs.declared.request.Request.{Request}
+use Rattle.desk_replies.specs.Replies.{reply_bytes}
+use Rattle.desk_requests.specs.declared.received.Received.{Received}
+use Rattle.desk_requests.specs.declared.received.Received.TheVariants.{Refused, With}
+use Rattle.desk_requests.specs.declared.received.Unheard.{Unheard}
+use Rattle.desk_requests.specs.declared.received.Unheard.TheVariants as unheard
+use Rattle.desk_routes.specs.Statuses.{reply_status}
+use Rattle.desk_records.specs.Standing.{Stands}
+use Rattle.desk_store.specs.Joins.{Leaves}
+use Rattle.desk_store.specs.Reads.{caller_with}
+use Rattle.meeting_core.specs.Step.{decided}
+use Rattle.desk_http.specs.declared.answers.Answered.{Answered}
+
+-- the call that a caller makes by what was heard, at a moment; nobody makes one, and none is made
+-- by what was not heard
+abbrev pub call_of : Moment → Option Caller → Result Request Unheard → Option Call
+call_of now None heard = None
+call_of now (Some who) (Ok request) =
+    Some (record { moment = now; caller = who; request = request })
+call_of now (Some who) (Err why) = None
+
+-- the call that is made of what was received: that of the caller whose key it is
+abbrev pub call_in : OfficeLists → Moment → Received → Option Call
+call_in office now (Refused refusal) = None
+call_in office now (With key heard) = call_of now (caller_with office.keys key) heard
+
+-- what was not heard is refused; want of memory and a source that failed have no reply
+abbrev pub unheard_reply : Unheard → Option Reply
+unheard_reply (unheard.Refused refusal) = Some (reply.Refused refusal)
+unheard_reply unheard.Memory = None
+unheard_reply unheard.Failed = None
+
+-- the reply to a caller: to nobody `Key`, whatever was heard, and to a request what is decided
+abbrev pub reply_of : OfficeLists → Moment → Option Caller → Result Request Unheard → Option Reply
+reply_of office now None heard = Some (reply.Refused Key)
+reply_of office now (Some who) (Ok request) =
+    Some (decided office (record { moment = now; caller = who; request = request })).reply
+reply_of office now (Some who) (Err why) = unheard_reply why
+
+-- the reply to what was received: what is refused as it came, whoever sent it, or the reply to the
+-- caller whose key it is
+abbrev pub reply_in : OfficeLists → Moment → Received → Option Reply
+reply_in office now (Refused refusal) = Some (reply.Refused refusal)
+reply_in office now (With key heard) = reply_of office now (caller_with office.keys key) heard
+
+-- it is that reply, as it is sent
+abbrev pub Shows : Reply → Answered → Type 0
+Shows reply a = (a.status ≡ reply_status reply) × (a.body.items ≡ reply_bytes reply)
+
+-- there is such a reply, and it is that one, as it is sent
+abbrev pub IsAnswer : Option Reply → Answered → Type 0
+IsAnswer found a = (reply : Reply) × (found ≡ Some reply) × Shows reply a
+
+-- the call, if it was answered
+abbrev pub if_ok : {T E : Type 0} → Result T E → Option Call → Option Call
+if_ok (Ok x) call = call
+if_ok (Err e) call = None
+
+-- a call was made, or none: the one that the office for which the tables stood lets be made, or none
+pub record Makes (call : OfficeLists → Option Call) (old new : State) : Type 0 where
+  pub made : Option Call
+  pub leaves : Leaves made old new
+  pub by : HasCleanDisk new → (office : OfficeLists) → Stands old office
+      → (made ≡ None) ⊎ (made ≡ call office)

@@ -1,0 +1,59 @@
+-- What a reply over HTTP tells.
+use Rattle.std.specs.Prelude.{◌≡◌, ◌⊎◌, ⊤, ℕ, List, Option, Some, None, Result, Ok, Err}
+use Rattle.httparse.specs.Grammar.{EndsInTarget}
+use Rattle.desk_heads.specs.Heads.{head_place}
+use Rattle.desk_words.specs.Seen.{Moment, Party}
+use Rattle.desk_words.specs.declared.caller.Caller.{Caller}
+use Rattle.desk_words.specs.declared.caller.Caller.TheVariants as caller
+use Rattle.desk_words.specs.declared.office.OfficeLists.{OfficeLists}
+use Rattle.desk_words.specs.declared.reply.Reply.{Reply}
+use Rattle.desk_words.specs.declared.request.Request.{Request}
+use Rattle.desk_requests.specs.Received.{Spells}
+use Rattle.desk_requests.specs.declared.received.Received.{Received}
+use Rattle.desk_requests.specs.declared.received.Received.TheVariants.{Refused, With}
+use Rattle.desk_requests.specs.declared.received.Unheard.{Unheard}
+use Rattle.desk_store.specs.Reads.{caller_with}
+use Rattle.meeting_laws.specs.Worlds.{AgreeFor}
+use Rattle.desk_http.specs.Answers.{reply_in}
+use Rattle.desk_http.specs.Served.{text_of}
+
+-- two offices agree for a party on what it was heard to ask
+abbrev pub AgreeOn :
+    OfficeLists → OfficeLists → Moment → Party → Result Request Unheard → Type 0
+AgreeOn one other now party (Ok request) = AgreeFor one other party now request
+AgreeOn one other now party (Err why) = ⊤
+
+-- a key is the same caller's in both, and where that is a party, they agree for it; of the office,
+-- which may know all, nothing is said
+abbrev pub AgreeTo :
+    OfficeLists → OfficeLists → Moment → Option Caller → Option Caller → Result Request Unheard
+    → Type 0
+AgreeTo one other now None who heard = who ≡ None
+AgreeTo one other now (Some caller.Office) who heard = ⊥
+AgreeTo one other now (Some (caller.Party party)) who heard =
+    (who ≡ Some (caller.Party party)) × AgreeOn one other now party heard
+
+-- two offices agree on all that the sender of what was received may know: that its key is the same
+-- party's in both or nobody's, and, in the meeting in which it asks, on the public record and on
+-- that party's own things
+abbrev pub AgreeWith : OfficeLists → OfficeLists → Moment → Received → Type 0
+AgreeWith one other now (Refused refusal) = ⊤
+AgreeWith one other now (With key heard) =
+    AgreeTo one other now (caller_with one.keys key) (caller_with other.keys key) heard
+
+-- such offices reply alike
+abbrev pub RepliesTellNoMore : Type 0
+RepliesTellNoMore =
+    (one other : OfficeLists) (now : Moment) (received : Received)
+    → AgreeWith one other now received
+    → reply_in one now received ≡ reply_in other now received
+
+-- from bytes to bytes: where the same bytes came to both, the texts of their replies are the same
+-- bytes, but where the first 8,192 bytes hold no head and end inside the target
+abbrev pub TextsTellNoMore : Type 0
+TextsTellNoMore =
+    (one other : OfficeLists) (now : Moment) (input : List ℕ) (a b : Received)
+    → Spells input a → Spells input b
+    → AgreeWith one other now a
+    → (x y : Reply) → reply_in one now a ≡ Some x → reply_in other now b ≡ Some y
+    → (text_of x ≡ text_of y) ⊎ EndsInTarget (head_place input)

@@ -1,0 +1,175 @@
+//! What is answered of a request on a desk.
+ghost use Rattle.std.specs.Prelude.{◌≡◌, IfErr, IfOk, OnErr, Some, None, true};
+ghost use Rattle.desk_http.specs.Answers.{IsAnswer, Makes, Shows, call_in, call_of, if_ok};
+ghost use Rattle.desk_http.specs.Answers.{reply_in, reply_of, unheard_reply};
+ghost use Rattle.desk_requests.specs.declared.received.Unheard.TheVariants.{Failed};
+ghost use Rattle.desk_http.specs.declared.answers.Unanswered.TheVariants.{CutOff};
+ghost use Rattle.desk_http.specs.declared.answers.Unanswered.TheVariants as unanswered;
+ghost use Rattle.desk_records.specs.Standing.{Stands};
+ghost use Rattle.desk_requests.specs.Received.{is_cut_off, is_unheard};
+ghost use Rattle.desk_store.specs.Joins.{Leaves, after_call};
+ghost use Rattle.desk_words.specs.declared.office.OfficeLists.{OfficeLists};
+ghost use Rattle.desk_words.specs.declared.reply.Failure.TheVariants as failure;
+ghost use Rattle.desk_words.specs.declared.reply.Reply.TheVariants as reply;
+ghost use Rattle.desk_requests.specs.declared.received.Received.TheVariants.{With};
+ghost use Rattle.sqlite.specs.Held.{state};
+ghost use Rattle.sqlite.specs.State.{HasCleanDisk};
+
+use desk_replies::reply_text;
+use desk_requests::{Received, Unheard};
+use desk_routes::{StatusCode, status_of};
+use desk_store::Desk;
+use desk_words::{Call, Caller, Failure, Moment, Refusal, Reply, Request, SecretKey};
+use sqlite::Alter;
+use std::alloc::{AllocError, Global};
+
+/// A reply, as it is sent.
+#[derive(Drop)]
+pub struct Answered {
+    /// The status of the reply.
+    pub status: StatusCode,
+    /// The reply's JSON text.
+    pub body: Vec<u8>,
+}
+
+/// Why there is no reply.
+#[derive(Clone, Copy, PartialEq, Eq)]
+pub enum Unanswered {
+    /// The desk could not be read or written, or memory was refused.
+    Failure(Failure),
+    /// The request's body did not come whole, since its source failed.
+    CutOff,
+}
+
+impl From<Failure> for Unanswered {
+    ghost from_gives = { λ failure why. why ≡ unanswered.Failure failure };
+
+    fn from(failure: Failure) -> Unanswered {
+        Unanswered::Failure(failure)
+    }
+}
+
+impl From<AllocError> for Unanswered {
+    ghost from_gives = { λ _ why. why ≡ unanswered.Failure failure.Memory };
+
+    fn from(_: AllocError) -> Unanswered {
+        Unanswered::Failure(Failure::Memory)
+    }
+}
+
+/// A reply, as it is sent. The error is want of memory alone.
+pub(crate) fn shown(alloc: Global, reply: &Reply) -> Result<Answered, AllocError>
+    ensures { IfOk result (Shows reply.now) }
+{
+    let body = reply_text(alloc, reply)?;
+    let status = status_of(reply);
+    Ok(Answered { status, body })
+}
+
+/// A refusal, as it is sent.
+fn refused(alloc: Global, refusal: Refusal) -> Result<Answered, Unanswered>
+    ensures shown { IfOk result (Shows (reply.Refused refusal)) }
+    ensures cause { IfErr result (λ why. why ≡ unanswered.Failure failure.Memory) }
+{
+    Ok(shown(alloc, &Reply::Refused(refusal))?)
+}
+
+/// The answer to what was not heard.
+fn answer_unheard(alloc: Global, why: Unheard) -> Result<Answered, Unanswered>
+    ensures shown { IfOk result (IsAnswer (unheard_reply why)) }
+    ensures cause { IfErr result (λ fault. fault ≡ CutOff → why ≡ Failed) }
+{
+    match why {
+        Unheard::Refused(refusal) => refused(alloc, refusal),
+        Unheard::Memory => Err(Unanswered::Failure(Failure::Memory)),
+        Unheard::Failed => Err(Unanswered::CutOff),
+    }
+}
+
+/// The answer to what was heard of a caller.
+fn answer_to<S: Alter>(
+    alloc: Global,
+    desk: &mut Desk<S>,
+    moment: Moment,
+    caller: Caller,
+    heard: Result<Request, Unheard>,
+) -> Result<Answered, Unanswered>
+    ensures done { HasCleanDisk (state S.Store desk.new) → (office : OfficeLists)
+        → Stands (state S.Store desk.old) office
+        → IfOk result (λ a. IsAnswer (reply_of office moment (Some caller) heard) a
+        × Stands (state S.Store desk.new)
+        (after_call office (call_of moment (Some caller) heard))) }
+    ensures leaves { Leaves (if_ok result (call_of moment (Some caller) heard))
+        (state S.Store desk.old) (state S.Store desk.new) }
+    ensures cause { IfErr result (λ why. why ≡ CutOff → is_unheard heard ≡ true) }
+{
+    desk.rests();
+    match heard {
+        Ok(request) => {
+            let call = Call {
+                moment,
+                caller,
+                request,
+            };
+            Ok(desk.perform(call, |reply| shown(alloc, reply))?)
+        }
+        Err(why) => answer_unheard(alloc, why),
+    }
+}
+
+/// The answer to what was heard with a key. Whose key that is comes before all that is asked.
+fn answer_with<S: Alter>(
+    alloc: Global,
+    desk: &mut Desk<S>,
+    moment: Moment,
+    key: SecretKey,
+    heard: Result<Request, Unheard>,
+) -> Result<Answered, Unanswered>
+    ensures done { HasCleanDisk (state S.Store desk.new) → (office : OfficeLists)
+        → Stands (state S.Store desk.old) office
+        → IfOk result (λ a. IsAnswer (reply_in office moment (With key heard)) a
+        × Stands (state S.Store desk.new)
+        (after_call office (call_in office moment (With key heard)))) }
+    ensures makes { Makes (λ office. call_in office moment (With key heard))
+        (state S.Store desk.old) (state S.Store desk.new) }
+    ensures unmade { OnErr result
+        (Leaves None (state S.Store desk.old) (state S.Store desk.new)) }
+    ensures cause { IfErr result (λ why. why ≡ CutOff → is_unheard heard ≡ true) }
+{
+    match desk.caller_of(&key)? {
+        Some(caller) => answer_to(alloc, desk, moment, caller, heard),
+        None => refused(alloc, Refusal::Key),
+    }
+}
+
+/// Answers on a desk what was received, at a moment.
+///
+/// What was refused as it came is answered so, and asks no table. A key that is nobody's is
+/// answered as `Key`, whatever else was received; with a key of the office's list, what was not
+/// heard is answered by its refusal, and a request is a call of that caller at that moment, made as
+/// `Desk::perform` makes it: the reply is made before the commit.
+///
+/// The error is a failure of the desk or want of memory, after which nothing has changed, or
+/// `CutOff`, only where the source failed in the body.
+pub fn answer<S: Alter>(
+    alloc: Global,
+    desk: &mut Desk<S>,
+    moment: Moment,
+    received: Received,
+) -> Result<Answered, Unanswered>
+    ensures done { HasCleanDisk (state S.Store desk.new) → (office : OfficeLists)
+        → Stands (state S.Store desk.old) office
+        → IfOk result (λ a. IsAnswer (reply_in office moment received) a
+        × Stands (state S.Store desk.new) (after_call office (call_in office moment received))) }
+    ensures makes { Makes (λ office. call_in office moment received)
+        (state S.Store desk.old) (state S.Store desk.new) }
+    ensures unmade { OnErr result
+        (Leaves None (state S.Store desk.old) (state S.Store desk.new)) }
+    ensures cause { IfErr result (λ why. why ≡ CutOff → is_cut_off received ≡ true) }
+{
+    desk.rests();
+    match received {
+        Received::Refused(refusal) => refused(alloc, refusal),
+        Received::With { key, asked } => answer_with(alloc, desk, moment, key, asked),
+    }
+}

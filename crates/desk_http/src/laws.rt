@@ -1,0 +1,16 @@
+//! Laws of what is told over HTTP.
+ghost use Rattle.desk_http.specs.Laws.{RepliesTellNoMore, TextsTellNoMore};
+
+use desk_requests::laws::one_request;
+use meeting_laws::two_worlds;
+
+/// What a party is told over HTTP is told alike by any two offices that agree on the public record
+/// of the meeting in which it asks and on its own things there: the same reply, and, from the same
+/// bytes, the same bytes. A sender whose key is nobody's in both is told the same by any two.
+pub fn replies_tell_no_more()
+    ensures replies { RepliesTellNoMore }
+    ensures texts { TextsTellNoMore }
+{
+    two_worlds();
+    one_request();
+}

@@ -1,0 +1,163 @@
+//! One request, served.
+ghost use Rattle.std.specs.Prelude.{◌≡◌, ◌+◌, ◌≤◌, IfErr, OnErr, OnOk, None, true};
+ghost use Rattle.std.specs.Io.KnownBytes.{Appends, Keeps};
+ghost use Rattle.desk_devices.specs.Counts.{one_more};
+ghost use Rattle.desk_devices.specs.Written.{AppendsPrefix};
+ghost use Rattle.desk_heads.specs.declared.front.TheConstants.{LONGEST_HEAD};
+ghost use Rattle.desk_heads.specs.declared.length.TheConstants.{LONGEST_BODY};
+ghost use Rattle.desk_http.specs.Answers.{Makes, call_in};
+ghost use Rattle.desk_http.specs.Served.{IsReceived, Serves, TellsFailure, as_write, failure_text};
+ghost use Rattle.desk_http.specs.declared.answers.Unanswered.TheVariants.{CutOff};
+ghost use Rattle.desk_http.specs.declared.serve.ServeFault.TheVariants.{Read, Write};
+ghost use Rattle.desk_requests.specs.Received.{is_cut_off};
+ghost use Rattle.desk_requests.specs.declared.received.Received.{Received};
+ghost use Rattle.desk_routes.specs.ReplyTexts.{reply_text};
+ghost use Rattle.desk_store.specs.Joins.{Leaves};
+ghost use Rattle.sqlite.specs.Held.{state};
+
+use crate::answers::{Answered, Unanswered, answer};
+use desk_devices::{DeviceFailed, Sink, Source, write_all};
+use desk_requests::{Received, read_request};
+use desk_routes::{failure_reply, write_reply};
+use desk_store::Desk;
+use desk_words::{Failure, Moment};
+use sqlite::Alter;
+use std::alloc::Global;
+
+/// Why a request was not served to its end.
+#[derive(Clone, Copy, Debug, PartialEq, Eq)]
+pub enum ServeFault {
+    /// A read failed before the request had come whole. Nothing was written or changed.
+    Read,
+    /// A write failed. What was written is a part of the reply's text from its front, and never all
+    /// of it; the call stands, if one was made.
+    Write,
+}
+
+/// Writes a reply.
+fn write_answered<W: Sink>(answered: &Answered, writer: &mut W) -> Result<(), DeviceFailed>
+    ensures written { OnOk result (Appends (W.contents writer.old) (W.contents writer.new)
+        (reply_text answered.now.status answered.now.body.items)) }
+    ensures works { OnOk result (W.failures writer.new ≡ W.failures writer.old) }
+    ensures failed { OnErr result (W.failures writer.new ≡ one_more (W.failures writer.old)) }
+    ensures partly { OnErr result (AppendsPrefix (W.contents writer.old) (W.contents writer.new)
+        (reply_text answered.now.status answered.now.body.items)) }
+{
+    write_reply(answered.status, &answered.body, writer)
+}
+
+/// Writes the fixed text that tells of a failure.
+fn write_failure<W: Sink>(failure: Failure, writer: &mut W) -> Result<(), DeviceFailed>
+    ensures written { OnOk result (Appends (W.contents writer.old) (W.contents writer.new)
+        (failure_text failure)) }
+    ensures works { OnOk result (W.failures writer.new ≡ W.failures writer.old) }
+    ensures failed { OnErr result (W.failures writer.new ≡ one_more (W.failures writer.old)) }
+    ensures partly { OnErr result (AppendsPrefix (W.contents writer.old) (W.contents writer.new)
+        (failure_text failure)) }
+{
+    write_all(writer, failure_reply(failure).as_bytes())
+}
+
+/// How a write that ends a request is told.
+fn sent(written: Result<(), DeviceFailed>) -> Result<(), ServeFault>
+    ensures { result ≡ as_write written }
+{
+    written.map_err(|_| ServeFault::Write)
+}
+
+/// Writes the fixed text of a failure; nothing where the request was cut off.
+fn write_unanswered<W: Sink>(why: Unanswered, writer: &mut W) -> Result<(), ServeFault>
+    ensures served { OnOk result (TellsFailure why
+        (Appends (W.contents writer.old) (W.contents writer.new))) }
+    ensures partly { IfErr result (λ fault. fault ≡ Write → TellsFailure why
+        (AppendsPrefix (W.contents writer.old) (W.contents writer.new))) }
+    ensures unread { IfErr result (λ fault. fault ≡ Read
+        → (why ≡ CutOff) × (writer.new ≡ writer.old)) }
+    ensures works { OnOk result (W.failures writer.new ≡ W.failures writer.old) }
+    ensures failed { IfErr result (λ fault. fault ≡ Write
+        → W.failures writer.new ≡ one_more (W.failures writer.old)) }
+{
+    match why {
+        Unanswered::Failure(failure) => sent(write_failure(failure, writer)),
+        Unanswered::CutOff => Err(ServeFault::Read),
+    }
+}
+
+/// Answers on a desk what was received, at a moment, and writes the reply.
+///
+/// The text is that of the reply, and the tables are the office after the call, if one was made; or
+/// it is a fixed text that tells of a failure, which takes no memory, and the tables are as they
+/// were. The fault is `Write` where a write failed, and `Read` only where the source of what was
+/// received had failed in the body: nothing is then written or changed.
+pub fn reply_to<S: Alter, W: Sink>(
+    alloc: Global,
+    desk: &mut Desk<S>,
+    moment: Moment,
+    received: Received,
+    writer: &mut W,
+) -> Result<(), ServeFault>
+    ensures served { OnOk result
+        (Serves moment received (state S.Store desk.old) (state S.Store desk.new)
+        (Appends (W.contents writer.old) (W.contents writer.new))) }
+    ensures partly { IfErr result (λ fault. fault ≡ Write
+        → Serves moment received (state S.Store desk.old) (state S.Store desk.new)
+        (AppendsPrefix (W.contents writer.old) (W.contents writer.new))) }
+    ensures makes { Makes (λ office. call_in office moment received)
+        (state S.Store desk.old) (state S.Store desk.new) }
+    ensures unread { IfErr result (λ fault. fault ≡ Read
+        → (is_cut_off received ≡ true)
+        × Leaves None (state S.Store desk.old) (state S.Store desk.new)
+        × (writer.new ≡ writer.old)) }
+    ensures works { OnOk result (W.failures writer.new ≡ W.failures writer.old) }
+    ensures failed { IfErr result (λ fault. fault ≡ Write
+        → W.failures writer.new ≡ one_more (W.failures writer.old)) }
+{
+    match answer(alloc, desk, moment, received) {
+        Ok(answered) => sent(write_answered(&answered, writer)),
+        Err(why) => write_unanswered(why, writer),
+    }
+}
+
+/// Serves one request: reads it, answers it on a desk at a moment, and writes the reply.
+///
+/// What is written is exactly the text of the reply to what the bytes spell, and the tables are the
+/// office after that call; or it is a fixed text that tells of a failure, and the tables are as
+/// they were. `Read` and `Write` are told only where that device failed, once in the call. After `Read`
+/// nothing is written or changed. After `Write` a part of one of these texts is written, and the
+/// tables are as after that text. At most 8,192 + 65,536 bytes are taken; those behind the request
+/// are not looked at.
+pub fn serve_one<S: Alter, R: Source, W: Sink>(
+    alloc: Global,
+    desk: &mut Desk<S>,
+    moment: Moment,
+    reader: &mut R,
+    writer: &mut W,
+) -> Result<(), ServeFault>
+    ensures served { OnOk result ((received : Received)
+        × IsReceived (R.remaining reader.old) (R.remaining reader.new)
+        (R.passed reader.old) (R.passed reader.new) received
+        × Serves moment received (state S.Store desk.old) (state S.Store desk.new)
+        (Appends (W.contents writer.old) (W.contents writer.new))) }
+    ensures partly { IfErr result (λ fault. fault ≡ Write → (received : Received)
+        × IsReceived (R.remaining reader.old) (R.remaining reader.new)
+        (R.passed reader.old) (R.passed reader.new) received
+        × Serves moment received (state S.Store desk.old) (state S.Store desk.new)
+        (AppendsPrefix (W.contents writer.old) (W.contents writer.new))) }
+    ensures unread { IfErr result (λ fault. fault ≡ Read
+        → Leaves None (state S.Store desk.old) (state S.Store desk.new)
+        × (writer.new ≡ writer.old)
+        × (R.failures reader.new ≡ one_more (R.failures reader.old))) }
+    ensures works { OnOk result (W.failures writer.new ≡ W.failures writer.old) }
+    ensures failed { IfErr result (λ fault. fault ≡ Write
+        → W.failures writer.new ≡ one_more (W.failures writer.old)) }
+    ensures makes { (received : Received)
+        × Makes (λ office. call_in office moment received)
+        (state S.Store desk.old) (state S.Store desk.new) }
+    ensures bound { R.passed reader.new ≤ R.passed reader.old + (LONGEST_HEAD + LONGEST_BODY) }
+{
+    desk.rests();
+    match read_request(alloc, reader) {
+        Ok(received) => reply_to(alloc, desk, moment, received, writer),
+        Err(DeviceFailed) => Err(ServeFault::Read),
+    }
+}
