@@ -1,7 +1,9 @@
 -- An office without the votes on a resolution, and what a call leaves of it.
-use Rattle.std.proofs.Common.{◌≡◌, ℕ, Bool, true, false, ◌&&◌, not, cond, List, [], ◌∷◌, ◌++◌, filter, length, refl, ap, sym, ◌∙◌, subst, arith}
+use Rattle.std.proofs.Common.{true≢false, ◌≡◌, ℕ, Bool, true, false, ◌&&◌, not, cond, List, [], ◌∷◌, ◌++◌, filter, length, refl, ap, sym, ◌∙◌, subst, arith}
 use Rattle.std.specs.Prelude.{Option, Some, None, option_map, is_some, nat_le, ◌==◌}
 use Rattle.std.specs.Cmp.{first_so, second_so}
+use Rattle.std.specs.Cmp.Derive.{both_true}
+use Rattle.std.proofs.lemmas.Bool.{eq-eqb}
 use Rattle.std.proofs.lemmas.Bool.Decides.{nat_tests}
 use Rattle.desk_lists.proofs.Differing.{length-change_first}
 use Rattle.desk_terms.specs.Names.{same_name}
@@ -11,7 +13,7 @@ use Rattle.desk_words.specs.Finding.{meeting_named}
 use Rattle.desk_words.specs.Keys.{same_keys}
 use Rattle.desk_words.specs.Office.{implies}
 use Rattle.desk_words.specs.Rows.{same_rows}
-use Rattle.desk_words.specs.Rulings.{asked_first, ruled_within, settled}
+use Rattle.desk_words.specs.Rulings.{in_found, is_refused, refusal_in, unless, within, asked_first, ruled_within, settled}
 use Rattle.desk_words.specs.declared.answer.Answer.{Answer}
 use Rattle.desk_words.specs.declared.caller.Caller.TheVariants as caller
 use Rattle.desk_words.specs.declared.change.Change.{Change}
@@ -21,6 +23,8 @@ use Rattle.desk_words.specs.declared.change.Entry.TheVariants as entry
 use Rattle.desk_words.specs.declared.change.MeetingChange.{MeetingChange}
 use Rattle.desk_words.specs.declared.change.MeetingChange.TheVariants.{AddPoll, Enter, SetOpened, SetPoll, SetRegister}
 use Rattle.desk_words.specs.declared.change.PollChange.TheVariants as poll
+use Rattle.desk_terms.specs.Refusals.{first_refusal}
+use Rattle.desk_terms.specs.declared.refusal.Refusal.{Refusal}
 use Rattle.desk_terms.specs.declared.refusal.Refusal.TheVariants.{Exists, NoMeeting, ShortNotice, TooMany}
 use Rattle.desk_words.specs.declared.limits.TheConstants.{MOST_MEETINGS}
 use Rattle.desk_words.specs.declared.office.MeetingLists.{MeetingLists}
@@ -28,6 +32,7 @@ use Rattle.desk_words.specs.declared.office.OfficeLists.{OfficeLists}
 use Rattle.desk_words.specs.declared.records.CastKind.TheVariants.{AsInstructed}
 use Rattle.desk_words.specs.declared.records.CastMark.{CastMark}
 use Rattle.desk_words.specs.declared.records.Meeting.{Meeting}
+use Rattle.desk_words.specs.declared.request.Call.{Call}
 use Rattle.desk_words.specs.declared.request.DeskRequest.{DeskRequest}
 use Rattle.desk_words.specs.declared.request.DeskRequest.TheVariants as desk
 use Rattle.desk_words.specs.declared.request.OfficeRequest.{OfficeRequest}
@@ -51,12 +56,12 @@ use Rattle.office_answers.specs.Attendance.{is_marked}
 use Rattle.office_days.specs.Notice.{is_enough_notice}
 use Rattle.office_answers.specs.Calls.{call_ruling, day_of, meeting_of}
 use Rattle.office_answers.specs.Lists.{same_days}
-use Rattle.office_answers.specs.Polls.{declaration_of, poll_of}
+use Rattle.office_answers.specs.Polls.{declare_cases, declare_ruling, declaration_of, poll_of}
 use Rattle.meeting_core.specs.Step.{decided, stepped}
 use Rattle.meeting_core.proofs.RulingLemmas.{change_of}
 use Rattle.meeting_laws.specs.Reads.{ReadsEnough, answered}
 use Rattle.meeting_laws.specs.Secrecy.{TheOfficeIsToldOfNoVotes, casts_off, declares}
-use Rattle.run_laws.specs.Secrecy.{declares_in, hidden, hidden_in, is_vote, is_vote_in}
+use Rattle.run_laws.specs.Secrecy.{declaration, declares_in, hidden, hidden_in, is_vote, is_vote_in}
 use Rattle.run_laws.proofs.FoundLemmas.{after_entry, changed-name, found-changed, view-changed}
 use Rattle.run_laws.proofs.ListLemmas.{all-of, filter-among, filter-more, implied}
 use Rattle.run_laws.proofs.OfficeLemmas.{loaded-either, office_after, office-change}
@@ -209,20 +214,122 @@ office-hides o id resolution at now (Declare number) =
     in-meeting o id resolution at (SetPoll number (poll.Declared (declaration_of m o.closed now number).tally)) (λ _ x. refl))
 
 -- a call of the office that does not declare the resolution is answered alike without the votes
-pub office-answer : TheOfficeIsToldOfNoVotes → (o : OfficeLists) (id : List ℕ) (resolution : ℕ) (now : ℕ) (request : Request) → declares_in id resolution request ≡ false
+office-answer : TheOfficeIsToldOfNoVotes → (o : OfficeLists) (id : List ℕ) (resolution : ℕ) (now : ℕ) (request : Request) → declares_in id resolution request ≡ false
     → decided (hidden id resolution o) (record { moment = now; caller = caller.Office; request = request }) ≡ decided o (record { moment = now; caller = caller.Office; request = request })
 office-answer law o id resolution now (asked.Desk what) h = desk-hidden o id resolution what
 office-answer law o id resolution now (asked.Office at what) h = ap (λ ruling. settled (ruled_within (InMeeting at) ruling)) (office-hidden law o id resolution at now what h)
 office-answer law o id resolution now (asked.Party at what) h = refl
 
--- and leaves the same without them
-pub office-step : TheOfficeIsToldOfNoVotes → (o : OfficeLists) (id : List ℕ) (resolution : ℕ) (now : ℕ) (request : Request) → declares_in id resolution request ≡ false
+-- a refusal of one of two answers that refuse alike
+refusal-unless : (refusal : Option Refusal) (one other : Answer Change) → refusal_in one.reply ≡ None → refusal_in other.reply ≡ None
+    → refusal_in (unless refusal one).reply ≡ refusal_in (unless refusal other).reply
+refusal-unless None one other none none_other = none ∙ sym none_other
+refusal-unless (Some refusal) one other none none_other = refl
+
+refused-unless : (refusal : Option Refusal) (one other : Answer Change) → refusal_in other.reply ≡ None → is_some (refusal_in (unless refusal other).reply) ≡ true → unless refusal one ≡ unless refusal other
+refused-unless None one other none h = (let no : false ≡ true = sym (ap is_some none) ∙ h in absurd (true≢false (sym no)))
+refused-unless (Some refusal) one other none h = refl
+
+-- the answer to the declaration of a resolution in a meeting that is found
+abbrev declare_found : Option MeetingLists → List ℕ → List ℕ → ℕ → ℕ → Answer Change
+declare_found found closed at now number = settled (ruled_within (InMeeting at) (in_found found (office_in closed now (Declare number))))
+
+-- what refuses it in a meeting
+abbrev declare_refusal : MeetingLists → ℕ → Option Refusal
+declare_refusal m number = first_refusal (record { refusal = NoMeeting; holds = false } ∷ declare_cases m number)
+
+abbrev declare_accepted : MeetingLists → List ℕ → List ℕ → ℕ → ℕ → Answer Change
+declare_accepted m closed at now number = within (InMeeting at) (declare_ruling m closed now number).accepted
+
+-- the declaration is refused alike without the votes
+pub declare-refusal : (o : OfficeLists) (id : List ℕ) (resolution : ℕ) (at : List ℕ) (now number : ℕ)
+    → refusal_in (declare_found (meeting_at (hidden id resolution o) at) o.closed at now number).reply ≡ refusal_in (declare_found (meeting_at o at) o.closed at now number).reply
+declare-refusal o id resolution at now number =
+    ap (λ found. refusal_in (declare_found found o.closed at now number).reply) (hidden-found o id resolution at)
+    ∙ elim (same_name id at) as (λ b. refusal_in (declare_found (cond b (option_map (hidden_in resolution) (meeting_at o at)) (meeting_at o at)) o.closed at now number).reply
+    ≡ refusal_in (declare_found (meeting_at o at) o.closed at now number).reply) [
+      | true ↦ elim (meeting_at o at) as (λ found. refusal_in (declare_found (option_map (hidden_in resolution) found) o.closed at now number).reply
+          ≡ refusal_in (declare_found found o.closed at now number).reply) [
+            | None ↦ refl
+            | Some m ↦ refusal-unless (declare_refusal m number) (declare_accepted (hidden_in resolution m) o.closed at now number) (declare_accepted m o.closed at now number) refl refl
+          ]
+      | false ↦ refl
+    ]
+
+-- and where it is refused the answer is the same
+declare-same : (o : OfficeLists) (id : List ℕ) (resolution : ℕ) (at : List ℕ) (now number : ℕ) → is_some (refusal_in (declare_found (meeting_at o at) o.closed at now number).reply) ≡ true
+    → declare_found (meeting_at (hidden id resolution o) at) o.closed at now number ≡ declare_found (meeting_at o at) o.closed at now number
+declare-same o id resolution at now number =
+    λ refused. ap (λ found. declare_found found o.closed at now number) (hidden-found o id resolution at)
+    ∙ (elim (same_name id at) as (λ b. declare_found (cond b (option_map (hidden_in resolution) (meeting_at o at)) (meeting_at o at)) o.closed at now number
+    ≡ declare_found (meeting_at o at) o.closed at now number) [
+      | true ↦ (elim (meeting_at o at) as (λ found. is_some (refusal_in (declare_found found o.closed at now number).reply) ≡ true
+          → declare_found (option_map (hidden_in resolution) found) o.closed at now number ≡ declare_found found o.closed at now number) [
+            | None ↦ λ _. refl
+            | Some m ↦ refused-unless (declare_refusal m number) (declare_accepted (hidden_in resolution m) o.closed at now number) (declare_accepted m o.closed at now number) refl
+          ]) refused
+      | false ↦ refl
+    ])
+
+-- a call of the office
+abbrev office_call : ℕ → Request → Call
+office_call now request = record { moment = now; caller = caller.Office; request = request }
+
+refused-answer : (o : OfficeLists) (id : List ℕ) (resolution : ℕ) (now : ℕ) (request : Request) → declares_in id resolution request ≡ true → is_refused (decided o (office_call now request)) ≡ true
+    → decided (hidden id resolution o) (office_call now request) ≡ decided o (office_call now request)
+refused-answer o id resolution now (asked.Office at (Declare number)) asks refused = declare-same o id resolution at now number refused
+refused-answer o id resolution now (asked.Office at other) asks refused = (let no : false ≡ true = second_so (same_name at id) false asks in absurd (true≢false (sym no)))
+refused-answer o id resolution now other asks refused = absurd (cc)
+
+-- so a call of the office that does not declare the resolution is answered alike without the votes
+pub undeclared-answer : TheOfficeIsToldOfNoVotes → (o : OfficeLists) (id : List ℕ) (resolution : ℕ) (now : ℕ) (request : Request)
+    → not (declares_in id resolution request && not (is_refused (decided o (office_call now request)))) ≡ true
+    → decided (hidden id resolution o) (office_call now request) ≡ decided o (office_call now request)
+undeclared-answer law o id resolution now request =
+    (elim (declares_in id resolution request) as (λ b. declares_in id resolution request ≡ b → not (b && not (is_refused (decided o (office_call now request)))) ≡ true
+    → decided (hidden id resolution o) (office_call now request) ≡ decided o (office_call now request)) [
+      | true ↦ λ asks h. refused-answer o id resolution now request asks (twice (is_refused (decided o (office_call now request))) h)
+      | false ↦ λ none h. office-answer law o id resolution now request none
+    ]) refl
+  where
+    twice : (b : Bool) → not (not b) ≡ true → b ≡ true
+    twice true h = refl
+    twice false h = absurd (cc)
+
+-- in two offices that are the same without the votes it is refused alike
+refusal-alike : (one other : OfficeLists) (id : List ℕ) (resolution : ℕ) (now : ℕ) (request : Request) → hidden id resolution one ≡ hidden id resolution other → declares_in id resolution request ≡ true
+    → refusal_in (decided one (office_call now request)).reply ≡ refusal_in (decided other (office_call now request)).reply
+refusal-alike one other id resolution now (asked.Office at (Declare number)) same asks =
+    sym (declare-refusal one id resolution at now number)
+    ∙ ap (λ o. refusal_in (decided o (office_call now (asked.Office at (Declare number)))).reply) same
+    ∙ declare-refusal other id resolution at now number
+refusal-alike one other id resolution now (asked.Office at what) same asks = (let no : false ≡ true = second_so (same_name at id) false asks in absurd (true≢false (sym no)))
+refusal-alike one other id resolution now what same asks = absurd (cc)
+
+pub undeclared-other : (one other : OfficeLists) (id : List ℕ) (resolution : ℕ) (now : ℕ) (request : Request) → hidden id resolution one ≡ hidden id resolution other
+    → not (declares_in id resolution request && not (is_refused (decided one (office_call now request)))) ≡ true
+    → not (declares_in id resolution request && not (is_refused (decided other (office_call now request)))) ≡ true
+undeclared-other one other id resolution now request same =
+    (elim (declares_in id resolution request) as (λ b. declares_in id resolution request ≡ b → not (b && not (is_refused (decided one (office_call now request)))) ≡ true
+    → not (b && not (is_refused (decided other (office_call now request)))) ≡ true) [
+      | true ↦ λ asks h. ap (λ refusal. not (not (is_some refusal))) (sym (refusal-alike one other id resolution now request same asks)) ∙ h
+      | false ↦ λ none h. refl
+    ]) refl
+
+pub declaration-alike : (one other : OfficeLists) (id : List ℕ) (resolution : ℕ) (now : ℕ) → hidden id resolution one ≡ hidden id resolution other
+    → refusal_in (decided one (declaration id resolution now)).reply ≡ refusal_in (decided other (declaration id resolution now)).reply
+declaration-alike one other id resolution now same =
+    refusal-alike one other id resolution now (asked.Office id (Declare resolution)) same (both_true (same_name-refl id) (eq-eqb resolution resolution refl))
+
+-- it leaves the same without the votes, where it is answered alike
+pub office-step : (o : OfficeLists) (id : List ℕ) (resolution : ℕ) (now : ℕ) (request : Request)
+    → decided (hidden id resolution o) (office_call now request) ≡ decided o (office_call now request)
     → hidden id resolution (office_after o now request) ≡ office_after (hidden id resolution o) now request
-office-step law o id resolution now (asked.Desk what) h =
-    desk-hides o id resolution what ∙ sym (ap (λ (a : Answer Change). after_some (hidden id resolution o) a.change) (office-answer law o id resolution now (asked.Desk what) h))
-office-step law o id resolution now (asked.Office at what) h =
-    office-hides o id resolution at now what ∙ sym (ap (λ (a : Answer Change). after_some (hidden id resolution o) a.change) (office-answer law o id resolution now (asked.Office at what) h))
-office-step law o id resolution now (asked.Party at what) h = refl
+office-step o id resolution now (asked.Desk what) same =
+    desk-hides o id resolution what ∙ sym (ap (λ (a : Answer Change). after_some (hidden id resolution o) a.change) same)
+office-step o id resolution now (asked.Office at what) same =
+    office-hides o id resolution at now what ∙ sym (ap (λ (a : Answer Change). after_some (hidden id resolution o) a.change) same)
+office-step o id resolution now (asked.Party at what) same = refl
 
 -- ---- what a party asks
 

@@ -1,8 +1,7 @@
 -- Runs with the votes on a resolution, and without them.
-use Rattle.std.proofs.Common.{◌≡◌, ℕ, Bool, true, false, ◌&&◌, ◌||◌, not, cond, List, [], ◌∷◌, refl, ap, sym, ◌∙◌}
+use Rattle.std.proofs.Common.{◌≡◌, ℕ, true, false, ◌&&◌, ◌||◌, not, cond, List, [], ◌∷◌, refl, ap, sym, ◌∙◌}
 use Rattle.std.specs.Prelude.{Some, None, option_map}
 use Rattle.std.specs.Cmp.{first_so, second_so}
-use Rattle.std.specs.List.{list_all}
 use Rattle.desk_terms.specs.Names.{same_name}
 use Rattle.desk_words.specs.Changes.{empty_office}
 use Rattle.desk_words.specs.declared.answer.Answer.{Answer}
@@ -21,10 +20,10 @@ use Rattle.meeting_core.specs.Step.{Run, decided, run_of, stepped}
 use Rattle.meeting_laws.specs.Reads.{ReadsEnough}
 use Rattle.meeting_laws.specs.Secrecy.{TheOfficeIsToldOfNoVotes}
 use Rattle.run_laws.specs.Parts.{Viewer, is_source}
-use Rattle.run_laws.specs.Secrecy.{TheOfficeIsToldOfNone, VotesAreSecretToParties, declares_in, hidden, is_before, is_party, is_vote_call, is_vote_in, is_vote_of_another, replies_to_office, without}
+use Rattle.run_laws.specs.Secrecy.{TheOfficeIsToldOfNone, VotesAreSecretToParties, declares_now, hidden, is_undeclared, is_party, is_vote_call, is_vote_in, is_vote_of_another, replies_to_office, without}
 use Rattle.run_laws.specs.Traces.{Office, Whole, behind, gives, is_by, replies_to, shown_by, shown_of, told_of, trace_of, viewer_of}
 use Rattle.run_laws.proofs.DeskLemmas.{desk_steps}
-use Rattle.run_laws.proofs.HiddenLemmas.{hidden-public, office-answer, office-step, party-step, vote-step}
+use Rattle.run_laws.proofs.HiddenLemmas.{declaration-alike, hidden-public, office-step, undeclared-answer, undeclared-other, party-step, vote-step}
 use Rattle.run_laws.proofs.OfficeLemmas.{office_after}
 use Rattle.run_laws.proofs.RunLemmas.{calls_isolated, runs_are_the_desks}
 
@@ -44,11 +43,16 @@ public-same id resolution one other same at =
 
 -- ---- one call
 
-both-step : Known → (id : List ℕ) (resolution : ℕ) (one other : OfficeLists) (now : ℕ) (who : Caller) (request : Request) → declares_in id resolution request ≡ false
-    → Same id resolution one other
+-- a call that does not declare the resolution in an office
+abbrev Undeclared : List ℕ → ℕ → OfficeLists → Call → Type 0
+Undeclared id resolution o call = not (declares_now id resolution o call) ≡ true
+
+both-step : Known → (id : List ℕ) (resolution : ℕ) (one other : OfficeLists) (now : ℕ) (who : Caller) (request : Request)
+    → Undeclared id resolution one (record { moment = now; caller = who; request = request }) → Same id resolution one other
     → Same id resolution (stepped one (record { moment = now; caller = who; request = request })) (stepped other (record { moment = now; caller = who; request = request }))
 both-step known id resolution one other now caller.Office request before same =
-    office-step known.office one id resolution now request before ∙ ap (λ o. office_after o now request) same ∙ sym (office-step known.office other id resolution now request before)
+    office-step one id resolution now request (undeclared-answer known.office one id resolution now request before) ∙ ap (λ o. office_after o now request) same
+    ∙ sym (office-step other id resolution now request (undeclared-answer known.office other id resolution now request (undeclared-other one other id resolution now request same before)))
 both-step known id resolution one other now (caller.Party party) request before same =
     (elim (is_vote_in id resolution request) as (λ b. is_vote_in id resolution request ≡ b
     → Same id resolution (stepped one (record { moment = now; caller = caller.Party party; request = request })) (stepped other (record { moment = now; caller = caller.Party party; request = request }))) [
@@ -58,15 +62,10 @@ both-step known id resolution one other now (caller.Party party) request before 
           ∙ sym (party-step known.reads other id resolution now party request none)
     ]) refl
 
--- a call that does not declare the resolution keeps them the same
-same-after : Known → (id : List ℕ) (resolution : ℕ) (one other : OfficeLists) (call : Call) → is_before id resolution call ≡ true → Same id resolution one other
+-- keeps them the same
+same-after : Known → (id : List ℕ) (resolution : ℕ) (one other : OfficeLists) (call : Call) → Undeclared id resolution one call → Same id resolution one other
     → Same id resolution (stepped one call) (stepped other call)
-same-after known id resolution one other call before same =
-    both-step known id resolution one other call.moment call.caller call.request (is-false (declares_in id resolution call.request) before) same
-  where
-    is-false : (b : Bool) → not b ≡ true → b ≡ false
-    is-false true h = absurd (cc)
-    is-false false h = refl
+same-after known id resolution one other call before same = both-step known id resolution one other call.moment call.caller call.request before same
 
 voted : (id : List ℕ) (resolution : ℕ) (o : OfficeLists) (now : ℕ) (who : Caller) (request : Request) → (is_party who && is_vote_in id resolution request) ≡ true
     → Same id resolution (stepped o (record { moment = now; caller = who; request = request })) o
@@ -79,18 +78,13 @@ same-voted : (id : List ℕ) (resolution : ℕ) (one other : OfficeLists) (call 
 same-voted id resolution one other call vote same = voted id resolution one call.moment call.caller call.request vote ∙ same
 
 -- the office is answered alike
-answered-office : Known → (id : List ℕ) (resolution : ℕ) (one other : OfficeLists) (now : ℕ) (who : Caller) (request : Request) → not (declares_in id resolution request) ≡ true
-    → is_party who ≡ false → Same id resolution one other
+answered-office : Known → (id : List ℕ) (resolution : ℕ) (one other : OfficeLists) (now : ℕ) (who : Caller) (request : Request)
+    → Undeclared id resolution one (record { moment = now; caller = who; request = request }) → is_party who ≡ false → Same id resolution one other
     → (decided one (record { moment = now; caller = who; request = request })).reply ≡ (decided other (record { moment = now; caller = who; request = request })).reply
 answered-office known id resolution one other now caller.Office request before office same =
-    let none = is-false (declares_in id resolution request) before in
     ap (λ (a : Answer Change). a.reply)
-    (sym (office-answer known.office one id resolution now request none) ∙ ap (λ o. decided o (record { moment = now; caller = caller.Office; request = request })) same
-    ∙ office-answer known.office other id resolution now request none)
-  where
-    is-false : (b : Bool) → not b ≡ true → b ≡ false
-    is-false true h = absurd (cc)
-    is-false false h = refl
+    (sym (undeclared-answer known.office one id resolution now request before) ∙ ap (λ o. decided o (record { moment = now; caller = caller.Office; request = request })) same
+    ∙ undeclared-answer known.office other id resolution now request (undeclared-other one other id resolution now request same before))
 answered-office known id resolution one other now (caller.Party party) request before office same = absurd (cc)
 
 -- ---- the replies to the office
@@ -122,12 +116,12 @@ more-in id resolution one other call calls kept alike ends = record {
   same = ends.same;
 }
 
-office-told : Known → (id : List ℕ) (resolution : ℕ) (calls : List Call) (one other : OfficeLists) → list_all (is_before id resolution) calls ≡ true → Same id resolution one other
+office-told : Known → (id : List ℕ) (resolution : ℕ) (calls : List Call) (one other : OfficeLists) → is_undeclared id resolution one calls ≡ true → Same id resolution one other
     → Ends id resolution one other calls (without (is_vote_call id resolution) calls)
 office-told known id resolution [] one other before same = record { replies = refl; same = same }
 office-told known id resolution (call ∷ calls) one other before same =
-    let here = first_so (is_before id resolution call) (list_all (is_before id resolution) calls) before in
-    let later = second_so (is_before id resolution call) (list_all (is_before id resolution) calls) before in
+    let here = first_so (not (declares_now id resolution one call)) (is_undeclared id resolution (stepped one call) calls) before in
+    let later = second_so (not (declares_now id resolution one call)) (is_undeclared id resolution (stepped one call) calls) before in
     (elim (is_vote_call id resolution call) as (λ b. is_vote_call id resolution call ≡ b
     → Ends id resolution one other (call ∷ calls) (cond (not b) (call ∷ without (is_vote_call id resolution) calls) (without (is_vote_call id resolution) calls))) [
       | true ↦ λ vote. more-out id resolution one other call calls (without (is_vote_call id resolution) calls) (first_so (is_party call.caller) (is_vote_in id resolution call.request) vote)
@@ -143,6 +137,7 @@ secret_to_office known id resolution calls before =
     let ends = office-told known id resolution calls empty_office empty_office before refl in record {
       replies = ends.replies;
       public = public-same id resolution (run_of empty_office calls).office (run_of empty_office kept).office ends.same;
+      refusal = λ now. declaration-alike (run_of empty_office calls).office (run_of empty_office kept).office id resolution now ends.same;
     }
 
 -- ---- the replies to a party
@@ -168,13 +163,13 @@ shown-alike : (viewer : Viewer) (one other : List ℕ → PublicRecord) (call : 
 shown-alike viewer one other call caller.Office same = λ i. option_map (λ told. Office told (λ at. same at i)) (told_of viewer call.moment call.request)
 shown-alike viewer one other call (caller.Party party) same = refl
 
-trace-alike : Known → (id : List ℕ) (resolution : ℕ) (viewer : Viewer) (calls : List Call) (one other : OfficeLists) → list_all (is_before id resolution) calls ≡ true → Same id resolution one other
+trace-alike : Known → (id : List ℕ) (resolution : ℕ) (viewer : Viewer) (calls : List Call) (one other : OfficeLists) → is_undeclared id resolution one calls ≡ true → Same id resolution one other
     → trace_of decided viewer one calls ≡ trace_of decided viewer other (without (is_vote_of_another id resolution viewer.party) calls)
 trace-alike known id resolution viewer [] one other before same = refl
 trace-alike known id resolution viewer (call ∷ calls) one other before same =
     let test = is_vote_of_another id resolution viewer.party in
-    let here = first_so (is_before id resolution call) (list_all (is_before id resolution) calls) before in
-    let later = second_so (is_before id resolution call) (list_all (is_before id resolution) calls) before in
+    let here = first_so (not (declares_now id resolution one call)) (is_undeclared id resolution (stepped one call) calls) before in
+    let later = second_so (not (declares_now id resolution one call)) (is_undeclared id resolution (stepped one call) calls) before in
     (elim (is_vote_of_another id resolution viewer.party call) as (λ b. is_vote_of_another id resolution viewer.party call ≡ b
     → behind (shown_of decided viewer one call) (trace_of decided viewer (stepped one call) calls)
     ≡ trace_of decided viewer other (cond (not b) (call ∷ without (is_vote_of_another id resolution viewer.party) calls) (without (is_vote_of_another id resolution viewer.party) calls))) [

@@ -1,22 +1,23 @@
 -- Secrecy of votes: before a resolution is declared, nobody but the voter is answered otherwise for
 -- a vote on it.
 use Rattle.std.specs.Prelude.{◌≡◌, Bool, true, false, ◌&&◌, not, ◌==◌, List, [], ◌∷◌, filter, if◌then◌else◌, IsTrue}
-use Rattle.std.specs.List.{list_all}
 use Rattle.desk_terms.specs.Names.{same_name}
 use Rattle.desk_words.specs.Changes.{change_meeting, empty_office}
-use Rattle.desk_words.specs.Seen.{MeetingName, Number, Party}
+use Rattle.desk_words.specs.Rulings.{is_refused, refusal_in}
+use Rattle.desk_words.specs.Seen.{MeetingName, Moment, Number, Party}
 use Rattle.desk_words.specs.declared.caller.Caller.{Caller}
 use Rattle.desk_words.specs.declared.caller.Caller.TheVariants as caller
 use Rattle.desk_words.specs.declared.office.MeetingLists.{MeetingLists}
 use Rattle.desk_words.specs.declared.office.OfficeLists.{OfficeLists}
 use Rattle.desk_words.specs.declared.reply.Reply.{Reply}
 use Rattle.desk_words.specs.declared.request.Call.{Call}
+use Rattle.desk_words.specs.declared.request.OfficeRequest.TheVariants.{Declare}
 use Rattle.desk_words.specs.declared.request.PartyRequest.{PartyRequest}
 use Rattle.desk_words.specs.declared.request.PartyRequest.TheVariants.{Cast, Instructed}
 use Rattle.desk_words.specs.declared.request.Request.{Request}
 use Rattle.desk_words.specs.declared.request.Request.TheVariants as asked
 use Rattle.caller_view.specs.Views.{public_of}
-use Rattle.meeting_core.specs.Step.{run_of}
+use Rattle.meeting_core.specs.Step.{decided, run_of, stepped}
 use Rattle.meeting_laws.specs.Secrecy.{casts_off, declares, with_casts}
 use Rattle.run_laws.specs.Traces.{is_by, replies_to}
 
@@ -46,9 +47,26 @@ declares_in meeting resolution (asked.Office at what) =
     same_name at meeting && declares resolution what
 declares_in meeting resolution other = false
 
--- the resolution is not declared by the call
-abbrev pub is_before : MeetingName → Number → Call → Bool
-is_before meeting resolution call = not (declares_in meeting resolution call.request)
+-- the call declares the resolution of the meeting in an office: it asks for the declaration, and is
+-- not refused
+abbrev pub declares_now : MeetingName → Number → OfficeLists → Call → Bool
+declares_now meeting resolution office call =
+    declares_in meeting resolution call.request && not (is_refused (decided office call))
+
+-- no call of a list declares it
+abbrev pub is_undeclared : MeetingName → Number → OfficeLists → List Call → Bool
+is_undeclared meeting resolution office [] = true
+is_undeclared meeting resolution office (call ∷ calls) =
+    not (declares_now meeting resolution office call)
+    && is_undeclared meeting resolution (stepped office call) calls
+
+-- the office asks for the declaration
+abbrev pub declaration : MeetingName → Number → Moment → Call
+declaration meeting resolution now = record {
+  moment = now;
+  caller = caller.Office;
+  request = asked.Office meeting (Declare resolution);
+}
 
 -- a party calls
 abbrev pub is_party : Caller → Bool
@@ -82,12 +100,13 @@ replies_to_office (call ∷ calls) (reply ∷ replies) =
 abbrev pub VotesAreSecretToParties : Type 0
 VotesAreSecretToParties =
     (meeting : MeetingName) (resolution : Number) (party : Party) (calls : List Call)
-    → IsTrue (list_all (is_before meeting resolution) calls)
+    → IsTrue (is_undeclared meeting resolution empty_office calls)
     → let kept = without (is_vote_of_another meeting resolution party) calls in
     replies_to party calls (run_of empty_office calls).replies
     ≡ replies_to party kept (run_of empty_office kept).replies
 
--- and votes on it by parties change no reply to the office, nor the public record of any meeting
+-- and votes on it by parties change no reply to the office, nor the public record of any meeting;
+-- and its declaration is refused alike after both, or after neither
 pub record VotesAreSecretToTheOffice (meeting : MeetingName) (resolution : Number)
     (calls kept : List Call) : Type 0 where
   pub replies : replies_to_office calls (run_of empty_office calls).replies
@@ -95,11 +114,15 @@ pub record VotesAreSecretToTheOffice (meeting : MeetingName) (resolution : Numbe
   pub public : (id : MeetingName)
       → public_of (run_of empty_office calls).office id
       ≡ public_of (run_of empty_office kept).office id
+  pub refusal : (now : Moment)
+      → let asks = declaration meeting resolution now in
+      refusal_in (decided (run_of empty_office calls).office asks).reply
+      ≡ refusal_in (decided (run_of empty_office kept).office asks).reply
 
 -- so it is of all calls of which none declares the resolution
 abbrev pub TheOfficeIsToldOfNone : Type 0
 TheOfficeIsToldOfNone =
     (meeting : MeetingName) (resolution : Number) (calls : List Call)
-    → IsTrue (list_all (is_before meeting resolution) calls)
+    → IsTrue (is_undeclared meeting resolution empty_office calls)
     → VotesAreSecretToTheOffice meeting resolution calls
     (without (is_vote_call meeting resolution) calls)
