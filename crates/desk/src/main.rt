@@ -1,6 +1,7 @@
 //! The desk of a company's general meetings.
 #![tactic(auto)]
 
+use desk_clocks::WallClock;
 use desk_commands::{Plan, read_words};
 use desk_devices::{ReadDevice, WriteDevice};
 use desk_disk::DiskDesk;
@@ -10,6 +11,7 @@ use desk_words::{MeetingId, Moment};
 use jiff::Timestamp;
 use office_clock::OfficeZone;
 use std::io::{self, ErrorKind};
+use std::net::{Ipv4Addr, TcpListener};
 use std::process::ExitCode;
 use std::rt::Env;
 use std::{env, fs};
@@ -73,6 +75,23 @@ fn register(
     Ok(desk.register(rt.alloc(), now, meeting, record_moment, &mut reader))
 }
 
+/// Serves the desk on a port of this machine. It says so once it listens.
+fn serve(
+    rt: &HostRuntime,
+    file: &str,
+    port: u16,
+    requests: u32,
+    zone: OfficeZone,
+) -> Result<Ended, Ended> {
+    let mut desk = DiskDesk::open(rt, file)?;
+    let listener = TcpListener::bind(rt, (Ipv4Addr::LOCALHOST, port)).map_err(|_| Ended::by(
+        Fault::Socket,
+    ))?;
+    println!(rt; "listening").map_err(|_| Ended::by(Fault::WriteFault))?;
+    let mut clock = WallClock::new(rt, zone);
+    Ok(desk.serve(rt.alloc(), &listener, &mut clock, requests))
+}
+
 fn results(rt: &HostRuntime, file: &str, meeting: MeetingId) -> Result<Ended, Ended> {
     let mut desk = DiskDesk::open(rt, file)?;
     let mut writer = WriteDevice::new(io::writer(rt));
@@ -99,6 +118,12 @@ fn run(rt: &HostRuntime) -> Result<Ended, Ended> {
             csv,
             zone,
         } => register(rt, file, meeting, record_moment, csv, &zone),
+        Plan::Serve {
+            file,
+            port,
+            requests,
+            zone,
+        } => serve(rt, file, port, requests, zone),
         Plan::Results { file, meeting } => results(rt, file, meeting),
         Plan::Replay => Ok(replay(rt)),
     }

@@ -1,7 +1,7 @@
 //! What each command does on a desk in a file.
 ghost use Rattle.std.specs.Prelude.{◌≡◌, ◌≢◌, ◌≤◌, ◌+◌, IsTrue};
 ghost use Rattle.caller_view.specs.Views.{public_of};
-ghost use Rattle.desk_disk.specs.Disks.{tables_of};
+ghost use Rattle.desk_disk.specs.Disks.{EndsServing, tables_of};
 ghost use Rattle.desk_endings.specs.Endings.{ended_view};
 ghost use Rattle.desk_files.specs.Days.{day_file};
 ghost use Rattle.desk_files.specs.Keys.{key_file};
@@ -15,10 +15,13 @@ ghost use Rattle.desk_words.specs.declared.office.OfficeLists.{OfficeLists};
 ghost use Rattle.sqlite.specs.State.{HasCleanDisk};
 
 use crate::disk::DiskDesk;
+use desk_clocks::Clock;
 use desk_devices::{Sink, Source};
-use desk_endings::Ended;
+use desk_endings::{Ended, Fault};
+use desk_serving::{LoopFault, serve_loop};
 use desk_words::{MeetingId, Moment};
 use std::alloc::Global;
+use std::net::TcpListener;
 
 impl DiskDesk {
     /// Loads the keys that a key file spells, as `desk_tasks::keys` does.
@@ -75,6 +78,26 @@ impl DiskDesk {
         ensures bound { R.passed reader.new ≤ R.passed reader.old + FILE_LIMIT + 1 }
     {
         desk_tasks::register(alloc, &mut self.desk, now, meeting, record_moment, reader)
+    }
+
+    /// Serves one connection of a listener after another, so many in all, as
+    /// `desk_serving::serve_loop` does, and ends with status 0. It ends before that with status 3
+    /// and `Socket` or `Clock`, and what was served until then stands.
+    pub fn serve<C: Clock>(
+        &mut self,
+        alloc: Global,
+        listener: &TcpListener,
+        clock: &mut C,
+        requests: u32,
+    ) -> Ended
+        ensures { EndsServing C.gives C.fails requests clock.old clock.new
+            (tables_of self.old) (tables_of self.new) (ended_view result) }
+    {
+        match serve_loop(alloc, listener, &mut self.desk, clock, requests) {
+            Ok(()) => Ended::done(),
+            Err(LoopFault::Socket) => Ended::by(Fault::Socket),
+            Err(LoopFault::Clock) => Ended::by(Fault::Clock),
+        }
     }
 
     /// Prints the results of a meeting, as `desk_tasks::results` does.
