@@ -1,0 +1,111 @@
+-- One turn after another.
+use Rattle.std.proofs.Common.{◌≡◌, ◌⊎◌, inl, inr, ℕ, ◌+◌, ◌≤◌, false, List, [], ◌∷◌, ◌++◌, length, Option, Some, None, Result, Ok, Err, IsTrue, refl, subst, sym, arith, length-append}
+use Rattle.sqlite.specs.State.{State, HasCleanDisk}
+use Rattle.desk_clocks.specs.Gives.{GaveInTurn}
+use Rattle.desk_records.specs.Standing.{Stands}
+use Rattle.desk_http.specs.Answers.{Makes, call_in, call_of}
+use Rattle.desk_requests.specs.declared.received.Received.{Received}
+use Rattle.desk_requests.specs.declared.received.Received.TheVariants.{Refused, With}
+use Rattle.desk_requests.specs.declared.received.Unheard.{Unheard}
+use Rattle.desk_store.specs.Joins.{after_call}
+use Rattle.desk_store.specs.Reads.{caller_with}
+use Rattle.desk_store.specs.Runs.{calls_in}
+use Rattle.desk_words.specs.Seen.{Moment}
+use Rattle.desk_words.specs.declared.office.OfficeLists.{OfficeLists}
+use Rattle.desk_words.specs.declared.caller.Caller.{Caller}
+use Rattle.desk_words.specs.declared.request.Call.{Call}
+use Rattle.desk_words.specs.declared.request.Request.{Request}
+use Rattle.meeting_core.specs.Step.{run_of, stepped}
+use Rattle.desk_serving.specs.Turns.{AreMadeAt, HasRun, IsMadeAt, Ran, Turned}
+
+-- a run goes on from the office that another left
+run-then : (office : OfficeLists) (made later : List (Option Call)) → (run_of (run_of office (calls_in made)).office (calls_in later)).office ≡ (run_of office (calls_in (made ++ later))).office
+run-then office [] later = refl
+run-then office (None ∷ made) later = run-then office made later
+run-then office (Some call ∷ made) later = run-then (stepped office call) made later
+
+made-then : (made later : List (Option Call)) (moments more : List Moment) → AreMadeAt made moments → AreMadeAt later more → AreMadeAt (made ++ later) (moments ++ more)
+made-then [] later [] more p q = q
+made-then [] later (now ∷ moments) more p q = absurd p
+made-then (one ∷ made) later [] more p q = absurd p
+made-then (one ∷ made) later (now ∷ moments) more p q = (p.0, made-then made later moments more p.1 q)
+
+gave-then : {C : Type 0} (gives : C → Moment → C → Type 0) (a b c : C) (moments more : List Moment) → GaveInTurn gives a moments b → GaveInTurn gives b more c → GaveInTurn gives a (moments ++ more) c
+gave-then {C} gives a b c [] more p q = subst (λ (it : C). GaveInTurn gives it more c) p q
+gave-then gives a b c (now ∷ moments) more p q = (p.0, p.1, gave-then gives p.0 b c moments more p.2 q)
+
+-- where nothing was done, all is as it was
+pub ran-none : (s : State) → s.in_transaction ≡ false → Ran [] s s
+ran-none s ended = record {
+  was_clean = λ clean. clean;
+  was_open = λ clean is_open. is_open;
+  ended = ended;
+  stands = λ clean is_open office stands. ([], tt, stands);
+}
+
+pub ran-then : (a b c : State) (moments more : List Moment) → Ran moments a b → Ran more b c → Ran (moments ++ more) a c
+ran-then a b c moments more first next = record {
+  was_clean = λ clean. first.was_clean (next.was_clean clean);
+  was_open = λ clean is_open. first.was_open (next.was_clean clean) (next.was_open clean is_open);
+  ended = next.ended;
+  stands = λ clean is_open office stands.
+      let mid = first.stands (next.was_clean clean) (next.was_open clean is_open) office stands in
+      let end = next.stands clean is_open (run_of office (calls_in mid.0)).office mid.2 in
+      (mid.0 ++ end.0, made-then mid.0 end.0 moments more mid.1 end.1, subst (λ (o : OfficeLists). Stands c o) (run-then office mid.0 end.0) end.2);
+}
+
+-- where the clock was not asked and nothing was done
+pub turned-none : {C : Type 0} (gives : C → Moment → C → Type 0) (most : ℕ) (clock : C) (s : State) → s.in_transaction ≡ false → Turned gives most clock clock s s
+turned-none gives most clock s ended = record { moments = []; gave = refl; bound = omega arith; ran = ran-none s ended }
+
+-- where the clock gave one moment
+pub turned-one : {C : Type 0} (gives : C → Moment → C → Type 0) (clock clock' : C) (now : Moment) (a b : State) → gives clock now clock' → Ran (now ∷ []) a b → Turned gives 1 clock clock' a b
+turned-one gives clock clock' now a b given ran = record { moments = now ∷ []; gave = (clock', given, refl); bound = omega arith; ran = ran }
+
+pub turned-then : {C : Type 0} (gives : C → Moment → C → Type 0) (n m most : ℕ) (c0 c1 c2 : C) (s0 s1 s2 : State) → n + m ≤ most → Turned gives n c0 c1 s0 s1 → Turned gives m c1 c2 s1 s2 → Turned gives most c0 c2 s0 s2
+turned-then gives n m most c0 c1 c2 s0 s1 s2 room first next = record {
+  moments = first.moments ++ next.moments;
+  gave = gave-then gives c0 c1 c2 first.moments next.moments first.gave next.gave;
+  bound = simp length-append (omega (arith, first.bound, next.bound, room));
+  ran = ran-then s0 s1 s2 first.moments next.moments first.ran next.ran;
+}
+
+pub turned-within : {C : Type 0} (gives : C → Moment → C → Type 0) (n most : ℕ) (c0 c1 : C) (s0 s1 : State) → n ≤ most → Turned gives n c0 c1 s0 s1 → Turned gives most c0 c1 s0 s1
+turned-within gives n most c0 c1 s0 s1 room turned = record {
+  moments = turned.moments;
+  gave = turned.gave;
+  bound = omega (arith, turned.bound, room);
+  ran = turned.ran;
+}
+
+-- a call that a caller makes is made at the moment at which it is heard
+heard-at : (now : Moment) (who : Option Caller) (heard : Result Request Unheard) → IsMadeAt (call_of now who heard) now
+heard-at now None heard = tt
+heard-at now (Some who) (Ok request) = refl
+heard-at now (Some who) (Err why) = tt
+
+received-at : (office : OfficeLists) (now : Moment) (received : Received) → IsMadeAt (call_in office now received) now
+received-at office now (Refused refusal) = tt
+received-at office now (With key heard) = heard-at now (caller_with office.keys key) heard
+
+made-at : (now : Moment) (made call : Option Call) → IsMadeAt call now → (made ≡ None) ⊎ (made ≡ call) → IsMadeAt made now
+made-at now made call at (inl none) = subst (λ (c : Option Call). IsMadeAt c now) (sym none) tt
+made-at now made call at (inr same) = subst (λ (c : Option Call). IsMadeAt c now) (sym same) at
+
+-- a run of one call, or of none
+run-one : (office : OfficeLists) (made : Option Call) → after_call office made ≡ (run_of office (calls_in (made ∷ []))).office
+run-one office None = refl
+run-one office (Some call) = refl
+
+-- what is left of one request is left of a run at one moment
+pub ran-made : (now : Moment) (received : Received) (a b : State) → Makes (λ office. call_in office now received) a b → Ran (now ∷ []) a b
+ran-made now received a b makes = record {
+  was_clean = makes.leaves.was_clean;
+  was_open = makes.leaves.was_open;
+  ended = makes.leaves.ended;
+  stands = λ clean is_open office stands. (
+    makes.made ∷ [],
+    (made-at now makes.made (call_in office now received) (received-at office now received) (makes.by clean office stands), tt),
+    subst (λ (o : OfficeLists). Stands b o) (run-one office makes.made) (makes.leaves.stands clean is_open office stands),
+  );
+}

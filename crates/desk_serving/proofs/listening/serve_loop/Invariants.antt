@@ -1,0 +1,14 @@
+-- What was served so far.
+use Rattle.std.proofs.Common.{◌-◌, ◌≤◌}
+use Rattle.sqlite.specs.Held.{state}
+use Rattle.desk_serving.specs.Turns.{Turned}
+use Rattle.desk_serving.proofs.listening.serve_loop.Given as goal
+
+abbrev pub invariant-loop-served : goal.invariant-loop-served
+invariant-loop-served g l = record {
+  turned : Turned g.C.Clock.gives l.served l.initial.clock l.clock (state g.S.Store l.initial.desk) (state g.S.Store l.desk);
+  bound : l.served ≤ l.count;
+}
+
+abbrev pub decreases-loop-served : goal.decreases-loop-served
+decreases-loop-served g l = l.count - l.served

@@ -1,0 +1,9 @@
+//! The desk of a company over sockets: one connection after another is served, each at the moment
+//! that a clock gives once its request has been read.
+#![tactic(auto)]
+
+mod listening;
+mod now;
+
+pub use listening::{LoopFault, serve_loop};
+pub use now::{NowFault, serve_now};
