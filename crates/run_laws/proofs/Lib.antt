@@ -7,4 +7,5 @@ mod PartLemmas
 mod PartyLemmas
 mod RunLemmas
 mod SecretRuns
+mod WrongCloses
 mod WrongRuns

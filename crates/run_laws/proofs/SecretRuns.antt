@@ -16,16 +16,16 @@ use Rattle.desk_words.specs.declared.request.Request.TheVariants as asked
 use Rattle.caller_view.specs.Public.{PublicRecord}
 use Rattle.caller_view.specs.Reads.{own_read}
 use Rattle.caller_view.specs.Views.{public_of}
-use Rattle.meeting_core.specs.Step.{Run, decided, run_of, stepped}
+use Rattle.meeting_core.specs.Step.{decided, stepped}
 use Rattle.meeting_laws.specs.Reads.{ReadsEnough}
 use Rattle.meeting_laws.specs.Secrecy.{TheOfficeIsToldOfNoVotes}
 use Rattle.run_laws.specs.Parts.{Viewer, is_source}
-use Rattle.run_laws.specs.Secrecy.{TheOfficeIsToldOfNone, VotesAreSecretToParties, declares_now, hidden, is_undeclared, is_party, is_vote_call, is_vote_in, is_vote_of_another, replies_to_office, without}
-use Rattle.run_laws.specs.Traces.{Office, Whole, behind, gives, is_by, replies_to, shown_by, shown_of, told_of, trace_of, viewer_of}
+use Rattle.run_laws.specs.Secrecy.{VotesAreSecretToParties, VotesAreSecretToTheOffice, declares_now, hidden, is_undeclared, is_party, is_vote_call, is_vote_in, is_vote_of_another, replies_to_office, without}
+use Rattle.run_laws.specs.Traces.{run_by, Office, Whole, behind, gives, is_by, shown_by, shown_of, told_of, trace_of, viewer_of}
 use Rattle.run_laws.proofs.DeskLemmas.{desk_steps}
 use Rattle.run_laws.proofs.HiddenLemmas.{declaration-alike, hidden-public, office-step, undeclared-answer, undeclared-other, party-step, vote-step}
 use Rattle.run_laws.proofs.OfficeLemmas.{office_after}
-use Rattle.run_laws.proofs.RunLemmas.{calls_isolated, runs_are_the_desks}
+use Rattle.run_laws.proofs.RunLemmas.{calls_isolated}
 
 -- what is known of single calls: the office is told of no votes, and what a request reads is enough
 pub record Known : Type 0 where
@@ -45,7 +45,7 @@ public-same id resolution one other same at =
 
 -- a call that does not declare the resolution in an office
 abbrev Undeclared : List ℕ → ℕ → OfficeLists → Call → Type 0
-Undeclared id resolution o call = not (declares_now id resolution o call) ≡ true
+Undeclared id resolution o call = not (declares_now decided id resolution o call) ≡ true
 
 both-step : Known → (id : List ℕ) (resolution : ℕ) (one other : OfficeLists) (now : ℕ) (who : Caller) (request : Request)
     → Undeclared id resolution one (record { moment = now; caller = who; request = request }) → Same id resolution one other
@@ -90,14 +90,14 @@ answered-office known id resolution one other now (caller.Party party) request b
 -- ---- the replies to the office
 
 record Ends (id : List ℕ) (resolution : ℕ) (one other : OfficeLists) (calls kept : List Call) : Type 0 where
-  replies : replies_to_office calls (run_of one calls).replies ≡ replies_to_office kept (run_of other kept).replies
-  same : Same id resolution (run_of one calls).office (run_of other kept).office
+  replies : replies_to_office calls (run_by decided one calls).replies ≡ replies_to_office kept (run_by decided other kept).replies
+  same : Same id resolution (run_by decided one calls).office (run_by decided other kept).office
 
 -- one call more, which is a vote and is left out
 more-out : (id : List ℕ) (resolution : ℕ) (one other : OfficeLists) (call : Call) (calls kept : List Call) → is_party call.caller ≡ true
     → Ends id resolution (stepped one call) other calls kept → Ends id resolution one other (call ∷ calls) kept
 more-out id resolution one other call calls kept party ends = record {
-  replies = ap (λ b. cond b (replies_to_office calls (run_of (stepped one call) calls).replies) ((decided one call).reply ∷ replies_to_office calls (run_of (stepped one call) calls).replies)) party
+  replies = ap (λ b. cond b (replies_to_office calls (run_by decided (stepped one call) calls).replies) ((decided one call).reply ∷ replies_to_office calls (run_by decided (stepped one call) calls).replies)) party
       ∙ ends.replies;
   same = ends.same;
 }
@@ -108,20 +108,20 @@ more-in : (id : List ℕ) (resolution : ℕ) (one other : OfficeLists) (call : C
     → Ends id resolution (stepped one call) (stepped other call) calls kept → Ends id resolution one other (call ∷ calls) (call ∷ kept)
 more-in id resolution one other call calls kept alike ends = record {
   replies = (elim (is_party call.caller) as (λ b. is_party call.caller ≡ b
-      → cond b (replies_to_office calls (run_of (stepped one call) calls).replies) ((decided one call).reply ∷ replies_to_office calls (run_of (stepped one call) calls).replies)
-      ≡ cond b (replies_to_office kept (run_of (stepped other call) kept).replies) ((decided other call).reply ∷ replies_to_office kept (run_of (stepped other call) kept).replies)) [
+      → cond b (replies_to_office calls (run_by decided (stepped one call) calls).replies) ((decided one call).reply ∷ replies_to_office calls (run_by decided (stepped one call) calls).replies)
+      ≡ cond b (replies_to_office kept (run_by decided (stepped other call) kept).replies) ((decided other call).reply ∷ replies_to_office kept (run_by decided (stepped other call) kept).replies)) [
         | true ↦ λ party. ends.replies
         | false ↦ λ office. (let reply = alike office in λ i. reply i ∷ ends.replies i)
       ]) refl;
   same = ends.same;
 }
 
-office-told : Known → (id : List ℕ) (resolution : ℕ) (calls : List Call) (one other : OfficeLists) → is_undeclared id resolution one calls ≡ true → Same id resolution one other
+office-told : Known → (id : List ℕ) (resolution : ℕ) (calls : List Call) (one other : OfficeLists) → is_undeclared decided id resolution one calls ≡ true → Same id resolution one other
     → Ends id resolution one other calls (without (is_vote_call id resolution) calls)
 office-told known id resolution [] one other before same = record { replies = refl; same = same }
 office-told known id resolution (call ∷ calls) one other before same =
-    let here = first_so (not (declares_now id resolution one call)) (is_undeclared id resolution (stepped one call) calls) before in
-    let later = second_so (not (declares_now id resolution one call)) (is_undeclared id resolution (stepped one call) calls) before in
+    let here = first_so (not (declares_now decided id resolution one call)) (is_undeclared decided id resolution (stepped one call) calls) before in
+    let later = second_so (not (declares_now decided id resolution one call)) (is_undeclared decided id resolution (stepped one call) calls) before in
     (elim (is_vote_call id resolution call) as (λ b. is_vote_call id resolution call ≡ b
     → Ends id resolution one other (call ∷ calls) (cond (not b) (call ∷ without (is_vote_call id resolution) calls) (without (is_vote_call id resolution) calls))) [
       | true ↦ λ vote. more-out id resolution one other call calls (without (is_vote_call id resolution) calls) (first_so (is_party call.caller) (is_vote_in id resolution call.request) vote)
@@ -131,13 +131,13 @@ office-told known id resolution (call ∷ calls) one other before same =
           (office-told known id resolution calls (stepped one call) (stepped other call) later (same-after known id resolution one other call here same))
     ]) refl
 
-pub secret_to_office : Known → TheOfficeIsToldOfNone
-secret_to_office known id resolution calls before =
+pub secret_to_office : Known → VotesAreSecretToTheOffice decided
+secret_to_office known id resolution office calls before =
     let kept = without (is_vote_call id resolution) calls in
-    let ends = office-told known id resolution calls empty_office empty_office before refl in record {
+    let ends = office-told known id resolution calls office office before refl in record {
       replies = ends.replies;
-      public = public-same id resolution (run_of empty_office calls).office (run_of empty_office kept).office ends.same;
-      refusal = λ now. declaration-alike (run_of empty_office calls).office (run_of empty_office kept).office id resolution now ends.same;
+      public = public-same id resolution (run_by decided office calls).office (run_by decided office kept).office ends.same;
+      refusal = λ now. declaration-alike (run_by decided office calls).office (run_by decided office kept).office id resolution now ends.same;
     }
 
 -- ---- the replies to a party
@@ -163,13 +163,13 @@ shown-alike : (viewer : Viewer) (one other : List ℕ → PublicRecord) (call : 
 shown-alike viewer one other call caller.Office same = λ i. option_map (λ told. Office told (λ at. same at i)) (told_of viewer call.moment call.request)
 shown-alike viewer one other call (caller.Party party) same = refl
 
-trace-alike : Known → (id : List ℕ) (resolution : ℕ) (viewer : Viewer) (calls : List Call) (one other : OfficeLists) → is_undeclared id resolution one calls ≡ true → Same id resolution one other
+trace-alike : Known → (id : List ℕ) (resolution : ℕ) (viewer : Viewer) (calls : List Call) (one other : OfficeLists) → is_undeclared decided id resolution one calls ≡ true → Same id resolution one other
     → trace_of decided viewer one calls ≡ trace_of decided viewer other (without (is_vote_of_another id resolution viewer.party) calls)
 trace-alike known id resolution viewer [] one other before same = refl
 trace-alike known id resolution viewer (call ∷ calls) one other before same =
     let test = is_vote_of_another id resolution viewer.party in
-    let here = first_so (not (declares_now id resolution one call)) (is_undeclared id resolution (stepped one call) calls) before in
-    let later = second_so (not (declares_now id resolution one call)) (is_undeclared id resolution (stepped one call) calls) before in
+    let here = first_so (not (declares_now decided id resolution one call)) (is_undeclared decided id resolution (stepped one call) calls) before in
+    let later = second_so (not (declares_now decided id resolution one call)) (is_undeclared decided id resolution (stepped one call) calls) before in
     (elim (is_vote_of_another id resolution viewer.party call) as (λ b. is_vote_of_another id resolution viewer.party call ≡ b
     → behind (shown_of decided viewer one call) (trace_of decided viewer (stepped one call) calls)
     ≡ trace_of decided viewer other (cond (not b) (call ∷ without (is_vote_of_another id resolution viewer.party) calls) (without (is_vote_of_another id resolution viewer.party) calls))) [
@@ -187,10 +187,7 @@ trace-alike known id resolution viewer (call ∷ calls) one other before same =
           λ i. behind (shown i) (rest i))
     ]) refl
 
-pub secret_to_parties : Known → VotesAreSecretToParties
+pub secret_to_parties : Known → VotesAreSecretToParties decided
 secret_to_parties known id resolution party calls before =
     let kept = without (is_vote_of_another id resolution party) calls in
-    let same = trace-alike known id resolution (viewer_of party calls kept) calls empty_office empty_office before refl in
-    ap (λ (run : Run). replies_to party calls run.replies) (sym (runs_are_the_desks empty_office calls))
-    ∙ calls_isolated decided desk_steps party calls kept same
-    ∙ ap (λ (run : Run). replies_to party kept run.replies) (runs_are_the_desks empty_office kept)
+    calls_isolated decided desk_steps party calls kept (trace-alike known id resolution (viewer_of party calls kept) calls empty_office empty_office before refl)

@@ -17,9 +17,9 @@ use Rattle.desk_words.specs.declared.request.PartyRequest.TheVariants.{Cast, Ins
 use Rattle.desk_words.specs.declared.request.Request.{Request}
 use Rattle.desk_words.specs.declared.request.Request.TheVariants as asked
 use Rattle.caller_view.specs.Views.{public_of}
-use Rattle.meeting_core.specs.Step.{decided, run_of, stepped}
+use Rattle.meeting_laws.specs.Loads.{Deciding, after_call}
 use Rattle.meeting_laws.specs.Secrecy.{casts_off, declares, with_casts}
-use Rattle.run_laws.specs.Traces.{is_by, replies_to}
+use Rattle.run_laws.specs.Traces.{is_by, replies_to, run_by}
 
 -- a meeting without the votes on a resolution
 abbrev pub hidden_in : Number → MeetingLists → MeetingLists
@@ -49,16 +49,16 @@ declares_in meeting resolution other = false
 
 -- the call declares the resolution of the meeting in an office: it asks for the declaration, and is
 -- not refused
-abbrev pub declares_now : MeetingName → Number → OfficeLists → Call → Bool
-declares_now meeting resolution office call =
-    declares_in meeting resolution call.request && not (is_refused (decided office call))
+abbrev pub declares_now : Deciding → MeetingName → Number → OfficeLists → Call → Bool
+declares_now deciding meeting resolution office call =
+    declares_in meeting resolution call.request && not (is_refused (deciding office call))
 
 -- no call of a list declares it
-abbrev pub is_undeclared : MeetingName → Number → OfficeLists → List Call → Bool
-is_undeclared meeting resolution office [] = true
-is_undeclared meeting resolution office (call ∷ calls) =
-    not (declares_now meeting resolution office call)
-    && is_undeclared meeting resolution (stepped office call) calls
+abbrev pub is_undeclared : Deciding → MeetingName → Number → OfficeLists → List Call → Bool
+is_undeclared deciding meeting resolution office [] = true
+is_undeclared deciding meeting resolution office (call ∷ calls) =
+    not (declares_now deciding meeting resolution office call)
+    && is_undeclared deciding meeting resolution (after_call deciding office call) calls
 
 -- the office asks for the declaration
 abbrev pub declaration : MeetingName → Number → Moment → Call
@@ -95,34 +95,36 @@ replies_to_office (call ∷ calls) (reply ∷ replies) =
     let later = replies_to_office calls replies in
     if is_party call.caller then later else reply ∷ later
 
--- in calls of which none declares the resolution, votes on it by other parties change no reply to a
--- party
-abbrev pub VotesAreSecretToParties : Type 0
-VotesAreSecretToParties =
+-- in calls from the office that holds nothing, of which none declares the resolution, votes on it by
+-- other parties change no reply to a party
+abbrev pub VotesAreSecretToParties : Deciding → Type 0
+VotesAreSecretToParties deciding =
     (meeting : MeetingName) (resolution : Number) (party : Party) (calls : List Call)
-    → IsTrue (is_undeclared meeting resolution empty_office calls)
+    → IsTrue (is_undeclared deciding meeting resolution empty_office calls)
     → let kept = without (is_vote_of_another meeting resolution party) calls in
-    replies_to party calls (run_of empty_office calls).replies
-    ≡ replies_to party kept (run_of empty_office kept).replies
+    replies_to party calls (run_by deciding empty_office calls).replies
+    ≡ replies_to party kept (run_by deciding empty_office kept).replies
 
--- and votes on it by parties change no reply to the office, nor the public record of any meeting;
--- and its declaration is refused alike after both, or after neither
-pub record VotesAreSecretToTheOffice (meeting : MeetingName) (resolution : Number)
-    (calls kept : List Call) : Type 0 where
-  pub replies : replies_to_office calls (run_of empty_office calls).replies
-      ≡ replies_to_office kept (run_of empty_office kept).replies
+-- two lists of calls in an office are one to the office: the replies to it are the same, one for
+-- one, each meeting has the same public record after them, and the declaration is then refused
+-- alike, or accepted after both
+pub record AreOneToTheOffice (deciding : Deciding) (meeting : MeetingName) (resolution : Number)
+    (office : OfficeLists) (calls kept : List Call) : Type 0 where
+  pub replies : replies_to_office calls (run_by deciding office calls).replies
+      ≡ replies_to_office kept (run_by deciding office kept).replies
   pub public : (id : MeetingName)
-      → public_of (run_of empty_office calls).office id
-      ≡ public_of (run_of empty_office kept).office id
+      → public_of (run_by deciding office calls).office id
+      ≡ public_of (run_by deciding office kept).office id
   pub refusal : (now : Moment)
       → let asks = declaration meeting resolution now in
-      refusal_in (decided (run_of empty_office calls).office asks).reply
-      ≡ refusal_in (decided (run_of empty_office kept).office asks).reply
+      refusal_in (deciding (run_by deciding office calls).office asks).reply
+      ≡ refusal_in (deciding (run_by deciding office kept).office asks).reply
 
--- so it is of all calls of which none declares the resolution
-abbrev pub TheOfficeIsToldOfNone : Type 0
-TheOfficeIsToldOfNone =
-    (meeting : MeetingName) (resolution : Number) (calls : List Call)
-    → IsTrue (is_undeclared meeting resolution empty_office calls)
-    → VotesAreSecretToTheOffice meeting resolution calls
+-- in calls from any office, of which none declares the resolution, the votes on it are one to the
+-- office with none
+abbrev pub VotesAreSecretToTheOffice : Deciding → Type 0
+VotesAreSecretToTheOffice deciding =
+    (meeting : MeetingName) (resolution : Number) (office : OfficeLists) (calls : List Call)
+    → IsTrue (is_undeclared deciding meeting resolution office calls)
+    → AreOneToTheOffice deciding meeting resolution office calls
     (without (is_vote_call meeting resolution) calls)

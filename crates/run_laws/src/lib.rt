@@ -1,5 +1,5 @@
 //! Laws of whole lists of calls: what others do, and is not shown to a party, changes no reply to
-//! it.
+//! it, and votes are told to nobody before they are declared.
 #![tactic(auto)]
 
 mod votes;
@@ -8,7 +8,7 @@ mod wrong_ways;
 ghost use Rattle.meeting_core.specs.Step.{decided};
 ghost use Rattle.run_laws.specs.Isolation.{IsolatesCalls, IsolatesSteps, RunsAreTheDesks, StepsIsolateRuns};
 
-pub use votes::secrecy;
+pub use votes::{close_for_turnout_is_caught, secrecy, told_turnout_is_caught};
 pub use wrong_ways::{
     limits_over_all_are_caught, numbers_over_all_are_caught, places_in_the_register_are_caught,
     running_total_is_caught, told_demands_are_caught, votes_on_shares_are_caught,

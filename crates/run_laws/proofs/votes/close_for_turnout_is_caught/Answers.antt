@@ -1,0 +1,11 @@
+use Rattle.std.specs.Prelude.{[]}
+use Rattle.meeting_laws.specs.WrongAnswers.{office_with}
+use Rattle.run_laws.specs.WrongCounts.{closes_after_votes, vote_and_close}
+use Rattle.run_laws.proofs.WrongCloses.{told_caught, turnout_asked}
+use Rattle.run_laws.proofs.votes.close_for_turnout_is_caught.Goals as goal
+
+pub returns-clause-apart : goal.returns-clause-apart
+returns-clause-apart c = turnout_asked
+
+pub returns-clause-caught : goal.returns-clause-caught
+returns-clause-caught c = told_caught closes_after_votes (office_with []) vote_and_close turnout_asked
