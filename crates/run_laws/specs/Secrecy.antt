@@ -95,8 +95,8 @@ replies_to_office (call ∷ calls) (reply ∷ replies) =
     let later = replies_to_office calls replies in
     if is_party call.caller then later else reply ∷ later
 
--- in calls from the office that holds nothing, of which none declares the resolution, votes on it by
--- other parties change no reply to a party
+-- in calls from the office that holds nothing, of which none declares the resolution, votes on it
+-- by other parties change no reply to a party
 abbrev pub VotesAreSecretToParties : Deciding → Type 0
 VotesAreSecretToParties deciding =
     (meeting : MeetingName) (resolution : Number) (party : Party) (calls : List Call)
