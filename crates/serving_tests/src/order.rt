@@ -1,0 +1,68 @@
+//! That the clock is asked once a request was read.
+use crate::office::{Office, moment};
+use crate::peers::{listen, reply_to, send};
+use desk_clocks::{Clock, ClockFailed};
+use desk_words::Moment;
+use std::net::TcpStream;
+use std::test::Fail;
+
+/// A clock that a cutoff passes while a request is on its way: it shows one moment as long as bytes
+/// of a connection are to be read, and another behind them.
+#[derive(Drop)]
+struct CutoffClock<'a> {
+    stream: &'a TcpStream,
+    before: Moment,
+    behind: Moment,
+}
+
+/// Whether bytes of a connection have come and are to be read.
+fn is_unread(stream: &TcpStream) -> bool {
+    let _ = stream.set_nonblocking(true);
+    let is_unread = stream.peek(&mut [0; 1]).is_ok();
+    let _ = stream.set_nonblocking(false);
+    is_unread
+}
+
+impl Clock for CutoffClock<'_> {
+    ghost use Rattle.std.specs.Prelude.{⊤};
+
+    ghost gives = { λ _ _ _. ⊤ };
+
+    ghost fails = { λ _ _. ⊤ };
+
+    fn now(&mut self) -> Result<Moment, ClockFailed> {
+        Ok(if is_unread(self.stream) {
+            self.before
+        } else {
+            self.behind
+        })
+    }
+}
+
+const APPOINT: &str = "POST /m/G1/appoint HTTP/1.1\r\nDesk-Key: mmmmmmmmmmmmmmmm\r\n\
+                       Content-Length: 62\r\n\r\n\
+                       {\"proxy\":\"P\",\"from\":1,\"to\":100,\"instructions\":[\"free\",\"free\"]}";
+
+/// What is told where an appointment was late for the meeting.
+const LATE: &str = "HTTP/1.1 200 OK\r\nContent-Type: application/json\r\n\
+                    Content-Length: 54\r\nConnection: close\r\n\r\n\
+                    {\"number\":1,\"ok\":\"appointed\",\"use\":\"later polls only\"}";
+
+// The cutoff of the meeting is at the first of the two moments.
+#[test]
+fn a_peer_that_sends_after_a_cutoff_is_late(rt: HostRuntime) -> Result<(), Fail> {
+    let mut office = Office::new(rt.alloc())?;
+    let listener = listen(&rt)?;
+    let peer = send(&rt, &listener, APPOINT.as_bytes())?;
+    let (stream, _) = listener.accept()?;
+    let mut clock = CutoffClock {
+        stream: &stream,
+        before: moment("2026-06-16T10:00:00")?,
+        behind: moment("2026-06-16T10:00:01")?,
+    };
+    assert!(rt; is_unread(&stream));
+    office.serve_now(&stream, &mut clock)?;
+    drop(stream);
+    assert!(rt; reply_to(rt.alloc(), peer)?.as_str() == LATE);
+    Ok(())
+}
