@@ -4,6 +4,8 @@
 //! Beside the desk a book in memory makes the same calls, and has to answer alike; after each call,
 //! each file that is loaded and each opening the two have to hold the same, as far as their replies
 //! tell: the keys, the notices of all meetings, and the own things of all parties that were named.
+//! A second desk is asked the same over HTTP, wherever a verb has a method, and has to reply with
+//! the same JSON.
 //!
 //! The words of the program are the names of the case files. It prints each answer that differs from
 //! the one that is expected, and at last how many there were. It ends with status 0 only where there
@@ -16,6 +18,7 @@ mod findings;
 mod handed;
 mod office;
 mod printed;
+mod served;
 mod tables;
 
 use crate::case::{Asked, read_case};

@@ -1,19 +1,21 @@
-//! A desk over a database in memory, and a book beside it.
+//! A desk over a database in memory, with a book and a desk that is asked over HTTP beside it.
 use crate::beside::Beside;
 use crate::handed::Handed;
+use crate::served::Served;
 use crate::tables::Tables;
 use desk_devices::VecSink;
 use desk_endings::Ended;
 use desk_program::call_of;
-use desk_words::{Call, Caller, Failure, read_key, read_meeting};
+use desk_words::{Call, Caller, Failure, read_key, read_meeting, read_moment};
 use std::alloc::{AllocError, Global};
 
-/// A desk over a database in memory, and a book that makes the same calls.
+/// A desk over a database in memory, and a book and a further desk that make the same calls.
 #[derive(Drop)]
 pub struct Office {
     alloc: Global,
     tables: Tables,
     beside: Beside,
+    served: Served,
     /// Whether a statement was run since a desk last had the database.
     is_altered: bool,
 }
@@ -42,12 +44,13 @@ fn compare_answers(answer: &mut String, beside: &[u8]) -> Result<(), AllocError>
 }
 
 impl Office {
-    /// A database without tables, and an empty book.
+    /// Databases without tables, and an empty book.
     pub fn new(alloc: Global) -> Result<Office, AllocError> {
         Ok(Office {
             alloc,
             tables: Tables::new(alloc)?,
             beside: Beside::new(alloc),
+            served: Served::new(alloc)?,
             is_altered: false,
         })
     }
@@ -87,6 +90,7 @@ impl Office {
 
     /// Opens the database as a desk.
     fn open(&mut self) -> Result<String, AllocError> {
+        self.served.alter("open", "");
         let word = self.tables.open();
         let mut answer = String::from_str(self.alloc, word)?;
         self.take_altered();
@@ -110,10 +114,10 @@ impl Office {
     }
 
     /// The answer to a call, whose reply can be shown or not for want of memory; then the book
-    /// beside the desk does not make it. A further line tells where that book answers otherwise, or
-    /// holds something else afterwards.
-    pub fn call(&mut self, line: &str, is_shown: bool) -> Result<String, AllocError> {
-        let line = line.as_bytes();
+    /// and the desk beside it do not make it. A further line tells where that book or that desk
+    /// answers otherwise, or that book holds something else afterwards.
+    pub fn call(&mut self, text: &str, is_shown: bool) -> Result<String, AllocError> {
+        let line = text.as_bytes();
         let (Ok(call), Ok(again)) = (call_of(self.alloc, line), call_of(self.alloc, line)) else {
             return String::from_str(self.alloc, "no call");
         };
@@ -122,6 +126,7 @@ impl Office {
         if is_shown {
             let beside = self.beside.perform(again)?;
             compare_answers(&mut answer, &beside)?;
+            self.served.call(text, &beside, &mut answer)?;
         }
         self.compare(&mut answer)?;
         Ok(answer)
@@ -155,6 +160,7 @@ impl Office {
         let Some(handed) = Handed::read(command, words, file) else {
             return String::from_str(self.alloc, "no command");
         };
+        self.served.load(&handed);
         let Some(ended) = self.tables.load(&handed) else {
             return String::from_str(self.alloc, "no desk");
         };
@@ -182,8 +188,24 @@ impl Office {
         Ok(answer)
     }
 
+    /// The whole reply to a request over HTTP that comes at a moment. The book and the desk beside
+    /// do not answer it, so that it may ask and change nothing.
+    fn http(&mut self, moment: &str, request: &[u8]) -> Result<String, AllocError> {
+        let Some(moment) = read_moment(moment.as_bytes()) else {
+            return String::from_str(self.alloc, "no moment");
+        };
+        let mut sink = VecSink::new(self.alloc);
+        if !self.tables.serve(moment, request, &mut sink) {
+            return String::from_str(self.alloc, "no reply");
+        }
+        let mut answer = String::from_utf8_lossy(self.alloc, sink.as_slice())?;
+        self.compare(&mut answer)?;
+        Ok(answer)
+    }
+
     /// The answer in one word to what is done to the database itself, or asked of a key.
     fn word(&mut self, command: &str, rest: &str) -> &'static str {
+        self.served.alter(command, rest);
         match command {
             "create" => self.tables.create(),
             "close" => self.tables.close(),
@@ -204,6 +226,7 @@ impl Office {
             "open" => self.open(),
             "unshown" => self.call(rest, false),
             "results" => self.results(rest),
+            "http" => self.http(rest, file),
             "keys" | "days" | "register" => self.load(command, rest, file),
             _ => String::from_str(self.alloc, self.word(command, rest)),
         }

@@ -2,10 +2,11 @@
 use crate::handed::{FileKind, Handed};
 use desk_devices::{SliceSource, VecSink};
 use desk_endings::Ended;
+use desk_http::serve_one;
 use desk_replies::reply_text;
 use desk_store::{CreateFault, Desk, HandedBack, OpenFault};
 use desk_tasks::{days, keys, register, results};
-use desk_words::{Call, Caller, Failure, MeetingId, SecretKey};
+use desk_words::{Call, Caller, Failure, MeetingId, Moment, SecretKey};
 use meeting_core::Book;
 use sqlite::{Connection, MemStore};
 use std::alloc::{AllocError, Global};
@@ -154,6 +155,16 @@ impl Tables {
                 Err(AllocError)
             }
         }))
+    }
+
+    /// Serves a request over HTTP, where there is a desk, and tells whether that ended well.
+    pub fn serve(&mut self, now: Moment, request: &[u8], sink: &mut VecSink) -> bool {
+        let alloc = self.alloc;
+        let mut source = SliceSource::new(request);
+        match self.desk() {
+            Some(desk) => serve_one(alloc, desk, now, &mut source, sink).is_ok(),
+            None => false,
+        }
     }
 
     /// How the command ends that loads a file, where there is a desk.
