@@ -9,7 +9,7 @@ pub record LimitsAre : Type 0 where
   pub meetings : MOST_MEETINGS ≡ 100
   pub resolutions : MOST_RESOLUTIONS ≡ 50
   pub rows : MOST_ROWS ≡ 20000
-  pub shares : MOST_SHARES ≡ 100000
+  pub shares : MOST_SHARES ≡ 1000000000000
   pub pence : MOST_PENCE ≡ 1000000
   pub appointments : MOST_APPOINTMENTS ≡ 256
   pub authorities : MOST_AUTHORITIES ≡ 64

@@ -10,7 +10,7 @@ pub const MOST_RESOLUTIONS: usize = 50;
 pub const MOST_ROWS: usize = 20_000;
 
 /// The most shares of a register, treasury shares among them.
-pub const MOST_SHARES: u64 = 100_000;
+pub const MOST_SHARES: u64 = 1_000_000_000_000;
 
 /// The most pence that are paid up on a share.
 pub const MOST_PENCE: u64 = 1_000_000;

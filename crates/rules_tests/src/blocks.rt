@@ -5,7 +5,8 @@ ghost use Rattle.share_blocks.specs.Covers.{tags_of};
 ghost use Rattle.share_blocks.specs.Pieces.{covered, is_place, uncovered};
 
 use desk_words::Range;
-use share_blocks::{Admitted, Blocks, PlainBlocks, Tag, run};
+use share_blocks::laws::run_alike;
+use share_blocks::{Admitted, Blocks, LinkedBlocks, PlainBlocks, Tag, run};
 use std::alloc::{AllocError, Global};
 use std::test::Fail;
 
@@ -55,12 +56,12 @@ fn admitting(numbers: &[u64]) -> Admitted {
 }
 
 /// The number of the newest of these tags on a place, or 0.
-fn newest_of(alloc: Global, place: u64, numbers: &[u64]) -> Result<u64, Fail> {
+fn newest_of<B: Blocks>(alloc: Global, place: u64, numbers: &[u64]) -> Result<u64, Fail> {
     let covers = two_covers()?;
     if place == 0 || place > 1_000_000_000_000 {
         return Err("no place".into());
     }
-    let tag = newest::<PlainBlocks>(alloc, &covers, place, &admitting(numbers))?;
+    let tag = newest::<B>(alloc, &covers, place, &admitting(numbers))?;
     Ok(tag.map_or(0, |tag| tag.number()))
 }
 
@@ -76,14 +77,16 @@ fn the_newest_tag_comes_first(rt: HostRuntime) -> Result<(), Fail> {
         (101, both, 0),
         (1_000_000_000_000, both, 0),
     ] {
-        assert!(rt; newest_of(rt.alloc(), place, admitted)? == tag, "{place}");
+        let plain = newest_of::<PlainBlocks>(rt.alloc(), place, admitted)?;
+        let linked = newest_of::<LinkedBlocks>(rt.alloc(), place, admitted)?;
+        assert!(rt; plain == tag && linked == tag, "{place}");
     }
     Ok(())
 }
 
 /// The ends of the pieces, one after another.
-fn ends(alloc: Global, covers: &[(Range, Tag)]) -> Result<Vec<u64>, Fail> {
-    let blocks: PlainBlocks = run(alloc, covers)?;
+fn ends<B: Blocks>(alloc: Global, covers: &[(Range, Tag)]) -> Result<Vec<u64>, Fail> {
+    let blocks: B = run(alloc, covers)?;
     let mut ends = Vec::new(alloc);
     for piece in &blocks.pieces()? {
         ends.push(piece.to())?;
@@ -93,8 +96,10 @@ fn ends(alloc: Global, covers: &[(Range, Tag)]) -> Result<Vec<u64>, Fail> {
 
 #[test]
 fn pieces_are_parted_at_the_cuts(rt: HostRuntime) -> Result<(), Fail> {
-    let ends = ends(rt.alloc(), &two_covers()?)?;
-    assert!(rt; ends.as_slice() == [40, 60, 100, 1_000_000_000_000].as_slice());
+    let wanted: &[u64] = &[40, 60, 100, 1_000_000_000_000];
+    let plain = ends::<PlainBlocks>(rt.alloc(), &two_covers()?)?;
+    let linked = ends::<LinkedBlocks>(rt.alloc(), &two_covers()?)?;
+    assert!(rt; plain.as_slice() == wanted && linked.as_slice() == wanted);
     Ok(())
 }
 
@@ -107,18 +112,56 @@ fn nested(alloc: Global) -> Result<Vec<(Range, Tag)>, Fail> {
     Ok(covers)
 }
 
+/// Whether two kinds have the same newest tag at each end of each range.
+fn same_tags<A: Blocks, B: Blocks>(one: &A, other: &B, covers: &[(Range, Tag)]) -> bool {
+    let all = Admitted::all();
+    covers.iter().all(|(range, _)| {
+        [range.from(), range.to()].iter().all(|place| one.first_where(*place, &all)
+            == other.first_where(*place, &all))
+    })
+}
+
+/// How many pieces both kinds have, or 0 where their pieces or their newest tags differ.
+fn pieces_of_both(alloc: Global, covers: &[(Range, Tag)]) -> Result<usize, Fail> {
+    let (plain, linked): (PlainBlocks, LinkedBlocks) = run_alike(alloc, covers)?;
+    let pieces = plain.pieces()?;
+    let same = pieces.as_slice() == linked.pieces()?.as_slice();
+    Ok(if same && same_tags(&plain, &linked, covers) {
+        pieces.len()
+    } else {
+        0
+    })
+}
+
 // There are cuts at 2 to 256, and at 745 to 1000.
 #[test]
 fn all_tags_in_one_run(rt: HostRuntime) -> Result<(), Fail> {
     let covers = nested(rt.alloc())?;
-    assert!(rt; ends(rt.alloc(), &covers)?.len() == 512);
+    assert!(rt; pieces_of_both(rt.alloc(), &covers)? == 512);
+    Ok(())
+}
+
+/// Tag k on the places 2k to 2k + 600, for each tag.
+fn overlapping(alloc: Global) -> Result<Vec<(Range, Tag)>, Fail> {
+    let mut covers = Vec::new(alloc);
+    for number in 1..257 {
+        covers.push(cover(2 * number, 2 * number + 600, number)?)?;
+    }
+    Ok(covers)
+}
+
+// There are cuts at 2, 4, .. 512, and at 603, 605, .. 1113.
+#[test]
+fn as_many_pieces_as_there_can_be(rt: HostRuntime) -> Result<(), Fail> {
+    let covers = overlapping(rt.alloc())?;
+    assert!(rt; pieces_of_both(rt.alloc(), &covers)? == 513);
     Ok(())
 }
 
 #[test]
 fn one_cover_more(rt: HostRuntime) -> Result<(), Fail> {
     let (range, tag) = cover(3, 4, 5)?;
-    let blocks: PlainBlocks = with_cover(rt.alloc(), range, tag)?;
+    let blocks: LinkedBlocks = with_cover(rt.alloc(), range, tag)?;
     assert!(rt; blocks.pieces()?.len() == 3);
     Ok(())
 }

@@ -142,7 +142,8 @@ pub find-tags_at_place : (p : ℕ → Bool) (covers : List Cover) (i : ℕ) → 
 find-tags_at_place p covers i h =
     find-tags_at p covers i (leb-true 1 i (first_so (nat_le 1 i) (nat_le i MOST_PLACES) h)) (leb-true i MOST_PLACES (second_so (nat_le 1 i) (nat_le i MOST_PLACES) h))
 
-no_piece : (first : ℕ) (ps : List Piece) (i : ℕ) → follow_from first (ranges_of ps) ≡ true → i < first → tags_at ps i ≡ []
+-- places before the pieces have no tags
+pub no_piece : (first : ℕ) (ps : List Piece) (i : ℕ) → follow_from first (ranges_of ps) ≡ true → i < first → tags_at ps i ≡ []
 no_piece first [] i all low = refl
 no_piece first (p ∷ ps) i all low =
     let f = follows first p.range (ranges_of ps) all in
@@ -154,7 +155,8 @@ pub follow_from-bound : (first : ℕ) (rs : List Places) → follow_from first r
 follow_from-bound first [] all = omega (arith, eqb-true first (MOST_PLACES + 1) all)
 follow_from-bound first (r ∷ rs) all = let f = follows first r rs all in omega (arith, f.within, follow_from-bound (r.to + 1) rs f.rest)
 
-above_all : (first : ℕ) (ps : List Piece) (i : ℕ) → follow_from first (ranges_of ps) ≡ true → MOST_PLACES < i → tags_at ps i ≡ []
+-- nor have numbers past the last place
+pub above_all : (first : ℕ) (ps : List Piece) (i : ℕ) → follow_from first (ranges_of ps) ≡ true → MOST_PLACES < i → tags_at ps i ≡ []
 above_all first [] i all high = refl
 above_all first (p ∷ ps) i all high =
     let f = follows first p.range (ranges_of ps) all in

@@ -51,7 +51,7 @@ tags_at-cut_at x (p ∷ ps) i =
     ]) refl
 
 -- the pieces hold the same places in order
-follow_from-cut_at : (x : ℕ) (ps : List Piece) (first : ℕ) → follow_from first (ranges_of (cut_at x ps)) ≡ follow_from first (ranges_of ps)
+pub follow_from-cut_at : (x : ℕ) (ps : List Piece) (first : ℕ) → follow_from first (ranges_of (cut_at x ps)) ≡ follow_from first (ranges_of ps)
 follow_from-cut_at x [] first = refl
 follow_from-cut_at x (p ∷ ps) first =
     (elim (straddles x p.range) as (λ b. straddles x p.range ≡ b → follow_from first (ranges_of (cond b (halves x p) (p ∷ []) ++ cut_at x ps)) ≡ follow_from first (ranges_of (p ∷ ps))) [

@@ -1,4 +1,5 @@
 pub mod Covers
 pub mod Cuts
+pub mod Links
 pub mod Pieces
 pub mod Tags

@@ -9,10 +9,14 @@
 
 mod admitted;
 mod blocks;
+mod cuts;
+pub mod laws;
+mod linked;
 mod plain;
 mod tag;
 
 pub use admitted::Admitted;
 pub use blocks::{Blocks, run};
+pub use linked::LinkedBlocks;
 pub use plain::PlainBlocks;
 pub use tag::Tag;

@@ -4,11 +4,12 @@ ghost use Rattle.std.specs.FinSet as set;
 ghost use Rattle.std.specs.List.{list_any};
 ghost use Rattle.desk_words.specs.Places.{holds};
 ghost use Rattle.share_blocks.specs.Covers.{is_cut, newest_of, pieces_after};
-ghost use Rattle.share_blocks.specs.Cuts.{inner, is_inner, ranges_between, rise_from};
+ghost use Rattle.share_blocks.specs.Cuts.{inner, is_inner, rise_from};
 ghost use Rattle.share_blocks.specs.Pieces.{ranges_of, tags_at};
 
 use crate::admitted::Admitted;
 use crate::blocks::Blocks;
+use crate::cuts::parted_at;
 use crate::tag::Tag;
 use desk_lists::in_order_once;
 use desk_words::{MOST_PLACES, Range};
@@ -107,19 +108,4 @@ fn pieces_of(alloc: Global, covers: &[(Range, Tag)]) -> Result<Vec<Range>, Alloc
 {
     let cuts = cuts_in_order(alloc, covers)?;
     parted_at(alloc, cuts.as_slice())
-}
-
-/// All places, parted at the cuts.
-fn parted_at(alloc: Global, cuts: &[u64]) -> Result<Vec<Range>, AllocError>
-    requires { IsTrue (rise_from 1 cuts.now) }
-    ensures { IfOk result (λ ranges. ranges.items ≡ ranges_between 1 cuts.now) }
-{
-    let mut ranges = Vec::new(alloc);
-    let mut from = 1;
-    for cut in cuts {
-        ranges.push(Range::with_ends(from, *cut - 1))?;
-        from = *cut;
-    }
-    ranges.push(Range::with_ends(from, MOST_PLACES))?;
-    Ok(ranges)
 }

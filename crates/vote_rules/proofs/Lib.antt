@@ -7,3 +7,4 @@ pub mod PartingLemmas
 pub mod RowLemmas
 pub mod TallyLemmas
 pub mod VoteLemmas
+mod OrderLemmas

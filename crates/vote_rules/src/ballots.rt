@@ -1,11 +1,13 @@
 //! The valid vote of a place, by the casts of each voter who may vote for it.
-ghost use Rattle.std.specs.Prelude.{◌≡◌, ℕ, IfOk, None, Some, map, filter};
+ghost use Rattle.std.specs.Prelude.{◌≡◌, ℕ, IfOk, None, Some, true, false, map, filter, nat_lt};
 ghost use Rattle.std.specs.BTreeMap.{get};
 ghost use Rattle.std.specs.List.{filter_map, list_all, slice_get};
+ghost use Rattle.std.specs.List.Sorted.{IsPartitionPoint};
 ghost use Rattle.desk_terms.specs.Names.{name_cmp};
 ghost use Rattle.desk_terms.specs.declared.kinds.Capacity.TheVariants.{Proxy};
 ghost use Rattle.desk_words.specs.declared.records.Appointment.{Appointment};
-ghost use Rattle.vote_rules.specs.Ballots.{capacity_for, governing_at, piece_at, vote_by, vote_by_governing, vote_by_proxy, vote_if, voters_for, ways_at};
+ghost use Rattle.proxy_rules.specs.declared.pieces.GovernedPiece.{GovernedPiece};
+ghost use Rattle.vote_rules.specs.Ballots.{AreInOrder, capacity_for, governing_at, piece_at, vote_by, vote_by_governing, vote_by_proxy, vote_if, voters_for, ways_at};
 ghost use Rattle.vote_rules.specs.Covers.{pieces_by, way_at};
 ghost use Rattle.proxy_rules.specs.Instructions.{same_way};
 ghost use Rattle.vote_rules.specs.Votes.{common_way};
@@ -201,18 +203,31 @@ fn common_way(ways: &[Way]) -> Option<Option<Way>>
     Some(if are_all(ways, way) { Some(way) } else { None })
 }
 
-/// The piece that holds the place.
+/// Where the first of the pieces stands that ends at the place or behind it, or how many there are.
+fn first_that_reaches(governed: &[GovernedPiece], place: u64) -> usize
+    requires { AreInOrder governed.now }
+    ensures { IsPartitionPoint (λ (piece : GovernedPiece). nat_lt piece.range.to place ≡ true)
+        (λ (piece : GovernedPiece). nat_lt piece.range.to place ≡ false) governed.now result }
+{
+    governed.partition_point(|piece| piece.range.to() < place)
+}
+
+/// The piece that holds the place, found by halves.
 fn piece_at(governed: &[GovernedPiece], place: u64) -> Option<GovernedPiece>
+    requires { AreInOrder governed.now }
     ensures { result ≡ piece_at governed.now place }
 {
-    governed
-        .iter()
-        .copied()
-        .find(|piece| piece.range.has(place))
+    let piece = *governed.get(first_that_reaches(governed, place))?;
+    if piece.range.has(place) {
+        Some(piece)
+    } else {
+        None
+    }
 }
 
 /// Where the appointment stands that governs the place.
 pub(crate) fn governing_at(governed: &[GovernedPiece], place: u64) -> Option<usize>
+    requires { AreInOrder governed.now }
     ensures { result ≡ governing_at governed.now place }
 {
     piece_at(governed, place)?.by

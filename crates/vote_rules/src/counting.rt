@@ -9,7 +9,7 @@ ghost use Rattle.desk_words.specs.declared.records.RegisterRow.{RegisterRow};
 ghost use Rattle.proxy_rules.specs.Holdings.{IsKept, are_tags, holding_by};
 ghost use Rattle.proxy_rules.specs.Shares.{are_rows, shares_of};
 ghost use Rattle.proxy_rules.specs.Tiles.{places_in};
-ghost use Rattle.vote_rules.specs.Ballots.{governing_at, vote_by};
+ghost use Rattle.vote_rules.specs.Ballots.{AreInOrder, governing_at, vote_by};
 ghost use Rattle.vote_rules.specs.Covers.{vote_among};
 ghost use Rattle.vote_rules.specs.Received.{is_on_shares_of};
 ghost use Rattle.vote_rules.specs.Sums.{FitsBoth, FitsMore, added, tally_over, tally_to, with_votes};
@@ -20,7 +20,7 @@ use crate::parting::parted;
 use crate::received::PollCasts;
 use desk_words::{Appointment, Range, RegisterRow, Tally, Way};
 use proxy_rules::{Cutoffs, GovernedPiece, Holding, Papers};
-use share_blocks::{Blocks, PlainBlocks};
+use share_blocks::{Blocks, LinkedBlocks, PlainBlocks};
 use std::alloc::{AllocError, Global};
 
 const NOTHING: Tally = Tally {
@@ -60,7 +60,8 @@ fn tally_over<B: Blocks>(
     resolution: u64,
     ranges: &[Range],
 ) -> Result<Tally, AllocError>
-    requires { sum_by places_in ranges.now ≤ 10 ^ 12 }
+    requires few { sum_by places_in ranges.now ≤ 10 ^ 12 }
+    requires pieces { AreInOrder governed.now }
     ensures { IfOk result
         (λ tally. tally
         ≡ tally_over
@@ -111,7 +112,7 @@ fn tally_row<B: Blocks>(
         appointed,
         row,
     )?;
-    let ranges = parted::<B>(
+    let ranges = parted::<PlainBlocks>(
         alloc,
         governed.as_slice(),
         on_row.as_slice(),
@@ -198,5 +199,5 @@ pub fn tally(
         papers.now.endings.now papers.now.authorities.now papers.now.casts.now resolution) }
 {
     let casts = PollCasts::on(alloc, papers.casts.as_slice(), resolution)?;
-    tally_rows::<PlainBlocks>(alloc, cutoffs, papers, &casts, resolution)
+    tally_rows::<LinkedBlocks>(alloc, cutoffs, papers, &casts, resolution)
 }

@@ -1,8 +1,9 @@
-use Rattle.std.proofs.Common.{◌≡◌, ap, ◌∙◌}
+use Rattle.std.proofs.Common.{◌≡◌, ap, length, ◌∙◌, arith}
 use Rattle.std.proofs.lemmas.List.{take_all}
 use Rattle.std.specs.Prelude.{find}
 use Rattle.share_blocks.specs.Covers.{pieces_after}
 use Rattle.share_blocks.specs.Pieces.{begin_at, follow_from, ranges_of, tags_at}
+use Rattle.share_blocks.proofs.BoundLemmas.{length-pieces_after}
 use Rattle.share_blocks.proofs.CoverLemmas.{begin_at-pieces_after, find-tags_at_place, follow_from-pieces_after, tags_at-place}
 use Rattle.share_blocks.proofs.blocks.run.Goals as goal
 
@@ -21,3 +22,6 @@ returns-clause-in_order g c = ap (λ pieces. follow_from 1 (ranges_of pieces)) (
 
 pub returns-clause-cuts : goal.returns-clause-cuts
 returns-clause-cuts g c = λ place low high. ap (λ pieces. begin_at (ranges_of pieces) place) (left g c) ∙ begin_at-pieces_after c.args.covers.now place low high
+
+pub returns-clause-bound : goal.returns-clause-bound
+returns-clause-bound g c = omega (arith, ap length (left g c), length-pieces_after c.args.covers.now)

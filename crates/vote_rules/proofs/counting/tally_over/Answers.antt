@@ -13,7 +13,7 @@ add_shares-requires g c =
     let ranges = c.args.ranges.now in
     let range = c.range-item.result in
     let vote : ℕ → Option Way = λ place. vote_by (map g.B.Blocks.pieces ballots.holders.items) (map g.B.Blocks.pieces ballots.proxies.items) c.args.appointed.now (governing_at c.args.governed.now place) c.args.resolution place in
-    let fits = ranges_fit vote ranges c.loop-range.range-index range c.requires c.loop-range-test.true c.range-item.is in
+    let fits = ranges_fit vote ranges c.loop-range.range-index range c.requires.few c.loop-range-test.true c.range-item.is in
     let P : Tally → Type 0 = λ t. FitsMore t c.places_in.result in
     let Q : ℕ → Type 0 = λ n. FitsMore (tally_over vote (take c.loop-range.range-index ranges)) n in
     subst P (sym c.loop-range.invariant) (subst Q (sym c.places_in.ensures) fits)

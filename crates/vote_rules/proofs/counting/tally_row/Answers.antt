@@ -10,7 +10,7 @@ use Rattle.proxy_rules.specs.Holdings.{holding_by}
 use Rattle.proxy_rules.specs.Shares.{shares_of}
 use Rattle.proxy_rules.specs.Tiles.{places_in}
 use Rattle.proxy_rules.specs.declared.holdings.Holding.{Holding}
-use Rattle.vote_rules.specs.Ballots.{IsUncut, capacity_for, cuts_of, governing_at, vote_by, voters_for}
+use Rattle.vote_rules.specs.Ballots.{AreInOrder, IsUncut, capacity_for, cuts_of, governing_at, vote_by, voters_for}
 use Rattle.vote_rules.specs.Covers.{pieces_by, vote_among}
 use Rattle.vote_rules.specs.Received.{is_on_shares_of}
 use Rattle.vote_rules.specs.Sums.{tally_over, tally_to}
@@ -19,8 +19,11 @@ use Rattle.vote_rules.proofs.CountLemmas.{places_in-tiles}
 use Rattle.vote_rules.proofs.RowLemmas.{counted}
 use Rattle.vote_rules.proofs.counting.tally_row.Goals as goal
 
-pub tally_over-requires : goal.tally_over-requires
-tally_over-requires g c =
+pub tally_over-requires-clause-pieces : goal.tally_over-requires-clause-pieces
+tally_over-requires-clause-pieces g c = subst AreInOrder (sym c.as_slice-4.ensures.value) (c.in_ok-holding.holding.shares, c.in_ok-governed.ensures.tiled)
+
+pub tally_over-requires-clause-few : goal.tally_over-requires-clause-few
+tally_over-requires-clause-few g c =
     let holding = c.in_ok-holding.holding in
     let ranges = c.in_ok-ranges.ranges.items in
     let few : holding.shares ≤ MOST_PLACES = let P : Holding → Type 0 = λ h. h.shares ≤ MOST_PLACES in subst P (sym c.in_ok-holding.ensures) c.requires.few in

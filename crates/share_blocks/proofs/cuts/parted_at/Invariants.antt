@@ -1,7 +1,7 @@
 use Rattle.std.proofs.Common.{◌≡◌, ◌++◌, ◌≤◌, drop, true}
 use Rattle.desk_terms.specs.declared.range.TheConstants.{MOST_PLACES}
 use Rattle.share_blocks.specs.Cuts.{ranges_between, rise_from}
-use Rattle.share_blocks.proofs.plain.parted_at.Given as goal
+use Rattle.share_blocks.proofs.cuts.parted_at.Given as goal
 
 -- the ranges so far and those between the cuts that are left are all
 abbrev pub invariant-loop-cut : goal.invariant-loop-cut
