@@ -1,8 +1,8 @@
 -- Working days by weekdays, working seconds by days, and the search for a second.
-use Rattle.std.proofs.Common.{◌≡◌, ℕ, ◌+◌, ◌*◌, ◌/◌, ◌%◌, ◌<◌, ◌≤◌, true, false, ◌&&◌, List, Some, None, arith}
-use Rattle.std.proofs.lemmas.Bool.{le-leb, lt-leb}
+use Rattle.std.proofs.Common.{◌≡◌, ℕ, ◌+◌, ◌*◌, ◌/◌, ◌%◌, ◌<◌, ◌≤◌, true, false, ◌&&◌, List, Some, None, ap, arith, inl, inr}
+use Rattle.std.proofs.lemmas.Bool.{cases_Bool, cases_lt, le-leb, lt-leb}
 use Rattle.office_days.specs.Days.{numbers_that, is_weekday, is_closed, is_working, working_days, work, leaves_hours, back, IsBack}
-use Rattle.office_days.proofs.Counting.{numbers_that-split, numbers_that-parts, numbers_that-bound, numbers_that-by_days, numbers_that-day_passes, numbers_that-day_fails, greatest_that-is, greatest_that-none}
+use Rattle.office_days.proofs.Counting.{numbers_that-split, numbers_that-parts, numbers_that-bound, numbers_that-by_days, numbers_that-day_passes, numbers_that-day_fails, numbers_that-none_between, greatest_that-is, greatest_that-none}
 
 -- the weekdays up to a day are those before another, the working days from there on and the closed weekdays
 pub weekdays-parts : (closed : List ℕ) (from to : ℕ) → from ≤ to
@@ -36,12 +36,93 @@ work-by_days closed from to h =
 pub work-later : (closed : List ℕ) (from mid to : ℕ) → from ≤ mid → mid ≤ to → work closed mid to ≤ work closed from to
 work-later closed from mid to h k = omega (arith, numbers_that-split (λ second. is_working closed (second / 86400)) from mid to h k)
 
--- between a second that leaves enough working time and one from which on none does
+-- between a day whose beginning leaves enough working time and one from which on none does
 pub record IsBracket (closed : List ℕ) (wanted end leaves too_late : ℕ) : Type 0 where
   pub ordered : leaves < too_late
-  pub within : too_late ≤ end + 1
-  pub enough : wanted ≤ work closed leaves end
-  pub few : (later : ℕ) → too_late ≤ later → later ≤ end → work closed later end < wanted
+  pub within : too_late ≤ end / 86400 + 1
+  pub enough : wanted ≤ work closed (86400 * leaves) end
+  pub few : (later : ℕ) → too_late ≤ later → later ≤ end / 86400 → work closed (86400 * later) end < wanted
+
+-- ---- the last second that leaves enough
+
+-- within a working day each second that passes leaves one second less
+work-in_day : (closed : List ℕ) (day second end : ℕ) → is_working closed day ≡ true → 86400 * day ≤ second → second ≤ 86400 * day + 86400 → second ≤ end
+    → work closed second end + second ≡ work closed (86400 * day) end + 86400 * day
+work-in_day closed day second end passes low high upto =
+    omega (arith, numbers_that-split (λ s. is_working closed (s / 86400)) (86400 * day) second end low upto, numbers_that-day_passes (is_working closed) day (86400 * day) second passes (omega arith) low high)
+
+-- a day that is no working day leaves at its end what it leaves at its beginning
+work-past_day : (closed : List ℕ) (day second end : ℕ) → is_working closed day ≡ false → 86400 * day ≤ second → second ≤ 86400 * day + 86400 → second ≤ end
+    → work closed second end ≡ work closed (86400 * day) end
+work-past_day closed day second end fails low high upto =
+    omega (arith, numbers_that-split (λ s. is_working closed (s / 86400)) (86400 * day) second end low upto, numbers_that-day_fails (is_working closed) day (86400 * day) second fails (omega arith) high)
+
+-- the last day whose beginning leaves enough
+pub record IsLastDay (closed : List ℕ) (wanted end day : ℕ) : Type 0 where
+  pub within : day ≤ end / 86400
+  pub leaves : wanted ≤ work closed (86400 * day) end
+  pub last : (later : ℕ) → day < later → later ≤ end / 86400 → work closed (86400 * later) end < wanted
+
+-- at the end of that day too little is left, where the day ends in time
+few_next : (closed : List ℕ) (wanted end day : ℕ) → IsLastDay closed wanted end day → 86400 * day + 86400 ≤ end → work closed (86400 * day + 86400) end < wanted
+few_next closed wanted end day is upto =
+    let next : 86400 * (day + 1) ≡ 86400 * day + 86400 = omega arith in
+    omega (arith, is.last (day + 1) (omega arith) (omega arith), ap (λ s. work closed s end) next)
+
+-- something is wanted, so that day is a working day
+last_day_works : (closed : List ℕ) (wanted end day : ℕ) → 0 < wanted → IsLastDay closed wanted end day → is_working closed day ≡ true
+last_day_works closed wanted end day some is =
+    elim (cases_Bool (is_working closed day)) [
+      | inl passes ↦ passes
+      | inr fails ↦
+          elim (cases_lt end (86400 * day + 86400)) [
+            | inl ends ↦ absurd (omega (arith, work-past_day closed day end end fails (omega (arith, is.within)) (omega arith) (omega arith), numbers_that-none_between (λ s. is_working closed (s / 86400)) end end (omega arith), is.leaves))
+            | inr goes_on ↦ absurd (omega (arith, work-past_day closed day (86400 * day + 86400) end fails (omega arith) (omega arith) goes_on, few_next closed wanted end day is goes_on, is.leaves))
+          ]
+    ]
+
+-- what the beginning of that day leaves beyond what is wanted lies within the day and before the end
+surplus_within : (closed : List ℕ) (wanted end day : ℕ) → 0 < wanted → IsLastDay closed wanted end day
+    → (86400 * day + work closed (86400 * day) end ≤ wanted + end) × (work closed (86400 * day) end ≤ wanted + 86400)
+surplus_within closed wanted end day some is =
+    let works = last_day_works closed wanted end day some is in
+    elim (cases_lt end (86400 * day + 86400)) [
+      | inl ends ↦
+          let all = work-in_day closed day end end works (omega (arith, is.within)) (omega arith) (omega arith) in
+          let nothing = numbers_that-none_between (λ s. is_working closed (s / 86400)) end end (omega arith) in
+          (omega (arith, all, nothing), omega (arith, all, nothing))
+      | inr goes_on ↦
+          let rest = work-in_day closed day (86400 * day + 86400) end works (omega arith) (omega arith) goes_on in
+          let few = few_next closed wanted end day is goes_on in
+          (omega (arith, rest, few), omega (arith, rest, few))
+    ]
+
+-- a second of that day, or later
+later_few : (closed : List ℕ) (wanted end day later : ℕ) → 0 < wanted → IsLastDay closed wanted end day → 86400 * day + work closed (86400 * day) end < later + wanted → later ≤ end
+    → work closed later end < wanted
+later_few closed wanted end day later some is past upto =
+    let works = last_day_works closed wanted end day some is in
+    elim (cases_lt (86400 * day + 86400) later) [
+      | inl beyond ↦ omega (arith, few_next closed wanted end day is (omega arith), work-later closed (86400 * day + 86400) later end (omega arith) upto)
+      | inr inside ↦ omega (arith, is.leaves, work-in_day closed day later end works (omega (arith, is.leaves)) inside upto)
+    ]
+
+-- the last second that leaves as much as is wanted
+pub record IsLatest (closed : List ℕ) (wanted end found : ℕ) : Type 0 where
+  pub within : found ≤ end
+  pub leaves : wanted ≤ work closed found end
+  pub latest : (later : ℕ) → found < later → later ≤ end → work closed later end < wanted
+
+pub latest_in_day : (closed : List ℕ) (wanted end day found : ℕ) → 0 < wanted → IsLastDay closed wanted end day → found + wanted ≡ 86400 * day + work closed (86400 * day) end
+    → IsLatest closed wanted end found
+latest_in_day closed wanted end day found some is sum =
+    let bounds = surplus_within closed wanted end day some is in
+    let at = work-in_day closed day found end (last_day_works closed wanted end day some is) (omega (arith, is.leaves)) (omega (arith, bounds.1)) (omega (arith, bounds.0)) in
+    record {
+      within = omega (arith, bounds.0);
+      leaves = omega (arith, at, is.leaves);
+      latest = λ later after upto. later_few closed wanted end day later some is (omega arith) upto;
+    }
 
 -- ---- back
 

@@ -1,5 +1,5 @@
 //! Working days and working time over closed days in order.
-ghost use Rattle.std.specs.Prelude.{◌≡◌, ◌+◌, ◌*◌, ◌/◌, ◌<◌, ◌≤◌, ◌^◌, ℕ, ◌&&◌, length, slice_index, count_by, IsTrue};
+ghost use Rattle.std.specs.Prelude.{◌≡◌, ◌+◌, ◌*◌, ◌/◌, ◌<◌, ◌≤◌, ℕ, ◌&&◌, length, slice_index, count_by, IsTrue};
 ghost use Rattle.desk_words.specs.Lists.{is_day_list};
 ghost use Rattle.office_days.specs.Days as office;
 
@@ -98,25 +98,58 @@ pub fn work(closed: &[Day], from: u64, to: u64) -> u64
     DAY * whole_days + worked_that_day(closed, to) - worked_that_day(closed, from)
 }
 
-/// The last second up to an end that leaves as much working time before the end as is wanted.
-pub fn latest_that_leaves(closed: &[Day], wanted: u64, end: u64) -> u64
+// A day whose beginning leaves as much working time before an end as is wanted, near the end.
+fn near_day_that_leaves(closed: &[Day], wanted: u64, end: u64) -> u64
     requires sorted { IsTrue (is_day_list closed.now) }
-    requires counted { end + 1 < 2 ^ 64 }
     requires enough { wanted ≤ office.work closed.now 0 end }
-    ensures within { result ≤ end }
-    ensures leaves { wanted ≤ office.work closed.now result end }
-    ensures latest { (later : ℕ) → result < later → later ≤ end
-        → office.work closed.now later end < wanted }
+    ensures within { result ≤ end / 86400 }
+    ensures leaves { wanted ≤ office.work closed.now (86400 * result) end }
 {
-    let mut leaves = 0;
-    let mut too_late = end + 1;
+    let last = end / DAY;
+    let mut back = 1;
+    while back < last {
+        if work(closed, DAY * (last - back), end) >= wanted {
+            return last - back;
+        }
+        back *= 2;
+    }
+    0
+}
+
+// The last day whose beginning leaves as much working time before an end as is wanted.
+fn last_day_that_leaves(closed: &[Day], wanted: u64, end: u64) -> u64
+    requires sorted { IsTrue (is_day_list closed.now) }
+    requires enough { wanted ≤ office.work closed.now 0 end }
+    ensures within { result ≤ end / 86400 }
+    ensures leaves { wanted ≤ office.work closed.now (86400 * result) end }
+    ensures last { (later : ℕ) → result < later → later ≤ end / 86400
+        → office.work closed.now (86400 * later) end < wanted }
+{
+    let mut leaves = near_day_that_leaves(closed, wanted, end);
+    let mut too_late = end / DAY + 1;
     while too_late - leaves > 1 {
         let middle = leaves + (too_late - leaves) / 2;
-        if work(closed, middle, end) >= wanted {
+        if work(closed, DAY * middle, end) >= wanted {
             leaves = middle;
         } else {
             too_late = middle;
         }
     }
     leaves
+}
+
+/// The last second up to an end that leaves as much working time before the end as is wanted.
+pub fn latest_that_leaves(closed: &[Day], wanted: u64, end: u64) -> u64
+    requires sorted { IsTrue (is_day_list closed.now) }
+    requires enough { wanted ≤ office.work closed.now 0 end }
+    ensures within { result ≤ end }
+    ensures leaves { wanted ≤ office.work closed.now result end }
+    ensures latest { (later : ℕ) → result < later → later ≤ end
+        → office.work closed.now later end < wanted }
+{
+    if wanted == 0 {
+        return end;
+    }
+    let begin = DAY * last_day_that_leaves(closed, wanted, end);
+    begin + (work(closed, begin, end) - wanted)
 }
