@@ -1,5 +1,4 @@
 pub mod Depths
 pub mod Moments
-pub mod Wholes
 pub mod FailureTexts
-pub mod ListLemmas
+pub mod WritingLemmas

@@ -4,3 +4,4 @@ pub mod Letters
 pub mod Notices
 pub mod Parts
 pub mod Replies
+pub mod Writing

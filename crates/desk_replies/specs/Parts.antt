@@ -8,19 +8,17 @@ use Rattle.desk_words.specs.declared.reply.Declaration.{Declaration}
 use Rattle.desk_words.specs.declared.reply.Mine.{Mine}
 use Rattle.desk_words.specs.declared.reply.Notice.{Notice}
 use Rattle.desk_words.specs.declared.reply.NoticedPoll.{NoticedPoll}
-use Rattle.desk_replies.specs.Appointments.{given_data, instruction_data, received_data, run_data}
+use Rattle.desk_replies.specs.Appointments.{given_data, instruction_data, run_data}
 use Rattle.desk_replies.specs.Forms.{whole, day_data, moment_data, or_null, listed}
-use Rattle.desk_replies.specs.Replies.{authorised_data, cast_data, demand_data, person_data}
+use Rattle.desk_replies.specs.Replies.{authorised_data, cast_data, demand_data}
 
--- the members of a party's own things that are lists
-abbrev pub mine_lists : Mine → List (List ℕ × Data)
-mine_lists m =
+-- the members of a party's own things before the meeting's name
+abbrev pub mine_head : Mine → List (List ℕ × Data)
+mine_head m =
     (codes "authorised", listed authorised_data m.authorised)
     ∷ (codes "casts", listed cast_data m.casts)
     ∷ (codes "demands", listed demand_data m.demands)
     ∷ (codes "given", listed given_data m.given)
-    ∷ (codes "persons", listed person_data m.persons)
-    ∷ (codes "received", listed received_data m.received)
     ∷ []
 
 -- the members of a poll before the moment of its order
@@ -42,14 +40,13 @@ notice_head n =
     ∷ (codes "kind", string (meeting_kind_word n.kind))
     ∷ []
 
--- the members of the result of a poll
-abbrev pub result_members : Declaration → List (List ℕ × Data)
-result_members d =
+-- the members of the result of a poll but the last, the shares whose vote was withheld
+abbrev pub result_head : Declaration → List (List ℕ × Data)
+result_head d =
     (codes "against", whole d.tally.votes_against)
     ∷ (codes "carried", boolean d.carried)
     ∷ (codes "eligible", whole d.tally.eligible)
     ∷ (codes "for", whole d.tally.votes_for)
-    ∷ (codes "withheld", whole d.tally.withheld)
     ∷ []
 
 -- the members of an appointment that the party gave, before its proxy's name

@@ -1,14 +1,13 @@
 //! Appointments of proxies, as JSON.
-ghost use Rattle.std.specs.Prelude.{◌≡◌, IfOk};
-ghost use Rattle.serde_json.specs.View.{view, members_view};
+ghost use Rattle.std.specs.Prelude.{◌≡◌, OnOk};
 ghost use Rattle.desk_replies.specs.Appointments.{instruction_data, use_word, given_data, appointed_data, ended_data};
-ghost use Rattle.desk_replies.specs.Forms.{members};
 ghost use Rattle.desk_replies.specs.Parts.{given_head};
+ghost use Rattle.desk_replies.specs.Writing.{WritesMembers, WritesValue};
 
 use crate::shown::{Shown, put_list, put_number, put_or_null, put_shown, put_text};
 use desk_words::{AppointmentReceipt, AppointmentUse, Given, GivenUse, Instr};
-use serde_json::{Map, Value};
-use std::alloc::{AllocError, Global};
+use json::Writer;
+use std::alloc::AllocError;
 
 /// The words for what an appointment counts for.
 fn use_word(used: AppointmentUse) -> &'static str
@@ -23,63 +22,57 @@ fn use_word(used: AppointmentUse) -> &'static str
 impl Shown for Instr {
     ghost shown = { instruction_data };
 
-    fn value(&self, alloc: Global) -> Result<Value, AllocError> {
-        Value::try_from_str(alloc, self.word())
+    fn write(&self, out: &mut Writer) -> Result<(), AllocError> {
+        out.string(self.word())
     }
 }
 
-/// The members of an appointment before its proxy's name.
-fn given_head(alloc: Global, given: &Given) -> Result<Map<String, Value>, AllocError>
-    ensures { IfOk result (λ map. members_view map.entries ≡ members (given_head given.now)) }
+/// Writes the members of an appointment before its proxy's name.
+fn put_given_head(out: &mut Writer, given: &Given) -> Result<(), AllocError>
+    ensures { OnOk result (WritesMembers (given_head given.now) out.old out.new) }
 {
     let appointment = &given.appointment;
-    let mut map = Map::new(alloc);
-    put_or_null(alloc, &mut map, "ended", &given.ended)?;
-    put_number(alloc, &mut map, "from", appointment.range.from())?;
-    put_list(
-        alloc,
-        &mut map,
-        "instructions",
-        appointment.instructions.as_slice(),
-    )?;
-    put_number(alloc, &mut map, "number", appointment.number)?;
-    Ok(map)
+    put_or_null(out, "ended", &given.ended)?;
+    put_number(out, "from", appointment.range.from())?;
+    put_list(out, "instructions", appointment.instructions.as_slice())?;
+    put_number(out, "number", appointment.number)
 }
 
 impl Shown for GivenUse {
     ghost shown = { given_data };
 
-    fn value(&self, alloc: Global) -> Result<Value, AllocError> {
+    fn write(&self, out: &mut Writer) -> Result<(), AllocError> {
         let appointment = &self.given.appointment;
-        let mut map = given_head(alloc, &self.given)?;
-        put_text(alloc, &mut map, "proxy", appointment.proxy.as_str())?;
-        put_shown(alloc, &mut map, "received", &appointment.moment)?;
-        put_number(alloc, &mut map, "to", appointment.range.to())?;
-        put_text(alloc, &mut map, "use", use_word(self.used))?;
-        Ok(Value::Object(map))
+        out.begin_object()?;
+        put_given_head(out, &self.given)?;
+        put_text(out, "proxy", appointment.proxy.as_str())?;
+        put_shown(out, "received", &appointment.moment)?;
+        put_number(out, "to", appointment.range.to())?;
+        put_text(out, "use", use_word(self.used))?;
+        out.end_object()
     }
 }
 
-/// The object that answers a party whose appointment is recorded.
-pub(crate) fn appointed_value(
-    alloc: Global,
+/// Writes the object that answers a party whose appointment is recorded.
+pub(crate) fn write_appointed(
+    out: &mut Writer,
     receipt: AppointmentReceipt,
-) -> Result<Value, AllocError>
-    ensures { IfOk result (λ v. view v ≡ appointed_data receipt) }
+) -> Result<(), AllocError>
+    ensures { OnOk result (WritesValue (appointed_data receipt) out.old out.new) }
 {
-    let mut map = Map::new(alloc);
-    put_number(alloc, &mut map, "number", receipt.number)?;
-    put_text(alloc, &mut map, "ok", "appointed")?;
-    put_text(alloc, &mut map, "use", use_word(receipt.used))?;
-    Ok(Value::Object(map))
+    out.begin_object()?;
+    put_number(out, "number", receipt.number)?;
+    put_text(out, "ok", "appointed")?;
+    put_text(out, "use", use_word(receipt.used))?;
+    out.end_object()
 }
 
-/// The object that answers a party that ended its appointment of that number.
-pub(crate) fn ended_value(alloc: Global, number: u64) -> Result<Value, AllocError>
-    ensures { IfOk result (λ v. view v ≡ ended_data number) }
+/// Writes the object that answers a party that ended its appointment of that number.
+pub(crate) fn write_ended(out: &mut Writer, number: u64) -> Result<(), AllocError>
+    ensures { OnOk result (WritesValue (ended_data number) out.old out.new) }
 {
-    let mut map = Map::new(alloc);
-    put_number(alloc, &mut map, "number", number)?;
-    put_text(alloc, &mut map, "ok", "ended")?;
-    Ok(Value::Object(map))
+    out.begin_object()?;
+    put_number(out, "number", number)?;
+    put_text(out, "ok", "ended")?;
+    out.end_object()
 }

@@ -1,122 +1,123 @@
 //! A party's own things, as JSON.
-ghost use Rattle.std.specs.Prelude.{◌≡◌, IfOk};
-ghost use Rattle.serde_json.specs.View.{view, members_view};
-ghost use Rattle.desk_replies.specs.Forms.{moment_data, members};
+ghost use Rattle.std.specs.Prelude.{OnOk};
+ghost use Rattle.desk_replies.specs.Forms.{moment_data};
+ghost use Rattle.desk_replies.specs.Parts.{mine_head};
 ghost use Rattle.desk_replies.specs.Replies.{row_data, person_data, authorised_data, demand_data, cast_kind_data, cast_data, mine_data};
-ghost use Rattle.desk_replies.specs.Parts.{mine_lists};
+ghost use Rattle.desk_replies.specs.Writing.{WritesMembers, WritesValue};
 
-use crate::shown::{Shown, put_list, put_number, put_or_null, put_text};
+use crate::shown::{Shown, put_list, put_number, put_or_null, put_text, put_truth, write_number};
 use desk_words::{
     Authorised, Authority, Block, CastKind, CastMark, DemandMark, Mine, Moment, RegisterRow,
     write_moment,
 };
-use serde_json::{Map, Value, put};
-use std::alloc::{AllocError, Global};
+use json::Writer;
+use std::alloc::AllocError;
 
 impl Shown for Moment {
     ghost shown = { moment_data };
 
-    fn value(&self, alloc: Global) -> Result<Value, AllocError> {
+    fn write(&self, out: &mut Writer) -> Result<(), AllocError> {
         let text = write_moment(*self);
-        Value::try_from_str(alloc, str::from_utf8(&text).unwrap())
+        out.string(str::from_utf8(&text).unwrap())
     }
 }
 
 impl Shown for RegisterRow {
     ghost shown = { row_data };
 
-    fn value(&self, alloc: Global) -> Result<Value, AllocError> {
-        let mut map = Map::new(alloc);
-        put_text(alloc, &mut map, "kind", self.kind.word())?;
-        put_text(alloc, &mut map, "name", self.name.as_str())?;
-        put_number(alloc, &mut map, "paid", self.paid)?;
-        put_number(alloc, &mut map, "shares", self.shares)?;
-        Ok(Value::Object(map))
+    fn write(&self, out: &mut Writer) -> Result<(), AllocError> {
+        out.begin_object()?;
+        put_text(out, "kind", self.kind.word())?;
+        put_text(out, "name", self.name.as_str())?;
+        put_number(out, "paid", self.paid)?;
+        put_number(out, "shares", self.shares)?;
+        out.end_object()
     }
 }
 
 impl Shown for Authority {
     ghost shown = { person_data };
 
-    fn value(&self, alloc: Global) -> Result<Value, AllocError> {
-        Value::try_from_str(alloc, self.person.as_str())
+    fn write(&self, out: &mut Writer) -> Result<(), AllocError> {
+        out.string(self.person.as_str())
     }
 }
 
 impl Shown for Authorised {
     ghost shown = { authorised_data };
 
-    fn value(&self, alloc: Global) -> Result<Value, AllocError> {
-        let mut map = Map::new(alloc);
-        put_text(alloc, &mut map, "corporation", self.corporation.as_str())?;
-        put_number(alloc, &mut map, "shares", self.shares)?;
-        Ok(Value::Object(map))
+    fn write(&self, out: &mut Writer) -> Result<(), AllocError> {
+        out.begin_object()?;
+        put_text(out, "corporation", self.corporation.as_str())?;
+        put_number(out, "shares", self.shares)?;
+        out.end_object()
     }
 }
 
 impl Shown for DemandMark {
     ghost shown = { demand_data };
 
-    fn value(&self, _alloc: Global) -> Result<Value, AllocError> {
-        Ok(Value::from(self.resolution))
+    fn write(&self, out: &mut Writer) -> Result<(), AllocError> {
+        write_number(out, self.resolution)
     }
 }
 
-fn block_value(alloc: Global, resolution: u64, block: Block) -> Result<Value, AllocError>
-    ensures { IfOk result (λ v. view v ≡ cast_kind_data resolution (CastKind.Block block)) }
+fn write_block(out: &mut Writer, resolution: u64, block: Block) -> Result<(), AllocError>
+    ensures { OnOk result
+        (WritesValue (cast_kind_data resolution (CastKind.Block block)) out.old out.new) }
 {
-    let mut map = Map::new(alloc);
-    put_text(alloc, &mut map, "as", block.capacity.word())?;
-    put_number(alloc, &mut map, "from", block.range.from())?;
-    put_text(alloc, &mut map, "member", block.member.as_str())?;
-    put_number(alloc, &mut map, "resolution", resolution)?;
-    put_number(alloc, &mut map, "to", block.range.to())?;
-    put_text(alloc, &mut map, "way", block.way.word())?;
-    Ok(Value::Object(map))
+    out.begin_object()?;
+    put_text(out, "as", block.capacity.word())?;
+    put_number(out, "from", block.range.from())?;
+    put_text(out, "member", block.member.as_str())?;
+    put_number(out, "resolution", resolution)?;
+    put_number(out, "to", block.range.to())?;
+    put_text(out, "way", block.way.word())?;
+    out.end_object()
 }
 
-fn as_instructed_value(alloc: Global, resolution: u64) -> Result<Value, AllocError>
-    ensures { IfOk result (λ v. view v ≡ cast_kind_data resolution CastKind.AsInstructed) }
+fn write_as_instructed(out: &mut Writer, resolution: u64) -> Result<(), AllocError>
+    ensures { OnOk result
+        (WritesValue (cast_kind_data resolution CastKind.AsInstructed) out.old out.new) }
 {
-    let mut map = Map::new(alloc);
-    put_text(alloc, &mut map, "as", "instructed")?;
-    put_number(alloc, &mut map, "resolution", resolution)?;
-    Ok(Value::Object(map))
+    out.begin_object()?;
+    put_text(out, "as", "instructed")?;
+    put_number(out, "resolution", resolution)?;
+    out.end_object()
 }
 
 impl Shown for CastMark {
     ghost shown = { cast_data };
 
-    fn value(&self, alloc: Global) -> Result<Value, AllocError> {
+    fn write(&self, out: &mut Writer) -> Result<(), AllocError> {
         match self.what {
-            CastKind::Block(block) => block_value(alloc, self.resolution, block),
-            CastKind::AsInstructed => as_instructed_value(alloc, self.resolution),
+            CastKind::Block(block) => write_block(out, self.resolution, block),
+            CastKind::AsInstructed => write_as_instructed(out, self.resolution),
         }
     }
 }
 
-/// The members that are lists.
-fn mine_lists(alloc: Global, mine: &Mine) -> Result<Map<String, Value>, AllocError>
-    ensures { IfOk result (λ map. members_view map.entries ≡ members (mine_lists mine.now)) }
+/// Writes the members before the meeting's name.
+fn put_mine_head(out: &mut Writer, mine: &Mine) -> Result<(), AllocError>
+    ensures { OnOk result (WritesMembers (mine_head mine.now) out.old out.new) }
 {
-    let mut map = Map::new(alloc);
-    put_list(alloc, &mut map, "authorised", mine.authorised.as_slice())?;
-    put_list(alloc, &mut map, "casts", mine.casts.as_slice())?;
-    put_list(alloc, &mut map, "demands", mine.demands.as_slice())?;
-    put_list(alloc, &mut map, "given", mine.given.as_slice())?;
-    put_list(alloc, &mut map, "persons", mine.persons.as_slice())?;
-    put_list(alloc, &mut map, "received", mine.received.as_slice())?;
-    Ok(map)
+    put_list(out, "authorised", mine.authorised.as_slice())?;
+    put_list(out, "casts", mine.casts.as_slice())?;
+    put_list(out, "demands", mine.demands.as_slice())?;
+    put_list(out, "given", mine.given.as_slice())
 }
 
-/// The object that answers a party that asks for its own things.
-pub(crate) fn mine_value(alloc: Global, mine: &Mine) -> Result<Value, AllocError>
-    ensures { IfOk result (λ v. view v ≡ mine_data mine.now) }
+/// Writes the object that answers a party that asks for its own things.
+pub(crate) fn write_mine(out: &mut Writer, mine: &Mine) -> Result<(), AllocError>
+    ensures { OnOk result (WritesValue (mine_data mine.now) out.old out.new) }
 {
-    let mut map = mine_lists(alloc, mine)?;
-    put_text(alloc, &mut map, "meeting", mine.meeting.as_str())?;
-    put_text(alloc, &mut map, "ok", "mine")?;
-    put(&mut map, alloc, "present", Value::Bool(mine.present))?;
-    put_or_null(alloc, &mut map, "row", &mine.row)?;
-    Ok(Value::Object(map))
+    out.begin_object()?;
+    put_mine_head(out, mine)?;
+    put_text(out, "meeting", mine.meeting.as_str())?;
+    put_text(out, "ok", "mine")?;
+    put_list(out, "persons", mine.persons.as_slice())?;
+    put_truth(out, "present", mine.present)?;
+    put_list(out, "received", mine.received.as_slice())?;
+    put_or_null(out, "row", &mine.row)?;
+    out.end_object()
 }

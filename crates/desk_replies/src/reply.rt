@@ -1,61 +1,66 @@
 //! The texts of replies.
-ghost use Rattle.std.specs.Prelude.{◌≡◌, Some, IfOk};
+ghost use Rattle.std.specs.Prelude.{◌≡◌, Some, IfOk, OnOk};
 ghost use Rattle.serde_json.specs.Read.{read};
-ghost use Rattle.serde_json.specs.View.{view};
 ghost use Rattle.desk_replies.specs.Replies.{ok_data, declaration_data, refusal_data, reply_data, reply_bytes};
+ghost use Rattle.desk_replies.specs.Writing.{WritesValue};
 
-use crate::appointment::{appointed_value, ended_value};
-use crate::mine::mine_value;
-use crate::notice::{notice_value, result_members};
+use crate::appointment::{write_appointed, write_ended};
+use crate::mine::write_mine;
+use crate::notice::{put_result_head, write_notice};
 use crate::shown::{put_number, put_text};
 use desk_words::{Declaration, Refusal, Reply};
-use serde_json::{Map, Value};
+use json::Writer;
 use std::alloc::{AllocError, Global};
 
-fn ok_value(alloc: Global, word: &str) -> Result<Value, AllocError>
-    ensures { IfOk result (λ v. view v ≡ ok_data word.now) }
+// What the text of a short reply has room in, so that its buffer grows for no token.
+const SHORT_TEXT: usize = 128;
+
+fn write_ok(out: &mut Writer, word: &str) -> Result<(), AllocError>
+    ensures { OnOk result (WritesValue (ok_data word.now) out.old out.new) }
 {
-    let mut map = Map::new(alloc);
-    put_text(alloc, &mut map, "ok", word)?;
-    Ok(Value::Object(map))
+    out.begin_object()?;
+    put_text(out, "ok", word)?;
+    out.end_object()
 }
 
-fn declaration_value(alloc: Global, declared: Declaration) -> Result<Value, AllocError>
-    ensures { IfOk result (λ v. view v ≡ declaration_data declared) }
+fn write_declaration(out: &mut Writer, declared: Declaration) -> Result<(), AllocError>
+    ensures { OnOk result (WritesValue (declaration_data declared) out.old out.new) }
 {
-    let mut map = result_members(alloc, declared)?;
-    put_text(alloc, &mut map, "ok", "declared")?;
-    Ok(Value::Object(map))
+    out.begin_object()?;
+    put_result_head(out, declared)?;
+    put_text(out, "ok", "declared")?;
+    put_number(out, "withheld", declared.tally.withheld)?;
+    out.end_object()
 }
 
-fn refusal_value(alloc: Global, refusal: Refusal) -> Result<Value, AllocError>
-    ensures { IfOk result (λ v. view v ≡ refusal_data refusal) }
+fn write_refusal(out: &mut Writer, refusal: Refusal) -> Result<(), AllocError>
+    ensures { OnOk result (WritesValue (refusal_data refusal) out.old out.new) }
 {
-    let mut map = Map::new(alloc);
-    put_number(alloc, &mut map, "code", u64::from(refusal.number()))?;
-    put_text(alloc, &mut map, "refused", refusal.name())?;
-    Ok(Value::Object(map))
+    out.begin_object()?;
+    put_number(out, "code", u64::from(refusal.number()))?;
+    put_text(out, "refused", refusal.name())?;
+    out.end_object()
 }
 
-fn reply_value(alloc: Global, reply: &Reply) -> Result<Value, AllocError>
-    ensures { IfOk result (λ v. view v ≡ reply_data reply.now) }
+fn write_reply(out: &mut Writer, reply: &Reply) -> Result<(), AllocError>
+    ensures { OnOk result (WritesValue (reply_data reply.now) out.old out.new) }
 {
     match reply {
-        Reply::Called => ok_value(alloc, "called"),
-        Reply::Loaded => ok_value(alloc, "loaded"),
-        Reply::Same => ok_value(alloc, "same"),
-        Reply::MeetingOpened => ok_value(alloc, "opened"),
-        Reply::Ordered => ok_value(alloc, "ordered"),
-        Reply::Started => ok_value(alloc, "started"),
-        Reply::VotingClosed => ok_value(alloc, "closed"),
-        Reply::Declared(declared) => declaration_value(alloc, *declared),
-        Reply::Notice(notice) => notice_value(alloc, notice),
-        Reply::Mine(mine) => mine_value(alloc, mine),
-        Reply::Appointed(receipt) => appointed_value(alloc, *receipt),
-        Reply::Ended(number) => ended_value(alloc, *number),
-        Reply::Noted => ok_value(alloc, "noted"),
-        Reply::Recorded => ok_value(alloc, "recorded"),
-        Reply::Refused(refusal) => refusal_value(alloc, *refusal),
+        Reply::Called => write_ok(out, "called"),
+        Reply::Loaded => write_ok(out, "loaded"),
+        Reply::Same => write_ok(out, "same"),
+        Reply::MeetingOpened => write_ok(out, "opened"),
+        Reply::Ordered => write_ok(out, "ordered"),
+        Reply::Started => write_ok(out, "started"),
+        Reply::VotingClosed => write_ok(out, "closed"),
+        Reply::Declared(declared) => write_declaration(out, *declared),
+        Reply::Notice(notice) => write_notice(out, notice),
+        Reply::Mine(mine) => write_mine(out, mine),
+        Reply::Appointed(receipt) => write_appointed(out, *receipt),
+        Reply::Ended(number) => write_ended(out, *number),
+        Reply::Noted => write_ok(out, "noted"),
+        Reply::Recorded => write_ok(out, "recorded"),
+        Reply::Refused(refusal) => write_refusal(out, *refusal),
     }
 }
 
@@ -65,6 +70,7 @@ pub fn reply_text(alloc: Global, reply: &Reply) -> Result<Vec<u8>, AllocError>
     ensures text { IfOk result (λ text. text.items ≡ reply_bytes reply.now) }
     ensures reads_back { IfOk result (λ text. read text.items ≡ Some (reply_data reply.now)) }
 {
-    let value = reply_value(alloc, reply)?;
-    value.to_vec(alloc)
+    let mut out = Writer::new(Vec::with_capacity(alloc, SHORT_TEXT)?);
+    write_reply(&mut out, reply)?;
+    Ok(out.into_inner())
 }

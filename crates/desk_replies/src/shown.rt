@@ -1,11 +1,11 @@
-//! What replies show, as JSON.
-ghost use Rattle.std.specs.Prelude.{◌≡◌, IfOk, OnOk, OnErr};
-ghost use Rattle.serde_json.specs.View.{view, members_view};
-ghost use Rattle.serde_json.specs.Data.{string, put as with_member};
+//! What replies show, written as JSON, a token at a time.
+ghost use Rattle.std.specs.Prelude.{[], ◌∷◌, OnOk};
+ghost use Rattle.serde_json.specs.Data.{boolean, string};
 ghost use Rattle.desk_replies.specs.Forms.{whole, listed, or_null};
+ghost use Rattle.desk_replies.specs.Writing.{WritesMembers, WritesValue};
 
-use serde_json::{Map, Value, put};
-use std::alloc::{AllocError, Global};
+use json::Writer;
+use std::alloc::AllocError;
 
 /// What has a form of its own in replies.
 pub(crate) trait Shown {
@@ -13,104 +13,89 @@ pub(crate) trait Shown {
 
     ghost shown: { Self → Data };
 
-    fn value(&self, alloc: Global) -> Result<Value, AllocError>
-        ensures { IfOk result (λ v. view v ≡ shown self.now) };
+    /// Writes it. The only error is want of memory.
+    fn write(&self, out: &mut Writer) -> Result<(), AllocError>
+        ensures { OnOk result (WritesValue (shown self.now) out.old out.new) };
 }
 
-/// The list of these, in their order.
-pub(crate) fn list_value<T: Shown>(alloc: Global, items: &[T]) -> Result<Value, AllocError>
-    ensures { IfOk result (λ v. view v ≡ listed T.shown items.now) }
+/// Writes a number.
+pub(crate) fn write_number(out: &mut Writer, number: u64) -> Result<(), AllocError>
+    ensures { OnOk result (WritesValue (whole number) out.old out.new) }
 {
-    let mut list = Vec::new(alloc);
+    out.u64(number)
+}
+
+/// Writes the list of these, in their order.
+pub(crate) fn write_list<T: Shown>(out: &mut Writer, items: &[T]) -> Result<(), AllocError>
+    ensures { OnOk result (WritesValue (listed T.shown items.now) out.old out.new) }
+{
+    out.begin_array()?;
     for item in items {
-        let value = item.value(alloc)?;
-        list.push(value)?;
+        item.write(out)?;
     }
-    Ok(Value::Array(list))
+    out.end_array()
 }
 
-/// Gives an object the list of these, in their order, under a key. With an error the object stays
-/// as it was.
-pub(crate) fn put_list<T: Shown>(
-    alloc: Global,
-    map: &mut Map<String, Value>,
-    key: &str,
-    items: &[T],
-) -> Result<(), AllocError>
-    ensures ok { OnOk result (members_view map.new.entries
-        ≡ with_member key.now (listed T.shown items.now) (members_view map.old.entries)) }
-    ensures err { OnErr result (map.new.entries ≡ map.old.entries) }
-{
-    let list = list_value(alloc, items)?;
-    put(map, alloc, key, list)
-}
-
-/// The form of what is there, or null where nothing is.
-pub(crate) fn value_or_null<T: Shown>(alloc: Global, item: &Option<T>) -> Result<Value, AllocError>
-    ensures { IfOk result (λ v. view v ≡ or_null T.shown item.now) }
+/// Writes what is there, or null where nothing is.
+pub(crate) fn write_or_null<T: Shown>(out: &mut Writer, item: &Option<T>) -> Result<(), AllocError>
+    ensures { OnOk result (WritesValue (or_null T.shown item.now) out.old out.new) }
 {
     match item {
-        Some(item) => item.value(alloc),
-        None => Ok(Value::Null),
+        Some(item) => item.write(out),
+        None => out.null(),
     }
 }
 
-/// Gives an object the form of this under a key. With an error the object stays as it was.
-pub(crate) fn put_shown<T: Shown>(
-    alloc: Global,
-    map: &mut Map<String, Value>,
-    key: &str,
-    item: &T,
-) -> Result<(), AllocError>
-    ensures ok { OnOk result (members_view map.new.entries
-        ≡ with_member key.now (T.shown item.now) (members_view map.old.entries)) }
-    ensures err { OnErr result (map.new.entries ≡ map.old.entries) }
+/// Writes a member that is the list of these, in their order.
+pub(crate) fn put_list<T: Shown>(out: &mut Writer, key: &str, items: &[T]) -> Result<(), AllocError>
+    ensures { OnOk result
+        (WritesMembers ((key.now, listed T.shown items.now) ∷ []) out.old out.new) }
 {
-    let value = item.value(alloc)?;
-    put(map, alloc, key, value)
+    out.key(key)?;
+    write_list(out, items)
 }
 
-/// Gives an object the form of what is there, or null, under a key. With an error the object stays
-/// as it was.
+/// Writes a member that is this.
+pub(crate) fn put_shown<T: Shown>(out: &mut Writer, key: &str, item: &T) -> Result<(), AllocError>
+    ensures { OnOk result (WritesMembers ((key.now, T.shown item.now) ∷ []) out.old out.new) }
+{
+    out.key(key)?;
+    item.write(out)
+}
+
+/// Writes a member that is what is there, or null.
 pub(crate) fn put_or_null<T: Shown>(
-    alloc: Global,
-    map: &mut Map<String, Value>,
+    out: &mut Writer,
     key: &str,
     item: &Option<T>,
 ) -> Result<(), AllocError>
-    ensures ok { OnOk result (members_view map.new.entries
-        ≡ with_member key.now (or_null T.shown item.now) (members_view map.old.entries)) }
-    ensures err { OnErr result (map.new.entries ≡ map.old.entries) }
+    ensures { OnOk result
+        (WritesMembers ((key.now, or_null T.shown item.now) ∷ []) out.old out.new) }
 {
-    let value = value_or_null(alloc, item)?;
-    put(map, alloc, key, value)
+    out.key(key)?;
+    write_or_null(out, item)
 }
 
-/// Gives an object a number under a key. With an error the object stays as it was.
-pub(crate) fn put_number(
-    alloc: Global,
-    map: &mut Map<String, Value>,
-    key: &str,
-    number: u64,
-) -> Result<(), AllocError>
-    ensures ok { OnOk result (members_view map.new.entries
-        ≡ with_member key.now (whole number) (members_view map.old.entries)) }
-    ensures err { OnErr result (map.new.entries ≡ map.old.entries) }
+/// Writes a member that is a number.
+pub(crate) fn put_number(out: &mut Writer, key: &str, number: u64) -> Result<(), AllocError>
+    ensures { OnOk result (WritesMembers ((key.now, whole number) ∷ []) out.old out.new) }
 {
-    put(map, alloc, key, Value::from(number))
+    out.key(key)?;
+    write_number(out, number)
 }
 
-/// Gives an object a text under a key. With an error the object stays as it was.
-pub(crate) fn put_text(
-    alloc: Global,
-    map: &mut Map<String, Value>,
-    key: &str,
-    text: &str,
-) -> Result<(), AllocError>
-    ensures ok { OnOk result (members_view map.new.entries
-        ≡ with_member key.now (string text.now) (members_view map.old.entries)) }
-    ensures err { OnErr result (map.new.entries ≡ map.old.entries) }
+/// Writes a member that is a text.
+pub(crate) fn put_text(out: &mut Writer, key: &str, text: &str) -> Result<(), AllocError>
+    ensures { OnOk result (WritesMembers ((key.now, string text.now) ∷ []) out.old out.new) }
 {
-    let value = Value::try_from_str(alloc, text)?;
-    put(map, alloc, key, value)
+    out.key(key)?;
+    out.string(text)
+}
+
+/// Writes a member that is true or false.
+pub(crate) fn put_truth(out: &mut Writer, key: &str, holds: bool) -> Result<(), AllocError>
+    ensures { OnOk result (WritesMembers ((key.now, boolean holds) ∷ []) out.old out.new) }
+{
+    out.key(key)?;
+    out.boolean(holds)
 }

@@ -1,18 +1,25 @@
-use Rattle.std.proofs.Common.{◌∙◌, ◌≤◌, ap, sym, subst, Some}
-use Rattle.std.proofs.lemmas.Result.{IfOk-weaker}
-use Rattle.serde_json.specs.Data.{Data, depth}
-use Rattle.serde_json.specs.Written.{has_float, compact_text}
+use Rattle.std.proofs.Common.{◌≡◌, ◌++◌, ◌∙◌, [], ap}
+use Rattle.json.specs.Lex.{tokens}
+use Rattle.json.specs.Print.{print}
+use Rattle.serde_json.proofs.Texts.{print-outline}
+use Rattle.desk_replies.specs.Replies.{reply_data}
+use Rattle.desk_replies.specs.Writing.{data_tokens}
 use Rattle.desk_replies.proofs.Depths.{reply_below}
-use Rattle.desk_replies.proofs.Wholes.{reply_whole}
+use Rattle.desk_replies.proofs.WritingLemmas.{text_read}
 use Rattle.desk_replies.proofs.reply.reply_text.Goals as goal
 
 pub returns-clause-text : goal.returns-clause-text
 returns-clause-text c =
-    let seen = c.in_ok-value.ensures in
-    IfOk-weaker c.to_vec.result _ _ (λ v text. text (ap has_float seen ∙ reply_whole c.args.reply.now) ∙ ap compact_text seen) c.to_vec.ensures.text
+    let w = c.in_ok-write_reply.ensures in
+    let nothing : c.write_reply.new.out.before ≡ [] = w.appends.before ∙ c.new-out.ensures.before ∙ c.in_ok-with_capacity.ensures.items in
+    let all : c.write_reply.new.out.tokens ≡ data_tokens (reply_data c.args.reply.now) = w.appends.tokens ∙ ap (λ ts. ts ++ data_tokens (reply_data c.args.reply.now)) c.new-out.ensures.tokens in
+    c.into_inner.ensures.items ∙ ap (λ s. s ++ print c.write_reply.new.out.tokens) nothing ∙ ap print all ∙ print-outline (reply_data c.args.reply.now)
 
 pub returns-clause-reads_back : goal.returns-clause-reads_back
 returns-clause-reads_back c =
-    let seen = c.in_ok-value.ensures in
-    let shallow : Data → Type 0 = λ d. depth d ≤ 127 in
-    IfOk-weaker c.to_vec.result _ _ (λ v back. back (subst shallow (sym seen) (reply_below c.args.reply.now)) ∙ ap (λ d. Some d) seen) c.to_vec.ensures.reads_back
+    let d = reply_data c.args.reply.now in
+    let w = c.in_ok-write_reply.ensures in
+    let nothing : c.write_reply.new.out.before ≡ [] = w.appends.before ∙ c.new-out.ensures.before ∙ c.in_ok-with_capacity.ensures.items in
+    let all : c.write_reply.new.out.tokens ≡ data_tokens d = w.appends.tokens ∙ ap (λ ts. ts ++ data_tokens d) c.new-out.ensures.tokens in
+    let text : c.into_inner.result.items ≡ print c.write_reply.new.out.tokens = c.into_inner.ensures.items ∙ ap (λ s. s ++ print c.write_reply.new.out.tokens) nothing in
+    text_read d c.into_inner.result.items w.reads (reply_below c.args.reply.now) (ap tokens text ∙ c.into_inner.ensures.reads_back ∙ all)

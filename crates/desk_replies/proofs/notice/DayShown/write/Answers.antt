@@ -1,6 +1,6 @@
 use Rattle.std.specs.Prelude.{IsUtf8}
 use Rattle.desk_replies.proofs.Moments.{day_is_text, ok_unless_err}
-use Rattle.desk_replies.proofs.notice.DayShown.value.Goals as goal
+use Rattle.desk_replies.proofs.notice.DayShown.write.Goals as goal
 
 pub unwrap-requires : goal.unwrap-requires
 unwrap-requires c =
