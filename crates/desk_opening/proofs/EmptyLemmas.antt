@@ -19,13 +19,13 @@ number_is m n h = grind (arith, nat_tests)
 above_none : (n : ℕ) → nat_lt 0 n ≡ true → n ≢ 0
 above_none n h e = absurd (true≢false (sym h ∙ ap (nat_lt 0) e))
 
--- what holds of each number of a list holds of a number that stands in it
-pub of_each : (P : ℕ → Type 0) (numbers : List ℕ) (number : ℕ) → AllByRecursion P numbers → list_any (λ n. n == number) numbers ≡ true → P number
-of_each P [] number all h = absurd (true≢false (sym h))
-of_each P (n ∷ numbers) number all h = go (n == number) refl h (λ t. of_each P numbers number all.1 t)
+-- what holds of the number of each item of a list holds of a number that an item has
+pub of_each : {A : Type 0} (number_of : A → ℕ) (P : ℕ → Type 0) (items : List A) (number : ℕ) → AllByRecursion (λ it. P (number_of it)) items → list_any (λ it. number_of it == number) items ≡ true → P number
+of_each number_of P [] number all h = absurd (true≢false (sym h))
+of_each {A} number_of P (it ∷ items) number all h = go (number_of it == number) refl h (λ t. of_each number_of P items number all.1 t)
   where
-    go : (b : Bool) → (n == number) ≡ b → (b || list_any (λ k. k == number) numbers) ≡ true → (list_any (λ k. k == number) numbers ≡ true → P number) → P number
-    go true e t later = subst P (number_is n number e) all.0
+    go : (b : Bool) → (number_of it == number) ≡ b → (b || list_any (λ (k : A). number_of k == number) items) ≡ true → (list_any (λ (k : A). number_of k == number) items ≡ true → P number) → P number
+    go true e t later = subst P (number_is (number_of it) number e) all.0
     go false e t later = later t
 
 -- what holds of the tree of each table of the desk holds of each of the tables' numbers
@@ -59,7 +59,7 @@ each_table P all = (
 pub empty_desk : (s : State) → AreEmpty desk_schema s → IsDesk s
 empty_desk s empty = record {
   schema = empty.0;
-  rising = λ number is. subst IsRising (sym (of_each (λ n. s.now.trees n ≡ []) table_numbers number (each_table (λ n. s.now.trees n ≡ []) empty.1) is)) (tt, tt);
+  rising = λ number is. subst IsRising (sym (of_each (λ n. n) (λ n. s.now.trees n ≡ []) table_numbers number (each_table (λ n. s.now.trees n ≡ []) empty.1) is)) (tt, tt);
 }
 
 -- tables without rows are the empty office
@@ -71,7 +71,7 @@ held trees a b c d e f g h i j k l = rw (a, b, c, d, e, f, g, h, i, j, k, l) ref
 -- and with the version noted they are the empty office
 pub noted : (old new : State) → AreEmpty desk_schema old → AddsFirst contents.desk version_one old new → Stands new empty_office × IsTrue new.in_transaction
 noted old new empty adds =
-    let was : (number : ℕ) → IsTrue (is_table number) → old.now.trees number ≡ [] = λ number is. of_each (λ n. old.now.trees n ≡ []) table_numbers number (each_table (λ n. old.now.trees n ≡ []) empty.1) is in
+    let was : (number : ℕ) → IsTrue (is_table number) → old.now.trees number ≡ [] = λ number is. of_each (λ n. n) (λ n. old.now.trees n ≡ []) table_numbers number (each_table (λ n. old.now.trees n ≡ []) empty.1) is in
     let none : records_in contents.desk old.now.trees ≡ Some [] = rw (was 0 refl) refl in
     let added = adds [] none refl in
     let is : (number : ℕ) → IsTrue (is_table number) → nat_lt 0 number ≡ true → new.now.trees number ≡ [] = λ number table above. added.others number table (above_none number above) ∙ was number table in (

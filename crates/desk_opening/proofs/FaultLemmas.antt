@@ -1,13 +1,19 @@
 -- What the refusal of a statement is told as.
-use Rattle.std.proofs.Common.{◌≡◌, ◌≢◌, ◌⊎◌, inl, inr, refl}
+use Rattle.std.proofs.Common.{◌≡◌, ◌≢◌, ◌⊎◌, inl, inr, refl, subst}
+use Rattle.sqlite.specs.Effect.{Database}
+use Rattle.sqlite.specs.State.{State}
 use Rattle.sqlite.specs.declared.error.Error.{Error}
 use Rattle.sqlite.specs.declared.error.Error.TheVariants.{SqliteFailure}
 use Rattle.sqlite.specs.declared.error.ErrorCode.TheVariants.{OutOfMemory}
 use Rattle.desk_tables.specs.declared.columns.ColumnFault.{ColumnFault}
 use Rattle.desk_tables.specs.declared.columns.ColumnFault.TheVariants.{Missing, Refused}
-use Rattle.desk_opening.specs.Opening.{creating_fault, fault_of_columns, opening_fault}
+use Rattle.desk_records.specs.Standing.{HasNoOffice, HasNoVersion, IsNewer, IsVersionOne}
+use Rattle.desk_schema.specs.Tables.{desk_schema}
+use Rattle.desk_tables.specs.Columns.{HasColumns}
+use Rattle.desk_opening.specs.Opening.{IsCause, IsFaultOf, IsNoDesk, creating_fault, fault_of_columns, opening_fault}
+use Rattle.desk_opening.specs.declared.fault.OpenFault.{OpenFault}
 use Rattle.desk_opening.specs.declared.fault.CreateFault.TheVariants.{NotEmpty}
-use Rattle.desk_opening.specs.declared.fault.OpenFault.TheVariants.{NotADesk, Store, Memory}
+use Rattle.desk_opening.specs.declared.fault.OpenFault.TheVariants.{NotADesk, NewerVersion, Store, Memory}
 
 -- no refusal is that the database holds something
 pub never_not_empty : (e : Error) → creating_fault e ≢ NotEmpty
@@ -25,6 +31,54 @@ missing_alone Missing h = refl
 missing_alone (Refused (SqliteFailure OutOfMemory)) h = cc
 missing_alone (Refused other) h = cc
 
-pub else_of_the_store : (f : ColumnFault) → fault_of_columns f ≢ NotADesk → (fault_of_columns f ≡ Store) ⊎ (fault_of_columns f ≡ Memory)
-else_of_the_store Missing h = absurd (h refl)
-else_of_the_store (Refused e) h = of_the_store e
+-- and no fault of columns is that a later version made the tables
+pub never_newer : (f : ColumnFault) → fault_of_columns f ≢ NewerVersion
+never_newer Missing h = cc
+never_newer (Refused (SqliteFailure OutOfMemory)) h = cc
+never_newer (Refused other) h = cc
+
+-- ---- why tables that note their version are no desk's
+
+-- the version is wrong
+pub by_version : (fault : OpenFault) (s : State) → IsFaultOf HasNoVersion fault s → IsCause fault s
+by_version NotADesk s h = inl h
+by_version NewerVersion s h = h
+by_version Store s h = tt
+by_version Memory s h = tt
+
+-- it is the first, and a column is missing
+pub by_columns : (fault : OpenFault) (s : State) → IsVersionOne s → fault ≢ NewerVersion → (fault ≡ NotADesk → ¬ HasColumns s.now.schema) → IsCause fault s
+by_columns NotADesk s one other h = inr (one, inl (h refl))
+by_columns NewerVersion s one other h = absurd (other refl)
+by_columns Store s one other h = tt
+by_columns Memory s one other h = tt
+
+-- it is the first, and what is held is no office
+pub by_office : (fault : OpenFault) (s : State) → IsVersionOne s → fault ≢ NewerVersion → (fault ≡ NotADesk → s.now.schema ≡ desk_schema → HasNoOffice s) → IsCause fault s
+by_office NotADesk s one other h = inr (one, inr (h refl))
+by_office NewerVersion s one other h = absurd (other refl)
+by_office Store s one other h = tt
+by_office Memory s one other h = tt
+
+-- the store refused, or memory
+pub by_store : (fault : OpenFault) (s : State) → (fault ≡ Store) ⊎ (fault ≡ Memory) → IsCause fault s
+by_store NotADesk s (inl h) = absurd cc
+by_store NotADesk s (inr h) = absurd cc
+by_store NewerVersion s (inl h) = absurd cc
+by_store NewerVersion s (inr h) = absurd cc
+by_store Store s h = tt
+by_store Memory s h = tt
+
+-- tables that are the same are no desk's for the same cause
+pub cause_same : (fault : OpenFault) (s t : State) → s.now ≡ t.now → IsCause fault s → IsCause fault t
+cause_same NotADesk s t same h = subst (λ (d : Database). IsNoDesk (record s { now = d })) same h
+cause_same NewerVersion s t same h = subst (λ (d : Database). IsNewer (record s { now = d })) same h
+cause_same Store s t same h = tt
+cause_same Memory s t same h = tt
+
+-- and so are faults of the version
+pub version_fault_same : (fault : OpenFault) (s t : State) → s.now ≡ t.now → IsFaultOf HasNoVersion fault s → IsFaultOf HasNoVersion fault t
+version_fault_same NotADesk s t same h = subst (λ (d : Database). HasNoVersion (record s { now = d })) same h
+version_fault_same NewerVersion s t same h = subst (λ (d : Database). IsNewer (record s { now = d })) same h
+version_fault_same Store s t same h = tt
+version_fault_same Memory s t same h = tt

@@ -1,5 +1,6 @@
 -- A list of objects is that of one schema.
-use Rattle.std.proofs.Common.{◌≡◌, ℕ, ◌+◌, pos, true, List, [], ◌∷◌, filter, Some, slice_get, Ok, Result, refl, sym, ap, subst, ◌∙◌, arith}
+use Rattle.std.proofs.Common.{◌≡◌, ◌≢◌, inl, inr, ℕ, ◌+◌, ◌*◌, ◌==◌, length, slice_index_or, true≢false, pos, Bool, true, false, MatchBool, List, [], ◌∷◌, filter, codes, Option, Some, None, slice_get, Ok, Result, refl, sym, ap, subst, ◌∙◌, arith}
+use Rattle.std.proofs.lemmas.Bool.Decides.{nat_tests}
 use Rattle.std.proofs.lemmas.Int.{ints}
 use Rattle.std.specs.List.{AllZip}
 use Rattle.sqlite_value.specs.declared.value.Value.{Value}
@@ -12,7 +13,7 @@ use Rattle.sqlite_schema.specs.declared.schema.Schema.{Schema}
 use Rattle.sqlite_schema.specs.declared.schema.Table.{Table}
 use Rattle.sqlite_schema.specs.declared.schema.View.{View as Stored}
 use Rattle.sqlite_schema.specs.Names.{same_name}
-use Rattle.sqlite_catalog.specs.Listing.{AreListed, IsDefined, IsIndexRow, IsTableRow, IsViewRow, automatic, is_index_row, is_table_row, is_view_row}
+use Rattle.sqlite_catalog.specs.Listing.{AreListed, IsAside, IsDefined, IsForeign, IsIndexRow, IsTableRow, IsViewRow, automatic, is_index_row, is_table_row, is_view_row}
 use Rattle.sqlite_catalog.proofs.AlterLemmas.{numbers_differ}
 use Rattle.sqlite_catalog.proofs.StepLemmas.{named_once, same_itself}
 
@@ -68,16 +69,72 @@ one_index objects schema are object i j p q =
     let trees = one_tree object i.tree j.tree p.described.id q.described.id in
     one_defined q.table i j (column object 4) names trees (subst (λ (t : Table). IsDefined t i (column object 4)) same p.defined) q.defined
 
-no_views : (rows : List Row) (views : List Stored) → AllZip IsViewRow rows [] → AllZip IsViewRow rows views → views ≡ []
-no_views [] [] p q = refl
-no_views [] (v ∷ views) p q = absurd q
-no_views (r ∷ rows) views p q = absurd p
+-- ---- what is kept aside, as a view is
 
--- where one schema that is listed has no view, it is the only one
-pub one_schema : (objects : List Row) (a b : Schema) → a.views ≡ [] → AreListed objects a → AreListed objects b → b ≡ a
-one_schema objects a b none p q =
+same_number : (n : ℕ) → (n == n) ≡ true
+same_number n = grind (arith, nat_tests)
+
+-- tells the kinds of objects apart
+abbrev mark : List ℕ → ℕ
+mark kind = length kind + 10 * slice_index_or kind 0 0
+
+apart : (a b : List ℕ) → (mark a == mark b) ≡ false → a ≢ b
+apart a b differ same = true≢false (sym (subst (λ k. (mark a == mark k) ≡ true) same (same_number (mark a))) ∙ differ)
+
+one_bound : (P : Type 0) (a b : Bool) → MatchBool a P (¬ P) → MatchBool b P (¬ P) → a ≡ b
+one_bound P true true p q = refl
+one_bound P true false p q = absurd (q p)
+one_bound P false true p q = absurd (p q)
+one_bound P false false p q = refl
+
+abbrev IsSameAside : Stored → Stored → Type 0
+IsSameAside u v = (u.sql ≡ v.sql) × (u.foreign ≡ v.foreign) × (u.binds ≡ v.binds) × (u.is_bound ≡ v.is_bound)
+
+one_foreign : (row : Row) (u v : Stored) (kind : List ℕ) (code : ℕ) → IsForeign row u kind code → IsForeign row v kind code → (u.binds ≡ v.binds) × (u.is_bound ≡ v.is_bound)
+one_foreign row u v kind code (inl p) (inl q) = (p.2 ∙ sym q.2, one_bound _ u.is_bound v.is_bound p.3 q.3)
+one_foreign row u v kind code (inl p) (inr (inl q)) = absurd (apart (codes "table") (codes "index") refl (sym p.0 ∙ q.0))
+one_foreign row u v kind code (inl p) (inr (inr q)) = absurd (apart (codes "table") (codes "trigger") refl (sym p.0 ∙ q.0))
+one_foreign row u v kind code (inr (inl p)) (inl q) = absurd (apart (codes "index") (codes "table") refl (sym p.0 ∙ q.0))
+one_foreign row u v kind code (inr (inl p)) (inr (inl q)) = (p.2 ∙ sym q.2, p.3 ∙ sym q.3)
+one_foreign row u v kind code (inr (inl p)) (inr (inr q)) = absurd (apart (codes "index") (codes "trigger") refl (sym p.0 ∙ q.0))
+one_foreign row u v kind code (inr (inr p)) (inl q) = absurd (apart (codes "trigger") (codes "table") refl (sym p.0 ∙ q.0))
+one_foreign row u v kind code (inr (inr p)) (inr (inl q)) = absurd (apart (codes "trigger") (codes "index") refl (sym p.0 ∙ q.0))
+one_foreign row u v kind code (inr (inr p)) (inr (inr q)) = (p.2 ∙ sym q.2, p.3 ∙ sym q.3)
+
+no_view : (row : Row) (v : Stored) (code : ℕ) → ¬ IsForeign row v (codes "view") code
+no_view row v code (inl q) = apart (codes "view") (codes "table") refl q.0
+no_view row v code (inr (inl q)) = apart (codes "view") (codes "index") refl q.0
+no_view row v code (inr (inr q)) = apart (codes "view") (codes "trigger") refl q.0
+
+one_aside : (row : Row) (u v : Stored) (kind owner : List ℕ) (code : ℕ) (f g : Option (List ℕ)) → u.foreign ≡ f → v.foreign ≡ g → IsAside row u kind owner code f → IsAside row v kind owner code g → IsSameAside u v
+one_aside row u v kind owner code None None it at p q = (text_is (sym p.3 ∙ q.3), it ∙ sym at, p.6 ∙ sym q.6, p.7 ∙ sym q.7)
+one_aside row u v kind owner code None (Some table) it at p q = absurd (no_view row v code (subst (λ k. IsForeign row v k code) p.0 q.2))
+one_aside row u v kind owner code (Some table) None it at p q = absurd (no_view row u code (subst (λ k. IsForeign row u k code) q.0 p.2))
+one_aside row u v kind owner code (Some table) (Some other) it at p q =
+    let both = one_foreign row u v kind code p.2 q.2 in
+    (p.1 ∙ sym q.1, it ∙ ap (λ (t : List ℕ). Some t) (sym p.0 ∙ q.0) ∙ sym at, both.0, both.1)
+
+one_view : (row : Row) (u v : Stored) → IsViewRow row u → IsViewRow row v → u ≡ v
+one_view row u v p q =
+    let kind : q.kind ≡ p.kind = text_is (sym q.described.kind_is ∙ p.described.kind_is) in
+    let owner : q.owner ≡ p.owner = text_is (sym q.described.owner_is ∙ p.described.owner_is) in
+    let code : q.code ≡ p.code = sym q.described.shape_is ∙ p.described.shape_is in
+    let name : u.name ≡ v.name = text_is (sym p.described.name_is ∙ q.described.name_is) in
+    let tree = one_tree row u.tree v.tree p.described.id q.described.id in
+    let there = subst (λ c. IsAside row v p.kind p.owner c v.foreign) code (subst (λ o. IsAside row v p.kind o q.code v.foreign) owner (subst (λ k. IsAside row v k q.owner q.code v.foreign) kind q.aside)) in
+    let same = one_aside row u v p.kind p.owner p.code u.foreign v.foreign refl refl p.aside there in
+    ap (λ n. record u { name = n }) name
+    ∙ ap (λ n. record u { name = v.name; tree = n }) tree
+    ∙ ap (λ s. record v { sql = s; foreign = u.foreign; binds = u.binds; is_bound = u.is_bound }) same.0
+    ∙ ap (λ f. record v { foreign = f; binds = u.binds; is_bound = u.is_bound }) same.1
+    ∙ ap (λ b. record v { binds = b; is_bound = u.is_bound }) same.2
+    ∙ ap (λ b. record v { is_bound = b }) same.3
+
+-- one list of objects lists one schema
+pub one_schema : (objects : List Row) (a b : Schema) → AreListed objects a → AreListed objects b → b ≡ a
+one_schema objects a b p q =
     let tables : b.tables ≡ a.tables = one_list IsTableRow one_table (filter is_table_row objects) b.tables a.tables q.tables p.tables in
     let its : AllZip (IsIndexRow a.tables) (filter is_index_row objects) b.indexes = subst (λ (ts : List Table). AllZip (IsIndexRow ts) (filter is_index_row objects) b.indexes) tables q.indexes in
     let indexes : b.indexes ≡ a.indexes = one_list (IsIndexRow a.tables) (one_index objects a p) (filter is_index_row objects) b.indexes a.indexes its p.indexes in
-    let views : b.views ≡ [] = no_views (filter is_view_row objects) b.views (subst (λ (vs : List Stored). AllZip IsViewRow (filter is_view_row objects) vs) none p.views) q.views in
-    ap (λ ts. record b { tables = ts }) tables ∙ ap (λ is. record b { tables = a.tables; indexes = is }) indexes ∙ ap (λ vs. record b { tables = a.tables; indexes = a.indexes; views = vs }) (views ∙ sym none)
+    let views : b.views ≡ a.views = one_list IsViewRow one_view (filter is_view_row objects) b.views a.views q.views p.views in
+    ap (λ ts. record b { tables = ts }) tables ∙ ap (λ is. record b { tables = a.tables; indexes = is }) indexes ∙ ap (λ vs. record b { tables = a.tables; indexes = a.indexes; views = vs }) views

@@ -12,7 +12,9 @@ use Rattle.sqlite.specs.State.{State}
 use Rattle.sqlite.specs.Tree.{Trees}
 use Rattle.sqlite_catalog.specs.Listing.{AreListed}
 use Rattle.sqlite_trees.specs.Objects.{catalog_tree}
-use Rattle.desk_schema.specs.Tables.{desk_schema}
+use Rattle.sqlite.specs.Effect.{Database}
+use Rattle.desk_schema.specs.Statements.{IsDesk, IsRising}
+use Rattle.desk_tables.specs.Versions.{AreNoted, NotesVersion}
 use Rattle.desk_opening.proofs.OneSchema.{one_schema}
 use Rattle.sqlite_trees.specs.declared.store.Store as store
 use Rattle.desk_lists.specs.Sorting.{sort_by}
@@ -31,10 +33,10 @@ use Rattle.desk_records.proofs.OfficeLemmas.{are_of}
 use Rattle.desk_rows.proofs.MeaningLemmas.{bound}
 use Rattle.desk_reading.specs.Reading.{IsReading}
 use Rattle.office_checks.specs.InOrder.{in_order, office_in_order}
-use Rattle.desk_opening.specs.Opening.{HoldsOffice, IsVerdict}
+use Rattle.desk_opening.specs.Opening.{IsVerdict}
 use Rattle.desk_records.specs.Standing.{HasNoOffice}
 use Rattle.desk_opening.specs.declared.fault.OpenFault.{OpenFault}
-use Rattle.desk_opening.specs.declared.fault.OpenFault.TheVariants.{NotADesk, NewerVersion, Store, Memory}
+use Rattle.desk_opening.specs.declared.fault.OpenFault.TheVariants.{NotADesk, NewerVersion}
 use Rattle.desk_opening.proofs.OrderedOffice.{office_ordered}
 
 some_is : {A : Type 0} {a b : A} → ◌≡◌ {A = Option A} (Some a) (Some b) → a ≡ b
@@ -74,34 +76,44 @@ office_stays trees office h so =
 
 -- what is judged of lists that were read is so of the tables
 pub lists_judged : {S : Type 0} (g : store.Ghosts S) (a b : Held S) (lists : OfficeLists) (r : Result OfficeLists OpenFault) → IsReading g a b is_office (Ok lists) office_in
-    → IfOk r (λ office. office ≡ office_in_order lists) → IfOk r (λ office. IsTrue (is_office office)) → (r ≡ Err NotADesk → is_office (office_in_order lists) ≡ false) → r ≢ Err NewerVersion → IsVerdict g a b HoldsOffice HasNoOffice r
+    → IfOk r (λ office. office ≡ office_in_order lists) → IfOk r (λ office. IsTrue (is_office office)) → (r ≡ Err NotADesk → is_office (office_in_order lists) ≡ false) → r ≢ Err NewerVersion → IsVerdict g a b r
 lists_judged g a b lists (Ok t) read ordered right wrong other = record {
   right = λ is.
       let stays = office_stays (state g a).now.trees lists (read.told is) (subst (λ (o : OfficeLists). is_office o ≡ true) ordered right) in
       let same : t ≡ lists = ordered ∙ stays in
       (read.told is ∙ ap (λ (o : OfficeLists). Some o) (sym same), right);
-  cause = λ is. tt;
-  same = read.same;
+  none = λ is told. absurd cc;
+  other = other;
   changes = read.changes;
 }
-lists_judged g a b lists (Err NotADesk) read ordered right wrong other = record {
+lists_judged g a b lists (Err fault) read ordered right wrong other = record {
   right = λ is. tt;
-  cause = λ is office h.
+  none = λ is told office h.
       let same : lists ≡ office = some_is (sym (read.told is) ∙ h) in
       subst (λ (o : OfficeLists). is_office o ≡ false) same (elim (cases_Bool (is_office lists)) [
-        | inl so ↦ absurd (true≢false (sym so ∙ ap is_office (sym (office_ordered lists so)) ∙ wrong refl))
+        | inl so ↦ absurd (true≢false (sym so ∙ ap is_office (sym (office_ordered lists so)) ∙ wrong told))
         | inr not_so ↦ not_so
       ]);
-  same = λ is. tt;
+  other = other;
   changes = read.changes;
 }
-lists_judged g a b lists (Err NewerVersion) read ordered right wrong other = absurd (other refl)
-lists_judged g a b lists (Err Store) read ordered right wrong other = record { right = λ is. tt; cause = λ is. tt; same = λ is. tt; changes = read.changes }
-lists_judged g a b lists (Err Memory) read ordered right wrong other = record { right = λ is. tt; cause = λ is. tt; same = λ is. tt; changes = read.changes }
 
--- tables that are the same are declared alike, where those of a desk are
-pub schema_was : (old new : State) → new.now.trees ≡ old.now.trees → IsDatabase old.now → IsDatabase new.now → new.now.schema ≡ desk_schema → old.now.schema ≡ desk_schema
-schema_was old new same was is has =
-    let here : AreListed (old.now.trees catalog_tree) new.now.schema = subst (λ (t : Trees). AreListed (t catalog_tree) new.now.schema) same is.lists.listed in
-    let there : AreListed (old.now.trees catalog_tree) desk_schema = subst (λ (s : Schema). AreListed (old.now.trees catalog_tree) s) has here in
-    one_schema _ desk_schema old.now.schema refl there was.lists.listed
+-- databases whose tables are the same are declared alike
+pub same_database : (old new : State) → new.now.trees ≡ old.now.trees → IsDatabase old.now → IsDatabase new.now → new.now ≡ old.now
+same_database old new same was is =
+    let there : AreListed (old.now.trees catalog_tree) new.now.schema = subst (λ (t : Trees). AreListed (t catalog_tree) new.now.schema) same is.lists.listed in
+    let declared = one_schema _ old.now.schema new.now.schema was.lists.listed there in
+    ap (λ t. record new.now { trees = t }) same ∙ ap (λ s. record old.now { schema = s }) declared
+
+-- what is so of tables is so of the same tables
+pub desk_same : (s t : State) → s.now ≡ t.now → IsDesk s → IsDesk t
+desk_same s t same desk = record {
+  schema = ap (λ (d : Database). d.schema) (sym same) ∙ desk.schema;
+  rising = λ number is. subst (λ (d : Database). IsRising (d.trees number)) same (desk.rising number is);
+}
+
+pub noted_same : (s t : State) → s.now ≡ t.now → AreNoted s → AreNoted t
+noted_same s t same noted = record {
+  noted = subst (λ (d : Database). NotesVersion d.schema) same noted.noted;
+  rising = subst (λ (d : Database). IsRising (d.trees 0)) same noted.rising;
+}

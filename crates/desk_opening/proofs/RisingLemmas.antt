@@ -13,6 +13,8 @@ use Rattle.sqlite_catalog.specs.Listing.{AreListed}
 use Rattle.sqlite_catalog.proofs.LayoutLemmas.{laid_out, objects_rise}
 use Rattle.desk_schema.specs.Statements.{IsDesk, IsRising, table_numbers}
 use Rattle.desk_schema.specs.Tables.{desk_schema}
+use Rattle.desk_tables.specs.Versions.{AreNoted, NotesVersion}
+use Rattle.desk_opening.specs.Opening.{RowsRise}
 use Rattle.desk_opening.proofs.EmptyLemmas.{each_table, of_each}
 
 -- each tree of a table is ordered as a table's is
@@ -21,11 +23,19 @@ all_shaped : (shapes : ℕ → Shape) (trees : Trees) (tables : List Table) → 
 all_shaped shapes trees [] ordered all = tt
 all_shaped shapes trees (t ∷ tables) ordered all = (subst (λ s. IsShaped s (trees t.tree)) all.0 (ordered t.tree), all_shaped shapes trees tables ordered all.1)
 
-pub risen : (v : View) (s : State) → s.now.schema ≡ desk_schema → s.now.trees ≡ v.trees → IsListed (v.trees catalog_tree) v.shape v.reals → IsOrdered v.shape v.trees
-    → AreListed (s.now.trees catalog_tree) s.now.schema → IsDesk s
-risen v s has same listed ordered are =
-    let here = subst (λ (t : Trees). AreListed (t catalog_tree) s.now.schema) same are in
-    let there = subst (λ (schema : Schema). AreListed (v.trees catalog_tree) schema) has here in
-    let laid = laid_out listed (objects_rise v listed ordered) there in
-    let each = each_table (λ n. IsRising (v.trees n)) (all_shaped v.shape v.trees desk_schema.tables ordered laid.tables) in
-    record { schema = has; rising = λ number is. subst (λ (t : Trees). IsRising (t number)) (sym same) (of_each (λ n. IsRising (v.trees n)) table_numbers number each is) }
+-- the rows of each table rise, whatever tables there are
+pub risen : (v : View) (s : State) → s.now.trees ≡ v.trees → IsListed (v.trees catalog_tree) v.shape v.reals → IsOrdered v.shape v.trees → AreListed (s.now.trees catalog_tree) s.now.schema → RowsRise s
+risen v s same listed ordered are =
+    let here : AreListed (v.trees catalog_tree) s.now.schema = subst (λ (t : Trees). AreListed (t catalog_tree) s.now.schema) same are in
+    let laid = laid_out listed (objects_rise v listed ordered) here in
+    subst (λ (t : Trees). AllByRecursion (λ (it : Table). IsRising (t it.tree)) s.now.schema.tables) (sym same) (all_shaped v.shape v.trees s.now.schema.tables ordered laid.tables)
+
+-- tables that are declared as a desk's, and whose rows rise, are a desk's
+pub are_a_desk : (s : State) → s.now.schema ≡ desk_schema → RowsRise s → IsDesk s
+are_a_desk s has rise =
+    let each = each_table (λ n. IsRising (s.now.trees n)) (subst (λ (made : Schema). AllByRecursion (λ (t : Table). IsRising (s.now.trees t.tree)) made.tables) has rise) in
+    record { schema = has; rising = λ number is. of_each (λ n. n) (λ n. IsRising (s.now.trees n)) table_numbers number each is }
+
+-- so do those of the table that notes the version
+pub are_noted : (s : State) → NotesVersion s.now.schema → RowsRise s → AreNoted s
+are_noted s noted rise = record { noted = noted; rising = of_each (λ (t : Table). t.tree) (λ n. IsRising (s.now.trees n)) s.now.schema.tables 0 rise noted.table }

@@ -1,11 +1,13 @@
 -- Why a database is not opened as a desk, and what is handed back then.
-use Rattle.std.specs.Prelude.{◌≡◌, ◌⊎◌, ◌≤◌, false, List, [], ◌∷◌, Some, Result, IsTrue}
+use Rattle.std.specs.Prelude.{◌≡◌, ◌≢◌, ◌⊎◌, ◌≤◌, false, List, [], ◌∷◌, Some, Result, Err, IsTrue}
 use Rattle.std.specs.Prelude.{IfErr, IfOk, OnOk}
+use Rattle.std.specs.List.{AllByRecursion}
 use Rattle.sqlite.specs.declared.error.Error.{Error}
 use Rattle.sqlite.specs.declared.error.Error.TheVariants.{SqliteFailure}
 use Rattle.sqlite.specs.declared.error.ErrorCode.TheVariants.{OutOfMemory}
 use Rattle.sqlite.specs.Held.{Held, state}
-use Rattle.sqlite.specs.State.{State, HasCleanDisk, IsUnchanged}
+use Rattle.sqlite.specs.State.{State, HasCleanDisk, Survives}
+use Rattle.sqlite.specs.Table.{Table}
 use Rattle.sqlite.specs.Tree.{Trees}
 use Rattle.sqlite_trees.specs.View.{IsClean}
 use Rattle.sqlite_trees.specs.declared.store.Store as store
@@ -13,7 +15,10 @@ use Rattle.desk_words.specs.declared.office.OfficeLists.{OfficeLists}
 use Rattle.desk_words.specs.Office.{is_office}
 use Rattle.desk_rows.specs.declared.kept.Version.{Version}
 use Rattle.desk_records.specs.Office.{office_in}
-use Rattle.desk_schema.specs.Statements.{ChangesNothing, IsRead}
+use Rattle.desk_schema.specs.Statements.{ChangesNothing, IsRead, IsRising, WasOpen}
+use Rattle.desk_schema.specs.Tables.{desk_schema}
+use Rattle.desk_tables.specs.Columns.{HasColumns}
+use Rattle.desk_tables.specs.Versions.{AreNoted}
 use Rattle.desk_records.specs.Standing.{IsVersionOne}
 use Rattle.office_lists.specs.declared.fault.ReadFault.{ReadFault}
 use Rattle.office_lists.specs.declared.fault.ReadFault.TheVariants as reading
@@ -32,13 +37,9 @@ use Rattle.desk_opening.specs.declared.opening.HandedBack.TheVariants as back
 abbrev pub HoldsOffice : State → OfficeLists → Type 0
 HoldsOffice s office = (office_in s.now.trees ≡ Some office) × IsTrue (is_office office)
 
--- the tables are of version 1, and what they hold is this, and an office
-abbrev pub KeepsOffice : State → OfficeLists → Type 0
-KeepsOffice s office = IsVersionOne s × HoldsOffice s office
-
--- no version is noted, or the tables are of version 1 and hold no office
-abbrev pub KeepsNone : State → Type 0
-KeepsNone s = HasNoVersion s ⊎ (IsVersionOne s × HasNoOffice s)
+-- the numbers of the rows of each table rise
+abbrev pub RowsRise : State → Type 0
+RowsRise s = AllByRecursion (λ (t : Table). IsRising (s.now.trees t.tree)) s.now.schema.tables
 
 -- tables that are no desk's are wrong in this way; of want of memory and of the store's own faults
 -- nothing is said
@@ -48,17 +49,36 @@ IsFaultOf Wrong NewerVersion s = IsNewer s
 IsFaultOf Wrong Store s = Unit {0}
 IsFaultOf Wrong Memory s = Unit {0}
 
--- why tables are not opened as a desk
-abbrev pub IsCause : OpenFault → State → Type 0
-IsCause = IsFaultOf KeepsNone
+-- no version is noted, or the tables are of version 1, and a column that is read is missing or what
+-- they hold, declared as a desk's are, is no office
+abbrev pub IsNoDesk : State → Type 0
+IsNoDesk s =
+    HasNoVersion s
+    ⊎ (IsVersionOne s
+    × (¬ HasColumns s.now.schema ⊎ (s.now.schema ≡ desk_schema → HasNoOffice s)))
 
--- in a transaction over the tables of a desk this is what is told of them, and nothing is changed
-pub record IsVerdict {S T : Type 0} (g : store.Ghosts S) (old new : Held S)
-    (Right : State → T → Type 0) (Wrong : State → Type 0) (result : Result T OpenFault)
-    : Type 0 where
-  pub right : IsRead g old new → IfOk result (Right (state g old))
-  pub cause : IsRead g old new → IfErr result (λ fault. IsFaultOf Wrong fault (state g old))
-  pub same : IsRead g old new → OnOk result (IsUnchanged (state g old) (state g new))
+-- why tables that note their version are not opened as a desk
+abbrev pub IsCause : OpenFault → State → Type 0
+IsCause = IsFaultOf IsNoDesk
+
+-- in a transaction over tables that note their version they are told to be of version 1, or why
+-- not, and nothing is committed
+pub record TellsVersion {S T : Type 0} (g : store.Ghosts S) (old new : Held S)
+    (result : Result T OpenFault) : Type 0 where
+  pub one : HasCleanDisk (state g new) → AreNoted (state g old)
+      → OnOk result (IsVersionOne (state g old))
+  pub cause : HasCleanDisk (state g new) → AreNoted (state g old)
+      → IfErr result (λ fault. IsFaultOf HasNoVersion fault (state g old))
+  pub was_open : WasOpen (state g old) (state g new)
+  pub crash : Survives (state g old) (state g new) (λ _. ⊥)
+
+-- in a transaction over the tables of a desk this is the office that they hold, or they hold none,
+-- and nothing is changed
+pub record IsVerdict {S : Type 0} (g : store.Ghosts S) (old new : Held S)
+    (result : Result OfficeLists OpenFault) : Type 0 where
+  pub right : IsRead g old new → IfOk result (HoldsOffice (state g old))
+  pub none : IsRead g old new → result ≡ Err NotADesk → HasNoOffice (state g old)
+  pub other : result ≢ Err NewerVersion
   pub changes : ChangesNothing g old new
 
 -- why the versions that are noted are not version 1 alone

@@ -1,7 +1,9 @@
 //! The tables of a new desk.
-ghost use Rattle.std.specs.Prelude.{◌≡◌, ◌≢◌, false, IfErr, IfOk, IsTrue, OnErr, OnOk};
+ghost use Rattle.std.specs.Prelude.{◌≡◌, ◌≢◌, ◌⊎◌, false, IfErr, IfOk, IsErrAnd, IsTrue};
+ghost use Rattle.std.specs.Prelude.{OnErr, OnOk};
 ghost use Rattle.desk_records.specs.Standing.{Stands};
 ghost use Rattle.desk_opening.specs.declared.fault.CreateFault.TheVariants.{NotEmpty};
+ghost use Rattle.desk_opening.specs.declared.fault.CreateFault.TheVariants as creating;
 ghost use Rattle.desk_schema.specs.Tables.{no_schema};
 ghost use Rattle.desk_words.specs.Changes.{empty_office};
 ghost use Rattle.sqlite.specs.Held.{state};
@@ -58,8 +60,8 @@ pub fn create<S: Alter + Drop>(
         → (state S.Store e.1).now ≡ (state S.Store conn).now) }
     ensures ended { IfErr result (λ e. conn.in_transaction ≡ false
         → e.1.in_transaction ≡ false) }
-    ensures inside { IsTrue conn.in_transaction → IfErr result (λ e. e.1 ≡ conn) }
-    ensures outside { OnOk result (conn.in_transaction ≡ false) }
+    ensures inside { IsTrue conn.in_transaction → IsErrAnd result (λ e.
+        ((e.0 ≡ NotEmpty) ⊎ (e.0 ≡ creating.Store)) × (e.1 ≡ conn)) }
 {
     if !has_nothing(&conn) {
         return Err((CreateFault::NotEmpty, conn));

@@ -5,6 +5,7 @@ mod creation;
 mod fault;
 mod making;
 mod opening;
+mod version;
 
 pub use creation::create;
 pub use fault::{CreateFault, OpenFault};

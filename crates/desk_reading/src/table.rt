@@ -5,8 +5,8 @@ ghost use Rattle.desk_schema.specs.Contents as contents;
 ghost use Rattle.desk_schema.specs.Statements.{ChangesNothing, IsRead, Reads, TableOf, records_in};
 ghost use Rattle.office_lists.specs.Yields.{any_at_all};
 
-use desk_rows::{FromRow, InMeeting, MeetingRow, NumberedResolution, Version, records};
-use desk_tables::{closed, desk, keys, meetings, register, resolutions};
+use desk_rows::{FromRow, InMeeting, MeetingRow, NumberedResolution, records};
+use desk_tables::{closed, keys, meetings, register, resolutions};
 use desk_words::{
     Appointment, Authority, CastMark, Day, DemandMark, Ending, KeyRow, Listing, Poll, PresenceMark,
     RegisterRow,
@@ -44,16 +44,6 @@ pub fn listing<S: Alter, T: Kept + Drop>(
 {
     let rows = T::rows(tx)?;
     Ok(Listing::from_vec(records(alloc, &rows)?))
-}
-
-impl Kept for Version {
-    ghost table = { contents.desk };
-
-    fn rows<S: Alter>(tx: &mut Transaction<'_, S>) -> Result<Vec<Row>, Error> {
-        desk::all(tx)
-    }
-
-    ghost reads_as = { refl };
 }
 
 impl Kept for KeyRow {

@@ -1,11 +1,10 @@
 -- Statements that are asked about, and not run.
-use Rattle.std.proofs.Common.{◌≡◌, ◌≢◌, ℕ, true, List, [], ◌∷◌, ◌++◌, codes, Ok, Err, Result, is_ok, IfErr, IfOk, IsTrue, refl, sym, ap, subst, ◌∙◌, inl, inr, arith}
+use Rattle.std.proofs.Common.{◌≡◌, ℕ, true, List, [], ◌∷◌, ◌++◌, Ok, Err, IsOk, Result, is_ok, IfErr, IfOk, IsTrue, refl, sym, ap, subst, ◌∙◌, inl, inr, arith}
 use Rattle.std.specs.List.{AllByRecursion}
 use Rattle.std.proofs.lemmas.Result.{on_ok_weaker}
 use Rattle.sqlite.specs.declared.error.Error.{Error}
 use Rattle.sqlite.specs.declared.error.Error.TheVariants.{SqlInputError}
 use Rattle.sqlite.specs.Effect.{Database}
-use Rattle.sqlite.specs.Given.{IsPlain}
 use Rattle.sqlite.specs.Held.{Held, state}
 use Rattle.sqlite.specs.Listing.{understood}
 use Rattle.sqlite.specs.Outline.{Outline}
@@ -19,7 +18,7 @@ use Rattle.sqlite_trees.specs.declared.error.StoreError.{StoreError}
 use Rattle.sqlite_trees.specs.declared.error.StoreError.TheVariants as kind
 use Rattle.sqlite_trees.specs.declared.store.Store as store
 use Rattle.desk_schema.specs.Tables.{desk_schema}
-use Rattle.desk_tables.specs.Columns.{AreUnderstood, Asks}
+use Rattle.desk_tables.specs.Columns.{AreUnderstood, Asks, HasColumns}
 use Rattle.desk_tables.specs.declared.columns.ColumnFault.{ColumnFault}
 use Rattle.desk_tables.specs.declared.columns.ColumnFault.TheVariants.{Missing, Refused}
 
@@ -38,14 +37,18 @@ no_store_error kind.Full f h = cc
 no_store_error kind.Broken f h = cc
 no_store_error kind.Unstorable f h = cc
 
--- a text that is a statement over the tables of a desk is refused over other tables alone
-pub unread : (old new : State) (sql : List ℕ) (f : CompileError) → IsNotRun old new sql [] (SqlInputError f) → IsPlain (understood desk_schema sql) → IsTrue old.is_open × (old.now.schema ≢ desk_schema)
+no_error : (r : Result Compiled CompileError) (f : CompileError) → r ≡ Err f → ¬ IsOk r
+no_error (Ok c) f bad ok = cc
+no_error (Err e) f bad ok = cc
+
+-- a text that is refused as one is no statement over these tables
+pub unread : (old new : State) (sql : List ℕ) (f : CompileError) → IsNotRun old new sql [] (SqlInputError f) → IsTrue old.is_open × ¬ AreUnderstood old.now.schema (sql ∷ [])
 unfolding IsNotRun
-unread old new sql f (inl (inl bad, same)) plain = (same.0.was_open, λ has. subst IsPlain (ap (λ s. understood s sql) (sym has) ∙ bad.1) plain)
-unread old new sql f (inl (inr (c, is, inl many), same)) plain = absurd (let h : SqlInputError f ≡ _ = many.1 in cc)
-unread old new sql f (inl (inr (c, is, inr (inl count)), same)) plain = absurd (let h : SqlInputError f ≡ _ = count.1 in cc)
-unread old new sql f (inl (inr (c, is, inr (inr clock)), same)) plain = absurd (let h : SqlInputError f ≡ _ = clock.1 in cc)
-unread old new sql f (inr fails) plain = absurd (no_store_error fails.0 f fails.1)
+unread old new sql f (inl (inl bad, same)) = (same.0.was_open, λ are. no_error (understood old.now.schema sql) _ bad.1 are.0)
+unread old new sql f (inl (inr (c, is, inl many), same)) = absurd (let h : SqlInputError f ≡ _ = many.1 in cc)
+unread old new sql f (inl (inr (c, is, inr (inl count)), same)) = absurd (let h : SqlInputError f ≡ _ = count.1 in cc)
+unread old new sql f (inl (inr (c, is, inr (inr clock)), same)) = absurd (let h : SqlInputError f ≡ _ = clock.1 in cc)
+unread old new sql f (inr fails) = absurd (no_store_error fails.0 f fails.1)
 
 module _ {X : Type 0} (old new : State) (sql : List ℕ) (r : Result X Error) where
   -- a statement that is compiled, and not run, changes nothing
@@ -57,17 +60,16 @@ module _ {X : Type 0} (old new : State) (sql : List ℕ) (r : Result X Error) wh
       go (Ok x) ok err = (ok.1.0.was_open, ok.1.0.now_is)
       go (Err e) ok err = stays_unrun old new sql e (err []) settled is_open
 
-  pub unread_if : (f : CompileError) → r ≡ Err (SqlInputError f) → IfErr r (λ e. (params : Row) → IsNotRun old new sql params e) → IsPlain (understood desk_schema sql)
-      → IsTrue old.is_open × (old.now.schema ≢ desk_schema)
-  unread_if f is err plain = unread old new sql f (subst (λ (q : Result X Error). IfErr q (λ e. (params : Row) → IsNotRun old new sql params e)) is err []) plain
+  pub unread_if : (f : CompileError) → r ≡ Err (SqlInputError f) → IfErr r (λ e. (params : Row) → IsNotRun old new sql params e) → IsTrue old.is_open × ¬ AreUnderstood old.now.schema (sql ∷ [])
+  unread_if f is err = unread old new sql f (subst (λ (q : Result X Error). IfErr q (λ e. (params : Row) → IsNotRun old new sql params e)) is err [])
 
 pub not_missing : (e : Error) → ◌≡◌ {A = Result (Unit {0}) ColumnFault} (Err (Refused e)) (Err Missing) → ⊥
 not_missing e h = cc
 
 -- a text that is compiled was a statement over the tables of the last commit
 pub stood : (old new : State) (sql : List ℕ) (r : Result Outline Error) → is_ok r ≡ true → IfOk r (λ s. (s.text ≡ sql) × IsUnchanged old new) → IfOk r (Outlines (understood old.now.schema sql))
-    → IsTrue old.is_open × AreUnderstood old.now.schema (sql ∷ [])
-stood old new sql (Ok s) is same shape = (same.1.0.was_open, (go (understood old.now.schema sql) shape, tt))
+    → IsTrue old.is_open × IsTrue new.is_open × AreUnderstood old.now.schema (sql ∷ [])
+stood old new sql (Ok s) is same shape = (same.1.0.was_open, same.1.0.is_open, (go (understood old.now.schema sql) shape, tt))
   where
     go : (c : Result Compiled CompileError) → Outlines c s → is_ok c ≡ true
     go (Ok c) h = refl
@@ -77,6 +79,14 @@ stood old new sql (Err e) is same shape = absurd cc
 both : {X : Type 0} (P : X → Type 0) (xs ys : List X) → AllByRecursion P xs → AllByRecursion P ys → AllByRecursion P (xs ++ ys)
 both P [] ys h k = k
 both P (x ∷ xs) ys h k = (h.0, both P xs ys h.1 k)
+
+front : {X : Type 0} (P : X → Type 0) (xs ys : List X) → AllByRecursion P (xs ++ ys) → AllByRecursion P xs
+front P [] ys h = tt
+front P (x ∷ xs) ys h = (h.0, front P xs ys h.1)
+
+rest : {X : Type 0} (P : X → Type 0) (xs ys : List X) → AllByRecursion P (xs ++ ys) → AllByRecursion P ys
+rest P [] ys h = h
+rest P (x ∷ xs) ys h = rest P xs ys h.1
 
 -- what is asked next is asked of the same tables
 pub asks_then : {S T U : Type 0} {t : T} (g : store.Ghosts S) (a b c : Held S) (texts more : List (List ℕ)) (r : Result U ColumnFault) → Asks {T = T} g a b texts (Ok t) → Asks g b c more r → Asks g a c (texts ++ more) r
@@ -90,73 +100,27 @@ asks_then g a b c texts more r one two = record {
   stand = λ clean.
       let early : HasCleanDisk (state g b) = omega (arith, two.clean, clean) in
       let mine = one.stand early in
-      on_ok_weaker r (λ h. (mine.0, both _ texts more mine.1 (subst (λ (d : Database). AreUnderstood d.schema more) (one.same early h.0).1 h.1))) (two.stand clean);
+      on_ok_weaker r (λ h. (mine.0, h.1, both _ texts more mine.2 (subst (λ (d : Database). AreUnderstood d.schema more) (one.same early h.0).1 h.2))) (two.stand clean);
   missed = λ clean no.
       let early : HasCleanDisk (state g b) = omega (arith, two.clean, clean) in
       let bad = two.missed clean no in
       let first = one.same early bad.0 in
-      (first.0, λ has. bad.1 (ap (λ (d : Database). d.schema) first.1 ∙ has));
+      (first.0, λ are. bad.1 (subst (λ (d : Database). AreUnderstood d.schema more) (sym first.1) (rest _ texts more are)));
 }
 
 -- what is missing ends the asking
-pub asks_stop : {S T U : Type 0} {e : ColumnFault} (g : store.Ghosts S) (a b : Held S) (texts whole : List (List ℕ)) (r : Result U ColumnFault) → r ≡ Err e → Asks {T = T} g a b texts (Err e) → Asks g a b whole r
-asks_stop {e = e} g a b texts whole r is one = subst (λ q. Asks g a b whole q) (sym is) (record {
+pub asks_stop : {S T U : Type 0} {e : ColumnFault} (g : store.Ghosts S) (a b : Held S) (texts more : List (List ℕ)) (r : Result U ColumnFault) → r ≡ Err e → Asks {T = T} g a b texts (Err e) → Asks g a b (texts ++ more) r
+asks_stop {e = e} g a b texts more r is one = subst (λ q. Asks g a b (texts ++ more) q) (sym is) (record {
   clean = one.clean;
   same = one.same;
   stand = λ _. tt;
-  missed = λ clean no. let same : e ≡ Missing = cc in one.missed clean (ap (λ (f : ColumnFault). Err f) same);
+  missed = λ clean told.
+      let same : e ≡ Missing = cc in
+      let bad = one.missed clean (ap (λ (f : ColumnFault). Err f) same) in
+      (bad.0, λ are. bad.1 (front _ texts more are));
 })
 
--- ---- the texts are statements over the tables of a desk
-
-pub desk_read : IsPlain (understood desk_schema (codes "SELECT one, version FROM desk"))
-unfolding understood everything
-desk_read = (refl, refl)
-
-pub keys_read : IsPlain (understood desk_schema (codes "SELECT party, secret FROM keys"))
-unfolding understood everything
-keys_read = (refl, refl)
-
-pub closed_read : IsPlain (understood desk_schema (codes "SELECT day FROM closed"))
-unfolding understood everything
-closed_read = (refl, refl)
-
-pub meetings_read : IsPlain (understood desk_schema (codes "SELECT seq, meeting, company, kind, given, appointed, record, loaded, opened FROM meetings"))
-unfolding understood everything
-meetings_read = (refl, refl)
-
-pub resolutions_read : IsPlain (understood desk_schema (codes "SELECT meeting, number, kind, body FROM resolutions"))
-unfolding understood everything
-resolutions_read = (refl, refl)
-
-pub register_read : IsPlain (understood desk_schema (codes "SELECT meeting, member, kind, name, shares, paid FROM register"))
-unfolding understood everything
-register_read = (refl, refl)
-
-pub appointments_read : IsPlain (understood desk_schema (codes "SELECT seq, meeting, member, number, proxy, first, last, instructions, moment FROM appointments"))
-unfolding understood everything
-appointments_read = (refl, refl)
-
-pub endings_read : IsPlain (understood desk_schema (codes "SELECT seq, meeting, member, number, moment FROM endings"))
-unfolding understood everything
-endings_read = (refl, refl)
-
-pub authorities_read : IsPlain (understood desk_schema (codes "SELECT seq, meeting, corporation, person, moment FROM authorities"))
-unfolding understood everything
-authorities_read = (refl, refl)
-
-pub presences_read : IsPlain (understood desk_schema (codes "SELECT seq, meeting, party, moment FROM presences"))
-unfolding understood everything
-presences_read = (refl, refl)
-
-pub demands_read : IsPlain (understood desk_schema (codes "SELECT seq, meeting, resolution, party, moment FROM demands"))
-unfolding understood everything
-demands_read = (refl, refl)
-
-pub polls_read : IsPlain (understood desk_schema (codes "SELECT meeting, resolution, ordered, take, chair, started, closed, votes_for, votes_against, withheld, eligible FROM polls"))
-unfolding understood everything
-polls_read = (refl, refl)
-
-pub casts_read : IsPlain (understood desk_schema (codes "SELECT seq, meeting, resolution, voter, capacity, member, first, last, way, moment FROM casts"))
-unfolding understood everything
-casts_read = (refl, refl)
+-- the texts are statements over the tables of a desk
+pub columns_stand : HasColumns desk_schema
+unfolding HasColumns understood everything
+columns_stand = (refl, (refl, (refl, (refl, (refl, (refl, (refl, (refl, (refl, (refl, (refl, (refl, (refl, tt)))))))))))))

@@ -1,5 +1,5 @@
 -- What the statements on `desk` do.
-use Rattle.std.proofs.Common.{◌≡◌, ℕ, pos, List, [], ◌∷◌, codes, false, Some, Ok, Err, Result, OnOk, IfOk, IfErr, IsTrue, ◌⊎◌, refl}
+use Rattle.std.proofs.Common.{◌≡◌, ℕ, pos, List, [], ◌∷◌, codes, false, Some, Ok, Err, Result, OnOk, IfOk, IfErr, IsTrue, ◌⊎◌, refl, subst}
 use Rattle.sqlite.specs.declared.types.Value.TheVariants.{Null, Int}
 use Rattle.sqlite.specs.Order.{Row}
 use Rattle.sqlite.specs.Term.{Term, lit, col}
@@ -12,7 +12,15 @@ use Rattle.sqlite_tied.specs.Compute.{everything}
 use Rattle.sqlite.specs.declared.error.Error.{Error}
 use Rattle.sqlite.specs.Listing.{understood, reads_listing}
 use Rattle.sqlite.specs.State.{State, ExecutesInside, Shown, IsUnchanged, FailsToQuery, IsTooLate, KeepsCommit}
-use Rattle.sqlite.proofs.Callers.{IsPlain, command_of, statement_of}
+use Rattle.sqlite.proofs.Callers.{IsPlain, command_of, reads_as, statement_of}
+use Rattle.sqlite.specs.Command.{Command}
+use Rattle.sqlite.specs.Effect.{Database, Reads as Shows}
+use Rattle.sqlite.specs.Table.{Table}
+use Rattle.sqlite_resolve.specs.declared.compiled.Compiled.{Compiled}
+use Rattle.sqlite_resolve.specs.declared.error.CompileError.{CompileError}
+use Rattle.sqlite_schema.specs.declared.schema.Index.{Index}
+use Rattle.sqlite_schema.specs.declared.schema.View.{View as Stored}
+use Rattle.desk_tables.specs.Versions.{Answers, AreNoted, NotesVersion, beside_desk, version_text}
 use Rattle.desk_rows.specs.Columns.{number_in}
 use Rattle.desk_rows.specs.Office.{version_in}
 use Rattle.desk_statements.proofs.GivenNumbers.{none_below}
@@ -22,7 +30,7 @@ use Rattle.desk_schema.specs.Statements.{IsDesk, AddsFirst, AreEmpty, rows_of}
 use Rattle.desk_statements.proofs.Adding.{adds_numbered, means_more}
 use Rattle.desk_statements.proofs.Commits.{query_keeps}
 use Rattle.desk_statements.proofs.Making.{made}
-use Rattle.desk_statements.proofs.Reading.{whole, reads_whole}
+use Rattle.desk_statements.proofs.Reading.{in_order, shown_same, whole}
 use Rattle.desk_statements.proofs.Values.{cast_null, cast_int}
 
 abbrev make_text : List ℕ
@@ -69,8 +77,16 @@ adds_version old new (Ok count) was inside h = λ records known none.
     let row = adds_numbered 0 (record table { tree = 0 }) terms 3 add_text [] (pos 1) cells add_is add_plain refl refl (rw (cast_null, cast_int (pos 1)) refl) old new (Ok count) was inside (none_below desk (old.now.trees 0) records (pos 1) known none) h in
     means_more desk cells (record { number = 1 }) old new row.0 (rw row.1 means)
 
-abbrev all_text : List ℕ
-all_text = codes "SELECT one, version FROM desk ORDER BY one"
+-- ---- the version of tables of any schema
+
+-- what answers a statement that is understood is what its command reads
+command_reads : (r : Result Compiled CompileError) (command : Command) (db : Database) (rows : List Row) → command_of r ≡ command → Answers r db rows → Shows command db [] rows
+command_reads (Ok c) command db rows is h = subst (λ k. Shows k db [] rows) is h
+command_reads (Err e) command db rows is h = absurd h
+
+answered : (r : Result Compiled CompileError) (db : Database) (rows : List Row) → IsPlain r → Shows (command_of r) db [] rows → Answers r db rows
+answered (Ok c) db rows plain h = h
+answered (Err e) db rows plain h = absurd plain
 
 abbrev shows : List Term
 shows = col 1 0 ∷ col 1 2 ∷ []
@@ -78,18 +94,36 @@ shows = col 1 0 ∷ col 1 2 ∷ []
 abbrev names : List (List ℕ)
 names = codes "one" ∷ codes "version" ∷ []
 
-all_is : (command_of (understood desk_schema all_text) ≡ Select (record { lets = []; body = whole 0 shows }) names) × (reads_listing desk_schema all_text ≡ false)
-unfolding understood everything
-all_is = (refl, refl)
+module _ (others : List Table) (indexes : List Index) (views : List Stored) where
+  text_is : (command_of (understood (beside_desk others indexes views) version_text) ≡ Select (record { lets = []; body = whole 0 shows }) names) × (reads_listing (beside_desk others indexes views) version_text ≡ false)
+  unfolding understood everything
+  text_is = (refl, refl)
 
-all_plain : IsPlain (understood desk_schema all_text)
-unfolding understood everything
-all_plain = (refl, refl)
+  text_plain : IsPlain (understood (beside_desk others indexes views) version_text)
+  unfolding understood everything
+  text_plain = (refl, refl)
 
-pub reads : {V : Type 0} (items : V → List Row) (old new : State) (r : Result V Error) → IsDesk old → IfOk r (λ v. Shown all_text [] old new (items v))
+  pub notes : NotesVersion (beside_desk others indexes views)
+  notes = record {
+    table = refl;
+    plain = text_plain;
+    listed = text_is.1;
+    whole = λ db rising rows h. in_order 0 shows db.trees refl rows rising.0 ((command_reads (understood (beside_desk others indexes views) version_text) _ db rows text_is.0 h).answer Null);
+  }
+
+-- the tables of version 1 note it
+pub desk_notes : NotesVersion desk_schema
+desk_notes = notes _ _ []
+
+pub reads : {V : Type 0} (items : V → List Row) (old new : State) (r : Result V Error) → AreNoted old → IfOk r (λ v. Shown version_text [] old new (items v))
     → IfOk r (λ v. (items v ≡ rows_of desk old.now.trees) × IsUnchanged old new)
-reads items = reads_whole items desk shows names all_text all_is.0 all_plain all_is.1 refl refl (λ row. refl)
+reads items old new (Err e) was h = tt
+reads items old new (Ok v) was h =
+    let plain = was.noted.plain in
+    let it = understood old.now.schema version_text in
+    let got = reads_as version_text [] old new old.now.schema refl (command_of it) refl plain was.noted.listed (items v) h in
+    (was.noted.whole old.now was.rising (items v) (answered it old.now (items v) plain got), shown_same version_text [] old new old.now.schema refl plain (items v) h)
 
-pub reads_keeps : {V : Type 0} (items : V → List Row) (old new : State) (r : Result V Error) → IsDesk old → IfOk r (λ v. Shown all_text [] old new (items v))
-    → IfErr r (λ e. FailsToQuery all_text [] old new e ⊎ IsTooLate all_text [] old new e) → KeepsCommit old new
-reads_keeps items old new r was = query_keeps items all_text [] old new desk_schema all_plain r was.schema
+pub reads_keeps : {V : Type 0} (items : V → List Row) (old new : State) (r : Result V Error) → NotesVersion old.now.schema → IfOk r (λ v. Shown version_text [] old new (items v))
+    → IfErr r (λ e. FailsToQuery version_text [] old new e ⊎ IsTooLate version_text [] old new e) → KeepsCommit old new
+reads_keeps items old new r noted = query_keeps items version_text [] old new old.now.schema noted.plain r refl

@@ -1,5 +1,5 @@
 -- What asking for columns tells.
-use Rattle.std.specs.Prelude.{◌≡◌, ◌≢◌, ◌≤◌, ℕ, List, [], ◌∷◌, ◌++◌, Result, Err, IsOk, IsTrue, OnOk, codes}
+use Rattle.std.specs.Prelude.{◌≡◌, ◌≤◌, ℕ, List, [], ◌∷◌, ◌++◌, Result, Err, IsOk, IsTrue, OnOk, codes}
 use Rattle.std.specs.List.{AllByRecursion}
 use Rattle.sqlite.specs.Held.{Held, state}
 use Rattle.sqlite.specs.Listing.{understood}
@@ -7,7 +7,6 @@ use Rattle.sqlite.specs.Schema.{Schema}
 use Rattle.sqlite.specs.State.{HasCleanDisk}
 use Rattle.sqlite_trees.specs.View.{doubt}
 use Rattle.sqlite_trees.specs.declared.store.Store as store
-use Rattle.desk_schema.specs.Tables.{desk_schema}
 use Rattle.desk_tables.specs.declared.columns.ColumnFault.{ColumnFault}
 use Rattle.desk_tables.specs.declared.columns.ColumnFault.TheVariants.{Missing}
 
@@ -51,16 +50,15 @@ AreUnderstood schema texts = AllByRecursion (λ text. IsOk (understood schema te
 unfoldable pub HasColumns : Schema → Type 0
 HasColumns schema = AreUnderstood schema (meeting_columns ++ paper_columns ++ poll_columns)
 
--- outside a transaction nothing is changed; where the columns are told to stand the texts that name
--- them are understood, and where one is told to be missing the tables are not declared as those of a
--- desk are
+-- outside a transaction nothing is changed; the columns are told to stand where the store is open
+-- and the texts that name them are understood, and one is told to be missing where they are not
 pub record Asks {S T : Type 0} (g : store.Ghosts S) (old new : Held S) (texts : List (List ℕ))
     (result : Result T ColumnFault) : Type 0 where
   pub clean : doubt (state g old).is_clean ≤ doubt (state g new).is_clean
   pub same : HasCleanDisk (state g new) → IsTrue (state g new).is_open
       → IsTrue (state g old).is_open × ((state g new).now ≡ (state g old).now)
   pub stand : HasCleanDisk (state g new)
-      → OnOk result
-      (IsTrue (state g old).is_open × AreUnderstood (state g old).now.schema texts)
+      → OnOk result (IsTrue (state g old).is_open × IsTrue (state g new).is_open
+      × AreUnderstood (state g old).now.schema texts)
   pub missed : HasCleanDisk (state g new) → result ≡ Err Missing
-      → IsTrue (state g old).is_open × ((state g old).now.schema ≢ desk_schema)
+      → IsTrue (state g old).is_open × ¬ AreUnderstood (state g old).now.schema texts

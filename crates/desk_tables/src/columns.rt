@@ -1,10 +1,10 @@
 //! Whether the columns that are read stand.
 ghost use Rattle.std.specs.Prelude.{◌≡◌, ◌++◌, ◌∷◌, [], false};
 ghost use Rattle.desk_schema.specs.Tables.{desk_schema};
-ghost use Rattle.desk_tables.specs.Columns.{Asks, meeting_columns, paper_columns, poll_columns};
+ghost use Rattle.desk_tables.specs.Columns.{Asks, HasColumns};
+ghost use Rattle.desk_tables.specs.Columns.{meeting_columns, paper_columns, poll_columns};
+ghost use Rattle.desk_tables.specs.Versions.{version_text};
 ghost use Rattle.desk_tables.specs.declared.columns.ColumnFault.TheVariants.{Refused};
-ghost use Rattle.sqlite.specs.Given.{IsPlain};
-ghost use Rattle.sqlite.specs.Listing.{understood};
 
 use sqlite::{Alter, Connection, Error};
 
@@ -29,8 +29,7 @@ impl From<Error> for ColumnFault {
 fn ask<S: Alter>(conn: &mut Connection<S>, sql: &str) -> Result<(), ColumnFault>
     requires { conn.old.in_transaction ≡ false }
     ensures ended { conn.new.in_transaction ≡ false }
-    ensures asked { IsPlain (understood desk_schema sql.now)
-        → Asks S.Store conn.old conn.new (sql.now ∷ []) result }
+    ensures asked { Asks S.Store conn.old conn.new (sql.now ∷ []) result }
 {
     let _ = conn.is_autocommit();
     let prepared = conn.prepare(sql);
@@ -39,6 +38,15 @@ fn ask<S: Alter>(conn: &mut Connection<S>, sql: &str) -> Result<(), ColumnFault>
     }
     prepared?;
     Ok(())
+}
+
+/// Whether the columns that note the version stand. No statement is run.
+pub fn ask_version<S: Alter>(conn: &mut Connection<S>) -> Result<(), ColumnFault>
+    requires { conn.old.in_transaction ≡ false }
+    ensures ended { conn.new.in_transaction ≡ false }
+    ensures asked { Asks S.Store conn.old conn.new (version_text ∷ []) result }
+{
+    ask(conn, "SELECT one, version FROM desk ORDER BY one")
 }
 
 /// Asks for the columns of the desk, of its meetings, and of their resolutions and registers.
@@ -112,3 +120,8 @@ pub fn ask_columns<S: Alter>(conn: &mut Connection<S>) -> Result<(), ColumnFault
     ask_papers(conn)?;
     ask_polls(conn)
 }
+
+/// Over the tables of a desk each column that is read stands.
+pub fn desk_has_columns()
+    ensures { HasColumns desk_schema }
+{}

@@ -1,8 +1,12 @@
 //! The table `desk`: the version of the tables.
 ghost use Rattle.std.specs.Prelude.{◌≡◌, IfOk};
 ghost use Rattle.desk_schema.specs.Contents.{desk};
-ghost use Rattle.desk_schema.specs.Statements.{AddsFirst, ChangesNothing, CommitsNothing, Does, IsRead, Makes, Reads};
+ghost use Rattle.desk_schema.specs.Statements.{AddsFirst, CommitsNothing, Does, Makes, Reads};
+ghost use Rattle.desk_schema.specs.Statements.{WasOpen};
 ghost use Rattle.desk_schema.specs.Tables.{no_schema, with_desk};
+ghost use Rattle.desk_tables.specs.Versions.{AreNoted, FirstTableNotes, NotesVersion};
+ghost use Rattle.sqlite.specs.Held.{state};
+ghost use Rattle.sqlite.specs.State.{HasCleanDisk, KeepsCommit, Survives};
 
 use sqlite::{Alter, Error, Row, Transaction};
 
@@ -28,12 +32,24 @@ pub fn add<S: Alter>(tx: &mut Transaction<'_, S>) -> Result<usize, Error>
     tx.execute("INSERT INTO desk (one, version) VALUES (1, 1)", &[])
 }
 
-/// The rows, of which there is one.
+/// The rows, of which there is one, of tables of any version.
 pub fn all<S: Alter>(tx: &mut Transaction<'_, S>) -> Result<Vec<Row>, Error>
     ensures same_reference { tx.new.conn.ghost_name ≡ tx.old.conn.ghost_name }
-    ensures rows { IsRead S.Store tx.old.conn.now tx.new.conn.now
-        → IfOk result (λ rows. Reads S.Store tx.old.conn.now tx.new.conn.now desk rows.items) }
-    ensures changes { ChangesNothing S.Store tx.old.conn.now tx.new.conn.now }
+    ensures rows { HasCleanDisk (state S.Store tx.new.conn.now)
+        → AreNoted (state S.Store tx.old.conn.now) → IfOk result (λ rows.
+        Reads S.Store tx.old.conn.now tx.new.conn.now desk rows.items) }
+    ensures kept { HasCleanDisk (state S.Store tx.new.conn.now)
+        → NotesVersion (state S.Store tx.old.conn.now).now.schema
+        → KeepsCommit (state S.Store tx.old.conn.now) (state S.Store tx.new.conn.now) }
+    ensures was_open { WasOpen (state S.Store tx.old.conn.now) (state S.Store tx.new.conn.now) }
+    ensures crash { Survives (state S.Store tx.old.conn.now) (state S.Store tx.new.conn.now)
+        (λ _. ⊥) }
 {
     tx.query_all("SELECT one, version FROM desk ORDER BY one", &[])
 }
+
+/// Tables of which `desk` is the first note their version, whatever tables, indexes and views stand
+/// beside it.
+pub fn first_table_notes()
+    ensures { FirstTableNotes }
+{}

@@ -74,8 +74,8 @@ fn register_rows(rows: Listing<RegisterRow>) -> Result<Listing<RegisterRow>, Rea
     }
 }
 
-/// The polls in the order of resolutions.
-fn poll_list(polls: Listing<Poll>) -> Result<Listing<Poll>, ReadFault>
+/// The polls in the order of resolutions. The fault is `NoOffice` only where a poll stands twice.
+pub fn poll_list(polls: Listing<Poll>) -> Result<Listing<Poll>, ReadFault>
     ensures { Yields (ascends_by poll_before) result (Some (sort_by poll_before polls)) }
 {
     let mut polls = polls.into_vec();
@@ -130,7 +130,7 @@ fn without_numbers(
 }
 
 /// The resolutions of a meeting, in the order of their numbers, which are 1, 2, ..
-fn resolution_list(
+pub fn resolution_list(
     alloc: Global,
     rows: Listing<NumberedResolution>,
 ) -> Result<Resolutions, ReadFault>

@@ -1,31 +1,47 @@
-use Rattle.std.proofs.Common.{IsTrue, arith, ap, sym, subst, ◌∙◌}
+use Rattle.std.proofs.Common.{◌≡◌, Err, Result, arith, ap, sym, subst, ◌∙◌}
+use Rattle.std.proofs.lemmas.Result.{err_from_is_err_and}
 use Rattle.sqlite.specs.Effect.{Database}
 use Rattle.sqlite.specs.Held.{state}
 use Rattle.sqlite.specs.State.{HasCleanDisk}
-use Rattle.desk_tables.specs.Columns.{HasColumns}
-use Rattle.desk_opening.proofs.OpeningLemmas.{schema_was}
+use Rattle.desk_records.specs.Standing.{HasNoOffice}
+use Rattle.desk_words.specs.declared.office.OfficeLists.{OfficeLists}
+use Rattle.desk_opening.specs.declared.fault.OpenFault.{OpenFault}
+use Rattle.desk_opening.proofs.FaultLemmas.{by_office}
+use Rattle.desk_opening.proofs.OpeningLemmas.{desk_same, same_database}
+use Rattle.desk_opening.proofs.RisingLemmas.{are_a_desk}
 use Rattle.desk_opening.proofs.opening.kept_office.Goals as goal
 
-pub returns-clause-schema : goal.returns-clause-schema
-returns-clause-schema g c = λ clean was_open has.
+pub returns-in_err-office-clause-cause : goal.returns-in_err-office-clause-cause
+returns-in_err-office-clause-cause g c = λ clean noted rise.
     let old = state g.S.Store c.args.conn.now in
-    let read = state g.S.Store c.examine.new.conn in
+    let told = state g.S.Store c.judge_version.new.conn in
     let judged = state g.S.Store c.judge_columns.new.conn in
-    let end = state g.S.Store c.ask_open.new.conn in
-    let late : HasCleanDisk judged = omega (arith, c.ask_open.ensures.clean, clean) in
-    let early : HasCleanDisk read = omega (arith, c.judge_columns.ensures.clean, late) in
-    let is_open : IsTrue end.is_open = c.in_ok-ask_open.ensures.is_open clean in
-    let asked = c.ask_open.ensures.same clean is_open in
-    let kept = c.judge_columns.ensures.same late asked.0 in
-    let same = ap (λ (d : Database). d.trees) (asked.1 ∙ kept.1) ∙ c.examine.ensures.kept early was_open kept.0 in
-    schema_was old end same (c.schema.ensures.live was_open).0 (c.schema-2.ensures.live is_open).0 has
+    let late : HasCleanDisk judged = omega (arith, c.examine.ensures.clean, clean) in
+    let early : HasCleanDisk told = omega (arith, c.judge_columns.ensures.clean, late) in
+    let columns = c.judge_columns.ensures.same late (c.in_ok-judge_columns.ensures.columns late).0 in
+    let version = c.judge_version.ensures.same early columns.0 in
+    let same : judged.now ≡ old.now = columns.1 ∙ version.1 in
+    let fault = c.in_err-office.field-0.0 in
+    let as_one : (f : OpenFault) → fault ≡ f → ◌≡◌ {A = Result OfficeLists OpenFault} (Err fault) (Err f) = λ f e. ap (λ (x : OpenFault). Err x) e in
+    let p = err_from_is_err_and c.from_residual-in_err-office.result c.from_residual-in_err-office.ensures.1 in
+    rw (p.1, p.2)
+    (by_office fault old (c.in_ok-judge_version.ensures.one early noted) (λ e. c.in_err-office.ensures.other (as_one _ e))
+    (λ e has. subst (λ (d : Database). HasNoOffice (record judged { now = d })) same (c.in_err-office.ensures.none clean (desk_same old judged (sym same) (are_a_desk old has rise)) (as_one _ e))))
 
-pub returns-clause-columns : goal.returns-clause-columns
-returns-clause-columns g c = λ clean.
+pub returns-clause-same : goal.returns-clause-same
+returns-clause-same g c = λ clean.
+    let old = state g.S.Store c.args.conn.now in
+    let told = state g.S.Store c.judge_version.new.conn in
     let judged = state g.S.Store c.judge_columns.new.conn in
+    let read = state g.S.Store c.examine.new.conn in
     let end = state g.S.Store c.ask_open.new.conn in
-    let late : HasCleanDisk judged = omega (arith, c.ask_open.ensures.clean, clean) in
-    let is_open : IsTrue end.is_open = c.in_ok-ask_open.ensures.is_open clean in
+    let last : HasCleanDisk read = omega (arith, c.ask_open.ensures.clean, clean) in
+    let late : HasCleanDisk judged = omega (arith, c.examine.ensures.clean, last) in
+    let early : HasCleanDisk told = omega (arith, c.judge_columns.ensures.clean, late) in
+    let is_open = c.in_ok-ask_open.ensures.is_open clean in
     let asked = c.ask_open.ensures.same clean is_open in
-    let kept = c.judge_columns.ensures.same late asked.0 in
-    subst (λ (d : Database). HasColumns d.schema) (sym (asked.1 ∙ kept.1)) (c.in_ok-judge_columns.ensures.columns late).1
+    let judged_open = c.examine.ensures.was_open last asked.0 in
+    let columns = c.judge_columns.ensures.same late judged_open in
+    let version = c.judge_version.ensures.same early columns.0 in
+    let same = ap (λ (d : Database). d.trees) asked.1 ∙ c.examine.ensures.kept last judged_open asked.0 ∙ ap (λ (d : Database). d.trees) (columns.1 ∙ version.1) in
+    same_database old end same (c.schema.ensures.live version.0).0 (c.schema-2.ensures.live is_open).0

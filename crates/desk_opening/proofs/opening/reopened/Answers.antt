@@ -1,14 +1,9 @@
-use Rattle.std.proofs.Common.{◌≡◌, IsTrue, false, arith, rules, refl, sym, ◌∙◌, ap, subst}
+use Rattle.std.proofs.Common.{◌≡◌, IsTrue, false, arith, rules, sym, ◌∙◌, ap}
 use Rattle.std.proofs.lemmas.Bool.{both_ways, true_from_ne_false}
 use Rattle.sqlite.specs.Effect.{Database}
 use Rattle.sqlite.specs.Held.{state}
-use Rattle.sqlite.specs.Schema.{Schema}
-use Rattle.sqlite.specs.Tree.{Trees}
-use Rattle.sqlite_trees.specs.Objects.{catalog_tree}
 use Rattle.sqlite_trees.specs.View.{IsClean}
-use Rattle.sqlite_catalog.specs.Listing.{AreListed}
-use Rattle.desk_schema.specs.Tables.{desk_schema}
-use Rattle.desk_opening.proofs.OneSchema.{one_schema}
+use Rattle.desk_opening.proofs.OpeningLemmas.{same_database}
 use Rattle.desk_opening.proofs.RisingLemmas.{risen}
 use Rattle.desk_opening.proofs.opening.reopened.Goals as goal
 
@@ -22,33 +17,18 @@ returns-in-Ok-clause-same g c = λ clear.
     let undone = c.into_store-store.ensures.undone in
     let was_open : IsTrue (state g.S.Store c.args.conn).is_open = (undone.kept late).was_open is_open in
     let auto : IsTrue c.is_autocommit.result = search rules in
-    c.in-Ok.ensures.trees clear ∙ (undone.undone is_open).0 ∙ sym (ap (λ (d : Database). d.trees) (c.is_autocommit.ensures.settled auto was_open))
-
-pub returns-in-Ok-clause-schema : goal.returns-in-Ok-clause-schema
-returns-in-Ok-clause-schema g c = λ clear has.
-    let store = c.into_store-store.result in
-    let v = g.S.Store.view store in
-    let late : IsClean v = omega (arith, c.in-Ok.ensures.clean, clear) in
-    let whole : v.is_broken ≡ false = sym (c.is_broken.ensures late) ∙ c.if-is_broken.false in
-    let is_open : IsTrue v.is_open = true_from_ne_false _ (λ shut. both_ways _ whole (g.met.S.Store.broken_if_shut store shut)) in
-    let undone = c.into_store-store.ensures.undone in
-    let was_open : IsTrue (state g.S.Store c.args.conn).is_open = (undone.kept late).was_open is_open in
-    let auto : IsTrue c.is_autocommit.result = search rules in
     let same = c.in-Ok.ensures.trees clear ∙ (undone.undone is_open).0 ∙ sym (ap (λ (d : Database). d.trees) (c.is_autocommit.ensures.settled auto was_open)) in
     let live = (c.in-Ok.ensures.opens clear).1 (c.in-Ok.ensures.opens clear).0.is_open in
-    let lived = c.schema.ensures.live was_open in
-    let new : AreListed ((state g.S.Store c.args.conn).now.trees catalog_tree) c.in-Ok.conn.schema = subst (λ (t : Trees). AreListed (t catalog_tree) c.in-Ok.conn.schema) same live.0.lists.listed in
-    let old : AreListed ((state g.S.Store c.args.conn).now.trees catalog_tree) desk_schema = subst (λ (s : Schema). AreListed ((state g.S.Store c.args.conn).now.trees catalog_tree) s) has lived.0.lists.listed in
-    one_schema _ desk_schema c.in-Ok.conn.schema refl old new
+    same_database (state g.S.Store c.args.conn) (state g.S.Store c.in-Ok.conn) same (c.schema.ensures.live was_open).0 live.0
 
-pub returns-in-Ok-clause-desk : goal.returns-in-Ok-clause-desk
-returns-in-Ok-clause-desk g c = λ clear has.
+pub returns-in-Ok-clause-rising : goal.returns-in-Ok-clause-rising
+returns-in-Ok-clause-rising g c = λ clear.
     let store = c.into_store-store.result in
     let v = g.S.Store.view store in
     let late : IsClean v = omega (arith, c.in-Ok.ensures.clean, clear) in
     let whole : v.is_broken ≡ false = sym (c.is_broken.ensures late) ∙ c.if-is_broken.false in
     let live = (c.in-Ok.ensures.opens clear).1 (c.in-Ok.ensures.opens clear).0.is_open in
-    risen v (state g.S.Store c.in-Ok.conn) has (c.in-Ok.ensures.trees clear) (g.met.S.Alter.listed store whole) (g.met.S.Store.ordered store whole) live.0.lists.listed
+    risen v (state g.S.Store c.in-Ok.conn) (c.in-Ok.ensures.trees clear) (g.met.S.Alter.listed store whole) (g.met.S.Store.ordered store whole) live.0.lists.listed
 
 pub returns-in-Err-clause-kept : goal.returns-in-Err-clause-kept
 returns-in-Err-clause-kept g c = λ clear stands.

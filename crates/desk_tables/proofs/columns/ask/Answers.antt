@@ -6,7 +6,7 @@ use Rattle.desk_tables.proofs.ColumnLemmas.{not_missing, stays_prepared, stood, 
 use Rattle.desk_tables.proofs.columns.ask.Goals as goal
 
 pub returns-in-Err-SqlInputError-clause-asked : goal.returns-in-Err-SqlInputError-clause-asked
-returns-in-Err-SqlInputError-clause-asked g c = λ plain.
+returns-in-Err-SqlInputError-clause-asked g c =
     let old = state g.S.Store c.args.conn.now in
     let new = state g.S.Store c.prepare-prepared.new.self in
     let auto : IsTrue c.is_autocommit.result = search rules in
@@ -15,11 +15,11 @@ returns-in-Err-SqlInputError-clause-asked g c = λ plain.
       clean = c.prepare-prepared.ensures.survives.clean;
       same = λ clean is_open. stays_prepared old new c.args.sql.now c.prepare-prepared.result _ (c.prepare-prepared.ensures.ok clean) (c.prepare-prepared.ensures.err clean) (c.is_autocommit.ensures.settled auto) is_open;
       stand = λ _. tt;
-      missed = λ clean no. unread_if old new c.args.sql.now c.prepare-prepared.result c.in-Err-SqlInputError.field-0-0 is (c.prepare-prepared.ensures.err clean) plain;
+      missed = λ clean no. unread_if old new c.args.sql.now c.prepare-prepared.result c.in-Err-SqlInputError.field-0-0 is (c.prepare-prepared.ensures.err clean);
     }
 
 pub returns-in_err-prepared-clause-asked : goal.returns-in_err-prepared-clause-asked
-returns-in_err-prepared-clause-asked g c = λ plain.
+returns-in_err-prepared-clause-asked g c =
     let old = state g.S.Store c.args.conn.now in
     let new = state g.S.Store c.prepare-prepared.new.self in
     let auto : IsTrue c.is_autocommit.result = search rules in
@@ -32,7 +32,7 @@ returns-in_err-prepared-clause-asked g c = λ plain.
     })
 
 pub returns-clause-asked : goal.returns-clause-asked
-returns-clause-asked g c = λ plain.
+returns-clause-asked g c =
     let old = state g.S.Store c.args.conn.now in
     let new = state g.S.Store c.prepare-prepared.new.self in
     let auto : IsTrue c.is_autocommit.result = search rules in

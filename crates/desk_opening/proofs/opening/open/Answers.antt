@@ -1,0 +1,65 @@
+use Rattle.std.proofs.Common.{◌≡◌, Some, arith, ap, sym, subst, ◌∙◌}
+use Rattle.sqlite.specs.Effect.{Database}
+use Rattle.sqlite.specs.Held.{state}
+use Rattle.sqlite.specs.Schema.{Schema}
+use Rattle.sqlite.specs.State.{HasCleanDisk}
+use Rattle.desk_records.specs.Office.{office_in}
+use Rattle.desk_records.specs.Standing.{IsVersionOne}
+use Rattle.desk_schema.specs.Tables.{desk_schema}
+use Rattle.desk_tables.proofs.DeskLemmas.{desk_notes}
+use Rattle.desk_tables.specs.Columns.{HasColumns}
+use Rattle.desk_tables.specs.Versions.{NotesVersion}
+use Rattle.desk_opening.proofs.FaultLemmas.{cause_same}
+use Rattle.desk_opening.proofs.OpeningLemmas.{desk_same}
+use Rattle.desk_opening.proofs.RisingLemmas.{are_a_desk, are_noted}
+use Rattle.desk_opening.proofs.opening.open.Goals as goal
+
+pub returns-in-Ok-kept_office-clause-stands : goal.returns-in-Ok-kept_office-clause-stands
+returns-in-Ok-kept_office-clause-stands g c = λ clean has.
+    let opened = state g.S.Store c.in-Ok.conn in
+    let kept = state g.S.Store c.kept_office.new.conn in
+    let early : HasCleanDisk opened = omega (arith, c.kept_office.ensures.clean, clean) in
+    let is : opened.now.schema ≡ desk_schema = ap (λ (d : Database). d.schema) (c.in-Ok.ensures.same early) ∙ has in
+    let rise = c.in-Ok.ensures.rising early in
+    let desk = are_a_desk opened is rise in
+    let holds = c.in-Ok-kept_office.ensures.holds clean desk in
+    let one = c.in-Ok-kept_office.ensures.version clean (are_noted opened (subst NotesVersion (sym is) desk_notes) rise) in
+    let same = sym (c.in-Ok-kept_office.ensures.same clean) in
+    record {
+      desk = desk_same opened kept same desk;
+      version = subst (λ (d : Database). IsVersionOne (record opened { now = d })) same one;
+      holds = subst (λ (d : Database). office_in d.trees ≡ Some c.in-Ok-kept_office.office) same holds.0;
+      kept = holds.1;
+    }
+
+pub returns-in-Ok-kept_office-clause-same : goal.returns-in-Ok-kept_office-clause-same
+returns-in-Ok-kept_office-clause-same g c = λ clean.
+    let early : HasCleanDisk (state g.S.Store c.in-Ok.conn) = omega (arith, c.kept_office.ensures.clean, clean) in
+    c.in-Ok-kept_office.ensures.same clean ∙ c.in-Ok.ensures.same early
+
+pub returns-in-Ok-kept_office-clause-version : goal.returns-in-Ok-kept_office-clause-version
+returns-in-Ok-kept_office-clause-version g c = λ clean notes.
+    let opened = state g.S.Store c.in-Ok.conn in
+    let early : HasCleanDisk opened = omega (arith, c.kept_office.ensures.clean, clean) in
+    let same = c.in-Ok.ensures.same early in
+    let noted = are_noted opened (subst (λ (d : Database). NotesVersion d.schema) (sym same) notes) (c.in-Ok.ensures.rising early) in
+    subst (λ (d : Database). IsVersionOne (record opened { now = d })) same (c.in-Ok-kept_office.ensures.version clean noted)
+
+pub returns-in-Ok-kept_office-clause-columns : goal.returns-in-Ok-kept_office-clause-columns
+returns-in-Ok-kept_office-clause-columns g c = λ clean.
+    let early : HasCleanDisk (state g.S.Store c.in-Ok.conn) = omega (arith, c.kept_office.ensures.clean, clean) in
+    subst (λ (d : Database). HasColumns d.schema) (c.in-Ok.ensures.same early) (c.in-Ok-kept_office.ensures.columns clean)
+
+pub returns-in-Err-kept_office-clause-cause : goal.returns-in-Err-kept_office-clause-cause
+returns-in-Err-kept_office-clause-cause g c = λ clean notes.
+    let opened = state g.S.Store c.in-Ok.conn in
+    let early : HasCleanDisk opened = omega (arith, c.kept_office.ensures.clean, clean) in
+    let same = c.in-Ok.ensures.same early in
+    let rise = c.in-Ok.ensures.rising early in
+    let noted = are_noted opened (subst (λ (d : Database). NotesVersion d.schema) (sym same) notes) rise in
+    cause_same c.in-Err-kept_office.fault opened (state g.S.Store c.args.conn) same (c.in-Err-kept_office.ensures.cause clean noted rise)
+
+pub returns-in-Err-kept_office-clause-kept : goal.returns-in-Err-kept_office-clause-kept
+returns-in-Err-kept_office-clause-kept g c = λ clean is_open.
+    let early : HasCleanDisk (state g.S.Store c.in-Ok.conn) = omega (arith, c.kept_office.ensures.clean, clean) in
+    c.in-Err-kept_office.ensures.kept clean is_open ∙ ap (λ (d : Database). d.trees) (c.in-Ok.ensures.same early)
