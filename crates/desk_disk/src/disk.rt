@@ -8,7 +8,7 @@ ghost use Rattle.desk_words.specs.declared.office.OfficeLists.{OfficeLists};
 ghost use Rattle.sqlite.specs.State.{HasCleanDisk};
 
 use desk_endings::{Ended, Fault};
-use desk_store::Desk;
+use desk_store::{Desk, HandedBack};
 use desk_tasks::{by_file_error, init, open};
 use sqlite::{Connection, FileFrom, FileStore, Wary};
 use std::fs;
@@ -58,6 +58,14 @@ pub fn create(rt: &HostRuntime, file: &str) -> Ended
     ended
 }
 
+/// How the program ends where what was opened is handed back, which is dropped.
+fn ended_of(refused: (Ended, HandedBack<DeskFile>)) -> Ended
+    ensures { result ≡ refused.0 }
+{
+    let (ended, _) = refused;
+    ended
+}
+
 impl DiskDesk {
     /// Opens the desk that a file is. A file that is not there is not made, and ends the program
     /// with `Store`.
@@ -71,7 +79,9 @@ impl DiskDesk {
             return Err(Ended::by(Fault::Store));
         }
         let conn = connect(rt, file)?;
-        let desk = open(rt.alloc(), conn)?;
-        Ok(DiskDesk { desk })
+        match open(rt.alloc(), conn) {
+            Ok(desk) => Ok(DiskDesk { desk }),
+            Err(refused) => Err(ended_of(refused)),
+        }
     }
 }

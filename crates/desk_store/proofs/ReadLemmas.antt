@@ -9,6 +9,7 @@ use Rattle.desk_records.specs.Office.{office_in}
 use Rattle.office_lists.specs.declared.fault.ReadFault.{ReadFault}
 use Rattle.desk_reading.specs.Reading.{IsReading}
 use Rattle.office_checks.specs.InOrder.{office_in_order}
+use Rattle.party_reading.specs.Telling.{IsToldOf, TellsOnly}
 use Rattle.desk_store.specs.Reads.{IsTold, IsWhole}
 use Rattle.desk_opening.proofs.OrderedOffice.{office_ordered}
 
@@ -54,3 +55,17 @@ mapped_failed Q (Err e) r is got = refl
 pub error_of : {X E : Type 0} (P : E → Type 0) (r : Result X E) → IsErr r → IfErr r P → (e : E) × P e
 error_of P (Ok x) failed h = absurd cc
 error_of P (Err e) failed h = (e, h)
+
+-- ---- what is told of the office that the tables hold
+
+if_told : {X : Type 0} (P : X → Type 0) (r : Result X ReadFault) → TellsOnly P r → IfOk r P
+if_told P (Ok x) h = h
+if_told P (Err e) h = tt
+
+-- is told of the office for which they stand
+pub told_office : {S X : Type 0} (g : store.Ghosts S) (a b : Held S) (r : Result X ReadFault) (P : OfficeLists → X → Type 0) → IsToldOf g a b r P → IsTold g a b r P
+told_office g a b r P told = record {
+  told = λ clean office stands. if_told (P office) r (told.told (clean, stands.desk) office stands.holds stands.kept);
+  same = told.same;
+  changes = told.changes;
+}

@@ -12,6 +12,10 @@ use Rattle.desk_words.specs.declared.caller.KeyRow.{KeyRow}
 use Rattle.desk_words.specs.declared.change.Change.{Change}
 use Rattle.desk_words.specs.declared.office.OfficeLists.{OfficeLists}
 use Rattle.desk_words.specs.declared.request.Call.{Call}
+use Rattle.desk_words.specs.Seen.{MeetingName, Moment, Party}
+use Rattle.caller_view.specs.Public.{PublicRecord}
+use Rattle.caller_view.specs.Views.{own_of, public_of}
+use Rattle.caller_view.specs.declared.views.OwnView.{OwnView}
 use Rattle.desk_schema.specs.Statements.{ChangesNothing, IsRead}
 use Rattle.office_lists.specs.declared.fault.ReadFault.{ReadFault}
 use Rattle.desk_words.specs.Changes.{after_some, can_make}
@@ -39,6 +43,14 @@ caller_with keys key =
 -- it is the caller whose key that is
 abbrev pub IsCallerWith : List ℕ → OfficeLists → Option Caller → Type 0
 IsCallerWith key office caller = caller ≡ caller_with office.keys key
+
+-- it is the public record of a meeting
+abbrev pub IsPublic : MeetingName → OfficeLists → PublicRecord → Type 0
+IsPublic meeting office kept = kept ≡ public_of office meeting
+
+-- they are the own things of a party in a meeting at a moment
+abbrev pub AreOwn : Party → MeetingName → Moment → OfficeLists → OwnView → Type 0
+AreOwn party meeting now office own = own ≡ own_of office party meeting now
 
 -- it is what is decided of a call, and leaves the lists of an office
 pub record IsDecided (call : Call) (office : OfficeLists) (answer : Answer Change) : Type 0 where

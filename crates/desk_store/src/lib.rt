@@ -10,4 +10,4 @@ mod reads;
 
 pub use desk::Desk;
 pub use desk_opening::{CreateFault, HandedBack, OpenFault};
-pub use reads::KeptRecord;
+pub use party_reading::KeptRecord;

@@ -1,12 +1,14 @@
 //! A new desk, and one that was kept.
-ghost use Rattle.std.specs.Prelude.{◌≡◌, ◌≢◌, false, Err, IfErr, IfOk, IsTrue};
+ghost use Rattle.std.specs.Prelude.{◌≡◌, ◌≢◌, ◌⊎◌, false, Err, IfErr, IfOk, IsErrAnd, IsTrue};
 ghost use Rattle.desk_opening.specs.Opening.{HandsBack, IsCause, IsCleanBack, IsInNone};
 ghost use Rattle.desk_opening.specs.declared.fault.CreateFault.TheVariants.{NotEmpty};
+ghost use Rattle.desk_opening.specs.declared.fault.CreateFault.TheVariants as creating;
 ghost use Rattle.desk_opening.specs.declared.fault.OpenFault.TheVariants as opening;
 ghost use Rattle.desk_opening.specs.declared.opening.HandedBack.TheVariants as back;
-ghost use Rattle.desk_records.specs.Standing.{Stands};
+ghost use Rattle.desk_records.specs.Standing.{IsVersionOne, Stands};
 ghost use Rattle.desk_schema.specs.Tables.{desk_schema, no_schema};
 ghost use Rattle.desk_tables.specs.Columns.{HasColumns};
+ghost use Rattle.desk_tables.specs.Versions.{NotesVersion};
 ghost use Rattle.desk_words.specs.Changes.{empty_office};
 ghost use Rattle.desk_words.specs.declared.office.OfficeLists.{OfficeLists};
 ghost use Rattle.sqlite.specs.Held.{state};
@@ -38,7 +40,8 @@ impl<S: Alter + Drop> Desk<S> {
             → (state S.Store e.1).now ≡ (state S.Store conn).now) }
         ensures ended { IfErr result (λ e. conn.in_transaction ≡ false
             → e.1.in_transaction ≡ false) }
-        ensures inside { IsTrue conn.in_transaction → IfErr result (λ e. e.1 ≡ conn) }
+        ensures inside { IsTrue conn.in_transaction → IsErrAnd result (λ e.
+            ((e.0 ≡ NotEmpty) ⊎ (e.0 ≡ creating.Store)) × (e.1 ≡ conn)) }
     {
         match desk_opening::create(conn) {
             Ok(conn) => Ok(Desk { conn, alloc }),
@@ -47,29 +50,27 @@ impl<S: Alter + Drop> Desk<S> {
     }
 
     /// Opens the desk that the database holds, where its tables are declared as `create` declares
-    /// them. The fault is `NotADesk` only where no version of the tables is noted, or what those
-    /// of version 1 hold is no office; over other tables it is so too where a column that is read
-    /// does not stand. It is `NewerVersion` only where a later version is noted, which is asked
-    /// before the other tables are read. A refusal hands back the connection, or the store where
-    /// that could not be read again, its tables as they were. A connection in a transaction is refused as
-    /// `Store` and handed back as it was. A limit of steps that was set on the connection is not
-    /// kept.
+    /// them. Whatever tables it holds, it is opened only where each column that is read stands. The
+    /// version is asked before the other tables are read. The fault is `NewerVersion` only where
+    /// tables that note their version note a later one, and `NotADesk` only where they note none,
+    /// or the first and a column that is read is missing or what they hold is no office. A refusal
+    /// hands back the connection, or the store where that could not be read again, its tables as
+    /// they were. A connection in a transaction is refused as `Store` and handed back as it was. A
+    /// limit of steps that was set on the connection is not kept.
     pub fn open(alloc: Global, conn: Connection<S>) -> Result<Desk<S>, (OpenFault, HandedBack<S>)>
         ensures stands { IfOk result (λ desk. HasCleanDisk (state S.Store desk)
             → (state S.Store conn).now.schema ≡ desk_schema
             → (office : OfficeLists) × Stands (state S.Store desk) office) }
-        ensures read { IfOk result (λ desk. HasCleanDisk (state S.Store desk)
-            → (state S.Store desk).now.schema ≡ desk_schema
-            → (office : OfficeLists) × Stands (state S.Store desk) office) }
         ensures same { IfOk result (λ desk. HasCleanDisk (state S.Store desk)
-            → (state S.Store conn).now.schema ≡ desk_schema
-            → (state S.Store desk).now.trees ≡ (state S.Store conn).now.trees) }
+            → (state S.Store desk).now ≡ (state S.Store conn).now) }
         ensures is_open { IfOk result (λ desk. HasCleanDisk (state S.Store desk)
             → IsTrue (state S.Store desk).is_open) }
+        ensures version { IfOk result (λ desk. HasCleanDisk (state S.Store desk)
+            → NotesVersion (state S.Store conn).now.schema → IsVersionOne (state S.Store conn)) }
         ensures columns { IfOk result (λ desk. HasCleanDisk (state S.Store desk)
-            → HasColumns (state S.Store desk).now.schema) }
+            → HasColumns (state S.Store conn).now.schema) }
         ensures cause { IfErr result (λ e. IsCleanBack S.Store e.1
-            → (state S.Store conn).now.schema ≡ desk_schema
+            → NotesVersion (state S.Store conn).now.schema
             → IsCause e.0 (state S.Store conn)) }
         ensures kept { IfErr result (λ e. HandsBack S.Store (state S.Store conn).now.trees e.1) }
         ensures ended { IfErr result (λ e. conn.in_transaction ≡ false → IsInNone e.1) }

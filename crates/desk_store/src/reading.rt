@@ -1,13 +1,15 @@
 //! What the tables tell, read within a transaction.
 ghost use Rattle.std.specs.Prelude.{◌≡◌};
 ghost use Rattle.desk_store.specs.Faults.{failure_of, fault_of_book};
-ghost use Rattle.desk_store.specs.Reads.{IsCallerWith, IsTold, IsWhole};
+ghost use Rattle.desk_store.specs.Reads.{AreOwn, IsCallerWith, IsPublic, IsTold, IsWhole};
 
+use caller_view::OwnView;
 use desk_reading::{ReadFault, read_office};
 use desk_rows::records;
 use desk_tables::keys;
-use desk_words::{Caller, Failure, KeyRow, SecretKey};
+use desk_words::{Caller, Failure, KeyRow, MeetingId, Moment, Party, SecretKey};
 use meeting_core::{Book, BookFault};
+use party_reading::{KeptRecord, read_own, read_public};
 use sqlite::{Alter, Transaction};
 use std::alloc::Global;
 
@@ -55,4 +57,31 @@ pub(crate) fn read_caller<S: Alter>(
     let rows = keys::find(tx, key)?;
     let found: Vec<KeyRow> = records(alloc, &rows)?;
     Ok(found.first().map(|row| row.caller))
+}
+
+/// The public record of a meeting; where there is none of that name, the closed days alone.
+pub(crate) fn read_record<S: Alter>(
+    tx: &mut Transaction<'_, S>,
+    alloc: Global,
+    meeting: MeetingId,
+) -> Result<KeptRecord, ReadFault>
+    ensures same_reference { tx.new.conn.ghost_name ≡ tx.old.conn.ghost_name }
+    ensures tells { IsTold S.Store tx.old.conn.now tx.new.conn.now result (IsPublic meeting) }
+{
+    read_public(tx, alloc, meeting)
+}
+
+/// The own things of a party in a meeting at a moment.
+pub(crate) fn read_things<S: Alter>(
+    tx: &mut Transaction<'_, S>,
+    alloc: Global,
+    party: Party,
+    meeting: MeetingId,
+    now: Moment,
+) -> Result<OwnView, ReadFault>
+    ensures same_reference { tx.new.conn.ghost_name ≡ tx.old.conn.ghost_name }
+    ensures tells { IsTold S.Store tx.old.conn.now tx.new.conn.now result
+        (AreOwn party meeting now) }
+{
+    read_own(tx, alloc, party, meeting, now)
 }

@@ -1,7 +1,7 @@
 //! What the tables say, without a change.
 ghost use Rattle.std.specs.Prelude.{◌≡◌, IfOk, IsTrue, None, OnOk};
 ghost use Rattle.desk_store.specs.Joins.{Leaves};
-ghost use Rattle.caller_view.specs.Views.{public_of};
+ghost use Rattle.caller_view.specs.Views.{own_of, public_of};
 ghost use Rattle.desk_store.specs.Reads.{caller_with};
 ghost use Rattle.desk_records.specs.Standing.{Stands};
 ghost use Rattle.desk_words.specs.declared.office.OfficeLists.{OfficeLists};
@@ -9,37 +9,12 @@ ghost use Rattle.sqlite.specs.Held.{state};
 ghost use Rattle.sqlite.specs.State.{HasCleanDisk};
 
 use crate::desk::Desk;
-use crate::reading::{failure_of, read_book, read_caller};
-use caller_view::PublicRecord;
-use desk_words::{Caller, Failure, MeetingId, SecretKey};
+use crate::reading::{failure_of, read_book, read_caller, read_record, read_things};
+use caller_view::OwnView;
+use desk_words::{Caller, Failure, MeetingId, Moment, Party, SecretKey};
 use meeting_core::Book;
+use party_reading::KeptRecord;
 use sqlite::Alter;
-use std::marker::Model;
-
-/// The public record of a meeting, kept apart from the desk. Contracts see it as that record.
-#[derive(Drop)]
-pub struct KeptRecord {
-    book: Book,
-    meeting: MeetingId,
-}
-
-impl Model for KeptRecord {
-    ghost use Rattle.caller_view.specs.Public.{PublicRecord};
-    ghost use Rattle.caller_view.specs.Views.{public_of};
-
-    ghost Value = { PublicRecord };
-
-    ghost view = { λ k. public_of k.book k.meeting };
-}
-
-impl KeptRecord {
-    /// The record, lent.
-    pub fn record(&self) -> PublicRecord<'_>
-        ensures { result ≡ self.now }
-    {
-        self.book.public_of(self.meeting)
-    }
-}
 
 impl<S: Alter> Desk<S> {
     /// The caller whose key this is; none exactly where no key equals it.
@@ -73,8 +48,9 @@ impl<S: Alter> Desk<S> {
         Ok(book)
     }
 
-    /// The public record of a meeting; where there is none of that name, the closed days alone.
-    pub fn public(&mut self, meeting: MeetingId) -> Result<KeptRecord, Failure>
+    /// The public record of a meeting; where there is none of that name, the closed days alone. No
+    /// other meeting is read.
+    pub fn read_public(&mut self, meeting: MeetingId) -> Result<KeptRecord, Failure>
         ensures held { HasCleanDisk (state S.Store self.new) → (office : OfficeLists)
             → Stands (state S.Store self.old) office
             → IfOk result (λ kept. kept ≡ public_of office meeting) }
@@ -82,7 +58,33 @@ impl<S: Alter> Desk<S> {
         ensures stays_open { HasCleanDisk (state S.Store self.new)
             → OnOk result (IsTrue (state S.Store self.new).is_open) }
     {
-        let book = self.book()?;
-        Ok(KeptRecord { book, meeting })
+        let _ = self.conn.is_autocommit();
+        let mut tx = self.conn.transaction();
+        let kept = read_record(&mut tx, self.alloc, meeting).map_err(failure_of)?;
+        tx.commit().map_err(|error| failure_of(error.into()))?;
+        Ok(kept)
+    }
+
+    /// The own things of a party in a meeting at a moment; where there is none of that name, its
+    /// own name alone. Of what others gave, no more is read than what names the party, and the
+    /// appointments of those who named it.
+    pub fn read_own(
+        &mut self,
+        party: Party,
+        meeting: MeetingId,
+        now: Moment,
+    ) -> Result<OwnView, Failure>
+        ensures held { HasCleanDisk (state S.Store self.new) → (office : OfficeLists)
+            → Stands (state S.Store self.old) office
+            → IfOk result (λ own. own ≡ own_of office party meeting now) }
+        ensures leaves { Leaves None (state S.Store self.old) (state S.Store self.new) }
+        ensures stays_open { HasCleanDisk (state S.Store self.new)
+            → OnOk result (IsTrue (state S.Store self.new).is_open) }
+    {
+        let _ = self.conn.is_autocommit();
+        let mut tx = self.conn.transaction();
+        let own = read_things(&mut tx, self.alloc, party, meeting, now).map_err(failure_of)?;
+        tx.commit().map_err(|error| failure_of(error.into()))?;
+        Ok(own)
     }
 }

@@ -1,2 +1,3 @@
 pub mod AskingLemmas
+pub mod DeskLemmas
 pub mod LoadLemmas

@@ -1,6 +1,8 @@
 -- How the making and the opening of a desk end.
 use Rattle.std.specs.Prelude.{◌≡◌, ◌≢◌, ◌⊎◌, codes}
+use Rattle.sqlite.specs.Held.{Held, state}
 use Rattle.sqlite.specs.State.{State, HasCleanDisk}
+use Rattle.sqlite_trees.specs.declared.store.Store as store
 use Rattle.sqlite.specs.declared.error.Error.{Error}
 use Rattle.sqlite.specs.declared.error.Error.TheVariants.{SqliteFailure}
 use Rattle.sqlite.specs.declared.error.ErrorCode.TheVariants.{OutOfMemory}
@@ -10,8 +12,13 @@ use Rattle.desk_endings.specs.Endings.{Ending, ending, ended_by}
 use Rattle.desk_endings.specs.declared.ended.Fault.{Fault}
 use Rattle.desk_endings.specs.declared.ended.Fault.TheVariants as fault
 use Rattle.desk_records.specs.Standing.{Stands}
+use Rattle.desk_opening.specs.Opening.{IsCause, IsCleanBack}
+use Rattle.desk_opening.specs.declared.fault.CreateFault.{CreateFault}
+use Rattle.desk_opening.specs.declared.fault.CreateFault.TheVariants as creating
 use Rattle.desk_opening.specs.declared.fault.OpenFault.{OpenFault}
 use Rattle.desk_opening.specs.declared.fault.OpenFault.TheVariants as opening
+use Rattle.desk_opening.specs.declared.opening.HandedBack.{HandedBack}
+use Rattle.desk_tables.specs.Versions.{NotesVersion}
 
 -- a database that held something is told to be not empty, and no other is; one that held nothing
 -- is a desk that holds nothing, or the store failed, or memory ran out
@@ -23,6 +30,12 @@ Creates before after end =
     ⊎ (((end ≡ ended_by fault.Store) ⊎ (end ≡ ended_by fault.Memory))
     × (before.now.schema ≡ no_schema)))
 
+-- the fault for which a desk was not made
+abbrev pub create_fault : CreateFault → Fault
+create_fault creating.NotEmpty = fault.NotEmpty
+create_fault creating.Store = fault.Store
+create_fault creating.Memory = fault.Memory
+
 -- the fault for which a database was not opened as a desk
 abbrev pub open_fault : OpenFault → Fault
 open_fault opening.NotADesk = fault.NotADesk
@@ -33,6 +46,13 @@ open_fault opening.Memory = fault.Memory
 -- the program ends by a fault for which a database was not opened as a desk
 abbrev pub EndsUnopened : Ending → Type 0
 EndsUnopened end = (why : OpenFault) × (end ≡ ended_by (open_fault why))
+
+-- so it ends over these tables, whatever they are: where they note their version, the fault is why
+-- they are not opened
+abbrev pub IsUnopened : {S : Type 0} → store.Ghosts S → Held S → Ending → HandedBack S → Type 0
+IsUnopened g conn end back =
+    (why : OpenFault) × (end ≡ ended_by (open_fault why))
+    × (IsCleanBack g back → NotesVersion (state g conn).now.schema → IsCause why (state g conn))
 
 -- the fault for which a file was not opened as a database
 abbrev pub file_fault : Error → Fault

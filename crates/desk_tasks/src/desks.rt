@@ -1,16 +1,18 @@
 //! The making and the opening of a desk.
 ghost use Rattle.std.specs.Prelude.{◌≡◌, ◌≢◌, false, IfErr, IfOk, IsTrue};
 ghost use Rattle.desk_endings.specs.Endings.{ended_by, ended_view};
-ghost use Rattle.desk_records.specs.Standing.{Stands};
+ghost use Rattle.desk_opening.specs.Opening.{HandsBack, IsInNone};
+ghost use Rattle.desk_records.specs.Standing.{IsVersionOne, Stands};
 ghost use Rattle.desk_schema.specs.Tables.{desk_schema};
 ghost use Rattle.desk_tables.specs.Columns.{HasColumns};
-ghost use Rattle.desk_tasks.specs.Desks.{Creates, EndsUnopened, file_fault, open_fault};
+ghost use Rattle.desk_tables.specs.Versions.{NotesVersion};
+ghost use Rattle.desk_tasks.specs.Desks.{Creates, IsUnopened, create_fault, file_fault, open_fault};
 ghost use Rattle.desk_words.specs.declared.office.OfficeLists.{OfficeLists};
 ghost use Rattle.sqlite.specs.Held.{state};
 ghost use Rattle.sqlite.specs.State.{HasCleanDisk};
 
 use desk_endings::{Ended, Fault};
-use desk_store::{CreateFault, Desk, OpenFault};
+use desk_store::{CreateFault, Desk, HandedBack, OpenFault};
 use sqlite::{Alter, Connection, Error, ErrorCode};
 use std::alloc::Global;
 
@@ -18,6 +20,7 @@ use std::alloc::Global;
 /// with 3 and `NotEmpty` where the database has a table, an index or a view, and with 3 and `Store`
 /// or `Memory` where it fails, or the connection is in a transaction. The connection is handed back,
 /// in no transaction where it was in none; with any other status than 0 its tables are as they were.
+#[tactic(auto, using(crate::proofs::DeskLemmas::unmade))]
 pub fn init<S: Alter + Drop>(alloc: Global, conn: Connection<S>) -> (Ended, Connection<S>)
     ensures creates { Creates (state S.Store conn) (state S.Store result.1) (ended_view result.0) }
     ensures same { HasCleanDisk (state S.Store result.1) → IsTrue (state S.Store result.1).is_open
@@ -26,10 +29,19 @@ pub fn init<S: Alter + Drop>(alloc: Global, conn: Connection<S>) -> (Ended, Conn
 {
     match Desk::create(alloc, conn) {
         Ok(desk) => (Ended::told("created"), desk.close()),
-        Err((CreateFault::NotEmpty, conn)) => (Ended::by(Fault::NotEmpty), conn),
-        Err((CreateFault::Store, conn)) => (Ended::by(Fault::Store), conn),
-        Err((CreateFault::Memory, conn)) => (Ended::by(Fault::Memory), conn),
+        Err((fault, conn)) => (by_create(fault), conn),
     }
+}
+
+/// How the program ends where a desk is not made: with status 3 and the fault.
+fn by_create(fault: CreateFault) -> Ended
+    ensures { ended_view result ≡ ended_by (create_fault fault) }
+{
+    Ended::by(match fault {
+        CreateFault::NotEmpty => Fault::NotEmpty,
+        CreateFault::Store => Fault::Store,
+        CreateFault::Memory => Fault::Memory,
+    })
 }
 
 /// How the program ends where a database is not opened as a desk: with status 3 and the fault.
@@ -44,24 +56,30 @@ fn by_open(fault: OpenFault) -> Ended
     })
 }
 
-/// Opens the desk that a database holds. Where it holds none the program ends with status 3 and the
-/// fault, and what was opened is let go.
-pub fn open<S: Alter + Drop>(alloc: Global, conn: Connection<S>) -> Result<Desk<S>, Ended>
+/// Opens the desk that a database holds. Where it holds none, this is how the program ends, with
+/// status 3 and the fault, and what was opened is handed back, its tables as they were.
+pub fn open<S: Alter + Drop>(
+    alloc: Global,
+    conn: Connection<S>,
+) -> Result<Desk<S>, (Ended, HandedBack<S>)>
     ensures stands { IfOk result (λ desk. HasCleanDisk (state S.Store desk)
         → (state S.Store desk).now.schema ≡ desk_schema
         → (office : OfficeLists) × Stands (state S.Store desk) office) }
     ensures same { IfOk result (λ desk. HasCleanDisk (state S.Store desk)
-        → (state S.Store conn).now.schema ≡ desk_schema
-        → (state S.Store desk).now.trees ≡ (state S.Store conn).now.trees) }
+        → (state S.Store desk).now ≡ (state S.Store conn).now) }
     ensures is_open { IfOk result (λ desk. HasCleanDisk (state S.Store desk)
         → IsTrue (state S.Store desk).is_open) }
+    ensures version { IfOk result (λ desk. HasCleanDisk (state S.Store desk)
+        → NotesVersion (state S.Store conn).now.schema → IsVersionOne (state S.Store conn)) }
     ensures columns { IfOk result (λ desk. HasCleanDisk (state S.Store desk)
-        → HasColumns (state S.Store desk).now.schema) }
-    ensures fault { IfErr result (λ ended. EndsUnopened (ended_view ended)) }
+        → HasColumns (state S.Store conn).now.schema) }
+    ensures fault { IfErr result (λ e. IsUnopened S.Store conn (ended_view e.0) e.1) }
+    ensures kept { IfErr result (λ e. HandsBack S.Store (state S.Store conn).now.trees e.1) }
+    ensures ended { IfErr result (λ e. conn.in_transaction ≡ false → IsInNone e.1) }
 {
     match Desk::open(alloc, conn) {
         Ok(desk) => Ok(desk),
-        Err((fault, _)) => Err(by_open(fault)),
+        Err((fault, back)) => Err((by_open(fault), back)),
     }
 }
 

@@ -59,7 +59,7 @@ pub fn results<S: Alter, W: Sink>(
         → (office : OfficeLists) → Stands (state S.Store desk.old) office
         → Stands (state S.Store desk.new) office }
 {
-    match desk.public(meeting) {
+    match desk.read_public(meeting) {
         Ok(kept) => print(alloc, &kept.record(), writer),
         Err(failure) => by_failure(failure),
     }

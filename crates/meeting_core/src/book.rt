@@ -15,6 +15,7 @@ mod found;
 mod lists;
 mod perform;
 
+use crate::answers::{entering, in_meeting};
 use crate::changes::{change_meeting, new_lists};
 use caller_view::{OwnView, PublicRecord, answer, own_for, own_from};
 use desk_words::{
@@ -62,31 +63,6 @@ impl Model for Book {
 
     ghost invariant = { λ b. IsTrue
         (is_office (record { keys = b.keys; closed = b.closed; meetings = b.meetings.items })) };
-}
-
-/// An answer whose change is made in that meeting.
-fn in_meeting(meeting: MeetingId, answer: Answer<MeetingChange>) -> Answer<Change>
-    ensures { result ≡ within (change.InMeeting meeting) answer }
-{
-    let Answer { reply, change } = answer;
-    let change = match change {
-        None => None,
-        Some(change) => Some(Change::InMeeting { meeting, change }),
-    };
-    Answer { reply, change }
-}
-
-/// An answer whose change is entered into the lists of that meeting.
-fn entering(meeting: MeetingId, answer: Answer<Entry>) -> Answer<Change>
-    ensures { result ≡ within (λ entry. change.InMeeting meeting (meeting_change.Enter entry))
-        answer }
-{
-    let Answer { reply, change } = answer;
-    let change = match change {
-        None => None,
-        Some(entry) => Some(MeetingChange::Enter(entry)),
-    };
-    in_meeting(meeting, Answer { reply, change })
 }
 
 impl Book {

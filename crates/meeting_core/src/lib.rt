@@ -1,8 +1,10 @@
 //! The whole office and its step.
 #![tactic(auto)]
 
+mod answers;
 mod book;
 mod changes;
 pub mod laws;
 
+pub use answers::{decide_from_own, decide_from_rows};
 pub use book::{Book, BookFault};

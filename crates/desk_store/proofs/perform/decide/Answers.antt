@@ -1,16 +1,11 @@
-use Rattle.desk_store.specs.Reads.{IsDecided, IsWhole}
-use Rattle.desk_store.proofs.StepLemmas.{answer_told, failed_told}
+use Rattle.std.proofs.Common.{◌≡◌, subst, sym}
+use Rattle.desk_words.specs.declared.request.Call.{Call}
+use Rattle.meeting_core.specs.Decisions.{party_call}
+use Rattle.desk_store.specs.Reads.{IsDecided, IsTold}
 use Rattle.desk_store.proofs.perform.decide.Goals as goal
 
-pub returns-in_err-book-clause-tells : goal.returns-in_err-book-clause-tells
-returns-in_err-book-clause-tells g c =
-    failed_told g.S.Store c.args.tx.now.conn.now c.read_book.new.tx.conn.now IsWhole (IsDecided c.args.call.now) c.read_book.result c.from_residual.result c.from_residual.ensures.0 c.read_book.ensures.tells
-
-pub returns-in_err-reply-clause-tells : goal.returns-in_err-reply-clause-tells
-returns-in_err-reply-clause-tells g c =
-    failed_told g.S.Store c.args.tx.now.conn.now c.read_book.new.tx.conn.now IsWhole (IsDecided c.args.call.now) c.read_book.result c.from_residual-in_err-reply.result c.from_residual-in_err-reply.ensures.0 c.read_book.ensures.tells
-
-pub returns-clause-tells : goal.returns-clause-tells
-returns-clause-tells g c =
-    answer_told g.S.Store c.args.tx.now.conn.now c.read_book.new.tx.conn.now c.args.call.now c.in_ok-book.book (record { reply = c.in_ok-reply.reply; change = c.in_ok-reply.change })
-    c.in_ok-book.ensures.tells c.in_ok-reply.ensures.reply c.in_ok-reply.ensures.change c.in_ok-reply.ensures.kept
+pub returns-in-Party-request-clause-tells : goal.returns-in-Party-request-clause-tells
+returns-in-Party-request-clause-tells g c =
+    let asked : c.args.call.now ≡ party_call c.in-Party.party c.in-Party-request.meeting c.args.call.now.moment c.in-Party-request.asked =
+    λ i. record { moment = c.args.call.now.moment; caller = c.in-Party.is i; request = c.in-Party-request.is i } in
+    subst (λ (call : Call). IsTold g.S.Store c.args.tx.now.conn.now c.decide_for_party.new.tx.conn.now c.decide_for_party.result (IsDecided call)) (sym asked) c.decide_for_party.ensures.tells

@@ -1,0 +1,91 @@
+-- What is found in `appointments`.
+use Rattle.std.proofs.Common.{◌≡◌, ℕ, List, [], ◌∷◌, codes, false, Some, refl, ◌∙◌, ◌&&◌}
+use Rattle.sqlite.specs.declared.types.Value.TheVariants.{Text}
+use Rattle.sqlite.specs.Order.{Row}
+use Rattle.sqlite.specs.Term.{Term, col}
+use Rattle.sqlite.specs.Command.TheVariants.{Select}
+use Rattle.sqlite_tied.specs.Compute.{everything}
+use Rattle.sqlite.specs.Listing.{understood, reads_listing}
+use Rattle.sqlite.proofs.Callers.{IsPlain, command_of}
+use Rattle.desk_rows.specs.declared.kept.InMeeting.{InMeeting}
+use Rattle.desk_words.specs.declared.records.Appointment.{Appointment}
+use Rattle.desk_rows.specs.Columns.{spelled, number_in, moment_in}
+use Rattle.desk_rows.specs.Papers.{appointment_in}
+use Rattle.desk_rows.specs.Instructions.{instructions_of}
+use Rattle.desk_terms.specs.Places.{range_of}
+use Rattle.desk_rows.proofs.MeaningLemmas.{bound, option_ap}
+use Rattle.desk_terms.specs.Names.{meeting_of, party_of, same_name}
+use Rattle.desk_schema.specs.Tables.{desk_schema}
+use Rattle.desk_schema.specs.Contents.{appointments}
+use Rattle.desk_schema.specs.Statements.{columns_of}
+use Rattle.desk_statements.proofs.Reading.{sought}
+use Rattle.found_rows.proofs.Queries.{IsQuery, names_both, both_tell}
+
+abbrev shows : List Term
+shows = col 1 2 ∷ col 1 3 ∷ col 1 4 ∷ col 1 5 ∷ col 1 6 ∷ col 1 7 ∷ col 1 8 ∷ col 1 9 ∷ []
+
+abbrev names : List (List ℕ)
+names = codes "meeting" ∷ codes "member" ∷ codes "number" ∷ codes "proxy" ∷ codes "first" ∷ codes "last" ∷ codes "instructions" ∷ codes "moment" ∷ []
+
+-- what a row names
+names_in : (cells : Row) (x : InMeeting Appointment) → appointment_in cells ≡ Some x → (spelled meeting_of cells 0 ≡ Some x.meeting) × (spelled party_of cells 1 ≡ Some x.item.member) × (spelled party_of cells 3 ≡ Some x.item.proxy)
+unfolding appointment_in
+names_in cells x h =
+    let meeting = bound (spelled meeting_of cells 0) _ x h in
+    let member = bound (spelled party_of cells 1) _ x meeting.2 in
+    let number = bound (number_in cells 2) _ x member.2 in
+    let proxy = bound (spelled party_of cells 3) _ x number.2 in
+    let first = bound (number_in cells 4) _ x proxy.2 in
+    let last = bound (number_in cells 5) _ x first.2 in
+    let places = bound (range_of first.0 last.0) _ x last.2 in
+    let instructions = bound (spelled instructions_of cells 6) _ x places.2 in
+    let moment = bound (moment_in cells 7) _ x instructions.2 in
+    (meeting.1 ∙ option_ap (λ (y : InMeeting Appointment). y.meeting) moment.2, member.1 ∙ option_ap (λ (y : InMeeting Appointment). y.item.member) moment.2, proxy.1 ∙ option_ap (λ (y : InMeeting Appointment). y.item.proxy) moment.2)
+
+abbrev given_by_text : List ℕ
+given_by_text = codes "SELECT meeting, member, number, proxy, first, last, instructions, moment FROM appointments WHERE meeting = ?1 AND member = ?2 ORDER BY seq"
+
+given_by_is : (command_of (understood desk_schema given_by_text) ≡ Select (record { lets = []; body = sought 12 (names_both 2 3) shows }) names) × (reads_listing desk_schema given_by_text ≡ false) × IsPlain (understood desk_schema given_by_text)
+unfolding understood everything
+given_by_is = (refl, refl, (refl, refl))
+
+-- the rows of the meeting and of the member
+pub given_by : (m meeting n party : List ℕ) → meeting_of meeting ≡ Some m → party_of party ≡ Some n
+    → IsQuery appointments given_by_text (Text meeting ∷ Text party ∷ []) (λ x. same_name x.meeting m && same_name x.item.member n)
+unfolding spelled
+given_by m meeting n party meeting_is party_is = record {
+  tests = names_both 2 3;
+  project = shows;
+  names = names;
+  is = given_by_is.0;
+  plain = given_by_is.2;
+  unlisted = given_by_is.1;
+  none = refl;
+  numbered = refl;
+  columns = λ cells. refl;
+  same = λ cells x h. let of = names_in (columns_of appointments cells) x h in both_tell cells 2 3 meeting m party n x.meeting x.item.member of.0 meeting_is of.1 party_is;
+}
+
+abbrev naming_text : List ℕ
+naming_text = codes "SELECT meeting, member, number, proxy, first, last, instructions, moment FROM appointments WHERE meeting = ?1 AND proxy = ?2 ORDER BY seq"
+
+naming_is : (command_of (understood desk_schema naming_text) ≡ Select (record { lets = []; body = sought 12 (names_both 2 5) shows }) names) × (reads_listing desk_schema naming_text ≡ false) × IsPlain (understood desk_schema naming_text)
+unfolding understood everything
+naming_is = (refl, refl, (refl, refl))
+
+-- the rows of the meeting and of the proxy
+pub naming : (m meeting n party : List ℕ) → meeting_of meeting ≡ Some m → party_of party ≡ Some n
+    → IsQuery appointments naming_text (Text meeting ∷ Text party ∷ []) (λ x. same_name x.meeting m && same_name x.item.proxy n)
+unfolding spelled
+naming m meeting n party meeting_is party_is = record {
+  tests = names_both 2 5;
+  project = shows;
+  names = names;
+  is = naming_is.0;
+  plain = naming_is.2;
+  unlisted = naming_is.1;
+  none = refl;
+  numbered = refl;
+  columns = λ cells. refl;
+  same = λ cells x h. let of = names_in (columns_of appointments cells) x h in both_tell cells 2 5 meeting m party n x.meeting x.item.proxy of.0 meeting_is of.2 party_is;
+}

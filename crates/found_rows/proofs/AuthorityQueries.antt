@@ -1,0 +1,84 @@
+-- What is found in `authorities`.
+use Rattle.std.proofs.Common.{◌≡◌, ℕ, List, [], ◌∷◌, codes, false, Some, refl, ◌∙◌, ◌&&◌}
+use Rattle.sqlite.specs.declared.types.Value.TheVariants.{Text}
+use Rattle.sqlite.specs.Order.{Row}
+use Rattle.sqlite.specs.Term.{Term, col}
+use Rattle.sqlite.specs.Command.TheVariants.{Select}
+use Rattle.sqlite_tied.specs.Compute.{everything}
+use Rattle.sqlite.specs.Listing.{understood, reads_listing}
+use Rattle.sqlite.proofs.Callers.{IsPlain, command_of}
+use Rattle.desk_rows.specs.declared.kept.InMeeting.{InMeeting}
+use Rattle.desk_words.specs.declared.records.Authority.{Authority}
+use Rattle.desk_rows.specs.Columns.{spelled, moment_in}
+use Rattle.desk_rows.specs.Papers.{authority_in}
+use Rattle.desk_rows.proofs.MeaningLemmas.{bound, option_ap}
+use Rattle.desk_terms.specs.Names.{meeting_of, party_of, same_name}
+use Rattle.desk_schema.specs.Tables.{desk_schema}
+use Rattle.desk_schema.specs.Contents.{authorities}
+use Rattle.desk_schema.specs.Statements.{columns_of}
+use Rattle.desk_statements.proofs.Reading.{sought}
+use Rattle.found_rows.proofs.Queries.{IsQuery, names_both, both_tell}
+
+abbrev shows : List Term
+shows = col 1 2 ∷ col 1 3 ∷ col 1 4 ∷ col 1 5 ∷ []
+
+abbrev names : List (List ℕ)
+names = codes "meeting" ∷ codes "corporation" ∷ codes "person" ∷ codes "moment" ∷ []
+
+-- what a row names
+names_in : (cells : Row) (x : InMeeting Authority) → authority_in cells ≡ Some x → (spelled meeting_of cells 0 ≡ Some x.meeting) × (spelled party_of cells 1 ≡ Some x.item.corporation) × (spelled party_of cells 2 ≡ Some x.item.person)
+unfolding authority_in
+names_in cells x h =
+    let meeting = bound (spelled meeting_of cells 0) _ x h in
+    let corporation = bound (spelled party_of cells 1) _ x meeting.2 in
+    let person = bound (spelled party_of cells 2) _ x corporation.2 in
+    let moment = bound (moment_in cells 3) _ x person.2 in
+    (meeting.1 ∙ option_ap (λ (y : InMeeting Authority). y.meeting) moment.2, corporation.1 ∙ option_ap (λ (y : InMeeting Authority). y.item.corporation) moment.2, person.1 ∙ option_ap (λ (y : InMeeting Authority). y.item.person) moment.2)
+
+abbrev given_by_text : List ℕ
+given_by_text = codes "SELECT meeting, corporation, person, moment FROM authorities WHERE meeting = ?1 AND corporation = ?2 ORDER BY seq"
+
+given_by_is : (command_of (understood desk_schema given_by_text) ≡ Select (record { lets = []; body = sought 16 (names_both 2 3) shows }) names) × (reads_listing desk_schema given_by_text ≡ false) × IsPlain (understood desk_schema given_by_text)
+unfolding understood everything
+given_by_is = (refl, refl, (refl, refl))
+
+-- the rows of the meeting and of the corporation
+pub given_by : (m meeting n party : List ℕ) → meeting_of meeting ≡ Some m → party_of party ≡ Some n
+    → IsQuery authorities given_by_text (Text meeting ∷ Text party ∷ []) (λ x. same_name x.meeting m && same_name x.item.corporation n)
+unfolding spelled
+given_by m meeting n party meeting_is party_is = record {
+  tests = names_both 2 3;
+  project = shows;
+  names = names;
+  is = given_by_is.0;
+  plain = given_by_is.2;
+  unlisted = given_by_is.1;
+  none = refl;
+  numbered = refl;
+  columns = λ cells. refl;
+  same = λ cells x h. let of = names_in (columns_of authorities cells) x h in both_tell cells 2 3 meeting m party n x.meeting x.item.corporation of.0 meeting_is of.1 party_is;
+}
+
+abbrev naming_text : List ℕ
+naming_text = codes "SELECT meeting, corporation, person, moment FROM authorities WHERE meeting = ?1 AND person = ?2 ORDER BY seq"
+
+naming_is : (command_of (understood desk_schema naming_text) ≡ Select (record { lets = []; body = sought 16 (names_both 2 4) shows }) names) × (reads_listing desk_schema naming_text ≡ false) × IsPlain (understood desk_schema naming_text)
+unfolding understood everything
+naming_is = (refl, refl, (refl, refl))
+
+-- the rows of the meeting and of the person
+pub naming : (m meeting n party : List ℕ) → meeting_of meeting ≡ Some m → party_of party ≡ Some n
+    → IsQuery authorities naming_text (Text meeting ∷ Text party ∷ []) (λ x. same_name x.meeting m && same_name x.item.person n)
+unfolding spelled
+naming m meeting n party meeting_is party_is = record {
+  tests = names_both 2 4;
+  project = shows;
+  names = names;
+  is = naming_is.0;
+  plain = naming_is.2;
+  unlisted = naming_is.1;
+  none = refl;
+  numbered = refl;
+  columns = λ cells. refl;
+  same = λ cells x h. let of = names_in (columns_of authorities cells) x h in both_tell cells 2 4 meeting m party n x.meeting x.item.person of.0 meeting_is of.2 party_is;
+}

@@ -1,0 +1,61 @@
+-- What is found in `casts`.
+use Rattle.std.proofs.Common.{◌≡◌, ℕ, List, [], ◌∷◌, codes, false, Some, refl, ◌∙◌, ◌&&◌}
+use Rattle.sqlite.specs.declared.types.Value.TheVariants.{Text}
+use Rattle.sqlite.specs.Order.{Row}
+use Rattle.sqlite.specs.Term.{Term, col}
+use Rattle.sqlite.specs.Command.TheVariants.{Select}
+use Rattle.sqlite_tied.specs.Compute.{everything}
+use Rattle.sqlite.specs.Listing.{understood, reads_listing}
+use Rattle.sqlite.proofs.Callers.{IsPlain, command_of}
+use Rattle.desk_rows.specs.declared.kept.InMeeting.{InMeeting}
+use Rattle.desk_words.specs.declared.records.CastMark.{CastMark}
+use Rattle.desk_rows.specs.Columns.{spelled, number_in, moment_in}
+use Rattle.desk_rows.specs.Marks.{cast_in, cast_kind_in}
+use Rattle.desk_rows.proofs.MeaningLemmas.{bound, option_ap}
+use Rattle.desk_terms.specs.Names.{meeting_of, party_of, same_name}
+use Rattle.desk_schema.specs.Tables.{desk_schema}
+use Rattle.desk_schema.specs.Contents.{casts}
+use Rattle.desk_schema.specs.Statements.{columns_of}
+use Rattle.desk_statements.proofs.Reading.{sought}
+use Rattle.found_rows.proofs.Queries.{IsQuery, names_both, both_tell}
+
+abbrev shows : List Term
+shows = col 1 2 ∷ col 1 3 ∷ col 1 4 ∷ col 1 5 ∷ col 1 6 ∷ col 1 7 ∷ col 1 8 ∷ col 1 9 ∷ col 1 10 ∷ []
+
+abbrev names : List (List ℕ)
+names = codes "meeting" ∷ codes "resolution" ∷ codes "voter" ∷ codes "capacity" ∷ codes "member" ∷ codes "first" ∷ codes "last" ∷ codes "way" ∷ codes "moment" ∷ []
+
+-- what a row names
+names_in : (cells : Row) (x : InMeeting CastMark) → cast_in cells ≡ Some x → (spelled meeting_of cells 0 ≡ Some x.meeting) × (spelled party_of cells 2 ≡ Some x.item.voter)
+unfolding cast_in
+names_in cells x h =
+    let meeting = bound (spelled meeting_of cells 0) _ x h in
+    let resolution = bound (number_in cells 1) _ x meeting.2 in
+    let voter = bound (spelled party_of cells 2) _ x resolution.2 in
+    let what = bound (cast_kind_in cells 3) _ x voter.2 in
+    let moment = bound (moment_in cells 8) _ x what.2 in
+    (meeting.1 ∙ option_ap (λ (y : InMeeting CastMark). y.meeting) moment.2, voter.1 ∙ option_ap (λ (y : InMeeting CastMark). y.item.voter) moment.2)
+
+abbrev cast_by_text : List ℕ
+cast_by_text = codes "SELECT meeting, resolution, voter, capacity, member, first, last, way, moment FROM casts WHERE meeting = ?1 AND voter = ?2 ORDER BY seq"
+
+cast_by_is : (command_of (understood desk_schema cast_by_text) ≡ Select (record { lets = []; body = sought 24 (names_both 2 4) shows }) names) × (reads_listing desk_schema cast_by_text ≡ false) × IsPlain (understood desk_schema cast_by_text)
+unfolding understood everything
+cast_by_is = (refl, refl, (refl, refl))
+
+-- the rows of the meeting and of the voter
+pub cast_by : (m meeting n party : List ℕ) → meeting_of meeting ≡ Some m → party_of party ≡ Some n
+    → IsQuery casts cast_by_text (Text meeting ∷ Text party ∷ []) (λ x. same_name x.meeting m && same_name x.item.voter n)
+unfolding spelled
+cast_by m meeting n party meeting_is party_is = record {
+  tests = names_both 2 4;
+  project = shows;
+  names = names;
+  is = cast_by_is.0;
+  plain = cast_by_is.2;
+  unlisted = cast_by_is.1;
+  none = refl;
+  numbered = refl;
+  columns = λ cells. refl;
+  same = λ cells x h. let of = names_in (columns_of casts cells) x h in both_tell cells 2 4 meeting m party n x.meeting x.item.voter of.0 meeting_is of.1 party_is;
+}

@@ -1,0 +1,60 @@
+-- What is found in `demands`.
+use Rattle.std.proofs.Common.{◌≡◌, ℕ, List, [], ◌∷◌, codes, false, Some, refl, ◌∙◌, ◌&&◌}
+use Rattle.sqlite.specs.declared.types.Value.TheVariants.{Text}
+use Rattle.sqlite.specs.Order.{Row}
+use Rattle.sqlite.specs.Term.{Term, col}
+use Rattle.sqlite.specs.Command.TheVariants.{Select}
+use Rattle.sqlite_tied.specs.Compute.{everything}
+use Rattle.sqlite.specs.Listing.{understood, reads_listing}
+use Rattle.sqlite.proofs.Callers.{IsPlain, command_of}
+use Rattle.desk_rows.specs.declared.kept.InMeeting.{InMeeting}
+use Rattle.desk_words.specs.declared.records.DemandMark.{DemandMark}
+use Rattle.desk_rows.specs.Columns.{spelled, number_in, moment_in}
+use Rattle.desk_rows.specs.Marks.{demand_in}
+use Rattle.desk_rows.proofs.MeaningLemmas.{bound, option_ap}
+use Rattle.desk_terms.specs.Names.{meeting_of, party_of, same_name}
+use Rattle.desk_schema.specs.Tables.{desk_schema}
+use Rattle.desk_schema.specs.Contents.{demands}
+use Rattle.desk_schema.specs.Statements.{columns_of}
+use Rattle.desk_statements.proofs.Reading.{sought}
+use Rattle.found_rows.proofs.Queries.{IsQuery, names_both, both_tell}
+
+abbrev shows : List Term
+shows = col 1 2 ∷ col 1 3 ∷ col 1 4 ∷ col 1 5 ∷ []
+
+abbrev names : List (List ℕ)
+names = codes "meeting" ∷ codes "resolution" ∷ codes "party" ∷ codes "moment" ∷ []
+
+-- what a row names
+names_in : (cells : Row) (x : InMeeting DemandMark) → demand_in cells ≡ Some x → (spelled meeting_of cells 0 ≡ Some x.meeting) × (spelled party_of cells 2 ≡ Some x.item.party)
+unfolding demand_in
+names_in cells x h =
+    let meeting = bound (spelled meeting_of cells 0) _ x h in
+    let resolution = bound (number_in cells 1) _ x meeting.2 in
+    let party = bound (spelled party_of cells 2) _ x resolution.2 in
+    let moment = bound (moment_in cells 3) _ x party.2 in
+    (meeting.1 ∙ option_ap (λ (y : InMeeting DemandMark). y.meeting) moment.2, party.1 ∙ option_ap (λ (y : InMeeting DemandMark). y.item.party) moment.2)
+
+abbrev made_by_text : List ℕ
+made_by_text = codes "SELECT meeting, resolution, party, moment FROM demands WHERE meeting = ?1 AND party = ?2 ORDER BY seq"
+
+made_by_is : (command_of (understood desk_schema made_by_text) ≡ Select (record { lets = []; body = sought 20 (names_both 2 4) shows }) names) × (reads_listing desk_schema made_by_text ≡ false) × IsPlain (understood desk_schema made_by_text)
+unfolding understood everything
+made_by_is = (refl, refl, (refl, refl))
+
+-- the rows of the meeting and of the party
+pub made_by : (m meeting n party : List ℕ) → meeting_of meeting ≡ Some m → party_of party ≡ Some n
+    → IsQuery demands made_by_text (Text meeting ∷ Text party ∷ []) (λ x. same_name x.meeting m && same_name x.item.party n)
+unfolding spelled
+made_by m meeting n party meeting_is party_is = record {
+  tests = names_both 2 4;
+  project = shows;
+  names = names;
+  is = made_by_is.0;
+  plain = made_by_is.2;
+  unlisted = made_by_is.1;
+  none = refl;
+  numbered = refl;
+  columns = λ cells. refl;
+  same = λ cells x h. let of = names_in (columns_of demands cells) x h in both_tell cells 2 4 meeting m party n x.meeting x.item.party of.0 meeting_is of.1 party_is;
+}

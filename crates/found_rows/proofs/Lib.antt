@@ -1,0 +1,11 @@
+pub mod Queries
+pub mod AppointmentQueries
+pub mod AuthorityQueries
+pub mod CastQueries
+pub mod DemandQueries
+pub mod EndingQueries
+pub mod MeetingQueries
+pub mod PollQueries
+pub mod PresenceQueries
+pub mod RegisterQueries
+pub mod ResolutionQueries

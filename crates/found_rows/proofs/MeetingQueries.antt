@@ -1,0 +1,63 @@
+-- What is found in `meetings`.
+use Rattle.std.proofs.Common.{◌≡◌, ℕ, List, [], ◌∷◌, codes, false, Some, refl, ◌∙◌}
+use Rattle.sqlite.specs.declared.types.Value.TheVariants.{Text}
+use Rattle.sqlite.specs.Order.{Row}
+use Rattle.sqlite.specs.Term.{Term, col}
+use Rattle.sqlite.specs.Command.TheVariants.{Select}
+use Rattle.sqlite_tied.specs.Compute.{everything}
+use Rattle.sqlite.specs.Listing.{understood, reads_listing}
+use Rattle.sqlite.proofs.Callers.{IsPlain, command_of}
+use Rattle.desk_rows.specs.declared.kept.MeetingRow.{MeetingRow}
+use Rattle.desk_rows.specs.Columns.{spelled, worded, flag_in, day_in, moment_in, some_moment_in}
+use Rattle.desk_rows.specs.Meetings.{meeting_in}
+use Rattle.desk_terms.specs.Kinds.{company_of, meeting_kind_of}
+use Rattle.desk_rows.proofs.MeaningLemmas.{bound, option_ap}
+use Rattle.desk_terms.specs.Names.{meeting_of, same_name}
+use Rattle.desk_schema.specs.Tables.{desk_schema}
+use Rattle.desk_schema.specs.Contents.{meetings}
+use Rattle.desk_schema.specs.Statements.{columns_of}
+use Rattle.desk_statements.proofs.Reading.{sought}
+use Rattle.found_rows.proofs.Queries.{IsQuery, names_meeting, one_tells}
+
+abbrev shows : List Term
+shows = col 1 2 ∷ col 1 3 ∷ col 1 4 ∷ col 1 5 ∷ col 1 6 ∷ col 1 7 ∷ col 1 8 ∷ col 1 9 ∷ []
+
+abbrev names : List (List ℕ)
+names = codes "meeting" ∷ codes "company" ∷ codes "kind" ∷ codes "given" ∷ codes "appointed" ∷ codes "record" ∷ codes "loaded" ∷ codes "opened" ∷ []
+
+-- what a row names
+names_in : (cells : Row) (x : MeetingRow) → meeting_in cells ≡ Some x → spelled meeting_of cells 0 ≡ Some x.id
+unfolding meeting_in
+names_in cells x h =
+    let id = bound (spelled meeting_of cells 0) _ x h in
+    let company = bound (worded company_of cells 1) _ x id.2 in
+    let kind = bound (worded meeting_kind_of cells 2) _ x company.2 in
+    let given = bound (day_in cells 3) _ x kind.2 in
+    let appointed = bound (moment_in cells 4) _ x given.2 in
+    let record_moment = bound (moment_in cells 5) _ x appointed.2 in
+    let loaded = bound (flag_in cells 6) _ x record_moment.2 in
+    let opened = bound (some_moment_in cells 7) _ x loaded.2 in
+    id.1 ∙ option_ap (λ (y : MeetingRow). y.id) opened.2
+
+abbrev named_text : List ℕ
+named_text = codes "SELECT meeting, company, kind, given, appointed, record, loaded, opened FROM meetings WHERE meeting = ?1 ORDER BY seq"
+
+named_is : (command_of (understood desk_schema named_text) ≡ Select (record { lets = []; body = sought 5 (names_meeting 2) shows }) names) × (reads_listing desk_schema named_text ≡ false) × IsPlain (understood desk_schema named_text)
+unfolding understood everything
+named_is = (refl, refl, (refl, refl))
+
+-- the rows of the meeting
+pub named : (m meeting : List ℕ) → meeting_of meeting ≡ Some m → IsQuery meetings named_text (Text meeting ∷ []) (λ x. same_name x.id m)
+unfolding spelled
+named m meeting meeting_is = record {
+  tests = names_meeting 2;
+  project = shows;
+  names = names;
+  is = named_is.0;
+  plain = named_is.2;
+  unlisted = named_is.1;
+  none = refl;
+  numbered = refl;
+  columns = λ cells. refl;
+  same = λ cells x h. one_tells cells 2 meeting m x.id (names_in (columns_of meetings cells) x h) meeting_is;
+}

@@ -1,0 +1,59 @@
+-- What is found in `presences`.
+use Rattle.std.proofs.Common.{◌≡◌, ℕ, List, [], ◌∷◌, codes, false, Some, refl, ◌∙◌, ◌&&◌}
+use Rattle.sqlite.specs.declared.types.Value.TheVariants.{Text}
+use Rattle.sqlite.specs.Order.{Row}
+use Rattle.sqlite.specs.Term.{Term, col}
+use Rattle.sqlite.specs.Command.TheVariants.{Select}
+use Rattle.sqlite_tied.specs.Compute.{everything}
+use Rattle.sqlite.specs.Listing.{understood, reads_listing}
+use Rattle.sqlite.proofs.Callers.{IsPlain, command_of}
+use Rattle.desk_rows.specs.declared.kept.InMeeting.{InMeeting}
+use Rattle.desk_words.specs.declared.records.PresenceMark.{PresenceMark}
+use Rattle.desk_rows.specs.Columns.{spelled, moment_in}
+use Rattle.desk_rows.specs.Marks.{presence_in}
+use Rattle.desk_rows.proofs.MeaningLemmas.{bound, option_ap}
+use Rattle.desk_terms.specs.Names.{meeting_of, party_of, same_name}
+use Rattle.desk_schema.specs.Tables.{desk_schema}
+use Rattle.desk_schema.specs.Contents.{presences}
+use Rattle.desk_schema.specs.Statements.{columns_of}
+use Rattle.desk_statements.proofs.Reading.{sought}
+use Rattle.found_rows.proofs.Queries.{IsQuery, names_both, both_tell}
+
+abbrev shows : List Term
+shows = col 1 2 ∷ col 1 3 ∷ col 1 4 ∷ []
+
+abbrev names : List (List ℕ)
+names = codes "meeting" ∷ codes "party" ∷ codes "moment" ∷ []
+
+-- what a row names
+names_in : (cells : Row) (x : InMeeting PresenceMark) → presence_in cells ≡ Some x → (spelled meeting_of cells 0 ≡ Some x.meeting) × (spelled party_of cells 1 ≡ Some x.item.party)
+unfolding presence_in
+names_in cells x h =
+    let meeting = bound (spelled meeting_of cells 0) _ x h in
+    let party = bound (spelled party_of cells 1) _ x meeting.2 in
+    let moment = bound (moment_in cells 2) _ x party.2 in
+    (meeting.1 ∙ option_ap (λ (y : InMeeting PresenceMark). y.meeting) moment.2, party.1 ∙ option_ap (λ (y : InMeeting PresenceMark). y.item.party) moment.2)
+
+abbrev of_party_text : List ℕ
+of_party_text = codes "SELECT meeting, party, moment FROM presences WHERE meeting = ?1 AND party = ?2 ORDER BY seq"
+
+of_party_is : (command_of (understood desk_schema of_party_text) ≡ Select (record { lets = []; body = sought 18 (names_both 2 3) shows }) names) × (reads_listing desk_schema of_party_text ≡ false) × IsPlain (understood desk_schema of_party_text)
+unfolding understood everything
+of_party_is = (refl, refl, (refl, refl))
+
+-- the rows of the meeting and of the party
+pub of_party : (m meeting n party : List ℕ) → meeting_of meeting ≡ Some m → party_of party ≡ Some n
+    → IsQuery presences of_party_text (Text meeting ∷ Text party ∷ []) (λ x. same_name x.meeting m && same_name x.item.party n)
+unfolding spelled
+of_party m meeting n party meeting_is party_is = record {
+  tests = names_both 2 3;
+  project = shows;
+  names = names;
+  is = of_party_is.0;
+  plain = of_party_is.2;
+  unlisted = of_party_is.1;
+  none = refl;
+  numbered = refl;
+  columns = λ cells. refl;
+  same = λ cells x h. let of = names_in (columns_of presences cells) x h in both_tell cells 2 3 meeting m party n x.meeting x.item.party of.0 meeting_is of.1 party_is;
+}

@@ -1,0 +1,63 @@
+-- What is found in `register`.
+use Rattle.std.proofs.Common.{◌≡◌, ℕ, List, [], ◌∷◌, codes, false, Some, refl, ◌∙◌, ◌&&◌}
+use Rattle.sqlite.specs.declared.types.Value.TheVariants.{Text}
+use Rattle.sqlite.specs.Order.{Row}
+use Rattle.sqlite.specs.Term.{Term, col}
+use Rattle.sqlite.specs.Command.TheVariants.{Select}
+use Rattle.sqlite_tied.specs.Compute.{everything}
+use Rattle.sqlite.specs.Listing.{understood, reads_listing}
+use Rattle.sqlite.proofs.Callers.{IsPlain, command_of}
+use Rattle.desk_rows.specs.declared.kept.InMeeting.{InMeeting}
+use Rattle.desk_words.specs.declared.records.RegisterRow.{RegisterRow}
+use Rattle.desk_rows.specs.Columns.{spelled, worded, number_in, text_of}
+use Rattle.desk_rows.specs.Meetings.{holding_in}
+use Rattle.desk_terms.specs.Kinds.{holder_kind_of}
+use Rattle.desk_rows.proofs.MeaningLemmas.{bound, option_ap}
+use Rattle.desk_terms.specs.Names.{meeting_of, party_of, same_name}
+use Rattle.desk_schema.specs.Tables.{desk_schema}
+use Rattle.desk_schema.specs.Contents.{register}
+use Rattle.desk_schema.specs.Statements.{columns_of}
+use Rattle.desk_statements.proofs.Reading.{sought}
+use Rattle.found_rows.proofs.Queries.{IsQuery, names_both, both_tell}
+
+abbrev shows : List Term
+shows = col 1 1 ∷ col 1 2 ∷ col 1 3 ∷ col 1 4 ∷ col 1 5 ∷ col 1 6 ∷ []
+
+abbrev names : List (List ℕ)
+names = codes "meeting" ∷ codes "member" ∷ codes "kind" ∷ codes "name" ∷ codes "shares" ∷ codes "paid" ∷ []
+
+-- what a row names
+names_in : (cells : Row) (x : InMeeting RegisterRow) → holding_in cells ≡ Some x → (spelled meeting_of cells 0 ≡ Some x.meeting) × (spelled party_of cells 1 ≡ Some x.item.member)
+unfolding holding_in
+names_in cells x h =
+    let meeting = bound (spelled meeting_of cells 0) _ x h in
+    let member = bound (spelled party_of cells 1) _ x meeting.2 in
+    let kind = bound (worded holder_kind_of cells 2) _ x member.2 in
+    let name = bound (worded text_of cells 3) _ x kind.2 in
+    let shares = bound (number_in cells 4) _ x name.2 in
+    let paid = bound (number_in cells 5) _ x shares.2 in
+    (meeting.1 ∙ option_ap (λ (y : InMeeting RegisterRow). y.meeting) paid.2, member.1 ∙ option_ap (λ (y : InMeeting RegisterRow). y.item.member) paid.2)
+
+abbrev of_member_text : List ℕ
+of_member_text = codes "SELECT meeting, member, kind, name, shares, paid FROM register WHERE meeting = ?1 AND member = ?2 ORDER BY rowid"
+
+of_member_is : (command_of (understood desk_schema of_member_text) ≡ Select (record { lets = []; body = sought 10 (names_both 1 2) shows }) names) × (reads_listing desk_schema of_member_text ≡ false) × IsPlain (understood desk_schema of_member_text)
+unfolding understood everything
+of_member_is = (refl, refl, (refl, refl))
+
+-- the rows of the meeting and of the member
+pub of_member : (m meeting n party : List ℕ) → meeting_of meeting ≡ Some m → party_of party ≡ Some n
+    → IsQuery register of_member_text (Text meeting ∷ Text party ∷ []) (λ x. same_name x.meeting m && same_name x.item.member n)
+unfolding spelled
+of_member m meeting n party meeting_is party_is = record {
+  tests = names_both 1 2;
+  project = shows;
+  names = names;
+  is = of_member_is.0;
+  plain = of_member_is.2;
+  unlisted = of_member_is.1;
+  none = refl;
+  numbered = refl;
+  columns = λ cells. refl;
+  same = λ cells x h. let of = names_in (columns_of register cells) x h in both_tell cells 1 2 meeting m party n x.meeting x.item.member of.0 meeting_is of.1 party_is;
+}

@@ -1,0 +1,60 @@
+-- What is found in `resolutions`.
+use Rattle.std.proofs.Common.{◌≡◌, ℕ, List, [], ◌∷◌, codes, false, Some, refl, ◌∙◌}
+use Rattle.sqlite.specs.declared.types.Value.TheVariants.{Text}
+use Rattle.sqlite.specs.Order.{Row}
+use Rattle.sqlite.specs.Term.{Term, col}
+use Rattle.sqlite.specs.Command.TheVariants.{Select}
+use Rattle.sqlite_tied.specs.Compute.{everything}
+use Rattle.sqlite.specs.Listing.{understood, reads_listing}
+use Rattle.sqlite.proofs.Callers.{IsPlain, command_of}
+use Rattle.desk_rows.specs.declared.kept.InMeeting.{InMeeting}
+use Rattle.desk_rows.specs.declared.kept.NumberedResolution.{NumberedResolution}
+use Rattle.desk_rows.specs.Columns.{spelled, worded, number_in, text_of}
+use Rattle.desk_rows.specs.Meetings.{resolution_in}
+use Rattle.desk_terms.specs.Kinds.{resolution_kind_of}
+use Rattle.desk_rows.proofs.MeaningLemmas.{bound, option_ap}
+use Rattle.desk_terms.specs.Names.{meeting_of, same_name}
+use Rattle.desk_schema.specs.Tables.{desk_schema}
+use Rattle.desk_schema.specs.Contents.{resolutions}
+use Rattle.desk_schema.specs.Statements.{columns_of}
+use Rattle.desk_statements.proofs.Reading.{sought}
+use Rattle.found_rows.proofs.Queries.{IsQuery, names_meeting, one_tells}
+
+abbrev shows : List Term
+shows = col 1 1 ∷ col 1 2 ∷ col 1 3 ∷ col 1 4 ∷ []
+
+abbrev names : List (List ℕ)
+names = codes "meeting" ∷ codes "number" ∷ codes "kind" ∷ codes "body" ∷ []
+
+-- what a row names
+names_in : (cells : Row) (x : InMeeting NumberedResolution) → resolution_in cells ≡ Some x → spelled meeting_of cells 0 ≡ Some x.meeting
+unfolding resolution_in
+names_in cells x h =
+    let meeting = bound (spelled meeting_of cells 0) _ x h in
+    let number = bound (number_in cells 1) _ x meeting.2 in
+    let kind = bound (worded resolution_kind_of cells 2) _ x number.2 in
+    let text = bound (worded text_of cells 3) _ x kind.2 in
+    meeting.1 ∙ option_ap (λ (y : InMeeting NumberedResolution). y.meeting) text.2
+
+abbrev of_meeting_text : List ℕ
+of_meeting_text = codes "SELECT meeting, number, kind, body FROM resolutions WHERE meeting = ?1 ORDER BY rowid"
+
+of_meeting_is : (command_of (understood desk_schema of_meeting_text) ≡ Select (record { lets = []; body = sought 8 (names_meeting 1) shows }) names) × (reads_listing desk_schema of_meeting_text ≡ false) × IsPlain (understood desk_schema of_meeting_text)
+unfolding understood everything
+of_meeting_is = (refl, refl, (refl, refl))
+
+-- the rows of the meeting
+pub of_meeting : (m meeting : List ℕ) → meeting_of meeting ≡ Some m → IsQuery resolutions of_meeting_text (Text meeting ∷ []) (λ x. same_name x.meeting m)
+unfolding spelled
+of_meeting m meeting meeting_is = record {
+  tests = names_meeting 1;
+  project = shows;
+  names = names;
+  is = of_meeting_is.0;
+  plain = of_meeting_is.2;
+  unlisted = of_meeting_is.1;
+  none = refl;
+  numbered = refl;
+  columns = λ cells. refl;
+  same = λ cells x h. one_tells cells 1 meeting m x.meeting (names_in (columns_of resolutions cells) x h) meeting_is;
+}

@@ -1,0 +1,28 @@
+//! The votes of a meeting (sections 284 and 322), by the voter.
+ghost use Rattle.std.specs.Prelude.{◌≡◌, ◌&&◌, IfOk};
+ghost use Rattle.desk_terms.specs.Names.{same_name};
+ghost use Rattle.desk_schema.specs.Contents.{casts};
+ghost use Rattle.desk_schema.specs.Statements.{ChangesNothing, Finds, IsRead};
+
+use desk_rows::{meeting_text, party_text};
+use desk_words::{MeetingId, Party};
+use sqlite::{Alter, Error, Row, Transaction, params};
+
+/// The rows of the votes that a voter cast in a meeting, in order of receipt.
+pub fn cast_by<S: Alter>(
+    tx: &mut Transaction<'_, S>,
+    meeting: MeetingId,
+    voter: Party,
+) -> Result<Vec<Row>, Error>
+    ensures same_reference { tx.new.conn.ghost_name ≡ tx.old.conn.ghost_name }
+    ensures rows { IsRead S.Store tx.old.conn.now tx.new.conn.now
+        → IfOk result
+        (λ rows. Finds S.Store tx.old.conn.now tx.new.conn.now casts
+        (λ it. same_name it.meeting meeting && same_name it.item.voter voter) rows.items) }
+    ensures changes { ChangesNothing S.Store tx.old.conn.now tx.new.conn.now }
+{
+    tx.query_all(
+        "SELECT meeting, resolution, voter, capacity, member, first, last, way, moment FROM casts WHERE meeting = ?1 AND voter = ?2 ORDER BY seq",
+        params![meeting_text(&meeting), party_text(&voter)],
+    )
+}

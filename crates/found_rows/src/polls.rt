@@ -1,0 +1,27 @@
+//! The polls of a meeting (section 321).
+ghost use Rattle.std.specs.Prelude.{◌≡◌, IfOk};
+ghost use Rattle.desk_terms.specs.Names.{same_name};
+ghost use Rattle.desk_schema.specs.Contents.{polls};
+ghost use Rattle.desk_schema.specs.Statements.{ChangesNothing, Finds, IsRead};
+
+use desk_rows::meeting_text;
+use desk_words::MeetingId;
+use sqlite::{Alter, Error, Row, Transaction, params};
+
+/// The rows of the polls of a meeting.
+pub fn of_meeting<S: Alter>(
+    tx: &mut Transaction<'_, S>,
+    meeting: MeetingId,
+) -> Result<Vec<Row>, Error>
+    ensures same_reference { tx.new.conn.ghost_name ≡ tx.old.conn.ghost_name }
+    ensures rows { IsRead S.Store tx.old.conn.now tx.new.conn.now
+        → IfOk result
+        (λ rows. Finds S.Store tx.old.conn.now tx.new.conn.now polls
+        (λ it. same_name it.meeting meeting) rows.items) }
+    ensures changes { ChangesNothing S.Store tx.old.conn.now tx.new.conn.now }
+{
+    tx.query_all(
+        "SELECT meeting, resolution, ordered, take, chair, started, closed, votes_for, votes_against, withheld, eligible FROM polls WHERE meeting = ?1 ORDER BY rowid",
+        params![meeting_text(&meeting)],
+    )
+}

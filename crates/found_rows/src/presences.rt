@@ -1,0 +1,28 @@
+//! The presences at a meeting (section 318), by the party.
+ghost use Rattle.std.specs.Prelude.{◌≡◌, ◌&&◌, IfOk};
+ghost use Rattle.desk_terms.specs.Names.{same_name};
+ghost use Rattle.desk_schema.specs.Contents.{presences};
+ghost use Rattle.desk_schema.specs.Statements.{ChangesNothing, Finds, IsRead};
+
+use desk_rows::{meeting_text, party_text};
+use desk_words::{MeetingId, Party};
+use sqlite::{Alter, Error, Row, Transaction, params};
+
+/// The row of the presence of a party at a meeting, of which there is one at most.
+pub fn of_party<S: Alter>(
+    tx: &mut Transaction<'_, S>,
+    meeting: MeetingId,
+    party: Party,
+) -> Result<Vec<Row>, Error>
+    ensures same_reference { tx.new.conn.ghost_name ≡ tx.old.conn.ghost_name }
+    ensures rows { IsRead S.Store tx.old.conn.now tx.new.conn.now
+        → IfOk result
+        (λ rows. Finds S.Store tx.old.conn.now tx.new.conn.now presences
+        (λ it. same_name it.meeting meeting && same_name it.item.party party) rows.items) }
+    ensures changes { ChangesNothing S.Store tx.old.conn.now tx.new.conn.now }
+{
+    tx.query_all(
+        "SELECT meeting, party, moment FROM presences WHERE meeting = ?1 AND party = ?2 ORDER BY seq",
+        params![meeting_text(&meeting), party_text(&party)],
+    )
+}

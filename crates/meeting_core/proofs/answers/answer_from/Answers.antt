@@ -1,0 +1,18 @@
+use Rattle.std.proofs.Common.{ap, ◌∙◌}
+use Rattle.std.proofs.lemmas.Result.{IfOk-weaker}
+use Rattle.desk_words.specs.Rulings.{settled}
+use Rattle.caller_view.specs.Answers.{party_ruling}
+use Rattle.caller_view.specs.Own.{own_from}
+use Rattle.caller_view.specs.declared.views.OwnView.{OwnView}
+use Rattle.caller_view.proofs.ReadLemmas.{ruling-own_read}
+use Rattle.meeting_core.proofs.answers.answer_from.Goals as goal
+
+pub returns : goal.returns
+returns c =
+    let public = c.args.public.now in
+    let now = c.args.now in
+    let what = c.args.asked.now in
+    IfOk-weaker c.answer.result _ _ (λ a is all read.
+    is
+    ∙ ap (λ (own : OwnView). settled (party_ruling public own now what)) (c.in_ok-own.ensures all read)
+    ∙ ap settled (ruling-own_read public (own_from all public now) now what)) c.answer.ensures.answer

@@ -1,0 +1,56 @@
+use Rattle.std.proofs.Common.{◌≡◌, sym, ap, ◌∙◌}
+use Rattle.desk_words.specs.Changes.{after_some}
+use Rattle.desk_words.specs.Office.{is_office}
+use Rattle.desk_words.specs.Rulings.{settled, within}
+use Rattle.desk_words.specs.Seen.{Party}
+use Rattle.desk_words.specs.declared.answer.Answer.{Answer}
+use Rattle.desk_words.specs.declared.caller.Caller.TheVariants as caller
+use Rattle.desk_words.specs.declared.change.Change.{Change}
+use Rattle.desk_words.specs.declared.change.Change.TheVariants.{InMeeting}
+use Rattle.desk_words.specs.declared.change.Entry.{Entry}
+use Rattle.desk_words.specs.declared.change.MeetingChange.TheVariants.{Enter}
+use Rattle.desk_words.specs.declared.office.OfficeLists.{OfficeLists}
+use Rattle.desk_words.specs.declared.request.Request.TheVariants as asked
+use Rattle.caller_view.specs.Answers.{party_ruling}
+use Rattle.caller_view.specs.Own.{own_from}
+use Rattle.caller_view.specs.Public.{PublicRecord}
+use Rattle.caller_view.specs.Rows.{rows_in}
+use Rattle.caller_view.specs.Views.{meeting_at, own_of, public_of}
+use Rattle.office_answers.specs.Limits.{if_any, keeps_limits}
+use Rattle.meeting_core.specs.Decisions.{AreRead, party_call}
+use Rattle.meeting_core.specs.Step.{decided}
+use Rattle.meeting_core.proofs.EntryLemmas.{entry_in_limits}
+use Rattle.meeting_core.proofs.OfficeKept.{step_kept}
+use Rattle.meeting_core.proofs.RulingLemmas.{settled_within}
+use Rattle.meeting_core.proofs.answers.decide_from_rows.Goals as goal
+
+-- the answer from the views is what is decided in each office whose views they are
+is_decided : (c : goal.After-entering) (office : OfficeLists) (party : Party)
+    → AreRead office party c.args.meeting c.args.asked.now c.args.public.now c.args.rows.now
+    → c.entering.result ≡ decided office (party_call party c.args.meeting c.args.now c.args.asked.now)
+is_decided c office party read =
+    let meeting = c.args.meeting in
+    let now = c.args.now in
+    let what = c.args.asked.now in
+    let public = c.args.public.now in
+    let all = rows_in (meeting_at office meeting) party in
+    let entered = λ (entry : Entry). InMeeting meeting (Enter entry) in
+    let ruled = party_ruling (public_of office meeting) (own_of office party meeting now) now what in
+    c.entering.ensures
+    ∙ ap (within entered)
+    (c.in_ok-answer.ensures all read.own
+    ∙ ap (λ (seen : PublicRecord). settled (party_ruling seen (own_from all seen now) now what)) read.public)
+    ∙ sym (settled_within entered ruled)
+
+pub returns-clause-decided : goal.returns-clause-decided
+returns-clause-decided c = is_decided c
+
+pub returns-clause-kept : goal.returns-clause-kept
+returns-clause-kept c = λ office party read kept.
+    let meeting = c.args.meeting in
+    let now = c.args.now in
+    let decision = is_decided c office party read in
+    let entered = λ (entry : Entry). InMeeting meeting (Enter entry) in
+    let ruled = party_ruling (public_of office meeting) (own_of office party meeting now) now c.args.asked.now in
+    let limits = ap (λ (a : Answer Change). if_any keeps_limits a.change) (settled_within entered ruled) ∙ entry_in_limits meeting (settled ruled).change in
+    ap (λ (a : Answer Change). is_office (after_some office a.change)) decision ∙ step_kept office now (caller.Party party) (asked.Party meeting c.args.asked.now) kept limits

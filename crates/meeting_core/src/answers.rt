@@ -1,0 +1,101 @@
+//! Answers in a meeting, as answers of the office.
+ghost use Rattle.std.specs.Prelude.{◌≡◌, IfOk, IsTrue};
+ghost use Rattle.desk_words.specs.Changes.{after_some};
+ghost use Rattle.desk_words.specs.Office.{is_office};
+ghost use Rattle.desk_words.specs.Rulings.{settled, within};
+ghost use Rattle.desk_words.specs.Seen.{Party};
+ghost use Rattle.desk_words.specs.declared.change.Change.TheVariants as change;
+ghost use Rattle.desk_words.specs.declared.change.MeetingChange.TheVariants as meeting_change;
+ghost use Rattle.desk_words.specs.declared.office.OfficeLists.{OfficeLists};
+ghost use Rattle.caller_view.specs.Answers.{party_ruling};
+ghost use Rattle.caller_view.specs.Own.{own_from};
+ghost use Rattle.caller_view.specs.Reads.{rows_read};
+ghost use Rattle.caller_view.specs.declared.rows.OwnRows.{OwnRows};
+ghost use Rattle.meeting_core.specs.Decisions.{AreRead, AreViews, party_call};
+ghost use Rattle.meeting_core.specs.Step.{decided};
+
+use caller_view::{OwnRows, OwnView, PublicRecord, answer, own_for};
+use desk_words::{Answer, Change, Entry, MeetingChange, MeetingId, Moment, PartyRequest};
+use std::alloc::{AllocError, Global};
+
+/// An answer whose change is made in that meeting.
+pub(crate) fn in_meeting(meeting: MeetingId, answer: Answer<MeetingChange>) -> Answer<Change>
+    ensures { result ≡ within (change.InMeeting meeting) answer }
+{
+    let Answer { reply, change } = answer;
+    let change = match change {
+        None => None,
+        Some(change) => Some(Change::InMeeting { meeting, change }),
+    };
+    Answer { reply, change }
+}
+
+/// An answer whose change is entered into the lists of that meeting.
+pub(crate) fn entering(meeting: MeetingId, answer: Answer<Entry>) -> Answer<Change>
+    ensures { result ≡ within (λ entry. change.InMeeting meeting (meeting_change.Enter entry))
+        answer }
+{
+    let Answer { reply, change } = answer;
+    let change = match change {
+        None => None,
+        Some(entry) => Some(MeetingChange::Enter(entry)),
+    };
+    in_meeting(meeting, Answer { reply, change })
+}
+
+/// The answer to a party, from the public record and those of its rows that it reads.
+fn answer_from(
+    alloc: Global,
+    public: &PublicRecord,
+    rows: &OwnRows,
+    now: Moment,
+    asked: &PartyRequest,
+) -> Result<Answer<Entry>, AllocError>
+    ensures { IfOk result (λ a. (all : OwnRows) → rows.now ≡ rows_read asked.now all
+        → a ≡ settled (party_ruling public.now (own_from all public.now now) now asked.now)) }
+{
+    let own = own_for(alloc, rows, public, now, asked)?;
+    answer(alloc, public, &own, now, asked)
+}
+
+/// What is decided of what a party asks in a meeting, from the public record and those of its rows
+/// alone that the answer reads: it is so in every office of which these are read, and what it
+/// changes leaves the lists of an office. The error is want of memory.
+pub fn decide_from_rows(
+    alloc: Global,
+    meeting: MeetingId,
+    public: &PublicRecord,
+    rows: &OwnRows,
+    now: Moment,
+    asked: &PartyRequest,
+) -> Result<Answer<Change>, AllocError>
+    ensures decided { IfOk result (λ a. (office : OfficeLists) (party : Party)
+        → AreRead office party meeting asked.now public.now rows.now
+        → a ≡ decided office (party_call party meeting now asked.now)) }
+    ensures kept { IfOk result (λ a. (office : OfficeLists) (party : Party)
+        → AreRead office party meeting asked.now public.now rows.now → IsTrue (is_office office)
+        → IsTrue (is_office (after_some office a.change))) }
+{
+    let answer = answer_from(alloc, public, rows, now, asked)?;
+    Ok(entering(meeting, answer))
+}
+
+/// The same from the public record and all of a party's own things in the meeting.
+pub fn decide_from_own(
+    alloc: Global,
+    meeting: MeetingId,
+    public: &PublicRecord,
+    own: &OwnView,
+    now: Moment,
+    asked: &PartyRequest,
+) -> Result<Answer<Change>, AllocError>
+    ensures decided { IfOk result (λ a. (office : OfficeLists) (party : Party)
+        → AreViews office party meeting now public.now own.now
+        → a ≡ decided office (party_call party meeting now asked.now)) }
+    ensures kept { IfOk result (λ a. (office : OfficeLists) (party : Party)
+        → AreViews office party meeting now public.now own.now → IsTrue (is_office office)
+        → IsTrue (is_office (after_some office a.change))) }
+{
+    let answer = answer(alloc, public, own, now, asked)?;
+    Ok(entering(meeting, answer))
+}

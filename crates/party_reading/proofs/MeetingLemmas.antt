@@ -1,0 +1,181 @@
+-- What the tables hold under a meeting's name is what the office holds of that meeting, or nothing.
+use Rattle.std.proofs.Common.{◌≡◌, ℕ, Bool, true, false, ◌&&◌, cond, List, [], ◌∷◌, map, filter, find, Option, Some, None, inl, inr, refl, sym, ap, subst, ◌∙◌, true≢false}
+use Rattle.std.specs.List.{list_any}
+use Rattle.std.specs.Option.{option_map_or}
+use Rattle.std.proofs.lemmas.Bool.{and_parts, cases_Bool}
+use Rattle.sqlite.specs.Tree.{Trees}
+use Rattle.desk_lists.proofs.Kept.{none-found}
+use Rattle.desk_terms.specs.Names.{same_name}
+use Rattle.desk_words.specs.Finding.{meeting_named}
+use Rattle.desk_words.specs.declared.office.MeetingLists.{MeetingLists}
+use Rattle.desk_words.specs.declared.office.OfficeLists.{OfficeLists}
+use Rattle.desk_words.specs.declared.caller.KeyRow.{KeyRow}
+use Rattle.desk_words.specs.declared.records.Appointment.{Appointment}
+use Rattle.desk_words.specs.declared.records.Authority.{Authority}
+use Rattle.desk_words.specs.declared.records.CastMark.{CastMark}
+use Rattle.desk_words.specs.declared.records.DemandMark.{DemandMark}
+use Rattle.desk_words.specs.declared.records.Ending.{Ending}
+use Rattle.desk_words.specs.declared.records.Poll.{Poll}
+use Rattle.desk_words.specs.declared.records.PresenceMark.{PresenceMark}
+use Rattle.desk_words.specs.declared.records.RegisterRow.{RegisterRow}
+use Rattle.desk_words.specs.declared.records.Resolution.{Resolution}
+use Rattle.desk_words.proofs.RowLemmas.{same_name-true}
+use Rattle.desk_rows.specs.declared.kept.InMeeting.{InMeeting}
+use Rattle.desk_rows.specs.declared.kept.MeetingRow.{MeetingRow}
+use Rattle.desk_rows.specs.declared.kept.NumberedResolution.{NumberedResolution}
+use Rattle.desk_rows.specs.Meanings.{◌>>=◌}
+use Rattle.desk_rows.proofs.MeaningLemmas.{bound}
+use Rattle.desk_schema.specs.Contents as table
+use Rattle.desk_schema.specs.Statements.{records_in}
+use Rattle.desk_records.specs.Office.{FlatLists, flat_in, lists_of, lists_of_all, lists_with, name_meetings, of_meeting, resolutions_of}
+use Rattle.desk_records.proofs.ListChanges.{ListOf}
+use Rattle.desk_records.proofs.OfficeLemmas.{AreOf, named_so}
+use Rattle.party_reading.specs.Lists.{item_of, list_in}
+
+-- ---- what each table holds
+
+-- what is read of twelve readings is read of each
+read_all : (its_keys : Option (List KeyRow)) (its_closed : Option (List ℕ)) (its_meetings : Option (List MeetingRow)) (its_resolutions : Option (List (InMeeting NumberedResolution))) (its_register : Option (List (InMeeting RegisterRow))) (its_appointments : Option (List (InMeeting Appointment))) (its_endings : Option (List (InMeeting Ending))) (its_authorities : Option (List (InMeeting Authority))) (its_presences : Option (List (InMeeting PresenceMark))) (its_demands : Option (List (InMeeting DemandMark))) (its_polls : Option (List (InMeeting Poll))) (its_casts : Option (List (InMeeting CastMark))) (flat : FlatLists) → (do
+  the_keys ← its_keys
+  the_closed ← its_closed
+  the_meetings ← its_meetings
+  the_resolutions ← its_resolutions
+  the_register ← its_register
+  the_appointments ← its_appointments
+  the_endings ← its_endings
+  the_authorities ← its_authorities
+  the_presences ← its_presences
+  the_demands ← its_demands
+  the_polls ← its_polls
+  the_casts ← its_casts
+  Some (record { keys = the_keys; closed = the_closed; meetings = the_meetings; resolutions = the_resolutions; register = the_register; appointments = the_appointments; endings = the_endings; authorities = the_authorities; presences = the_presences; demands = the_demands; polls = the_polls; casts = the_casts })) ≡ Some flat
+    → (its_keys ≡ Some flat.keys) × (its_closed ≡ Some flat.closed) × (its_meetings ≡ Some flat.meetings) × (its_resolutions ≡ Some flat.resolutions) × (its_register ≡ Some flat.register) × (its_appointments ≡ Some flat.appointments) × (its_endings ≡ Some flat.endings) × (its_authorities ≡ Some flat.authorities) × (its_presences ≡ Some flat.presences) × (its_demands ≡ Some flat.demands) × (its_polls ≡ Some flat.polls) × (its_casts ≡ Some flat.casts)
+read_all None its_closed its_meetings its_resolutions its_register its_appointments its_endings its_authorities its_presences its_demands its_polls its_casts flat h = absurd cc
+read_all (Some its_keys) None its_meetings its_resolutions its_register its_appointments its_endings its_authorities its_presences its_demands its_polls its_casts flat h = absurd cc
+read_all (Some its_keys) (Some its_closed) None its_resolutions its_register its_appointments its_endings its_authorities its_presences its_demands its_polls its_casts flat h = absurd cc
+read_all (Some its_keys) (Some its_closed) (Some its_meetings) None its_register its_appointments its_endings its_authorities its_presences its_demands its_polls its_casts flat h = absurd cc
+read_all (Some its_keys) (Some its_closed) (Some its_meetings) (Some its_resolutions) None its_appointments its_endings its_authorities its_presences its_demands its_polls its_casts flat h = absurd cc
+read_all (Some its_keys) (Some its_closed) (Some its_meetings) (Some its_resolutions) (Some its_register) None its_endings its_authorities its_presences its_demands its_polls its_casts flat h = absurd cc
+read_all (Some its_keys) (Some its_closed) (Some its_meetings) (Some its_resolutions) (Some its_register) (Some its_appointments) None its_authorities its_presences its_demands its_polls its_casts flat h = absurd cc
+read_all (Some its_keys) (Some its_closed) (Some its_meetings) (Some its_resolutions) (Some its_register) (Some its_appointments) (Some its_endings) None its_presences its_demands its_polls its_casts flat h = absurd cc
+read_all (Some its_keys) (Some its_closed) (Some its_meetings) (Some its_resolutions) (Some its_register) (Some its_appointments) (Some its_endings) (Some its_authorities) None its_demands its_polls its_casts flat h = absurd cc
+read_all (Some its_keys) (Some its_closed) (Some its_meetings) (Some its_resolutions) (Some its_register) (Some its_appointments) (Some its_endings) (Some its_authorities) (Some its_presences) None its_polls its_casts flat h = absurd cc
+read_all (Some its_keys) (Some its_closed) (Some its_meetings) (Some its_resolutions) (Some its_register) (Some its_appointments) (Some its_endings) (Some its_authorities) (Some its_presences) (Some its_demands) None its_casts flat h = absurd cc
+read_all (Some its_keys) (Some its_closed) (Some its_meetings) (Some its_resolutions) (Some its_register) (Some its_appointments) (Some its_endings) (Some its_authorities) (Some its_presences) (Some its_demands) (Some its_polls) None flat h = absurd cc
+read_all (Some its_keys) (Some its_closed) (Some its_meetings) (Some its_resolutions) (Some its_register) (Some its_appointments) (Some its_endings) (Some its_authorities) (Some its_presences) (Some its_demands) (Some its_polls) (Some its_casts) flat h = let is : record { keys = its_keys; closed = its_closed; meetings = its_meetings; resolutions = its_resolutions; register = its_register; appointments = its_appointments; endings = its_endings; authorities = its_authorities; presences = its_presences; demands = its_demands; polls = its_polls; casts = its_casts } ≡ flat = cc in (ap (λ (f : FlatLists). Some f.keys) is, ap (λ (f : FlatLists). Some f.closed) is, ap (λ (f : FlatLists). Some f.meetings) is, ap (λ (f : FlatLists). Some f.resolutions) is, ap (λ (f : FlatLists). Some f.register) is, ap (λ (f : FlatLists). Some f.appointments) is, ap (λ (f : FlatLists). Some f.endings) is, ap (λ (f : FlatLists). Some f.authorities) is, ap (λ (f : FlatLists). Some f.presences) is, ap (λ (f : FlatLists). Some f.demands) is, ap (λ (f : FlatLists). Some f.polls) is, ap (λ (f : FlatLists). Some f.casts) is)
+
+-- the tables hold these records
+pub record HoldAll (trees : Trees) (flat : FlatLists) : Type 0 where
+  pub meetings : records_in table.meetings trees ≡ Some flat.meetings
+  pub resolutions : records_in table.resolutions trees ≡ Some flat.resolutions
+  pub register : records_in table.register trees ≡ Some flat.register
+  pub appointments : records_in table.appointments trees ≡ Some flat.appointments
+  pub endings : records_in table.endings trees ≡ Some flat.endings
+  pub authorities : records_in table.authorities trees ≡ Some flat.authorities
+  pub presences : records_in table.presences trees ≡ Some flat.presences
+  pub demands : records_in table.demands trees ≡ Some flat.demands
+  pub polls : records_in table.polls trees ≡ Some flat.polls
+  pub casts : records_in table.casts trees ≡ Some flat.casts
+
+pub the_same : {X : Type 0} {x y : X} → ◌≡◌ {A = Option X} (Some x) (Some y) → x ≡ y
+the_same h = cc
+
+pub all_held : (trees : Trees) (flat : FlatLists) → flat_in trees ≡ Some flat → HoldAll trees flat
+unfolding flat_in
+all_held trees flat h =
+    let each = read_all (records_in table.keys trees) (records_in table.closed trees) (records_in table.meetings trees) (records_in table.resolutions trees) (records_in table.register trees) (records_in table.appointments trees) (records_in table.endings trees) (records_in table.authorities trees) (records_in table.presences trees) (records_in table.demands trees) (records_in table.polls trees) (records_in table.casts trees) flat h in
+    record { meetings = each.2; resolutions = each.3; register = each.4; appointments = each.5; endings = each.6; authorities = each.7; presences = each.8; demands = each.9; polls = each.10; casts = each.11 }
+
+-- ---- a meeting by its name
+
+-- the row has that name
+abbrev pub has_name : List ℕ → MeetingRow → Bool
+has_name id row = same_name row.id id
+
+-- a meeting is what the records of a name make
+pub record IsMade (flat : FlatLists) (id : List ℕ) (rows : List MeetingRow) (m : MeetingLists) : Type 0 where
+  pub row : MeetingRow
+  pub resolutions : List Resolution
+  pub found : find (has_name id) rows ≡ Some row
+  pub named : row.id ≡ id
+  pub numbered : resolutions_of row.id flat.resolutions ≡ Some resolutions
+  pub is : m ≡ lists_with flat row resolutions
+
+-- a meeting is so, and where there is none no row has that name
+abbrev pub IsFoundAs : FlatLists → List ℕ → List MeetingRow → Option MeetingLists → Type 0
+IsFoundAs flat id rows None = find (has_name id) rows ≡ None
+IsFoundAs flat id rows (Some m) = IsMade flat id rows m
+
+further : (flat : FlatLists) (id : List ℕ) (row : MeetingRow) (rows : List MeetingRow) (found : Option MeetingLists) → has_name id row ≡ false → IsFoundAs flat id rows found → IsFoundAs flat id (row ∷ rows) found
+further flat id row rows None other h = ap (λ b. cond b (Some row) (find (has_name id) rows)) other ∙ h
+further flat id row rows (Some m) other h = record {
+  row = h.row;
+  resolutions = h.resolutions;
+  found = ap (λ b. cond b (Some row) (find (has_name id) rows)) other ∙ h.found;
+  named = h.named;
+  numbered = h.numbered;
+  is = h.is;
+}
+
+found_as : (flat : FlatLists) (id : List ℕ) (rows : List MeetingRow) (lists : List MeetingLists) → lists_of_all flat rows ≡ Some lists → IsFoundAs flat id rows (meeting_named lists id)
+found_as flat id [] lists h = let none : [] ≡ lists = cc in subst (λ l. IsFoundAs flat id [] (meeting_named l id)) none refl
+found_as flat id (row ∷ rows) lists h =
+    let first = bound (lists_of flat row) _ lists h in
+    let later = bound (lists_of_all flat rows) _ lists first.2 in
+    let are : first.0 ∷ later.0 ≡ lists = cc in
+    let name : same_name first.0.meeting.id id ≡ has_name id row = ap (λ n. same_name n id) (named_so flat row first.0 first.1) in
+    subst (λ l. IsFoundAs flat id (row ∷ rows) (meeting_named l id)) are (elim (cases_Bool (has_name id row)) [
+      | inl is ↦
+          let it = bound (resolutions_of row.id flat.resolutions) (λ rs. Some (lists_with flat row rs)) first.0 first.1 in
+          subst (λ b. IsFoundAs flat id (row ∷ rows) (cond b (Some first.0) (meeting_named later.0 id))) (sym (name ∙ is)) (record {
+            row = row;
+            resolutions = it.0;
+            found = ap (λ b. cond b (Some row) (find (has_name id) rows)) is;
+            named = same_name-true row.id id is;
+            numbered = it.1;
+            is = sym (the_same it.2);
+          })
+      | inr other ↦
+          subst (λ b. IsFoundAs flat id (row ∷ rows) (cond b (Some first.0) (meeting_named later.0 id))) (sym (name ∙ other)) (further flat id row rows (meeting_named later.0 id) other (found_as flat id rows later.0 later.1))
+    ])
+
+pub meeting_found : (flat : FlatLists) (office : OfficeLists) (id : List ℕ) → AreOf flat office → IsFoundAs flat id flat.meetings (meeting_named office.meetings id)
+meeting_found flat office id of = found_as flat id flat.meetings office.meetings of.lists
+
+-- ---- its records
+
+-- where no meeting has the name, no record is of it
+none_named : {A : Type 0} (meetings : List MeetingRow) (id : List ℕ) (records : List (InMeeting A)) → name_meetings meetings records ≡ true → find (has_name id) meetings ≡ None → of_meeting id records ≡ []
+none_named meetings id [] stand none = refl
+none_named meetings id (r ∷ records) stand none =
+    let parts = and_parts (list_any (λ (m : MeetingRow). same_name m.id r.meeting) meetings) (name_meetings meetings records) stand in
+    let rest = none_named meetings id records parts.1 none in
+    elim (cases_Bool (same_name r.meeting id)) [
+      | inl is ↦
+          let stands : list_any (has_name id) meetings ≡ true = subst (λ n. list_any (λ (m : MeetingRow). same_name m.id n) meetings ≡ true) (same_name-true r.meeting id is) parts.0 in
+          absurd (true≢false (sym stands ∙ none-found (has_name id) meetings none))
+      | inr other ↦ rw other rest
+    ]
+
+-- a list of the office's meeting is what the records of its name are, put in its order
+pub list_is : {A : Type 0} (k : ListOf A) → k.arrange [] ≡ [] → (flat : FlatLists) (office : OfficeLists) (id : List ℕ) → AreOf flat office → k.arrange (of_meeting id (k.all flat)) ≡ list_in k.own (meeting_named office.meetings id)
+list_is k empty flat office id of = go (meeting_named office.meetings id) (meeting_found flat office id of)
+  where
+    go : (found : Option MeetingLists) → IsFoundAs flat id flat.meetings found → k.arrange (of_meeting id (k.all flat)) ≡ option_map_or k.own found []
+    go None none = ap k.arrange (none_named flat.meetings id (k.all flat) (k.stood flat of.stand) none) ∙ empty
+    go (Some m) made =
+        ap (λ n. k.arrange (of_meeting n (k.all flat))) (sym made.named) ∙ sym (k.its_own flat made.row made.resolutions) ∙ ap k.own (sym made.is)
+
+-- ---- those of them that pass a test
+
+pub passing : {A : Type 0} (id : List ℕ) (test : A → Bool) (records : List (InMeeting A))
+    → map item_of (filter (λ (r : InMeeting A). same_name r.meeting id && test r.item) records) ≡ filter test (of_meeting id records)
+passing id test [] = refl
+passing {A} id test (r ∷ records) =
+    let rest = passing id test records in
+    let both = filter (λ (r : InMeeting A). same_name r.meeting id && test r.item) records in
+    let own = filter (λ (r : InMeeting A). same_name r.meeting id) records in
+    elim (same_name r.meeting id) as (λ b. map item_of (cond (b && test r.item) (r ∷ both) both) ≡ filter test (map item_of (cond b (r ∷ own) own))) [
+      | true ↦ (elim (test r.item) as (λ b. map item_of (cond b (r ∷ both) both) ≡ cond b (r.item ∷ filter test (map item_of own)) (filter test (map item_of own))) [ true ↦ ap (λ l. r.item ∷ l) rest | false ↦ rest ])
+      | false ↦ rest
+    ]

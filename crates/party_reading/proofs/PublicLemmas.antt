@@ -1,0 +1,113 @@
+-- The public record, from what was told of its parts.
+use Rattle.std.proofs.Common.{◌≡◌, ℕ, true, List, [], filter, find, slice_get, Option, Some, None, Err, Result, IsTrue, refl, sym, ap, subst, ◌∙◌}
+use Rattle.std.specs.Prelude.{option_map, is_some}
+use Rattle.std.specs.Option.{option_map_or}
+use Rattle.sqlite.specs.Held.{Held, state}
+use Rattle.sqlite.specs.Tree.{Trees}
+use Rattle.sqlite_trees.specs.declared.store.Store as store
+use Rattle.desk_lists.specs.Ordered.{ascends_by}
+use Rattle.desk_lists.specs.Sorting.{sort_by}
+use Rattle.desk_words.specs.Finding.{meeting_named}
+use Rattle.desk_words.specs.Lists.{are_resolutions}
+use Rattle.desk_words.specs.Office.{is_office, poll_before}
+use Rattle.desk_words.specs.declared.office.MeetingLists.{MeetingLists}
+use Rattle.desk_words.specs.declared.office.OfficeLists.{OfficeLists}
+use Rattle.desk_words.specs.declared.records.Resolution.{Resolution}
+use Rattle.desk_words.proofs.OfficeFacts.{found_facts}
+use Rattle.desk_rows.specs.declared.kept.MeetingRow.{MeetingRow}
+use Rattle.desk_rows.specs.declared.kept.NumberedResolution.{NumberedResolution}
+use Rattle.desk_rows.proofs.MeaningLemmas.{bound}
+use Rattle.desk_schema.specs.Contents.{without_resolutions}
+use Rattle.desk_records.specs.Office.{FlatLists, flat_in, of_meeting, office_of, with_resolutions}
+use Rattle.desk_records.proofs.ListChanges.{the_polls}
+use Rattle.desk_records.proofs.OfficeLemmas.{AreOf, are_of}
+use Rattle.desk_records.proofs.PollChanges.{polls_ascend}
+use Rattle.desk_reading.specs.Reading.{IsReading}
+use Rattle.office_lists.specs.Own.{resolutions_own}
+use Rattle.office_lists.specs.Yields.{IsCause, any_at_all}
+use Rattle.office_lists.specs.declared.fault.ReadFault.{ReadFault}
+use Rattle.caller_view.specs.Views.{polls_in}
+use Rattle.party_reading.specs.Telling.{IsToldOf, TellsOnly}
+use Rattle.party_reading.proofs.FoundLemmas.{cause_tells, says, yields_tell}
+use Rattle.party_reading.proofs.MeetingLemmas.{IsFoundAs, has_name, list_is, meeting_found, the_same}
+use Rattle.party_reading.proofs.RowLemmas.{first_passing}
+
+-- what a whole table holds, as what is told of the office
+pub reading_told : {S X : Type 0} (g : store.Ghosts S) (a b : Held S) (said : Trees → Option X) (all : FlatLists → X) (held : (trees : Trees) (flat : FlatLists) → flat_in trees ≡ Some flat → said trees ≡ Some (all flat))
+    (r : Result X ReadFault) → IsReading g a b any_at_all r said → (R : OfficeLists → X → Type 0)
+    → ((flat : FlatLists) (office : OfficeLists) → AreOf flat office → IsTrue (is_office office) → R office (all flat)) → IsToldOf g a b r R
+reading_told g a b said all held r reading R so = record {
+  told = λ read office holds kept.
+      let flat = bound (flat_in (state g a).now.trees) office_of office holds in
+      says (R office) (all flat.0) r (so flat.0 office (are_of flat.0 office flat.2) kept)
+      (yields_tell any_at_all r (all flat.0) (said (state g a).now.trees) (reading.told read) (held (state g a).now.trees flat.0 flat.1) refl);
+  same = reading.same;
+  changes = reading.changes;
+}
+
+-- ---- the meeting
+
+-- the row of the meeting, without its resolutions
+abbrev pub row_at : OfficeLists → List ℕ → Option MeetingRow
+row_at office id = option_map (λ (m : MeetingLists). without_resolutions m.meeting) (meeting_named office.meetings id)
+
+pub meeting_row_so : (id : List ℕ) (flat : FlatLists) (office : OfficeLists) → AreOf flat office → slice_get (filter (has_name id) flat.meetings) 0 ≡ row_at office id
+meeting_row_so id flat office of = first_passing (has_name id) flat.meetings ∙ go (meeting_named office.meetings id) (meeting_found flat office id of)
+  where
+    go : (found : Option MeetingLists) → IsFoundAs flat id flat.meetings found → find (has_name id) flat.meetings ≡ option_map (λ (m : MeetingLists). without_resolutions m.meeting) found
+    go None none = none
+    go (Some m) made = made.found ∙ ap (λ (x : MeetingLists). Some (without_resolutions x.meeting)) (sym made.is)
+
+-- the records of a meeting's resolutions are its resolutions
+abbrev pub AreResolutions : List ℕ → OfficeLists → List NumberedResolution → Type 0
+AreResolutions id office rows = (m : MeetingLists) → meeting_named office.meetings id ≡ Some m → resolutions_own rows ≡ Some m.meeting.resolutions
+
+pub resolutions_so : (id : List ℕ) (flat : FlatLists) (office : OfficeLists) → AreOf flat office → AreResolutions id office (of_meeting id flat.resolutions)
+resolutions_so id flat office of m is =
+    let made = subst (IsFoundAs flat id flat.meetings) is (meeting_found flat office id of) in
+    ap (λ n. resolutions_own (of_meeting n flat.resolutions)) (sym made.named) ∙ made.numbered ∙ ap (λ (x : MeetingLists). Some x.meeting.resolutions) (sym made.is)
+
+module _ (id : List ℕ) (office : OfficeLists) (row : MeetingRow) (rows : List NumberedResolution) (one : Some row ≡ row_at office id) (are : AreResolutions id office rows) where
+  -- the row with the resolutions is the meeting
+  pub meeting_so : (resolutions : List Resolution) → resolutions_own rows ≡ Some resolutions → Some (with_resolutions row resolutions) ≡ option_map (λ (m : MeetingLists). m.meeting) (meeting_named office.meetings id)
+  meeting_so resolutions read = go (meeting_named office.meetings id) one are
+    where
+      go : (found : Option MeetingLists) → Some row ≡ option_map (λ (m : MeetingLists). without_resolutions m.meeting) found → ((m : MeetingLists) → found ≡ Some m → resolutions_own rows ≡ Some m.meeting.resolutions)
+          → Some (with_resolutions row resolutions) ≡ option_map (λ (m : MeetingLists). m.meeting) found
+      go None e next = absurd cc
+      go (Some m) e next =
+          let same : row ≡ without_resolutions m.meeting = the_same e in
+          let its : resolutions ≡ m.meeting.resolutions = the_same (sym read ∙ next m refl) in
+          λ i. Some (with_resolutions (same i) (its i))
+
+  -- and where they are refused, it is not for want of a meeting
+  pub resolutions_tell : {X : Type 0} (P : X → Type 0) (e : ReadFault) → IsTrue (is_office office) → IsCause are_resolutions e (resolutions_own rows) → TellsOnly P (Err e)
+  resolutions_tell P e kept cause = go (meeting_named office.meetings id) refl one
+    where
+      go : (found : Option MeetingLists) → meeting_named office.meetings id ≡ found → Some row ≡ option_map (λ (m : MeetingLists). without_resolutions m.meeting) found → TellsOnly P (Err e)
+      go None is e = absurd cc
+      go (Some m) is e = cause_tells P are_resolutions _ m.meeting.resolutions (resolutions_own rows) (are m is) (found_facts office id m kept is).resolutions cause
+
+-- no row is no meeting
+pub no_meeting : (office : OfficeLists) (id : List ℕ) → None ≡ row_at office id → None ≡ option_map (λ (m : MeetingLists). m.meeting) (meeting_named office.meetings id)
+no_meeting office id = go (meeting_named office.meetings id)
+  where
+    go : (found : Option MeetingLists) → None ≡ option_map (λ (m : MeetingLists). without_resolutions m.meeting) found → None ≡ option_map (λ (m : MeetingLists). m.meeting) found
+    go None e = refl
+    go (Some m) e = absurd cc
+
+-- ---- the polls
+
+pub polls_so : (id : List ℕ) (flat : FlatLists) (office : OfficeLists) → AreOf flat office → sort_by poll_before (of_meeting id flat.polls) ≡ polls_in (meeting_named office.meetings id)
+polls_so id flat office of = list_is the_polls refl flat office id of ∙ same (meeting_named office.meetings id)
+  where
+    same : (found : Option MeetingLists) → option_map_or (λ (m : MeetingLists). m.polls) found [] ≡ polls_in found
+    same None = refl
+    same (Some m) = refl
+
+pub polls_rise : (office : OfficeLists) (id : List ℕ) → IsTrue (is_office office) → ascends_by poll_before (polls_in (meeting_named office.meetings id)) ≡ true
+polls_rise office id kept = go (meeting_named office.meetings id) refl
+  where
+    go : (found : Option MeetingLists) → meeting_named office.meetings id ≡ found → ascends_by poll_before (polls_in found) ≡ true
+    go None is = refl
+    go (Some m) is = polls_ascend (is_some m.meeting.opened) _ m.polls (found_facts office id m kept is).polls

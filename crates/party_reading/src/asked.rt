@@ -1,0 +1,332 @@
+//! Those of a party's rows in a meeting that the answer to its request reads, read from the tables.
+ghost use Rattle.std.specs.Prelude.{◌≡◌, ◌++◌, ℕ, [], ◌∷◌, IfOk, MatchResult, OnOk, filter};
+ghost use Rattle.desk_terms.specs.Names.{same_name};
+ghost use Rattle.proxy_rules.specs.Holdings.{is_given_by};
+ghost use Rattle.caller_view.specs.Reads.{appointments_read, authorities_read, cast_on, given_read, members_read, rows_read};
+ghost use Rattle.caller_view.specs.Rows.{no_rows_of, rows_in};
+ghost use Rattle.caller_view.specs.Views.{meeting_at};
+ghost use Rattle.desk_words.specs.declared.request.PartyRequest.TheVariants as asked;
+ghost use Rattle.caller_view.specs.declared.rows.AuthorityRows.{AuthorityRows};
+ghost use Rattle.caller_view.specs.declared.rows.MemberRows.{MemberRows};
+ghost use Rattle.office_lists.specs.declared.fault.ReadFault.TheVariants.{Memory};
+ghost use Rattle.party_reading.specs.Lists.{persons_read};
+ghost use Rattle.party_reading.specs.Telling.{IsToldOf};
+
+use crate::own::{read_rows, standing_of};
+use crate::rows::{ended_by, given_by, is_present, persons_of};
+use caller_view::{AuthorityRows, MemberRows, OwnRows};
+use desk_words::{
+    Appointment, Capacity, CastMark, Listing, MeetingId, NewCast, Party, PartyRequest,
+};
+use meeting_views::no_rows_of;
+use office_lists::ReadFault;
+use sqlite::{Alter, Transaction};
+use std::alloc::{AllocError, Global};
+
+/// The appointments of a member among these.
+fn of_member(
+    alloc: Global,
+    received: Listing<Appointment>,
+    member: Party,
+) -> Result<Listing<Appointment>, AllocError>
+    ensures { IfOk result (λ found. found ≡ filter (is_given_by member) received) }
+{
+    let mut found = Listing::new(alloc);
+    for appointment in received.into_vec() {
+        if appointment.member.is(member) {
+            found.push(appointment)?;
+        }
+    }
+    Ok(found)
+}
+
+/// A member among these.
+fn one_member(
+    alloc: Global,
+    members: Listing<MemberRows>,
+    member: Party,
+) -> Result<Listing<MemberRows>, AllocError>
+    ensures { IfOk result (λ found. found
+        ≡ filter (λ (rows : MemberRows). same_name rows.member member) members) }
+{
+    let mut found = Listing::new(alloc);
+    for rows in members.into_vec() {
+        if rows.member.is(member) {
+            found.push(rows)?;
+        }
+    }
+    Ok(found)
+}
+
+/// Adds an authority to others where it is a corporation's.
+fn push_if_of(
+    found: &mut Listing<AuthorityRows>,
+    rows: AuthorityRows,
+    corporation: Party,
+) -> Result<(), AllocError>
+    ensures { OnOk result (found.new
+        ≡ found.old ++ filter (λ (r : AuthorityRows). same_name r.authority.corporation corporation)
+        (rows ∷ [])) }
+{
+    let AuthorityRows { authority, row } = rows;
+    if authority.corporation.is(corporation) {
+        found.push(AuthorityRows { authority, row })?;
+    }
+    Ok(())
+}
+
+/// The authorities of a corporation among these.
+fn of_corporation(
+    alloc: Global,
+    authorised: Listing<AuthorityRows>,
+    corporation: Party,
+) -> Result<Listing<AuthorityRows>, AllocError>
+    ensures { IfOk result (λ found. found
+        ≡ filter (λ (rows : AuthorityRows). same_name rows.authority.corporation corporation)
+        authorised) }
+{
+    let mut found = Listing::new(alloc);
+    for rows in authorised.into_vec() {
+        push_if_of(&mut found, rows, corporation)?;
+    }
+    Ok(found)
+}
+
+/// The votes on a resolution among these.
+fn casts_on(
+    alloc: Global,
+    casts: &[CastMark],
+    resolution: u64,
+) -> Result<Listing<CastMark>, AllocError>
+    ensures { IfOk result (λ found. found ≡ cast_on resolution casts.now) }
+{
+    let mut found = Listing::new(alloc);
+    for cast in casts {
+        if cast.resolution == resolution {
+            found.push(*cast)?;
+        }
+    }
+    Ok(found)
+}
+
+/// What a vote reads of the appointments that name the party: as a proxy, those of the member.
+fn appointments_read(
+    alloc: Global,
+    received: Listing<Appointment>,
+    new: &NewCast,
+) -> Result<Listing<Appointment>, AllocError>
+    ensures { IfOk result (λ found. found ≡ appointments_read new.now received new.now.capacity) }
+{
+    match new.capacity {
+        Capacity::Proxy => of_member(alloc, received, new.member),
+        Capacity::Member | Capacity::Rep => Ok(Listing::new(alloc)),
+    }
+}
+
+/// What a vote reads of the members who named the party: as a proxy, the member.
+fn members_read(
+    alloc: Global,
+    members: Listing<MemberRows>,
+    new: &NewCast,
+) -> Result<Listing<MemberRows>, AllocError>
+    ensures { IfOk result (λ found. found ≡ members_read new.now members new.now.capacity) }
+{
+    match new.capacity {
+        Capacity::Proxy => one_member(alloc, members, new.member),
+        Capacity::Member | Capacity::Rep => Ok(Listing::new(alloc)),
+    }
+}
+
+/// What a vote reads of the authorities that were given to the party: as a representative, that of
+/// the member.
+fn authorities_read(
+    alloc: Global,
+    authorised: Listing<AuthorityRows>,
+    new: &NewCast,
+) -> Result<Listing<AuthorityRows>, AllocError>
+    ensures { IfOk result (λ found. found ≡ authorities_read new.now authorised new.now.capacity) }
+{
+    match new.capacity {
+        Capacity::Rep => of_corporation(alloc, authorised, new.member),
+        Capacity::Member | Capacity::Proxy => Ok(Listing::new(alloc)),
+    }
+}
+
+/// What a vote reads of a party's rows. The fault is want of memory.
+fn for_cast(alloc: Global, rows: OwnRows, new: &NewCast) -> Result<OwnRows, ReadFault>
+    ensures { MatchResult result (λ read. read ≡ rows_read (asked.Cast new.now) rows)
+        (λ fault. fault ≡ Memory) }
+{
+    let none = no_rows_of(alloc, rows.party);
+    let OwnRows {
+        row,
+        received,
+        members,
+        authorised,
+        casts,
+        ..
+    } = rows;
+    Ok(OwnRows {
+        row,
+        received: appointments_read(alloc, received, new)?,
+        members: members_read(alloc, members, new)?,
+        authorised: authorities_read(alloc, authorised, new)?,
+        casts: casts_on(alloc, casts.as_slice(), new.resolution)?,
+        ..none
+    })
+}
+
+/// What is read of a party's rows for what it casts as instructed. The fault is want of memory.
+fn for_instructed(alloc: Global, rows: OwnRows, resolution: u64) -> Result<OwnRows, ReadFault>
+    ensures { MatchResult result (λ read. read ≡ rows_read (asked.Instructed resolution) rows)
+        (λ fault. fault ≡ Memory) }
+{
+    let none = no_rows_of(alloc, rows.party);
+    let OwnRows {
+        received,
+        members,
+        casts,
+        ..
+    } = rows;
+    Ok(OwnRows {
+        received,
+        members,
+        casts: casts_on(alloc, casts.as_slice(), resolution)?,
+        ..none
+    })
+}
+
+/// The appointments that a party gave, and their endings, alone.
+fn given_alone<S: Alter>(
+    tx: &mut Transaction<'_, S>,
+    alloc: Global,
+    meeting: MeetingId,
+    party: Party,
+) -> Result<OwnRows, ReadFault>
+    ensures same_reference { tx.new.conn.ghost_name ≡ tx.old.conn.ghost_name }
+    ensures told { IsToldOf S.Store tx.old.conn.now tx.new.conn.now result
+        (λ office rows. rows ≡ given_read (rows_in (meeting_at office meeting) party)) }
+{
+    let given = given_by(tx, alloc, meeting, party)?;
+    let ended = ended_by(tx, alloc, meeting, party)?;
+    Ok(OwnRows {
+        given,
+        ended,
+        ..no_rows_of(alloc, party)
+    })
+}
+
+/// The authorities that a party gave, alone.
+fn persons_alone<S: Alter>(
+    tx: &mut Transaction<'_, S>,
+    alloc: Global,
+    meeting: MeetingId,
+    party: Party,
+) -> Result<OwnRows, ReadFault>
+    ensures same_reference { tx.new.conn.ghost_name ≡ tx.old.conn.ghost_name }
+    ensures told { IsToldOf S.Store tx.old.conn.now tx.new.conn.now result
+        (λ office rows. rows ≡ persons_read (rows_in (meeting_at office meeting) party)) }
+{
+    let persons = persons_of(tx, alloc, meeting, party)?;
+    Ok(OwnRows {
+        persons,
+        ..no_rows_of(alloc, party)
+    })
+}
+
+/// Whether a party is present, alone.
+fn presence_alone<S: Alter>(
+    tx: &mut Transaction<'_, S>,
+    alloc: Global,
+    meeting: MeetingId,
+    party: Party,
+) -> Result<OwnRows, ReadFault>
+    ensures same_reference { tx.new.conn.ghost_name ≡ tx.old.conn.ghost_name }
+    ensures told { IsToldOf S.Store tx.old.conn.now tx.new.conn.now result
+        (λ office rows. rows ≡ rows_read asked.Attend (rows_in (meeting_at office meeting) party)) }
+{
+    let present = is_present(tx, alloc, meeting, party)?;
+    Ok(OwnRows {
+        present,
+        ..no_rows_of(alloc, party)
+    })
+}
+
+/// No rows. The tables are asked all the same, whether the party is present, and so are known to be
+/// open.
+fn none_of_them<S: Alter>(
+    tx: &mut Transaction<'_, S>,
+    alloc: Global,
+    meeting: MeetingId,
+    party: Party,
+) -> Result<OwnRows, ReadFault>
+    ensures same_reference { tx.new.conn.ghost_name ≡ tx.old.conn.ghost_name }
+    ensures told { IsToldOf S.Store tx.old.conn.now tx.new.conn.now result
+        (λ office rows. rows ≡ rows_read asked.Notice (rows_in (meeting_at office meeting) party)) }
+{
+    is_present(tx, alloc, meeting, party)?;
+    Ok(no_rows_of(alloc, party))
+}
+
+/// What a vote reads of a party's rows.
+fn read_for_cast<S: Alter>(
+    tx: &mut Transaction<'_, S>,
+    alloc: Global,
+    meeting: MeetingId,
+    party: Party,
+    new: &NewCast,
+) -> Result<OwnRows, ReadFault>
+    ensures same_reference { tx.new.conn.ghost_name ≡ tx.old.conn.ghost_name }
+    ensures told { IsToldOf S.Store tx.old.conn.now tx.new.conn.now result
+        (λ office rows. rows
+        ≡ rows_read (asked.Cast new.now) (rows_in (meeting_at office meeting) party)) }
+{
+    let rows = read_rows(tx, alloc, meeting, party)?;
+    for_cast(alloc, rows, new)
+}
+
+/// What is read of a party's rows for what it casts as instructed.
+fn read_for_instructed<S: Alter>(
+    tx: &mut Transaction<'_, S>,
+    alloc: Global,
+    meeting: MeetingId,
+    party: Party,
+    resolution: u64,
+) -> Result<OwnRows, ReadFault>
+    ensures same_reference { tx.new.conn.ghost_name ≡ tx.old.conn.ghost_name }
+    ensures told { IsToldOf S.Store tx.old.conn.now tx.new.conn.now result
+        (λ office rows. rows
+        ≡ rows_read (asked.Instructed resolution) (rows_in (meeting_at office meeting) party)) }
+{
+    let rows = read_rows(tx, alloc, meeting, party)?;
+    for_instructed(alloc, rows, resolution)
+}
+
+/// Those of a party's rows in a meeting that the answer to its request reads, and nothing in place
+/// of the others; where there is no meeting of that name, none. What the party gave, whom it
+/// authorised and whether it is present are read alone where no more is asked.
+pub fn read_asked<S: Alter>(
+    tx: &mut Transaction<'_, S>,
+    alloc: Global,
+    meeting: MeetingId,
+    party: Party,
+    asked: &PartyRequest,
+) -> Result<OwnRows, ReadFault>
+    ensures same_reference { tx.new.conn.ghost_name ≡ tx.old.conn.ghost_name }
+    ensures told { IsToldOf S.Store tx.old.conn.now tx.new.conn.now result
+        (λ office rows. rows
+        ≡ rows_read asked.now (rows_in (meeting_at office meeting) party)) }
+{
+    match asked {
+        PartyRequest::Notice => none_of_them(tx, alloc, meeting, party),
+        PartyRequest::Mine => read_rows(tx, alloc, meeting, party),
+        PartyRequest::Appoint(_) | PartyRequest::End(_) => given_alone(tx, alloc, meeting, party),
+        PartyRequest::Authorise(_) => persons_alone(tx, alloc, meeting, party),
+        PartyRequest::Attend => presence_alone(tx, alloc, meeting, party),
+        PartyRequest::Demand(_) => standing_of(tx, alloc, meeting, party),
+        PartyRequest::Cast(new) => read_for_cast(tx, alloc, meeting, party, new),
+        PartyRequest::Instructed(resolution) => {
+            read_for_instructed(tx, alloc, meeting, party, *resolution)
+        }
+    }
+}

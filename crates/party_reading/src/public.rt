@@ -1,0 +1,125 @@
+//! What is public of a meeting, read from the tables by its name.
+ghost use Rattle.std.specs.Prelude.{◌≡◌, option_map};
+ghost use Rattle.desk_records.specs.Office.{with_resolutions};
+ghost use Rattle.desk_words.specs.declared.office.MeetingLists.{MeetingLists};
+ghost use Rattle.caller_view.specs.Views.{meeting_at, polls_in, public_of};
+ghost use Rattle.party_reading.specs.Telling.{IsToldOf};
+
+use crate::found::{first, found, items};
+use caller_view::PublicRecord;
+use desk_reading::listing;
+use desk_rows::MeetingRow;
+use desk_words::{Listing, Meeting, MeetingId, Poll, Resolutions};
+use found_rows::{meetings, polls, resolutions};
+use office_days::Closed;
+use office_lists::{ReadFault, day_list, poll_list, resolution_list};
+use sqlite::{Alter, Transaction};
+use std::alloc::Global;
+use std::marker::Model;
+
+/// The public record of a meeting, kept apart from the tables. Contracts see it as that record.
+#[derive(Drop)]
+pub struct KeptRecord {
+    closed: Closed,
+    meeting: Option<Meeting>,
+    polls: Listing<Poll>,
+}
+
+impl Model for KeptRecord {
+    ghost use Rattle.caller_view.specs.Public.{PublicRecord};
+
+    ghost Value = { PublicRecord };
+
+    ghost view = { λ k. record { closed = k.closed; meeting = k.meeting; polls = k.polls } };
+}
+
+impl KeptRecord {
+    /// The record, lent.
+    pub fn record(&self) -> PublicRecord<'_>
+        ensures { result ≡ self.now }
+    {
+        PublicRecord::new(&self.closed, self.meeting.as_ref(), self.polls.as_slice())
+    }
+}
+
+/// The days that the office has closed (section 1173).
+fn closed_days<S: Alter>(tx: &mut Transaction<'_, S>, alloc: Global) -> Result<Closed, ReadFault>
+    ensures same_reference { tx.new.conn.ghost_name ≡ tx.old.conn.ghost_name }
+    ensures told { IsToldOf S.Store tx.old.conn.now tx.new.conn.now result
+        (λ office closed. closed ≡ office.closed) }
+{
+    let days = listing(tx, alloc)?;
+    Ok(Closed::from_list(day_list(days)?))
+}
+
+/// A meeting with its resolutions.
+fn with_resolutions(row: MeetingRow, resolutions: Resolutions) -> Meeting
+    ensures { result ≡ with_resolutions row resolutions }
+{
+    Meeting {
+        id: row.id,
+        company: row.company,
+        kind: row.kind,
+        given: row.given,
+        appointed: row.appointed,
+        record_moment: row.record_moment,
+        resolutions,
+        loaded: row.loaded,
+        opened: row.opened,
+    }
+}
+
+/// The meeting of a name with its resolutions (section 307), if there is one.
+fn meeting_of<S: Alter>(
+    tx: &mut Transaction<'_, S>,
+    alloc: Global,
+    meeting: MeetingId,
+) -> Result<Option<Meeting>, ReadFault>
+    ensures same_reference { tx.new.conn.ghost_name ≡ tx.old.conn.ghost_name }
+    ensures told { IsToldOf S.Store tx.old.conn.now tx.new.conn.now result
+        (λ office kept. kept
+        ≡ option_map (λ (m : MeetingLists). m.meeting) (meeting_at office meeting)) }
+{
+    let rows = found(alloc, meetings::named(tx, meeting))?;
+    let Some(row) = first(rows) else {
+        return Ok(None);
+    };
+    let rows = items(alloc, found(alloc, resolutions::of_meeting(tx, meeting)))?;
+    let resolutions = resolution_list(alloc, rows)?;
+    Ok(Some(with_resolutions(row, resolutions)))
+}
+
+/// The polls of a meeting (section 321), in the order of resolutions.
+fn polls_of<S: Alter>(
+    tx: &mut Transaction<'_, S>,
+    alloc: Global,
+    meeting: MeetingId,
+) -> Result<Listing<Poll>, ReadFault>
+    ensures same_reference { tx.new.conn.ghost_name ≡ tx.old.conn.ghost_name }
+    ensures told { IsToldOf S.Store tx.old.conn.now tx.new.conn.now result
+        (λ office kept. kept ≡ polls_in (meeting_at office meeting)) }
+{
+    let rows = items(alloc, found(alloc, polls::of_meeting(tx, meeting)))?;
+    poll_list(rows)
+}
+
+/// The public record of a meeting; where there is none of that name, the closed days alone. Of the
+/// tables it reads the closed days and what names the meeting.
+pub fn read_public<S: Alter>(
+    tx: &mut Transaction<'_, S>,
+    alloc: Global,
+    meeting: MeetingId,
+) -> Result<KeptRecord, ReadFault>
+    ensures same_reference { tx.new.conn.ghost_name ≡ tx.old.conn.ghost_name }
+    ensures told { IsToldOf S.Store tx.old.conn.now tx.new.conn.now result
+        (λ office kept. kept ≡ public_of office meeting) }
+{
+    let closed = closed_days(tx, alloc)?;
+    let kept = meeting_of(tx, alloc, meeting)?;
+    let polls = polls_of(tx, alloc, meeting)?;
+    Ok(KeptRecord {
+        closed,
+        meeting: kept,
+        polls,
+    })
+}

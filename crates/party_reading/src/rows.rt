@@ -1,0 +1,166 @@
+//! The records of a party in a meeting, each looked up by the names that its row has.
+ghost use Rattle.std.specs.Prelude.{◌≡◌, filter};
+ghost use Rattle.std.specs.List.{list_any};
+ghost use Rattle.proxy_rules.specs.Holdings.{is_ended_of, is_given_by};
+ghost use Rattle.proxy_rules.specs.Parties.{authorises, is_authority_of, is_cast_by, is_demanded_by, is_presence_of, names};
+ghost use Rattle.proxy_rules.specs.Shares.{row_of};
+ghost use Rattle.caller_view.specs.Views.{meeting_at};
+ghost use Rattle.party_reading.specs.Lists.{appointments_in, authorities_in, casts_in};
+ghost use Rattle.party_reading.specs.Lists.{demands_in, endings_in, presences_in, register_in};
+ghost use Rattle.party_reading.specs.Telling.{IsToldOf};
+
+use crate::found::{first, found, items};
+use desk_words::{
+    Appointment, Authority, CastMark, DemandMark, Ending, Listing, MeetingId, Party, PresenceMark,
+    RegisterRow,
+};
+use found_rows::{appointments, authorities, casts, demands, endings, presences, register};
+use office_lists::ReadFault;
+use sqlite::{Alter, Transaction};
+use std::alloc::Global;
+
+/// A member's row in the register (section 113), if it has one.
+pub(crate) fn row_of<S: Alter>(
+    tx: &mut Transaction<'_, S>,
+    alloc: Global,
+    meeting: MeetingId,
+    member: Party,
+) -> Result<Option<RegisterRow>, ReadFault>
+    ensures same_reference { tx.new.conn.ghost_name ≡ tx.old.conn.ghost_name }
+    ensures told { IsToldOf S.Store tx.old.conn.now tx.new.conn.now result
+        (λ office row. row ≡ row_of (register_in (meeting_at office meeting)) member) }
+{
+    let rows = items(
+        alloc,
+        found(alloc, register::of_member(tx, meeting, member)),
+    )?;
+    Ok(first(rows))
+}
+
+/// The appointments that a member gave (section 324), in order of receipt.
+pub(crate) fn given_by<S: Alter>(
+    tx: &mut Transaction<'_, S>,
+    alloc: Global,
+    meeting: MeetingId,
+    member: Party,
+) -> Result<Listing<Appointment>, ReadFault>
+    ensures same_reference { tx.new.conn.ghost_name ≡ tx.old.conn.ghost_name }
+    ensures told { IsToldOf S.Store tx.old.conn.now tx.new.conn.now result
+        (λ office given. given ≡ filter (is_given_by member) (appointments_in (meeting_at office meeting))) }
+{
+    items(
+        alloc,
+        found(alloc, appointments::given_by(tx, meeting, member)),
+    )
+}
+
+/// The appointments that name a party as their proxy (section 324), in order of receipt.
+pub(crate) fn naming<S: Alter>(
+    tx: &mut Transaction<'_, S>,
+    alloc: Global,
+    meeting: MeetingId,
+    party: Party,
+) -> Result<Listing<Appointment>, ReadFault>
+    ensures same_reference { tx.new.conn.ghost_name ≡ tx.old.conn.ghost_name }
+    ensures told { IsToldOf S.Store tx.old.conn.now tx.new.conn.now result
+        (λ office received. received ≡ filter (names party) (appointments_in (meeting_at office meeting))) }
+{
+    items(
+        alloc,
+        found(alloc, appointments::naming(tx, meeting, party)),
+    )
+}
+
+/// A member's endings of its appointments (section 330), in order of receipt.
+pub(crate) fn ended_by<S: Alter>(
+    tx: &mut Transaction<'_, S>,
+    alloc: Global,
+    meeting: MeetingId,
+    member: Party,
+) -> Result<Listing<Ending>, ReadFault>
+    ensures same_reference { tx.new.conn.ghost_name ≡ tx.old.conn.ghost_name }
+    ensures told { IsToldOf S.Store tx.old.conn.now tx.new.conn.now result
+        (λ office ended. ended ≡ filter (is_ended_of member) (endings_in (meeting_at office meeting))) }
+{
+    items(alloc, found(alloc, endings::made_by(tx, meeting, member)))
+}
+
+/// The authorities that a party gave (section 323), in order of receipt.
+pub(crate) fn persons_of<S: Alter>(
+    tx: &mut Transaction<'_, S>,
+    alloc: Global,
+    meeting: MeetingId,
+    party: Party,
+) -> Result<Listing<Authority>, ReadFault>
+    ensures same_reference { tx.new.conn.ghost_name ≡ tx.old.conn.ghost_name }
+    ensures told { IsToldOf S.Store tx.old.conn.now tx.new.conn.now result
+        (λ office persons. persons
+        ≡ filter (is_authority_of party) (authorities_in (meeting_at office meeting))) }
+{
+    items(
+        alloc,
+        found(alloc, authorities::given_by(tx, meeting, party)),
+    )
+}
+
+/// The authorities that were given to a party (section 323), in order of receipt.
+pub(crate) fn trusting<S: Alter>(
+    tx: &mut Transaction<'_, S>,
+    alloc: Global,
+    meeting: MeetingId,
+    party: Party,
+) -> Result<Listing<Authority>, ReadFault>
+    ensures same_reference { tx.new.conn.ghost_name ≡ tx.old.conn.ghost_name }
+    ensures told { IsToldOf S.Store tx.old.conn.now tx.new.conn.now result
+        (λ office given. given ≡ filter (authorises party) (authorities_in (meeting_at office meeting))) }
+{
+    items(alloc, found(alloc, authorities::naming(tx, meeting, party)))
+}
+
+/// Whether a party is marked present (section 318).
+pub(crate) fn is_present<S: Alter>(
+    tx: &mut Transaction<'_, S>,
+    alloc: Global,
+    meeting: MeetingId,
+    party: Party,
+) -> Result<bool, ReadFault>
+    ensures same_reference { tx.new.conn.ghost_name ≡ tx.old.conn.ghost_name }
+    ensures told { IsToldOf S.Store tx.old.conn.now tx.new.conn.now result
+        (λ office present. present
+        ≡ list_any (is_presence_of party) (presences_in (meeting_at office meeting))) }
+{
+    let marks: Listing<PresenceMark> = items(
+        alloc,
+        found(alloc, presences::of_party(tx, meeting, party)),
+    )?;
+    Ok(!marks.is_empty())
+}
+
+/// The polls that a party demanded (sections 321 and 329), in order of receipt.
+pub(crate) fn demands_of<S: Alter>(
+    tx: &mut Transaction<'_, S>,
+    alloc: Global,
+    meeting: MeetingId,
+    party: Party,
+) -> Result<Listing<DemandMark>, ReadFault>
+    ensures same_reference { tx.new.conn.ghost_name ≡ tx.old.conn.ghost_name }
+    ensures told { IsToldOf S.Store tx.old.conn.now tx.new.conn.now result
+        (λ office demands. demands
+        ≡ filter (is_demanded_by party) (demands_in (meeting_at office meeting))) }
+{
+    items(alloc, found(alloc, demands::made_by(tx, meeting, party)))
+}
+
+/// The votes that a party cast (sections 284 and 322), in order of receipt.
+pub(crate) fn casts_of<S: Alter>(
+    tx: &mut Transaction<'_, S>,
+    alloc: Global,
+    meeting: MeetingId,
+    party: Party,
+) -> Result<Listing<CastMark>, ReadFault>
+    ensures same_reference { tx.new.conn.ghost_name ≡ tx.old.conn.ghost_name }
+    ensures told { IsToldOf S.Store tx.old.conn.now tx.new.conn.now result
+        (λ office casts. casts ≡ filter (is_cast_by party) (casts_in (meeting_at office meeting))) }
+{
+    items(alloc, found(alloc, casts::cast_by(tx, meeting, party)))
+}
