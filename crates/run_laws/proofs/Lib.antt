@@ -1,11 +1,14 @@
 mod DeskLemmas
 mod FoundLemmas
-mod HiddenLemmas
-mod ListLemmas
+mod HiddenChanges
+mod HiddenOffices
+mod HiddenParties
+pub mod ListLemmas
 mod OfficeLemmas
 mod PartLemmas
 mod PartyLemmas
 mod RunLemmas
 mod SecretRuns
+mod SecretSteps
 mod WrongCloses
 mod WrongRuns

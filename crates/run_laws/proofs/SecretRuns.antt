@@ -1,193 +1,161 @@
--- Runs with the votes on a resolution, and without them.
-use Rattle.std.proofs.Common.{◌≡◌, ℕ, true, false, ◌&&◌, ◌||◌, not, cond, List, [], ◌∷◌, refl, ap, sym, ◌∙◌}
-use Rattle.std.specs.Prelude.{Some, None, option_map}
+-- Runs keep secrets where each step does.
+use Rattle.std.proofs.Common.{true≢false, ◌≡◌, ℕ, Bool, true, false, not, cond, List, [], ◌∷◌, refl, ap, sym, ◌∙◌, subst}
 use Rattle.std.specs.Cmp.{first_so, second_so}
+use Rattle.std.specs.Cmp.Derive.{both_true}
+use Rattle.std.proofs.lemmas.Bool.{not-true}
 use Rattle.desk_terms.specs.Names.{same_name}
-use Rattle.desk_words.specs.Changes.{empty_office}
-use Rattle.desk_words.specs.declared.answer.Answer.{Answer}
+use Rattle.desk_words.proofs.RowLemmas.{same_name-true}
+use Rattle.desk_words.specs.Office.{implies}
 use Rattle.desk_words.specs.declared.caller.Caller.{Caller}
 use Rattle.desk_words.specs.declared.caller.Caller.TheVariants as caller
-use Rattle.desk_words.specs.declared.change.Change.{Change}
 use Rattle.desk_words.specs.declared.office.OfficeLists.{OfficeLists}
+use Rattle.desk_words.specs.declared.reply.Reply.{Reply}
 use Rattle.desk_words.specs.declared.request.Call.{Call}
-use Rattle.desk_words.specs.declared.request.PartyRequest.TheVariants.{Cast, Instructed}
-use Rattle.desk_words.specs.declared.request.Request.{Request}
-use Rattle.desk_words.specs.declared.request.Request.TheVariants as asked
-use Rattle.caller_view.specs.Public.{PublicRecord}
-use Rattle.caller_view.specs.Reads.{own_read}
 use Rattle.caller_view.specs.Views.{public_of}
-use Rattle.meeting_core.specs.Step.{decided, stepped}
-use Rattle.meeting_laws.specs.Reads.{ReadsEnough}
-use Rattle.meeting_laws.specs.Secrecy.{TheOfficeIsToldOfNoVotes}
-use Rattle.run_laws.specs.Parts.{Viewer, is_source}
-use Rattle.run_laws.specs.Secrecy.{VotesAreSecretToParties, VotesAreSecretToTheOffice, declares_now, hidden, is_undeclared, is_party, is_vote_call, is_vote_in, is_vote_of_another, replies_to_office, without}
-use Rattle.run_laws.specs.Traces.{run_by, Office, Whole, behind, gives, is_by, shown_by, shown_of, told_of, trace_of, viewer_of}
-use Rattle.run_laws.proofs.DeskLemmas.{desk_steps}
-use Rattle.run_laws.proofs.HiddenLemmas.{declaration-alike, hidden-public, office-step, undeclared-answer, undeclared-other, party-step, vote-step}
-use Rattle.run_laws.proofs.OfficeLemmas.{office_after}
-use Rattle.run_laws.proofs.RunLemmas.{calls_isolated}
+use Rattle.meeting_laws.specs.Loads.{Deciding, after_call}
+use Rattle.run_laws.specs.Secrecy.{KeepsSecretsInRuns, KeepsSecretsInSteps, StepsKeepSecretsInRuns, VotesAreSecret, are_before, replies_to_office}
+use Rattle.run_laws.specs.Traces.{is_by, replies_to, run_by}
+use Rattle.run_laws.specs.Votes.{AreSameBut, Secret, but_result, is_declared_in, is_other_party, is_secret_call, is_the_office, is_voter, is_vote_in, without}
+use Rattle.run_laws.proofs.HiddenOffices.{hidden-declared, hidden-public}
+use Rattle.run_laws.proofs.ListLemmas.{all-of, filter-among, implied}
 
--- what is known of single calls: the office is told of no votes, and what a request reads is enough
-pub record Known : Type 0 where
-  pub office : TheOfficeIsToldOfNoVotes
-  pub reads : ReadsEnough own_read
+-- ---- two offices that are the same but for the secret votes
 
--- two offices that are the same without the votes on a resolution
-abbrev Same : List ℕ → ℕ → OfficeLists → OfficeLists → Type 0
-Same id resolution one other = hidden id resolution one ≡ hidden id resolution other
+-- have both declared the resolution, or neither
+same-declared : (secret : Secret) (one other : OfficeLists) → AreSameBut secret one other → is_declared_in secret one ≡ is_declared_in secret other
+same-declared secret one other same = sym (hidden-declared secret one) ∙ ap (is_declared_in secret) same ∙ hidden-declared secret other
 
--- have the same public records
-public-same : (id : List ℕ) (resolution : ℕ) (one other : OfficeLists) → Same id resolution one other → (at : List ℕ) → public_of one at ≡ public_of other at
-public-same id resolution one other same at =
-    sym (hidden-public one id resolution at) ∙ ap (λ o. public_of o at) same ∙ hidden-public other id resolution at
+-- and have the same public records before that
+same-public : (secret : Secret) (one other : OfficeLists) → AreSameBut secret one other → is_declared_in secret one ≡ false → (at : List ℕ) → public_of one at ≡ public_of other at
+same-public secret one other same none at =
+    sym (hidden-public secret one at none) ∙ ap (λ o. public_of o at) same ∙ hidden-public secret other at (sym (same-declared secret one other same) ∙ none)
 
--- ---- one call
+-- ---- a list of calls, and the calls of it that are kept
 
--- a call that does not declare the resolution in an office
-abbrev Undeclared : List ℕ → ℕ → OfficeLists → Call → Type 0
-Undeclared id resolution o call = not (declares_now decided id resolution o call) ≡ true
+-- the calls that are kept, in an office, come before the declaration
+abbrev Before : Deciding → Secret → OfficeLists → List Call → Type 0
+Before deciding secret o calls = are_before deciding secret o calls ≡ true
 
-both-step : Known → (id : List ℕ) (resolution : ℕ) (one other : OfficeLists) (now : ℕ) (who : Caller) (request : Request)
-    → Undeclared id resolution one (record { moment = now; caller = who; request = request }) → Same id resolution one other
-    → Same id resolution (stepped one (record { moment = now; caller = who; request = request })) (stepped other (record { moment = now; caller = who; request = request }))
-both-step known id resolution one other now caller.Office request before same =
-    office-step one id resolution now request (undeclared-answer known.office one id resolution now request before) ∙ ap (λ o. office_after o now request) same
-    ∙ sym (office-step other id resolution now request (undeclared-answer known.office other id resolution now request (undeclared-other one other id resolution now request same before)))
-both-step known id resolution one other now (caller.Party party) request before same =
-    (elim (is_vote_in id resolution request) as (λ b. is_vote_in id resolution request ≡ b
-    → Same id resolution (stepped one (record { moment = now; caller = caller.Party party; request = request })) (stepped other (record { moment = now; caller = caller.Party party; request = request }))) [
-      | true ↦ λ vote. vote-step one id resolution now party request vote ∙ same ∙ sym (vote-step other id resolution now party request vote)
-      | false ↦ λ none. party-step known.reads one id resolution now party request none
-          ∙ ap (λ o. stepped o (record { moment = now; caller = caller.Party party; request = request })) same
-          ∙ sym (party-step known.reads other id resolution now party request none)
+-- the replies to a party in two runs are the same
+abbrev RepliedAlike : Deciding → List ℕ → OfficeLists → OfficeLists → List Call → List Call → Type 0
+RepliedAlike deciding party one other calls kept =
+    replies_to party calls (run_by deciding one calls).replies ≡ replies_to party kept (run_by deciding other kept).replies
+
+-- they end alike, where the kept calls come before the declaration
+record Ends (deciding : Deciding) (secret : Secret) (one other : OfficeLists) (calls kept : List Call) : Type 0 where
+  office : replies_to_office secret calls (run_by deciding one calls).replies ≡ replies_to_office secret kept (run_by deciding other kept).replies
+  parties : Before deciding secret other kept → (party : List ℕ) → secret.voters party ≡ false → RepliedAlike deciding party one other calls kept
+  before : Before deciding secret one calls → Before deciding secret other kept
+  offices : AreSameBut secret (run_by deciding one calls).office (run_by deciding other kept).office
+
+-- who calls is no party
+voter-calls : (voters : List ℕ → Bool) (who : Caller) → is_voter voters who ≡ true → is_the_office who ≡ false
+voter-calls voters caller.Office voter = absurd (true≢false (sym voter))
+voter-calls voters (caller.Party party) voter = refl
+
+-- a voter that calls is not a party that is no voter
+voter-other : (voters : List ℕ → Bool) (who : Caller) (party : List ℕ) → is_voter voters who ≡ true → voters party ≡ false → is_by party who ≡ false
+voter-other voters caller.Office party voter other = refl
+voter-other voters (caller.Party name) party voter other =
+    (elim (same_name name party) as (λ b. same_name name party ≡ b → b ≡ false) [
+      | true ↦ λ is. absurd (true≢false (sym voter ∙ ap voters (same_name-true name party is) ∙ other))
+      | false ↦ λ _. refl
     ]) refl
 
--- keeps them the same
-same-after : Known → (id : List ℕ) (resolution : ℕ) (one other : OfficeLists) (call : Call) → Undeclared id resolution one call → Same id resolution one other
-    → Same id resolution (stepped one call) (stepped other call)
-same-after known id resolution one other call before same = both-step known id resolution one other call.moment call.caller call.request before same
+-- a party that calls and is no voter
+other-calls : (voters : List ℕ → Bool) (who : Caller) (party : List ℕ) → is_by party who ≡ true → voters party ≡ false → is_other_party voters who ≡ true
+other-calls voters caller.Office party by other = by
+other-calls voters (caller.Party name) party by other = ap (λ b. not b) (ap voters (same_name-true name party by) ∙ other)
 
-voted : (id : List ℕ) (resolution : ℕ) (o : OfficeLists) (now : ℕ) (who : Caller) (request : Request) → (is_party who && is_vote_in id resolution request) ≡ true
-    → Same id resolution (stepped o (record { moment = now; caller = who; request = request })) o
-voted id resolution o now caller.Office request h = absurd (cc)
-voted id resolution o now (caller.Party party) request h = vote-step o id resolution now party request h
-
--- and so does a vote on it in one of them
-same-voted : (id : List ℕ) (resolution : ℕ) (one other : OfficeLists) (call : Call) → is_vote_call id resolution call ≡ true → Same id resolution one other
-    → Same id resolution (stepped one call) other
-same-voted id resolution one other call vote same = voted id resolution one call.moment call.caller call.request vote ∙ same
-
--- the office is answered alike
-answered-office : Known → (id : List ℕ) (resolution : ℕ) (one other : OfficeLists) (now : ℕ) (who : Caller) (request : Request)
-    → Undeclared id resolution one (record { moment = now; caller = who; request = request }) → is_party who ≡ false → Same id resolution one other
-    → (decided one (record { moment = now; caller = who; request = request })).reply ≡ (decided other (record { moment = now; caller = who; request = request })).reply
-answered-office known id resolution one other now caller.Office request before office same =
-    ap (λ (a : Answer Change). a.reply)
-    (sym (undeclared-answer known.office one id resolution now request before) ∙ ap (λ o. decided o (record { moment = now; caller = caller.Office; request = request })) same
-    ∙ undeclared-answer known.office other id resolution now request (undeclared-other one other id resolution now request same before))
-answered-office known id resolution one other now (caller.Party party) request before office same = absurd (cc)
-
--- ---- the replies to the office
-
-record Ends (id : List ℕ) (resolution : ℕ) (one other : OfficeLists) (calls kept : List Call) : Type 0 where
-  replies : replies_to_office calls (run_by decided one calls).replies ≡ replies_to_office kept (run_by decided other kept).replies
-  same : Same id resolution (run_by decided one calls).office (run_by decided other kept).office
-
--- one call more, which is a vote and is left out
-more-out : (id : List ℕ) (resolution : ℕ) (one other : OfficeLists) (call : Call) (calls kept : List Call) → is_party call.caller ≡ true
-    → Ends id resolution (stepped one call) other calls kept → Ends id resolution one other (call ∷ calls) kept
-more-out id resolution one other call calls kept party ends = record {
-  replies = ap (λ b. cond b (replies_to_office calls (run_by decided (stepped one call) calls).replies) ((decided one call).reply ∷ replies_to_office calls (run_by decided (stepped one call) calls).replies)) party
-      ∙ ends.replies;
-  same = ends.same;
-}
-
--- one call more in both
-more-in : (id : List ℕ) (resolution : ℕ) (one other : OfficeLists) (call : Call) (calls kept : List Call)
-    → (is_party call.caller ≡ false → (decided one call).reply ≡ (decided other call).reply)
-    → Ends id resolution (stepped one call) (stepped other call) calls kept → Ends id resolution one other (call ∷ calls) (call ∷ kept)
-more-in id resolution one other call calls kept alike ends = record {
-  replies = (elim (is_party call.caller) as (λ b. is_party call.caller ≡ b
-      → cond b (replies_to_office calls (run_by decided (stepped one call) calls).replies) ((decided one call).reply ∷ replies_to_office calls (run_by decided (stepped one call) calls).replies)
-      ≡ cond b (replies_to_office kept (run_by decided (stepped other call) kept).replies) ((decided other call).reply ∷ replies_to_office kept (run_by decided (stepped other call) kept).replies)) [
-        | true ↦ λ party. ends.replies
-        | false ↦ λ office. (let reply = alike office in λ i. reply i ∷ ends.replies i)
-      ]) refl;
-  same = ends.same;
-}
-
-office-told : Known → (id : List ℕ) (resolution : ℕ) (calls : List Call) (one other : OfficeLists) → is_undeclared decided id resolution one calls ≡ true → Same id resolution one other
-    → Ends id resolution one other calls (without (is_vote_call id resolution) calls)
-office-told known id resolution [] one other before same = record { replies = refl; same = same }
-office-told known id resolution (call ∷ calls) one other before same =
-    let here = first_so (not (declares_now decided id resolution one call)) (is_undeclared decided id resolution (stepped one call) calls) before in
-    let later = second_so (not (declares_now decided id resolution one call)) (is_undeclared decided id resolution (stepped one call) calls) before in
-    (elim (is_vote_call id resolution call) as (λ b. is_vote_call id resolution call ≡ b
-    → Ends id resolution one other (call ∷ calls) (cond (not b) (call ∷ without (is_vote_call id resolution) calls) (without (is_vote_call id resolution) calls))) [
-      | true ↦ λ vote. more-out id resolution one other call calls (without (is_vote_call id resolution) calls) (first_so (is_party call.caller) (is_vote_in id resolution call.request) vote)
-          (office-told known id resolution calls (stepped one call) other later (same-voted id resolution one other call vote same))
-      | false ↦ λ none. more-in id resolution one other call calls (without (is_vote_call id resolution) calls)
-          (λ office. answered-office known id resolution one other call.moment call.caller call.request here office same)
-          (office-told known id resolution calls (stepped one call) (stepped other call) later (same-after known id resolution one other call here same))
-    ]) refl
-
-pub secret_to_office : Known → VotesAreSecretToTheOffice decided
-secret_to_office known id resolution office calls before =
-    let kept = without (is_vote_call id resolution) calls in
-    let ends = office-told known id resolution calls office office before refl in record {
-      replies = ends.replies;
-      public = public-same id resolution (run_by decided office calls).office (run_by decided office kept).office ends.same;
-      refusal = λ now. declaration-alike (run_by decided office calls).office (run_by decided office kept).office id resolution now ends.same;
+-- one call more, which is a secret vote and is left out
+more-out : (deciding : Deciding) → KeepsSecretsInSteps deciding → (secret : Secret) (one other : OfficeLists) (call : Call) (calls kept : List Call) → is_secret_call secret call ≡ true
+    → Ends deciding secret (after_call deciding one call) other calls kept → Ends deciding secret one other (call ∷ calls) kept
+more-out deciding law secret one other call calls kept vote ends =
+    let voter = first_so (is_voter secret.voters call.caller) (is_vote_in secret.meeting secret.resolution call.request) vote in
+    let later = run_by deciding (after_call deciding one call) calls in record {
+      office = ap (λ b. cond b (but_result secret call.request (deciding one call).reply ∷ replies_to_office secret calls later.replies) (replies_to_office secret calls later.replies))
+          (voter-calls secret.voters call.caller voter)
+          ∙ ends.office;
+      parties = λ before party other_party.
+          ap (λ b. cond b ((deciding one call).reply ∷ replies_to party calls later.replies) (replies_to party calls later.replies)) (voter-other secret.voters call.caller party voter other_party)
+          ∙ ends.parties before party other_party;
+      before = λ before. ends.before (second_so (not (is_declared_in secret one)) (are_before deciding secret (after_call deciding one call) calls) before);
+      offices = ends.offices;
     }
 
--- ---- the replies to a party
+-- one call more in both
+more-in : (deciding : Deciding) → KeepsSecretsInSteps deciding → (secret : Secret) (one other : OfficeLists) (call : Call) (calls kept : List Call) → AreSameBut secret one other
+    → Ends deciding secret (after_call deciding one call) (after_call deciding other call) calls kept → Ends deciding secret one other (call ∷ calls) (call ∷ kept)
+more-in deciding law secret one other call calls kept same ends = record {
+  office = (elim (is_the_office call.caller) as (λ b. is_the_office call.caller ≡ b
+      → cond b (but_result secret call.request (deciding one call).reply ∷ office_one) office_one ≡ cond b (but_result secret call.request (deciding other call).reply ∷ office_other) office_other) [
+        | true ↦ λ office. (let told = law.office secret one other call same office in let rest = ends.office in λ i. told i ∷ rest i)
+        | false ↦ λ party. ends.office
+      ]) refl;
+  parties = λ before party other_party.
+      (let here = first_so (not (is_declared_in secret other)) (are_before deciding secret (after_call deciding other call) kept) before in
+      let rest = ends.parties (second_so (not (is_declared_in secret other)) (are_before deciding secret (after_call deciding other call) kept) before) party other_party in
+      (elim (is_by party call.caller) as (λ b. is_by party call.caller ≡ b
+      → cond b ((deciding one call).reply ∷ party_one party) (party_one party) ≡ cond b ((deciding other call).reply ∷ party_other party) (party_other party)) [
+        | true ↦ λ by. (
+            let told = law.parties secret one other call same (ap not (same-declared secret one other same) ∙ here) (other-calls secret.voters call.caller party by other_party) in
+            λ i. told i ∷ rest i)
+        | false ↦ λ _. rest
+      ]) refl);
+  before = λ before. both_true
+      (sym (ap not (same-declared secret one other same)) ∙ first_so (not (is_declared_in secret one)) (are_before deciding secret (after_call deciding one call) calls) before)
+      (ends.before (second_so (not (is_declared_in secret one)) (are_before deciding secret (after_call deciding one call) calls) before));
+  offices = ends.offices;
+}
+  where
+    office_one : List Reply
+    office_one = replies_to_office secret calls (run_by deciding (after_call deciding one call) calls).replies
 
--- a vote gives nothing
-vote-gives : (id : List ℕ) (resolution : ℕ) (request : Request) → is_vote_in id resolution request ≡ true → gives request ≡ false
-vote-gives id resolution (asked.Party at (Cast new)) h = refl
-vote-gives id resolution (asked.Party at (Instructed number)) h = refl
-vote-gives id resolution (asked.Party at other) h =
-    let no : false ≡ true = second_so (same_name at id) false h in absurd (cc)
-vote-gives id resolution other h = absurd (cc)
+    office_other : List Reply
+    office_other = replies_to_office secret kept (run_by deciding (after_call deciding other call) kept).replies
 
--- so the vote of another is not shown
-hidden-shown : (viewer : Viewer) (after : List ℕ → PublicRecord) (call : Call) (who : Caller) → is_party who ≡ true → gives call.request ≡ false → not (is_by viewer.party who) ≡ true
-    → shown_by viewer after call who ≡ None
-hidden-shown viewer after call caller.Office party none other = absurd (cc)
-hidden-shown viewer after call (caller.Party party) is none other =
-    ap (λ b. cond (same_name party viewer.party || (b && is_source viewer party)) (Some (Whole call)) None) none
-    ∙ (elim (same_name party viewer.party) as (λ b. not b ≡ true → cond (b || false) (Some (Whole call)) None ≡ None) [ true ↦ λ h. absurd (cc) | false ↦ λ h. refl ]) other
+    party_one : List ℕ → List Reply
+    party_one party = replies_to party calls (run_by deciding (after_call deciding one call) calls).replies
 
--- what is shown of a call, in two offices that are the same without the votes
-shown-alike : (viewer : Viewer) (one other : List ℕ → PublicRecord) (call : Call) (who : Caller) → ((at : List ℕ) → one at ≡ other at) → shown_by viewer one call who ≡ shown_by viewer other call who
-shown-alike viewer one other call caller.Office same = λ i. option_map (λ told. Office told (λ at. same at i)) (told_of viewer call.moment call.request)
-shown-alike viewer one other call (caller.Party party) same = refl
+    party_other : List ℕ → List Reply
+    party_other party = replies_to party kept (run_by deciding (after_call deciding other call) kept).replies
 
-trace-alike : Known → (id : List ℕ) (resolution : ℕ) (viewer : Viewer) (calls : List Call) (one other : OfficeLists) → is_undeclared decided id resolution one calls ≡ true → Same id resolution one other
-    → trace_of decided viewer one calls ≡ trace_of decided viewer other (without (is_vote_of_another id resolution viewer.party) calls)
-trace-alike known id resolution viewer [] one other before same = refl
-trace-alike known id resolution viewer (call ∷ calls) one other before same =
-    let test = is_vote_of_another id resolution viewer.party in
-    let here = first_so (not (declares_now decided id resolution one call)) (is_undeclared decided id resolution (stepped one call) calls) before in
-    let later = second_so (not (declares_now decided id resolution one call)) (is_undeclared decided id resolution (stepped one call) calls) before in
-    (elim (is_vote_of_another id resolution viewer.party call) as (λ b. is_vote_of_another id resolution viewer.party call ≡ b
-    → behind (shown_of decided viewer one call) (trace_of decided viewer (stepped one call) calls)
-    ≡ trace_of decided viewer other (cond (not b) (call ∷ without (is_vote_of_another id resolution viewer.party) calls) (without (is_vote_of_another id resolution viewer.party) calls))) [
-      | true ↦ λ out. (
-          let vote : is_vote_call id resolution call ≡ true = first_so (is_vote_call id resolution call) (not (is_by viewer.party call.caller)) out in
-          let another = second_so (is_vote_call id resolution call) (not (is_by viewer.party call.caller)) out in
-          let party = first_so (is_party call.caller) (is_vote_in id resolution call.request) vote in
-          let none = vote-gives id resolution call.request (second_so (is_party call.caller) (is_vote_in id resolution call.request) vote) in
-          ap (λ shown. behind shown (trace_of decided viewer (stepped one call) calls)) (hidden-shown viewer (public_of (stepped one call)) call call.caller party none another)
-          ∙ trace-alike known id resolution viewer calls (stepped one call) other later (same-voted id resolution one other call vote same))
-      | false ↦ λ kept. (
-          let after = same-after known id resolution one other call here same in
-          let shown = shown-alike viewer (public_of (stepped one call)) (public_of (stepped other call)) call call.caller (public-same id resolution (stepped one call) (stepped other call) after) in
-          let rest = trace-alike known id resolution viewer calls (stepped one call) (stepped other call) later after in
-          λ i. behind (shown i) (rest i))
+left-out : (deciding : Deciding) → KeepsSecretsInSteps deciding → (secret : Secret) (calls : List Call) (one other : OfficeLists) → AreSameBut secret one other
+    → Ends deciding secret one other calls (without (is_secret_call secret) calls)
+left-out deciding law secret [] one other same = record { office = refl; parties = λ before party other_party. refl; before = λ before. refl; offices = same }
+left-out deciding law secret (call ∷ calls) one other same =
+    let kept = without (is_secret_call secret) calls in
+    (elim (is_secret_call secret call) as (λ b. is_secret_call secret call ≡ b → Ends deciding secret one other (call ∷ calls) (cond (not b) (call ∷ kept) kept)) [
+      | true ↦ λ vote. more-out deciding law secret one other call calls kept vote
+          (left-out deciding law secret calls (after_call deciding one call) other (law.voted secret one call vote ∙ same))
+      | false ↦ λ none. more-in deciding law secret one other call calls kept same
+          (left-out deciding law secret calls (after_call deciding one call) (after_call deciding other call) (law.kept secret one other call same))
     ]) refl
 
-pub secret_to_parties : Known → VotesAreSecretToParties decided
-secret_to_parties known id resolution party calls before =
-    let kept = without (is_vote_of_another id resolution party) calls in
-    calls_isolated decided desk_steps party calls kept (trace-alike known id resolution (viewer_of party calls kept) calls empty_office empty_office before refl)
+-- ---- two lists of which the same calls are kept
+
+pub secrets_kept_in_runs : StepsKeepSecretsInRuns
+secrets_kept_in_runs deciding law secret one other calls again same rest =
+    let kept = without (is_secret_call secret) calls in
+    let first = left-out deciding law secret calls one other same in
+    let second : Ends deciding secret other other again kept = ends-with (sym rest) in record {
+      office = first.office ∙ sym second.office;
+      parties = λ before party open_party.
+          (let other_party = not-true (secret.voters party) open_party in
+          let kept_before = first.before before in first.parties kept_before party other_party ∙ sym (second.parties kept_before party other_party));
+      offices = first.offices ∙ sym second.offices;
+      public = λ none meeting.
+          same-public secret (run_by deciding one calls).office (run_by deciding other again).office (first.offices ∙ sym second.offices) (not-true (is_declared_in secret (run_by deciding one calls).office) none) meeting;
+    }
+  where
+    ends-with : {kept : List Call} → without (is_secret_call secret) again ≡ kept → Ends deciding secret other other again kept
+    ends-with e = subst (λ kept. Ends deciding secret other other again kept) e (left-out deciding law secret again other other refl)
+
+-- what is left out once is left out
+without-again : (test : Call → Bool) (calls : List Call) → without test (without test calls) ≡ without test calls
+without-again test calls =
+    let stays = λ (call : Call). not (test call) in
+    filter-among stays stays calls (all-of (λ call. implies (stays call) (stays call)) calls (λ call. implied (stays call) (stays call) (λ h. h)))
+
+pub votes_left_out : (deciding : Deciding) → KeepsSecretsInRuns deciding → VotesAreSecret deciding
+votes_left_out deciding law secret office calls = law secret office office calls (without (is_secret_call secret) calls) refl (sym (without-again (is_secret_call secret) calls))

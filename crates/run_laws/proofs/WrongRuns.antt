@@ -21,6 +21,7 @@ use Rattle.meeting_laws.specs.Loads.{Deciding, after_call}
 use Rattle.meeting_laws.specs.WrongAnswers.{a_meeting, a_member, another, meeting_with, office_with, one_share}
 use Rattle.run_laws.specs.Isolation.{Alike, IsolatesRuns}
 use Rattle.run_laws.specs.Parts.{IsSourced, Viewer, is_near, is_sourced_in, rows_near}
+use Rattle.run_laws.specs.WrongMoments.{another_meeting, appoints_elsewhere, asks_notice, meeting_elsewhere, moves_the_record, office_of_both}
 use Rattle.run_laws.specs.WrongTellings.{load_of, loaded_alone, loaded_both, meeting_unloaded, tells_the_place, the_other, both_authorise, both_demand, limits_all, meeting_of_unequals, meeting_with_authorities, meeting_with_proxy, member_asks, member_authorises, member_demands, office_of, proxy_votes_first, tells_votes_on_shares, tells_whether_enough}
 use Rattle.run_laws.specs.Traces.{Office, Register, Whole}
 use Rattle.run_laws.specs.WrongWays.{call_by, TellsRunsApart, both_appoint, both_vote, member_appoints, member_votes, tells_all_numbers, tells_the_count, the_member}
@@ -157,6 +158,31 @@ place_apart = record {
   near_again = refl;
   same = λ i. Office (Register a_meeting 0 0 (λ member. rows-same member i)) (λ id. public-same id i) ∷ Whole (call_by another Mine) ∷ [];
   apart = λ h. (let told : 1 ≡ 2 = ap place_told h in absurd (omega arith));
+}
+
+-- ---- a record moment
+
+-- nobody named or authorised the member in either meeting
+sourced_both : IsSourced the_member office_of_both
+sourced_both id =
+    elim (same_name a_meeting id) as (λ b. is_sourced_in the_member (cond b (Some (meeting_with [])) (cond (same_name another_meeting id) (Some meeting_elsewhere) None)) ≡ true) [
+      | true ↦ refl
+      | false ↦ elim (same_name another_meeting id) as (λ b. is_sourced_in the_member (cond b (Some meeting_elsewhere) None) ≡ true) [ true ↦ refl | false ↦ refl ]
+    ]
+
+-- the record moment that the last reply shows
+abbrev moment_told : List Reply → ℕ
+moment_told (reply.Notice notice ∷ replies) = notice.record_moment
+moment_told other = 0
+
+pub record_apart : TellsRunsApart moves_the_record the_member office_of_both asks_notice appoints_elsewhere
+record_apart = record {
+  is_one = refl;
+  alike = record { parts = λ id. refl; first = sourced_both; second = sourced_both };
+  near = refl;
+  near_again = refl;
+  same = refl;
+  apart = λ h. (let told : 0 ≡ 1 = ap moment_told h in absurd (omega arith));
 }
 
 -- what tells two such lists apart breaks the law

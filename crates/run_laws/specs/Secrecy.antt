@@ -1,130 +1,88 @@
 -- Secrecy of votes: before a resolution is declared, nobody but the voter is answered otherwise for
--- a vote on it.
-use Rattle.std.specs.Prelude.{◌≡◌, Bool, true, false, ◌&&◌, not, ◌==◌, List, [], ◌∷◌, filter, if◌then◌else◌, IsTrue}
-use Rattle.desk_terms.specs.Names.{same_name}
-use Rattle.desk_words.specs.Changes.{change_meeting, empty_office}
-use Rattle.desk_words.specs.Rulings.{is_refused, refusal_in}
-use Rattle.desk_words.specs.Seen.{MeetingName, Moment, Number, Party}
-use Rattle.desk_words.specs.declared.caller.Caller.{Caller}
-use Rattle.desk_words.specs.declared.caller.Caller.TheVariants as caller
-use Rattle.desk_words.specs.declared.office.MeetingLists.{MeetingLists}
+-- a vote on it; the office is told of the votes by the declaration alone.
+use Rattle.std.specs.Prelude.{◌≡◌, Bool, true, ◌&&◌, not, List, [], ◌∷◌, if◌then◌else◌, IsTrue}
+use Rattle.desk_words.specs.Seen.{MeetingName, Party}
 use Rattle.desk_words.specs.declared.office.OfficeLists.{OfficeLists}
 use Rattle.desk_words.specs.declared.reply.Reply.{Reply}
 use Rattle.desk_words.specs.declared.request.Call.{Call}
-use Rattle.desk_words.specs.declared.request.OfficeRequest.TheVariants.{Declare}
-use Rattle.desk_words.specs.declared.request.PartyRequest.{PartyRequest}
-use Rattle.desk_words.specs.declared.request.PartyRequest.TheVariants.{Cast, Instructed}
-use Rattle.desk_words.specs.declared.request.Request.{Request}
-use Rattle.desk_words.specs.declared.request.Request.TheVariants as asked
 use Rattle.caller_view.specs.Views.{public_of}
 use Rattle.meeting_laws.specs.Loads.{Deciding, after_call}
-use Rattle.meeting_laws.specs.Secrecy.{casts_off, declares, with_casts}
-use Rattle.run_laws.specs.Traces.{is_by, replies_to, run_by}
+use Rattle.run_laws.specs.Traces.{replies_to, run_by}
+use Rattle.run_laws.specs.Votes.{AreSameBut, Secret, but_result, is_declared_in, is_other_party, is_secret_call, is_the_office, without}
 
--- a meeting without the votes on a resolution
-abbrev pub hidden_in : Number → MeetingLists → MeetingLists
-hidden_in resolution m = with_casts (casts_off resolution m.casts) m
+-- one step keeps secrets: a call leaves two offices the same but for the secret votes; one of these
+-- votes leaves an office the same but for them; the office is replied the same in both, but for the
+-- result where it declares the resolution; and until the resolution is declared, so is any party
+-- that is none of the voters
+pub record KeepsSecretsInSteps (deciding : Deciding) : Type 0 where
+  pub kept : (secret : Secret) (one other : OfficeLists) (call : Call)
+      → AreSameBut secret one other
+      → AreSameBut secret (after_call deciding one call) (after_call deciding other call)
+  pub voted : (secret : Secret) (office : OfficeLists) (call : Call)
+      → IsTrue (is_secret_call secret call)
+      → AreSameBut secret (after_call deciding office call) office
+  pub office : (secret : Secret) (one other : OfficeLists) (call : Call)
+      → AreSameBut secret one other
+      → IsTrue (is_the_office call.caller)
+      → but_result secret call.request (deciding one call).reply
+      ≡ but_result secret call.request (deciding other call).reply
+  pub parties : (secret : Secret) (one other : OfficeLists) (call : Call)
+      → AreSameBut secret one other
+      → IsTrue (not (is_declared_in secret one))
+      → IsTrue (is_other_party secret.voters call.caller)
+      → (deciding one call).reply ≡ (deciding other call).reply
 
--- an office without the votes on a resolution of the meeting of a name
-abbrev pub hidden : MeetingName → Number → OfficeLists → OfficeLists
-hidden meeting resolution office = change_meeting (hidden_in resolution) meeting office
+-- each call of a list is made before the resolution is declared
+abbrev pub are_before : Deciding → Secret → OfficeLists → List Call → Bool
+are_before deciding secret office [] = true
+are_before deciding secret office (call ∷ calls) =
+    not (is_declared_in secret office)
+    && are_before deciding secret (after_call deciding office call) calls
 
--- it is a vote on the resolution
-abbrev pub is_vote : Number → PartyRequest → Bool
-is_vote resolution (Cast new) = new.resolution == resolution
-is_vote resolution (Instructed other) = other == resolution
-is_vote resolution other = false
+-- the replies to the office, among those to a list of calls, but for the result of the resolution
+abbrev pub replies_to_office : Secret → List Call → List Reply → List Reply
+replies_to_office secret [] replies = []
+replies_to_office secret (call ∷ calls) [] = []
+replies_to_office secret (call ∷ calls) (reply ∷ replies) =
+    let later = replies_to_office secret calls replies in
+    if is_the_office call.caller then but_result secret call.request reply ∷ later else later
 
--- it is a vote on the resolution of the meeting
-abbrev pub is_vote_in : MeetingName → Number → Request → Bool
-is_vote_in meeting resolution (asked.Party at what) =
-    same_name at meeting && is_vote resolution what
-is_vote_in meeting resolution other = false
+-- two lists of calls, each in an office of its own, tell the same of the secret votes: the office
+-- is given the same replies, one for one, but for the result where the resolution is declared; of
+-- calls that are made before that, each party that is none of the voters is; the offices after them
+-- are the same but for the votes; and while the resolution is not declared, so are the public
+-- records of all meetings
+pub record TellTheSame (deciding : Deciding) (secret : Secret) (one other : OfficeLists)
+    (calls again : List Call) : Type 0 where
+  pub office : replies_to_office secret calls (run_by deciding one calls).replies
+      ≡ replies_to_office secret again (run_by deciding other again).replies
+  pub parties : IsTrue (are_before deciding secret one calls) → (party : Party)
+      → IsTrue (not (secret.voters party))
+      → replies_to party calls (run_by deciding one calls).replies
+      ≡ replies_to party again (run_by deciding other again).replies
+  pub offices : AreSameBut secret (run_by deciding one calls).office
+      (run_by deciding other again).office
+  pub public : IsTrue (not (is_declared_in secret (run_by deciding one calls).office))
+      → (meeting : MeetingName)
+      → public_of (run_by deciding one calls).office meeting
+      ≡ public_of (run_by deciding other again).office meeting
 
--- it asks for the declaration of the resolution of the meeting
-abbrev pub declares_in : MeetingName → Number → Request → Bool
-declares_in meeting resolution (asked.Office at what) =
-    same_name at meeting && declares resolution what
-declares_in meeting resolution other = false
+-- runs keep secrets: from two offices that are the same but for the secret votes, two lists of
+-- calls that differ in such votes alone tell the same
+abbrev pub KeepsSecretsInRuns : Deciding → Type 0
+KeepsSecretsInRuns deciding =
+    (secret : Secret) (one other : OfficeLists) (calls again : List Call)
+    → AreSameBut secret one other
+    → without (is_secret_call secret) calls ≡ without (is_secret_call secret) again
+    → TellTheSame deciding secret one other calls again
 
--- the call declares the resolution of the meeting in an office: it asks for the declaration, and is
--- not refused
-abbrev pub declares_now : Deciding → MeetingName → Number → OfficeLists → Call → Bool
-declares_now deciding meeting resolution office call =
-    declares_in meeting resolution call.request && not (is_refused (deciding office call))
+-- where each step keeps secrets, runs do
+abbrev pub StepsKeepSecretsInRuns : Type 0
+StepsKeepSecretsInRuns =
+    (deciding : Deciding) → KeepsSecretsInSteps deciding → KeepsSecretsInRuns deciding
 
--- no call of a list declares it
-abbrev pub is_undeclared : Deciding → MeetingName → Number → OfficeLists → List Call → Bool
-is_undeclared deciding meeting resolution office [] = true
-is_undeclared deciding meeting resolution office (call ∷ calls) =
-    not (declares_now deciding meeting resolution office call)
-    && is_undeclared deciding meeting resolution (after_call deciding office call) calls
-
--- the office asks for the declaration
-abbrev pub declaration : MeetingName → Number → Moment → Call
-declaration meeting resolution now = record {
-  moment = now;
-  caller = caller.Office;
-  request = asked.Office meeting (Declare resolution);
-}
-
--- a party calls
-abbrev pub is_party : Caller → Bool
-is_party caller.Office = false
-is_party (caller.Party party) = true
-
--- a party votes on the resolution of the meeting
-abbrev pub is_vote_call : MeetingName → Number → Call → Bool
-is_vote_call meeting resolution call =
-    is_party call.caller && is_vote_in meeting resolution call.request
-
--- a party other than this one does
-abbrev pub is_vote_of_another : MeetingName → Number → Party → Call → Bool
-is_vote_of_another meeting resolution party call =
-    is_vote_call meeting resolution call && not (is_by party call.caller)
-
--- the calls without those that pass a test
-abbrev pub without : (Call → Bool) → List Call → List Call
-without test calls = filter (λ (call : Call). not (test call)) calls
-
--- the replies to the office, among those to a list of calls
-abbrev pub replies_to_office : List Call → List Reply → List Reply
-replies_to_office [] replies = []
-replies_to_office (call ∷ calls) [] = []
-replies_to_office (call ∷ calls) (reply ∷ replies) =
-    let later = replies_to_office calls replies in
-    if is_party call.caller then later else reply ∷ later
-
--- in calls from the office that holds nothing, of which none declares the resolution, votes on it
--- by other parties change no reply to a party
-abbrev pub VotesAreSecretToParties : Deciding → Type 0
-VotesAreSecretToParties deciding =
-    (meeting : MeetingName) (resolution : Number) (party : Party) (calls : List Call)
-    → IsTrue (is_undeclared deciding meeting resolution empty_office calls)
-    → let kept = without (is_vote_of_another meeting resolution party) calls in
-    replies_to party calls (run_by deciding empty_office calls).replies
-    ≡ replies_to party kept (run_by deciding empty_office kept).replies
-
--- two lists of calls in an office are one to the office: the replies to it are the same, one for
--- one, each meeting has the same public record after them, and the declaration is then refused
--- alike, or accepted after both
-pub record AreOneToTheOffice (deciding : Deciding) (meeting : MeetingName) (resolution : Number)
-    (office : OfficeLists) (calls kept : List Call) : Type 0 where
-  pub replies : replies_to_office calls (run_by deciding office calls).replies
-      ≡ replies_to_office kept (run_by deciding office kept).replies
-  pub public : (id : MeetingName)
-      → public_of (run_by deciding office calls).office id
-      ≡ public_of (run_by deciding office kept).office id
-  pub refusal : (now : Moment)
-      → let asks = declaration meeting resolution now in
-      refusal_in (deciding (run_by deciding office calls).office asks).reply
-      ≡ refusal_in (deciding (run_by deciding office kept).office asks).reply
-
--- in calls from any office, of which none declares the resolution, the votes on it are one to the
--- office with none
-abbrev pub VotesAreSecretToTheOffice : Deciding → Type 0
-VotesAreSecretToTheOffice deciding =
-    (meeting : MeetingName) (resolution : Number) (office : OfficeLists) (calls : List Call)
-    → IsTrue (is_undeclared deciding meeting resolution office calls)
-    → AreOneToTheOffice deciding meeting resolution office calls
-    (without (is_vote_call meeting resolution) calls)
+-- so a list of calls tells the same with the secret votes, and without them
+abbrev pub VotesAreSecret : Deciding → Type 0
+VotesAreSecret deciding =
+    (secret : Secret) (office : OfficeLists) (calls : List Call)
+    → TellTheSame deciding secret office office calls (without (is_secret_call secret) calls)

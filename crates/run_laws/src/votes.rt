@@ -2,21 +2,32 @@
 ghost use Rattle.std.specs.Prelude.{[]};
 ghost use Rattle.meeting_core.specs.Step.{decided};
 ghost use Rattle.meeting_laws.specs.WrongAnswers.{office_with};
-ghost use Rattle.run_laws.specs.Secrecy.{VotesAreSecretToParties, VotesAreSecretToTheOffice};
-ghost use Rattle.run_laws.specs.WrongCounts.{TellsVotes, closes_after_votes, tells_turnout, vote_and_close};
+ghost use Rattle.run_laws.specs.Secrecy.{KeepsSecretsInRuns, KeepsSecretsInSteps, StepsKeepSecretsInRuns, VotesAreSecret};
+ghost use Rattle.run_laws.specs.WrongCounts.{TellsVotes, calls_without_votes, closes_after_votes, declares_after_five, four_votes, meeting_of_two, tells_turnout, tells_turnout_of_others, vote_and_call, vote_and_close, vote_and_declare, vote_and_declare_another};
+ghost use Rattle.run_laws.specs.WrongTellings.{office_of};
 
 use meeting_laws::{votes_are_secret, what_is_read_is_enough};
 
-/// Votes are secret until the declaration. In every list of calls from the empty office of which
-/// none declares a resolution, a party is given the same replies, one for one, with and without the
-/// votes on it of all other parties. In every such list from any office, with and without the votes
-/// on it of all, the office is given the same replies, requests for the declaration that are
-/// refused among them, and each meeting has the same public record; and a declaration that is asked
-/// for next is refused alike, or accepted in both. A list may end before the declaration, so this
-/// holds of each run up to it.
+/// Votes are secret until the declaration. Of the votes of some voters on a resolution, be these
+/// voters everybody, everybody but one party, or any others, each step of the desk tells nothing:
+/// in two offices that are the same but for these votes and, where both have declared the
+/// resolution, but for its count, a call leaves two such offices; one of these votes leaves such an
+/// office; the office is given the same reply, its declaration of the resolution among them, which
+/// is refused alike or accepted in both, and may differ in the count and in whether the resolution
+/// is carried; and until the declaration every party that is none of the voters is given the same
+/// reply.
+///
+/// Of any way to decide calls of which this holds, two lists of calls that differ in such votes
+/// alone give the office the same replies, one for one, but for that count; until the declaration
+/// they give every party that is none of the voters the same replies, one for one, and leave the
+/// same public records. So it is on the desk, from any office, with and without the votes. It says
+/// more than `votes_are_secret`: calls of the whole desk, whether the declaration is refused, and
+/// offices that differ in what was declared are within it.
 pub fn secrecy()
-    ensures parties { VotesAreSecretToParties decided }
-    ensures office { VotesAreSecretToTheOffice decided }
+    ensures steps { KeepsSecretsInSteps decided }
+    ensures runs { StepsKeepSecretsInRuns }
+    ensures desk { KeepsSecretsInRuns decided }
+    ensures left_out { VotesAreSecret decided }
 {
     votes_are_secret();
     what_is_read_is_enough();
@@ -26,12 +37,34 @@ pub fn secrecy()
 /// are gives it another reply where a member voted before.
 pub fn told_turnout_is_caught()
     ensures apart { TellsVotes tells_turnout (office_with []) vote_and_close }
-    ensures caught { VotesAreSecretToTheOffice tells_turnout → ⊥ }
+    ensures caught { VotesAreSecret tells_turnout → ⊥ }
+{}
+
+/// The law of the office can fail: a desk that tells it at the declaration of one resolution how
+/// many votes there are on another gives it another reply where a member voted on that.
+pub fn turnout_of_others_is_caught()
+    ensures apart { TellsVotes tells_turnout_of_others (office_of meeting_of_two)
+        vote_and_declare_another }
+    ensures caught { VotesAreSecret tells_turnout_of_others → ⊥ }
 {}
 
 /// The law of the office can fail: a desk that closes a poll only where there are votes gives it
 /// another reply where a member voted before.
 pub fn close_for_turnout_is_caught()
     ensures apart { TellsVotes closes_after_votes (office_with []) vote_and_close }
-    ensures caught { VotesAreSecretToTheOffice closes_after_votes → ⊥ }
+    ensures caught { VotesAreSecret closes_after_votes → ⊥ }
+{}
+
+/// The law of the office can fail: a desk that declares a resolution only where there are five
+/// votes refuses the declaration where the fifth is wanting.
+pub fn result_for_turnout_is_caught()
+    ensures apart { TellsVotes declares_after_five (office_with four_votes) vote_and_declare }
+    ensures caught { VotesAreSecret declares_after_five → ⊥ }
+{}
+
+/// The law of the office can fail: a desk that calls no meeting while votes stand gives it another
+/// reply where a member voted before.
+pub fn call_for_votes_is_caught()
+    ensures apart { TellsVotes calls_without_votes (office_with []) vote_and_call }
+    ensures caught { VotesAreSecret calls_without_votes → ⊥ }
 {}

@@ -3,6 +3,7 @@
 ghost use Rattle.std.specs.Prelude.{[]};
 ghost use Rattle.meeting_laws.specs.WrongAnswers.{office_with};
 ghost use Rattle.run_laws.specs.Isolation.{IsolatesRuns, IsolatesSteps};
+ghost use Rattle.run_laws.specs.WrongMoments.{appoints_elsewhere, asks_notice, moves_the_record, office_of_both};
 ghost use Rattle.run_laws.specs.WrongTellings.{loaded_alone, loaded_both, meeting_unloaded, tells_the_place, the_other, both_authorise, both_demand, limits_all, meeting_of_unequals, meeting_with_authorities, meeting_with_proxy, member_asks, member_authorises, member_demands, office_of, proxy_votes_first, tells_votes_on_shares, tells_whether_enough};
 ghost use Rattle.run_laws.specs.WrongWays.{TellsRunsApart, both_appoint, both_vote, member_appoints, member_votes, tells_all_numbers, tells_the_count, the_member};
 
@@ -58,4 +59,13 @@ pub fn places_in_the_register_are_caught()
         loaded_alone loaded_both }
     ensures caught { IsolatesRuns tells_the_place → ⊥ }
     ensures steps_caught { IsolatesSteps tells_the_place → ⊥ }
+{}
+
+/// A desk that shows in the notice of a meeting a record moment which appointments in another
+/// meeting have moved gives a member another reply where another member appointed there before it.
+pub fn moved_record_moments_are_caught()
+    ensures apart { TellsRunsApart moves_the_record the_member office_of_both asks_notice
+        appoints_elsewhere }
+    ensures caught { IsolatesRuns moves_the_record → ⊥ }
+    ensures steps_caught { IsolatesSteps moves_the_record → ⊥ }
 {}

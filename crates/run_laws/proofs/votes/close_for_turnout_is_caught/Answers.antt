@@ -1,7 +1,7 @@
 use Rattle.std.specs.Prelude.{[]}
 use Rattle.meeting_laws.specs.WrongAnswers.{office_with}
 use Rattle.run_laws.specs.WrongCounts.{closes_after_votes, vote_and_close}
-use Rattle.run_laws.proofs.WrongCloses.{told_caught, turnout_asked}
+use Rattle.run_laws.proofs.WrongCloses.{turnout_asked, told_caught}
 use Rattle.run_laws.proofs.votes.close_for_turnout_is_caught.Goals as goal
 
 pub returns-clause-apart : goal.returns-clause-apart

@@ -1,8 +1,19 @@
-use Rattle.run_laws.proofs.SecretRuns.{secret_to_office, secret_to_parties}
+use Rattle.meeting_core.specs.Step.{decided}
+use Rattle.run_laws.proofs.SecretRuns.{secrets_kept_in_runs, votes_left_out}
+use Rattle.run_laws.proofs.SecretSteps.{desk_keeps_secrets}
 use Rattle.run_laws.proofs.votes.secrecy.Goals as goal
 
-pub returns-clause-parties : goal.returns-clause-parties
-returns-clause-parties c = secret_to_parties (record { office = c.votes_are_secret.ensures.office; reads = c.what_is_read_is_enough.ensures.own })
+pub returns-clause-steps : goal.returns-clause-steps
+returns-clause-steps c = desk_keeps_secrets (record { office = c.votes_are_secret.ensures.office; reads = c.what_is_read_is_enough.ensures.own })
 
-pub returns-clause-office : goal.returns-clause-office
-returns-clause-office c = secret_to_office (record { office = c.votes_are_secret.ensures.office; reads = c.what_is_read_is_enough.ensures.own })
+pub returns-clause-runs : goal.returns-clause-runs
+returns-clause-runs c = secrets_kept_in_runs
+
+pub returns-clause-desk : goal.returns-clause-desk
+returns-clause-desk c =
+    secrets_kept_in_runs decided (desk_keeps_secrets (record { office = c.votes_are_secret.ensures.office; reads = c.what_is_read_is_enough.ensures.own }))
+
+pub returns-clause-left_out : goal.returns-clause-left_out
+returns-clause-left_out c =
+    votes_left_out decided
+    (secrets_kept_in_runs decided (desk_keeps_secrets (record { office = c.votes_are_secret.ensures.office; reads = c.what_is_read_is_enough.ensures.own })))

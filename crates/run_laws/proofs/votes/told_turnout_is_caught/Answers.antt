@@ -1,7 +1,7 @@
 use Rattle.std.specs.Prelude.{[]}
 use Rattle.meeting_laws.specs.WrongAnswers.{office_with}
 use Rattle.run_laws.specs.WrongCounts.{tells_turnout, vote_and_close}
-use Rattle.run_laws.proofs.WrongCloses.{told_caught, turnout_told}
+use Rattle.run_laws.proofs.WrongCloses.{turnout_told, told_caught}
 use Rattle.run_laws.proofs.votes.told_turnout_is_caught.Goals as goal
 
 pub returns-clause-apart : goal.returns-clause-apart

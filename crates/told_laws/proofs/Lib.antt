@@ -1,0 +1,5 @@
+mod DeskLemmas
+mod PickLemmas
+mod ReplayLemmas
+mod ResultLemmas
+mod TextLemmas
