@@ -13,7 +13,7 @@ ghost use Rattle.share_blocks.specs.Tags.{is_tag};
 use crate::holdings::Holding;
 use crate::papers::Cutoffs;
 use desk_words::{Appointment, Ending, Range};
-use share_blocks::{Admitted, Blocks, LinkedBlocks, Tag};
+use share_blocks::{Admitted, Blocks, PlainBlocks, Tag};
 use std::alloc::{AllocError, Global};
 
 /// Some of a member's shares, which one of its appointments governs, or none.
@@ -152,14 +152,14 @@ impl Holding {
     /// that governs all of it, or none (sections 324, 327 and 330). The holding is one that an
     /// office keeps. The error is want of memory.
     ///
-    /// Its cost does not grow with the shares. For n appointments side by side, or each within the
-    /// one before, it is n log n; where each lies around all before, the square of n.
+    /// Its cost does not grow with the shares. For n appointments it is n log n where each lies
+    /// around all before, and at most the square of n, which is 256 at most.
     pub fn pieces(&self, alloc: Global, cutoffs: &Cutoffs) -> Result<Vec<GovernedPiece>, AllocError>
         requires { IsKept self.now }
         ensures { IfOk result (λ pieces. ArePieces cutoffs.now self.now pieces.items) }
     {
         let covers = covers_by(alloc, cutoffs, self.appointed.as_slice())?;
-        let blocks: LinkedBlocks = share_blocks::run(alloc, covers.as_slice())?;
+        let blocks: PlainBlocks = share_blocks::run(alloc, covers.as_slice())?;
         let ended = ended_numbers(cutoffs, self.ended.as_slice());
         pieces_of(alloc, &blocks, &Admitted::all(), &ended, self.shares)
     }

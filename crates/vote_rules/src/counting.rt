@@ -17,11 +17,17 @@ ghost use Rattle.vote_rules.specs.Tallies.{share_at, tally_by, tally_of};
 
 use crate::ballots::{Ballots, governing_at, vote_by};
 use crate::parting::parted;
-use crate::received::PollCasts;
-use desk_words::{Appointment, Range, RegisterRow, Tally, Way};
+use crate::received::{BlockCast, PollCasts};
+use desk_words::{Appointment, Party, Range, RegisterRow, Tally, Way};
 use proxy_rules::{Cutoffs, GovernedPiece, Holding, Papers};
 use share_blocks::{Blocks, LinkedBlocks, PlainBlocks};
 use std::alloc::{AllocError, Global};
+use std::collections::BTreeMap;
+
+/// Up to so many casts on a holding are kept as plain lists, and more of them, which are those of
+/// several voters, as linked pieces; both leave the same. A list is quicker to cover, and is walked
+/// for each part of the holding; of linked pieces the one that holds a place is found by halves.
+const MOST_IN_LISTS: usize = 1_024;
 
 const NOTHING: Tally = Tally {
     votes_for: 0,
@@ -79,8 +85,51 @@ fn tally_over<B: Blocks>(
     Ok(tally)
 }
 
+/// The count of one holding, by what is cast on its shares, over blocks of either kind.
+fn tally_row_by<B: Blocks>(
+    alloc: Global,
+    cutoffs: &Cutoffs,
+    papers: &Papers,
+    on_row: &[BlockCast],
+    instructed: &BTreeMap<Party, usize>,
+    resolution: u64,
+    row: &RegisterRow,
+) -> Result<Tally, AllocError>
+    requires { IsKept (holding_by papers.now.appointments.now papers.now.endings.now row.now) }
+    ensures { IfOk result
+        (λ tally. tally
+        ≡ tally_to
+        (λ place. vote_among on_row.now (get name_cmp instructed.now)
+        papers.now.authorities.now resolution row.now
+        (share_at cutoffs.now
+        (holding_by papers.now.appointments.now papers.now.endings.now row.now)
+        row.now.member place))
+        (shares_of row.now)) }
+{
+    let holding = Holding::of_row(alloc, row, papers.appointments, papers.endings)?;
+    let appointed = holding.appointed.as_slice();
+    let governed = holding.pieces(alloc, cutoffs)?;
+    let ballots: Ballots<B> = Ballots::of_row(
+        alloc,
+        on_row,
+        instructed,
+        papers.authorities,
+        appointed,
+        row,
+    )?;
+    let ranges = parted::<PlainBlocks>(alloc, governed.as_slice(), on_row, holding.shares)?;
+    tally_over(
+        alloc,
+        &ballots,
+        appointed,
+        governed.as_slice(),
+        resolution,
+        ranges.as_slice(),
+    )
+}
+
 /// The count of one holding.
-fn tally_row<B: Blocks>(
+fn tally_row(
     alloc: Global,
     cutoffs: &Cutoffs,
     papers: &Papers,
@@ -100,32 +149,14 @@ fn tally_row<B: Blocks>(
         row.now.member place))
         (shares_of row.now)) }
 {
-    let holding = Holding::of_row(alloc, row, papers.appointments, papers.endings)?;
-    let appointed = holding.appointed.as_slice();
-    let governed = holding.pieces(alloc, cutoffs)?;
-    let on_row = casts.on_shares_of(alloc, row.member)?;
-    let ballots: Ballots<B> = Ballots::of_row(
-        alloc,
-        on_row.as_slice(),
-        &casts.instructed,
-        papers.authorities,
-        appointed,
-        row,
-    )?;
-    let ranges = parted::<PlainBlocks>(
-        alloc,
-        governed.as_slice(),
-        on_row.as_slice(),
-        holding.shares,
-    )?;
-    tally_over(
-        alloc,
-        &ballots,
-        appointed,
-        governed.as_slice(),
-        resolution,
-        ranges.as_slice(),
-    )
+    let cast = casts.on_shares_of(alloc, row.member)?;
+    let on_row = cast.as_slice();
+    let instructed = &casts.instructed;
+    if on_row.len() <= MOST_IN_LISTS {
+        tally_row_by::<PlainBlocks>(alloc, cutoffs, papers, on_row, instructed, resolution, row)
+    } else {
+        tally_row_by::<LinkedBlocks>(alloc, cutoffs, papers, on_row, instructed, resolution, row)
+    }
 }
 
 /// Both counts together.
@@ -142,7 +173,7 @@ fn add(a: Tally, b: Tally) -> Tally
 }
 
 /// The count of the holdings, with what is cast on the resolution.
-fn tally_rows<B: Blocks>(
+fn tally_rows(
     alloc: Global,
     cutoffs: &Cutoffs,
     papers: &Papers,
@@ -165,7 +196,7 @@ fn tally_rows<B: Blocks>(
 {
     let mut tally = NOTHING;
     for row in papers.register {
-        let more = tally_row::<B>(alloc, cutoffs, papers, casts, resolution, row)?;
+        let more = tally_row(alloc, cutoffs, papers, casts, resolution, row)?;
         tally = add(tally, more);
     }
     Ok(tally)
@@ -199,5 +230,5 @@ pub fn tally(
         papers.now.endings.now papers.now.authorities.now papers.now.casts.now resolution) }
 {
     let casts = PollCasts::on(alloc, papers.casts.as_slice(), resolution)?;
-    tally_rows::<LinkedBlocks>(alloc, cutoffs, papers, &casts, resolution)
+    tally_rows(alloc, cutoffs, papers, &casts, resolution)
 }

@@ -1,67 +1,28 @@
-use Rattle.std.proofs.Common.{◌≡◌, ℕ, ◌≤◌, List, map, filter, ap, sym, subst, ◌∙◌, arith}
-use Rattle.std.specs.Prelude.{All, sum_by}
+use Rattle.std.proofs.Common.{◌≡◌, ℕ, List, filter, subst, ◌∙◌}
+use Rattle.std.specs.Prelude.{IfOk, Result}
 use Rattle.std.specs.BTreeMap.{get}
-use Rattle.std.proofs.lemmas.Result.{IfOk-weaker}
-use Rattle.desk_terms.specs.declared.range.TheConstants.{MOST_PLACES}
 use Rattle.desk_terms.specs.Names.{name_cmp}
-use Rattle.desk_terms.specs.declared.kinds.Capacity.TheVariants.{Proxy}
-use Rattle.desk_words.specs.declared.records.Appointment.{Appointment}
 use Rattle.proxy_rules.specs.Holdings.{holding_by}
 use Rattle.proxy_rules.specs.Shares.{shares_of}
-use Rattle.proxy_rules.specs.Tiles.{places_in}
-use Rattle.proxy_rules.specs.declared.holdings.Holding.{Holding}
-use Rattle.vote_rules.specs.Ballots.{AreInOrder, IsUncut, capacity_for, cuts_of, governing_at, vote_by, voters_for}
-use Rattle.vote_rules.specs.Covers.{pieces_by, vote_among}
+use Rattle.vote_rules.specs.Covers.{vote_among}
 use Rattle.vote_rules.specs.Received.{is_on_shares_of}
-use Rattle.vote_rules.specs.Sums.{tally_over, tally_to}
+use Rattle.vote_rules.specs.Sums.{tally_to}
 use Rattle.vote_rules.specs.Tallies.{share_at}
-use Rattle.vote_rules.proofs.CountLemmas.{places_in-tiles}
-use Rattle.vote_rules.proofs.RowLemmas.{counted}
+use Rattle.vote_rules.specs.declared.received.BlockCast.{BlockCast}
 use Rattle.vote_rules.proofs.counting.tally_row.Goals as goal
 
-pub tally_over-requires-clause-pieces : goal.tally_over-requires-clause-pieces
-tally_over-requires-clause-pieces g c = subst AreInOrder (sym c.as_slice-4.ensures.value) (c.in_ok-holding.holding.shares, c.in_ok-governed.ensures.tiled)
-
-pub tally_over-requires-clause-few : goal.tally_over-requires-clause-few
-tally_over-requires-clause-few g c =
-    let holding = c.in_ok-holding.holding in
-    let ranges = c.in_ok-ranges.ranges.items in
-    let few : holding.shares ≤ MOST_PLACES = let P : Holding → Type 0 = λ h. h.shares ≤ MOST_PLACES in subst P (sym c.in_ok-holding.ensures) c.requires.few in
-    omega (arith, few, ap (sum_by places_in) c.as_slice-5.ensures.value, places_in-tiles ranges holding.shares c.in_ok-ranges.ensures.tiled)
+pub returns-then-on_row-le-MOST_IN_LISTS : goal.returns-then-on_row-le-MOST_IN_LISTS
+returns-then-on_row-le-MOST_IN_LISTS c =
+    let row = c.args.row.now in
+    let papers = c.args.papers.now in
+    let P : List BlockCast → Type 0 = λ on_row. IfOk c.tally_row_by.result
+    (λ tally. tally ≡ tally_to (λ place. vote_among on_row (get name_cmp c.args.casts.now.instructed) papers.authorities.now c.args.resolution row (share_at c.args.cutoffs.now (holding_by papers.appointments.now papers.endings.now row) row.member place)) (shares_of row)) in
+    subst P (c.as_slice-on_row.ensures.value ∙ c.in_ok-cast.ensures) c.tally_row_by.ensures
 
 pub returns : goal.returns
-returns g c =
-    let cutoffs = c.args.cutoffs.now in
-    let authorities = c.args.papers.now.authorities.now in
+returns c =
     let row = c.args.row.now in
-    let resolution = c.args.resolution in
-    let last = get name_cmp c.args.casts.now.instructed in
-    let casts = filter (is_on_shares_of row.member) c.args.casts.now.by_member in
-    let holding = c.in_ok-holding.holding in
-    let governed = c.in_ok-governed.governed.items in
-    let ranges = c.in_ok-ranges.ranges.items in
-    let few : holding.shares ≤ MOST_PLACES = let P : Holding → Type 0 = λ h. h.shares ≤ MOST_PLACES in subst P (sym c.in_ok-holding.ensures) c.requires.few in
-    let proxy_of : Appointment → List ℕ = λ a. a.proxy in
-    let voters = voters_for authorities row.kind row.member in
-    let capacity = capacity_for row.kind in
-    let on_row : c.as_slice.result.now ≡ casts = c.as_slice.ensures.value ∙ c.in_ok-on_row.ensures in
-    let parting : c.as_slice-3.result.now ≡ casts = c.as_slice-3.ensures.value ∙ c.in_ok-on_row.ensures in
-    let holders : map g.B.Blocks.pieces c.in_ok-ballots.ballots.holders.items ≡ map (pieces_by casts last capacity) voters =
-    c.in_ok-ballots.ensures.holders ∙ ap (λ l. map (pieces_by l last capacity) voters) on_row in
-    let proxies : map g.B.Blocks.pieces c.in_ok-ballots.ballots.proxies.items ≡ map (pieces_by casts last Proxy) (map proxy_of holding.appointed) =
-    c.in_ok-ballots.ensures.proxies
-    ∙ ap (λ l. map (pieces_by l last Proxy) (map proxy_of c.as_slice-appointed.result.now)) on_row
-    ∙ ap (λ l. map (pieces_by casts last Proxy) (map proxy_of l)) c.as_slice-appointed.ensures in
-    let uncut : All (IsUncut (cuts_of governed casts)) ranges =
-    subst (λ cuts. All (IsUncut cuts) ranges) (λ i. cuts_of (c.as_slice-2.ensures.value i) (parting i)) c.in_ok-ranges.ensures.uncut in
-    IfOk-weaker c.tally_over.result
-    (λ tally. tally ≡ tally_over
-    (λ place. vote_by (map g.B.Blocks.pieces c.in_ok-ballots.ballots.holders.items) (map g.B.Blocks.pieces c.in_ok-ballots.ballots.proxies.items) c.as_slice-appointed.result.now (governing_at c.as_slice-4.result.now place) resolution place)
-    c.as_slice-5.result.now)
-    (λ tally. tally ≡ tally_to (λ place. vote_among casts last authorities resolution row (share_at cutoffs (holding_by c.args.papers.now.appointments.now c.args.papers.now.endings.now row) row.member place)) (shares_of row))
-    (λ tally is.
-    is
-    ∙ (λ i. tally_over (λ place. vote_by (holders i) (proxies i) (c.as_slice-appointed.ensures i) (governing_at (c.as_slice-4.ensures.value i) place) resolution place) (c.as_slice-5.ensures.value i))
-    ∙ counted cutoffs holding authorities casts last resolution row governed c.in_ok-governed.ensures few ranges c.in_ok-ranges.ensures.tiled uncut
-    ∙ ap (λ (h : Holding). tally_to (λ place. vote_among casts last authorities resolution row (share_at cutoffs h row.member place)) h.shares) c.in_ok-holding.ensures)
-    c.tally_over.ensures
+    let papers = c.args.papers.now in
+    let P : List BlockCast → Type 0 = λ on_row. IfOk c.tally_row_by-else-on_row-le-MOST_IN_LISTS.result
+    (λ tally. tally ≡ tally_to (λ place. vote_among on_row (get name_cmp c.args.casts.now.instructed) papers.authorities.now c.args.resolution row (share_at c.args.cutoffs.now (holding_by papers.appointments.now papers.endings.now row) row.member place)) (shares_of row)) in
+    subst P (c.as_slice-on_row.ensures.value ∙ c.in_ok-cast.ensures) c.tally_row_by-else-on_row-le-MOST_IN_LISTS.ensures

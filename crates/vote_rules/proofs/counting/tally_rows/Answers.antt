@@ -16,14 +16,14 @@ use Rattle.vote_rules.proofs.CountLemmas.{counts_fit, added-next, row-le}
 use Rattle.vote_rules.proofs.counting.tally_rows.Goals as goal
 
 pub tally_row-requires : goal.tally_row-requires
-tally_row-requires g c =
+tally_row-requires c =
     let papers = c.args.papers.now in
     let rows = papers.register.now in
     kept_by papers.appointments.now papers.endings.now c.row-item.result c.requires.numbered c.requires.tags
     (row-le rows c.loop-row.row-index c.row-item.result (all_shares-le rows c.requires.rows) c.loop-row-test.true c.row-item.is)
 
 pub add-tally-requires : goal.add-tally-requires
-add-tally-requires g c =
+add-tally-requires c =
     let papers = c.args.papers.now in
     let rows = papers.register.now in
     let vote : RegisterRow → ℕ → Option Way = λ row place. vote_among (filter (is_on_shares_of row.member) c.args.casts.now.by_member) (get name_cmp c.args.casts.now.instructed) papers.authorities.now c.args.resolution row
@@ -35,7 +35,7 @@ add-tally-requires g c =
     subst P (sym c.loop-row.invariant) (subst Q (sym c.in_ok-more.ensures) fits)
 
 pub loop-row-preserved : goal.loop-row-preserved
-loop-row-preserved g c =
+loop-row-preserved c =
     let papers = c.args.papers.now in
     let rows = papers.register.now in
     let vote : RegisterRow → ℕ → Option Way = λ row place. vote_among (filter (is_on_shares_of row.member) c.args.casts.now.by_member) (get name_cmp c.args.casts.now.instructed) papers.authorities.now c.args.resolution row

@@ -10,6 +10,6 @@ use Rattle.vote_rules.proofs.counting.tally_rows.Given as goal
 
 -- the first rows are counted
 abbrev pub invariant-loop-row : goal.invariant-loop-row
-invariant-loop-row g l =
+invariant-loop-row l =
     l.tally ≡ tally_by (λ (row : RegisterRow) place. vote_among (filter (is_on_shares_of row.member) l.casts.by_member) (get name_cmp l.casts.instructed) l.papers.authorities.now l.resolution row
     (share_at l.cutoffs (holding_by l.papers.appointments.now l.papers.endings.now row) row.member place)) (take l.row-index l.papers.register.now)
