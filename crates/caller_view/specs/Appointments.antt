@@ -106,5 +106,8 @@ abbrev pub end_ruling : OwnView → Moment → Number → Ruling Entry
 end_ruling own now number =
     record {
       cases = end_cases own number;
-      accepted = record { reply = reply.Ended number; change = Some (entry.Ending (ending_of own now number)) };
+      accepted = record {
+        reply = reply.Ended number;
+        change = Some (entry.Ending (ending_of own now number));
+      };
     }

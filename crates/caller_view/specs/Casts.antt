@@ -97,7 +97,10 @@ abbrev pub cast_ruling : PublicRecord → Meeting → OwnView → Moment → New
 cast_ruling public meeting own now new =
     record {
       cases = cast_cases public meeting own new;
-      accepted = record { reply = reply.Recorded; change = Some (entry.Cast (cast_of own now new.resolution (block_of new))) };
+      accepted = record {
+        reply = reply.Recorded;
+        change = Some (entry.Cast (cast_of own now new.resolution (block_of new)));
+      };
     }
 
 -- what is cast as instructed is recorded, and nothing more is said of it, or refused likewise
@@ -106,5 +109,8 @@ abbrev pub instructed_ruling : PublicRecord → Meeting → OwnView → Moment �
 instructed_ruling public meeting own now resolution =
     record {
       cases = instructed_cases public meeting own resolution;
-      accepted = record { reply = reply.Recorded; change = Some (entry.Cast (cast_of own now resolution AsInstructed)) };
+      accepted = record {
+        reply = reply.Recorded;
+        change = Some (entry.Cast (cast_of own now resolution AsInstructed));
+      };
     }

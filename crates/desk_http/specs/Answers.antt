@@ -66,7 +66,8 @@ abbrev pub if_ok : {T E : Type 0} → Result T E → Option Call → Option Call
 if_ok (Ok x) call = call
 if_ok (Err e) call = None
 
--- a call was made, or none: the one that the office for which the tables stood lets be made, or none
+-- a call was made, or none: the one that the office for which the tables stood lets be made, if it
+-- lets any
 pub record Makes (call : OfficeLists → Option Call) (old new : State) : Type 0 where
   pub made : Option Call
   pub leaves : Leaves made old new

@@ -23,7 +23,9 @@ abbrev pub presence_ruling : MeetingLists → Moment → Party → Ruling Meetin
 presence_ruling m now party =
     record {
       cases = [];
-      accepted = noted (is_marked m.presences party) (Enter (Presence (record { party = party; moment = now })));
+      accepted =
+          noted (is_marked m.presences party)
+          (Enter (Presence (record { party = party; moment = now })));
     }
 
 -- whether those who are present make a quorum, by the closed days as they stand (section 318)

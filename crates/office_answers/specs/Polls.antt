@@ -85,7 +85,10 @@ abbrev pub start_ruling : MeetingLists → Moment → Number → Ruling MeetingC
 start_ruling m now resolution =
     record {
       cases = start_cases m now resolution;
-      accepted = record { reply = reply.Started; change = Some (SetPoll resolution (poll.Started now)) };
+      accepted = record {
+        reply = reply.Started;
+        change = Some (SetPoll resolution (poll.Started now));
+      };
     }
 
 -- when the voting on a poll is not closed; how many have voted is not asked
@@ -103,7 +106,10 @@ abbrev pub close_ruling : MeetingLists → Moment → Number → Ruling MeetingC
 close_ruling m now resolution =
     record {
       cases = close_cases m resolution;
-      accepted = record { reply = reply.VotingClosed; change = Some (SetPoll resolution (poll.Closed now)) };
+      accepted = record {
+        reply = reply.VotingClosed;
+        change = Some (SetPoll resolution (poll.Closed now));
+      };
     }
 
 -- when the result of a poll that is ordered is not declared
@@ -143,5 +149,9 @@ abbrev pub declare_ruling : MeetingLists → List Day → Moment → Number → 
 declare_ruling m closed now resolution =
     record {
       cases = declare_cases m resolution;
-      accepted = let declared = declaration_of m closed now resolution in record { reply = reply.Declared declared; change = Some (SetPoll resolution (poll.Declared declared.tally)) };
+      accepted =
+          let declared = declaration_of m closed now resolution in record {
+            reply = reply.Declared declared;
+            change = Some (SetPoll resolution (poll.Declared declared.tally));
+          };
     }

@@ -69,7 +69,8 @@ demand_by demanding rows =
       members = members;
       shares = shares;
       paid = paid;
-      reached = is_enough members shares paid (sum_by shares_of rows) (sum_by (paid_on shares_of) rows);
+      reached =
+          is_enough members shares paid (sum_by shares_of rows) (sum_by (paid_on shares_of) rows);
     }
 
 -- the demand of a poll on a resolution, by its shares one by one
