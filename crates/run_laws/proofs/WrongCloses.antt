@@ -6,9 +6,10 @@ use Rattle.desk_words.specs.declared.reply.Reply.TheVariants as reply
 use Rattle.desk_words.specs.declared.request.Call.{Call}
 use Rattle.meeting_laws.specs.Loads.{Deciding}
 use Rattle.meeting_laws.specs.WrongAnswers.{office_with}
-use Rattle.run_laws.specs.Secrecy.{VotesAreSecret}
+use Rattle.run_laws.specs.Secrecy.{KeepsSecretsInSteps, VotesAreSecret}
 use Rattle.run_laws.specs.WrongCounts.{TellsVotes, all_votes, calls_without_votes, closes_after_votes, declares_after_five, four_votes, meeting_of_two, tells_turnout, tells_turnout_of_others, vote_and_call, vote_and_close, vote_and_declare, vote_and_declare_another}
 use Rattle.run_laws.specs.WrongTellings.{office_of}
+use Rattle.run_laws.proofs.SecretRuns.{secrets_kept_in_runs, votes_left_out}
 
 -- the number that the first reply tells, and whether the last reply is a refusal
 abbrev number_told : List Reply → ℕ
@@ -58,3 +59,8 @@ votes_asked = record {
 -- what tells the office of votes breaks the law
 pub told_caught : (deciding : Deciding) (office : OfficeLists) (calls : List Call) → TellsVotes deciding office calls → VotesAreSecret deciding → ⊥
 told_caught deciding office calls tells law = tells.apart (law all_votes office calls).office
+
+-- and so its steps do not all keep votes secret
+pub told_caught_in_steps : (deciding : Deciding) (office : OfficeLists) (calls : List Call) → TellsVotes deciding office calls → KeepsSecretsInSteps deciding → ⊥
+told_caught_in_steps deciding office calls tells steps =
+    told_caught deciding office calls tells (votes_left_out deciding (secrets_kept_in_runs deciding steps))

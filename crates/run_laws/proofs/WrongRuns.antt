@@ -1,5 +1,5 @@
 -- What is wrong with wrong ways to decide calls is caught by the law of runs.
-use Rattle.std.proofs.Common.{◌∙◌, subst, ◌≡◌, ℕ, Bool, true, false, cond, List, [], ◌∷◌, length, refl, ap, sym, arith, true≢false}
+use Rattle.std.proofs.Common.{◌∙◌, subst, ◌≡◌, ℕ, suc, Bool, true, false, cond, List, [], ◌∷◌, length, refl, ap, sym, arith, true≢false}
 use Rattle.std.specs.Prelude.{Some, None}
 use Rattle.std.specs.Option.{option_map_or}
 use Rattle.std.proofs.Math.Bool.{or-false}
@@ -20,9 +20,11 @@ use Rattle.office_days.specs.Days.{greatest_that, numbers_that}
 use Rattle.meeting_laws.specs.Loads.{Deciding, after_call}
 use Rattle.meeting_laws.specs.WrongAnswers.{a_meeting, a_member, another, meeting_with, office_with, one_share}
 use Rattle.run_laws.specs.Isolation.{Alike, IsolatesRuns}
+use Rattle.run_laws.specs.Secrecy.{VotesAreSecret}
+use Rattle.run_laws.specs.Votes.{Secret, all_but}
 use Rattle.run_laws.specs.Parts.{IsSourced, Viewer, is_near, is_sourced_in, rows_near}
-use Rattle.run_laws.specs.WrongMoments.{another_meeting, appoints_elsewhere, asks_notice, meeting_elsewhere, moves_the_record, office_of_both}
-use Rattle.run_laws.specs.WrongTellings.{load_of, loaded_alone, loaded_both, meeting_unloaded, tells_the_place, the_other, both_authorise, both_demand, limits_all, meeting_of_unequals, meeting_with_authorities, meeting_with_proxy, member_asks, member_authorises, member_demands, office_of, proxy_votes_first, tells_votes_on_shares, tells_whether_enough}
+use Rattle.run_laws.specs.WrongMoments.{another_meeting, appoints_elsewhere, asks_notice, both_appoint_apart, meeting_elsewhere, moves_the_record, office_of_both, tells_the_row}
+use Rattle.run_laws.specs.WrongTellings.{load_of, loaded_alone, loaded_both, meeting_unloaded, tells_the_place, the_other, both_authorise, both_demand, limits_all, meeting_of_unequals, meeting_with_authorities, meeting_with_proxy, member_asks, member_authorises, member_demands, office_of, proxy_votes_first, tells_voters_turnout, tells_votes_on_shares, tells_whether_enough}
 use Rattle.run_laws.specs.Traces.{Office, Register, Whole}
 use Rattle.run_laws.specs.WrongWays.{call_by, TellsRunsApart, both_appoint, both_vote, member_appoints, member_votes, tells_all_numbers, tells_the_count, the_member}
 
@@ -34,9 +36,10 @@ sourced id =
 itself : Alike the_member (office_with []) (office_with [])
 itself = record { parts = λ id. refl; first = sourced; second = sourced }
 
--- a number that a reply tells: of votes for the resolution, or of an appointment
+-- a number that a reply tells: of votes for the resolution, of an appointment, or of all votes
 abbrev number_told : List Reply → ℕ
 number_told [] = 0
+number_told (reply.Ended number ∷ replies) = number
 number_told (reply.Declared declared ∷ replies) = declared.tally.votes_for
 number_told (reply.Appointed receipt ∷ replies) = receipt.number
 number_told (other ∷ replies) = 0
@@ -60,6 +63,30 @@ numbers_apart = record {
   same = refl;
   apart = λ h. (let told : 1 ≡ 2 = ap number_told h in absurd (omega arith));
 }
+
+pub turnout_apart : TellsRunsApart tells_voters_turnout the_member (office_with []) member_votes both_vote
+turnout_apart = record {
+  is_one = refl;
+  alike = itself;
+  near = refl;
+  near_again = refl;
+  same = refl;
+  apart = λ h. (let told : 0 ≡ 1 = ap number_told h in absurd (omega arith));
+}
+
+-- the votes of all but the member, which the law of secrecy lets it not be told of
+abbrev votes_of_others : Secret
+votes_of_others = record { voters = all_but a_member; meeting = a_meeting; resolution = 1 }
+
+-- one is not none
+differ : (n : ℕ) → suc n ≡ 0 → ⊥
+differ n h = absurd (omega (arith, h))
+
+pub total_secret : VotesAreSecret tells_the_count → ⊥
+total_secret law = differ 0 (ap number_told ((law votes_of_others (office_with []) both_vote).parties refl a_member refl))
+
+pub turnout_secret : VotesAreSecret tells_voters_turnout → ⊥
+turnout_secret law = differ 0 (ap number_told ((law votes_of_others (office_with []) both_vote).parties refl a_member refl))
 
 -- ---- an office of one meeting
 
@@ -183,6 +210,16 @@ record_apart = record {
   near_again = refl;
   same = refl;
   apart = λ h. (let told : 0 ≡ 1 = ap moment_told h in absurd (omega arith));
+}
+
+pub rows_apart : TellsRunsApart tells_the_row the_member office_of_both member_appoints both_appoint_apart
+rows_apart = record {
+  is_one = refl;
+  alike = record { parts = λ id. refl; first = sourced_both; second = sourced_both };
+  near = refl;
+  near_again = refl;
+  same = refl;
+  apart = λ h. (let told : 1 ≡ 2 = ap number_told h in absurd (omega arith));
 }
 
 -- what tells two such lists apart breaks the law

@@ -233,3 +233,22 @@ loaded_alone = load_of (one_share another ∷ []) ∷ other_asks
 -- a register of the rows of both is loaded, and then the other member asks
 abbrev pub loaded_both : List Call
 loaded_both = load_of (one_share a_member ∷ one_share another ∷ []) ∷ other_asks
+
+-- ---- how many voted
+
+-- where a vote is recorded, the reply tells how many votes there were before it
+abbrev pub told_votes_before : Option MeetingLists → Reply → Reply
+told_votes_before (Some m) reply.Recorded = reply.Ended (length m.casts)
+told_votes_before found other = other
+
+-- a party that votes is answered so
+abbrev pub votes_so_far : Answering
+votes_so_far office party now (asked.Party meeting (Cast new)) =
+    let right = party_answer office party now (asked.Party meeting (Cast new)) in record right {
+      reply = told_votes_before (meeting_at office meeting) right.reply;
+    }
+votes_so_far office party now request = party_answer office party now request
+
+-- the seventh wrong way: a voter is told how many voted before it
+abbrev pub tells_voters_turnout : Deciding
+tells_voters_turnout = deciding_by votes_so_far

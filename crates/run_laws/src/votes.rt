@@ -38,6 +38,7 @@ pub fn secrecy()
 pub fn told_turnout_is_caught()
     ensures apart { TellsVotes tells_turnout (office_with []) vote_and_close }
     ensures caught { VotesAreSecret tells_turnout → ⊥ }
+    ensures steps_caught { KeepsSecretsInSteps tells_turnout → ⊥ }
 {}
 
 /// The law of the office can fail: a desk that tells it at the declaration of one resolution how
@@ -46,6 +47,7 @@ pub fn turnout_of_others_is_caught()
     ensures apart { TellsVotes tells_turnout_of_others (office_of meeting_of_two)
         vote_and_declare_another }
     ensures caught { VotesAreSecret tells_turnout_of_others → ⊥ }
+    ensures steps_caught { KeepsSecretsInSteps tells_turnout_of_others → ⊥ }
 {}
 
 /// The law of the office can fail: a desk that closes a poll only where there are votes gives it
@@ -53,6 +55,7 @@ pub fn turnout_of_others_is_caught()
 pub fn close_for_turnout_is_caught()
     ensures apart { TellsVotes closes_after_votes (office_with []) vote_and_close }
     ensures caught { VotesAreSecret closes_after_votes → ⊥ }
+    ensures steps_caught { KeepsSecretsInSteps closes_after_votes → ⊥ }
 {}
 
 /// The law of the office can fail: a desk that declares a resolution only where there are five
@@ -60,6 +63,7 @@ pub fn close_for_turnout_is_caught()
 pub fn result_for_turnout_is_caught()
     ensures apart { TellsVotes declares_after_five (office_with four_votes) vote_and_declare }
     ensures caught { VotesAreSecret declares_after_five → ⊥ }
+    ensures steps_caught { KeepsSecretsInSteps declares_after_five → ⊥ }
 {}
 
 /// The law of the office can fail: a desk that calls no meeting while votes stand gives it another
@@ -67,4 +71,5 @@ pub fn result_for_turnout_is_caught()
 pub fn call_for_votes_is_caught()
     ensures apart { TellsVotes calls_without_votes (office_with []) vote_and_call }
     ensures caught { VotesAreSecret calls_without_votes → ⊥ }
+    ensures steps_caught { KeepsSecretsInSteps calls_without_votes → ⊥ }
 {}

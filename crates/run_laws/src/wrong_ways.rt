@@ -3,17 +3,19 @@
 ghost use Rattle.std.specs.Prelude.{[]};
 ghost use Rattle.meeting_laws.specs.WrongAnswers.{office_with};
 ghost use Rattle.run_laws.specs.Isolation.{IsolatesRuns, IsolatesSteps};
-ghost use Rattle.run_laws.specs.WrongMoments.{appoints_elsewhere, asks_notice, moves_the_record, office_of_both};
-ghost use Rattle.run_laws.specs.WrongTellings.{loaded_alone, loaded_both, meeting_unloaded, tells_the_place, the_other, both_authorise, both_demand, limits_all, meeting_of_unequals, meeting_with_authorities, meeting_with_proxy, member_asks, member_authorises, member_demands, office_of, proxy_votes_first, tells_votes_on_shares, tells_whether_enough};
+ghost use Rattle.run_laws.specs.Secrecy.{VotesAreSecret};
+ghost use Rattle.run_laws.specs.WrongMoments.{appoints_elsewhere, asks_notice, both_appoint_apart, moves_the_record, office_of_both, tells_the_row};
+ghost use Rattle.run_laws.specs.WrongTellings.{loaded_alone, loaded_both, meeting_unloaded, tells_the_place, the_other, both_authorise, both_demand, limits_all, meeting_of_unequals, meeting_with_authorities, meeting_with_proxy, member_asks, member_authorises, member_demands, office_of, proxy_votes_first, tells_voters_turnout, tells_votes_on_shares, tells_whether_enough};
 ghost use Rattle.run_laws.specs.WrongWays.{TellsRunsApart, both_appoint, both_vote, member_appoints, member_votes, tells_all_numbers, tells_the_count, the_member};
 
 /// A desk that tells a voter how the votes stood gives a member another reply where another member
-/// voted before it.
+/// voted before it. So it breaks the law of secrecy too.
 pub fn running_total_is_caught()
     ensures apart { TellsRunsApart tells_the_count the_member (office_with []) member_votes
         both_vote }
     ensures caught { IsolatesRuns tells_the_count → ⊥ }
     ensures steps_caught { IsolatesSteps tells_the_count → ⊥ }
+    ensures secrecy_caught { VotesAreSecret tells_the_count → ⊥ }
 {}
 
 /// A desk that numbers the appointments of all members together gives a member another reply where
@@ -23,6 +25,25 @@ pub fn numbers_over_all_are_caught()
         both_appoint }
     ensures caught { IsolatesRuns tells_all_numbers → ⊥ }
     ensures steps_caught { IsolatesSteps tells_all_numbers → ⊥ }
+{}
+
+/// A desk that numbers an appointment by its row among those of all meetings gives a member another
+/// reply where another member appointed in another meeting before it.
+pub fn numbers_of_rows_are_caught()
+    ensures apart { TellsRunsApart tells_the_row the_member office_of_both member_appoints
+        both_appoint_apart }
+    ensures caught { IsolatesRuns tells_the_row → ⊥ }
+    ensures steps_caught { IsolatesSteps tells_the_row → ⊥ }
+{}
+
+/// A desk that tells a voter how many votes there were before its own gives a member another reply
+/// where another member voted before it. So it breaks the law of secrecy too.
+pub fn turnout_for_a_vote_is_caught()
+    ensures apart { TellsRunsApart tells_voters_turnout the_member (office_with []) member_votes
+        both_vote }
+    ensures caught { IsolatesRuns tells_voters_turnout → ⊥ }
+    ensures steps_caught { IsolatesSteps tells_voters_turnout → ⊥ }
+    ensures secrecy_caught { VotesAreSecret tells_voters_turnout → ⊥ }
 {}
 
 /// A desk that tells a party which demands a poll whether others demanded enough gives a member

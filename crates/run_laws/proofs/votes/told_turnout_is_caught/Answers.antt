@@ -1,7 +1,7 @@
 use Rattle.std.specs.Prelude.{[]}
 use Rattle.meeting_laws.specs.WrongAnswers.{office_with}
 use Rattle.run_laws.specs.WrongCounts.{tells_turnout, vote_and_close}
-use Rattle.run_laws.proofs.WrongCloses.{turnout_told, told_caught}
+use Rattle.run_laws.proofs.WrongCloses.{turnout_told, told_caught, told_caught_in_steps}
 use Rattle.run_laws.proofs.votes.told_turnout_is_caught.Goals as goal
 
 pub returns-clause-apart : goal.returns-clause-apart
@@ -9,3 +9,6 @@ returns-clause-apart c = turnout_told
 
 pub returns-clause-caught : goal.returns-clause-caught
 returns-clause-caught c = told_caught tells_turnout (office_with []) vote_and_close turnout_told
+
+pub returns-clause-steps_caught : goal.returns-clause-steps_caught
+returns-clause-steps_caught c = told_caught_in_steps tells_turnout (office_with []) vote_and_close turnout_told

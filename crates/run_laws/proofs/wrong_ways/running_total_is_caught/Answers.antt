@@ -2,7 +2,7 @@ use Rattle.std.specs.Prelude.{[]}
 use Rattle.meeting_laws.specs.WrongAnswers.{office_with}
 use Rattle.run_laws.specs.WrongWays.{both_vote, member_votes, tells_the_count, the_member}
 use Rattle.run_laws.proofs.RunLemmas.{runs_isolated}
-use Rattle.run_laws.proofs.WrongRuns.{caught_by, votes_apart}
+use Rattle.run_laws.proofs.WrongRuns.{caught_by, total_secret, votes_apart}
 use Rattle.run_laws.proofs.wrong_ways.running_total_is_caught.Goals as goal
 
 pub returns-clause-apart : goal.returns-clause-apart
@@ -13,3 +13,6 @@ returns-clause-caught c = caught_by tells_the_count the_member (office_with []) 
 
 pub returns-clause-steps_caught : goal.returns-clause-steps_caught
 returns-clause-steps_caught c = λ steps. caught_by tells_the_count the_member (office_with []) member_votes both_vote votes_apart (runs_isolated tells_the_count steps)
+
+pub returns-clause-secrecy_caught : goal.returns-clause-secrecy_caught
+returns-clause-secrecy_caught c = total_secret
