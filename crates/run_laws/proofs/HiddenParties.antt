@@ -27,7 +27,7 @@ use Rattle.desk_words.specs.declared.records.Poll.{Poll}
 use Rattle.desk_words.specs.declared.reply.Reply.TheVariants as reply
 use Rattle.desk_words.specs.declared.request.Call.{Call}
 use Rattle.desk_words.specs.declared.request.PartyRequest.{PartyRequest}
-use Rattle.desk_words.specs.declared.request.PartyRequest.TheVariants.{Notice, Mine, Appoint, End, Authorise, Attend, Demand, Cast, Instructed}
+use Rattle.desk_words.specs.declared.request.PartyRequest.TheVariants.{Notice, Demand, Cast, Instructed}
 use Rattle.desk_words.specs.declared.request.Request.{Request}
 use Rattle.desk_words.specs.declared.request.Request.TheVariants as asked
 use Rattle.proxy_rules.specs.Cutoffs.{cutoffs_of, is_late_poll}
@@ -92,11 +92,6 @@ is_notice other = false
 ruling-uncounted : (resolution : ℕ) (m : MeetingLists) (closed : List ℕ) (own : OwnView) (now : ℕ) (what : PartyRequest) → is_notice what ≡ false
     → party_in (public_in (Some (uncounted_in resolution m)) closed) own now what m.meeting ≡ party_in (public_in (Some m) closed) own now what m.meeting
 ruling-uncounted resolution m closed own now Notice h = absurd (true≢false h)
-ruling-uncounted resolution m closed own now Mine h = refl
-ruling-uncounted resolution m closed own now (Appoint new) h = refl
-ruling-uncounted resolution m closed own now (End number) h = refl
-ruling-uncounted resolution m closed own now (Authorise person) h = refl
-ruling-uncounted resolution m closed own now Attend h = refl
 ruling-uncounted resolution m closed own now (Demand number) h =
     poll-seen (λ found. record {
       cases = no_resolution m.meeting number
@@ -132,6 +127,7 @@ ruling-uncounted resolution m closed own now (Instructed number) h =
           ∷ record { refusal = NotYours; holds = is_uninstructed own (there_is (is_late_poll closed) found) number } ∷ [];
       accepted = record { reply = reply.Recorded; change = Some (entry.Cast (cast_of own now number AsInstructed)) };
     }) resolution number m.polls (λ p a b. refl)
+ruling-uncounted resolution m closed own now what h = refl
 
 -- what is entered by a ruling in a meeting that is found
 abbrev entered_by : Ruling Entry → Option Entry
@@ -140,15 +136,10 @@ entered_by ruling = (settled (asked_first (record { refusal = NoMeeting; holds =
 -- what is entered is the same without the count
 entered-uncounted : (resolution : ℕ) (m : MeetingLists) (closed : List ℕ) (own : OwnView) (now : ℕ) (what : PartyRequest)
     → (answered (public_in (Some (uncounted_in resolution m)) closed) own now what).change ≡ (answered (public_in (Some m) closed) own now what).change
-entered-uncounted resolution m closed own now Notice = refl
-entered-uncounted resolution m closed own now Mine = refl
-entered-uncounted resolution m closed own now (Appoint new) = refl
-entered-uncounted resolution m closed own now (End number) = refl
-entered-uncounted resolution m closed own now (Authorise person) = refl
-entered-uncounted resolution m closed own now Attend = refl
 entered-uncounted resolution m closed own now (Demand number) = ap entered_by (ruling-uncounted resolution m closed own now (Demand number) refl)
 entered-uncounted resolution m closed own now (Cast new) = ap entered_by (ruling-uncounted resolution m closed own now (Cast new) refl)
 entered-uncounted resolution m closed own now (Instructed number) = ap entered_by (ruling-uncounted resolution m closed own now (Instructed number) refl)
+entered-uncounted resolution m closed own now what = refl
 
 -- ---- own votes
 
@@ -198,13 +189,6 @@ own_with m closed party now casts = own_from (record (rows_of m party) { casts =
 entered-with : ReadsEnough own_read → (m : MeetingLists) (closed party : List ℕ) (now : ℕ) (casts : List CastMark) (what : PartyRequest)
     → ((number : ℕ) → is_vote number what ≡ true → cast_on number casts ≡ cast_on number (rows_of m party).casts)
     → (answered (public_in (Some m) closed) (own_with m closed party now casts) now what).change ≡ (answered (public_in (Some m) closed) (own_from (rows_of m party) (public_in (Some m) closed) now) now what).change
-entered-with enough m closed party now casts Notice h = refl
-entered-with enough m closed party now casts Mine h = refl
-entered-with enough m closed party now casts (Appoint new) h = refl
-entered-with enough m closed party now casts (End number) h = refl
-entered-with enough m closed party now casts (Authorise person) h = refl
-entered-with enough m closed party now casts Attend h = refl
-entered-with enough m closed party now casts (Demand number) h = refl
 entered-with enough m closed party now casts (Cast new) h =
     let public = public_in (Some m) closed in
     let own = own_from (rows_of m party) public now in
@@ -218,6 +202,7 @@ entered-with enough m closed party now casts (Instructed number) h =
     ap (λ (a : Answer Entry). a.change)
     (sym (enough public (own_with m closed party now casts) now (Instructed number)) ∙ (λ i. answered public (record (own_read (Instructed number) own) { casts = same i }) now (Instructed number))
     ∙ enough public own now (Instructed number))
+entered-with enough m closed party now casts what h = refl
 
 -- a vote on one of two numbers is none on the other
 vote-apart : (number resolution : ℕ) (what : PartyRequest) → is_vote number what ≡ true → is_vote resolution what ≡ false → (number == resolution) ≡ false

@@ -75,13 +75,10 @@ accepted-entry : (P : Option Entry → Type 0) (public : PublicRecord) (own : Ow
     → P None → P (the_entry own now what) → P (party_in public own now what meeting).accepted.change
 accepted-entry P public own now meeting Notice none some = none
 accepted-entry P public own now meeting Mine none some = none
-accepted-entry P public own now meeting (Appoint new) none some = some
-accepted-entry P public own now meeting (End number) none some = some
 accepted-entry P public own now meeting (Authorise person) none some = noted-either P (gave_authority own person) (entry.Authority (authority_of own now person)) none some
 accepted-entry P public own now meeting Attend none some = noted-either P own.present (entry.Presence (presence_of own now)) none some
 accepted-entry P public own now meeting (Demand resolution) none some = noted-either P (has_demanded own resolution) (entry.Demand (demand_of own now resolution)) none some
-accepted-entry P public own now meeting (Cast new) none some = some
-accepted-entry P public own now meeting (Instructed resolution) none some = some
+accepted-entry P public own now meeting what none some = some
 
 -- what holds of nothing, and of what is entered where the request is accepted, holds of what is entered
 pub entry-of : (P : Option Entry → Type 0) (public : PublicRecord) (own : OwnView) (now : ℕ) (what : PartyRequest)
@@ -116,15 +113,9 @@ unseen-entry viewer own now at (Instructed resolution) n h =
 -- what names or authorises a viewer is of one who is near, where the call is
 pub sourced-what : (viewer : Viewer) (own : OwnView) (now : ℕ) (at : List ℕ) (what : PartyRequest)
     → implies (names_party viewer.party (asked.Party at what)) (is_near viewer own.party) ≡ true → is_near_some viewer (the_entry own now what) ≡ true
-sourced-what viewer own now at Notice h = refl
-sourced-what viewer own now at Mine h = refl
 sourced-what viewer own now at (Appoint new) h = h
-sourced-what viewer own now at (End number) h = refl
 sourced-what viewer own now at (Authorise person) h = h
-sourced-what viewer own now at Attend h = refl
-sourced-what viewer own now at (Demand resolution) h = refl
-sourced-what viewer own now at (Cast new) h = refl
-sourced-what viewer own now at (Instructed resolution) h = refl
+sourced-what viewer own now at what h = refl
 
 -- ---- the same answer in two offices
 
