@@ -15,7 +15,9 @@ use Rattle.desk_rows.specs.declared.kept.MeetingRow.{MeetingRow}
 use Rattle.desk_rows.specs.Meanings.{◌>>=◌}
 use Rattle.desk_schema.specs.Contents.{without_resolutions}
 use Rattle.desk_records.specs.Office.{FlatLists, have_meetings, lists_of, lists_of_all, number_before, numbered_from, of_meeting, office_of, resolutions_of}
-use Rattle.desk_records.proofs.OfficeLemmas.{AreOf, office_is, stands_there}
+use Rattle.desk_records.proofs.Names.{ListName, kept_list}
+use Rattle.desk_records.proofs.Names.ListName.{Register, Appointments, Endings, Authorities, Presences, Demands, Polls, Casts}
+use Rattle.desk_records.proofs.OfficeLemmas.{AreOf, have_all, office_is, stands_there}
 use Rattle.desk_records.proofs.RecordLemmas.{in_meeting, name_turned, of_meeting-append, of_meeting-none, of_meeting-own, stand-append, stand-more, stand-none, stand-own, stands}
 use Rattle.desk_words.specs.Changes.{new_lists}
 use Rattle.desk_changes.specs.Writes.{numbered}
@@ -92,36 +94,24 @@ module _ (flat : FlatLists) (meeting : Meeting) where
           numbered-sorted 1 meeting.resolutions,
         ) (numbered-read 1 meeting.resolutions)
 
+    no_records : (n : ListName) → of_meeting meeting.id ((kept_list n).all flat) ≡ []
+    no_records n = stand-none flat.meetings meeting.id ((kept_list n).all flat) (of.stand.lists n) none
+
     its_lists : lists_of with_meeting (without_resolutions meeting) ≡ Some (new_lists meeting)
     its_lists =
-        rw (
-          its_resolutions,
-          stand-none flat.meetings meeting.id flat.register of.stand.register none,
-          stand-none flat.meetings meeting.id flat.appointments of.stand.appointments none,
-          stand-none flat.meetings meeting.id flat.endings of.stand.endings none,
-          stand-none flat.meetings meeting.id flat.authorities of.stand.authorities none,
-          stand-none flat.meetings meeting.id flat.presences of.stand.presences none,
-          stand-none flat.meetings meeting.id flat.demands of.stand.demands none,
-          stand-none flat.meetings meeting.id flat.polls of.stand.polls none,
-          stand-none flat.meetings meeting.id flat.casts of.stand.casts none,
-        ) refl
+        rw (its_resolutions, no_records Register, no_records Appointments, no_records Endings, no_records Authorities, no_records Presences, no_records Demands, no_records Polls, no_records Casts) refl
 
     all_stand : have_meetings with_meeting ≡ true
     all_stand =
         let more = without_resolutions meeting ∷ [] in
-        let s = of.stand in
-        rw (
-          stand-append with_meeting.meetings flat.resolutions (map (in_meeting meeting.id) (numbered 1 meeting.resolutions)) (stand-more flat.meetings more flat.resolutions s.resolutions)
-              (stand-own with_meeting.meetings meeting.id (numbered 1 meeting.resolutions) now_stands),
-          stand-more flat.meetings more flat.register s.register,
-          stand-more flat.meetings more flat.appointments s.appointments,
-          stand-more flat.meetings more flat.endings s.endings,
-          stand-more flat.meetings more flat.authorities s.authorities,
-          stand-more flat.meetings more flat.presences s.presences,
-          stand-more flat.meetings more flat.demands s.demands,
-          stand-more flat.meetings more flat.polls s.polls,
-          stand-more flat.meetings more flat.casts s.casts,
-        ) refl
+        have_all with_meeting (record {
+          resolutions = stand-append with_meeting.meetings flat.resolutions (map (in_meeting meeting.id) (numbered 1 meeting.resolutions)) (stand-more flat.meetings more flat.resolutions of.stand.resolutions)
+              (stand-own with_meeting.meetings meeting.id (numbered 1 meeting.resolutions) now_stands);
+          lists = elim [
+            | Register ↦ stand-more flat.meetings more ((kept_list Register).all flat) (of.stand.lists Register)
+            | n ↦ stand-more flat.meetings more ((kept_list n).all flat) (of.stand.lists n)
+          ];
+        })
 
     -- a meeting of a new name is called, with its resolutions
     pub meeting_added : office_of with_meeting ≡ Some (record office { meetings = office.meetings ++ new_lists meeting ∷ [] })

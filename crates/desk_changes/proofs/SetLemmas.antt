@@ -24,7 +24,9 @@ use Rattle.desk_schema.specs.Contents as table
 use Rattle.desk_schema.specs.Contents.{loaded_at, without_resolutions}
 use Rattle.desk_records.specs.Office.{FlatLists}
 use Rattle.desk_schema.specs.Statements.{Adds, CommitsNothing, Does, Empties, Sets, TakesOut}
-use Rattle.desk_records.proofs.FlatChanges.{closed_changed, keys_changed, meetings_changed, register_changed}
+use Rattle.desk_records.proofs.FlatChanges.{table_changed}
+use Rattle.desk_records.proofs.Names.ListName.{Register}
+use Rattle.desk_records.proofs.Names.TableName.{Closed, Keys, Meetings, Each}
 use Rattle.desk_records.proofs.ListLemmas.{sort_by-sorted}
 use Rattle.desk_records.proofs.MeetingChanges.{days_set, keys_set, register_set}
 use Rattle.desk_records.proofs.RecordLemmas.{is_other}
@@ -60,7 +62,7 @@ module _ {S : Type 0} (g : store.Ghosts S) where
     keys_written keys kept does turns =
         let emptied = λ (flat : FlatLists). record flat { keys = [] } in
         writes_from g a c r (change.SetKeys keys) (λ flat. with_keys keys (emptied flat))
-        (turns_then g a b c any_records emptied (turns_by g a b n table.keys (λ _. []) emptied refl does commits (λ flat held. keys_changed (state g a) (state g b) flat held (λ _. []))) r any_records (with_keys keys) turns (λ flat good. refl))
+        (turns_then g a b c any_records emptied (turns_by g a b n table.keys (λ _. []) emptied refl does commits (λ flat held. table_changed (state g a) (state g b) flat held Keys (λ _. []))) r any_records (with_keys keys) turns (λ flat good. refl))
         (λ flat office of can. keys_set flat office of keys (keys_sorted keys kept))
 
     -- the closed days are emptied, and then added
@@ -68,7 +70,7 @@ module _ {S : Type 0} (g : store.Ghosts S) where
     days_written days kept does turns =
         let emptied = λ (flat : FlatLists). record flat { closed = [] } in
         writes_from g a c r (change.SetClosedDays days) (λ flat. with_days days (emptied flat))
-        (turns_then g a b c any_records emptied (turns_by g a b n table.closed (λ _. []) emptied refl does commits (λ flat held. closed_changed (state g a) (state g b) flat held (λ _. []))) r no_days (with_days days) turns (λ flat good. refl))
+        (turns_then g a b c any_records emptied (turns_by g a b n table.closed (λ _. []) emptied refl does commits (λ flat held. table_changed (state g a) (state g b) flat held Closed (λ _. []))) r no_days (with_days days) turns (λ flat good. refl))
         (λ flat office of can. days_set flat office of days (days_sorted days kept))
 
     -- a meeting is added, and then its resolutions
@@ -76,7 +78,7 @@ module _ {S : Type 0} (g : store.Ghosts S) where
     meeting_written m does turns =
         let more = λ (flat : FlatLists). record flat { meetings = flat.meetings ++ without_resolutions m ∷ [] } in
         writes_from g a c r (change.AddMeeting m) (λ flat. with_resolutions m.id m.resolutions (more flat))
-        (turns_then g a b c any_records more (turns_by g a b n table.meetings (λ was. was ++ without_resolutions m ∷ []) more refl does commits (λ flat held. meetings_changed (state g a) (state g b) flat held (λ was. was ++ without_resolutions m ∷ [])))
+        (turns_then g a b c any_records more (turns_by g a b n table.meetings (λ was. was ++ without_resolutions m ∷ []) more refl does commits (λ flat held. table_changed (state g a) (state g b) flat held Meetings (λ was. was ++ without_resolutions m ∷ [])))
         r any_records (with_resolutions m.id m.resolutions) turns (λ flat good. refl))
         (λ flat office of can. meeting_added flat m office of (differ_last same_meeting office.meetings (new_lists m) can.later.differ))
 
@@ -87,7 +89,7 @@ module _ {S : Type 0} (g : store.Ghosts S) where
     pub rows_turned : (id : List ℕ) (rows : List RegisterRow) → Does g a b (Ok n) (TakesOut table.register (λ holding. same_name holding.meeting id)) → Turns g b c r any_records (with_rows id rows)
         → Turns g a c r any_records (λ flat. with_rows id rows (taken_out id flat))
     rows_turned id rows does turns =
-        turns_then g a b c any_records (taken_out id) (turns_by g a b n table.register (filter (is_other id)) (taken_out id) refl does commits (λ flat held. register_changed (state g a) (state g b) flat held (filter (is_other id))))
+        turns_then g a b c any_records (taken_out id) (turns_by g a b n table.register (filter (is_other id)) (taken_out id) refl does commits (λ flat held. table_changed (state g a) (state g b) flat held (Each Register) (filter (is_other id))))
         r any_records (with_rows id rows) turns (λ flat good. refl)
 
   -- and then the meeting is noted as loaded
@@ -98,7 +100,7 @@ module _ {S : Type 0} (g : store.Ghosts S) where
       let filled = λ (flat : FlatLists). with_rows id rows (record flat { register = filter (is_other id) flat.register }) in
       writes_from g a d (Ok tt) (change.InMeeting id (SetRegister rows)) (λ flat. loaded (filled flat))
       (turns_then g a c d any_records filled turns (Ok tt) any_records loaded
-      (turns_by g c d n table.meetings (map (loaded_at id)) loaded refl does commits (λ flat held. meetings_changed (state g c) (state g d) flat held (map (loaded_at id)))) (λ flat good. refl))
+      (turns_by g c d n table.meetings (map (loaded_at id)) loaded refl does commits (λ flat held. table_changed (state g c) (state g d) flat held Meetings (map (loaded_at id)))) (λ flat good. refl))
       (λ flat office of can. register_set flat id rows office of can.before.differ (placed_in office id (SetRegister rows) can) (rows_sorted rows kept))
 
   -- unless that is refused

@@ -20,7 +20,9 @@ use Rattle.desk_rows.specs.Meanings.{◌>>=◌}
 use Rattle.desk_schema.specs.Contents as table
 use Rattle.desk_records.specs.Office.{FlatLists, flat_in, office_of}
 use Rattle.desk_schema.specs.Statements.{Adds, AddsAfter, Changes, CommitsNothing, Does, TableOf}
-use Rattle.desk_records.proofs.FlatChanges.{closed_changed, closed_held, keys_changed, register_changed, resolutions_changed}
+use Rattle.desk_records.proofs.FlatChanges.{closed_held, table_changed}
+use Rattle.desk_records.proofs.Names.ListName.{Register}
+use Rattle.desk_records.proofs.Names.TableName.{Closed, Keys, Resolutions, Each}
 use Rattle.desk_records.proofs.OfficeLemmas.{AreOf, are_of}
 use Rattle.desk_records.proofs.RecordLemmas.{in_meeting}
 use Rattle.desk_rows.proofs.MeaningLemmas.{bound}
@@ -154,7 +156,7 @@ module _ {S : Type 0} (g : store.Ghosts S) where
         turns_same a c (Ok tt) any_records (λ flat. more (with_rows id rows flat)) (with_rows id (rows ++ row ∷ []))
         (λ flat. ap (λ l. record flat { register = l }) (append_assoc flat.register (all_in id rows) (in_meeting id row ∷ []) ∙ ap (λ l. flat.register ++ l) (sym (map-append (in_meeting id) rows (row ∷ [])))))
         (turns_then a b c any_records (with_rows id rows) turns (Ok tt) any_records more
-        (turns_by b c n table.register (λ was. was ++ in_meeting id row ∷ []) more refl does commits (λ flat held. register_changed (state g b) (state g c) flat held (λ was. was ++ in_meeting id row ∷ []))) (λ flat good. refl))
+        (turns_by b c n table.register (λ was. was ++ in_meeting id row ∷ []) more refl does commits (λ flat held. table_changed (state g b) (state g c) flat held (Each Register) (λ was. was ++ in_meeting id row ∷ []))) (λ flat good. refl))
 
     pub key_more : (keys : List KeyRow) (key : KeyRow) → Turns {T = Unit {0}} g a b (Ok tt) any_records (with_keys keys) → Does g b c (Ok n) (Adds table.keys key)
         → Turns {T = Unit {0}} g a c (Ok tt) any_records (with_keys (keys ++ key ∷ []))
@@ -162,7 +164,7 @@ module _ {S : Type 0} (g : store.Ghosts S) where
         let more = λ (flat : FlatLists). record flat { keys = flat.keys ++ key ∷ [] } in
         turns_same a c (Ok tt) any_records (λ flat. more (with_keys keys flat)) (with_keys (keys ++ key ∷ [])) (λ flat. ap (λ l. record flat { keys = l }) (append_assoc flat.keys keys (key ∷ [])))
         (turns_then a b c any_records (with_keys keys) turns (Ok tt) any_records more
-        (turns_by b c n table.keys (λ was. was ++ key ∷ []) more refl does commits (λ flat held. keys_changed (state g b) (state g c) flat held (λ was. was ++ key ∷ []))) (λ flat good. refl))
+        (turns_by b c n table.keys (λ was. was ++ key ∷ []) more refl does commits (λ flat held. table_changed (state g b) (state g c) flat held Keys (λ was. was ++ key ∷ []))) (λ flat good. refl))
 
     pub resolution_more : (id : List ℕ) (rs : List Resolution) (r : Resolution) (number : ℕ) → number ≡ 1 + length rs → Turns {T = Unit {0}} g a b (Ok tt) any_records (with_resolutions id rs)
         → Does g b c (Ok n) (Adds table.resolutions (in_meeting id (record { number = number; resolution = r }))) → Turns {T = Unit {0}} g a c (Ok tt) any_records (with_resolutions id (rs ++ r ∷ []))
@@ -173,7 +175,7 @@ module _ {S : Type 0} (g : store.Ghosts S) where
         (λ flat. ap (λ l. record flat { resolutions = l }) (append_assoc flat.resolutions (all_in id (numbered 1 rs)) (one ∷ [])
         ∙ ap (λ l. flat.resolutions ++ l) (sym (ap (all_in id) (numbered-last 1 rs r number is) ∙ map-append (in_meeting id) (numbered 1 rs) (record { number = number; resolution = r } ∷ [])))))
         (turns_then a b c any_records (with_resolutions id rs) turns (Ok tt) any_records more
-        (turns_by b c n table.resolutions (λ was. was ++ one ∷ []) more refl does commits (λ flat held. resolutions_changed (state g b) (state g c) flat held (λ was. was ++ one ∷ []))) (λ flat good. refl))
+        (turns_by b c n table.resolutions (λ was. was ++ one ∷ []) more refl does commits (λ flat held. table_changed (state g b) (state g c) flat held Resolutions (λ was. was ++ one ∷ []))) (λ flat good. refl))
 
     -- a day after the earlier ones, where there was none before
     pub day_more : (days : List ℕ) (day : ℕ) → list_all (λ earlier. nat_lt earlier day) days ≡ true → Turns {T = Unit {0}} g a b (Ok tt) no_days (with_days days)
@@ -189,7 +191,7 @@ module _ {S : Type 0} (g : store.Ghosts S) where
             desk = it.desk;
             version = version_kept table.closed.number (state g b) (state g c) refl it.others mid.version;
             inside = it.inside;
-            means = closed_changed (state g b) (state g c) (with_days days flat) mid.means (λ was. was ++ day ∷ []) it
+            means = table_changed (state g b) (state g c) (with_days days flat) mid.means Closed (λ was. was ++ day ∷ []) it
                 ∙ ap (λ l. Some (record flat { closed = l })) (append_assoc flat.closed days (day ∷ []));
           };
       kept = λ clean.

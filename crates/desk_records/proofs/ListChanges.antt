@@ -3,10 +3,8 @@ use Rattle.std.proofs.Common.{◌≡◌, ℕ, Bool, true, false, List, [], ◌�
 use Rattle.std.specs.List.{list_all, list_any}
 use Rattle.std.proofs.lemmas.List.{map-id}
 use Rattle.desk_lists.specs.Ordered.{differ_by}
-use Rattle.desk_lists.specs.Sorting.{sort_by}
 use Rattle.desk_terms.specs.Names.{same_name}
-use Rattle.desk_words.specs.Office.{poll_before, same_meeting}
-use Rattle.desk_words.specs.Registers.{member_before}
+use Rattle.desk_words.specs.Office.{same_meeting}
 use Rattle.desk_words.specs.declared.office.MeetingLists.{MeetingLists}
 use Rattle.desk_words.specs.declared.office.OfficeLists.{OfficeLists}
 use Rattle.desk_words.specs.declared.records.Appointment.{Appointment}
@@ -21,7 +19,9 @@ use Rattle.desk_words.specs.declared.records.Resolution.{Resolution}
 use Rattle.desk_rows.specs.declared.kept.InMeeting.{InMeeting}
 use Rattle.desk_rows.specs.declared.kept.MeetingRow.{MeetingRow}
 use Rattle.desk_records.specs.Office.{FlatLists, of_meeting, lists_with, name_meetings, have_meetings, office_of}
-use Rattle.desk_records.proofs.OfficeLemmas.{AllStand, AreOf, ChangesOne, office_changed, stands_there, with_changed}
+use Rattle.desk_records.proofs.Names.{ItemOf, ListName, kept_list, owned}
+use Rattle.desk_records.proofs.Names.ListName.{Register, Appointments, Endings, Authorities, Presences, Demands, Polls, Casts}
+use Rattle.desk_records.proofs.OfficeLemmas.{AllStand, AreOf, ChangesOne, have_all, office_changed, stands_there, with_changed}
 use Rattle.desk_records.proofs.RecordLemmas.{in_meeting, of_meeting-last, of_meeting-same, stand-append, stand-own}
 
 -- a list that the tables keep of all meetings and an office of each, where it stands in some order
@@ -77,154 +77,64 @@ received k as_it_came flat id added office of differ one =
 
 -- ---- the lists
 
--- the register, in the order of members
+-- where a list is changed, the meetings of all records still stand
+pub stand_with : (n : ListName) (l : List (InMeeting (ItemOf n))) (flat : FlatLists) → AllStand flat → name_meetings flat.meetings l ≡ true → AllStand ((kept_list n).with_all l flat)
+stand_with Register l flat stand one = record { resolutions = stand.resolutions; lists = elim [ Register ↦ one | m ↦ stand.lists m ] }
+stand_with n l flat stand one = record { resolutions = stand.resolutions; lists = elim [ Register ↦ stand.lists Register | m ↦ assumption (one, stand.lists m) ] }
+
+-- what a change of a list leaves, and where the list stands
+pub record Laws (n : ListName) : Type 0 where
+  pub meetings : (l : List (InMeeting (ItemOf n))) (flat : FlatLists) → ((kept_list n).with_all l flat).meetings ≡ flat.meetings
+  pub resolutions : (l : List (InMeeting (ItemOf n))) (flat : FlatLists) → ((kept_list n).with_all l flat).resolutions ≡ flat.resolutions
+  pub keys : (l : List (InMeeting (ItemOf n))) (flat : FlatLists) → ((kept_list n).with_all l flat).keys ≡ flat.keys
+  pub closed : (l : List (InMeeting (ItemOf n))) (flat : FlatLists) → ((kept_list n).with_all l flat).closed ≡ flat.closed
+  pub lists : (l : List (InMeeting (ItemOf n))) (flat : FlatLists) (m : MeetingRow) (rs : List Resolution) → lists_with ((kept_list n).with_all l flat) m rs ≡ (owned n).with_own ((owned n).arrange (of_meeting m.id l)) (lists_with flat m rs)
+  pub same : (flat : FlatLists) (m : MeetingRow) (rs : List Resolution) → (owned n).with_own ((owned n).arrange (of_meeting m.id ((kept_list n).all flat))) (lists_with flat m rs) ≡ lists_with flat m rs
+  pub its_own : (flat : FlatLists) (m : MeetingRow) (rs : List Resolution) → (owned n).own (lists_with flat m rs) ≡ (owned n).arrange (of_meeting m.id ((kept_list n).all flat))
+
+pub laws : (n : ListName) → Laws n
+laws = elim [ Register ↦ assumption | _ ↦ assumption ]
+
+-- the list of a name
+abbrev pub list_of : (n : ListName) → ListOf (ItemOf n)
+list_of n = record {
+  all = (kept_list n).all;
+  with_all = (kept_list n).with_all;
+  own = (owned n).own;
+  with_own = (owned n).with_own;
+  arrange = (owned n).arrange;
+  meetings = (laws n).meetings;
+  resolutions = (laws n).resolutions;
+  keys = (laws n).keys;
+  closed = (laws n).closed;
+  lists = (laws n).lists;
+  same = (laws n).same;
+  its_own = (laws n).its_own;
+  stood = λ flat stand. stand.lists n;
+  stand = λ l flat stand one. have_all ((kept_list n).with_all l flat) (stand_with n l flat stand one);
+}
+
+-- the register stands in the order of members, the polls in that of resolutions, and the others as they came
 abbrev pub the_register : ListOf RegisterRow
-the_register = record {
-  all = λ flat. flat.register;
-  with_all = λ l flat. record flat { register = l };
-  own = λ x. x.register;
-  with_own = λ l x. record x { register = l };
-  arrange = sort_by member_before;
-  meetings = λ l flat. refl;
-  resolutions = λ l flat. refl;
-  keys = λ l flat. refl;
-  closed = λ l flat. refl;
-  lists = λ l flat m rs. refl;
-  same = λ flat m rs. refl;
-  its_own = λ flat m rs. refl;
-  stood = λ flat stand. stand.register;
-  stand = λ l flat stand one. rw (stand.resolutions, one, stand.appointments, stand.endings, stand.authorities, stand.presences, stand.demands, stand.polls, stand.casts) refl;
-}
+the_register = list_of Register
 
--- the appointments
 abbrev pub the_appointments : ListOf Appointment
-the_appointments = record {
-  all = λ flat. flat.appointments;
-  with_all = λ l flat. record flat { appointments = l };
-  own = λ x. x.appointments;
-  with_own = λ l x. record x { appointments = l };
-  arrange = λ l. l;
-  meetings = λ l flat. refl;
-  resolutions = λ l flat. refl;
-  keys = λ l flat. refl;
-  closed = λ l flat. refl;
-  lists = λ l flat m rs. refl;
-  same = λ flat m rs. refl;
-  its_own = λ flat m rs. refl;
-  stood = λ flat stand. stand.appointments;
-  stand = λ l flat stand one. rw (stand.resolutions, stand.register, one, stand.endings, stand.authorities, stand.presences, stand.demands, stand.polls, stand.casts) refl;
-}
+the_appointments = list_of Appointments
 
--- the endings
 abbrev pub the_endings : ListOf Ending
-the_endings = record {
-  all = λ flat. flat.endings;
-  with_all = λ l flat. record flat { endings = l };
-  own = λ x. x.endings;
-  with_own = λ l x. record x { endings = l };
-  arrange = λ l. l;
-  meetings = λ l flat. refl;
-  resolutions = λ l flat. refl;
-  keys = λ l flat. refl;
-  closed = λ l flat. refl;
-  lists = λ l flat m rs. refl;
-  same = λ flat m rs. refl;
-  its_own = λ flat m rs. refl;
-  stood = λ flat stand. stand.endings;
-  stand = λ l flat stand one. rw (stand.resolutions, stand.register, stand.appointments, one, stand.authorities, stand.presences, stand.demands, stand.polls, stand.casts) refl;
-}
+the_endings = list_of Endings
 
--- the authorities
 abbrev pub the_authorities : ListOf Authority
-the_authorities = record {
-  all = λ flat. flat.authorities;
-  with_all = λ l flat. record flat { authorities = l };
-  own = λ x. x.authorities;
-  with_own = λ l x. record x { authorities = l };
-  arrange = λ l. l;
-  meetings = λ l flat. refl;
-  resolutions = λ l flat. refl;
-  keys = λ l flat. refl;
-  closed = λ l flat. refl;
-  lists = λ l flat m rs. refl;
-  same = λ flat m rs. refl;
-  its_own = λ flat m rs. refl;
-  stood = λ flat stand. stand.authorities;
-  stand = λ l flat stand one. rw (stand.resolutions, stand.register, stand.appointments, stand.endings, one, stand.presences, stand.demands, stand.polls, stand.casts) refl;
-}
+the_authorities = list_of Authorities
 
--- the presences
 abbrev pub the_presences : ListOf PresenceMark
-the_presences = record {
-  all = λ flat. flat.presences;
-  with_all = λ l flat. record flat { presences = l };
-  own = λ x. x.presences;
-  with_own = λ l x. record x { presences = l };
-  arrange = λ l. l;
-  meetings = λ l flat. refl;
-  resolutions = λ l flat. refl;
-  keys = λ l flat. refl;
-  closed = λ l flat. refl;
-  lists = λ l flat m rs. refl;
-  same = λ flat m rs. refl;
-  its_own = λ flat m rs. refl;
-  stood = λ flat stand. stand.presences;
-  stand = λ l flat stand one. rw (stand.resolutions, stand.register, stand.appointments, stand.endings, stand.authorities, one, stand.demands, stand.polls, stand.casts) refl;
-}
+the_presences = list_of Presences
 
--- the demands
 abbrev pub the_demands : ListOf DemandMark
-the_demands = record {
-  all = λ flat. flat.demands;
-  with_all = λ l flat. record flat { demands = l };
-  own = λ x. x.demands;
-  with_own = λ l x. record x { demands = l };
-  arrange = λ l. l;
-  meetings = λ l flat. refl;
-  resolutions = λ l flat. refl;
-  keys = λ l flat. refl;
-  closed = λ l flat. refl;
-  lists = λ l flat m rs. refl;
-  same = λ flat m rs. refl;
-  its_own = λ flat m rs. refl;
-  stood = λ flat stand. stand.demands;
-  stand = λ l flat stand one. rw (stand.resolutions, stand.register, stand.appointments, stand.endings, stand.authorities, stand.presences, one, stand.polls, stand.casts) refl;
-}
+the_demands = list_of Demands
 
--- the polls, in the order of resolutions
 abbrev pub the_polls : ListOf Poll
-the_polls = record {
-  all = λ flat. flat.polls;
-  with_all = λ l flat. record flat { polls = l };
-  own = λ x. x.polls;
-  with_own = λ l x. record x { polls = l };
-  arrange = sort_by poll_before;
-  meetings = λ l flat. refl;
-  resolutions = λ l flat. refl;
-  keys = λ l flat. refl;
-  closed = λ l flat. refl;
-  lists = λ l flat m rs. refl;
-  same = λ flat m rs. refl;
-  its_own = λ flat m rs. refl;
-  stood = λ flat stand. stand.polls;
-  stand = λ l flat stand one. rw (stand.resolutions, stand.register, stand.appointments, stand.endings, stand.authorities, stand.presences, stand.demands, one, stand.casts) refl;
-}
+the_polls = list_of Polls
 
--- the casts
 abbrev pub the_casts : ListOf CastMark
-the_casts = record {
-  all = λ flat. flat.casts;
-  with_all = λ l flat. record flat { casts = l };
-  own = λ x. x.casts;
-  with_own = λ l x. record x { casts = l };
-  arrange = λ l. l;
-  meetings = λ l flat. refl;
-  resolutions = λ l flat. refl;
-  keys = λ l flat. refl;
-  closed = λ l flat. refl;
-  lists = λ l flat m rs. refl;
-  same = λ flat m rs. refl;
-  its_own = λ flat m rs. refl;
-  stood = λ flat stand. stand.casts;
-  stand = λ l flat stand one. rw (stand.resolutions, stand.register, stand.appointments, stand.endings, stand.authorities, stand.presences, stand.demands, stand.polls, one) refl;
-}
+the_casts = list_of Casts

@@ -19,33 +19,21 @@ use Rattle.desk_rows.specs.declared.kept.MeetingRow.{MeetingRow}
 use Rattle.desk_schema.specs.Contents.{loaded_at, opened_at}
 use Rattle.desk_records.specs.Office.{FlatLists, have_meetings, office_of, of_meeting}
 use Rattle.desk_records.proofs.ListChanges.{all_pass, list_changed, the_register}
-use Rattle.desk_records.proofs.OfficeLemmas.{AllStand, AreOf, are_of, office_changed, office_is, stands_there, with_changed}
+use Rattle.desk_records.proofs.Names.{kept_list}
+use Rattle.desk_records.proofs.Names.ListName.{Register}
+use Rattle.desk_records.proofs.OfficeLemmas.{AllStand, AreOf, are_of, have_all, office_changed, office_is, stands_there, with_changed}
 use Rattle.desk_records.proofs.RecordLemmas.{in_meeting, is_other, of_meeting-append, of_meeting-emptied, of_meeting-left, of_meeting-none, of_meeting-own, name_turned, stand-append, stand-filter, stand-own, stand-renewed}
 
 -- ---- a row of a meeting
 
 have_renewed : (flat : FlatLists) (row : MeetingRow → MeetingRow) → ((m : MeetingRow) → (row m).id ≡ m.id) → AllStand flat → have_meetings (record flat { meetings = map row flat.meetings }) ≡ true
-have_renewed flat row named stand =
-    rw (
-      stand-renewed row flat.meetings named flat.resolutions,
-      stand.resolutions,
-      stand-renewed row flat.meetings named flat.register,
-      stand.register,
-      stand-renewed row flat.meetings named flat.appointments,
-      stand.appointments,
-      stand-renewed row flat.meetings named flat.endings,
-      stand.endings,
-      stand-renewed row flat.meetings named flat.authorities,
-      stand.authorities,
-      stand-renewed row flat.meetings named flat.presences,
-      stand.presences,
-      stand-renewed row flat.meetings named flat.demands,
-      stand.demands,
-      stand-renewed row flat.meetings named flat.polls,
-      stand.polls,
-      stand-renewed row flat.meetings named flat.casts,
-      stand.casts,
-    ) refl
+have_renewed flat row named stand = have_all (record flat { meetings = map row flat.meetings }) (record {
+  resolutions = stand-renewed row flat.meetings named flat.resolutions ∙ stand.resolutions;
+  lists = elim [
+    | Register ↦ stand-renewed row flat.meetings named ((kept_list Register).all flat) ∙ stand.lists Register
+    | n ↦ stand-renewed row flat.meetings named ((kept_list n).all flat) ∙ stand.lists n
+  ];
+})
 
 module _ (flat : FlatLists) (id : List ℕ) (office : OfficeLists) (of : AreOf flat office) (differ : differ_by same_meeting office.meetings ≡ true) where
   loaded_named : (m : MeetingRow) → (loaded_at id m).id ≡ m.id
@@ -107,7 +95,7 @@ module _ (flat : FlatLists) (id : List ℕ) (rows : List RegisterRow) (office : 
       of_meeting-append name (filter (is_other id) flat.register) (map (in_meeting id) rows)
       ∙ rw (of_meeting-none id name rows (name_turned id name ∙ other), append-nil (of_meeting name (filter (is_other id) flat.register))) (of_meeting-left id name flat.register (name_turned id name ∙ other)))
       office of
-      (stand-append flat.meetings (filter (is_other id) flat.register) (map (in_meeting id) rows) (stand-filter flat.meetings (is_other id) flat.register of.stand.register)
+      (stand-append flat.meetings (filter (is_other id) flat.register) (map (in_meeting id) rows) (stand-filter flat.meetings (is_other id) flat.register (of.stand.lists Register))
       (stand-own flat.meetings id rows (sym (stands_there flat office id of) ∙ one)))
       differ (all_pass office.meetings)
     where
@@ -129,9 +117,7 @@ module _ (flat : FlatLists) (id : List ℕ) (rows : List RegisterRow) (office : 
 
 module _ (flat : FlatLists) (office : OfficeLists) (of : AreOf flat office) where
   have_same : have_meetings flat ≡ true
-  have_same =
-      let stand = of.stand in
-      rw (stand.resolutions, stand.register, stand.appointments, stand.endings, stand.authorities, stand.presences, stand.demands, stand.polls, stand.casts) refl
+  have_same = have_all flat of.stand
 
   -- the keys are replaced
   pub keys_set : (keys : List KeyRow) → sort_by caller_before keys ≡ keys → office_of (record flat { keys = keys }) ≡ Some (record office { keys = keys })

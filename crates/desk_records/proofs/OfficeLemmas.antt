@@ -1,5 +1,5 @@
 -- A change of the records of one meeting is a change of that meeting's lists.
-use Rattle.std.proofs.Common.{◌≡◌, inl, inr, ℕ, Bool, true, false, ◌&&◌, if◌then◌else◌, List, [], ◌∷◌, map, Option, Some, refl, sym, ap, subst, ◌∙◌}
+use Rattle.std.proofs.Common.{◌≡◌, inl, inr, ℕ, Bool, true, false, if◌then◌else◌, List, [], ◌∷◌, map, Option, Some, refl, sym, ap, subst, ◌∙◌}
 use Rattle.std.specs.List.{list_all, list_any}
 use Rattle.std.proofs.lemmas.Bool.{cases_Bool}
 use Rattle.desk_lists.specs.Lists.{change_first}
@@ -15,7 +15,10 @@ use Rattle.desk_words.proofs.RowLemmas.{same_name-true}
 use Rattle.desk_rows.specs.declared.kept.MeetingRow.{MeetingRow}
 use Rattle.desk_rows.specs.Meanings.{◌>>=◌, only}
 use Rattle.desk_records.specs.Office.{FlatLists, resolutions_of, lists_with, lists_of, lists_of_all, name_meetings, have_meetings, office_of}
+use Rattle.desk_records.proofs.FlatChanges.{some_is}
 use Rattle.desk_records.proofs.ListLemmas.{any-map, map-once}
+use Rattle.desk_records.proofs.Names.{ListName, kept_list}
+use Rattle.desk_records.proofs.Names.ListName.{Register, Appointments, Endings, Authorities, Presences, Demands, Polls, Casts}
 use Rattle.desk_records.proofs.RecordLemmas.{stands}
 use Rattle.desk_rows.proofs.MeaningLemmas.{bound, option_ap}
 use Rattle.std.proofs.lemmas.Bool.{and_parts}
@@ -25,26 +28,23 @@ use Rattle.std.proofs.lemmas.Bool.{and_parts}
 -- the meetings of the records stand
 pub record AllStand (flat : FlatLists) : Type 0 where
   pub resolutions : name_meetings flat.meetings flat.resolutions ≡ true
-  pub register : name_meetings flat.meetings flat.register ≡ true
-  pub appointments : name_meetings flat.meetings flat.appointments ≡ true
-  pub endings : name_meetings flat.meetings flat.endings ≡ true
-  pub authorities : name_meetings flat.meetings flat.authorities ≡ true
-  pub presences : name_meetings flat.meetings flat.presences ≡ true
-  pub demands : name_meetings flat.meetings flat.demands ≡ true
-  pub polls : name_meetings flat.meetings flat.polls ≡ true
-  pub casts : name_meetings flat.meetings flat.casts ≡ true
+  pub lists : (n : ListName) → name_meetings flat.meetings ((kept_list n).all flat) ≡ true
 
-all_stand : (flat : FlatLists) → have_meetings flat ≡ true → AllStand flat
+pub all_stand : (flat : FlatLists) → have_meetings flat ≡ true → AllStand flat
 all_stand flat h =
-    let at_casts = and_parts (name_meetings flat.meetings flat.resolutions && name_meetings flat.meetings flat.register && name_meetings flat.meetings flat.appointments && name_meetings flat.meetings flat.endings && name_meetings flat.meetings flat.authorities && name_meetings flat.meetings flat.presences && name_meetings flat.meetings flat.demands && name_meetings flat.meetings flat.polls) (name_meetings flat.meetings flat.casts) h in
-    let at_polls = and_parts (name_meetings flat.meetings flat.resolutions && name_meetings flat.meetings flat.register && name_meetings flat.meetings flat.appointments && name_meetings flat.meetings flat.endings && name_meetings flat.meetings flat.authorities && name_meetings flat.meetings flat.presences && name_meetings flat.meetings flat.demands) (name_meetings flat.meetings flat.polls) at_casts.0 in
-    let at_demands = and_parts (name_meetings flat.meetings flat.resolutions && name_meetings flat.meetings flat.register && name_meetings flat.meetings flat.appointments && name_meetings flat.meetings flat.endings && name_meetings flat.meetings flat.authorities && name_meetings flat.meetings flat.presences) (name_meetings flat.meetings flat.demands) at_polls.0 in
-    let at_presences = and_parts (name_meetings flat.meetings flat.resolutions && name_meetings flat.meetings flat.register && name_meetings flat.meetings flat.appointments && name_meetings flat.meetings flat.endings && name_meetings flat.meetings flat.authorities) (name_meetings flat.meetings flat.presences) at_demands.0 in
-    let at_authorities = and_parts (name_meetings flat.meetings flat.resolutions && name_meetings flat.meetings flat.register && name_meetings flat.meetings flat.appointments && name_meetings flat.meetings flat.endings) (name_meetings flat.meetings flat.authorities) at_presences.0 in
-    let at_endings = and_parts (name_meetings flat.meetings flat.resolutions && name_meetings flat.meetings flat.register && name_meetings flat.meetings flat.appointments) (name_meetings flat.meetings flat.endings) at_authorities.0 in
-    let at_appointments = and_parts (name_meetings flat.meetings flat.resolutions && name_meetings flat.meetings flat.register) (name_meetings flat.meetings flat.appointments) at_endings.0 in
-    let at_register = and_parts (name_meetings flat.meetings flat.resolutions) (name_meetings flat.meetings flat.register) at_appointments.0 in
-    record { resolutions = at_register.0; register = at_register.1; appointments = at_appointments.1; endings = at_endings.1; authorities = at_authorities.1; presences = at_presences.1; demands = at_demands.1; polls = at_polls.1; casts = at_casts.1 }
+    let casts = and_parts _ _ h in
+    let polls = and_parts _ _ casts.0 in
+    let demands = and_parts _ _ polls.0 in
+    let presences = and_parts _ _ demands.0 in
+    let authorities = and_parts _ _ presences.0 in
+    let endings = and_parts _ _ authorities.0 in
+    let appointments = and_parts _ _ endings.0 in
+    let register = and_parts _ _ appointments.0 in
+    record { resolutions = register.0; lists = elim [ Register ↦ register.1 | _ ↦ assumption ] }
+
+pub have_all : (flat : FlatLists) → AllStand flat → have_meetings flat ≡ true
+have_all flat s =
+    rw (s.resolutions, s.lists Register, s.lists Appointments, s.lists Endings, s.lists Authorities, s.lists Presences, s.lists Demands, s.lists Polls, s.lists Casts) refl
 
 -- the records are those of an office
 pub record AreOf (flat : FlatLists) (office : OfficeLists) : Type 0 where
@@ -56,9 +56,6 @@ pub record AreOf (flat : FlatLists) (office : OfficeLists) : Type 0 where
 only_is : {B : Type 0} (b : Bool) (next : Unit {0} → Option B) (x : B) → (only b >>= next) ≡ Some x → (b ≡ true) × (next tt ≡ Some x)
 only_is true next x h = (refl, h)
 only_is false next x h = absurd cc
-
-some_is : {A : Type 0} {a b : A} → ◌≡◌ {A = Option A} (Some a) (Some b) → a ≡ b
-some_is h = cc
 
 pub are_of : (flat : FlatLists) (office : OfficeLists) → office_of flat ≡ Some office → AreOf flat office
 unfolding office_of

@@ -18,6 +18,7 @@ use Rattle.desk_words.specs.declared.records.Poll.{Poll}
 use Rattle.desk_records.specs.Office.{FlatLists, of_meeting, office_of}
 use Rattle.desk_records.proofs.ListChanges.{list_changed, the_polls}
 use Rattle.desk_records.proofs.ListLemmas.{map-once, sort_by-last, sort_by-map}
+use Rattle.desk_records.proofs.Names.ListName.{Polls}
 use Rattle.desk_records.proofs.OfficeLemmas.{AreOf, stands_there, with_changed}
 use Rattle.desk_records.proofs.RecordLemmas.{change_in, in_meeting, of_meeting-changed, of_meeting-last, of_meeting-same, of_meeting-unchanged, stand-append, stand-map, stand-own}
 
@@ -49,7 +50,7 @@ poll_added flat id added office of differ one =
     list_changed the_polls flat (flat.polls ++ in_meeting id added ∷ []) id (insert_by poll_before added) (takes_poll id added)
     (λ m rs good is. ap (sort_by poll_before) (of_meeting-last id m.id flat.polls added is) ∙ last_poll (of_meeting m.id flat.polls) added (rw is at good))
     (λ name other. of_meeting-same id name flat.polls added other)
-    office of (stand-append flat.meetings flat.polls (in_meeting id added ∷ []) of.stand.polls (stand-own flat.meetings id (added ∷ []) (sym (stands_there flat office id of) ∙ one))) differ
+    office of (stand-append flat.meetings flat.polls (in_meeting id added ∷ []) (of.stand.lists Polls) (stand-own flat.meetings id (added ∷ []) (sym (stands_there flat office id of) ∙ one))) differ
 
 -- the poll on a resolution is changed, and stays on it
 module _ (resolution : ℕ) (change : Poll → Poll) (same : (p : Poll) → (change p).resolution ≡ p.resolution) where
@@ -84,7 +85,7 @@ module _ (resolution : ℕ) (change : Poll → Poll) (same : (p : Poll) → (cha
       list_changed the_polls flat (map (change_in id is_on change) flat.polls) id (change_first is_on change) (λ (x : MeetingLists). ascends_by poll_before x.polls)
       (λ m rs good is. ap (sort_by poll_before) (of_meeting-changed id is_on change m.id flat.polls is) ∙ changed_once (of_meeting m.id flat.polls) good)
       (λ name other. of_meeting-unchanged id is_on change name flat.polls other)
-      office of (stand-map flat.meetings (change_in id is_on change) (λ r. keeps r.meeting r.item) flat.polls ∙ of.stand.polls)
+      office of (stand-map flat.meetings (change_in id is_on change) (λ r. keeps r.meeting r.item) flat.polls ∙ of.stand.lists Polls)
     where
       keeps : (meeting : List ℕ) (p : Poll) → (change_in id is_on change (in_meeting meeting p)).meeting ≡ meeting
       keeps meeting p = elim (same_name meeting id && is_on p) as (λ b. (if b then record (in_meeting meeting p) { item = change p } else in_meeting meeting p).meeting ≡ meeting)
