@@ -15,7 +15,7 @@ use Rattle.std.proofs.Math.Bool.{or-false}
 use Rattle.desk_lists.proofs.Differing.{all_weaker, differ_snoc}
 use Rattle.desk_lists.specs.Ordered.{differ_by}
 use Rattle.desk_words.specs.Names.{same_name}
-use Rattle.desk_words.specs.Office.{are_numbered_after, is_appointment, is_ending_of, is_meeting, same_ending}
+use Rattle.desk_words.specs.Office.{are_appointments, are_endings, are_numbered_after, is_appointment, is_ending_of, is_meeting, same_ending}
 use Rattle.desk_words.specs.declared.change.Entry.TheVariants as entry
 use Rattle.desk_words.specs.declared.office.MeetingLists.{MeetingLists}
 use Rattle.desk_words.specs.declared.records.Appointment.{Appointment}
@@ -65,21 +65,13 @@ appointment_kept a m h number few instructions =
     let ends = λ (e : Ending). list_any (is_ending_of e) given in
     let ends_more = λ (e : Ending). list_any (is_ending_of e) (given ++ a ∷ []) in
     let apart = differ_by same_ending m.endings in
-    meeting_from_facts (entered (entry.Appointment a) m) (record {
-      resolutions = f.resolutions;
-      loaded = f.loaded;
-      appointments = both_true
-          (numbered_snoc [] given a (first_so numbered fits f.appointments) number)
-          (list_all-append (is_appointment n) given (a ∷ []) ∙ both_true (second_so numbered fits f.appointments) (both_true (both_true small instructions) refl));
-      endings = both_true
-          (all_weaker ends ends_more m.endings (λ e. any_front (is_ending_of e) given (a ∷ [])) (first_so (list_all ends m.endings) apart f.endings))
-          (second_so (list_all ends m.endings) apart f.endings);
-      authorities = f.authorities;
-      presences = f.presences;
-      demands = f.demands;
-      polls = f.polls;
-      casts = f.casts;
-    })
+    let numbers : are_appointments n (given ++ a ∷ []) ≡ true = both_true
+    (numbered_snoc [] given a (first_so numbered fits f.appointments) number)
+    (list_all-append (is_appointment n) given (a ∷ []) ∙ both_true (second_so numbered fits f.appointments) (both_true (both_true small instructions) refl)) in
+    let ended : are_endings (given ++ a ∷ []) m.endings ≡ true = both_true
+    (all_weaker ends ends_more m.endings (λ e. any_front (is_ending_of e) given (a ∷ [])) (first_so (list_all ends m.endings) apart f.endings))
+    (second_so (list_all ends m.endings) apart f.endings) in
+    meeting_from_facts (entered (entry.Appointment a) m) (assumption (numbers, ended, f))
 
 -- so many appointments are a party's as it is told
 pub given_count : (endings : List Ending) (party : List ℕ) (given : List Appointment) → length (map (given_in endings) (filter (is_of party) given)) ≡ count_by (is_of party) given
@@ -94,19 +86,10 @@ ending_kept e m h given fresh =
     let f = meeting_facts m h in
     let ends = λ (d : Ending). list_any (is_ending_of d) m.appointments in
     let apart = differ_by same_ending m.endings in
-    meeting_from_facts (entered (entry.Ending e) m) (record {
-      resolutions = f.resolutions;
-      loaded = f.loaded;
-      appointments = f.appointments;
-      endings = both_true
-          (list_all-append ends m.endings (e ∷ []) ∙ both_true (first_so (list_all ends m.endings) apart f.endings) (both_true given refl))
-          (differ_snoc same_ending m.endings e (second_so (list_all ends m.endings) apart f.endings) fresh);
-      authorities = f.authorities;
-      presences = f.presences;
-      demands = f.demands;
-      polls = f.polls;
-      casts = f.casts;
-    })
+    let ended : are_endings m.appointments (m.endings ++ e ∷ []) ≡ true = both_true
+    (list_all-append ends m.endings (e ∷ []) ∙ both_true (first_so (list_all ends m.endings) apart f.endings) (both_true given refl))
+    (differ_snoc same_ending m.endings e (second_so (list_all ends m.endings) apart f.endings) fresh) in
+    meeting_from_facts (entered (entry.Ending e) m) (assumption (ended, f))
 
 -- the appointment of a number that a party is told of is among those of the meeting
 pub numbered_given : (endings : List Ending) (party : List ℕ) (number : ℕ) (given : List Appointment)

@@ -13,7 +13,7 @@ use Rattle.desk_lists.proofs.Differing.{all_weaker, count_snoc, differ_snoc}
 use Rattle.desk_lists.specs.Ordered.{differ_by}
 use Rattle.desk_words.proofs.RowLemmas.{same_name-true}
 use Rattle.desk_words.specs.Names.{same_name}
-use Rattle.desk_words.specs.Office.{is_meeting, is_resolution, same_authority, same_demand, same_presence}
+use Rattle.desk_words.specs.Office.{are_authorities, are_demands, is_meeting, is_resolution, same_authority, same_demand, same_presence}
 use Rattle.desk_words.specs.declared.change.Entry.TheVariants as entry
 use Rattle.desk_words.specs.declared.office.MeetingLists.{MeetingLists}
 use Rattle.desk_words.specs.declared.records.Authority.{Authority}
@@ -52,20 +52,11 @@ authority_kept a m h room fresh =
     let more = λ (d : Authority). nat_le (given_like d (given ++ a ∷ [])) 64 in
     let apart = differ_by same_authority given in
     let own : nat_le (given_like a given) 64 ≡ true = grind (arith, nat_tests) in
-    meeting_from_facts (entered (entry.Authority a) m) (record {
-      resolutions = f.resolutions;
-      loaded = f.loaded;
-      appointments = f.appointments;
-      endings = f.endings;
-      authorities = both_true
-          (list_all-append more given (a ∷ [])
-          ∙ both_true (all_weaker fits more given (λ d. authority_fits a d given room) (first_so (list_all fits given) apart f.authorities)) (both_true (authority_fits a a given room own) refl))
-          (differ_snoc same_authority given a (second_so (list_all fits given) apart f.authorities) fresh);
-      presences = f.presences;
-      demands = f.demands;
-      polls = f.polls;
-      casts = f.casts;
-    })
+    let good : are_authorities (given ++ a ∷ []) ≡ true = both_true
+    (list_all-append more given (a ∷ [])
+    ∙ both_true (all_weaker fits more given (λ d. authority_fits a d given room) (first_so (list_all fits given) apart f.authorities)) (both_true (authority_fits a a given room own) refl))
+    (differ_snoc same_authority given a (second_so (list_all fits given) apart f.authorities) fresh) in
+    meeting_from_facts (entered (entry.Authority a) m) (assumption (good, f))
 
 -- there is room where the authority is not given yet, and not too many are
 has_room : (gave many : Bool) → gave ≡ false → (not gave && many) ≡ false → many ≡ false
@@ -93,17 +84,7 @@ not_given party person given h =
 pub presence_kept : (p : PresenceMark) (m : MeetingLists) → is_meeting m ≡ true → list_any (λ q. same_presence q p) m.presences ≡ false → is_meeting (entered (entry.Presence p) m) ≡ true
 presence_kept p m h fresh =
     let f = meeting_facts m h in
-    meeting_from_facts (entered (entry.Presence p) m) (record {
-      resolutions = f.resolutions;
-      loaded = f.loaded;
-      appointments = f.appointments;
-      endings = f.endings;
-      authorities = f.authorities;
-      presences = differ_snoc same_presence m.presences p f.presences fresh;
-      demands = f.demands;
-      polls = f.polls;
-      casts = f.casts;
-    })
+    meeting_from_facts (entered (entry.Presence p) m) (assumption (differ_snoc same_presence m.presences p f.presences fresh, f))
 
 -- ---- a demand more
 
@@ -114,19 +95,10 @@ demand_kept d m h number fresh =
     let f = meeting_facts m h in
     let on = λ (e : DemandMark). is_resolution (length m.meeting.resolutions) e.resolution in
     let apart = differ_by same_demand m.demands in
-    meeting_from_facts (entered (entry.Demand d) m) (record {
-      resolutions = f.resolutions;
-      loaded = f.loaded;
-      appointments = f.appointments;
-      endings = f.endings;
-      authorities = f.authorities;
-      presences = f.presences;
-      demands = both_true
-          (list_all-append on m.demands (d ∷ []) ∙ both_true (first_so (list_all on m.demands) apart f.demands) (both_true number refl))
-          (differ_snoc same_demand m.demands d (second_so (list_all on m.demands) apart f.demands) fresh);
-      polls = f.polls;
-      casts = f.casts;
-    })
+    let good : are_demands (length m.meeting.resolutions) (m.demands ++ d ∷ []) ≡ true = both_true
+    (list_all-append on m.demands (d ∷ []) ∙ both_true (first_so (list_all on m.demands) apart f.demands) (both_true number refl))
+    (differ_snoc same_demand m.demands d (second_so (list_all on m.demands) apart f.demands) fresh) in
+    meeting_from_facts (entered (entry.Demand d) m) (assumption (good, f))
 
 -- what is not among a party's own demands is not among all
 pub not_demanded : (party : List ℕ) (resolution : ℕ) (demands : List DemandMark)

@@ -15,7 +15,7 @@ use Rattle.desk_words.proofs.RowLemmas.{same_name-true}
 use Rattle.desk_words.specs.Names.{same_name}
 use Rattle.desk_words.specs.Ordered.{ascends_by}
 use Rattle.desk_words.specs.Registers.{is_register}
-use Rattle.desk_words.specs.Office.{implies, no_rows, is_resolution, is_declared_right, is_poll, is_tally, poll_before, are_polls, is_cast_on, same_ballot, are_casts, is_meeting}
+use Rattle.desk_words.specs.Office.{implies, is_loaded_right, no_rows, is_resolution, is_declared_right, is_poll, is_tally, poll_before, are_polls, is_cast_on, same_ballot, are_casts, is_meeting}
 use Rattle.desk_words.specs.declared.change.Entry.TheVariants as entry
 use Rattle.desk_words.specs.declared.office.MeetingLists.{MeetingLists}
 use Rattle.desk_words.specs.declared.records.RegisterRow.{RegisterRow}
@@ -39,17 +39,8 @@ implies_true false = refl
 pub register_kept : (rows : List RegisterRow) (m : MeetingLists) → is_register rows ≡ true → is_meeting m ≡ true → is_meeting (changed (SetRegister rows) m) ≡ true
 register_kept rows m good h =
     let f = meeting_facts m h in
-    meeting_from_facts (changed (SetRegister rows) m) (record {
-      resolutions = f.resolutions;
-      loaded = both_true good (implies_true (is_some m.meeting.opened));
-      appointments = f.appointments;
-      endings = f.endings;
-      authorities = f.authorities;
-      presences = f.presences;
-      demands = f.demands;
-      polls = f.polls;
-      casts = f.casts;
-    })
+    let loaded : is_loaded_right (changed (SetRegister rows) m) ≡ true = both_true good (implies_true (is_some m.meeting.opened)) in
+    meeting_from_facts (changed (SetRegister rows) m) (assumption (loaded, f))
 
 polls_from : (opened : Bool) (n : ℕ) (polls : List Poll) → opened ≡ true → list_all (is_poll n) polls ≡ true → ascends_by poll_before polls ≡ true → are_polls opened n polls ≡ true
 polls_from opened n [] o all up = refl
@@ -76,17 +67,10 @@ opening_kept moment m h loaded =
     let f = meeting_facts m h in
     let n = length m.meeting.resolutions in
     let opened = is_some m.meeting.opened in
-    meeting_from_facts (changed (SetOpened moment) m) (record {
-      resolutions = f.resolutions;
-      loaded = both_true (first_so (cond m.meeting.loaded (is_register m.register) (no_rows m.register)) (implies opened m.meeting.loaded) f.loaded) loaded;
-      appointments = f.appointments;
-      endings = f.endings;
-      authorities = f.authorities;
-      presences = f.presences;
-      demands = f.demands;
-      polls = polls_from true n m.polls refl (polls_all opened n m.polls f.polls) (polls_ascend opened n m.polls f.polls);
-      casts = f.casts;
-    })
+    let right : is_loaded_right (changed (SetOpened moment) m) ≡ true =
+    both_true (first_so (cond m.meeting.loaded (is_register m.register) (no_rows m.register)) (implies opened m.meeting.loaded) f.loaded) loaded in
+    let stand : are_polls true n m.polls ≡ true = polls_from true n m.polls refl (polls_all opened n m.polls f.polls) (polls_ascend opened n m.polls f.polls) in
+    meeting_from_facts (changed (SetOpened moment) m) (assumption (right, stand, f))
 
 -- ---- polls
 
@@ -103,18 +87,7 @@ casts_stay polls others casts stay h =
 polls_kept : (polls : List Poll) (m : MeetingLists) → is_meeting m ≡ true → are_polls (is_some m.meeting.opened) (length m.meeting.resolutions) polls ≡ true
     → are_casts polls m.casts ≡ true → is_meeting (record m { polls = polls }) ≡ true
 polls_kept polls m h good stand =
-    let f = meeting_facts m h in
-    meeting_from_facts (record m { polls = polls }) (record {
-      resolutions = f.resolutions;
-      loaded = f.loaded;
-      appointments = f.appointments;
-      endings = f.endings;
-      authorities = f.authorities;
-      presences = f.presences;
-      demands = f.demands;
-      polls = good;
-      casts = stand;
-    })
+    meeting_from_facts (record m { polls = polls }) (assumption (good, stand, meeting_facts m h))
 
 nat_apart : (a b : ℕ) → (a == b) ≡ false → (nat_lt b a || nat_lt a b) ≡ true
 nat_apart a b h = grind (arith, nat_tests)
@@ -243,17 +216,8 @@ vote_kept c m p h found started few =
     let here : on c ≡ true = found-any test (is_cast_on c) m.polls p found (both_true (found-passes test m.polls p found) started) in
     let own : nat_le (votes_like c casts) 1024 ≡ true = grind (arith, nat_tests) in
     let more = λ (d : CastMark). nat_le (votes_like d (casts ++ c ∷ [])) 1024 in
-    meeting_from_facts (entered (entry.Cast c) m) (record {
-      resolutions = f.resolutions;
-      loaded = f.loaded;
-      appointments = f.appointments;
-      endings = f.endings;
-      authorities = f.authorities;
-      presences = f.presences;
-      demands = f.demands;
-      polls = f.polls;
-      casts = both_true
-          (list_all-append on casts (c ∷ []) ∙ both_true standing (both_true here refl))
-          (list_all-append more casts (c ∷ [])
-          ∙ both_true (all_weaker fits more casts (λ d. ballot_fits c d casts room) within) (both_true (ballot_fits c c casts room own) refl));
-    })
+    let good : are_casts m.polls (casts ++ c ∷ []) ≡ true = both_true
+    (list_all-append on casts (c ∷ []) ∙ both_true standing (both_true here refl))
+    (list_all-append more casts (c ∷ [])
+    ∙ both_true (all_weaker fits more casts (λ d. ballot_fits c d casts room) within) (both_true (ballot_fits c c casts room own) refl)) in
+    meeting_from_facts (entered (entry.Cast c) m) (assumption (good, f))

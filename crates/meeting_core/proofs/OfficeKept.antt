@@ -85,17 +85,7 @@ Kept o change = if_any keeps_limits change ≡ true → is_office (after_some o 
 
 -- a meeting without lists
 new_meeting_kept : (new : NewMeeting) → are_resolutions new.resolutions ≡ true → is_meeting (new_lists (meeting_of new)) ≡ true
-new_meeting_kept new h = meeting_from_facts (new_lists (meeting_of new)) (record {
-  resolutions = h;
-  loaded = refl;
-  appointments = refl;
-  endings = refl;
-  authorities = refl;
-  presences = refl;
-  demands = refl;
-  polls = refl;
-  casts = refl;
-})
+new_meeting_kept new h = meeting_from_facts (new_lists (meeting_of new)) (assumption h)
 
 -- a meeting of a new name may be added
 added_kept : (o : OfficeLists) (m : MeetingLists) → OfficeFacts o → meeting_named o.meetings m.meeting.id ≡ None → nat_le 100 (length o.meetings) ≡ false → is_meeting m ≡ true

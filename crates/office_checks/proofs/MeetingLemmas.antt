@@ -1,16 +1,16 @@
 -- The lists of a meeting, tested one after another.
-use Rattle.std.proofs.Common.{◌≡◌, Bool, true, false, ◌&&◌, cond, ◌<◌, ℕ, length, get_or, List, [], ◌∷◌, ◌++◌, map, refl, ap, sym, ◌∙◌}
+use Rattle.std.proofs.Common.{◌≡◌, Bool, true, false, ◌&&◌, cond, ◌<◌, ℕ, length, get_or, List, [], ◌∷◌, ◌++◌, map, inl, inr, refl, ap, sym, ◌∙◌, true≢false}
 use Rattle.std.specs.Prelude.{Some, None, is_some}
 use Rattle.std.specs.List.{list_all}
+use Rattle.std.proofs.lemmas.Bool.{cases_Bool}
 use Rattle.std.proofs.lemmas.List.{map-append}
 use Rattle.std.proofs.lemmas.List.Folds.{list_all-append, list_all-map, list_all_at}
 use Rattle.std.specs.Cmp.Derive.{both_true}
-use Rattle.desk_lists.specs.Ordered.{differ_by}
-use Rattle.desk_words.specs.Lists.{are_resolutions}
-use Rattle.desk_words.specs.Office.{are_appointments, are_authorities, are_casts, are_demands, are_endings, are_polls, implies, is_loaded_right, is_meeting, no_rows, same_presence}
+use Rattle.desk_words.specs.Office.{implies, is_loaded_right, is_meeting, no_rows}
 use Rattle.desk_words.specs.Registers.{is_register}
 use Rattle.desk_words.specs.declared.office.MeetingLists.{MeetingLists}
 use Rattle.desk_words.specs.declared.records.RegisterRow.{RegisterRow}
+use Rattle.desk_words.proofs.OfficeFacts.{meeting_facts}
 use Rattle.office_checks.specs.InOrder.{each_of, in_order, loaded_of, meeting_of, rows_of}
 
 -- what is given under a condition
@@ -45,16 +45,11 @@ loaded_of-some m rows right some =
     ∙ ap (λ b. cond b (Some (in_order m)) None) right
     ∙ ap (λ r. Some (record m { register = r })) both.1
 
-unloaded : (r a e u p d o c : Bool) → ((((((((r && false) && a) && e) && u) && p) && d) && o) && c) ≡ false
-unloaded true a e u p d o c = refl
-unloaded false a e u p d o c = refl
-
 is_meeting-unloaded : (m : MeetingLists) → is_loaded_right m ≡ false → is_meeting m ≡ false
-is_meeting-unloaded m h =
-    let k = length m.meeting.resolutions in
-    ap (λ l. ((((((((are_resolutions m.meeting.resolutions && l) && are_appointments k m.appointments) && are_endings m.appointments m.endings) && are_authorities m.authorities) && differ_by same_presence m.presences)
-    && are_demands k m.demands) && are_polls (is_some m.meeting.opened) k m.polls) && are_casts m.polls m.casts)) h
-    ∙ unloaded (are_resolutions m.meeting.resolutions) _ _ _ _ _ _ _
+is_meeting-unloaded m h = elim (cases_Bool (is_meeting m)) [
+  | inl good ↦ absurd (true≢false (sym (meeting_facts m good).loaded ∙ h))
+  | inr wrong ↦ wrong
+]
 
 -- lists whose register is not loaded as it should be are none of a meeting
 pub meeting_of-unloaded : (m : MeetingLists) → loaded_of m ≡ None → meeting_of m ≡ None
