@@ -24,8 +24,9 @@ use Rattle.desk_words.specs.declared.records.Poll.{Poll}
 use Rattle.desk_words.specs.declared.records.RegisterRow.{RegisterRow}
 use Rattle.desk_words.specs.declared.records.Resolution.{Resolution}
 use Rattle.desk_words.specs.Lists.{are_keys, are_resolutions, caller_before, day_before, day_count, is_day_list, is_key_list, keep_keys, key_list_of, same_caller, same_secret}
-use Rattle.desk_words.specs.Office.{are_appointments, are_authorities, are_casts, are_demands, are_endings, are_polls, implies, is_loaded_right, is_meeting, is_poll, no_rows, poll_before, same_presence}
+use Rattle.desk_words.specs.Office.{are_polls, implies, is_loaded_right, is_meeting, is_poll, no_rows, poll_before}
 use Rattle.desk_words.specs.Registers.{are_holdings, is_register, keep_limits, member_before, register_of, same_member}
+use Rattle.desk_words.proofs.OfficeFacts.{meeting_facts}
 use Rattle.desk_words.proofs.RegisterLimits.{keep_limits-permutation}
 use Rattle.desk_rows.specs.Meanings.{◌>>=◌, only}
 use Rattle.desk_rows.specs.declared.kept.NumberedResolution.{NumberedResolution}
@@ -210,13 +211,11 @@ polls_wrong own none m h =
     let it = bound (resolutions_own own.resolutions) (λ rs. Some (lists_own_with own rs)) m h in
     let lists = lists_own_with own it.0 in
     let same : lists ≡ m = cc in
-    let count = length it.0 in
-    let before =
-    are_resolutions it.0 && is_loaded_right lists && are_appointments count lists.appointments && are_endings lists.appointments lists.endings
-    && are_authorities lists.authorities && differ_by same_presence lists.presences && are_demands count lists.demands in
-    let polls = are_polls (is_some lists.meeting.opened) count lists.polls in
     subst (λ (x : MeetingLists). is_meeting x ≡ false) same
-    (ap (λ b. b && are_casts lists.polls lists.casts) (second_false before polls (polls_wrong_order (is_some lists.meeting.opened) count lists.polls none)))
+    (elim (cases_Bool (is_meeting lists)) [
+      | inl good ↦ absurd (true≢false (sym (meeting_facts lists good).polls ∙ polls_wrong_order (is_some lists.meeting.opened) (length it.0) lists.polls none))
+      | inr wrong ↦ wrong
+    ])
 
 -- ---- what a list is refused for
 

@@ -22,26 +22,10 @@ use Rattle.office_lists.specs.declared.fault.ReadFault.TheVariants.{NoOffice}
 use Rattle.office_lists.specs.Yields.{IsCause}
 use Rattle.office_lists.specs.declared.own.OwnRecords.{OwnRecords}
 use Rattle.office_lists.specs.declared.flat.MeetingRecords.{MeetingRecords}
+use Rattle.office_lists.specs.Flat.{flat_with}
 use Rattle.office_lists.specs.Giving.{all_lists_own, are_meeting_rows, own_of, same_row}
 use Rattle.office_lists.specs.Own.{lists_own}
 use Rattle.office_lists.proofs.ListLemmas.{second_false}
-
--- what the tables hold: keys, closed days, meetings and the records of these
-abbrev pub flat_with : List KeyRow → List ℕ → List MeetingRow → MeetingRecords → FlatLists
-flat_with keys closed meetings records = record {
-  keys = keys;
-  closed = closed;
-  meetings = meetings;
-  resolutions = records.resolutions;
-  register = records.register;
-  appointments = records.appointments;
-  endings = records.endings;
-  authorities = records.authorities;
-  presences = records.presences;
-  demands = records.demands;
-  polls = records.polls;
-  casts = records.casts;
-}
 
 -- the lists of all meetings are those of each one's own records
 pub lists_same : (keys : List KeyRow) (closed : List ℕ) (meetings : List MeetingRow) (records : MeetingRecords) (rows : List MeetingRow)

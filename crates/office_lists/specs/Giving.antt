@@ -8,11 +8,12 @@ use Rattle.desk_words.specs.declared.office.MeetingLists.{MeetingLists}
 use Rattle.desk_rows.specs.Meanings.{◌>>=◌}
 use Rattle.desk_rows.specs.declared.kept.InMeeting.{InMeeting}
 use Rattle.desk_rows.specs.declared.kept.MeetingRow.{MeetingRow}
-use Rattle.desk_records.specs.Office.{name_meetings, of_meeting}
+use Rattle.desk_records.specs.Office.{have_meetings, of_meeting}
 use Rattle.office_lists.specs.declared.fault.ReadFault.{ReadFault}
 use Rattle.office_lists.specs.declared.fault.ReadFault.TheVariants.{NoOffice}
 use Rattle.office_lists.specs.declared.flat.MeetingRecords.{MeetingRecords}
 use Rattle.office_lists.specs.declared.own.OwnRecords.{OwnRecords}
+use Rattle.office_lists.specs.Flat.{flat_with}
 use Rattle.office_lists.specs.Own.{adding_appointments, adding_authorities, adding_casts}
 use Rattle.office_lists.specs.Own.{adding_demands, adding_endings, adding_polls, adding_presences}
 use Rattle.office_lists.specs.Own.{adding_register, adding_resolutions, lists_own}
@@ -66,18 +67,9 @@ abbrev pub given_out : {A : Type 0} → (List A → OwnRecords → OwnRecords) �
 given_out put records all =
     map (λ (own : OwnRecords). put (of_meeting own.meeting.id records) own) all
 
--- each record is of a meeting that stands
+-- no record is of a meeting that does not stand
 abbrev pub all_name_meetings : MeetingRecords → List MeetingRow → Bool
-all_name_meetings records meetings =
-    name_meetings meetings records.resolutions
-    && name_meetings meetings records.register
-    && name_meetings meetings records.appointments
-    && name_meetings meetings records.endings
-    && name_meetings meetings records.authorities
-    && name_meetings meetings records.presences
-    && name_meetings meetings records.demands
-    && name_meetings meetings records.polls
-    && name_meetings meetings records.casts
+all_name_meetings records meetings = have_meetings (flat_with [] [] meetings records)
 
 -- each meeting has of all the records its own behind its others
 abbrev pub all_given_out : MeetingRecords → List OwnRecords → List OwnRecords

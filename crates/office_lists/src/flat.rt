@@ -31,21 +31,9 @@ pub struct FlatRecords {
 
 impl Model for FlatRecords {
     ghost use Rattle.desk_records.specs.Office.{FlatLists};
+    ghost use Rattle.office_lists.specs.Flat.{flat_with};
 
     ghost Value = { FlatLists };
 
-    ghost view = { λ f. record {
-      keys = f.keys;
-      closed = f.closed;
-      meetings = f.meetings;
-      resolutions = f.records.resolutions;
-      register = f.records.register;
-      appointments = f.records.appointments;
-      endings = f.records.endings;
-      authorities = f.records.authorities;
-      presences = f.records.presences;
-      demands = f.records.demands;
-      polls = f.records.polls;
-      casts = f.records.casts;
-    } };
+    ghost view = { λ f. flat_with f.keys f.closed f.meetings f.records };
 }

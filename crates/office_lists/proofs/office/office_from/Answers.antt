@@ -5,10 +5,11 @@ use Rattle.desk_words.specs.Lists.{caller_before, day_before, is_day_list, is_ke
 use Rattle.desk_words.specs.Office.{is_meeting, is_office}
 use Rattle.desk_rows.specs.declared.kept.MeetingRow.{MeetingRow}
 use Rattle.desk_records.specs.Office.{lists_of_all, office_of}
+use Rattle.office_lists.specs.Flat.{flat_with}
 use Rattle.office_lists.specs.Giving.{all_lists_own, all_name_meetings, are_meeting_rows, own_of}
 use Rattle.office_lists.specs.Yields.{Yields}
 use Rattle.office_lists.proofs.ListLemmas.{cause_by}
-use Rattle.office_lists.proofs.OfficeLemmas.{days_wrong, flat_with, keys_wrong, lists_same, meetings_wrong, names_cause, office_made}
+use Rattle.office_lists.proofs.OfficeLemmas.{days_wrong, keys_wrong, lists_same, meetings_wrong, names_cause, office_made}
 use Rattle.office_lists.proofs.office.office_from.Goals as goal
 
 pub returns-in_err-keys : goal.returns-in_err-keys

@@ -1,0 +1,23 @@
+-- What the tables hold, of the desk and of its meetings.
+use Rattle.std.specs.Prelude.{ℕ, List}
+use Rattle.desk_words.specs.declared.caller.KeyRow.{KeyRow}
+use Rattle.desk_rows.specs.declared.kept.MeetingRow.{MeetingRow}
+use Rattle.desk_records.specs.Office.{FlatLists}
+use Rattle.office_lists.specs.declared.flat.MeetingRecords.{MeetingRecords}
+
+-- keys, closed days, meetings and the records of these
+abbrev pub flat_with : List KeyRow → List ℕ → List MeetingRow → MeetingRecords → FlatLists
+flat_with keys closed meetings records = record {
+  keys = keys;
+  closed = closed;
+  meetings = meetings;
+  resolutions = records.resolutions;
+  register = records.register;
+  appointments = records.appointments;
+  endings = records.endings;
+  authorities = records.authorities;
+  presences = records.presences;
+  demands = records.demands;
+  polls = records.polls;
+  casts = records.casts;
+}
