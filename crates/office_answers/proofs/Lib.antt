@@ -1,1 +1,2 @@
 pub mod MeetingRules
+pub mod ReadLaws

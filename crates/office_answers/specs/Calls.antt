@@ -1,5 +1,5 @@
 -- The calling of a meeting, and the loading of its register.
-use Rattle.std.specs.Prelude.{false, ◌==◌, not, ◌/◌, nat_lt, nat_le, List, [], ◌∷◌, length, Some, None, is_some}
+use Rattle.std.specs.Prelude.{ℕ, Bool, false, ◌==◌, not, ◌/◌, nat_lt, nat_le, List, [], ◌∷◌, length, Some, None, is_some}
 use Rattle.desk_words.specs.Finding.{meeting_named}
 use Rattle.desk_words.specs.Refusals.{Case}
 use Rattle.desk_words.specs.Rows.{same_rows}
@@ -24,14 +24,19 @@ day_of moment = moment / 86400
 
 -- when a meeting is not called: one has that name, the notice is too short (sections 307 and 360),
 -- or there are `MOST_MEETINGS`
-abbrev pub call_cases : List MeetingLists → NewMeeting → List Case
-call_cases meetings new =
-    record { refusal = Exists; holds = is_some (meeting_named meetings new.meeting) }
+abbrev pub cases_of_call : Bool → ℕ → NewMeeting → List Case
+cases_of_call is_named held new =
+    record { refusal = Exists; holds = is_named }
     ∷ record {
       refusal = ShortNotice;
       holds = not (is_enough_notice new.company new.kind new.given (day_of new.appointed));
     }
-    ∷ record { refusal = TooMany; holds = nat_le MOST_MEETINGS (length meetings) } ∷ []
+    ∷ record { refusal = TooMany; holds = nat_le MOST_MEETINGS held } ∷ []
+
+-- it is so by whether one of the meetings has that name, and by how many they are
+abbrev pub call_cases : List MeetingLists → NewMeeting → List Case
+call_cases meetings new =
+    cases_of_call (is_some (meeting_named meetings new.meeting)) (length meetings) new
 
 -- the meeting that is called (sections 302 and 307)
 abbrev pub meeting_of : NewMeeting → Meeting
@@ -48,11 +53,16 @@ meeting_of new = record {
 }
 
 -- a meeting is called, which adds it
-abbrev pub call_ruling : List MeetingLists → NewMeeting → Ruling Change
-call_ruling meetings new = record {
-  cases = call_cases meetings new;
+abbrev pub ruling_of_call : Bool → ℕ → NewMeeting → Ruling Change
+ruling_of_call is_named held new = record {
+  cases = cases_of_call is_named held new;
   accepted = record { reply = Called; change = Some (AddMeeting (meeting_of new)) };
 }
+
+-- it is called beside the meetings that are held
+abbrev pub call_ruling : List MeetingLists → NewMeeting → Ruling Change
+call_ruling meetings new =
+    ruling_of_call (is_some (meeting_named meetings new.meeting)) (length meetings) new
 
 -- when a register is not loaded (section 113)
 abbrev pub load_cases : Meeting → Moment → NewRegister → List Case

@@ -4,3 +4,4 @@ pub mod Calls
 pub mod Limits
 pub mod Lists
 pub mod Polls
+pub mod Reads

@@ -5,6 +5,7 @@ ghost use Rattle.desk_words.specs.Office.{is_meeting};
 ghost use Rattle.desk_words.specs.Rulings.{refuses, settled};
 ghost use Rattle.office_answers.specs.Answers.{desk_ruling, office_ruling, refuses_at_once, takes_no_memory};
 ghost use Rattle.office_answers.specs.Limits.{if_any, is_within_limits, keeps_limits};
+ghost use Rattle.office_answers.specs.Reads.{reads_register};
 
 use crate::attendance::note_presence;
 use crate::calls::{call_meeting, load_register};
@@ -12,7 +13,7 @@ use crate::lists::{load_days, load_keys};
 use crate::polls::{close_poll, declare_poll, open_meeting, order_poll, start_poll};
 use desk_words::{
     Answer, Change, DeskRequest, KeyRows, MeetingChange, MeetingLists, Moment, OfficeRequest,
-    Refusal, refuse,
+    Refusal, find_meeting, refuse,
 };
 use office_days::Closed;
 use std::alloc::{AllocError, Global};
@@ -32,14 +33,18 @@ pub fn desk_answer(
         → IsOk result }
 {
     match asked {
-        DeskRequest::CallMeeting(new) => call_meeting(meetings, new),
+        DeskRequest::CallMeeting(new) => {
+            let is_named = find_meeting(meetings, new.meeting).is_some();
+            call_meeting(is_named, meetings.len(), new)
+        }
         DeskRequest::ClosedDays(days) => load_days(closed, days),
         DeskRequest::Keys(rows) => load_keys(keys, rows),
     }
 }
 
 /// The answer to what the office asks in a meeting, from the closed days, the moment and the
-/// meeting's lists. It is refused as `NoMeeting` where there is none, and else as its request is.
+/// meeting's lists; where the request reads no register, they need not be all of a meeting's. It is
+/// refused as `NoMeeting` where there is none, and else as its request is.
 /// The error is want of memory; what `takes_no_memory` names, a presence, a start and a close among
 /// it, needs none, nor does a refusal other than `NoQuorum` and `DemandTooSmall`.
 pub fn office_answer(
@@ -49,7 +54,8 @@ pub fn office_answer(
     now: Moment,
     asked: &OfficeRequest,
 ) -> Result<Answer<MeetingChange>, AllocError>
-    requires { IfSome (option_copied found) (λ m. is_meeting m ≡ true) }
+    requires { IfSome (option_copied found)
+        (λ m. reads_register asked.now ≡ true → is_meeting m ≡ true) }
     ensures answer { IfOk result (λ a. a
         ≡ settled (office_ruling closed.now (option_copied found.entry) now asked.now)) }
     ensures limits { IfOk result (λ a. if_any is_within_limits a.change ≡ true) }

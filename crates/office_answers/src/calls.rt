@@ -3,27 +3,27 @@ ghost use Rattle.std.specs.Prelude.{◌≡◌, true, IfOk, IsOk, IsTrue};
 ghost use Rattle.desk_words.specs.Refusals.{first_refusal};
 ghost use Rattle.desk_words.specs.Rulings.{refuses, settled};
 ghost use Rattle.desk_words.specs.Lists.{are_resolutions};
-ghost use Rattle.office_answers.specs.Calls.{call_cases, call_ruling, load_cases, load_ruling, meeting_of};
+ghost use Rattle.office_answers.specs.Calls.{cases_of_call, load_cases, load_ruling, meeting_of, ruling_of_call};
 ghost use Rattle.office_answers.specs.Limits.{if_any, is_within_limits, keeps_limits};
 
 use desk_words::limits::MOST_MEETINGS;
 use desk_words::{
     Answer, Change, Meeting, MeetingChange, MeetingLists, Moment, NewMeeting, NewRegister, Refusal,
-    Reply, find_meeting, refuse, same_rows, tell,
+    Reply, refuse, same_rows, tell,
 };
 use office_days::enough_notice;
 use std::alloc::AllocError;
 
-fn call_refusal(meetings: &[MeetingLists], new: &NewMeeting) -> Option<Refusal>
-    ensures { result ≡ first_refusal (call_cases meetings.now new.now) }
+fn call_refusal(is_named: bool, held: usize, new: &NewMeeting) -> Option<Refusal>
+    ensures { result ≡ first_refusal (cases_of_call is_named held new.now) }
 {
-    if find_meeting(meetings, new.meeting).is_some() {
+    if is_named {
         return Some(Refusal::Exists);
     }
     if !enough_notice(new.company, new.kind, new.given, new.appointed.day()) {
         return Some(Refusal::ShortNotice);
     }
-    if meetings.len() >= MOST_MEETINGS {
+    if held >= MOST_MEETINGS {
         return Some(Refusal::TooMany);
     }
     None
@@ -46,19 +46,21 @@ fn new_meeting(new: &NewMeeting) -> Result<Meeting, AllocError>
     })
 }
 
-/// The answer to a call of a meeting (sections 302 and 307): `Exists` where a meeting has that
-/// name, `ShortNotice` where the clear days between the notice and the appointed day are too few,
-/// `TooMany` where there are `MOST_MEETINGS`, and else `Called`, which adds the meeting. The error
-/// is want of memory; a refusal takes none.
-pub(crate) fn call_meeting(
-    meetings: &[MeetingLists],
+/// The answer to a call of a meeting (sections 302 and 307), from whether a meeting has that name
+/// and from how many meetings are held: `Exists` where one has it, `ShortNotice` where the clear
+/// days between the notice and the appointed day are too few, `TooMany` where there are
+/// `MOST_MEETINGS`, and else `Called`, which adds the meeting. The error is want of memory; a
+/// refusal takes none.
+pub fn call_meeting(
+    is_named: bool,
+    held: usize,
     new: &NewMeeting,
 ) -> Result<Answer<Change>, AllocError>
-    ensures answer { IfOk result (λ a. a ≡ settled (call_ruling meetings.now new.now)) }
+    ensures answer { IfOk result (λ a. a ≡ settled (ruling_of_call is_named held new.now)) }
     ensures limits { IfOk result (λ a. if_any keeps_limits a.change ≡ true) }
-    ensures sure { refuses (call_ruling meetings.now new.now) ≡ true → IsOk result }
+    ensures sure { refuses (ruling_of_call is_named held new.now) ≡ true → IsOk result }
 {
-    if let Some(refusal) = call_refusal(meetings, new) {
+    if let Some(refusal) = call_refusal(is_named, held, new) {
         return Ok(refuse(refusal));
     }
     Ok(Answer {

@@ -4,7 +4,10 @@
 mod answer;
 mod attendance;
 mod calls;
+pub mod laws;
 mod lists;
 mod polls;
 
 pub use answer::{desk_answer, office_answer};
+pub use calls::call_meeting;
+pub use lists::{load_days, load_keys};

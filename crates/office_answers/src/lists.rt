@@ -16,7 +16,7 @@ fn same_days(held: &[Day], days: &[Day]) -> bool
 
 /// The answer to a list of closed days (section 1173): `Same` where it is the one that is held, and
 /// else `Loaded`, which replaces it. The error is want of memory.
-pub(crate) fn load_days(held: &Closed, days: &DayList) -> Result<Answer<Change>, AllocError>
+pub fn load_days(held: &Closed, days: &DayList) -> Result<Answer<Change>, AllocError>
     ensures answer { IfOk result (λ a. a ≡ settled (closed_ruling held.now days.now)) }
     ensures limits { IfOk result (λ a. if_any keeps_limits a.change ≡ true) }
 {
@@ -31,7 +31,7 @@ pub(crate) fn load_days(held: &Closed, days: &DayList) -> Result<Answer<Change>,
 
 /// The answer to a list of keys: `Same` where it is the one that is held, and else `Loaded`, which
 /// replaces it. The error is want of memory.
-pub(crate) fn load_keys(held: &KeyRows, rows: &KeyRows) -> Result<Answer<Change>, AllocError>
+pub fn load_keys(held: &KeyRows, rows: &KeyRows) -> Result<Answer<Change>, AllocError>
     ensures answer { IfOk result (λ a. a ≡ settled (keys_ruling held.now rows.now)) }
     ensures limits { IfOk result (λ a. if_any keeps_limits a.change ≡ true) }
 {

@@ -1,5 +1,5 @@
 //! The opening of a meeting, and the way of a poll: ordered, started, closed, declared.
-ghost use Rattle.std.specs.Prelude.{◌≡◌, ◌-◌, ◌&&◌, not, true, Some, IfOk, IsOk, IsTrue, length};
+ghost use Rattle.std.specs.Prelude.{◌≡◌, ◌-◌, ◌&&◌, not, true, false, Some, IfOk, IsOk, IsTrue, length};
 ghost use Rattle.std.specs.List.{slice_get};
 ghost use Rattle.desk_words.specs.Finding.{poll_on};
 ghost use Rattle.desk_words.specs.Office.{is_meeting, is_resolution, is_tally};
@@ -80,7 +80,7 @@ fn is_unwanted(
     now: Moment,
     new: &NewPoll,
 ) -> Result<bool, AllocError>
-    requires { is_meeting lists.now ≡ true }
+    requires { new.now.chair ≡ false → is_meeting lists.now ≡ true }
     ensures unwanted { IfOk result (λ b. b ≡ (not new.now.chair && not
         (demand_in lists.now closed.now now new.now.resolution).reached)) }
     ensures sure { new.now.chair ≡ true → IsOk result }
@@ -98,7 +98,7 @@ fn order_refusal(
     now: Moment,
     new: &NewPoll,
 ) -> Result<Option<Refusal>, AllocError>
-    requires { is_meeting lists.now ≡ true }
+    requires { new.now.chair ≡ false → is_meeting lists.now ≡ true }
     ensures refusal { IfOk result (λ refusal. refusal
         ≡ first_refusal (order_cases lists.now closed.now now new.now)) }
     ensures sure { is_some_at_once (first_refusal (order_cases lists.now closed.now now new.now))
@@ -150,7 +150,7 @@ pub(crate) fn order_poll(
     now: Moment,
     new: &NewPoll,
 ) -> Result<Answer<MeetingChange>, AllocError>
-    requires { is_meeting lists.now ≡ true }
+    requires { new.now.chair ≡ false → is_meeting lists.now ≡ true }
     ensures answer { IfOk result (λ a. a ≡ settled
         (order_ruling lists.now closed.now now new.now)) }
     ensures limits { IfOk result (λ a. if_any is_within_limits a.change ≡ true) }
