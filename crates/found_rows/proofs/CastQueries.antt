@@ -17,7 +17,7 @@ use Rattle.desk_schema.specs.Tables.{desk_schema}
 use Rattle.desk_schema.specs.Contents.{casts}
 use Rattle.desk_schema.specs.Statements.{columns_of}
 use Rattle.desk_statements.proofs.Reading.{sought}
-use Rattle.found_rows.proofs.Queries.{IsQuery, names_both, both_tell}
+use Rattle.found_rows.proofs.Queries.{IsQuery, names_both, both_tell, names_meeting, one_tells}
 
 abbrev shows : List Term
 shows = col 1 2 ∷ col 1 3 ∷ col 1 4 ∷ col 1 5 ∷ col 1 6 ∷ col 1 7 ∷ col 1 8 ∷ col 1 9 ∷ col 1 10 ∷ []
@@ -58,4 +58,27 @@ cast_by m meeting n party meeting_is party_is = record {
   numbered = refl;
   columns = λ cells. refl;
   same = λ cells x h. let of = names_in (columns_of casts cells) x h in both_tell cells 2 4 meeting m party n x.meeting x.item.voter of.0 meeting_is of.1 party_is;
+}
+
+abbrev of_meeting_text : List ℕ
+of_meeting_text = codes "SELECT meeting, resolution, voter, capacity, member, first, last, way, moment FROM casts WHERE meeting = ?1 ORDER BY seq"
+
+of_meeting_is : (command_of (understood desk_schema of_meeting_text) ≡ Select (record { lets = []; body = sought 24 (names_meeting 2) shows }) names) × (reads_listing desk_schema of_meeting_text ≡ false) × IsPlain (understood desk_schema of_meeting_text)
+unfolding understood everything
+of_meeting_is = (refl, refl, (refl, refl))
+
+-- the rows of the meeting
+pub of_meeting : (m meeting : List ℕ) → meeting_of meeting ≡ Some m → IsQuery casts of_meeting_text (Text meeting ∷ []) (λ x. same_name x.meeting m)
+unfolding spelled
+of_meeting m meeting meeting_is = record {
+  tests = names_meeting 2;
+  project = shows;
+  names = names;
+  is = of_meeting_is.0;
+  plain = of_meeting_is.2;
+  unlisted = of_meeting_is.1;
+  none = refl;
+  numbered = refl;
+  columns = λ cells. refl;
+  same = λ cells x h. one_tells cells 2 meeting m x.meeting (names_in (columns_of casts cells) x h).0 meeting_is;
 }

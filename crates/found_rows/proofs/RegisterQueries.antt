@@ -18,7 +18,7 @@ use Rattle.desk_schema.specs.Tables.{desk_schema}
 use Rattle.desk_schema.specs.Contents.{register}
 use Rattle.desk_schema.specs.Statements.{columns_of}
 use Rattle.desk_statements.proofs.Reading.{sought}
-use Rattle.found_rows.proofs.Queries.{IsQuery, names_both, both_tell}
+use Rattle.found_rows.proofs.Queries.{IsQuery, names_both, both_tell, names_meeting, one_tells}
 
 abbrev shows : List Term
 shows = col 1 1 ∷ col 1 2 ∷ col 1 3 ∷ col 1 4 ∷ col 1 5 ∷ col 1 6 ∷ []
@@ -60,4 +60,27 @@ of_member m meeting n party meeting_is party_is = record {
   numbered = refl;
   columns = λ cells. refl;
   same = λ cells x h. let of = names_in (columns_of register cells) x h in both_tell cells 1 2 meeting m party n x.meeting x.item.member of.0 meeting_is of.1 party_is;
+}
+
+abbrev of_meeting_text : List ℕ
+of_meeting_text = codes "SELECT meeting, member, kind, name, shares, paid FROM register WHERE meeting = ?1 ORDER BY rowid"
+
+of_meeting_is : (command_of (understood desk_schema of_meeting_text) ≡ Select (record { lets = []; body = sought 10 (names_meeting 1) shows }) names) × (reads_listing desk_schema of_meeting_text ≡ false) × IsPlain (understood desk_schema of_meeting_text)
+unfolding understood everything
+of_meeting_is = (refl, refl, (refl, refl))
+
+-- the rows of the meeting
+pub of_meeting : (m meeting : List ℕ) → meeting_of meeting ≡ Some m → IsQuery register of_meeting_text (Text meeting ∷ []) (λ x. same_name x.meeting m)
+unfolding spelled
+of_meeting m meeting meeting_is = record {
+  tests = names_meeting 1;
+  project = shows;
+  names = names;
+  is = of_meeting_is.0;
+  plain = of_meeting_is.2;
+  unlisted = of_meeting_is.1;
+  none = refl;
+  numbered = refl;
+  columns = λ cells. refl;
+  same = λ cells x h. one_tells cells 1 meeting m x.meeting (names_in (columns_of register cells) x h).0 meeting_is;
 }

@@ -7,6 +7,7 @@ pub mod authorities;
 pub mod casts;
 pub mod demands;
 pub mod endings;
+pub mod lists;
 pub mod meetings;
 pub mod polls;
 pub mod presences;
