@@ -12,9 +12,8 @@ use Rattle.desk_words.specs.declared.request.Request.TheVariants as asked
 use Rattle.caller_view.specs.Public.{PublicRecord}
 use Rattle.caller_view.specs.Reads.{rows_read}
 use Rattle.caller_view.specs.Rows.{rows_in}
-use Rattle.caller_view.specs.Views.{meeting_at, own_of, public_of}
+use Rattle.caller_view.specs.Views.{meeting_at, public_of}
 use Rattle.caller_view.specs.declared.rows.OwnRows.{OwnRows}
-use Rattle.caller_view.specs.declared.views.OwnView.{OwnView}
 use Rattle.meeting_core.specs.Step.{decided}
 
 -- the change that is decided in an office can be made there, where it leaves the lists of an office
@@ -40,9 +39,3 @@ pub record AreRead (office : OfficeLists) (party : Party) (meeting : MeetingName
     (what : PartyRequest) (seen : PublicRecord) (rows : OwnRows) : Type 0 where
   pub public : seen ≡ public_of office meeting
   pub own : rows ≡ rows_read what (rows_in (meeting_at office meeting) party)
-
--- a record is the public record of the meeting, and these are the party's own things in it
-pub record AreViews (office : OfficeLists) (party : Party) (meeting : MeetingName) (now : Moment)
-    (seen : PublicRecord) (things : OwnView) : Type 0 where
-  pub public : seen ≡ public_of office meeting
-  pub own : things ≡ own_of office party meeting now

@@ -11,10 +11,10 @@ ghost use Rattle.caller_view.specs.Answers.{party_ruling};
 ghost use Rattle.caller_view.specs.Own.{own_from};
 ghost use Rattle.caller_view.specs.Reads.{rows_read};
 ghost use Rattle.caller_view.specs.declared.rows.OwnRows.{OwnRows};
-ghost use Rattle.meeting_core.specs.Decisions.{AreRead, AreViews, party_call};
+ghost use Rattle.meeting_core.specs.Decisions.{AreRead, party_call};
 ghost use Rattle.meeting_core.specs.Step.{decided};
 
-use caller_view::{OwnRows, OwnView, PublicRecord, answer, own_for};
+use caller_view::{OwnRows, PublicRecord, answer, own_for};
 use desk_words::{Answer, Change, Entry, MeetingChange, MeetingId, Moment, PartyRequest};
 use std::alloc::{AllocError, Global};
 
@@ -77,25 +77,5 @@ pub fn decide_from_rows(
         → IsTrue (is_office (after_some office a.change))) }
 {
     let answer = answer_from(alloc, public, rows, now, asked)?;
-    Ok(entering(meeting, answer))
-}
-
-/// The same from the public record and all of a party's own things in the meeting.
-pub fn decide_from_own(
-    alloc: Global,
-    meeting: MeetingId,
-    public: &PublicRecord,
-    own: &OwnView,
-    now: Moment,
-    asked: &PartyRequest,
-) -> Result<Answer<Change>, AllocError>
-    ensures decided { IfOk result (λ a. (office : OfficeLists) (party : Party)
-        → AreViews office party meeting now public.now own.now
-        → a ≡ decided office (party_call party meeting now asked.now)) }
-    ensures kept { IfOk result (λ a. (office : OfficeLists) (party : Party)
-        → AreViews office party meeting now public.now own.now → IsTrue (is_office office)
-        → IsTrue (is_office (after_some office a.change))) }
-{
-    let answer = answer(alloc, public, own, now, asked)?;
     Ok(entering(meeting, answer))
 }

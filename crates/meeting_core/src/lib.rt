@@ -6,5 +6,5 @@ mod book;
 mod changes;
 pub mod laws;
 
-pub use answers::{decide_from_own, decide_from_rows};
+pub use answers::decide_from_rows;
 pub use book::{Book, BookFault};
