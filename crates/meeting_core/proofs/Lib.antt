@@ -5,6 +5,7 @@ pub mod FoundLemmas
 pub mod MeetingKept
 pub mod OfficeKept
 pub mod Placed
+pub mod ReadKept
 pub mod RulingLemmas
 pub mod Rulings
 pub mod StepLaws

@@ -1,12 +1,16 @@
 -- What an office decides it can make, and what it decides of what a party asks.
-use Rattle.std.specs.Prelude.{◌≡◌, Some, IsTrue}
+use Rattle.std.specs.Prelude.{◌≡◌, ℕ, Bool, List, length, Option, Some, option_map, is_some, IsTrue}
 use Rattle.desk_words.specs.Changes.{after, can_make}
 use Rattle.desk_words.specs.Office.{is_office}
-use Rattle.desk_words.specs.Seen.{MeetingName, Moment, Party}
+use Rattle.desk_words.specs.Finding.{meeting_named}
+use Rattle.desk_words.specs.Seen.{Day, MeetingName, Moment, Party}
 use Rattle.desk_words.specs.declared.caller.Caller.TheVariants as caller
 use Rattle.desk_words.specs.declared.change.Change.{Change}
 use Rattle.desk_words.specs.declared.office.OfficeLists.{OfficeLists}
 use Rattle.desk_words.specs.declared.request.Call.{Call}
+use Rattle.desk_words.specs.declared.office.MeetingLists.{MeetingLists}
+use Rattle.desk_words.specs.declared.request.DeskRequest.{DeskRequest}
+use Rattle.desk_words.specs.declared.request.OfficeRequest.{OfficeRequest}
 use Rattle.desk_words.specs.declared.request.PartyRequest.{PartyRequest}
 use Rattle.desk_words.specs.declared.request.Request.TheVariants as asked
 use Rattle.caller_view.specs.Public.{PublicRecord}
@@ -14,6 +18,7 @@ use Rattle.caller_view.specs.Reads.{rows_read}
 use Rattle.caller_view.specs.Rows.{rows_in}
 use Rattle.caller_view.specs.Views.{meeting_at, public_of}
 use Rattle.caller_view.specs.declared.rows.OwnRows.{OwnRows}
+use Rattle.office_answers.specs.Reads.{days_read, lists_read}
 use Rattle.meeting_core.specs.Step.{decided}
 
 -- the change that is decided in an office can be made there, where it leaves the lists of an office
@@ -39,3 +44,28 @@ pub record AreRead (office : OfficeLists) (party : Party) (meeting : MeetingName
     (what : PartyRequest) (seen : PublicRecord) (rows : OwnRows) : Type 0 where
   pub public : seen ≡ public_of office meeting
   pub own : rows ≡ rows_read what (rows_in (meeting_at office meeting) party)
+
+-- a call of the office, which asks something in a meeting
+abbrev pub office_call : MeetingName → Moment → OfficeRequest → Call
+office_call meeting now what = record {
+  moment = now;
+  caller = caller.Office;
+  request = asked.Office meeting what;
+}
+
+-- a call of the office, which asks something of the whole desk
+abbrev pub desk_call : Moment → DeskRequest → Call
+desk_call now what = record { moment = now; caller = caller.Office; request = asked.Desk what }
+
+-- these are those of the office's closed days and of the meeting's lists that the answer to a
+-- request of the office reads
+pub record AreListsRead (office : OfficeLists) (meeting : MeetingName) (what : OfficeRequest)
+    (days : List Day) (found : Option MeetingLists) : Type 0 where
+  pub closed : days ≡ days_read what office.closed
+  pub lists : found ≡ option_map (lists_read what) (meeting_at office meeting)
+
+-- it is told whether a meeting of the office has that name, and how many meetings it has
+pub record AreMeetingsTold (office : OfficeLists) (meeting : MeetingName) (is_named : Bool)
+    (count : ℕ) : Type 0 where
+  pub named : is_named ≡ is_some (meeting_named office.meetings meeting)
+  pub held : count ≡ length office.meetings

@@ -1,2 +1,3 @@
+pub mod Checked
 pub mod Decisions
 pub mod Step

@@ -5,6 +5,8 @@ mod answers;
 mod book;
 mod changes;
 pub mod laws;
+mod office;
 
 pub use answers::decide_from_rows;
 pub use book::{Book, BookFault};
+pub use office::{decide_call, decide_closed, decide_in_meeting, decide_keys};

@@ -103,8 +103,10 @@ fn is_meeting(alloc: Global, lists: &MeetingLists) -> Result<bool, AllocError>
     )
 }
 
-/// The lists with the register in order, if they are those of a meeting.
-fn meeting_of(alloc: Global, lists: MeetingLists) -> Result<Option<MeetingLists>, AllocError>
+/// The lists of a meeting, or none where they are no meeting's: the lists themselves, the register
+/// put in the order of members first, since it is a set of rows, which may come in any order. It
+/// costs about n log n comparisons. The error is want of memory.
+pub fn meeting_of(alloc: Global, lists: MeetingLists) -> Result<Option<MeetingLists>, AllocError>
     ensures { IfOk result (λ found. found ≡ meeting_of lists) }
 {
     let Some(lists) = loaded_of(lists) else {

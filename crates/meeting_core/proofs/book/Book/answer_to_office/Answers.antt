@@ -11,15 +11,17 @@ use Rattle.desk_words.specs.declared.change.MeetingChange.{MeetingChange}
 use Rattle.std.specs.Option.{option_copied}
 use Rattle.office_answers.specs.Answers.{office_ruling}
 use Rattle.desk_words.proofs.OfficeFacts.{found_meeting, office_facts}
+use Rattle.office_answers.specs.Reads.{reads_register}
+use Rattle.meeting_core.proofs.ReadKept.{weaker}
 use Rattle.meeting_core.proofs.book.Book.answer_to_office.Goals as goal
 
 -- what is found is a meeting
 pub office_answer-requires : goal.office_answer-requires
 office_answer-requires c =
     let o : OfficeLists = record { keys = c.self.inside.keys; closed = c.self.inside.closed; meetings = c.self.inside.meetings.items } in
-    subst (λ (found : Option MeetingLists). IfSome found (λ m. is_meeting m ≡ true))
+    subst (λ (found : Option MeetingLists). IfSome found (λ m. reads_register c.args.asked.now ≡ true → is_meeting m ≡ true))
     (ap (λ meetings. meeting_named meetings c.args.meeting) (sym c.deref.ensures.value) ∙ sym c.find_meeting-found.ensures)
-    (found_meeting o.meetings c.args.meeting (office_facts o c.self.invariant).each)
+    (weaker (meeting_named o.meetings c.args.meeting) (reads_register c.args.asked.now) (found_meeting o.meetings c.args.meeting (office_facts o c.self.invariant).each))
 
 -- the answer in the meeting that is found
 pub returns-clause-answer : goal.returns-clause-answer

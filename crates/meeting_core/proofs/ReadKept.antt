@@ -1,0 +1,68 @@
+-- What is decided of the office's calls from what they read.
+use Rattle.std.proofs.Common.{◌≡◌, ℕ, Bool, true, false, cond, List, refl, sym, ap, ◌∙◌}
+use Rattle.std.specs.Prelude.{Option, Some, None, Result, Ok, Err, IfOk, IfSome, option_map}
+use Rattle.std.specs.Cmp.Lexicographic.{nat_list_cmp_total}
+use Rattle.std.proofs.lemmas.List.Sorted.{IsPermutation-refl}
+use Rattle.desk_lists.proofs.SortingLemmas.{sort_by-ascending}
+use Rattle.desk_words.specs.Changes.{after_some}
+use Rattle.desk_words.specs.Finding.{meeting_named}
+use Rattle.desk_words.specs.Office.{is_meeting, is_office}
+use Rattle.desk_words.specs.declared.answer.Answer.{Answer}
+use Rattle.desk_words.specs.declared.caller.Caller.TheVariants as caller
+use Rattle.desk_words.specs.declared.change.Change.{Change}
+use Rattle.desk_words.specs.declared.change.Change.TheVariants.{InMeeting}
+use Rattle.desk_words.specs.declared.change.MeetingChange.{MeetingChange}
+use Rattle.desk_words.specs.declared.office.MeetingLists.{MeetingLists}
+use Rattle.desk_words.specs.declared.office.OfficeLists.{OfficeLists}
+use Rattle.desk_words.specs.declared.records.RegisterRow.{RegisterRow}
+use Rattle.desk_words.specs.declared.request.Call.{Call}
+use Rattle.desk_words.specs.declared.request.OfficeRequest.{OfficeRequest}
+use Rattle.desk_words.proofs.OfficeFacts.{found_meeting, meeting_facts, office_facts, register_ascends}
+use Rattle.caller_view.specs.Views.{meeting_at}
+use Rattle.office_answers.specs.Limits.{if_any, is_within_limits, keeps_limits}
+use Rattle.office_answers.specs.Reads.{lists_read, reads_register}
+use Rattle.office_answers.proofs.ReadLaws.{read_meeting}
+use Rattle.office_checks.specs.InOrder.{in_order}
+use Rattle.meeting_core.specs.Checked.{in_order_for}
+use Rattle.meeting_core.specs.Step.{decided}
+use Rattle.meeting_core.proofs.OfficeKept.{step_kept}
+
+-- a meeting's register is in order
+ordered : (m : MeetingLists) → is_meeting m ≡ true → in_order m ≡ m
+ordered m h =
+    ap (λ rows. record m { register = rows })
+    (sym (sort_by-ascending nat_list_cmp_total (λ (row : RegisterRow). row.member) m.register m.register (IsPermutation-refl m.register) (register_ascends m (meeting_facts m h))))
+
+ordered_by : (what : OfficeRequest) (reads : Bool) (m : MeetingLists) → reads_register what ≡ reads → is_meeting m ≡ true → cond reads (in_order (lists_read what m)) (lists_read what m) ≡ lists_read what m
+ordered_by what true m is h = ordered (lists_read what m) (read_meeting what m is h)
+ordered_by what false m is h = refl
+
+-- and so is what is read of it
+pub ordered_so : (what : OfficeRequest) (found : Option MeetingLists) → IfSome found (λ m. is_meeting m ≡ true) → option_map (in_order_for what) (option_map (lists_read what) found) ≡ option_map (lists_read what) found
+ordered_so what None h = refl
+ordered_so what (Some m) h = ap (λ (x : MeetingLists). Some x) (ordered_by what (reads_register what) m refl h)
+
+-- the meeting that is found in an office is one
+pub found_is : (office : OfficeLists) (id : List ℕ) → is_office office ≡ true → IfSome (meeting_at office id) (λ m. is_meeting m ≡ true)
+found_is office id h = found_meeting office.meetings id (office_facts office h).each
+
+-- a meeting's change keeps its limits in the office
+pub limits_within : (id : List ℕ) (change : Option MeetingChange) → if_any is_within_limits change ≡ true → if_any keeps_limits (option_map (InMeeting id) change) ≡ true
+limits_within id None h = refl
+limits_within id (Some change) h = h
+
+-- what is decided within its limits leaves the lists of an office
+pub decision_kept : (office : OfficeLists) (call : Call) (answer : Answer Change) → answer ≡ decided office call → if_any keeps_limits answer.change ≡ true → is_office office ≡ true → is_office (after_some office answer.change) ≡ true
+decision_kept office call answer is limits kept =
+    ap (λ (a : Answer Change). is_office (after_some office a.change)) is
+    ∙ step_kept office call.moment call.caller call.request kept (ap (λ (a : Answer Change). if_any keeps_limits a.change) (sym is) ∙ limits)
+
+-- where no lists are found none are asked to be a meeting's
+pub weaker : (found : Option MeetingLists) (reads : Bool) → IfSome found (λ m. is_meeting m ≡ true) → IfSome found (λ m. reads ≡ true → is_meeting m ≡ true)
+weaker None reads h = tt
+weaker (Some m) reads h = λ _. h
+
+-- what two facts of what is given make together
+pub both_ok : {X E : Type 0} (r : Result X E) (P Q R : X → Type 0) → ((x : X) → P x → Q x → R x) → IfOk r P → IfOk r Q → IfOk r R
+both_ok (Ok x) P Q R next p q = next x p q
+both_ok (Err e) P Q R next p q = tt

@@ -1,0 +1,129 @@
+//! What is decided of the office's calls, from what their answers read.
+ghost use Rattle.std.specs.Prelude.{◌≡◌, true, IfOk, IfSome, IsTrue, option_map};
+ghost use Rattle.desk_words.specs.Changes.{after_some};
+ghost use Rattle.desk_words.specs.Office.{is_meeting, is_office};
+ghost use Rattle.desk_words.specs.Seen.{Moment};
+ghost use Rattle.desk_words.specs.declared.office.OfficeLists.{OfficeLists};
+ghost use Rattle.desk_words.specs.declared.request.DeskRequest.TheVariants as desk;
+ghost use Rattle.office_answers.specs.Reads.{reads_register};
+ghost use Rattle.office_checks.specs.InOrder.{in_order};
+ghost use Rattle.meeting_core.specs.Checked.{in_order_for};
+ghost use Rattle.meeting_core.specs.Decisions.{AreListsRead, AreMeetingsTold};
+ghost use Rattle.meeting_core.specs.Decisions.{desk_call, office_call};
+ghost use Rattle.meeting_core.specs.Step.{decided};
+
+use crate::answers::in_meeting;
+use crate::book::BookFault;
+use desk_words::{
+    Answer, Change, DayList, KeyRows, MeetingId, MeetingLists, Moment, NewMeeting, OfficeRequest,
+};
+use office_answers::{call_meeting, load_days, load_keys, office_answer};
+use office_checks::meeting_of;
+use office_days::Closed;
+use std::alloc::{AllocError, Global};
+
+/// Whether the answer to a request reads the register.
+fn reads_register(asked: &OfficeRequest) -> bool
+    ensures { result ≡ reads_register asked.now }
+{
+    match asked {
+        OfficeRequest::LoadRegister(_) | OfficeRequest::OpenMeeting => true,
+        OfficeRequest::Order(new) => !new.chair,
+        OfficeRequest::Declare(_) => true,
+        OfficeRequest::Presence(_) | OfficeRequest::Start(_) | OfficeRequest::Close(_) => false,
+    }
+}
+
+/// The lists with the register in order, if they are those of a meeting.
+fn checked(alloc: Global, lists: MeetingLists) -> Result<MeetingLists, BookFault>
+    ensures { IfOk result (λ m. (is_meeting m ≡ true)
+        × (m ≡ in_order lists)) }
+{
+    match meeting_of(alloc, lists)? {
+        Some(lists) => Ok(lists),
+        None => Err(BookFault::NoOffice),
+    }
+}
+
+/// What was read of a meeting, if it is that of a meeting where the answer reads the register.
+fn checked_for(
+    alloc: Global,
+    found: Option<MeetingLists>,
+    asked: &OfficeRequest,
+) -> Result<Option<MeetingLists>, BookFault>
+    ensures right { IfOk result (λ found. IfSome found
+        (λ m. reads_register asked.now ≡ true → is_meeting m ≡ true)) }
+    ensures same { IfOk result (λ lists. lists ≡ option_map (in_order_for asked.now) found) }
+{
+    let Some(lists) = found else {
+        return Ok(None);
+    };
+    if !reads_register(asked) {
+        return Ok(Some(lists));
+    }
+    Ok(Some(checked(alloc, lists)?))
+}
+
+/// What is decided of what the office asks in a meeting, from those of the closed days and of the
+/// meeting's lists alone that the answer reads: it is so in every office of which these are read,
+/// and what it changes leaves the lists of an office. The fault is `NoOffice` where what was read
+/// with the register is no meeting's, and else want of memory.
+pub fn decide_in_meeting(
+    alloc: Global,
+    meeting: MeetingId,
+    closed: &Closed,
+    found: Option<MeetingLists>,
+    now: Moment,
+    asked: &OfficeRequest,
+) -> Result<Answer<Change>, BookFault>
+    ensures decided { IfOk result (λ a. (office : OfficeLists) → IsTrue (is_office office)
+        → AreListsRead office meeting asked.now closed.now found
+        → a ≡ decided office (office_call meeting now asked.now)) }
+    ensures kept { IfOk result (λ a. (office : OfficeLists) → IsTrue (is_office office)
+        → AreListsRead office meeting asked.now closed.now found
+        → IsTrue (is_office (after_some office a.change))) }
+{
+    let lists = checked_for(alloc, found, asked)?;
+    let answer = office_answer(alloc, closed, lists.as_ref(), now, asked)?;
+    Ok(in_meeting(meeting, answer))
+}
+
+/// What is decided of the call of a meeting, from whether a meeting has that name and how many
+/// meetings there are: it is so in every office of which this is told, and what it changes leaves
+/// the lists of an office. The error is want of memory.
+pub fn decide_call(
+    is_named: bool,
+    held: usize,
+    new: &NewMeeting,
+) -> Result<Answer<Change>, AllocError>
+    ensures decided { IfOk result (λ a. (office : OfficeLists) (now : Moment)
+        → AreMeetingsTold office new.now.meeting is_named held
+        → a ≡ decided office (desk_call now (desk.CallMeeting new.now))) }
+    ensures kept { IfOk result (λ a. (office : OfficeLists) → IsTrue (is_office office)
+        → AreMeetingsTold office new.now.meeting is_named held
+        → IsTrue (is_office (after_some office a.change))) }
+{
+    call_meeting(is_named, held, new)
+}
+
+/// What is decided of a list of closed days, from those that are held. The error is want of memory.
+pub fn decide_closed(held: &Closed, days: &DayList) -> Result<Answer<Change>, AllocError>
+    ensures decided { IfOk result (λ a. (office : OfficeLists) (now : Moment)
+        → held.now ≡ office.closed
+        → a ≡ decided office (desk_call now (desk.ClosedDays days.now))) }
+    ensures kept { IfOk result (λ a. (office : OfficeLists) → IsTrue (is_office office)
+        → held.now ≡ office.closed → IsTrue (is_office (after_some office a.change))) }
+{
+    load_days(held, days)
+}
+
+/// What is decided of a list of keys, from those that are held. The error is want of memory.
+pub fn decide_keys(held: &KeyRows, rows: &KeyRows) -> Result<Answer<Change>, AllocError>
+    ensures decided { IfOk result (λ a. (office : OfficeLists) (now : Moment)
+        → held.now ≡ office.keys
+        → a ≡ decided office (desk_call now (desk.Keys rows.now))) }
+    ensures kept { IfOk result (λ a. (office : OfficeLists) → IsTrue (is_office office)
+        → held.now ≡ office.keys → IsTrue (is_office (after_some office a.change))) }
+{
+    load_keys(held, rows)
+}
