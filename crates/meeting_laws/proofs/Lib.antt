@@ -6,6 +6,7 @@ mod LoadLemmas
 mod MemberRows
 mod NamedLemmas
 mod NumberLemmas
+mod OfficeReadLemmas
 mod OrderLemmas
 mod OwnThingsLemmas
 mod PlaceLemmas

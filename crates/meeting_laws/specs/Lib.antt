@@ -1,6 +1,7 @@
 pub mod Laws
 pub mod Loads
 pub mod Names
+pub mod OfficeReads
 pub mod OwnThings
 pub mod Proxies
 pub mod Reads
@@ -10,5 +11,6 @@ pub mod Secrecy
 pub mod Worlds
 pub mod WrongAnswers
 pub mod WrongLoads
+pub mod WrongOfficeReads
 pub mod WrongOwnThings
 pub mod WrongReads

@@ -3,6 +3,7 @@
 #![tactic(auto)]
 
 mod loads;
+mod office_reads;
 mod own_things;
 mod proxies;
 mod reads;
@@ -14,6 +15,7 @@ ghost use Rattle.meeting_laws.specs.Laws.{DemandsByCapacity};
 ghost use Rattle.meeting_laws.specs.Secrecy.{TheOfficeIsToldOfNoVotes, VotesAreNotPublic};
 
 pub use loads::{loads_act_once, wrong_loads_are_caught};
+pub use office_reads::{unread_presence_is_caught, what_the_office_reads_is_enough};
 pub use own_things::{
     others_things_are_caught, own_things_are_ones_own, own_things_tell_what_governs,
 };
