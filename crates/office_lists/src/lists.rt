@@ -62,7 +62,7 @@ pub fn day_list(days: Listing<Day>) -> Result<DayList, ReadFault>
 }
 
 /// The rows of a register in the order of members; there may be none.
-fn register_rows(rows: Listing<RegisterRow>) -> Result<Listing<RegisterRow>, ReadFault>
+pub fn register_rows(rows: Listing<RegisterRow>) -> Result<Listing<RegisterRow>, ReadFault>
     ensures { Yields are_rows result (Some (sort_by member_before rows)) }
 {
     if rows.is_empty() {

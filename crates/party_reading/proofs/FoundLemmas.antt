@@ -29,7 +29,7 @@ use Rattle.party_reading.proofs.MeetingLemmas.{HoldAll, all_held, list_is, passi
 use Rattle.party_reading.proofs.TellingLemmas.{tells_fault, tells_weaker}
 
 -- what a statement is refused for is no want of an office
-error_tells : {X : Type 0} (P : X → Type 0) (e : Error) → TellsOnly P (Err (fault_of_error e))
+pub error_tells : {X : Type 0} (P : X → Type 0) (e : Error) → TellsOnly P (Err (fault_of_error e))
 error_tells P (SqliteFailure OutOfMemory) = tt
 error_tells P other = tt
 

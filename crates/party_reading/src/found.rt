@@ -14,7 +14,7 @@ use std::alloc::Global;
 
 /// The records that the rows are. The fault is that of the query, or `NoOffice` only where a row is
 /// no such record.
-pub(crate) fn found<T: FromRow + Drop>(
+pub fn found<T: FromRow + Drop>(
     alloc: Global,
     rows: Result<Vec<Row>, Error>,
 ) -> Result<Listing<T>, ReadFault>
@@ -28,7 +28,7 @@ pub(crate) fn found<T: FromRow + Drop>(
 
 /// The records that were found, without their meeting. The fault is that of the finding, or
 /// `Memory`.
-pub(crate) fn items<T: Drop>(
+pub fn items<T: Drop>(
     alloc: Global,
     found: Result<Listing<InMeeting<T>>, ReadFault>,
 ) -> Result<Listing<T>, ReadFault>

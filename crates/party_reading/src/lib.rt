@@ -3,7 +3,7 @@
 #![tactic(auto)]
 
 mod asked;
-mod found;
+pub mod found;
 mod members;
 mod own;
 mod public;
@@ -11,4 +11,4 @@ mod rows;
 
 pub use asked::read_asked;
 pub use own::{read_own, read_rows};
-pub use public::{KeptRecord, read_public};
+pub use public::{KeptRecord, meeting_of, polls_of, read_closed, read_public};

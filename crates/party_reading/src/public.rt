@@ -43,7 +43,10 @@ impl KeptRecord {
 }
 
 /// The days that the office has closed (section 1173).
-fn closed_days<S: Alter>(tx: &mut Transaction<'_, S>, alloc: Global) -> Result<Closed, ReadFault>
+pub fn read_closed<S: Alter>(
+    tx: &mut Transaction<'_, S>,
+    alloc: Global,
+) -> Result<Closed, ReadFault>
     ensures same_reference { tx.new.conn.ghost_name ≡ tx.old.conn.ghost_name }
     ensures told { IsToldOf S.Store tx.old.conn.now tx.new.conn.now result
         (λ office closed. closed ≡ office.closed) }
@@ -70,7 +73,7 @@ fn with_resolutions(row: MeetingRow, resolutions: Resolutions) -> Meeting
 }
 
 /// The meeting of a name with its resolutions (section 307), if there is one.
-fn meeting_of<S: Alter>(
+pub fn meeting_of<S: Alter>(
     tx: &mut Transaction<'_, S>,
     alloc: Global,
     meeting: MeetingId,
@@ -90,7 +93,7 @@ fn meeting_of<S: Alter>(
 }
 
 /// The polls of a meeting (section 321), in the order of resolutions.
-fn polls_of<S: Alter>(
+pub fn polls_of<S: Alter>(
     tx: &mut Transaction<'_, S>,
     alloc: Global,
     meeting: MeetingId,
@@ -114,7 +117,7 @@ pub fn read_public<S: Alter>(
     ensures told { IsToldOf S.Store tx.old.conn.now tx.new.conn.now result
         (λ office kept. kept ≡ public_of office meeting) }
 {
-    let closed = closed_days(tx, alloc)?;
+    let closed = read_closed(tx, alloc)?;
     let kept = meeting_of(tx, alloc, meeting)?;
     let polls = polls_of(tx, alloc, meeting)?;
     Ok(KeptRecord {

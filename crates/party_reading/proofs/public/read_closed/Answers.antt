@@ -10,7 +10,7 @@ use Rattle.party_reading.proofs.FoundLemmas.{cause_tells}
 use Rattle.party_reading.proofs.MeetingLemmas.{the_same}
 use Rattle.party_reading.proofs.PublicLemmas.{reading_told}
 use Rattle.party_reading.proofs.TellingLemmas.{told_refused, told_so, told_stop}
-use Rattle.party_reading.proofs.public.closed_days.Goals as goal
+use Rattle.party_reading.proofs.public.read_closed.Goals as goal
 
 -- the days are the office's once they are in order
 abbrev AreClosed : OfficeLists → List ℕ → Type 0
