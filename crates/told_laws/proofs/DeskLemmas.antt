@@ -24,8 +24,11 @@ use Rattle.desk_http.specs.Answers.{call_in, call_of, reply_in, reply_of}
 use Rattle.desk_http.specs.Served.{IsServed, text_of}
 use Rattle.meeting_core.specs.Step.{decided, run_of, stepped}
 use Rattle.told_laws.specs.Connections.{ConnectionsAreTold, as_http, asked_on, asks_by}
-use Rattle.told_laws.specs.Desks.{AreTold, Asked, Asks, DesksTellRuns, HasToldARun, IsFailed, IsOf, IsReplied, IsTold, IsToldIn, Makes, Nothing, Tells, Writing, as_json, asked_by, call_made, reply_to}
+use Rattle.told_laws.specs.Desks.{AreTold, Asked, Asks, DesksAreIsolated, DesksKeepSecrets, DesksTellRuns, HasToldARun, IsFailed, IsOf, IsReplied, IsTold, IsToldIn, Makes, Nothing, Tells, Writing, as_json, asked_by, call_made, reply_to}
 use Rattle.told_laws.specs.Exchanges.{Exchange, TellTheRun, calls_made}
+use Rattle.told_laws.specs.Texts.{TextsAreIsolated, TextsKeepSecrets, TextsTellTheSame}
+use Rattle.run_laws.specs.Isolation.{Alike}
+use Rattle.run_laws.specs.Votes.{AreSameBut}
 
 -- ---- one exchange more
 
@@ -95,6 +98,20 @@ module _ {S : Type 0} (g : store.Ghosts S) where
       let first = told.1.told mid_clean mid_open office stands in
       told-more writing office a later (state g told.0) (state g new) first
       (desks_tell writing told.0 new later told.2 clean is_open (after_call office first.exchange.made) first.stands)
+
+-- ---- two desks
+
+module _ {S : Type 0} (g : store.Ghosts S) where
+  pub desks_isolated : TextsAreIsolated → DesksAreIsolated g
+  desks_isolated law writing viewer one other asked again left kept told later alike near near_again same =
+      let from = subst (λ o. Alike viewer one o) (sym later.begins) alike in
+      law writing.reply viewer told.run later.run (subst (λ o. Alike viewer o later.run.office) (sym told.begins) from) near near_again same
+
+  pub desks_keep_secrets : TextsKeepSecrets → DesksKeepSecrets g
+  desks_keep_secrets law writing secret one other asked again left kept told later same rest =
+      let from = subst (λ o. AreSameBut secret one o) (sym later.begins) same in
+      subst (λ o. TextsTellTheSame writing.reply secret o told.run.exchanges later.run.exchanges) told.begins
+      (law writing.reply secret told.run later.run (subst (λ o. AreSameBut secret o later.run.office) (sym told.begins) from) rest)
 
 -- ---- over HTTP
 

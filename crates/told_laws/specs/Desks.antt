@@ -1,5 +1,6 @@
 -- What is told by a desk whose office is kept in tables, one call after another.
 use Rattle.std.specs.Prelude.{◌≡◌, ◌⊎◌, ⊤, ℕ, List, [], ◌∷◌, Option, Some, None, option_map, Result, Ok, Err, IsTrue}
+use Rattle.std.specs.List.{list_all}
 use Rattle.std.specs.declared.alloc.Global.{Global}
 use Rattle.std.specs.declared.vec.Vec.{Vec}
 use Rattle.sqlite.specs.Held.{Held, state}
@@ -14,8 +15,12 @@ use Rattle.desk_records.specs.Standing.{Stands}
 use Rattle.desk_replies.specs.Replies.{failure_bytes, reply_bytes}
 use Rattle.desk_store.specs.Joins.{after_call}
 use Rattle.meeting_core.specs.Step.{decided, run_of}
-use Rattle.told_laws.specs.Exchanges.{Exchange}
-use Rattle.told_laws.specs.Texts.{ToldRun, calls_in}
+use Rattle.run_laws.specs.Isolation.{Alike}
+use Rattle.run_laws.specs.Parts.{Viewer}
+use Rattle.run_laws.specs.Traces.{is_near_call}
+use Rattle.run_laws.specs.Votes.{AreSameBut, Secret, is_secret_call, without}
+use Rattle.told_laws.specs.Exchanges.{Exchange, is_call_by, texts_to}
+use Rattle.told_laws.specs.Texts.{TextsTellTheSame, ToldRun, calls_in, shown_in}
 
 -- how a desk writes a reply, and that a failure is the answer
 pub record Writing : Type 0 where
@@ -111,6 +116,36 @@ DesksTellRuns {S} g =
     → AreTold g writing old asked new
     → HasCleanDisk (state g new) → IsTrue (state g new).is_open → (office : OfficeLists)
     → Stands (state g old) office → HasToldARun writing office asked (state g new)
+
+-- ---- what two desks tell
+
+-- isolation: where the offices of two desks are one to a party, and the calls that were made there
+-- show it the same, the texts of the replies to it are the same bytes, one for one
+abbrev pub DesksAreIsolated : {S : Type 0} → store.Ghosts S → Type 0
+DesksAreIsolated {S} g =
+    (writing : Writing) (viewer : Viewer) (one other : OfficeLists) (asked again : List Asked)
+    (left kept : Held S)
+    → (told : HasToldARun writing one asked (state g left))
+    → (later : HasToldARun writing other again (state g kept))
+    → Alike viewer one other
+    → IsTrue (list_all (is_near_call viewer) (calls_in told.run))
+    → IsTrue (list_all (is_near_call viewer) (calls_in later.run))
+    → shown_in viewer told.run ≡ shown_in viewer later.run
+    → texts_to (is_call_by viewer.party) told.run.exchanges
+    ≡ texts_to (is_call_by viewer.party) later.run.exchanges
+
+-- secrecy: where their offices are the same but for secret votes, and the calls that were made
+-- there differ in such votes alone, they tell the same of them
+abbrev pub DesksKeepSecrets : {S : Type 0} → store.Ghosts S → Type 0
+DesksKeepSecrets {S} g =
+    (writing : Writing) (secret : Secret) (one other : OfficeLists) (asked again : List Asked)
+    (left kept : Held S)
+    → (told : HasToldARun writing one asked (state g left))
+    → (later : HasToldARun writing other again (state g kept))
+    → AreSameBut secret one other
+    → without (is_secret_call secret) (calls_in told.run)
+    ≡ without (is_secret_call secret) (calls_in later.run)
+    → TextsTellTheSame writing.reply secret one told.run.exchanges later.run.exchanges
 
 -- ---- one call
 

@@ -8,8 +8,9 @@ ghost use Rattle.meeting_core.specs.Step.{decided, stepped};
 ghost use Rattle.sqlite.specs.Held.{state};
 ghost use Rattle.sqlite.specs.State.{HasCleanDisk};
 ghost use Rattle.told_laws.specs.Connections.{ConnectionsAreTold};
-ghost use Rattle.told_laws.specs.Desks.{DesksTellRuns, IsTold, as_json, asked_by};
+ghost use Rattle.told_laws.specs.Desks.{DesksAreIsolated, DesksKeepSecrets, DesksTellRuns, IsTold, as_json, asked_by};
 
+use crate::texts::texts_tell_no_more;
 use desk_replies::reply_text;
 use desk_store::Desk;
 use desk_words::{Call, Failure};
@@ -23,6 +24,19 @@ use std::alloc::Global;
 pub fn desks_tell_runs<S: Alter>()
     ensures { DesksTellRuns S.Store }
 {}
+
+/// So two desks, whose calls came one after another, are isolated and keep secrets, however replies
+/// are written. Where their offices are one to a party, and the calls that were made there show it
+/// the same, the texts of the replies to it are the same bytes, one for one. Where their offices are
+/// the same but for votes of some voters on a resolution, and the calls differ in such votes alone,
+/// so are the texts of the replies to the office, but for the result of that resolution, and before
+/// its declaration those to every party that is none of the voters.
+pub fn desks_tell_no_more<S: Alter>()
+    ensures isolated { DesksAreIsolated S.Store }
+    ensures secret { DesksKeepSecrets S.Store }
+{
+    texts_tell_no_more();
+}
 
 /// What is written to a connection, as `reply_to`, `serve_one` and `serve_now` promise where they
 /// end well, is told so: it is the text of the reply to the call of the caller whose key came, or
