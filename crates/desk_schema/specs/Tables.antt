@@ -1,4 +1,5 @@
 -- The tables of the desk, version 1, as the database reads their definitions.
+use Prim.Native.String.{String}
 use Rattle.sqlite.specs.Collation.TheVariants.{Binary}
 use Rattle.std.specs.Prelude.{Bool, true, false, [], ◌∷◌, Some, None, codes, List, ℕ}
 use Rattle.sqlite.specs.declared.types.Value.TheVariants.{Null}
@@ -13,6 +14,9 @@ use Rattle.sqlite_schema.specs.declared.schema.Reference.{Reference}
 use Rattle.sqlite_schema.specs.declared.schema.Action.TheVariants.{NoAction}
 use Rattle.sqlite_value.specs.Keys.{plain}
 
+-- ---- columns
+
+-- a column of that name, which holds values of one kind alone
 abbrev pub a_column : List ℕ → Kind → Bool → Column
 a_column name kind not_null = record {
   name = name;
@@ -23,6 +27,57 @@ a_column name kind not_null = record {
   collation = Binary;
 }
 
+-- a text, or a number, that each row has
+abbrev pub text : String → Column
+text name = a_column (codes name) Text true
+
+abbrev pub number : String → Column
+number name = a_column (codes name) Integer true
+
+-- a text, or a number, that a row may be without
+abbrev pub text_if_any : String → Column
+text_if_any name = a_column (codes name) Text false
+
+abbrev pub number_if_any : String → Column
+number_if_any name = a_column (codes name) Integer false
+
+-- a column of values of any kind
+abbrev pub anything : String → Column
+anything name = record (a_column (codes name) Any false) { is_strict = false }
+
+-- ---- forms of tables
+
+-- a table of that name with these columns, and with no key
+abbrev pub plain_table : String → List Column → Table
+plain_table name columns = record {
+  name = codes name;
+  tree = 0;
+  columns = columns;
+  key = None;
+  primary = [];
+  uniques = [];
+  orders = [];
+  checks = [];
+  references = [];
+  computed = [];
+  stamps = record { places = []; terms = []; formats = [] };
+  is_counted = false;
+}
+
+-- no two rows have the same in these columns
+abbrev pub unique : List ℕ → Table → Table
+unique columns table = record table { uniques = columns ∷ []; orders = plain ∷ [] }
+
+-- a table whose rows are kept by the number in their first column
+abbrev pub numbered_table : String → List Column → Table
+numbered_table name columns = record (plain_table name columns) { key = Some 0; primary = 0 ∷ [] }
+
+-- a table in order of receipt: each row has a number of its own, which no later row has
+abbrev pub received_table : String → List Column → Table
+received_table name columns =
+    record (numbered_table name (number_if_any "seq" ∷ columns)) { is_counted = true }
+
+-- the column names a meeting that stands
 abbrev pub to_meetings : ℕ → Reference
 to_meetings at = record {
   columns = at ∷ [];
@@ -33,240 +88,94 @@ to_meetings at = record {
   is_deferred = false;
 }
 
+-- a table of rows of the meetings, in order of receipt
+abbrev pub meetings_table : String → List Column → Table
+meetings_table name columns =
+    record (received_table name (text "meeting" ∷ columns)) { references = to_meetings 2 ∷ [] }
+
+-- a table of rows of the meetings, of which each has the name or number of the next column once
+abbrev pub once_table : String → List Column → Table
+once_table name columns =
+    unique (1 ∷ 2 ∷ [])
+    (record (plain_table name (text "meeting" ∷ columns)) {
+      primary = 1 ∷ 2 ∷ [];
+      references = to_meetings 1 ∷ [];
+    })
+
+-- ---- the tables
+
+-- where the database keeps which numbers it gave
 abbrev pub sequence : Table
-sequence =
-    record {
-      name = codes "sqlite_sequence";
-      tree = 0;
-      columns = (record (a_column (codes "name") Any false) { is_strict = false }) ∷ (record (a_column (codes "seq") Any false) { is_strict = false }) ∷ [];
-      key = None;
-      primary = [];
-      uniques = [];
-      orders = [];
-      checks = [];
-      references = [];
-      computed = [];
-      stamps = record { places = []; terms = []; formats = [] };
-      is_counted = false;
-    }
+sequence = plain_table "sqlite_sequence" (anything "name" ∷ anything "seq" ∷ [])
 
 abbrev pub desk : Table
-desk = record {
-  name = codes "desk";
-  tree = 0;
-  columns = a_column (codes "one") Integer true ∷ a_column (codes "version") Integer true ∷ [];
-  key = Some 0;
-  primary = 0 ∷ [];
-  uniques = [];
-  orders = [];
-  checks = [];
-  references = [];
-  computed = [];
-  stamps = record { places = []; terms = []; formats = [] };
-  is_counted = false;
-}
+desk = numbered_table "desk" (number "one" ∷ number "version" ∷ [])
 
 abbrev pub keys : Table
-keys = record {
-  name = codes "keys";
-  tree = 0;
-  columns = a_column (codes "party") Text true ∷ a_column (codes "secret") Text true ∷ [];
-  key = None;
+keys = record (plain_table "keys" (text "party" ∷ text "secret" ∷ [])) {
   primary = 1 ∷ [];
   uniques = (1 ∷ []) ∷ (2 ∷ []) ∷ [];
   orders = plain ∷ plain ∷ [];
-  checks = [];
-  references = [];
-  computed = [];
-  stamps = record { places = []; terms = []; formats = [] };
-  is_counted = false;
 }
 
 abbrev pub closed : Table
-closed = record {
-  name = codes "closed";
-  tree = 0;
-  columns = a_column (codes "day") Integer true ∷ [];
-  key = Some 0;
-  primary = 0 ∷ [];
-  uniques = [];
-  orders = [];
-  checks = [];
-  references = [];
-  computed = [];
-  stamps = record { places = []; terms = []; formats = [] };
-  is_counted = false;
-}
+closed = numbered_table "closed" (number "day" ∷ [])
 
 abbrev pub meetings : Table
 meetings =
-    record {
-      name = codes "meetings";
-      tree = 0;
-      columns = a_column (codes "seq") Integer false ∷ a_column (codes "meeting") Text true ∷ a_column (codes "company") Text true ∷ a_column (codes "kind") Text true ∷ a_column (codes "given") Integer true ∷ a_column (codes "appointed") Integer true ∷ a_column (codes "record") Integer true ∷ a_column (codes "loaded") Integer true ∷ a_column (codes "opened") Integer false ∷ [];
-      key = Some 0;
-      primary = 0 ∷ [];
-      uniques = (2 ∷ []) ∷ [];
-      orders = plain ∷ [];
-      checks = [];
-      references = [];
-      computed = [];
-      stamps = record { places = []; terms = []; formats = [] };
-      is_counted = true;
-    }
+    unique (2 ∷ [])
+    (received_table "meetings"
+    (text "meeting" ∷ text "company" ∷ text "kind" ∷ number "given" ∷ number "appointed"
+    ∷ number "record" ∷ number "loaded" ∷ number_if_any "opened" ∷ []))
 
 abbrev pub resolutions : Table
-resolutions =
-    record {
-      name = codes "resolutions";
-      tree = 0;
-      columns = a_column (codes "meeting") Text true ∷ a_column (codes "number") Integer true ∷ a_column (codes "kind") Text true ∷ a_column (codes "body") Text true ∷ [];
-      key = None;
-      primary = 1 ∷ 2 ∷ [];
-      uniques = (1 ∷ 2 ∷ []) ∷ [];
-      orders = plain ∷ [];
-      checks = [];
-      references = to_meetings 1 ∷ [];
-      computed = [];
-      stamps = record { places = []; terms = []; formats = [] };
-      is_counted = false;
-    }
+resolutions = once_table "resolutions" (number "number" ∷ text "kind" ∷ text "body" ∷ [])
 
 abbrev pub register : Table
 register =
-    record {
-      name = codes "register";
-      tree = 0;
-      columns = a_column (codes "meeting") Text true ∷ a_column (codes "member") Text true ∷ a_column (codes "kind") Text true ∷ a_column (codes "name") Text true ∷ a_column (codes "shares") Integer true ∷ a_column (codes "paid") Integer true ∷ [];
-      key = None;
-      primary = 1 ∷ 2 ∷ [];
-      uniques = (1 ∷ 2 ∷ []) ∷ [];
-      orders = plain ∷ [];
-      checks = [];
-      references = to_meetings 1 ∷ [];
-      computed = [];
-      stamps = record { places = []; terms = []; formats = [] };
-      is_counted = false;
-    }
+    once_table "register"
+    (text "member" ∷ text "kind" ∷ text "name" ∷ number "shares" ∷ number "paid" ∷ [])
 
 abbrev pub appointments : Table
 appointments =
-    record {
-      name = codes "appointments";
-      tree = 0;
-      columns = a_column (codes "seq") Integer false ∷ a_column (codes "meeting") Text true ∷ a_column (codes "member") Text true ∷ a_column (codes "number") Integer true ∷ a_column (codes "proxy") Text true ∷ a_column (codes "first") Integer true ∷ a_column (codes "last") Integer true ∷ a_column (codes "instructions") Text true ∷ a_column (codes "moment") Integer true ∷ [];
-      key = Some 0;
-      primary = 0 ∷ [];
-      uniques = (2 ∷ 3 ∷ 4 ∷ []) ∷ [];
-      orders = plain ∷ [];
-      checks = [];
-      references = to_meetings 2 ∷ [];
-      computed = [];
-      stamps = record { places = []; terms = []; formats = [] };
-      is_counted = true;
-    }
+    unique (2 ∷ 3 ∷ 4 ∷ [])
+    (meetings_table "appointments"
+    (text "member" ∷ number "number" ∷ text "proxy" ∷ number "first" ∷ number "last"
+    ∷ text "instructions" ∷ number "moment" ∷ []))
 
 abbrev pub endings : Table
 endings =
-    record {
-      name = codes "endings";
-      tree = 0;
-      columns = a_column (codes "seq") Integer false ∷ a_column (codes "meeting") Text true ∷ a_column (codes "member") Text true ∷ a_column (codes "number") Integer true ∷ a_column (codes "moment") Integer true ∷ [];
-      key = Some 0;
-      primary = 0 ∷ [];
-      uniques = (2 ∷ 3 ∷ 4 ∷ []) ∷ [];
-      orders = plain ∷ [];
-      checks = [];
-      references = to_meetings 2 ∷ [];
-      computed = [];
-      stamps = record { places = []; terms = []; formats = [] };
-      is_counted = true;
-    }
+    unique (2 ∷ 3 ∷ 4 ∷ [])
+    (meetings_table "endings" (text "member" ∷ number "number" ∷ number "moment" ∷ []))
 
 abbrev pub authorities : Table
 authorities =
-    record {
-      name = codes "authorities";
-      tree = 0;
-      columns = a_column (codes "seq") Integer false ∷ a_column (codes "meeting") Text true ∷ a_column (codes "corporation") Text true ∷ a_column (codes "person") Text true ∷ a_column (codes "moment") Integer true ∷ [];
-      key = Some 0;
-      primary = 0 ∷ [];
-      uniques = (2 ∷ 3 ∷ 4 ∷ []) ∷ [];
-      orders = plain ∷ [];
-      checks = [];
-      references = to_meetings 2 ∷ [];
-      computed = [];
-      stamps = record { places = []; terms = []; formats = [] };
-      is_counted = true;
-    }
+    unique (2 ∷ 3 ∷ 4 ∷ [])
+    (meetings_table "authorities" (text "corporation" ∷ text "person" ∷ number "moment" ∷ []))
 
 abbrev pub presences : Table
 presences =
-    record {
-      name = codes "presences";
-      tree = 0;
-      columns = a_column (codes "seq") Integer false ∷ a_column (codes "meeting") Text true ∷ a_column (codes "party") Text true ∷ a_column (codes "moment") Integer true ∷ [];
-      key = Some 0;
-      primary = 0 ∷ [];
-      uniques = (2 ∷ 3 ∷ []) ∷ [];
-      orders = plain ∷ [];
-      checks = [];
-      references = to_meetings 2 ∷ [];
-      computed = [];
-      stamps = record { places = []; terms = []; formats = [] };
-      is_counted = true;
-    }
+    unique (2 ∷ 3 ∷ []) (meetings_table "presences" (text "party" ∷ number "moment" ∷ []))
 
 abbrev pub demands : Table
 demands =
-    record {
-      name = codes "demands";
-      tree = 0;
-      columns = a_column (codes "seq") Integer false ∷ a_column (codes "meeting") Text true ∷ a_column (codes "resolution") Integer true ∷ a_column (codes "party") Text true ∷ a_column (codes "moment") Integer true ∷ [];
-      key = Some 0;
-      primary = 0 ∷ [];
-      uniques = (2 ∷ 3 ∷ 4 ∷ []) ∷ [];
-      orders = plain ∷ [];
-      checks = [];
-      references = to_meetings 2 ∷ [];
-      computed = [];
-      stamps = record { places = []; terms = []; formats = [] };
-      is_counted = true;
-    }
+    unique (2 ∷ 3 ∷ 4 ∷ [])
+    (meetings_table "demands" (number "resolution" ∷ text "party" ∷ number "moment" ∷ []))
 
 abbrev pub polls : Table
 polls =
-    record {
-      name = codes "polls";
-      tree = 0;
-      columns = a_column (codes "meeting") Text true ∷ a_column (codes "resolution") Integer true ∷ a_column (codes "ordered") Integer true ∷ a_column (codes "take") Integer true ∷ a_column (codes "chair") Integer true ∷ a_column (codes "started") Integer false ∷ a_column (codes "closed") Integer false ∷ a_column (codes "votes_for") Integer false ∷ a_column (codes "votes_against") Integer false ∷ a_column (codes "withheld") Integer false ∷ a_column (codes "eligible") Integer false ∷ [];
-      key = None;
-      primary = 1 ∷ 2 ∷ [];
-      uniques = (1 ∷ 2 ∷ []) ∷ [];
-      orders = plain ∷ [];
-      checks = [];
-      references = to_meetings 1 ∷ [];
-      computed = [];
-      stamps = record { places = []; terms = []; formats = [] };
-      is_counted = false;
-    }
+    once_table "polls"
+    (number "resolution" ∷ number "ordered" ∷ number "take" ∷ number "chair"
+    ∷ number_if_any "started" ∷ number_if_any "closed" ∷ number_if_any "votes_for"
+    ∷ number_if_any "votes_against" ∷ number_if_any "withheld" ∷ number_if_any "eligible" ∷ [])
 
 abbrev pub casts : Table
 casts =
-    record {
-      name = codes "casts";
-      tree = 0;
-      columns = a_column (codes "seq") Integer false ∷ a_column (codes "meeting") Text true ∷ a_column (codes "resolution") Integer true ∷ a_column (codes "voter") Text true ∷ a_column (codes "capacity") Text true ∷ a_column (codes "member") Text false ∷ a_column (codes "first") Integer false ∷ a_column (codes "last") Integer false ∷ a_column (codes "way") Text false ∷ a_column (codes "moment") Integer true ∷ [];
-      key = Some 0;
-      primary = 0 ∷ [];
-      uniques = [];
-      orders = [];
-      checks = [];
-      references = to_meetings 2 ∷ [];
-      computed = [];
-      stamps = record { places = []; terms = []; formats = [] };
-      is_counted = true;
-    }
+    meetings_table "casts"
+    (number "resolution" ∷ text "voter" ∷ text "capacity" ∷ text_if_any "member"
+    ∷ number_if_any "first" ∷ number_if_any "last" ∷ text_if_any "way" ∷ number "moment" ∷ [])
+
+-- ---- the tables in the order in which they are made
 
 abbrev pub no_schema : Schema
 no_schema = record { tables = []; indexes = []; views = [] }
@@ -312,57 +221,40 @@ with_casts = created with_polls casts
 
 -- ---- indexes, by which a party's rows are found
 
-abbrev pub appointments_by_proxy : Index
-appointments_by_proxy = record {
-  name = codes "appointments_by_proxy";
+-- an index on these columns of the table of that number
+abbrev pub an_index : String → ℕ → List ℕ → Index
+an_index name table columns = record {
+  name = codes name;
   tree = 0;
-  table = 12;
-  columns = 2 ∷ 5 ∷ [];
+  table = table;
+  columns = columns;
   order = plain;
   is_unique = false;
 }
+
+abbrev pub appointments_by_proxy : Index
+appointments_by_proxy = an_index "appointments_by_proxy" 12 (2 ∷ 5 ∷ [])
 
 abbrev pub with_appointments_by_proxy : Schema
 with_appointments_by_proxy =
     indexed with_casts (record appointments { tree = 12 }) appointments_by_proxy
 
 abbrev pub authorities_by_person : Index
-authorities_by_person = record {
-  name = codes "authorities_by_person";
-  tree = 0;
-  table = 16;
-  columns = 2 ∷ 4 ∷ [];
-  order = plain;
-  is_unique = false;
-}
+authorities_by_person = an_index "authorities_by_person" 16 (2 ∷ 4 ∷ [])
 
 abbrev pub with_authorities_by_person : Schema
 with_authorities_by_person =
     indexed with_appointments_by_proxy (record authorities { tree = 16 }) authorities_by_person
 
 abbrev pub demands_by_party : Index
-demands_by_party = record {
-  name = codes "demands_by_party";
-  tree = 0;
-  table = 20;
-  columns = 2 ∷ 4 ∷ [];
-  order = plain;
-  is_unique = false;
-}
+demands_by_party = an_index "demands_by_party" 20 (2 ∷ 4 ∷ [])
 
 abbrev pub with_demands_by_party : Schema
 with_demands_by_party =
     indexed with_authorities_by_person (record demands { tree = 20 }) demands_by_party
 
 abbrev pub casts_by_voter : Index
-casts_by_voter = record {
-  name = codes "casts_by_voter";
-  tree = 0;
-  table = 24;
-  columns = 2 ∷ 4 ∷ [];
-  order = plain;
-  is_unique = false;
-}
+casts_by_voter = an_index "casts_by_voter" 24 (2 ∷ 4 ∷ [])
 
 abbrev pub with_casts_by_voter : Schema
 with_casts_by_voter = indexed with_demands_by_party (record casts { tree = 24 }) casts_by_voter

@@ -4,6 +4,7 @@ pub mod Deleting
 pub mod Emptying
 pub mod Frames
 pub mod GivenNumbers
+pub mod Listing
 pub mod Making
 pub mod Meanings
 pub mod NumberLemmas

@@ -95,3 +95,15 @@ made_index old new schema at text table index (Ok count) is alone plain there de
     let is_so : done.0.schema ≡ indexed schema table index = it.is ∙ ap (indexed schema table) same in
     let now : new.now ≡ done.0 = ap (λ (p : Tally × Database). p.1) (same_value done.2) in
     ((ap (λ (d : Database). d.schema) now ∙ is_so, subst (λ (d : Database). AllByRecursion (λ (t : Table). d.trees t.tree ≡ []) schema.tables) (sym now) (still_empty schema.tables old.now.trees done.0.trees was.1 it.rows)), w.shown.mode ∙ inside)
+
+-- in the schema the text makes this table, and no other
+pub record MakesTable (schema : Schema) (text : List ℕ) (table : Table) : Type 0 where
+  pub is : command_of (understood schema text) ≡ CreateTable
+  pub alone : statement_of text (understood schema text) ≡ text
+  pub plain : IsPlain (understood schema text)
+  pub defined : table_defined_by text ≡ Ok table
+  pub full : lacks_sequence (created schema table) ≡ false
+
+pub table_made : {schema : Schema} {text : List ℕ} {table : Table} → MakesTable schema text table → (old new : State) (r : Result ℕ Error) → AreEmpty schema old → IsTrue old.in_transaction → ExecutesInside 0 text [] old new r
+    → OnOk r (AreEmpty (created schema table) new × IsTrue new.in_transaction)
+table_made {schema} {text} {table} makes old new r = made old new schema text table r makes.is makes.alone makes.plain makes.defined makes.full

@@ -1,50 +1,33 @@
 -- What the statements on `closed` do.
-use Rattle.std.proofs.Common.{◌≡◌, ℕ, ℤ, List, [], ◌∷◌, codes, false, Some, Ok, Err, Result, OnOk, IfOk, IfErr, IsTrue, ◌⊎◌, refl, nat_lt}
+use Rattle.std.proofs.Common.{◌≡◌, ℕ, ℤ, List, [], ◌∷◌, codes, Some, Ok, Err, Result, OnOk, IsTrue, refl, nat_lt}
 use Rattle.sqlite.specs.declared.types.Value.TheVariants.{Null, Int}
-use Rattle.sqlite.specs.Order.{Row}
 use Rattle.sqlite.specs.Term.{Term, lit, col}
 use Rattle.sqlite.specs.Source.TheVariants.{Values}
-use Rattle.sqlite.specs.Command.TheVariants.{Insert, Select, Delete, CreateTable}
-use Rattle.sqlite.specs.Change.{created}
-use Rattle.sqlite.specs.Compile.{table_defined_by}
-use Rattle.sqlite.specs.Does.{lacks_sequence}
+use Rattle.sqlite.specs.Command.TheVariants.{Insert, Delete}
 use Rattle.sqlite_tied.specs.Compute.{everything}
 use Rattle.sqlite.specs.declared.error.Error.{Error}
-use Rattle.sqlite.specs.Listing.{understood, reads_listing}
-use Rattle.sqlite.specs.State.{State, ExecutesInside, Shown, IsUnchanged, FailsToQuery, IsTooLate, KeepsCommit}
-use Rattle.sqlite.proofs.Callers.{IsPlain, command_of, statement_of}
+use Rattle.sqlite.specs.Listing.{understood}
+use Rattle.sqlite.specs.State.{State, ExecutesInside}
+use Rattle.sqlite.proofs.Callers.{IsPlain, command_of}
 use Rattle.desk_rows.specs.Columns.{day_of, day_in}
 use Rattle.desk_rows.specs.Office.{closed_in}
 use Rattle.desk_statements.proofs.GivenNumbers.{days_below}
-use Rattle.desk_schema.specs.Tables.{desk_schema, with_keys, with_closed, closed as table}
+use Rattle.desk_schema.specs.Tables.{desk_schema, with_keys, closed as table}
 use Rattle.desk_schema.specs.Contents.{closed}
-use Rattle.desk_schema.specs.Statements.{IsDesk, Empties, AddsAfter, AreEmpty, rows_of}
+use Rattle.desk_schema.specs.Statements.{IsDesk, Empties, AddsAfter}
 use Rattle.desk_statements.proofs.Adding.{adds_numbered, means_more}
-use Rattle.desk_statements.proofs.Commits.{query_keeps}
 use Rattle.desk_statements.proofs.Deleting.{chosen}
 use Rattle.desk_statements.proofs.Emptying.{empties, leaves_rows}
-use Rattle.desk_statements.proofs.Making.{made}
-use Rattle.desk_statements.proofs.Reading.{whole, reads_whole}
+use Rattle.desk_statements.proofs.Listing.{ListsTable}
+use Rattle.desk_statements.proofs.Making.{MakesTable}
 use Rattle.desk_statements.proofs.Values.{cast_null, cast_int}
 
 abbrev make_text : List ℕ
 make_text = codes "CREATE TABLE closed (day INTEGER NOT NULL PRIMARY KEY) STRICT"
 
-make_is : (command_of (understood with_keys make_text) ≡ CreateTable) × (statement_of make_text (understood with_keys make_text) ≡ make_text) × (table_defined_by make_text ≡ Ok table)
-unfolding understood everything
-make_is = (refl, refl, refl)
-
-make_plain : IsPlain (understood with_keys make_text)
-unfolding understood everything
-make_plain = (refl, refl)
-
-make_full : lacks_sequence (created with_keys table) ≡ false
-unfolding Rattle.sqlite_schema.specs.Names.same_name
-make_full = refl
-
-pub makes : (old new : State) (r : Result ℕ Error) → AreEmpty with_keys old → IsTrue old.in_transaction → ExecutesInside 0 make_text [] old new r
-    → OnOk r (AreEmpty with_closed new × IsTrue new.in_transaction)
-makes old new r = made old new with_keys make_text table r make_is.0 make_is.1 make_plain make_is.2 make_full
+pub makes : MakesTable with_keys make_text table
+unfolding understood everything Rattle.sqlite_schema.specs.Names.same_name
+makes = record { is = refl; alone = refl; plain = (refl, refl); defined = refl; full = refl }
 
 abbrev add_text : List ℕ
 add_text = codes "INSERT INTO closed (day) VALUES (?1)"
@@ -75,27 +58,18 @@ adds_day day n is old new (Ok count) was inside h = λ records known passed.
 abbrev all_text : List ℕ
 all_text = codes "SELECT day FROM closed ORDER BY day"
 
-abbrev shows : List Term
-shows = col 1 0 ∷ []
-
-abbrev names : List (List ℕ)
-names = codes "day" ∷ []
-
-all_is : (command_of (understood desk_schema all_text) ≡ Select (record { lets = []; body = whole 4 shows }) names) × (reads_listing desk_schema all_text ≡ false)
+pub lists : ListsTable closed all_text
 unfolding understood everything
-all_is = (refl, refl)
-
-all_plain : IsPlain (understood desk_schema all_text)
-unfolding understood everything
-all_plain = (refl, refl)
-
-pub reads : {V : Type 0} (items : V → List Row) (old new : State) (r : Result V Error) → IsDesk old → IfOk r (λ v. Shown all_text [] old new (items v))
-    → IfOk r (λ v. (items v ≡ rows_of closed old.now.trees) × IsUnchanged old new)
-reads items = reads_whole items closed shows names all_text all_is.0 all_plain all_is.1 refl refl (λ row. refl)
-
-pub reads_keeps : {V : Type 0} (items : V → List Row) (old new : State) (r : Result V Error) → IsDesk old → IfOk r (λ v. Shown all_text [] old new (items v))
-    → IfErr r (λ e. FailsToQuery all_text [] old new e ⊎ IsTooLate all_text [] old new e) → KeepsCommit old new
-reads_keeps items old new r was = query_keeps items all_text [] old new desk_schema all_plain r was.schema
+lists = record {
+  shows = col 1 0 ∷ [];
+  names = codes "day" ∷ [];
+  is = refl;
+  plain = (refl, refl);
+  unlisted = refl;
+  none = refl;
+  numbered = refl;
+  columns = λ row. refl;
+}
 
 abbrev empty_text : List ℕ
 empty_text = codes "DELETE FROM closed"

@@ -4,15 +4,12 @@ use Rattle.sqlite.specs.declared.types.Value.TheVariants.{Null, Int}
 use Rattle.sqlite.specs.Order.{Row}
 use Rattle.sqlite.specs.Term.{Term, lit, col}
 use Rattle.sqlite.specs.Source.TheVariants.{Values}
-use Rattle.sqlite.specs.Command.TheVariants.{Insert, Select, CreateTable}
-use Rattle.sqlite.specs.Change.{created}
-use Rattle.sqlite.specs.Compile.{table_defined_by}
-use Rattle.sqlite.specs.Does.{lacks_sequence}
+use Rattle.sqlite.specs.Command.TheVariants.{Insert, Select}
 use Rattle.sqlite_tied.specs.Compute.{everything}
 use Rattle.sqlite.specs.declared.error.Error.{Error}
 use Rattle.sqlite.specs.Listing.{understood, reads_listing}
 use Rattle.sqlite.specs.State.{State, ExecutesInside, Shown, IsUnchanged, FailsToQuery, IsTooLate, KeepsCommit}
-use Rattle.sqlite.proofs.Callers.{IsPlain, command_of, reads_as, statement_of}
+use Rattle.sqlite.proofs.Callers.{IsPlain, command_of, reads_as}
 use Rattle.sqlite.specs.Command.{Command}
 use Rattle.sqlite.specs.Effect.{Database, Reads as Shows}
 use Rattle.sqlite.specs.Table.{Table}
@@ -24,33 +21,21 @@ use Rattle.desk_tables.specs.Versions.{Answers, AreNoted, NotesVersion, beside_d
 use Rattle.desk_rows.specs.Columns.{number_in}
 use Rattle.desk_rows.specs.Office.{version_in}
 use Rattle.desk_statements.proofs.GivenNumbers.{none_below}
-use Rattle.desk_schema.specs.Tables.{desk_schema, no_schema, with_desk, desk as table}
+use Rattle.desk_schema.specs.Tables.{desk_schema, no_schema, desk as table}
 use Rattle.desk_schema.specs.Contents.{desk}
-use Rattle.desk_schema.specs.Statements.{IsDesk, AddsFirst, AreEmpty, rows_of}
+use Rattle.desk_schema.specs.Statements.{IsDesk, AddsFirst, rows_of}
 use Rattle.desk_statements.proofs.Adding.{adds_numbered, means_more}
 use Rattle.desk_statements.proofs.Commits.{query_keeps}
-use Rattle.desk_statements.proofs.Making.{made}
+use Rattle.desk_statements.proofs.Making.{MakesTable}
 use Rattle.desk_statements.proofs.Reading.{in_order, shown_same, whole}
 use Rattle.desk_statements.proofs.Values.{cast_null, cast_int}
 
 abbrev make_text : List ℕ
 make_text = codes "CREATE TABLE desk (one INTEGER NOT NULL PRIMARY KEY, version INTEGER NOT NULL) STRICT"
 
-make_is : (command_of (understood no_schema make_text) ≡ CreateTable) × (statement_of make_text (understood no_schema make_text) ≡ make_text) × (table_defined_by make_text ≡ Ok table)
-unfolding understood everything
-make_is = (refl, refl, refl)
-
-make_plain : IsPlain (understood no_schema make_text)
-unfolding understood everything
-make_plain = (refl, refl)
-
-make_full : lacks_sequence (created no_schema table) ≡ false
-unfolding Rattle.sqlite_schema.specs.Names.same_name
-make_full = refl
-
-pub makes : (old new : State) (r : Result ℕ Error) → AreEmpty no_schema old → IsTrue old.in_transaction → ExecutesInside 0 make_text [] old new r
-    → OnOk r (AreEmpty with_desk new × IsTrue new.in_transaction)
-makes old new r = made old new no_schema make_text table r make_is.0 make_is.1 make_plain make_is.2 make_full
+pub makes : MakesTable no_schema make_text table
+unfolding understood everything Rattle.sqlite_schema.specs.Names.same_name
+makes = record { is = refl; alone = refl; plain = (refl, refl); defined = refl; full = refl }
 
 abbrev add_text : List ℕ
 add_text = codes "INSERT INTO desk (one, version) VALUES (1, 1)"

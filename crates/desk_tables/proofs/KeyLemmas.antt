@@ -1,5 +1,5 @@
 -- What the statements on `keys` do.
-use Rattle.std.proofs.Common.{◌≡◌, ℕ, List, [], ◌∷◌, codes, false, Some, Ok, Result, OnOk, IfOk, IfErr, IsTrue, ◌⊎◌, refl, ◌∙◌, filter}
+use Rattle.std.proofs.Common.{◌≡◌, ℕ, List, [], ◌∷◌, codes, false, Some, Result, OnOk, IfOk, IfErr, IsTrue, ◌⊎◌, refl, ◌∙◌, filter}
 use Rattle.sqlite.specs.declared.types.Value.TheVariants.{Null, Text}
 use Rattle.sqlite.specs.Order.{Row, column}
 use Rattle.sqlite.specs.Term.{Term, lit, col, op2}
@@ -7,29 +7,27 @@ use Rattle.sqlite.specs.Collation.TheVariants.{Binary}
 use Rattle.sqlite_sql.specs.declared.ops.BinaryOp.TheVariants.{Compare}
 use Rattle.sqlite_sql.specs.declared.ops.CompareOp.TheVariants.{Eq}
 use Rattle.sqlite.specs.Source.TheVariants.{Values}
-use Rattle.sqlite.specs.Command.TheVariants.{Insert, Select, Delete, CreateTable}
-use Rattle.sqlite.specs.Change.{created}
-use Rattle.sqlite.specs.Compile.{table_defined_by}
-use Rattle.sqlite.specs.Does.{lacks_sequence}
+use Rattle.sqlite.specs.Command.TheVariants.{Insert, Select, Delete}
 use Rattle.sqlite_tied.specs.Compute.{everything}
 use Rattle.sqlite.specs.declared.error.Error.{Error}
 use Rattle.sqlite.specs.Listing.{understood, reads_listing}
 use Rattle.sqlite.specs.State.{State, ExecutesInside, Shown, IsUnchanged, FailsToQuery, IsTooLate, KeepsCommit}
-use Rattle.sqlite.proofs.Callers.{IsPlain, command_of, statement_of}
+use Rattle.sqlite.proofs.Callers.{IsPlain, command_of}
 use Rattle.desk_words.specs.declared.caller.KeyRow.{KeyRow}
 use Rattle.desk_rows.specs.Columns.{spelled}
 use Rattle.desk_rows.specs.Office.{key_in}
 use Rattle.desk_terms.specs.Names.{key_of, same_name}
 use Rattle.desk_words.specs.Callers.{caller_of}
-use Rattle.desk_schema.specs.Tables.{desk_schema, with_desk, with_keys, keys as table}
+use Rattle.desk_schema.specs.Tables.{desk_schema, with_desk, keys as table}
 use Rattle.desk_schema.specs.Contents.{keys}
-use Rattle.desk_schema.specs.Statements.{IsDesk, columns_of, records_in, Adds, Empties, AreEmpty, rows_of}
+use Rattle.desk_schema.specs.Statements.{IsDesk, columns_of, records_in, Adds, Empties}
 use Rattle.desk_statements.proofs.Adding.{adds_row, adds}
 use Rattle.desk_statements.proofs.Commits.{query_keeps}
 use Rattle.desk_statements.proofs.Deleting.{chosen, passes}
 use Rattle.desk_statements.proofs.Emptying.{empties, leaves_rows}
-use Rattle.desk_statements.proofs.Making.{made}
-use Rattle.desk_statements.proofs.Reading.{whole, reads_whole, sought, finds}
+use Rattle.desk_statements.proofs.Listing.{ListsTable}
+use Rattle.desk_statements.proofs.Making.{MakesTable}
+use Rattle.desk_statements.proofs.Reading.{sought, finds}
 use Rattle.desk_rows.specs.Meanings.{all_mean}
 use Rattle.desk_rows.proofs.MeaningLemmas.{bound, option_ap}
 use Rattle.desk_statements.proofs.Tests.{keys_tell}
@@ -39,21 +37,9 @@ use Rattle.desk_statements.proofs.Values.{cast_null}
 abbrev make_text : List ℕ
 make_text = codes "CREATE TABLE keys (party TEXT NOT NULL PRIMARY KEY, secret TEXT NOT NULL UNIQUE) STRICT"
 
-make_is : (command_of (understood with_desk make_text) ≡ CreateTable) × (statement_of make_text (understood with_desk make_text) ≡ make_text) × (table_defined_by make_text ≡ Ok table)
-unfolding understood everything
-make_is = (refl, refl, refl)
-
-make_plain : IsPlain (understood with_desk make_text)
-unfolding understood everything
-make_plain = (refl, refl)
-
-make_full : lacks_sequence (created with_desk table) ≡ false
-unfolding Rattle.sqlite_schema.specs.Names.same_name
-make_full = refl
-
-pub makes : (old new : State) (r : Result ℕ Error) → AreEmpty with_desk old → IsTrue old.in_transaction → ExecutesInside 0 make_text [] old new r
-    → OnOk r (AreEmpty with_keys new × IsTrue new.in_transaction)
-makes old new r = made old new with_desk make_text table r make_is.0 make_is.1 make_plain make_is.2 make_full
+pub makes : MakesTable with_desk make_text table
+unfolding understood everything Rattle.sqlite_schema.specs.Names.same_name
+makes = record { is = refl; alone = refl; plain = (refl, refl); defined = refl; full = refl }
 
 abbrev add_text : List ℕ
 add_text = codes "INSERT INTO keys (party, secret) VALUES (?1, ?2)"
@@ -94,21 +80,18 @@ shows = col 1 1 ∷ col 1 2 ∷ []
 abbrev names : List (List ℕ)
 names = codes "party" ∷ codes "secret" ∷ []
 
-all_is : (command_of (understood desk_schema all_text) ≡ Select (record { lets = []; body = whole 1 shows }) names) × (reads_listing desk_schema all_text ≡ false)
+pub lists : ListsTable keys all_text
 unfolding understood everything
-all_is = (refl, refl)
-
-all_plain : IsPlain (understood desk_schema all_text)
-unfolding understood everything
-all_plain = (refl, refl)
-
-pub reads : {V : Type 0} (items : V → List Row) (old new : State) (r : Result V Error) → IsDesk old → IfOk r (λ v. Shown all_text [] old new (items v))
-    → IfOk r (λ v. (items v ≡ rows_of keys old.now.trees) × IsUnchanged old new)
-reads items = reads_whole items keys shows names all_text all_is.0 all_plain all_is.1 refl refl (λ cells. refl)
-
-pub reads_keeps : {V : Type 0} (items : V → List Row) (old new : State) (r : Result V Error) → IsDesk old → IfOk r (λ v. Shown all_text [] old new (items v))
-    → IfErr r (λ e. FailsToQuery all_text [] old new e ⊎ IsTooLate all_text [] old new e) → KeepsCommit old new
-reads_keeps items old new r was = query_keeps items all_text [] old new desk_schema all_plain r was.schema
+lists = record {
+  shows = shows;
+  names = names;
+  is = refl;
+  plain = (refl, refl);
+  unlisted = refl;
+  none = refl;
+  numbered = refl;
+  columns = λ row. refl;
+}
 
 abbrev empty_text : List ℕ
 empty_text = codes "DELETE FROM keys"

@@ -1,5 +1,5 @@
 -- What the statements on `meetings` do.
-use Rattle.std.proofs.Common.{◌≡◌, ℕ, ℤ, pos, Bool, if◌then◌else◌, List, [], ◌∷◌, codes, true, false, Option, Some, Ok, Result, OnOk, IfOk, IfErr, IsTrue, ◌⊎◌, refl, sym, ap, subst, ◌∙◌}
+use Rattle.std.proofs.Common.{◌≡◌, ℕ, ℤ, pos, Bool, List, [], ◌∷◌, codes, true, false, Option, Some, Ok, Result, OnOk, IsTrue, refl, sym, ap, subst, ◌∙◌, if◌then◌else◌}
 use Rattle.sqlite.specs.declared.types.Value.{Value}
 use Rattle.sqlite.specs.declared.types.Value.TheVariants.{Null, Int, Text}
 use Rattle.sqlite.specs.Values.{or_null}
@@ -9,14 +9,14 @@ use Rattle.sqlite.specs.Collation.TheVariants.{Binary}
 use Rattle.sqlite_sql.specs.declared.ops.BinaryOp.TheVariants.{Compare}
 use Rattle.sqlite_sql.specs.declared.ops.CompareOp.TheVariants.{Eq}
 use Rattle.sqlite.specs.Source.TheVariants.{Values}
-use Rattle.sqlite.specs.Command.TheVariants.{Insert, Select, Update, CreateTable}
+use Rattle.sqlite.specs.Command.TheVariants.{Insert, Update, CreateTable}
 use Rattle.sqlite.specs.Change.{created}
 use Rattle.sqlite.specs.Compile.{table_defined_by}
 use Rattle.sqlite.specs.Does.{lacks_sequence, sequence_text}
 use Rattle.sqlite_tied.specs.Compute.{everything}
 use Rattle.sqlite.specs.declared.error.Error.{Error}
-use Rattle.sqlite.specs.Listing.{understood, reads_listing}
-use Rattle.sqlite.specs.State.{State, ExecutesInside, Shown, IsUnchanged, FailsToQuery, IsTooLate, KeepsCommit}
+use Rattle.sqlite.specs.Listing.{understood}
+use Rattle.sqlite.specs.State.{State, ExecutesInside}
 use Rattle.sqlite.proofs.Callers.{IsPlain, command_of, statement_of}
 use Rattle.desk_words.specs.declared.records.Meeting.{Meeting}
 use Rattle.desk_rows.specs.Columns.{day_in, day_of, flag_in, flag_of, integer_of, moment_in, moment_of, natural_of, number_in, number_of, read_word, some_moment_in, some_moment_of, spelled, spelled_of, worded, worded_of}
@@ -25,12 +25,11 @@ use Rattle.desk_terms.specs.Kinds.{company_of, meeting_kind_of}
 use Rattle.desk_terms.specs.Names.{meeting_of, same_name}
 use Rattle.desk_schema.specs.Tables.{desk_schema, with_closed, with_meetings, meetings as table, sequence}
 use Rattle.desk_schema.specs.Contents.{meetings, without_resolutions, loaded_at, opened_at}
-use Rattle.desk_schema.specs.Statements.{IsDesk, Adds, Sets, columns_of, AreEmpty, rows_of}
+use Rattle.desk_schema.specs.Statements.{IsDesk, Adds, Sets, columns_of, AreEmpty}
 use Rattle.desk_statements.proofs.Adding.{adds_row, adds}
-use Rattle.desk_statements.proofs.Commits.{query_keeps}
 use Rattle.desk_statements.proofs.Deleting.{picked, passes}
+use Rattle.desk_statements.proofs.Listing.{ListsTable}
 use Rattle.desk_statements.proofs.Making.{made_counted}
-use Rattle.desk_statements.proofs.Reading.{whole, reads_whole}
 use Rattle.sqlite.specs.Kind.TheVariants.{Integer, Text as Texts}
 use Rattle.sqlite.specs.Cast.{cast}
 use Rattle.sqlite.specs.Tree.{rowid}
@@ -97,27 +96,18 @@ module _ (m : Meeting) (meeting : List ℕ) (company : List ℕ) (kind : List �
 abbrev all_text : List ℕ
 all_text = codes "SELECT meeting, company, kind, given, appointed, record, loaded, opened FROM meetings ORDER BY seq"
 
-abbrev shows : List Term
-shows = col 1 2 ∷ col 1 3 ∷ col 1 4 ∷ col 1 5 ∷ col 1 6 ∷ col 1 7 ∷ col 1 8 ∷ col 1 9 ∷ []
-
-abbrev names : List (List ℕ)
-names = codes "meeting" ∷ codes "company" ∷ codes "kind" ∷ codes "given" ∷ codes "appointed" ∷ codes "record" ∷ codes "loaded" ∷ codes "opened" ∷ []
-
-all_is : (command_of (understood desk_schema all_text) ≡ Select (record { lets = []; body = whole 5 shows }) names) × (reads_listing desk_schema all_text ≡ false)
+pub lists : ListsTable meetings all_text
 unfolding understood everything
-all_is = (refl, refl)
-
-all_plain : IsPlain (understood desk_schema all_text)
-unfolding understood everything
-all_plain = (refl, refl)
-
-pub reads : {V : Type 0} (items : V → List Row) (old new : State) (r : Result V Error) → IsDesk old → IfOk r (λ v. Shown all_text [] old new (items v))
-    → IfOk r (λ v. (items v ≡ rows_of meetings old.now.trees) × IsUnchanged old new)
-reads items = reads_whole items meetings shows names all_text all_is.0 all_plain all_is.1 refl refl (λ cells. refl)
-
-pub reads_keeps : {V : Type 0} (items : V → List Row) (old new : State) (r : Result V Error) → IsDesk old → IfOk r (λ v. Shown all_text [] old new (items v))
-    → IfErr r (λ e. FailsToQuery all_text [] old new e ⊎ IsTooLate all_text [] old new e) → KeepsCommit old new
-reads_keeps items old new r was = query_keeps items all_text [] old new desk_schema all_plain r was.schema
+lists = record {
+  shows = col 1 2 ∷ col 1 3 ∷ col 1 4 ∷ col 1 5 ∷ col 1 6 ∷ col 1 7 ∷ col 1 8 ∷ col 1 9 ∷ [];
+  names = codes "meeting" ∷ codes "company" ∷ codes "kind" ∷ codes "given" ∷ codes "appointed" ∷ codes "record" ∷ codes "loaded" ∷ codes "opened" ∷ [];
+  is = refl;
+  plain = (refl, refl);
+  unlisted = refl;
+  none = refl;
+  numbered = refl;
+  columns = λ row. refl;
+}
 
 abbrev load_text : List ℕ
 load_text = codes "UPDATE meetings SET loaded = 1 WHERE meeting = ?1"

@@ -1,50 +1,34 @@
 -- What the statements on `resolutions` do.
-use Rattle.std.proofs.Common.{◌≡◌, ℕ, ℤ, List, [], ◌∷◌, codes, false, Some, Ok, Result, OnOk, IfOk, IfErr, IsTrue, ◌⊎◌, refl}
+use Rattle.std.proofs.Common.{◌≡◌, ℕ, ℤ, List, [], ◌∷◌, codes, Some, Result, OnOk, IsTrue, refl}
 use Rattle.sqlite.specs.declared.types.Value.TheVariants.{Null, Int, Text}
 use Rattle.sqlite.specs.Order.{Row}
 use Rattle.sqlite.specs.Term.{Term, lit, col}
 use Rattle.sqlite.specs.Source.TheVariants.{Values}
-use Rattle.sqlite.specs.Command.TheVariants.{Insert, Select, CreateTable}
-use Rattle.sqlite.specs.Change.{created}
-use Rattle.sqlite.specs.Compile.{table_defined_by}
-use Rattle.sqlite.specs.Does.{lacks_sequence}
+use Rattle.sqlite.specs.Command.TheVariants.{Insert}
 use Rattle.sqlite_tied.specs.Compute.{everything}
 use Rattle.sqlite.specs.declared.error.Error.{Error}
-use Rattle.sqlite.specs.Listing.{understood, reads_listing}
-use Rattle.sqlite.specs.State.{State, ExecutesInside, Shown, IsUnchanged, FailsToQuery, IsTooLate, KeepsCommit}
-use Rattle.sqlite.proofs.Callers.{IsPlain, command_of, statement_of}
+use Rattle.sqlite.specs.Listing.{understood}
+use Rattle.sqlite.specs.State.{State, ExecutesInside}
+use Rattle.sqlite.proofs.Callers.{IsPlain, command_of}
 use Rattle.desk_words.specs.declared.records.Resolution.{Resolution}
 use Rattle.desk_rows.specs.Columns.{natural_of, number_in, read_word, spelled, text_of, worded}
 use Rattle.desk_rows.specs.Meetings.{resolution_in}
 use Rattle.desk_terms.specs.Kinds.{resolution_kind_of}
 use Rattle.desk_terms.specs.Names.{meeting_of}
-use Rattle.desk_schema.specs.Tables.{desk_schema, with_meetings, with_resolutions, resolutions as table}
+use Rattle.desk_schema.specs.Tables.{desk_schema, with_meetings, resolutions as table}
 use Rattle.desk_schema.specs.Contents.{resolutions}
-use Rattle.desk_schema.specs.Statements.{IsDesk, Adds, AreEmpty, rows_of}
+use Rattle.desk_schema.specs.Statements.{IsDesk, Adds}
 use Rattle.desk_statements.proofs.Adding.{adds_row, adds}
-use Rattle.desk_statements.proofs.Commits.{query_keeps}
-use Rattle.desk_statements.proofs.Making.{made}
-use Rattle.desk_statements.proofs.Reading.{whole, reads_whole}
+use Rattle.desk_statements.proofs.Listing.{ListsTable}
+use Rattle.desk_statements.proofs.Making.{MakesTable}
 use Rattle.desk_statements.proofs.Values.{cast_int, cast_null}
 
 abbrev make_text : List ℕ
 make_text = codes "CREATE TABLE resolutions (meeting TEXT NOT NULL REFERENCES meetings (meeting), number INTEGER NOT NULL, kind TEXT NOT NULL, body TEXT NOT NULL, PRIMARY KEY (meeting, number)) STRICT"
 
-make_is : (command_of (understood with_meetings make_text) ≡ CreateTable) × (statement_of make_text (understood with_meetings make_text) ≡ make_text) × (table_defined_by make_text ≡ Ok table)
-unfolding understood everything
-make_is = (refl, refl, refl)
-
-make_plain : IsPlain (understood with_meetings make_text)
-unfolding understood everything
-make_plain = (refl, refl)
-
-make_full : lacks_sequence (created with_meetings table) ≡ false
-unfolding Rattle.sqlite_schema.specs.Names.same_name
-make_full = refl
-
-pub makes : (old new : State) (r : Result ℕ Error) → AreEmpty with_meetings old → IsTrue old.in_transaction → ExecutesInside 0 make_text [] old new r
-    → OnOk r (AreEmpty with_resolutions new × IsTrue new.in_transaction)
-makes old new r = made old new with_meetings make_text table r make_is.0 make_is.1 make_plain make_is.2 make_full
+pub makes : MakesTable with_meetings make_text table
+unfolding understood everything Rattle.sqlite_schema.specs.Names.same_name
+makes = record { is = refl; alone = refl; plain = (refl, refl); defined = refl; full = refl }
 
 abbrev add_text : List ℕ
 add_text = codes "INSERT INTO resolutions (meeting, number, kind, body) VALUES (?1, ?2, ?3, ?4)"
@@ -79,24 +63,15 @@ module _ (m : List ℕ) (n : ℕ) (x : Resolution) (meeting : List ℕ) (number 
 abbrev all_text : List ℕ
 all_text = codes "SELECT meeting, number, kind, body FROM resolutions ORDER BY rowid"
 
-abbrev shows : List Term
-shows = col 1 1 ∷ col 1 2 ∷ col 1 3 ∷ col 1 4 ∷ []
-
-abbrev names : List (List ℕ)
-names = codes "meeting" ∷ codes "number" ∷ codes "kind" ∷ codes "body" ∷ []
-
-all_is : (command_of (understood desk_schema all_text) ≡ Select (record { lets = []; body = whole 8 shows }) names) × (reads_listing desk_schema all_text ≡ false)
+pub lists : ListsTable resolutions all_text
 unfolding understood everything
-all_is = (refl, refl)
-
-all_plain : IsPlain (understood desk_schema all_text)
-unfolding understood everything
-all_plain = (refl, refl)
-
-pub reads : {V : Type 0} (items : V → List Row) (old new : State) (r : Result V Error) → IsDesk old → IfOk r (λ v. Shown all_text [] old new (items v))
-    → IfOk r (λ v. (items v ≡ rows_of resolutions old.now.trees) × IsUnchanged old new)
-reads items = reads_whole items resolutions shows names all_text all_is.0 all_plain all_is.1 refl refl (λ row. refl)
-
-pub reads_keeps : {V : Type 0} (items : V → List Row) (old new : State) (r : Result V Error) → IsDesk old → IfOk r (λ v. Shown all_text [] old new (items v))
-    → IfErr r (λ e. FailsToQuery all_text [] old new e ⊎ IsTooLate all_text [] old new e) → KeepsCommit old new
-reads_keeps items old new r was = query_keeps items all_text [] old new desk_schema all_plain r was.schema
+lists = record {
+  shows = col 1 1 ∷ col 1 2 ∷ col 1 3 ∷ col 1 4 ∷ [];
+  names = codes "meeting" ∷ codes "number" ∷ codes "kind" ∷ codes "body" ∷ [];
+  is = refl;
+  plain = (refl, refl);
+  unlisted = refl;
+  none = refl;
+  numbered = refl;
+  columns = λ row. refl;
+}

@@ -1,50 +1,34 @@
 -- What the statements on `casts` do.
-use Rattle.std.proofs.Common.{◌≡◌, ℕ, ℤ, List, [], ◌∷◌, codes, false, Bor, Option, Some, Ok, Result, OnOk, IfOk, IfErr, IsTrue, ◌⊎◌, refl}
+use Rattle.std.proofs.Common.{◌≡◌, ℕ, ℤ, List, [], ◌∷◌, codes, Bor, Option, Some, Result, OnOk, IsTrue, refl}
 use Rattle.sqlite.specs.declared.types.Value.TheVariants.{Null, Int, Text}
 use Rattle.sqlite.specs.Values.{or_null}
 use Rattle.sqlite.specs.Order.{Row}
 use Rattle.sqlite.specs.Term.{Term, lit, col}
 use Rattle.sqlite.specs.Source.TheVariants.{Values}
-use Rattle.sqlite.specs.Command.TheVariants.{Insert, Select, CreateTable}
-use Rattle.sqlite.specs.Change.{created}
-use Rattle.sqlite.specs.Compile.{table_defined_by}
-use Rattle.sqlite.specs.Does.{lacks_sequence}
+use Rattle.sqlite.specs.Command.TheVariants.{Insert}
 use Rattle.sqlite_tied.specs.Compute.{everything}
 use Rattle.sqlite.specs.declared.error.Error.{Error}
-use Rattle.sqlite.specs.Listing.{understood, reads_listing}
-use Rattle.sqlite.specs.State.{State, ExecutesInside, Shown, IsUnchanged, FailsToQuery, IsTooLate, KeepsCommit}
-use Rattle.sqlite.proofs.Callers.{IsPlain, command_of, statement_of}
+use Rattle.sqlite.specs.Listing.{understood}
+use Rattle.sqlite.specs.State.{State, ExecutesInside}
+use Rattle.sqlite.proofs.Callers.{IsPlain, command_of}
 use Rattle.desk_words.specs.declared.records.CastMark.{CastMark}
 use Rattle.desk_rows.specs.Columns.{moment_in, moment_of, natural_of, number_in, spelled}
 use Rattle.desk_rows.specs.Marks.{cast_in, cast_kind_in, cast_kind_of}
 use Rattle.desk_terms.specs.Names.{meeting_of, party_of}
-use Rattle.desk_schema.specs.Tables.{desk_schema, with_polls, with_casts, casts as table}
+use Rattle.desk_schema.specs.Tables.{desk_schema, with_polls, casts as table}
 use Rattle.desk_schema.specs.Contents.{casts}
-use Rattle.desk_schema.specs.Statements.{IsDesk, Adds, AreEmpty, rows_of}
+use Rattle.desk_schema.specs.Statements.{IsDesk, Adds}
 use Rattle.desk_statements.proofs.Adding.{adds_row, adds}
-use Rattle.desk_statements.proofs.Commits.{query_keeps}
-use Rattle.desk_statements.proofs.Making.{made}
-use Rattle.desk_statements.proofs.Reading.{whole, reads_whole}
+use Rattle.desk_statements.proofs.Listing.{ListsTable}
+use Rattle.desk_statements.proofs.Making.{MakesTable}
 use Rattle.desk_statements.proofs.Values.{cast_int, cast_null, cast_some, cast_some_text, some_text}
 
 abbrev make_text : List ℕ
 make_text = codes "CREATE TABLE casts (seq INTEGER PRIMARY KEY AUTOINCREMENT, meeting TEXT NOT NULL REFERENCES meetings (meeting), resolution INTEGER NOT NULL, voter TEXT NOT NULL, capacity TEXT NOT NULL, member TEXT, first INTEGER, last INTEGER, way TEXT, moment INTEGER NOT NULL) STRICT"
 
-make_is : (command_of (understood with_polls make_text) ≡ CreateTable) × (statement_of make_text (understood with_polls make_text) ≡ make_text) × (table_defined_by make_text ≡ Ok table)
-unfolding understood everything
-make_is = (refl, refl, refl)
-
-make_plain : IsPlain (understood with_polls make_text)
-unfolding understood everything
-make_plain = (refl, refl)
-
-make_full : lacks_sequence (created with_polls table) ≡ false
-unfolding Rattle.sqlite_schema.specs.Names.same_name
-make_full = refl
-
-pub makes : (old new : State) (r : Result ℕ Error) → AreEmpty with_polls old → IsTrue old.in_transaction → ExecutesInside 0 make_text [] old new r
-    → OnOk r (AreEmpty with_casts new × IsTrue new.in_transaction)
-makes old new r = made old new with_polls make_text table r make_is.0 make_is.1 make_plain make_is.2 make_full
+pub makes : MakesTable with_polls make_text table
+unfolding understood everything Rattle.sqlite_schema.specs.Names.same_name
+makes = record { is = refl; alone = refl; plain = (refl, refl); defined = refl; full = refl }
 
 abbrev add_text : List ℕ
 add_text = codes "INSERT INTO casts (meeting, resolution, voter, capacity, member, first, last, way, moment) VALUES (?1, ?2, ?3, ?4, ?5, ?6, ?7, ?8, ?9)"
@@ -79,24 +63,15 @@ module _ (m : List ℕ) (x : CastMark) (meeting : List ℕ) (resolution : ℤ) (
 abbrev all_text : List ℕ
 all_text = codes "SELECT meeting, resolution, voter, capacity, member, first, last, way, moment FROM casts ORDER BY seq"
 
-abbrev shows : List Term
-shows = col 1 2 ∷ col 1 3 ∷ col 1 4 ∷ col 1 5 ∷ col 1 6 ∷ col 1 7 ∷ col 1 8 ∷ col 1 9 ∷ col 1 10 ∷ []
-
-abbrev names : List (List ℕ)
-names = codes "meeting" ∷ codes "resolution" ∷ codes "voter" ∷ codes "capacity" ∷ codes "member" ∷ codes "first" ∷ codes "last" ∷ codes "way" ∷ codes "moment" ∷ []
-
-all_is : (command_of (understood desk_schema all_text) ≡ Select (record { lets = []; body = whole 24 shows }) names) × (reads_listing desk_schema all_text ≡ false)
+pub lists : ListsTable casts all_text
 unfolding understood everything
-all_is = (refl, refl)
-
-all_plain : IsPlain (understood desk_schema all_text)
-unfolding understood everything
-all_plain = (refl, refl)
-
-pub reads : {V : Type 0} (items : V → List Row) (old new : State) (r : Result V Error) → IsDesk old → IfOk r (λ v. Shown all_text [] old new (items v))
-    → IfOk r (λ v. (items v ≡ rows_of casts old.now.trees) × IsUnchanged old new)
-reads items = reads_whole items casts shows names all_text all_is.0 all_plain all_is.1 refl refl (λ row. refl)
-
-pub reads_keeps : {V : Type 0} (items : V → List Row) (old new : State) (r : Result V Error) → IsDesk old → IfOk r (λ v. Shown all_text [] old new (items v))
-    → IfErr r (λ e. FailsToQuery all_text [] old new e ⊎ IsTooLate all_text [] old new e) → KeepsCommit old new
-reads_keeps items old new r was = query_keeps items all_text [] old new desk_schema all_plain r was.schema
+lists = record {
+  shows = col 1 2 ∷ col 1 3 ∷ col 1 4 ∷ col 1 5 ∷ col 1 6 ∷ col 1 7 ∷ col 1 8 ∷ col 1 9 ∷ col 1 10 ∷ [];
+  names = codes "meeting" ∷ codes "resolution" ∷ codes "voter" ∷ codes "capacity" ∷ codes "member" ∷ codes "first" ∷ codes "last" ∷ codes "way" ∷ codes "moment" ∷ [];
+  is = refl;
+  plain = (refl, refl);
+  unlisted = refl;
+  none = refl;
+  numbered = refl;
+  columns = λ row. refl;
+}

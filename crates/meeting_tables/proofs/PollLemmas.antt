@@ -1,5 +1,5 @@
 -- What the statements on `polls` do.
-use Rattle.std.proofs.Common.{◌≡◌, ℕ, ℤ, Bool, true, if◌then◌else◌, ◌&&◌, List, [], ◌∷◌, codes, false, Option, Some, Ok, Result, OnOk, IfOk, IfErr, IsTrue, ◌⊎◌, refl, sym, ap, ap₂, subst, ◌∙◌}
+use Rattle.std.proofs.Common.{◌≡◌, ℕ, ℤ, Bool, true, ◌&&◌, List, [], ◌∷◌, codes, false, Option, Some, Result, OnOk, IsTrue, refl, sym, ap, ap₂, subst, ◌∙◌, if◌then◌else◌}
 use Rattle.sqlite.specs.declared.types.Value.{Value}
 use Rattle.sqlite.specs.declared.types.Value.TheVariants.{Null, Int, Text}
 use Rattle.sqlite.specs.Values.{or_null}
@@ -9,27 +9,23 @@ use Rattle.sqlite.specs.Collation.TheVariants.{Binary}
 use Rattle.sqlite_sql.specs.declared.ops.BinaryOp.TheVariants.{Compare}
 use Rattle.sqlite_sql.specs.declared.ops.CompareOp.TheVariants.{Eq}
 use Rattle.sqlite.specs.Source.TheVariants.{Values}
-use Rattle.sqlite.specs.Command.TheVariants.{Insert, Select, Update, CreateTable}
-use Rattle.sqlite.specs.Change.{created}
-use Rattle.sqlite.specs.Compile.{table_defined_by}
-use Rattle.sqlite.specs.Does.{lacks_sequence}
+use Rattle.sqlite.specs.Command.TheVariants.{Insert, Update}
 use Rattle.sqlite_tied.specs.Compute.{everything}
 use Rattle.sqlite.specs.declared.error.Error.{Error}
-use Rattle.sqlite.specs.Listing.{understood, reads_listing}
-use Rattle.sqlite.specs.State.{State, ExecutesInside, Shown, IsUnchanged, FailsToQuery, IsTooLate, KeepsCommit}
-use Rattle.sqlite.proofs.Callers.{IsPlain, command_of, statement_of}
+use Rattle.sqlite.specs.Listing.{understood}
+use Rattle.sqlite.specs.State.{State, ExecutesInside}
+use Rattle.sqlite.proofs.Callers.{IsPlain, command_of}
 use Rattle.desk_words.specs.declared.records.Poll.{Poll}
 use Rattle.desk_rows.specs.Columns.{flag_in, flag_of, integer_of, moment_in, moment_of, natural_of, number_in, number_of, some_moment_in, some_moment_of, spelled, spelled_of}
 use Rattle.desk_rows.specs.Marks.{declared_in, declared_of, poll_in}
 use Rattle.desk_terms.specs.Names.{meeting_of}
-use Rattle.desk_schema.specs.Tables.{desk_schema, with_demands, with_polls, polls as table}
+use Rattle.desk_schema.specs.Tables.{desk_schema, with_demands, polls as table}
 use Rattle.desk_schema.specs.Contents.{polls, is_named, started_at, closed_at, declared_as}
-use Rattle.desk_schema.specs.Statements.{IsDesk, Adds, Sets, columns_of, AreEmpty, rows_of}
+use Rattle.desk_schema.specs.Statements.{IsDesk, Adds, Sets, columns_of}
 use Rattle.desk_statements.proofs.Adding.{adds_row, adds}
-use Rattle.desk_statements.proofs.Commits.{query_keeps}
 use Rattle.desk_statements.proofs.Deleting.{picked, passes}
-use Rattle.desk_statements.proofs.Making.{made}
-use Rattle.desk_statements.proofs.Reading.{whole, reads_whole}
+use Rattle.desk_statements.proofs.Listing.{ListsTable}
+use Rattle.desk_statements.proofs.Making.{MakesTable}
 use Rattle.sqlite.specs.Kind.TheVariants.{Integer, Text as Texts}
 use Rattle.sqlite.specs.Cast.{cast}
 use Rattle.sqlite.specs.Tree.{rowid}
@@ -49,21 +45,9 @@ use Rattle.desk_statements.proofs.Values.{cast_flag, cast_int, cast_null, cast_s
 abbrev make_text : List ℕ
 make_text = codes "CREATE TABLE polls (meeting TEXT NOT NULL REFERENCES meetings (meeting), resolution INTEGER NOT NULL, ordered INTEGER NOT NULL, take INTEGER NOT NULL, chair INTEGER NOT NULL, started INTEGER, closed INTEGER, votes_for INTEGER, votes_against INTEGER, withheld INTEGER, eligible INTEGER, PRIMARY KEY (meeting, resolution)) STRICT"
 
-make_is : (command_of (understood with_demands make_text) ≡ CreateTable) × (statement_of make_text (understood with_demands make_text) ≡ make_text) × (table_defined_by make_text ≡ Ok table)
-unfolding understood everything
-make_is = (refl, refl, refl)
-
-make_plain : IsPlain (understood with_demands make_text)
-unfolding understood everything
-make_plain = (refl, refl)
-
-make_full : lacks_sequence (created with_demands table) ≡ false
-unfolding Rattle.sqlite_schema.specs.Names.same_name
-make_full = refl
-
-pub makes : (old new : State) (r : Result ℕ Error) → AreEmpty with_demands old → IsTrue old.in_transaction → ExecutesInside 0 make_text [] old new r
-    → OnOk r (AreEmpty with_polls new × IsTrue new.in_transaction)
-makes old new r = made old new with_demands make_text table r make_is.0 make_is.1 make_plain make_is.2 make_full
+pub makes : MakesTable with_demands make_text table
+unfolding understood everything Rattle.sqlite_schema.specs.Names.same_name
+makes = record { is = refl; alone = refl; plain = (refl, refl); defined = refl; full = refl }
 
 abbrev add_text : List ℕ
 add_text = codes "INSERT INTO polls (meeting, resolution, ordered, take, chair, started, closed, votes_for, votes_against, withheld, eligible) VALUES (?1, ?2, ?3, ?4, ?5, ?6, ?7, ?8, ?9, ?10, ?11)"
@@ -98,27 +82,18 @@ module _ (m : List ℕ) (x : Poll) (meeting : List ℕ) (resolution : ℤ) (orde
 abbrev all_text : List ℕ
 all_text = codes "SELECT meeting, resolution, ordered, take, chair, started, closed, votes_for, votes_against, withheld, eligible FROM polls ORDER BY rowid"
 
-abbrev shows : List Term
-shows = col 1 1 ∷ col 1 2 ∷ col 1 3 ∷ col 1 4 ∷ col 1 5 ∷ col 1 6 ∷ col 1 7 ∷ col 1 8 ∷ col 1 9 ∷ col 1 10 ∷ col 1 11 ∷ []
-
-abbrev names : List (List ℕ)
-names = codes "meeting" ∷ codes "resolution" ∷ codes "ordered" ∷ codes "take" ∷ codes "chair" ∷ codes "started" ∷ codes "closed" ∷ codes "votes_for" ∷ codes "votes_against" ∷ codes "withheld" ∷ codes "eligible" ∷ []
-
-all_is : (command_of (understood desk_schema all_text) ≡ Select (record { lets = []; body = whole 22 shows }) names) × (reads_listing desk_schema all_text ≡ false)
+pub lists : ListsTable polls all_text
 unfolding understood everything
-all_is = (refl, refl)
-
-all_plain : IsPlain (understood desk_schema all_text)
-unfolding understood everything
-all_plain = (refl, refl)
-
-pub reads : {V : Type 0} (items : V → List Row) (old new : State) (r : Result V Error) → IsDesk old → IfOk r (λ v. Shown all_text [] old new (items v))
-    → IfOk r (λ v. (items v ≡ rows_of polls old.now.trees) × IsUnchanged old new)
-reads items = reads_whole items polls shows names all_text all_is.0 all_plain all_is.1 refl refl (λ cells. refl)
-
-pub reads_keeps : {V : Type 0} (items : V → List Row) (old new : State) (r : Result V Error) → IsDesk old → IfOk r (λ v. Shown all_text [] old new (items v))
-    → IfErr r (λ e. FailsToQuery all_text [] old new e ⊎ IsTooLate all_text [] old new e) → KeepsCommit old new
-reads_keeps items old new r was = query_keeps items all_text [] old new desk_schema all_plain r was.schema
+lists = record {
+  shows = col 1 1 ∷ col 1 2 ∷ col 1 3 ∷ col 1 4 ∷ col 1 5 ∷ col 1 6 ∷ col 1 7 ∷ col 1 8 ∷ col 1 9 ∷ col 1 10 ∷ col 1 11 ∷ [];
+  names = codes "meeting" ∷ codes "resolution" ∷ codes "ordered" ∷ codes "take" ∷ codes "chair" ∷ codes "started" ∷ codes "closed" ∷ codes "votes_for" ∷ codes "votes_against" ∷ codes "withheld" ∷ codes "eligible" ∷ [];
+  is = refl;
+  plain = (refl, refl);
+  unlisted = refl;
+  none = refl;
+  numbered = refl;
+  columns = λ row. refl;
+}
 
 abbrev named : List Term
 named = op2 (Compare Eq Binary) (col 1 1) (col 0 0) ∷ op2 (Compare Eq Binary) (col 1 2) (col 0 1) ∷ []
