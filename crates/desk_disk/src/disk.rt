@@ -1,16 +1,17 @@
 //! A desk in a file, made, opened and closed.
 ghost use Rattle.std.specs.Prelude.{◌≡◌, false, IfErr, IfOk};
-ghost use Rattle.desk_disk.specs.Disks.{EndsCreating, EndsOpening, FailsToConnect, tables_of};
+ghost use Rattle.desk_disk.specs.Disks.{EndsCreating, EndsOpening, tables_of};
 ghost use Rattle.desk_endings.specs.Endings.{ended_view};
 ghost use Rattle.desk_records.specs.Standing.{Stands};
 ghost use Rattle.desk_schema.specs.Tables.{desk_schema};
 ghost use Rattle.desk_words.specs.declared.office.OfficeLists.{OfficeLists};
 ghost use Rattle.sqlite.specs.State.{HasCleanDisk};
 
+use crate::file::{is_blank, make_file};
 use desk_endings::{Ended, Fault};
 use desk_store::{Desk, HandedBack};
 use desk_tasks::{by_file_error, init, open};
-use sqlite::{Connection, FileFrom, FileStore, Wary};
+use sqlite::{Connection, Error, ErrorCode, FileFrom, FileStore, Leftover, Wary};
 use std::fs;
 use std::rt::HostRuntime;
 
@@ -32,30 +33,53 @@ impl Drop for DiskDesk {
     }
 }
 
+/// What is left of a file that is not opened.
+type Left = Option<Leftover<FileFrom<Wary>>>;
+
 /// Opens a file as a database. It is made where it is not there.
-fn connect(rt: &HostRuntime, file: &str) -> Result<Connection<DeskFile>, Ended>
+fn connect(rt: &HostRuntime, file: &str) -> Result<Connection<DeskFile>, (Error, Left)>
     ensures ended { IfOk result (λ conn. conn.in_transaction ≡ false) }
-    ensures fault { IfErr result (λ ended. FailsToConnect (ended_view ended)) }
 {
-    match Connection::open_from(rt, file, false, Wary) {
-        Ok(conn) => Ok(conn),
-        Err((error, _)) => Err(by_file_error(error)),
-    }
+    Connection::open_from(rt, file, false, Wary)
 }
 
-/// Makes a new desk in a file, which is made where it is not there, and ends with status 0 and
-/// `created`. It ends with 3 and `NotEmpty` where the file holds a table, an index or a view, and
-/// with 3 and `Store` or `Memory` where it fails.
+/// Makes a new desk in a file, and ends with status 0 and `created`. The file is made where it is
+/// not there, so that its owner alone can read it, and is not left there where the system refuses
+/// its name or that of its log. It ends with 3 and `NotEmpty` where the file holds a table, an index
+/// or a view, and with 3 and `Store` or `Memory` where it fails.
 pub fn create(rt: &HostRuntime, file: &str) -> Ended
     ensures { EndsCreating (ended_view result) }
 {
+    let is_new = match make_file(rt, file) {
+        Ok(is_new) => is_new,
+        Err(ended) => return ended,
+    };
     let conn = match connect(rt, file) {
         Ok(conn) => conn,
-        Err(ended) => return ended,
+        Err((error, _)) => {
+            if is_new && error == Error::SqliteFailure(ErrorCode::CannotOpen) {
+                let _ = fs::remove_file(rt, file);
+            }
+            return by_file_error(error);
+        }
     };
     let (ended, conn) = init(rt.alloc(), conn);
     let _ = conn.close();
     ended
+}
+
+/// How the program ends where a file is not opened: with status 3 and `NotADesk` where it is a
+/// database whose rows are not as it declares them, and else with `Store` or `Memory`.
+fn by_refusal(error: Error, left: Left) -> Ended
+    ensures { EndsOpening (ended_view result) }
+{
+    match (error, &left) {
+        (
+            Error::SqliteFailure(ErrorCode::NotADatabase),
+            Some(Leftover::Unopened(_) | Leftover::Store(_)),
+        ) => Ended::by(Fault::NotADesk),
+        _ => by_file_error(error),
+    }
 }
 
 /// How the program ends where what was opened is handed back, which is dropped.
@@ -68,17 +92,20 @@ fn ended_of(refused: (Ended, HandedBack<DeskFile>)) -> Ended
 
 impl DiskDesk {
     /// Opens the desk that a file is. A file that is not there is not made, and ends the program
-    /// with `Store`.
+    /// with `Store`; one that is empty or a single byte is left as it is, and is `NotADesk`.
     pub fn open(rt: &HostRuntime, file: &str) -> Result<DiskDesk, Ended>
         ensures stands { IfOk result (λ disk. HasCleanDisk (tables_of disk)
             → (tables_of disk).now.schema ≡ desk_schema
             → (office : OfficeLists) × Stands (tables_of disk) office) }
         ensures fault { IfErr result (λ ended. EndsOpening (ended_view ended)) }
     {
-        if fs::metadata(rt, file).is_err() {
-            return Err(Ended::by(Fault::Store));
+        if is_blank(rt, file)? {
+            return Err(Ended::by(Fault::NotADesk));
         }
-        let conn = connect(rt, file)?;
+        let conn = match connect(rt, file) {
+            Ok(conn) => conn,
+            Err((error, left)) => return Err(by_refusal(error, left)),
+        };
         match open(rt.alloc(), conn) {
             Ok(desk) => Ok(DiskDesk { desk }),
             Err(refused) => Err(ended_of(refused)),

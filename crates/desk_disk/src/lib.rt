@@ -4,5 +4,6 @@
 
 mod commands;
 mod disk;
+mod file;
 
 pub use disk::{DiskDesk, create};
