@@ -1,5 +1,5 @@
 //! The book of lists that were kept elsewhere.
-ghost use Rattle.std.specs.Prelude.{◌≡◌, false, Err, IfOk, IsTrue};
+ghost use Rattle.std.specs.Prelude.{◌≡◌, false, Err, IfErr, IfOk, IfSome, IsTrue, None, Some};
 ghost use Rattle.desk_words.specs.Office.{is_office};
 ghost use Rattle.office_checks.specs.InOrder.{office_in_order};
 ghost use Rattle.meeting_core.specs.declared.book.lists.BookFault.TheVariants.{Memory, NoOffice};
@@ -27,6 +27,28 @@ impl From<AllocError> for BookFault {
     }
 }
 
+/// The book of an office; where there is none, `NoOffice`.
+fn book_of(alloc: Global, office: Option<OfficeLists>) -> Result<Book, BookFault>
+    requires { IfSome office (λ lists. IsTrue (is_office lists)) }
+    ensures value { IfOk result (λ b. office ≡ Some b) }
+    ensures fault { IfErr result (λ e. (office ≡ None) × (e ≡ NoOffice)) }
+{
+    let Some(lists) = office else {
+        return Err(BookFault::NoOffice);
+    };
+    let OfficeLists {
+        keys,
+        closed,
+        meetings,
+    } = lists;
+    Ok(Book {
+        alloc,
+        keys,
+        closed: Closed::from_list(closed),
+        meetings: meetings.into_vec(),
+    })
+}
+
 impl Book {
     /// The book of some lists, as they were kept. A register is a set of rows (section 113), so
     /// each is put in the order of members first. The fault is `NoOffice` where the lists are no
@@ -36,19 +58,7 @@ impl Book {
         ensures kept { IfOk result (λ b. IsTrue (is_office b)) }
         ensures no_office { result ≡ Err NoOffice → is_office (office_in_order lists) ≡ false }
     {
-        let Some(office) = office_of(alloc, lists)? else {
-            return Err(BookFault::NoOffice);
-        };
-        let OfficeLists {
-            keys,
-            closed,
-            meetings,
-        } = office;
-        Ok(Book {
-            alloc,
-            keys,
-            closed: Closed::from_list(closed),
-            meetings: meetings.into_vec(),
-        })
+        let office = office_of(alloc, lists)?;
+        book_of(alloc, office)
     }
 }
