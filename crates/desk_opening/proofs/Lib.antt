@@ -1,5 +1,6 @@
 pub mod EmptyLemmas
 pub mod FaultLemmas
+pub mod FoundLemmas
 pub mod MakingLemmas
 pub mod OneSchema
 pub mod OpeningLemmas

@@ -10,11 +10,11 @@ use Rattle.sqlite_trees.specs.Objects.{IsListed, catalog_tree}
 use Rattle.sqlite_trees.specs.declared.store.Shape.{Shape}
 use Rattle.sqlite_trees.specs.declared.store.Shape.TheVariants as shape
 use Rattle.sqlite_catalog.specs.Listing.{AreListed}
-use Rattle.sqlite_catalog.proofs.LayoutLemmas.{laid_out, objects_rise}
+use Rattle.sqlite_catalog.proofs.LayoutLemmas.{laid_out}
 use Rattle.desk_schema.specs.Statements.{IsDesk, IsRising, table_numbers}
 use Rattle.desk_schema.specs.Tables.{desk_schema}
 use Rattle.desk_tables.specs.Versions.{AreNoted, NotesVersion}
-use Rattle.desk_opening.specs.Opening.{RowsRise}
+use Rattle.desk_opening.specs.Rising.{Rise, RowsRise}
 use Rattle.desk_opening.proofs.EmptyLemmas.{each_table, of_each}
 
 -- each tree of a table is ordered as a table's is
@@ -23,12 +23,17 @@ all_shaped : (shapes : ℕ → Shape) (trees : Trees) (tables : List Table) → 
 all_shaped shapes trees [] ordered all = tt
 all_shaped shapes trees (t ∷ tables) ordered all = (subst (λ s. IsShaped s (trees t.tree)) all.0 (ordered t.tree), all_shaped shapes trees tables ordered all.1)
 
+-- the rows of each table rise where the trees are ordered as they are listed
+pub risen_by : (shapes : ℕ → Shape) (reals : ℕ → ℕ) (trees : Trees) (declared : Schema) → IsListed (trees catalog_tree) shapes reals → IsOrdered shapes trees → AreListed (trees catalog_tree) declared → Rise declared trees
+risen_by shapes reals trees declared listed ordered are =
+    let shaped = subst (λ s. IsShaped s (trees catalog_tree)) listed.itself.0 (ordered catalog_tree) in
+    let laid = laid_out listed shaped are in
+    all_shaped shapes trees declared.tables ordered laid.tables
+
 -- the rows of each table rise, whatever tables there are
 pub risen : (v : View) (s : State) → s.now.trees ≡ v.trees → IsListed (v.trees catalog_tree) v.shape v.reals → IsOrdered v.shape v.trees → AreListed (s.now.trees catalog_tree) s.now.schema → RowsRise s
 risen v s same listed ordered are =
-    let here : AreListed (v.trees catalog_tree) s.now.schema = subst (λ (t : Trees). AreListed (t catalog_tree) s.now.schema) same are in
-    let laid = laid_out listed (objects_rise v listed ordered) here in
-    subst (λ (t : Trees). AllByRecursion (λ (it : Table). IsRising (t it.tree)) s.now.schema.tables) (sym same) (all_shaped v.shape v.trees s.now.schema.tables ordered laid.tables)
+    subst (Rise s.now.schema) (sym same) (risen_by v.shape v.reals v.trees s.now.schema listed ordered (subst (λ (t : Trees). AreListed (t catalog_tree) s.now.schema) same are))
 
 -- tables that are declared as a desk's, and whose rows rise, are a desk's
 pub are_a_desk : (s : State) → s.now.schema ≡ desk_schema → RowsRise s → IsDesk s

@@ -1,2 +1,3 @@
 pub mod Making
 pub mod Opening
+pub mod Rising

@@ -1,13 +1,11 @@
 -- Why a database is not opened as a desk, and what is handed back then.
 use Rattle.std.specs.Prelude.{◌≡◌, ◌≢◌, ◌⊎◌, ◌≤◌, false, List, [], ◌∷◌, Some, Result, Err, IsTrue}
 use Rattle.std.specs.Prelude.{IfErr, IfOk, OnOk}
-use Rattle.std.specs.List.{AllByRecursion}
 use Rattle.sqlite.specs.declared.error.Error.{Error}
 use Rattle.sqlite.specs.declared.error.Error.TheVariants.{SqliteFailure}
 use Rattle.sqlite.specs.declared.error.ErrorCode.TheVariants.{OutOfMemory}
 use Rattle.sqlite.specs.Held.{Held, state}
 use Rattle.sqlite.specs.State.{State, HasCleanDisk, Survives}
-use Rattle.sqlite.specs.Table.{Table}
 use Rattle.sqlite.specs.Tree.{Trees}
 use Rattle.sqlite_trees.specs.View.{IsClean}
 use Rattle.sqlite_trees.specs.declared.store.Store as store
@@ -15,7 +13,7 @@ use Rattle.desk_words.specs.declared.office.OfficeLists.{OfficeLists}
 use Rattle.desk_words.specs.Office.{is_office}
 use Rattle.desk_rows.specs.declared.kept.Version.{Version}
 use Rattle.desk_records.specs.Office.{office_in}
-use Rattle.desk_schema.specs.Statements.{ChangesNothing, IsRead, IsRising, WasOpen}
+use Rattle.desk_schema.specs.Statements.{ChangesNothing, IsRead, WasOpen}
 use Rattle.desk_schema.specs.Tables.{desk_schema}
 use Rattle.desk_tables.specs.Columns.{HasColumns}
 use Rattle.desk_tables.specs.Versions.{AreNoted}
@@ -36,10 +34,6 @@ use Rattle.desk_opening.specs.declared.opening.HandedBack.TheVariants as back
 -- what the tables hold is this, and an office
 abbrev pub HoldsOffice : State → OfficeLists → Type 0
 HoldsOffice s office = (office_in s.now.trees ≡ Some office) × IsTrue (is_office office)
-
--- the numbers of the rows of each table rise
-abbrev pub RowsRise : State → Type 0
-RowsRise s = AllByRecursion (λ (t : Table). IsRising (s.now.trees t.tree)) s.now.schema.tables
 
 -- tables that are no desk's are wrong in this way; of want of memory and of the store's own faults
 -- nothing is said

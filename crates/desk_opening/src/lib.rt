@@ -3,10 +3,11 @@
 
 mod creation;
 mod fault;
+pub mod laws;
 mod making;
 mod opening;
 mod version;
 
 pub use creation::create;
 pub use fault::{CreateFault, OpenFault};
-pub use opening::{HandedBack, open};
+pub use opening::{HandedBack, open, open_risen};

@@ -1,7 +1,8 @@
 //! The tables of a desk that was kept.
 ghost use Rattle.std.specs.Prelude.{◌≡◌, ◌≢◌, ◌≤◌, ◌⊎◌, false, Err, IfErr, IfOk, IsTrue, OnOk};
 ghost use Rattle.desk_opening.specs.Opening.{HandsBack, HoldsOffice, IsCause, IsCleanBack};
-ghost use Rattle.desk_opening.specs.Opening.{IsInNone, IsVerdict, RowsRise};
+ghost use Rattle.desk_opening.specs.Opening.{IsInNone, IsVerdict};
+ghost use Rattle.desk_opening.specs.Rising.{RowsRise};
 ghost use Rattle.desk_records.specs.Standing.{HasNoOffice, IsVersionOne, Stands};
 ghost use Rattle.desk_opening.specs.declared.fault.OpenFault.TheVariants.{NotADesk, NewerVersion};
 ghost use Rattle.desk_opening.specs.declared.fault.OpenFault.TheVariants as opening;
@@ -238,5 +239,43 @@ pub fn open<S: Alter + Drop>(
     match kept_office(&mut conn, alloc) {
         Ok(office) => Ok((conn, office)),
         Err(fault) => Err((fault, HandedBack::Connection(conn))),
+    }
+}
+
+/// Opens the tables of the desk that a database holds, as `open` does, where the numbers of the rows
+/// of each table are known to rise, as they are of a file that was just opened: so they are not read
+/// once more for that. A refusal hands back the connection, its tables as they were. A limit of
+/// steps that was set on the connection is kept.
+pub fn open_risen<S: Alter + Drop>(
+    alloc: Global,
+    conn: Connection<S>,
+) -> Result<(Connection<S>, OfficeLists), (OpenFault, Connection<S>)>
+    requires none { conn.in_transaction ≡ false }
+    requires rising { HasCleanDisk (state S.Store conn) → RowsRise (state S.Store conn) }
+    ensures stands { IfOk result (λ opened. HasCleanDisk (state S.Store opened.0)
+        → (state S.Store conn).now.schema ≡ desk_schema
+        → Stands (state S.Store opened.0) opened.1) }
+    ensures same { IfOk result (λ opened. HasCleanDisk (state S.Store opened.0)
+        → (state S.Store opened.0).now ≡ (state S.Store conn).now) }
+    ensures is_open { IfOk result (λ opened. HasCleanDisk (state S.Store opened.0)
+        → IsTrue (state S.Store opened.0).is_open) }
+    ensures version { IfOk result (λ opened. HasCleanDisk (state S.Store opened.0)
+        → NotesVersion (state S.Store conn).now.schema → IsVersionOne (state S.Store conn)) }
+    ensures columns { IfOk result (λ opened. HasCleanDisk (state S.Store opened.0)
+        → HasColumns (state S.Store conn).now.schema) }
+    ensures office { IfOk result (λ opened. IsTrue (is_office opened.1)) }
+    ensures ended { IfOk result (λ opened. opened.0.in_transaction ≡ false) }
+    ensures cause { IfErr result (λ e. HasCleanDisk (state S.Store e.1)
+        → NotesVersion (state S.Store conn).now.schema
+        → IsCause e.0 (state S.Store conn)) }
+    ensures kept { IfErr result (λ e. HasCleanDisk (state S.Store e.1)
+        → IsTrue (state S.Store e.1).is_open
+        → (state S.Store e.1).now.trees ≡ (state S.Store conn).now.trees) }
+    ensures back { IfErr result (λ e. e.1.in_transaction ≡ false) }
+{
+    let mut conn = conn;
+    match kept_office(&mut conn, alloc) {
+        Ok(office) => Ok((conn, office)),
+        Err(fault) => Err((fault, conn)),
     }
 }

@@ -1,6 +1,7 @@
 //! A new desk, and one that was kept.
 ghost use Rattle.std.specs.Prelude.{◌≡◌, ◌≢◌, ◌⊎◌, false, Err, IfErr, IfOk, IsErrAnd, IsTrue};
 ghost use Rattle.desk_opening.specs.Opening.{HandsBack, IsCause, IsCleanBack, IsInNone};
+ghost use Rattle.desk_opening.specs.Rising.{RowsRise};
 ghost use Rattle.desk_opening.specs.declared.fault.CreateFault.TheVariants.{NotEmpty};
 ghost use Rattle.desk_opening.specs.declared.fault.CreateFault.TheVariants as creating;
 ghost use Rattle.desk_opening.specs.declared.fault.OpenFault.TheVariants as opening;
@@ -79,6 +80,41 @@ impl<S: Alter + Drop> Desk<S> {
     {
         match desk_opening::open(alloc, conn) {
             Ok((conn, _)) => Ok(Desk { conn, alloc }),
+            Err(refused) => Err(refused),
+        }
+    }
+
+    /// Opens the desk that a database holds, as `open` does, where the numbers of the rows of each
+    /// table are known to rise, as they are of a file that was just opened: so they are not read
+    /// once more for that. A refusal hands back the connection, its tables as they were. A limit of
+    /// steps that was set on the connection is kept.
+    pub fn open_risen(
+        alloc: Global,
+        conn: Connection<S>,
+    ) -> Result<Desk<S>, (OpenFault, Connection<S>)>
+        requires none { conn.in_transaction ≡ false }
+        requires rising { HasCleanDisk (state S.Store conn) → RowsRise (state S.Store conn) }
+        ensures stands { IfOk result (λ desk. HasCleanDisk (state S.Store desk)
+            → (state S.Store conn).now.schema ≡ desk_schema
+            → (office : OfficeLists) × Stands (state S.Store desk) office) }
+        ensures same { IfOk result (λ desk. HasCleanDisk (state S.Store desk)
+            → (state S.Store desk).now ≡ (state S.Store conn).now) }
+        ensures is_open { IfOk result (λ desk. HasCleanDisk (state S.Store desk)
+            → IsTrue (state S.Store desk).is_open) }
+        ensures version { IfOk result (λ desk. HasCleanDisk (state S.Store desk)
+            → NotesVersion (state S.Store conn).now.schema → IsVersionOne (state S.Store conn)) }
+        ensures columns { IfOk result (λ desk. HasCleanDisk (state S.Store desk)
+            → HasColumns (state S.Store conn).now.schema) }
+        ensures cause { IfErr result (λ e. HasCleanDisk (state S.Store e.1)
+            → NotesVersion (state S.Store conn).now.schema
+            → IsCause e.0 (state S.Store conn)) }
+        ensures kept { IfErr result (λ e. HasCleanDisk (state S.Store e.1)
+            → IsTrue (state S.Store e.1).is_open
+            → (state S.Store e.1).now.trees ≡ (state S.Store conn).now.trees) }
+        ensures back { IfErr result (λ e. e.1.in_transaction ≡ false) }
+    {
+        match desk_opening::open_risen(alloc, conn) {
+            Ok((risen, _)) => Ok(Desk { conn: risen, alloc }),
             Err(refused) => Err(refused),
         }
     }

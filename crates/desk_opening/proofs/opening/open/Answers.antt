@@ -1,7 +1,6 @@
 use Rattle.std.proofs.Common.{◌≡◌, Some, arith, ap, sym, subst, ◌∙◌}
 use Rattle.sqlite.specs.Effect.{Database}
 use Rattle.sqlite.specs.Held.{state}
-use Rattle.sqlite.specs.Schema.{Schema}
 use Rattle.sqlite.specs.State.{HasCleanDisk}
 use Rattle.desk_records.specs.Office.{office_in}
 use Rattle.desk_records.specs.Standing.{IsVersionOne}
