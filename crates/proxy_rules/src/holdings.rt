@@ -36,11 +36,11 @@ pub fn copies_at(
     requires { All (λ place. place < length appointments.now) places.now }
     ensures { IfOk result (λ copies. copies ≡ filter_map (slice_get appointments.now) places.now) }
 {
-    let mut copies = Listing::new(alloc);
+    let mut copies = Vec::with_capacity(alloc, places.len())?;
     for place in places {
         copies.push(copy_appointment(&appointments[*place])?)?;
     }
-    Ok(copies)
+    Ok(Listing::from_vec(copies))
 }
 
 /// A member's appointments, in order of receipt. The error is want of memory.

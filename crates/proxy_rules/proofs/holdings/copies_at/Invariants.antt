@@ -4,4 +4,4 @@ use Rattle.proxy_rules.proofs.holdings.copies_at.Given as goal
 
 -- the appointments at the first places
 abbrev pub invariant-loop-place : goal.invariant-loop-place
-invariant-loop-place l = l.copies ≡ filter_map (slice_get l.appointments) (take l.place-index l.places)
+invariant-loop-place l = l.copies.items ≡ filter_map (slice_get l.appointments) (take l.place-index l.places)
