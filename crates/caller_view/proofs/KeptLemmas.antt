@@ -1,23 +1,23 @@
--- Runs that are kept by member are those of the member's rows.
-use Rattle.std.proofs.Common.{◌≡◌, ℕ, ◌+◌, ◌<◌, Bool, true, false, cond, List, [], ◌∷◌, ◌++◌, length, get_or, take, refl, sym, ap, ◌∙◌, subst}
-use Rattle.std.specs.Prelude.{Option, Some, None, find, reverse, ⊤}
+-- The rows that are looked up by member are the last of that name.
+use Rattle.std.proofs.Common.{◌≡◌, ℕ, ◌+◌, ◌<◌, Bool, true, false, cond, List, [], ◌∷◌, ◌++◌, length, get_or, take, map, refl, sym, ap, ◌∙◌, arith}
+use Rattle.std.proofs.lemmas.Bool.{eqb-true}
+use Rattle.std.proofs.lemmas.Option.{slice_get-get_or}
+use Rattle.std.specs.Prelude.{◌==◌, Option, Some, None, filter, find, option_and_then, reverse}
+use Rattle.std.specs.List.{slice_get}
 use Rattle.std.specs.Cmp.Lexicographic.{texts_ties}
-use Rattle.std.specs.Option.{option_map_or}
 use Rattle.std.specs.Ordering.{is_eq}
 use Rattle.std.proofs.lemmas.List.{reverse-append, take_more}
 use Rattle.desk_terms.specs.Names.{same_name, name_cmp}
-use Rattle.proxy_rules.specs.Runs.{runs_at}
+use Rattle.desk_words.specs.declared.own.Received.{Received}
+use Rattle.desk_words.specs.declared.records.Appointment.{Appointment}
+use Rattle.desk_words.specs.declared.records.Meeting.{Meeting}
+use Rattle.desk_words.specs.declared.records.Poll.{Poll}
+use Rattle.proxy_rules.specs.Cutoffs.{cutoffs_of, is_late_poll}
 use Rattle.proxy_rules.specs.declared.papers.Cutoffs.{Cutoffs}
-use Rattle.caller_view.specs.Kept.{Numbered}
-use Rattle.caller_view.specs.Own.{governed_kept, rows_by}
+use Rattle.caller_view.specs.Kept.{governed_late, late_of, received_with}
+use Rattle.caller_view.specs.Own.{governed_by, known_to_proxy, poll_governed, received_by, rows_by}
+use Rattle.caller_view.specs.declared.governed.LatePoll.{LatePoll}
 use Rattle.caller_view.specs.declared.rows.MemberRows.{MemberRows}
-
--- runs are kept exactly where there are rows, and they are those that the holding gives
-abbrev pub IsRight : Cutoffs → Option Numbered → Option MemberRows → Type 0
-IsRight cutoffs None None = ⊤
-IsRight cutoffs None (Some rows) = ⊥
-IsRight cutoffs (Some own) None = ⊥
-IsRight cutoffs (Some own) (Some rows) = (number : ℕ) → runs_at own number ≡ governed_kept cutoffs rows.holding number
 
 -- one member's rows more, which are the last of its name
 rows_by-more : (members : List MemberRows) (i : ℕ) (rows : MemberRows) (member : List ℕ) → i < length members → rows ≡ get_or members i rows
@@ -27,23 +27,38 @@ rows_by-more members i rows member h is =
     ap (λ l. find own (reverse l)) (take_more members i rows h ∙ ap (λ y. take i members ++ y ∷ []) (sym is))
     ∙ ap (find own) (reverse-append (take i members) (rows ∷ []))
 
--- and the runs that are put for that member are right
-pub put-right : (cutoffs : Cutoffs) (members : List MemberRows) (i : ℕ) (rows : MemberRows) (member : List ℕ) (own : Numbered) (before after : Option Numbered)
+-- where its place is put for that member, its rows are found there
+pub place-put : (members : List MemberRows) (i : ℕ) (rows : MemberRows) (member : List ℕ) (before after : Option ℕ)
     → i < length members → rows ≡ get_or members i rows
-    → after ≡ cond (is_eq (name_cmp rows.member member)) (Some own) before
-    → ((number : ℕ) → runs_at own number ≡ governed_kept cutoffs rows.holding number)
-    → IsRight cutoffs before (rows_by (take i members) member) → IsRight cutoffs after (rows_by (take (i + 1) members) member)
-put-right cutoffs members i rows member own before after h is put right kept =
-    let now = put ∙ ap (λ b. cond b (Some own) before) (sym (texts_ties rows.member member)) in
-    let found = rows_by-more members i rows member h is in
-    let both : (b : Bool) → IsRight cutoffs (cond b (Some own) before) (cond b (Some rows) (rows_by (take i members) member)) = elim [ true ↦ right | false ↦ kept ] in
-    subst (λ (o : Option MemberRows). IsRight cutoffs after o) (sym found)
-    (subst (λ (o : Option Numbered). IsRight cutoffs o (cond (same_name rows.member member) (Some rows) (rows_by (take i members) member))) (sym now) (both (same_name rows.member member)))
+    → after ≡ cond (is_eq (name_cmp rows.member member)) (Some i) before
+    → option_and_then (slice_get members) before ≡ rows_by (take i members) member → option_and_then (slice_get members) after ≡ rows_by (take (i + 1) members) member
+place-put members i rows member before after h is put kept =
+    let now = put ∙ ap (λ b. cond b (Some i) before) (sym (texts_ties rows.member member)) in
+    let there : slice_get members i ≡ Some rows = slice_get-get_or members i rows h ∙ ap Some (sym is) in
+    let both : (b : Bool) → option_and_then (slice_get members) (cond b (Some i) before) ≡ cond b (Some rows) (rows_by (take i members) member) = elim [ true ↦ there | false ↦ kept ] in
+    ap (option_and_then (slice_get members)) now
+    ∙ both (same_name rows.member member)
+    ∙ sym (rows_by-more members i rows member h is)
 
--- what is kept of a number is what it governs
-pub right-governed : (cutoffs : Cutoffs) (kept : Option Numbered) (found : Option MemberRows) (number : ℕ) → IsRight cutoffs kept found
-    → option_map_or (λ (own : Numbered). runs_at own number) kept [] ≡ option_map_or (λ (rows : MemberRows). governed_kept cutoffs rows.holding number) found []
-right-governed cutoffs None None number right = refl
-right-governed cutoffs None (Some rows) number right = absurd right
-right-governed cutoffs (Some own) None number right = absurd right
-right-governed cutoffs (Some own) (Some rows) number right = right number
+-- what is governed for late polls, by their own cutoffs
+pub late-governed : (members : List MemberRows) (closed : List ℕ) (member : List ℕ) (number : ℕ) (polls : List Poll)
+    → map (governed_late members member number) (map (late_of closed) polls) ≡ map (poll_governed members closed member number) polls
+late-governed members closed member number [] = refl
+late-governed members closed member number (poll ∷ polls) = ap (λ l. poll_governed members closed member number poll ∷ l) (late-governed members closed member number polls)
+
+-- what is known of appointments is what their members' rows give
+pub received-alike : (members : List MemberRows) (closed : List ℕ) (meeting : Meeting) (polls : List Poll) (now : ℕ) (cutoffs : Cutoffs) (late : List LatePoll) (received : List Appointment)
+    → cutoffs ≡ cutoffs_of meeting None closed now → late ≡ map (late_of closed) (filter (is_late_poll closed) polls)
+    → map (received_with members cutoffs late) received ≡ map (received_by members closed meeting polls now) received
+received-alike members closed meeting polls now cutoffs late [] by_cutoffs are_late = refl
+received-alike members closed meeting polls now cutoffs late (a ∷ received) by_cutoffs are_late =
+    let polls_too = ap (map (governed_late members a.member a.number)) are_late ∙ late-governed members closed a.member a.number (filter (is_late_poll closed) polls) in
+    ap (λ first. first ∷ map (received_with members cutoffs late) received)
+    (ap (λ c. known_to_proxy a (governed_by members c a.member a.number) (map (governed_late members a.member a.number) late)) by_cutoffs
+    ∙ ap (known_to_proxy a (governed_by members (cutoffs_of meeting None closed now) a.member a.number)) polls_too)
+    ∙ ap (λ rest. received_by members closed meeting polls now a ∷ rest) (received-alike members closed meeting polls now cutoffs late received by_cutoffs are_late)
+
+-- of no appointments nothing is known
+pub none-received : (known : Appointment → Received) (received : List Appointment) → (length received == 0) ≡ true → [] ≡ map known received
+none-received known [] none = refl
+none-received known (a ∷ received) none = absurd (omega (arith, eqb-true (length (a ∷ received)) 0 none))

@@ -1,171 +1,186 @@
-//! What the appointments that name a party govern. The runs of each member who named it are made
-//! once for the meeting and once for each late poll, and looked up by the appointments' numbers.
-ghost use Rattle.std.specs.Prelude.{◌≡◌, List, ℕ, IfOk, map, filter};
+//! What the appointments that name a party govern: of each, what its member's later appointments
+//! leave it, for the meeting and for each late poll.
+ghost use Rattle.std.specs.Prelude.{◌≡◌, List, ℕ, IfOk, map, filter, option_and_then};
+ghost use Rattle.std.specs.BTreeMap.{get};
+ghost use Rattle.std.specs.List.{slice_get};
+ghost use Rattle.std.specs.Option.{option_copied};
+ghost use Rattle.desk_terms.specs.Names.{name_cmp};
 ghost use Rattle.proxy_rules.specs.Cutoffs.{is_late_poll};
-ghost use Rattle.proxy_rules.specs.Runs.{runs_at};
-ghost use Rattle.caller_view.specs.Kept.{poll_kept, received_kept, runs_of};
-ghost use Rattle.caller_view.specs.Own.{governed_by, governed_kept, poll_governed, received_by};
+ghost use Rattle.caller_view.specs.Kept.{AreByMember, governed_late, late_of, received_with};
+ghost use Rattle.caller_view.specs.Own.{governed_by, governed_kept, received_by, rows_by};
 
 use crate::rows::MemberRows;
 use desk_words::{
     Appointment, Listing, Meeting, Moment, Party, Poll, PollGoverned, Range, Received,
 };
 use office_days::Closed;
-use proxy_rules::{Cutoffs, Holding, cutoffs, is_late_poll, late_cutoffs, runs_by_number};
+use proxy_rules::{Cutoffs, Holding, cutoffs, is_late_poll, late_cutoffs};
 use std::alloc::{AllocError, Global};
 use std::collections::BTreeMap;
 
-/// What the appointments of members govern for a late poll.
-#[derive(Drop)]
-pub(crate) struct PollRuns {
+/// A late poll, with its own cutoffs.
+#[derive(Clone, Copy)]
+pub(crate) struct LatePoll {
     /// The number of the poll's resolution, from 1.
     pub resolution: u64,
-    /// The runs by member and number.
-    pub runs: BTreeMap<Party, BTreeMap<u64, Vec<Range>>>,
+    /// Until when appointments and endings count for it.
+    pub cutoffs: Cutoffs,
 }
 
-/// What the appointments of a holding govern, by their numbers.
-fn member_runs(
-    alloc: Global,
-    cutoffs: &Cutoffs,
-    holding: &Holding,
-) -> Result<BTreeMap<u64, Vec<Range>>, AllocError>
-    ensures { IfOk result (λ own. (number : ℕ) →
-        runs_at own number ≡ governed_kept cutoffs.now holding.now number) }
-{
-    if holding.is_kept() {
-        runs_by_number(alloc, cutoffs, holding)
-    } else {
-        Ok(BTreeMap::new(alloc))
-    }
+/// The members who named a party, and where the rows of each stand among them.
+#[derive(Clone, Copy)]
+struct Members<'a> {
+    rows: &'a [MemberRows],
+    places: &'a BTreeMap<Party, usize>,
 }
 
-/// What the appointments of the members govern, by member and number.
-fn runs_for(
+/// Where the last rows of each member stand.
+fn places_by_member(
     alloc: Global,
-    cutoffs: &Cutoffs,
     members: &[MemberRows],
-) -> Result<BTreeMap<Party, BTreeMap<u64, Vec<Range>>>, AllocError>
-    ensures { IfOk result (λ runs. (member : List ℕ) (number : ℕ) →
-        runs_of runs member number ≡ governed_by members.now cutoffs.now member number) }
+) -> Result<BTreeMap<Party, usize>, AllocError>
+    ensures { IfOk result (λ places. AreByMember members.now places) }
 {
-    let mut runs = BTreeMap::new(alloc);
+    let mut places = BTreeMap::new(alloc);
+    let mut place = 0;
     for rows in members {
-        runs.insert(rows.member, member_runs(alloc, cutoffs, &rows.holding)?)?;
+        places.insert(rows.member, place)?;
+        place += 1;
     }
-    Ok(runs)
+    Ok(places)
 }
 
-/// The same for each of the polls that is late, by its own cutoffs.
-fn late_runs(
-    alloc: Global,
-    members: &[MemberRows],
-    closed: &Closed,
-    polls: &[Poll],
-) -> Result<Vec<PollRuns>, AllocError>
-    ensures { IfOk result (λ late. (member : List ℕ) (number : ℕ) →
-        map (poll_kept member number) late.items
-        ≡ map (poll_governed members.now closed.now member number)
-        (filter (is_late_poll closed.now) polls.now)) }
+/// Those of the polls that are late, each with its own cutoffs.
+fn late_polls(alloc: Global, closed: &Closed, polls: &[Poll]) -> Result<Vec<LatePoll>, AllocError>
+    ensures { IfOk result (λ late. late.items
+        ≡ map (late_of closed.now) (filter (is_late_poll closed.now) polls.now)) }
 {
     let mut late = Vec::new(alloc);
     for poll in polls {
         if is_late_poll(closed, poll) {
-            let cutoffs = late_cutoffs(poll, closed);
-            late.push(PollRuns {
+            late.push(LatePoll {
                 resolution: poll.resolution,
-                runs: runs_for(alloc, &cutoffs, members)?,
+                cutoffs: late_cutoffs(poll, closed),
             })?;
         }
     }
     Ok(late)
 }
 
-/// A copy of the runs of a number.
-fn copy_runs(
+/// What an appointment of a holding governs, by its number.
+fn governed_kept(
     alloc: Global,
-    own: &BTreeMap<u64, Vec<Range>>,
+    cutoffs: &Cutoffs,
+    holding: &Holding,
     number: u64,
-) -> Result<Listing<Range>, AllocError>
-    ensures { IfOk result (λ runs. runs ≡ runs_at own.now number) }
+) -> Result<Vec<Range>, AllocError>
+    ensures { IfOk result (λ runs. runs.items ≡ governed_kept cutoffs.now holding.now number) }
 {
-    match own.get(&number) {
-        Some(runs) => Ok(Listing::from_vec(Vec::from_slice(alloc, runs.as_slice())?)),
-        None => Ok(Listing::new(alloc)),
+    if holding.is_kept() {
+        holding.governed_by(alloc, cutoffs, number)
+    } else {
+        Ok(Vec::new(alloc))
     }
 }
 
-/// A copy of the runs of a member's number.
-fn runs_of(
-    alloc: Global,
-    runs: &BTreeMap<Party, BTreeMap<u64, Vec<Range>>>,
-    member: Party,
-    number: u64,
-) -> Result<Listing<Range>, AllocError>
-    ensures { IfOk result (λ own. own ≡ runs_of runs.now member number) }
-{
-    match runs.get(&member) {
-        Some(own) => copy_runs(alloc, own, number),
-        None => Ok(Listing::new(alloc)),
+impl<'a> Members<'a> {
+    /// The rows of a member.
+    fn rows_by(&self, member: Party) -> Option<&'a MemberRows>
+        requires { AreByMember self.now.rows.now self.now.places.now }
+        ensures { option_copied result ≡ rows_by self.now.rows.now member }
+    {
+        self.rows.get(*self.places.get(&member)?)
     }
-}
 
-/// What a member's number governs for each late poll.
-fn polls_of(
-    alloc: Global,
-    late: &[PollRuns],
-    member: Party,
-    number: u64,
-) -> Result<Listing<PollGoverned>, AllocError>
-    ensures { IfOk result (λ polls. polls ≡ map (poll_kept member number) late.now) }
-{
-    let mut polls = Listing::new(alloc);
-    for poll in late {
-        polls.push(PollGoverned {
-            resolution: poll.resolution,
-            governs: runs_of(alloc, &poll.runs, member, number)?,
-        })?;
+    /// What a member's appointment of a number governs.
+    fn governed_by(
+        &self,
+        alloc: Global,
+        cutoffs: &Cutoffs,
+        member: Party,
+        number: u64,
+    ) -> Result<Listing<Range>, AllocError>
+        requires { AreByMember self.now.rows.now self.now.places.now }
+        ensures { IfOk result
+            (λ runs. runs ≡ governed_by self.now.rows.now cutoffs.now member number) }
+    {
+        match self.rows_by(member) {
+            Some(rows) => {
+                let runs = governed_kept(alloc, cutoffs, &rows.holding, number)?;
+                Ok(Listing::from_vec(runs))
+            }
+            None => Ok(Listing::new(alloc)),
+        }
     }
-    Ok(polls)
+
+    /// What a member's appointment of a number governs for each of the late polls.
+    fn polls_governed(
+        &self,
+        alloc: Global,
+        late: &[LatePoll],
+        member: Party,
+        number: u64,
+    ) -> Result<Listing<PollGoverned>, AllocError>
+        requires { AreByMember self.now.rows.now self.now.places.now }
+        ensures { IfOk result
+            (λ polls. polls ≡ map (governed_late self.now.rows.now member number) late.now) }
+    {
+        let mut polls = Listing::new(alloc);
+        for poll in late {
+            polls.push(PollGoverned {
+                resolution: poll.resolution,
+                governs: self.governed_by(alloc, &poll.cutoffs, member, number)?,
+            })?;
+        }
+        Ok(polls)
+    }
 }
 
 /// An appointment as its proxy knows it, with what it governs.
-fn with_runs(
+fn known(
     alloc: Global,
+    members: &Members,
+    cutoffs: &Cutoffs,
+    late: &[LatePoll],
     appointment: &Appointment,
-    runs: &BTreeMap<Party, BTreeMap<u64, Vec<Range>>>,
-    late: &[PollRuns],
 ) -> Result<Received, AllocError>
-    ensures { IfOk result (λ known. known ≡ received_kept runs.now late.now appointment.now) }
+    requires { AreByMember members.now.rows.now members.now.places.now }
+    ensures { IfOk result
+        (λ known. known ≡ received_with members.now.rows.now cutoffs.now late.now appointment.now) }
 {
+    let (member, number) = (appointment.member, appointment.number);
     Ok(Received {
-        member: appointment.member,
+        member,
         range: appointment.range,
         instructions: appointment.instructions.clone()?,
         moment: appointment.moment,
-        governs: runs_of(alloc, runs, appointment.member, appointment.number)?,
-        polls: polls_of(alloc, late, appointment.member, appointment.number)?,
+        governs: members.governed_by(alloc, cutoffs, member, number)?,
+        polls: members.polls_governed(alloc, late, member, number)?,
     })
 }
 
 /// The appointments as their proxy knows them, each with what it governs.
-fn all_with_runs(
+fn all_known(
     alloc: Global,
+    members: &Members,
+    cutoffs: &Cutoffs,
+    late: &[LatePoll],
     received: &[Appointment],
-    runs: &BTreeMap<Party, BTreeMap<u64, Vec<Range>>>,
-    late: &[PollRuns],
 ) -> Result<Listing<Received>, AllocError>
-    ensures { IfOk result (λ all. all ≡ map (received_kept runs.now late.now) received.now) }
+    requires { AreByMember members.now.rows.now members.now.places.now }
+    ensures { IfOk result (λ all. all
+        ≡ map (received_with members.now.rows.now cutoffs.now late.now) received.now) }
 {
     let mut all = Listing::new(alloc);
     for appointment in received {
-        all.push(with_runs(alloc, appointment, runs, late)?)?;
+        all.push(known(alloc, members, cutoffs, late, appointment)?)?;
     }
     Ok(all)
 }
 
 /// The appointments as their proxy knows them, each with what it governs by the rows of its member:
-/// for the meeting and the polls that are not late, and for each of these polls that is late.
+/// for the meeting and the polls that are not late, and for each of these polls that is late. Where
+/// there are none, nothing is worked out.
 pub(crate) fn received_from(
     alloc: Global,
     received: &[Appointment],
@@ -178,7 +193,15 @@ pub(crate) fn received_from(
     ensures { IfOk result (λ all. all
         ≡ map (received_by members.now closed.now meeting.now polls.now now) received.now) }
 {
-    let runs = runs_for(alloc, &cutoffs(meeting, None, closed, now), members)?;
-    let late = late_runs(alloc, members, closed, polls)?;
-    all_with_runs(alloc, received, &runs, late.as_slice())
+    if received.is_empty() {
+        return Ok(Listing::new(alloc));
+    }
+    let places = places_by_member(alloc, members)?;
+    let members = Members {
+        rows: members,
+        places: &places,
+    };
+    let late = late_polls(alloc, closed, polls)?;
+    let cutoffs = cutoffs(meeting, None, closed, now);
+    all_known(alloc, &members, &cutoffs, late.as_slice(), received)
 }

@@ -109,7 +109,7 @@ revive_nothing cutoffs register given ended ending member place a h =
 
 -- ---- appointments received earlier
 
-not_found : (p : Appointment → Bool) (number : ℕ) (xs : List Appointment) → list_any (has_number number) xs ≡ false
+pub not_found : (p : Appointment → Bool) (number : ℕ) (xs : List Appointment) → list_any (has_number number) xs ≡ false
     → option_map_or (has_number number) (find p xs) false ≡ false
 not_found p number [] none = refl
 not_found p number (x ∷ xs) none =
@@ -117,7 +117,7 @@ not_found p number (x ∷ xs) none =
     let rest = neither_second (x.number == number) (list_any (has_number number) xs) none in
     elim (p x) as (λ b. option_map_or (has_number number) (cond b (Some x) (find p xs)) false ≡ false) [ true ↦ here | false ↦ not_found p number xs rest ]
 
-any-reversed : (number : ℕ) (xs : List Appointment) → list_any (has_number number) xs ≡ false → list_any (has_number number) (reverse xs) ≡ false
+pub any-reversed : (number : ℕ) (xs : List Appointment) → list_any (has_number number) xs ≡ false → list_any (has_number number) (reverse xs) ≡ false
 any-reversed number [] none = refl
 any-reversed number (x ∷ xs) none =
     let here = neither_first (x.number == number) (list_any (has_number number) xs) none in
@@ -127,12 +127,12 @@ any-reversed number (x ∷ xs) none =
     ∙ ap (λ b. b || list_any (has_number number) (x ∷ [])) (any-reversed number xs rest)
     ∙ ap (λ b. b || false) here
 
-ended_or_not : (share is_ended : Bool) (number : ℕ) (a : Appointment) → has_number number a ≡ false → option_map_or (has_number number) (cond share (cond is_ended None (Some a)) None) false ≡ false
+pub ended_or_not : (share is_ended : Bool) (number : ℕ) (a : Appointment) → has_number number a ≡ false → option_map_or (has_number number) (cond share (cond is_ended None (Some a)) None) false ≡ false
 ended_or_not true true number a none = refl
 ended_or_not true false number a none = none
 ended_or_not false is_ended number a none = refl
 
-none_past : (share : Bool) (number : ℕ) → false ≡ option_map_or (has_number number) (cond share None None) false
+pub none_past : (share : Bool) (number : ℕ) → false ≡ option_map_or (has_number number) (cond share None None) false
 none_past true number = refl
 none_past false number = refl
 

@@ -1,3 +1,4 @@
+pub mod AloneLemmas
 pub mod EndedTags
 pub mod GovernedRuns
 pub mod GoverningLemmas

@@ -1,3 +1,4 @@
+pub mod Alone
 pub mod Cutoffs
 pub mod Governing
 pub mod Holdings

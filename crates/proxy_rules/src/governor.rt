@@ -1,5 +1,5 @@
 //! Which appointment of a proxy governs a share.
-ghost use Rattle.std.specs.Prelude.{◌≡◌, false, filter, find, option_and_then, reverse};
+ghost use Rattle.std.specs.Prelude.{◌≡◌, false, filter, find, nat_le, option_and_then, reverse};
 ghost use Rattle.std.specs.List.{list_any, slice_get};
 ghost use Rattle.std.specs.Option.{option_copied, option_map_or};
 ghost use Rattle.proxy_rules.specs.Governing.{ends, governing_number, is_over};
@@ -10,11 +10,18 @@ use crate::papers::{Cutoffs, Papers};
 use crate::rows::shares;
 use desk_words::{Appointment, Ending, Filed, Party, RegisterRow};
 
+/// Whether an appointment was received in time to count (section 327).
+pub(crate) fn counts(appointment: &Appointment, cutoffs: &Cutoffs) -> bool
+    ensures { result ≡ nat_le appointment.now.moment cutoffs.now.appointments }
+{
+    appointment.moment <= cutoffs.appointments
+}
+
 /// Whether an appointment was received in time to count, and is over the place.
-fn is_over(appointment: &Appointment, cutoffs: &Cutoffs, place: u64) -> bool
+pub(crate) fn is_over(appointment: &Appointment, cutoffs: &Cutoffs, place: u64) -> bool
     ensures { result ≡ is_over cutoffs.now place appointment.now }
 {
-    appointment.moment <= cutoffs.appointments && appointment.range.has(place)
+    counts(appointment, cutoffs) && appointment.range.has(place)
 }
 
 /// Whether there is an appointment at the index, and it is over the place.
@@ -81,7 +88,7 @@ fn last_over<'a>(
 }
 
 /// Whether an ending names the appointment of that number, in time to count.
-fn ends(ending: &Ending, cutoffs: &Cutoffs, number: u64) -> bool
+pub(crate) fn ends(ending: &Ending, cutoffs: &Cutoffs, number: u64) -> bool
     ensures { result ≡ ends cutoffs.now number ending.now }
 {
     ending.number == number && ending.moment < cutoffs.endings

@@ -2,6 +2,7 @@
 //! share; and the persons whom a corporation authorised.
 #![tactic(auto)]
 
+mod alone;
 mod authorities;
 mod cutoff;
 mod governor;

@@ -16,7 +16,7 @@ use std::alloc::{AllocError, Global};
 use std::collections::BTreeMap;
 
 /// Puts a run behind the others, joined with the last where that ends just before it.
-fn join_run(runs: &mut Vec<Range>, run: Range) -> Result<(), AllocError>
+pub(crate) fn join_run(runs: &mut Vec<Range>, run: Range) -> Result<(), AllocError>
     ensures { OnOk result (runs.new.items ≡ joined runs.old.items run) }
 {
     match runs.last_mut() {

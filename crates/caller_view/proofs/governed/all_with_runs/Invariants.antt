@@ -1,7 +1,0 @@
-use Rattle.std.proofs.Common.{◌≡◌, map, take}
-use Rattle.caller_view.specs.Kept.{received_kept}
-use Rattle.caller_view.proofs.governed.all_with_runs.Given as goal
-
--- the first appointments with what they govern
-abbrev pub invariant-loop-appointment : goal.invariant-loop-appointment
-invariant-loop-appointment l = l.all ≡ map (received_kept l.runs l.late) (take l.appointment-index l.received)
