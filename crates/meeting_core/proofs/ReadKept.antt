@@ -7,6 +7,7 @@ use Rattle.desk_lists.proofs.SortingLemmas.{sort_by-ascending}
 use Rattle.desk_words.specs.Changes.{after_some}
 use Rattle.desk_words.specs.Finding.{meeting_named}
 use Rattle.desk_words.specs.Office.{is_meeting, is_office}
+use Rattle.desk_words.specs.Rulings.{settled, within}
 use Rattle.desk_words.specs.declared.answer.Answer.{Answer}
 use Rattle.desk_words.specs.declared.caller.Caller.TheVariants as caller
 use Rattle.desk_words.specs.declared.change.Change.{Change}
@@ -19,13 +20,16 @@ use Rattle.desk_words.specs.declared.request.Call.{Call}
 use Rattle.desk_words.specs.declared.request.OfficeRequest.{OfficeRequest}
 use Rattle.desk_words.proofs.OfficeFacts.{found_meeting, meeting_facts, office_facts, register_ascends}
 use Rattle.caller_view.specs.Views.{meeting_at}
+use Rattle.office_answers.specs.Answers.{office_ruling}
 use Rattle.office_answers.specs.Limits.{if_any, is_within_limits, keeps_limits}
 use Rattle.office_answers.specs.Reads.{lists_read, reads_register}
-use Rattle.office_answers.proofs.ReadLaws.{read_meeting}
+use Rattle.office_answers.proofs.ReadLaws.{read_meeting, read_so}
 use Rattle.office_checks.specs.InOrder.{in_order}
 use Rattle.meeting_core.specs.Checked.{in_order_for}
+use Rattle.meeting_core.specs.Decisions.{AreListsRead, office_call}
 use Rattle.meeting_core.specs.Step.{decided}
 use Rattle.meeting_core.proofs.OfficeKept.{step_kept}
+use Rattle.meeting_core.proofs.RulingLemmas.{settled_within}
 
 -- a meeting's register is in order
 ordered : (m : MeetingLists) → is_meeting m ≡ true → in_order m ≡ m
@@ -45,6 +49,17 @@ ordered_so what (Some m) h = ap (λ (x : MeetingLists). Some x) (ordered_by what
 -- the meeting that is found in an office is one
 pub found_is : (office : OfficeLists) (id : List ℕ) → is_office office ≡ true → IfSome (meeting_at office id) (λ m. is_meeting m ≡ true)
 found_is office id h = found_meeting office.meetings id (office_facts office h).each
+
+-- what is answered from what is read is what is decided in each office of which it is read
+pub decided_so : (office : OfficeLists) (meeting : List ℕ) (now : ℕ) (what : OfficeRequest) (days : List ℕ) (found lists : Option MeetingLists) (answer : Answer MeetingChange)
+    → is_office office ≡ true → AreListsRead office meeting what days found → lists ≡ option_map (in_order_for what) found → answer ≡ settled (office_ruling days lists now what)
+    → within (InMeeting meeting) answer ≡ decided office (office_call meeting now what)
+decided_so office meeting now what days found lists answer kept read same is =
+    let held = meeting_at office meeting in
+    let ordered = same ∙ ap (option_map (in_order_for what)) read.lists ∙ ordered_so what held (found_is office meeting kept) in
+    ap (within (InMeeting meeting))
+    (is ∙ (λ i. settled (office_ruling (read.closed i) (ordered i) now what)) ∙ ap settled (read_so what now office.closed held))
+    ∙ sym (settled_within (InMeeting meeting) (office_ruling office.closed held now what))
 
 -- a meeting's change keeps its limits in the office
 pub limits_within : (id : List ℕ) (change : Option MeetingChange) → if_any is_within_limits change ≡ true → if_any keeps_limits (option_map (InMeeting id) change) ≡ true
