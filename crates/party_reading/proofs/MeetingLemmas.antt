@@ -3,88 +3,24 @@ use Rattle.std.proofs.Common.{◌≡◌, ℕ, Bool, true, false, ◌&&◌, cond,
 use Rattle.std.specs.List.{list_any}
 use Rattle.std.specs.Option.{option_map_or}
 use Rattle.std.proofs.lemmas.Bool.{and_parts, cases_Bool}
-use Rattle.sqlite.specs.Tree.{Trees}
 use Rattle.desk_lists.proofs.Kept.{none-found}
 use Rattle.desk_terms.specs.Names.{same_name}
 use Rattle.desk_words.specs.Finding.{meeting_named}
 use Rattle.desk_words.specs.declared.office.MeetingLists.{MeetingLists}
 use Rattle.desk_words.specs.declared.office.OfficeLists.{OfficeLists}
-use Rattle.desk_words.specs.declared.caller.KeyRow.{KeyRow}
-use Rattle.desk_words.specs.declared.records.Appointment.{Appointment}
-use Rattle.desk_words.specs.declared.records.Authority.{Authority}
-use Rattle.desk_words.specs.declared.records.CastMark.{CastMark}
-use Rattle.desk_words.specs.declared.records.DemandMark.{DemandMark}
-use Rattle.desk_words.specs.declared.records.Ending.{Ending}
-use Rattle.desk_words.specs.declared.records.Poll.{Poll}
-use Rattle.desk_words.specs.declared.records.PresenceMark.{PresenceMark}
-use Rattle.desk_words.specs.declared.records.RegisterRow.{RegisterRow}
 use Rattle.desk_words.specs.declared.records.Resolution.{Resolution}
 use Rattle.desk_words.proofs.RowLemmas.{same_name-true}
 use Rattle.desk_rows.specs.declared.kept.InMeeting.{InMeeting}
 use Rattle.desk_rows.specs.declared.kept.MeetingRow.{MeetingRow}
-use Rattle.desk_rows.specs.declared.kept.NumberedResolution.{NumberedResolution}
-use Rattle.desk_rows.specs.Meanings.{◌>>=◌}
 use Rattle.desk_rows.proofs.MeaningLemmas.{bound}
-use Rattle.desk_schema.specs.Contents as table
-use Rattle.desk_schema.specs.Statements.{records_in}
-use Rattle.desk_records.specs.Office.{FlatLists, flat_in, lists_of, lists_of_all, lists_with, name_meetings, of_meeting, resolutions_of}
+use Rattle.desk_records.specs.Office.{FlatLists, lists_of, lists_of_all, lists_with, name_meetings, of_meeting, resolutions_of}
+pub use Rattle.desk_records.proofs.FlatChanges.{HoldAll, all_held}
 use Rattle.desk_records.proofs.ListChanges.{ListOf}
 use Rattle.desk_records.proofs.OfficeLemmas.{AreOf, named_so}
 use Rattle.party_reading.specs.Lists.{item_of, list_in}
 
--- ---- what each table holds
-
--- what is read of twelve readings is read of each
-read_all : (its_keys : Option (List KeyRow)) (its_closed : Option (List ℕ)) (its_meetings : Option (List MeetingRow)) (its_resolutions : Option (List (InMeeting NumberedResolution))) (its_register : Option (List (InMeeting RegisterRow))) (its_appointments : Option (List (InMeeting Appointment))) (its_endings : Option (List (InMeeting Ending))) (its_authorities : Option (List (InMeeting Authority))) (its_presences : Option (List (InMeeting PresenceMark))) (its_demands : Option (List (InMeeting DemandMark))) (its_polls : Option (List (InMeeting Poll))) (its_casts : Option (List (InMeeting CastMark))) (flat : FlatLists) → (do
-  the_keys ← its_keys
-  the_closed ← its_closed
-  the_meetings ← its_meetings
-  the_resolutions ← its_resolutions
-  the_register ← its_register
-  the_appointments ← its_appointments
-  the_endings ← its_endings
-  the_authorities ← its_authorities
-  the_presences ← its_presences
-  the_demands ← its_demands
-  the_polls ← its_polls
-  the_casts ← its_casts
-  Some (record { keys = the_keys; closed = the_closed; meetings = the_meetings; resolutions = the_resolutions; register = the_register; appointments = the_appointments; endings = the_endings; authorities = the_authorities; presences = the_presences; demands = the_demands; polls = the_polls; casts = the_casts })) ≡ Some flat
-    → (its_keys ≡ Some flat.keys) × (its_closed ≡ Some flat.closed) × (its_meetings ≡ Some flat.meetings) × (its_resolutions ≡ Some flat.resolutions) × (its_register ≡ Some flat.register) × (its_appointments ≡ Some flat.appointments) × (its_endings ≡ Some flat.endings) × (its_authorities ≡ Some flat.authorities) × (its_presences ≡ Some flat.presences) × (its_demands ≡ Some flat.demands) × (its_polls ≡ Some flat.polls) × (its_casts ≡ Some flat.casts)
-read_all None its_closed its_meetings its_resolutions its_register its_appointments its_endings its_authorities its_presences its_demands its_polls its_casts flat h = absurd cc
-read_all (Some its_keys) None its_meetings its_resolutions its_register its_appointments its_endings its_authorities its_presences its_demands its_polls its_casts flat h = absurd cc
-read_all (Some its_keys) (Some its_closed) None its_resolutions its_register its_appointments its_endings its_authorities its_presences its_demands its_polls its_casts flat h = absurd cc
-read_all (Some its_keys) (Some its_closed) (Some its_meetings) None its_register its_appointments its_endings its_authorities its_presences its_demands its_polls its_casts flat h = absurd cc
-read_all (Some its_keys) (Some its_closed) (Some its_meetings) (Some its_resolutions) None its_appointments its_endings its_authorities its_presences its_demands its_polls its_casts flat h = absurd cc
-read_all (Some its_keys) (Some its_closed) (Some its_meetings) (Some its_resolutions) (Some its_register) None its_endings its_authorities its_presences its_demands its_polls its_casts flat h = absurd cc
-read_all (Some its_keys) (Some its_closed) (Some its_meetings) (Some its_resolutions) (Some its_register) (Some its_appointments) None its_authorities its_presences its_demands its_polls its_casts flat h = absurd cc
-read_all (Some its_keys) (Some its_closed) (Some its_meetings) (Some its_resolutions) (Some its_register) (Some its_appointments) (Some its_endings) None its_presences its_demands its_polls its_casts flat h = absurd cc
-read_all (Some its_keys) (Some its_closed) (Some its_meetings) (Some its_resolutions) (Some its_register) (Some its_appointments) (Some its_endings) (Some its_authorities) None its_demands its_polls its_casts flat h = absurd cc
-read_all (Some its_keys) (Some its_closed) (Some its_meetings) (Some its_resolutions) (Some its_register) (Some its_appointments) (Some its_endings) (Some its_authorities) (Some its_presences) None its_polls its_casts flat h = absurd cc
-read_all (Some its_keys) (Some its_closed) (Some its_meetings) (Some its_resolutions) (Some its_register) (Some its_appointments) (Some its_endings) (Some its_authorities) (Some its_presences) (Some its_demands) None its_casts flat h = absurd cc
-read_all (Some its_keys) (Some its_closed) (Some its_meetings) (Some its_resolutions) (Some its_register) (Some its_appointments) (Some its_endings) (Some its_authorities) (Some its_presences) (Some its_demands) (Some its_polls) None flat h = absurd cc
-read_all (Some its_keys) (Some its_closed) (Some its_meetings) (Some its_resolutions) (Some its_register) (Some its_appointments) (Some its_endings) (Some its_authorities) (Some its_presences) (Some its_demands) (Some its_polls) (Some its_casts) flat h = let is : record { keys = its_keys; closed = its_closed; meetings = its_meetings; resolutions = its_resolutions; register = its_register; appointments = its_appointments; endings = its_endings; authorities = its_authorities; presences = its_presences; demands = its_demands; polls = its_polls; casts = its_casts } ≡ flat = cc in (ap (λ (f : FlatLists). Some f.keys) is, ap (λ (f : FlatLists). Some f.closed) is, ap (λ (f : FlatLists). Some f.meetings) is, ap (λ (f : FlatLists). Some f.resolutions) is, ap (λ (f : FlatLists). Some f.register) is, ap (λ (f : FlatLists). Some f.appointments) is, ap (λ (f : FlatLists). Some f.endings) is, ap (λ (f : FlatLists). Some f.authorities) is, ap (λ (f : FlatLists). Some f.presences) is, ap (λ (f : FlatLists). Some f.demands) is, ap (λ (f : FlatLists). Some f.polls) is, ap (λ (f : FlatLists). Some f.casts) is)
-
--- the tables hold these records
-pub record HoldAll (trees : Trees) (flat : FlatLists) : Type 0 where
-  pub meetings : records_in table.meetings trees ≡ Some flat.meetings
-  pub resolutions : records_in table.resolutions trees ≡ Some flat.resolutions
-  pub register : records_in table.register trees ≡ Some flat.register
-  pub appointments : records_in table.appointments trees ≡ Some flat.appointments
-  pub endings : records_in table.endings trees ≡ Some flat.endings
-  pub authorities : records_in table.authorities trees ≡ Some flat.authorities
-  pub presences : records_in table.presences trees ≡ Some flat.presences
-  pub demands : records_in table.demands trees ≡ Some flat.demands
-  pub polls : records_in table.polls trees ≡ Some flat.polls
-  pub casts : records_in table.casts trees ≡ Some flat.casts
-
 pub the_same : {X : Type 0} {x y : X} → ◌≡◌ {A = Option X} (Some x) (Some y) → x ≡ y
 the_same h = cc
-
-pub all_held : (trees : Trees) (flat : FlatLists) → flat_in trees ≡ Some flat → HoldAll trees flat
-unfolding flat_in
-all_held trees flat h =
-    let each = read_all (records_in table.keys trees) (records_in table.closed trees) (records_in table.meetings trees) (records_in table.resolutions trees) (records_in table.register trees) (records_in table.appointments trees) (records_in table.endings trees) (records_in table.authorities trees) (records_in table.presences trees) (records_in table.demands trees) (records_in table.polls trees) (records_in table.casts trees) flat h in
-    record { meetings = each.2; resolutions = each.3; register = each.4; appointments = each.5; endings = each.6; authorities = each.7; presences = each.8; demands = each.9; polls = each.10; casts = each.11 }
 
 -- ---- a meeting by its name
 
