@@ -1,4 +1,5 @@
 pub mod CallerLemmas
+pub mod DecidingLemmas
 pub mod JoinLemmas
 pub mod KeepingLemmas
 pub mod ReadLemmas

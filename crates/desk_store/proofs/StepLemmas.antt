@@ -16,7 +16,7 @@ use Rattle.meeting_core.specs.Decisions.{DecidedChangesCanBeMade}
 use Rattle.meeting_core.specs.Step.{decided, stepped}
 use Rattle.desk_changes.specs.Writes.{Holds}
 use Rattle.desk_schema.specs.Statements.{WasOpen}
-use Rattle.desk_store.specs.Reads.{IsDecided, IsTold, IsWhole, WritesIfAny, can_make_if_any}
+use Rattle.desk_store.specs.Reads.{IsDecided, IsTold, WritesIfAny, can_make_if_any}
 use Rattle.desk_records.specs.Standing.{Stands}
 use Rattle.desk_store.proofs.KeepingLemmas.{stands_same}
 
@@ -24,21 +24,6 @@ use Rattle.desk_store.proofs.KeepingLemmas.{stands_same}
 decided_makes : DecidedChangesCanBeMade → (office : OfficeLists) (call : Call) (change : Option Change) → (decided office call).change ≡ change → is_office office ≡ true → is_office (after_some office change) ≡ true → can_make_if_any office change ≡ true
 decided_makes law office call None is before later = before
 decided_makes law office call (Some change) is before later = law office call change is before later
-
--- what is decided of the office that was read is told of it
-pub answer_told : {S : Type 0} (g : store.Ghosts S) (a b : Held S) (call : Call) (book : OfficeLists) (answer : Answer Change) → IsTold g a b (Ok book) IsWhole
-    → answer.reply ≡ (decided book call).reply → answer.change ≡ (decided book call).change → IsTrue (is_office (after_some book answer.change)) → IsTold g a b (Ok answer) (IsDecided call)
-answer_told g a b call book answer read reply change kept = record {
-  told = λ clean office stands.
-      let same : book ≡ office = read.told clean office stands in
-      let is : answer ≡ decided book call = λ i. record { reply = reply i; change = change i } in
-      record {
-        is = is ∙ ap (λ (o : OfficeLists). decided o call) same;
-        kept = subst (λ (o : OfficeLists). IsTrue (is_office (after_some o answer.change))) same kept;
-      };
-  same = read.same;
-  changes = read.changes;
-}
 
 -- where the office is not read, or nothing is decided, nothing is told of it
 pub failed_told : {S X Y : Type 0} (g : store.Ghosts S) (a b : Held S) (IsSo : OfficeLists → X → Type 0) (IsThat : OfficeLists → Y → Type 0) (old : Result X ReadFault) (r : Result Y ReadFault) → IsErr r → IsTold g a b old IsSo → IsTold g a b r IsThat

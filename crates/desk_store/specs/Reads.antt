@@ -12,6 +12,7 @@ use Rattle.desk_words.specs.declared.caller.KeyRow.{KeyRow}
 use Rattle.desk_words.specs.declared.change.Change.{Change}
 use Rattle.desk_words.specs.declared.office.OfficeLists.{OfficeLists}
 use Rattle.desk_words.specs.declared.request.Call.{Call}
+use Rattle.desk_words.specs.declared.request.DeskRequest.{DeskRequest}
 use Rattle.desk_words.specs.Seen.{MeetingName, Moment, Party}
 use Rattle.caller_view.specs.Public.{PublicRecord}
 use Rattle.caller_view.specs.Views.{own_of, public_of}
@@ -19,6 +20,7 @@ use Rattle.caller_view.specs.declared.views.OwnView.{OwnView}
 use Rattle.desk_schema.specs.Statements.{ChangesNothing, IsRead}
 use Rattle.office_lists.specs.declared.fault.ReadFault.{ReadFault}
 use Rattle.desk_words.specs.Changes.{after_some, can_make}
+use Rattle.meeting_core.specs.Decisions.{desk_call}
 use Rattle.meeting_core.specs.Step.{decided}
 use Rattle.desk_changes.specs.Writes.{Holds}
 use Rattle.desk_records.specs.Standing.{Stands}
@@ -56,6 +58,10 @@ AreOwn party meeting now office own = own ≡ own_of office party meeting now
 pub record IsDecided (call : Call) (office : OfficeLists) (answer : Answer Change) : Type 0 where
   pub is : answer ≡ decided office call
   pub kept : IsTrue (is_office (after_some office answer.change))
+
+-- at whatever moment the office asks it of the whole desk, it is decided so
+abbrev pub IsDecidedAlways : DeskRequest → OfficeLists → Answer Change → Type 0
+IsDecidedAlways what office answer = (now : Moment) → IsDecided (desk_call now what) office answer
 
 -- nothing is to be written, or a change that the office can make
 abbrev pub can_make_if_any : OfficeLists → Option Change → Bool

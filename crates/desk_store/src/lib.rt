@@ -1,6 +1,7 @@
 //! The desk of one company over its tables: what it answers, and what it keeps.
 #![tactic(auto)]
 
+mod deciding;
 mod desk;
 pub mod laws;
 mod opening;

@@ -3,81 +3,22 @@ ghost use Rattle.std.specs.Prelude.{◌≡◌, IfOk, IsTrue, None, Ok, OnOk};
 ghost use Rattle.std.specs.Fn.{FnOnceReturnsAt};
 ghost use Rattle.desk_schema.specs.Statements.{WasOpen};
 ghost use Rattle.desk_store.specs.Joins.{AreAfter, IsAsItWas, Leaves, made_by};
-ghost use Rattle.desk_store.specs.Reads.{IsDecided, IsTold, WritesIfAny};
+ghost use Rattle.desk_store.specs.Reads.{WritesIfAny};
 ghost use Rattle.desk_records.specs.Standing.{Stands};
 ghost use Rattle.desk_words.specs.declared.office.OfficeLists.{OfficeLists};
-ghost use Rattle.meeting_core.specs.Decisions.{party_call};
 ghost use Rattle.meeting_core.specs.Step.{decided, stepped};
 ghost use Rattle.sqlite.specs.Held.{state};
 ghost use Rattle.sqlite.specs.State.{HasCleanDisk, IsUnchanged, KeepsCommit, Survives};
 
+use crate::deciding::decide;
 use crate::desk::Desk;
-use crate::reading::{failure_of, read_book};
+use crate::reading::failure_of;
 use desk_changes::write;
 use desk_reading::ReadFault;
-use desk_words::{
-    Answer, Call, Caller, Change, Failure, MeetingId, Moment, Party, PartyRequest, Reply, Request,
-};
-use meeting_core::decide_from_rows;
+use desk_words::{Answer, Call, Change, Failure, Reply};
 use meeting_core::laws::decided_changes_can_be_made;
-use party_reading::{read_asked, read_public};
 use sqlite::{Alter, Error, Transaction};
 use std::alloc::{AllocError, Global};
-
-/// What is decided of a call, over all that the tables hold.
-fn decide_by_book<S: Alter>(
-    tx: &mut Transaction<'_, S>,
-    alloc: Global,
-    call: &Call,
-) -> Result<Answer<Change>, ReadFault>
-    ensures same_reference { tx.new.conn.ghost_name ≡ tx.old.conn.ghost_name }
-    ensures tells { IsTold S.Store tx.old.conn.now tx.new.conn.now result (IsDecided call.now) }
-{
-    let book = read_book(tx, alloc)?;
-    let (reply, change) = book.decide(call)?;
-    Ok(Answer { reply, change })
-}
-
-/// What is decided of what a party asks in a meeting, from what the tables hold of the meeting for
-/// everyone and of the party in it.
-fn decide_for_party<S: Alter>(
-    tx: &mut Transaction<'_, S>,
-    alloc: Global,
-    now: Moment,
-    party: Party,
-    meeting: MeetingId,
-    asked: &PartyRequest,
-) -> Result<Answer<Change>, ReadFault>
-    ensures same_reference { tx.new.conn.ghost_name ≡ tx.old.conn.ghost_name }
-    ensures tells { IsTold S.Store tx.old.conn.now tx.new.conn.now result
-        (IsDecided (party_call party meeting now asked.now)) }
-{
-    let public = read_public(tx, alloc, meeting)?;
-    let rows = read_asked(tx, alloc, meeting, party, asked)?;
-    let answer = decide_from_rows(alloc, meeting, &public.record(), &rows, now, asked)?;
-    Ok(answer)
-}
-
-/// What is decided of a call: of what a party asks in a meeting, from what concerns it there, and
-/// of any other over all that the tables hold.
-fn decide<S: Alter>(
-    tx: &mut Transaction<'_, S>,
-    alloc: Global,
-    call: &Call,
-) -> Result<Answer<Change>, ReadFault>
-    ensures same_reference { tx.new.conn.ghost_name ≡ tx.old.conn.ghost_name }
-    ensures tells { IsTold S.Store tx.old.conn.now tx.new.conn.now result (IsDecided call.now) }
-{
-    match call.caller {
-        Caller::Party(party) => match &call.request {
-            Request::Party { meeting, asked } => {
-                decide_for_party(tx, alloc, call.moment, party, *meeting, asked)
-            }
-            Request::Desk(_) | Request::Office { .. } => decide_by_book(tx, alloc, call),
-        },
-        Caller::Office => decide_by_book(tx, alloc, call),
-    }
-}
 
 /// Writes what an answer changes, which may be nothing.
 fn write_if_any<S: Alter>(

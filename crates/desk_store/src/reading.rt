@@ -13,7 +13,8 @@ use party_reading::{KeptRecord, read_own, read_public};
 use sqlite::{Alter, Transaction};
 use std::alloc::Global;
 
-fn fault_of_book(fault: BookFault) -> ReadFault
+/// Why rows are not read where they are no office's, or memory runs out.
+pub(crate) fn fault_of_book(fault: BookFault) -> ReadFault
     ensures { result ≡ fault_of_book fault }
 {
     match fault {

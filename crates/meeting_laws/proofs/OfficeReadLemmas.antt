@@ -24,7 +24,7 @@ use Rattle.meeting_laws.specs.WrongOfficeReads.{ReadsTooFew, office_of, reads_no
 use Rattle.meeting_laws.specs.WrongOwnThings.{meeting_with_presence, quiet_meeting}
 
 -- what is decided of the office's request, by what is ruled on it
-decided_by : Request → Ruling Change → Answer Change
+abbrev decided_by : Request → Ruling Change → Answer Change
 decided_by request ruled = settled (record { cases = side_cases caller.Office request ++ ruled.cases; accepted = ruled.accepted })
 
 pub lists_enough : RulingsReadNoMore → ListsReadAreEnough lists_read

@@ -23,8 +23,8 @@ returns-clause-kept c = λ office kept read.
     let now = c.args.now in
     let what = c.args.asked.now in
     let is =
-        c.in_meeting.ensures
-        ∙ decided_so office c.args.meeting now what c.args.closed.now c.args.found c.in_ok-lists.lists c.in_ok-answer.answer kept read c.in_ok-lists.ensures.same
-        (c.in_ok-answer.ensures.answer ∙ ap (λ (lists : Option MeetingLists). settled (office_ruling c.args.closed.now lists now what)) c.as_ref.ensures.value) in
+    c.in_meeting.ensures
+    ∙ decided_so office c.args.meeting now what c.args.closed.now c.args.found c.in_ok-lists.lists c.in_ok-answer.answer kept read c.in_ok-lists.ensures.same
+    (c.in_ok-answer.ensures.answer ∙ ap (λ (lists : Option MeetingLists). settled (office_ruling c.args.closed.now lists now what)) c.as_ref.ensures.value) in
     let limits = ap (λ (a : Answer Change). if_any keeps_limits a.change) c.in_meeting.ensures ∙ limits_within c.args.meeting c.in_ok-answer.answer.change c.in_ok-answer.ensures.limits in
     decision_kept office (office_call c.args.meeting now what) c.in_meeting.result is limits kept

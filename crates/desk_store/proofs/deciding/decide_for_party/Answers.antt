@@ -4,7 +4,7 @@ use Rattle.party_reading.proofs.TellingLemmas.{told_after, told_both, told_stop}
 use Rattle.desk_store.specs.Reads.{IsDecided}
 use Rattle.desk_store.proofs.ReadLemmas.{told_office}
 use Rattle.desk_store.proofs.StepLemmas.{failed_told}
-use Rattle.desk_store.proofs.perform.decide_for_party.Goals as goal
+use Rattle.desk_store.proofs.deciding.decide_for_party.Goals as goal
 
 pub returns-in_err-public-clause-tells : goal.returns-in_err-public-clause-tells
 returns-in_err-public-clause-tells g c =

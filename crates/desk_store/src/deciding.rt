@@ -1,0 +1,189 @@
+//! What is decided of a call, from those rows of the tables that its answer reads.
+ghost use Rattle.std.specs.Prelude.{◌≡◌};
+ghost use Rattle.desk_words.specs.Rulings as ruling;
+ghost use Rattle.desk_words.specs.declared.caller.Caller.TheVariants as caller;
+ghost use Rattle.desk_words.specs.declared.request.DeskRequest.TheVariants as whole;
+ghost use Rattle.desk_store.specs.Reads.{IsDecided, IsDecidedAlways, IsTold};
+ghost use Rattle.meeting_core.specs.Decisions.{office_call, party_call};
+
+use crate::reading::fault_of_book;
+use desk_reading::ReadFault;
+use desk_tables::desk;
+use desk_words::{
+    Answer, Call, Caller, Change, DayList, DeskRequest, KeyRows, MeetingId, Moment, NewMeeting,
+    OfficeRequest, Party, PartyRequest, Refusal, Request, refuse,
+};
+use meeting_core::{decide_call, decide_closed, decide_from_rows, decide_in_meeting, decide_keys};
+use meeting_reading::{read_closed, read_count, read_days, read_keys, read_lists};
+use party_reading::{read_asked, read_public};
+use sqlite::{Alter, Transaction};
+use std::alloc::Global;
+
+/// What is decided of what a party asks in a meeting, from what the tables hold of the meeting for
+/// everyone and of the party in it.
+fn decide_for_party<S: Alter>(
+    tx: &mut Transaction<'_, S>,
+    alloc: Global,
+    now: Moment,
+    party: Party,
+    meeting: MeetingId,
+    asked: &PartyRequest,
+) -> Result<Answer<Change>, ReadFault>
+    ensures same_reference { tx.new.conn.ghost_name ≡ tx.old.conn.ghost_name }
+    ensures tells { IsTold S.Store tx.old.conn.now tx.new.conn.now result
+        (IsDecided (party_call party meeting now asked.now)) }
+{
+    let public = read_public(tx, alloc, meeting)?;
+    let rows = read_asked(tx, alloc, meeting, party, asked)?;
+    let answer = decide_from_rows(alloc, meeting, &public.record(), &rows, now, asked)?;
+    Ok(answer)
+}
+
+/// What is decided of what the office asks in a meeting, from those of the closed days and of that
+/// meeting's lists that the answer reads.
+fn decide_for_office<S: Alter>(
+    tx: &mut Transaction<'_, S>,
+    alloc: Global,
+    now: Moment,
+    meeting: MeetingId,
+    asked: &OfficeRequest,
+) -> Result<Answer<Change>, ReadFault>
+    ensures same_reference { tx.new.conn.ghost_name ≡ tx.old.conn.ghost_name }
+    ensures tells { IsTold S.Store tx.old.conn.now tx.new.conn.now result
+        (IsDecided (office_call meeting now asked.now)) }
+{
+    let closed = read_days(tx, alloc, asked)?;
+    let found = read_lists(tx, alloc, meeting, asked)?;
+    decide_in_meeting(alloc, meeting, &closed, found, now, asked).map_err(fault_of_book)
+}
+
+/// What is decided of the call of a meeting, from how many meetings there are and whether one has
+/// its name.
+fn decide_new_meeting<S: Alter>(
+    tx: &mut Transaction<'_, S>,
+    alloc: Global,
+    new: &NewMeeting,
+) -> Result<Answer<Change>, ReadFault>
+    ensures same_reference { tx.new.conn.ghost_name ≡ tx.old.conn.ghost_name }
+    ensures tells { IsTold S.Store tx.old.conn.now tx.new.conn.now result
+        (IsDecidedAlways (whole.CallMeeting new.now)) }
+{
+    let count = read_count(tx, alloc, new.meeting)?;
+    let answer = decide_call(count.is_named, count.held, new)?;
+    Ok(answer)
+}
+
+/// What is decided of a list of closed days, from the one that is held.
+fn decide_closed_days<S: Alter>(
+    tx: &mut Transaction<'_, S>,
+    alloc: Global,
+    days: &DayList,
+) -> Result<Answer<Change>, ReadFault>
+    ensures same_reference { tx.new.conn.ghost_name ≡ tx.old.conn.ghost_name }
+    ensures tells { IsTold S.Store tx.old.conn.now tx.new.conn.now result
+        (IsDecidedAlways (whole.ClosedDays days.now)) }
+{
+    let held = read_closed(tx, alloc)?;
+    let answer = decide_closed(&held, days)?;
+    Ok(answer)
+}
+
+/// What is decided of a list of keys, from the one that is held.
+fn decide_new_keys<S: Alter>(
+    tx: &mut Transaction<'_, S>,
+    alloc: Global,
+    rows: &KeyRows,
+) -> Result<Answer<Change>, ReadFault>
+    ensures same_reference { tx.new.conn.ghost_name ≡ tx.old.conn.ghost_name }
+    ensures tells { IsTold S.Store tx.old.conn.now tx.new.conn.now result
+        (IsDecidedAlways (whole.Keys rows.now)) }
+{
+    let held = read_keys(tx, alloc)?;
+    let answer = decide_keys(&held, rows)?;
+    Ok(answer)
+}
+
+/// What is decided of what the office asks of the whole desk: no meeting's lists are read.
+fn decide_for_desk<S: Alter>(
+    tx: &mut Transaction<'_, S>,
+    alloc: Global,
+    asked: &DeskRequest,
+) -> Result<Answer<Change>, ReadFault>
+    ensures same_reference { tx.new.conn.ghost_name ≡ tx.old.conn.ghost_name }
+    ensures tells { IsTold S.Store tx.old.conn.now tx.new.conn.now result
+        (IsDecidedAlways asked.now) }
+{
+    match asked {
+        DeskRequest::CallMeeting(new) => decide_new_meeting(tx, alloc, new),
+        DeskRequest::ClosedDays(days) => decide_closed_days(tx, alloc, days),
+        DeskRequest::Keys(rows) => decide_new_keys(tx, alloc, rows),
+    }
+}
+
+/// A refusal, for which nothing is read. The tables are asked all the same, for their version, and
+/// so are known to be open.
+fn refused<S: Alter>(
+    tx: &mut Transaction<'_, S>,
+    refusal: Refusal,
+) -> Result<Answer<Change>, ReadFault>
+    ensures same_reference { tx.new.conn.ghost_name ≡ tx.old.conn.ghost_name }
+    ensures tells { IsTold S.Store tx.old.conn.now tx.new.conn.now result
+        (λ office answer. answer ≡ ruling.refused refusal) }
+{
+    desk::all(tx)?;
+    Ok(refuse(refusal))
+}
+
+/// What is decided of a call of the office.
+fn decide_office_call<S: Alter>(
+    tx: &mut Transaction<'_, S>,
+    alloc: Global,
+    now: Moment,
+    asked: &Request,
+) -> Result<Answer<Change>, ReadFault>
+    ensures same_reference { tx.new.conn.ghost_name ≡ tx.old.conn.ghost_name }
+    ensures tells { IsTold S.Store tx.old.conn.now tx.new.conn.now result
+        (IsDecided (record { moment = now; caller = caller.Office; request = asked.now })) }
+{
+    match asked {
+        Request::Desk(asked) => decide_for_desk(tx, alloc, asked),
+        Request::Office { meeting, asked } => decide_for_office(tx, alloc, now, *meeting, asked),
+        Request::Party { .. } => refused(tx, Refusal::PartyOnly),
+    }
+}
+
+/// What is decided of a call of a party.
+fn decide_party_call<S: Alter>(
+    tx: &mut Transaction<'_, S>,
+    alloc: Global,
+    now: Moment,
+    party: Party,
+    asked: &Request,
+) -> Result<Answer<Change>, ReadFault>
+    ensures same_reference { tx.new.conn.ghost_name ≡ tx.old.conn.ghost_name }
+    ensures tells { IsTold S.Store tx.old.conn.now tx.new.conn.now result
+        (IsDecided (record { moment = now; caller = caller.Party party; request = asked.now })) }
+{
+    match asked {
+        Request::Party { meeting, asked } => {
+            decide_for_party(tx, alloc, now, party, *meeting, asked)
+        }
+        Request::Desk(_) | Request::Office { .. } => refused(tx, Refusal::OfficeOnly),
+    }
+}
+
+/// What is decided of a call, from those rows of the tables alone that its answer reads. Where the
+/// wrong side asks, it is refused.
+pub(crate) fn decide<S: Alter>(
+    tx: &mut Transaction<'_, S>,
+    alloc: Global,
+    call: &Call,
+) -> Result<Answer<Change>, ReadFault>
+    ensures same_reference { tx.new.conn.ghost_name ≡ tx.old.conn.ghost_name }
+    ensures tells { IsTold S.Store tx.old.conn.now tx.new.conn.now result (IsDecided call.now) }
+{
+    match call.caller {
+        Caller::Office => decide_office_call(tx, alloc, call.moment, &call.request),
+        Caller::Party(party) => decide_party_call(tx, alloc, call.moment, party, &call.request),
+    }
+}
