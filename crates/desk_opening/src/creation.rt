@@ -2,12 +2,13 @@
 ghost use Rattle.std.specs.Prelude.{◌≡◌, ◌≢◌, ◌⊎◌, false, IfErr, IfOk, IsErrAnd, IsTrue};
 ghost use Rattle.std.specs.Prelude.{OnErr, OnOk};
 ghost use Rattle.desk_records.specs.Standing.{Stands};
+ghost use Rattle.desk_opening.specs.Making.{AreMade};
 ghost use Rattle.desk_opening.specs.declared.fault.CreateFault.TheVariants.{NotEmpty};
 ghost use Rattle.desk_opening.specs.declared.fault.CreateFault.TheVariants as creating;
 ghost use Rattle.desk_schema.specs.Tables.{no_schema};
 ghost use Rattle.desk_words.specs.Changes.{empty_office};
 ghost use Rattle.sqlite.specs.Held.{state};
-ghost use Rattle.sqlite.specs.State.{HasCleanDisk};
+ghost use Rattle.sqlite.specs.State.{HasCleanDisk, Survives};
 
 use crate::fault::CreateFault;
 use crate::making::make_empty_desk;
@@ -32,6 +33,8 @@ fn make_desk<S: Alter>(conn: &mut Connection<S>) -> Result<(), Error>
     ensures same { HasCleanDisk (state S.Store conn.new) → IsTrue (state S.Store conn.new).is_open
         → (state S.Store conn.old).now.schema ≡ no_schema
         → OnErr result ((state S.Store conn.new).now ≡ (state S.Store conn.old).now) }
+    ensures crash { Survives (state S.Store conn.old) (state S.Store conn.new)
+        (AreMade (state S.Store conn.old)) }
 {
     let _ = conn.is_autocommit();
     let mut tx = conn.transaction();
@@ -42,7 +45,7 @@ fn make_desk<S: Alter>(conn: &mut Connection<S>) -> Result<(), Error>
 /// Makes the tables of a desk that holds nothing, in one transaction. The fault is `NotEmpty`
 /// exactly where the database has a table, an index or a view. A refusal hands the connection back,
 /// its tables as they were. A connection in a transaction is refused, as `NotEmpty` or `Store`, and
-/// is handed back as it was.
+/// is handed back as it was. A crash leaves what it left before, or the tables that are made, whole.
 #[tactic(auto, using(crate::proofs::FaultLemmas::never_not_empty))]
 pub fn create<S: Alter + Drop>(
     conn: Connection<S>,
@@ -60,6 +63,11 @@ pub fn create<S: Alter + Drop>(
         → (state S.Store e.1).now ≡ (state S.Store conn).now) }
     ensures ended { IfErr result (λ e. conn.in_transaction ≡ false
         → e.1.in_transaction ≡ false) }
+    ensures untouched { IfErr result (λ e. e.0 ≡ NotEmpty → e.1 ≡ conn) }
+    ensures crash { IfOk result (λ made.
+        Survives (state S.Store conn) (state S.Store made) (AreMade (state S.Store conn))) }
+    ensures unmade { IfErr result (λ e.
+        Survives (state S.Store conn) (state S.Store e.1) (AreMade (state S.Store conn))) }
     ensures inside { IsTrue conn.in_transaction → IsErrAnd result (λ e.
         ((e.0 ≡ NotEmpty) ⊎ (e.0 ≡ creating.Store)) × (e.1 ≡ conn)) }
 {
