@@ -75,8 +75,13 @@ replay = new_app (codes "replay")
 
 abbrev pub top : App
 top =
-    record (new_app (codes "desk"))
-    { top = record (new_app (codes "desk")).top { subcommand_required = true; arg_required_else_help = true; no_binary_name = true } }
+    record (new_app (codes "desk")) {
+      top = record (new_app (codes "desk")).top {
+        subcommand_required = true;
+        arg_required_else_help = true;
+        no_binary_name = true;
+      };
+    }
 
 -- the program with the commands that make a desk and load files into it
 abbrev pub with_loads : App

@@ -87,7 +87,15 @@ poll_in cells = do
   Some
       (record {
         meeting = meeting;
-        item = record { resolution = resolution; ordered = ordered; take = take; chair = chair; started = started; closed = closed; declared = declared };
+        item = record {
+          resolution = resolution;
+          ordered = ordered;
+          take = take;
+          chair = chair;
+          started = started;
+          closed = closed;
+          declared = declared;
+        };
       })
 
 -- a vote on some shares (section 322): capacity, member, first and last place, way

@@ -27,7 +27,14 @@ appointment_in cells = do
   Some
       (record {
         meeting = meeting;
-        item = record { member = member; number = number; proxy = proxy; range = range; instructions = instructions; moment = moment };
+        item = record {
+          member = member;
+          number = number;
+          proxy = proxy;
+          range = range;
+          instructions = instructions;
+          moment = moment;
+        };
       })
 
 -- an ending of an appointment: meeting, member, number, moment (section 330)

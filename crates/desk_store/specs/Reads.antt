@@ -40,7 +40,8 @@ IsWhole office book = book ≡ office
 -- the caller whose key it is, or none where no key equals it
 abbrev pub caller_with : List KeyRow → List ℕ → Option Caller
 caller_with keys key =
-    option_map (λ (row : KeyRow). row.caller) (find (λ (row : KeyRow). same_name row.secret key) keys)
+    option_map (λ (row : KeyRow). row.caller)
+    (find (λ (row : KeyRow). same_name row.secret key) keys)
 
 -- it is the caller whose key that is
 abbrev pub IsCallerWith : List ℕ → OfficeLists → Option Caller → Type 0

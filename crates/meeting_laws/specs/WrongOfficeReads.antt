@@ -24,4 +24,5 @@ pub record ReadsTooFew (reading : ListsReading) (one other : OfficeLists) (meeti
   pub first : IsTrue (is_office one)
   pub second : IsTrue (is_office other)
   pub agree : AgreeIn reading meeting what one other
-  pub apart : decided one (office_call meeting 0 what) ≡ decided other (office_call meeting 0 what) → ⊥
+  pub apart : decided one (office_call meeting 0 what)
+      ≡ decided other (office_call meeting 0 what) → ⊥
