@@ -58,7 +58,8 @@ held n form test xs z h f =
     let back : letters_of (in_places n xs) ≡ xs = letters_of-in_places (n - length xs) test xs z h in
     record { form = ap form back ∙ f; rest = ap (in_places n) back }
 
-ascii_below : (xs : List ℕ) (test : ℕ → Bool) → ((b : ℕ) → test b ≡ true → b < 128) → list_all test xs ≡ true → (i : ℕ) → get_or xs i 0 < 128
+-- letters that pass a test are below 128, and what stands behind them is zero
+pub ascii_below : (xs : List ℕ) (test : ℕ → Bool) → ((b : ℕ) → test b ≡ true → b < 128) → list_all test xs ≡ true → (i : ℕ) → get_or xs i 0 < 128
 ascii_below [] test small h i = omega arith
 ascii_below (x ∷ xs) test small h zero = small x (first_so (test x) (list_all test xs) h)
 ascii_below (x ∷ xs) test small h (suc i) = ascii_below xs test small (second_so (test x) (list_all test xs) h) i

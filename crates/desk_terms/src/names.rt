@@ -1,12 +1,14 @@
 //! Names: parties, meetings and secret keys.
-ghost use Rattle.std.specs.Prelude.{◌≡◌, ◌≤◌, ◌<◌, ◌==◌, ◌↔◌, IsTrue, IfSome, length};
+ghost use Rattle.std.specs.Prelude.{◌≡◌, ◌≤◌, ◌<◌, ◌==◌, ◌↔◌, IsTrue, IfSome, length, refl};
+ghost use Rattle.std.specs.Cmp.Lexicographic.{lists_agrees, nat_list_cmp_total, texts_ties};
 ghost use Rattle.std.specs.List.{list_all, position_from};
-ghost use Rattle.desk_terms.specs.Names.{letters_of, in_places, is_name_letter, is_key_letter, is_name, is_party, is_key, party_of, meeting_of, key_of, same_name, Holds};
+ghost use Rattle.desk_terms.specs.Names.{letters_of, in_places, is_name_letter, is_key_letter, is_name, is_party, is_key, party_of, meeting_of, key_of, name_cmp, same_name, Holds};
 
+use std::cmp::Ordering;
 use std::marker::Model;
 
 /// The name of a party: 1 to 16 of A to Z and 0 to 9, and not `OFFICE`.
-#[derive(Clone, Copy, PartialEq, Eq, PartialOrd, Ord)]
+#[derive(Clone, Copy, PartialEq, Eq, PartialOrd)]
 pub struct Party {
     letters: [u8; 16],
 }
@@ -22,6 +24,21 @@ impl Model for Party {
     ghost invariant = { λ p. Holds 16 is_party p.letters };
 
     ghost inverse = { λ s. record { letters = s } };
+}
+
+/// Parties are looked up again and again, so their letters are compared as one number.
+impl Ord for Party {
+    ghost cmp = { name_cmp };
+
+    ghost total = { nat_list_cmp_total };
+
+    ghost matches_partial_cmp = { lists_agrees (λ x y. refl) };
+
+    ghost matches_eq = { texts_ties };
+
+    fn cmp(&self, other: &Party) -> Ordering {
+        u128::from_be_bytes(self.letters).cmp(&u128::from_be_bytes(other.letters))
+    }
 }
 
 /// The name of a meeting: 1 to 16 of A to Z and 0 to 9.
