@@ -122,7 +122,7 @@ fn items_at<T: Copy>(alloc: Global, items: &[T], places: &[usize]) -> Result<Vec
     requires { All (λ place. place < length items.now) places.now }
     ensures { IfOk result (λ found. found.items ≡ filter_map (slice_get items.now) places.now) }
 {
-    let mut found = Vec::new(alloc);
+    let mut found = Vec::with_capacity(alloc, places.len())?;
     for place in places {
         found.push(items[*place])?;
     }
