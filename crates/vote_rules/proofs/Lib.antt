@@ -5,6 +5,7 @@ pub mod LastInstructed
 pub mod ListLemmas
 pub mod PartingLemmas
 pub mod RowLemmas
+pub mod SilentLemmas
 pub mod TallyLemmas
 pub mod VoteLemmas
 mod OrderLemmas

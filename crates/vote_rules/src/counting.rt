@@ -1,6 +1,6 @@
 //! The count of a poll, by lengths: each holding is parted where what governs it changes and where
 //! a cast on it begins or has just ended, and the valid vote is asked once a part.
-ghost use Rattle.std.specs.Prelude.{◌≡◌, ◌≤◌, ◌<◌, ◌^◌, ℕ, List, [], true, IfOk, filter, map, sum_by};
+ghost use Rattle.std.specs.Prelude.{◌≡◌, ◌≤◌, ◌<◌, ◌^◌, ℕ, List, [], true, IfOk, None, filter, map, sum_by};
 ghost use Rattle.std.specs.BTreeMap.{get};
 ghost use Rattle.desk_terms.specs.Names.{name_cmp};
 ghost use Rattle.desk_words.specs.Office.{are_numbered_after};
@@ -19,7 +19,7 @@ use crate::ballots::{Ballots, governing_at, vote_by};
 use crate::parting::parted;
 use crate::received::{BlockCast, PollCasts};
 use desk_words::{Appointment, Party, Range, RegisterRow, Tally, Way};
-use proxy_rules::{Cutoffs, GovernedPiece, Holding, Papers};
+use proxy_rules::{Cutoffs, GovernedPiece, Holding, Papers, shares};
 use share_blocks::{Blocks, LinkedBlocks, PlainBlocks};
 use std::alloc::{AllocError, Global};
 use std::collections::BTreeMap;
@@ -128,7 +128,28 @@ fn tally_row_by<B: Blocks>(
     )
 }
 
-/// The count of one holding.
+/// Whether nothing is cast on the shares of a row, and nothing as instructed by anybody.
+fn is_silent(on_row: &[BlockCast], instructed: &BTreeMap<Party, usize>) -> bool
+    ensures blocks { result ≡ true → on_row.now ≡ [] }
+    ensures instructed { result ≡ true
+        → (voter : List ℕ) → get name_cmp instructed.now voter ≡ None }
+{
+    on_row.is_empty() && instructed.is_empty()
+}
+
+/// The count of a row of whose shares none has a vote.
+fn without_votes(row: &RegisterRow) -> Tally
+    ensures { result ≡ tally_to (λ _. None) (shares_of row.now) }
+{
+    Tally {
+        votes_for: 0,
+        votes_against: 0,
+        withheld: 0,
+        eligible: shares(row),
+    }
+}
+
+/// The count of one holding. One on whose shares nothing is cast is not parted.
 fn tally_row(
     alloc: Global,
     cutoffs: &Cutoffs,
@@ -152,6 +173,9 @@ fn tally_row(
     let cast = casts.on_shares_of(alloc, row.member)?;
     let on_row = cast.as_slice();
     let instructed = &casts.instructed;
+    if is_silent(on_row, instructed) {
+        return Ok(without_votes(row));
+    }
     if on_row.len() <= MOST_IN_LISTS {
         tally_row_by::<PlainBlocks>(alloc, cutoffs, papers, on_row, instructed, resolution, row)
     } else {
