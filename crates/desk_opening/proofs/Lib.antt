@@ -1,3 +1,4 @@
+pub mod CrashLemmas
 pub mod EmptyLemmas
 pub mod FaultLemmas
 pub mod FoundLemmas

@@ -1,3 +1,4 @@
+pub mod Crashes
 pub mod Making
 pub mod Opening
 pub mod Rising

@@ -2,6 +2,7 @@
 ghost use Rattle.std.specs.Prelude.{◌≡◌, ◌≢◌, ◌⊎◌, false, IfErr, IfOk, IsErrAnd, IsTrue};
 ghost use Rattle.std.specs.Prelude.{OnErr, OnOk};
 ghost use Rattle.desk_records.specs.Standing.{Stands};
+ghost use Rattle.desk_opening.specs.Crashes.{LeavesItself};
 ghost use Rattle.desk_opening.specs.Making.{AreMade};
 ghost use Rattle.desk_opening.specs.declared.fault.CreateFault.TheVariants.{NotEmpty};
 ghost use Rattle.desk_opening.specs.declared.fault.CreateFault.TheVariants as creating;
@@ -23,6 +24,15 @@ fn has_nothing<S: Alter>(conn: &Connection<S>) -> bool
     schema.tables.len() == 0 && schema.indexes.len() == 0 && schema.views.len() == 0
 }
 
+/// Nothing is done: of an open store whose connection is in no transaction a crash leaves the
+/// tables that are read, and nothing else.
+fn rests<S: Alter>(conn: &Connection<S>)
+    requires { conn.now.in_transaction ≡ false }
+    ensures { IsTrue (state S.Store conn.now).is_open → LeavesItself (state S.Store conn.now) }
+{
+    let _ = conn.is_autocommit();
+}
+
 /// Makes the tables of a desk that holds nothing, in one transaction.
 fn make_desk<S: Alter>(conn: &mut Connection<S>) -> Result<(), Error>
     requires { conn.old.in_transaction ≡ false }
@@ -33,6 +43,8 @@ fn make_desk<S: Alter>(conn: &mut Connection<S>) -> Result<(), Error>
     ensures same { HasCleanDisk (state S.Store conn.new) → IsTrue (state S.Store conn.new).is_open
         → (state S.Store conn.old).now.schema ≡ no_schema
         → OnErr result ((state S.Store conn.new).now ≡ (state S.Store conn.old).now) }
+    ensures is_open { HasCleanDisk (state S.Store conn.new)
+        → OnOk result (IsTrue (state S.Store conn.new).is_open) }
     ensures crash { Survives (state S.Store conn.old) (state S.Store conn.new)
         (AreMade (state S.Store conn.old)) }
 {
@@ -45,7 +57,8 @@ fn make_desk<S: Alter>(conn: &mut Connection<S>) -> Result<(), Error>
 /// Makes the tables of a desk that holds nothing, in one transaction. The fault is `NotEmpty`
 /// exactly where the database has a table, an index or a view. A refusal hands the connection back,
 /// its tables as they were. A connection in a transaction is refused, as `NotEmpty` or `Store`, and
-/// is handed back as it was. A crash leaves what it left before, or the tables that are made, whole.
+/// is handed back as it was. Of a desk that is made a crash leaves the tables that are read, and
+/// nothing else; after a refusal it leaves what it left before, or the tables that are made, whole.
 #[tactic(auto, using(crate::proofs::FaultLemmas::never_not_empty))]
 pub fn create<S: Alter + Drop>(
     conn: Connection<S>,
@@ -64,6 +77,8 @@ pub fn create<S: Alter + Drop>(
     ensures ended { IfErr result (λ e. conn.in_transaction ≡ false
         → e.1.in_transaction ≡ false) }
     ensures untouched { IfErr result (λ e. e.0 ≡ NotEmpty → e.1 ≡ conn) }
+    ensures settled { IfOk result (λ made. HasCleanDisk (state S.Store made)
+        → LeavesItself (state S.Store made)) }
     ensures crash { IfOk result (λ made.
         Survives (state S.Store conn) (state S.Store made) (AreMade (state S.Store conn))) }
     ensures unmade { IfErr result (λ e.
@@ -79,7 +94,10 @@ pub fn create<S: Alter + Drop>(
     }
     let mut conn = conn;
     match make_desk(&mut conn) {
-        Ok(()) => Ok(conn),
+        Ok(()) => {
+            rests(&conn);
+            Ok(conn)
+        }
         Err(error) => Err((CreateFault::from(error), conn)),
     }
 }

@@ -1,5 +1,6 @@
 //! The tables of a desk that was kept.
-ghost use Rattle.std.specs.Prelude.{◌≡◌, ◌≢◌, ◌≤◌, ◌⊎◌, false, Err, IfErr, IfOk, IsTrue, OnOk};
+ghost use Rattle.std.specs.Prelude.{◌≡◌, ◌≢◌, ◌⊎◌, false, Err, IfErr, IfOk, IsTrue, OnOk};
+ghost use Rattle.desk_opening.specs.Crashes.{LeavesItself, LeavesNoMore};
 ghost use Rattle.desk_opening.specs.Opening.{HandsBack, HoldsOffice, IsCause, IsCleanBack};
 ghost use Rattle.desk_opening.specs.Opening.{IsInNone, IsVerdict};
 ghost use Rattle.desk_opening.specs.Rising.{RowsRise};
@@ -15,8 +16,8 @@ ghost use Rattle.desk_words.specs.declared.office.OfficeLists.{OfficeLists};
 ghost use Rattle.desk_words.specs.Office.{is_office};
 ghost use Rattle.office_checks.specs.InOrder.{office_in_order};
 ghost use Rattle.sqlite.specs.Held.{state};
-ghost use Rattle.sqlite.specs.State.{HasCleanDisk};
-ghost use Rattle.sqlite_trees.specs.View.{IsClean, doubt};
+ghost use Rattle.sqlite.specs.State.{HasCleanDisk, Survives};
+ghost use Rattle.sqlite_trees.specs.View.{IsClean};
 
 use crate::fault::OpenFault;
 use crate::version::judge_version;
@@ -55,6 +56,10 @@ fn reopened<S: Alter + Drop>(
     ensures kept { IfErr result (λ e. IsClean (S.Store.view e.1)
         → IsTrue (S.Store.view e.1).is_open
         → (S.Store.view e.1).trees ≡ (state S.Store conn).now.trees) }
+    ensures found { IfOk result (λ c. LeavesNoMore S.Store (state S.Store conn)
+        (back.Connection c)) }
+    ensures crash { IfErr result (λ e. LeavesNoMore S.Store (state S.Store conn)
+        (back.Store e.1)) }
 {
     let _ = conn.is_autocommit();
     let _ = conn.schema();
@@ -101,8 +106,7 @@ fn read_lists<S: Alter>(
 fn examine<S: Alter>(conn: &mut Connection<S>, alloc: Global) -> Result<OfficeLists, OpenFault>
     requires { conn.old.in_transaction ≡ false }
     ensures ended { conn.new.in_transaction ≡ false }
-    ensures clean { doubt (state S.Store conn.old).is_clean
-        ≤ doubt (state S.Store conn.new).is_clean }
+    ensures crash { Survives (state S.Store conn.old) (state S.Store conn.new) (λ _. ⊥) }
     ensures was_open { WasOpen (state S.Store conn.old) (state S.Store conn.new) }
     ensures kept { HasCleanDisk (state S.Store conn.new) → IsTrue (state S.Store conn.old).is_open
         → IsTrue (state S.Store conn.new).is_open
@@ -126,8 +130,7 @@ fn examine<S: Alter>(conn: &mut Connection<S>, alloc: Global) -> Result<OfficeLi
 fn judge_columns<S: Alter>(conn: &mut Connection<S>) -> Result<(), OpenFault>
     requires { conn.old.in_transaction ≡ false }
     ensures ended { conn.new.in_transaction ≡ false }
-    ensures clean { doubt (state S.Store conn.old).is_clean
-        ≤ doubt (state S.Store conn.new).is_clean }
+    ensures crash { Survives (state S.Store conn.old) (state S.Store conn.new) (λ _. ⊥) }
     ensures same { HasCleanDisk (state S.Store conn.new) → IsTrue (state S.Store conn.new).is_open
         → IsTrue (state S.Store conn.old).is_open
         × ((state S.Store conn.new).now ≡ (state S.Store conn.old).now) }
@@ -143,23 +146,25 @@ fn judge_columns<S: Alter>(conn: &mut Connection<S>) -> Result<(), OpenFault>
     Ok(())
 }
 
-/// Whether the store is open, which a commit of nothing tells.
+/// Whether the store is open, which a statement tells that is compiled, and not run. A crash then
+/// leaves the tables as they are read.
 #[tactic(auto, using(crate::proofs::FaultLemmas::of_the_store))]
 fn ask_open<S: Alter>(conn: &mut Connection<S>) -> Result<(), OpenFault>
     requires { conn.old.in_transaction ≡ false }
     ensures ended { conn.new.in_transaction ≡ false }
-    ensures clean { doubt (state S.Store conn.old).is_clean
-        ≤ doubt (state S.Store conn.new).is_clean }
+    ensures crash { Survives (state S.Store conn.old) (state S.Store conn.new) (λ _. ⊥) }
     ensures is_open { HasCleanDisk (state S.Store conn.new)
         → OnOk result (IsTrue (state S.Store conn.new).is_open) }
     ensures same { HasCleanDisk (state S.Store conn.new) → IsTrue (state S.Store conn.new).is_open
         → IsTrue (state S.Store conn.old).is_open
         × ((state S.Store conn.new).now ≡ (state S.Store conn.old).now) }
+    ensures settled { HasCleanDisk (state S.Store conn.new)
+        → OnOk result (LeavesItself (state S.Store conn.new)) }
     ensures fault { IfErr result (λ fault. (fault ≡ opening.Store) ⊎ (fault ≡ opening.Memory)) }
 {
     let _ = conn.is_autocommit();
-    let tx = conn.transaction();
-    tx.commit()?;
+    conn.prepare("BEGIN")?;
+    let _ = conn.is_autocommit();
     Ok(())
 }
 
@@ -168,8 +173,7 @@ fn ask_open<S: Alter>(conn: &mut Connection<S>) -> Result<(), OpenFault>
 fn kept_office<S: Alter>(conn: &mut Connection<S>, alloc: Global) -> Result<OfficeLists, OpenFault>
     requires { conn.old.in_transaction ≡ false }
     ensures ended { conn.new.in_transaction ≡ false }
-    ensures clean { doubt (state S.Store conn.old).is_clean
-        ≤ doubt (state S.Store conn.new).is_clean }
+    ensures crash { Survives (state S.Store conn.old) (state S.Store conn.new) (λ _. ⊥) }
     ensures is_open { HasCleanDisk (state S.Store conn.new)
         → OnOk result (IsTrue (state S.Store conn.new).is_open) }
     ensures same { HasCleanDisk (state S.Store conn.new)
@@ -186,6 +190,8 @@ fn kept_office<S: Alter>(conn: &mut Connection<S>, alloc: Global) -> Result<Offi
     ensures cause { HasCleanDisk (state S.Store conn.new) → AreNoted (state S.Store conn.old)
         → RowsRise (state S.Store conn.old)
         → IfErr result (λ fault. IsCause fault (state S.Store conn.old)) }
+    ensures settled { HasCleanDisk (state S.Store conn.new)
+        → OnOk result (LeavesItself (state S.Store conn.new)) }
 {
     let _ = conn.schema();
     judge_version(conn, alloc)?;
@@ -203,7 +209,9 @@ fn kept_office<S: Alter>(conn: &mut Connection<S>, alloc: Global) -> Result<Offi
 /// `NotADesk` only where they note none, or the first and a column that is read is missing or what
 /// they hold is no office. A refusal hands back the connection, or the store where that could not
 /// be read again, its tables as they were. A connection in a transaction is refused as `Store` and
-/// handed back as it was. A limit of steps that was set on the connection is not kept.
+/// handed back as it was. A limit of steps that was set on the connection is not kept. Of a desk
+/// that is opened a crash leaves the tables that are read, and nothing else; after a refusal it
+/// leaves nothing that it did not leave before.
 pub fn open<S: Alter + Drop>(
     alloc: Global,
     conn: Connection<S>,
@@ -226,6 +234,9 @@ pub fn open<S: Alter + Drop>(
         → IsCause e.0 (state S.Store conn)) }
     ensures kept { IfErr result (λ e. HandsBack S.Store (state S.Store conn).now.trees e.1) }
     ensures ended { IfErr result (λ e. conn.in_transaction ≡ false → IsInNone e.1) }
+    ensures settled { IfOk result (λ opened. HasCleanDisk (state S.Store opened.0)
+        → LeavesItself (state S.Store opened.0)) }
+    ensures crash { IfErr result (λ e. LeavesNoMore S.Store (state S.Store conn) e.1) }
     ensures inside { IsTrue conn.in_transaction
         → result ≡ Err (opening.Store, back.Connection conn) }
 {
@@ -245,7 +256,7 @@ pub fn open<S: Alter + Drop>(
 /// Opens the tables of the desk that a database holds, as `open` does, where the numbers of the rows
 /// of each table are known to rise, as they are of a file that was just opened: so they are not read
 /// once more for that. A refusal hands back the connection, its tables as they were. A limit of
-/// steps that was set on the connection is kept.
+/// steps that was set on the connection is kept. A crash leaves what `open` says.
 pub fn open_risen<S: Alter + Drop>(
     alloc: Global,
     conn: Connection<S>,
@@ -272,6 +283,10 @@ pub fn open_risen<S: Alter + Drop>(
         → IsTrue (state S.Store e.1).is_open
         → (state S.Store e.1).now.trees ≡ (state S.Store conn).now.trees) }
     ensures back { IfErr result (λ e. e.1.in_transaction ≡ false) }
+    ensures settled { IfOk result (λ opened. HasCleanDisk (state S.Store opened.0)
+        → LeavesItself (state S.Store opened.0)) }
+    ensures crash { IfErr result (λ e.
+        Survives (state S.Store conn) (state S.Store e.1) (λ _. ⊥)) }
 {
     let mut conn = conn;
     match kept_office(&mut conn, alloc) {

@@ -1,5 +1,5 @@
 //! Which version of the program made the tables.
-ghost use Rattle.std.specs.Prelude.{◌≡◌, ◌≤◌, false, [], ◌∷◌, IfErr, IsTrue, OnOk};
+ghost use Rattle.std.specs.Prelude.{◌≡◌, false, [], ◌∷◌, IfErr, IsTrue, OnOk};
 ghost use Rattle.desk_opening.specs.Opening.{IsFaultOf, IsVersionFault, TellsVersion};
 ghost use Rattle.desk_records.specs.Standing.{HasNoVersion, IsVersionOne, version_one};
 ghost use Rattle.desk_schema.specs.Contents.{desk};
@@ -8,7 +8,6 @@ ghost use Rattle.desk_tables.specs.Versions.{AreNoted};
 ghost use Rattle.office_lists.specs.Yields.{Yields, any_at_all};
 ghost use Rattle.sqlite.specs.Held.{state};
 ghost use Rattle.sqlite.specs.State.{HasCleanDisk, Survives};
-ghost use Rattle.sqlite_trees.specs.View.{doubt};
 
 use crate::fault::OpenFault;
 use desk_reading::ReadFault;
@@ -63,8 +62,7 @@ fn read_version<S: Alter>(tx: &mut Transaction<'_, S>, alloc: Global) -> Result<
 fn ask_version<S: Alter>(conn: &mut Connection<S>, alloc: Global) -> Result<(), OpenFault>
     requires { conn.old.in_transaction ≡ false }
     ensures ended { conn.new.in_transaction ≡ false }
-    ensures clean { doubt (state S.Store conn.old).is_clean
-        ≤ doubt (state S.Store conn.new).is_clean }
+    ensures crash { Survives (state S.Store conn.old) (state S.Store conn.new) (λ _. ⊥) }
     ensures was_open { WasOpen (state S.Store conn.old) (state S.Store conn.new) }
     ensures kept { HasCleanDisk (state S.Store conn.new) → IsTrue (state S.Store conn.old).is_open
         → IsTrue (state S.Store conn.new).is_open
@@ -90,8 +88,7 @@ pub(crate) fn judge_version<S: Alter>(
 ) -> Result<(), OpenFault>
     requires { conn.old.in_transaction ≡ false }
     ensures ended { conn.new.in_transaction ≡ false }
-    ensures clean { doubt (state S.Store conn.old).is_clean
-        ≤ doubt (state S.Store conn.new).is_clean }
+    ensures crash { Survives (state S.Store conn.old) (state S.Store conn.new) (λ _. ⊥) }
     ensures same { HasCleanDisk (state S.Store conn.new) → IsTrue (state S.Store conn.new).is_open
         → IsTrue (state S.Store conn.old).is_open
         × ((state S.Store conn.new).now ≡ (state S.Store conn.old).now) }

@@ -1,5 +1,6 @@
 -- What is left of a desk where what was done in a transaction is committed, or its commit fails.
-use Rattle.std.proofs.Common.{◌≡◌, inl, inr, Option, None, Ok, Err, Result, IsErr, true, false, IsTrue, sym, ap, subst, ◌∙◌, true≢false, arith}
+use Rattle.std.proofs.Common.{◌≡◌, inl, inr, [], Option, None, Ok, Err, Result, IsErr, true, false, IsTrue, sym, ap, subst, ◌∙◌, true≢false, arith}
+use Rattle.sqlite.specs.Effect.{Database}
 use Rattle.sqlite.specs.Held.{Held, state}
 use Rattle.sqlite.specs.State.{State, HasCleanDisk, IsUnchanged, KeepsCommit, KeepsCounts, Shows, Survives}
 use Rattle.sqlite.specs.Steps.{FailsToCommit}
@@ -11,7 +12,10 @@ use Rattle.desk_words.specs.declared.office.OfficeLists.{OfficeLists}
 use Rattle.desk_words.specs.declared.request.Call.{Call}
 use Rattle.desk_records.specs.Office.{office_in}
 use Rattle.desk_records.specs.Standing.{Stands}
-use Rattle.desk_schema.specs.Statements.{WasOpen}
+use Rattle.desk_schema.specs.Statements.{IsDesk, WasOpen}
+use Rattle.desk_opening.specs.Crashes.{LeavesItself}
+use Rattle.desk_opening.proofs.CrashLemmas.{leaves_itself}
+use Rattle.desk_opening.proofs.OpeningLemmas.{desk_same}
 use Rattle.meeting_core.specs.Step.{stepped}
 use Rattle.office_lists.specs.declared.fault.ReadFault.{ReadFault}
 use Rattle.desk_store.specs.Joins.{AreAfter, IsAsItWas, Leaves, after_call, made_by}
@@ -27,6 +31,15 @@ pub record IsWithin (old new : State) : Type 0 where
 -- what is told in a transaction is told within it
 pub told_within : {S X : Type 0} (g : store.Ghosts S) (first b : Held S) (r : Result X ReadFault) (IsSo : OfficeLists → X → Type 0) → IsTold g first b r IsSo → IsWithin (state g first) (state g b)
 told_within g first b r IsSo told = record { crash = told.changes.crash; was_open = told.changes.was_open; kept = λ clean office stands. told.changes.kept (clean, stands.desk) }
+
+-- a transaction is committed
+abbrev pub IsOver : State → State → Type 0
+IsOver mid end = IsTrue mid.in_transaction × Shows mid end mid.now mid.now false × KeepsCounts mid end × (end.marks ≡ [])
+
+-- behind it a crash leaves the tables that are read
+pub itself_after : {S : Type 0} (g : store.Ghosts S) (mid end : Held S) → ((s : S) (db : Trees) → IsTrue (g.view s).is_open → g.recovers s db → db ≡ (g.view s).committed) → ((s : S) → IsTrue (g.view s).is_open → g.recovers s (g.view s).committed)
+    → IsOver (state g mid) (state g end) → LeavesItself (state g end)
+itself_after g mid end settled stays over = leaves_itself g end settled stays over.1.is_open (over.1.now_is ∙ sym over.1.committed_is)
 
 -- a call that failed was not made
 pub leaves_failed : {T E : Type 0} (old new : State) (r : Result T E) (call : Call) → IsErr r → Leaves None old new → Leaves (made_by r call) old new
@@ -104,3 +117,24 @@ module _ {S : Type 0} (g : store.Ghosts S) (a first b new : Held S) (begun : fir
   survives_call call there =
       survives_then (state g a) (state g b) (state g new) (λ _. ⊥) (λ db. db ≡ (state g b).now.trees) (AreAfter (state g a) call) (λ _ db none. absurd none)
       (λ clean db is office stands. ap office_in is ∙ (there (mid_clean clean) office (stands_begun office stands)).holds) from_desk last
+
+  -- where nothing was changed in the transaction, a crash leaves what it left before
+  pub survives_read : ((s : S) → IsTrue (g.view s).is_open → g.recovers s (g.view s).committed) → (IsTrue (state g a).is_open → (state g a).now ≡ (state g a).committed) → (IsDesk (state g first) → HasCleanDisk (state g b) → IsUnchanged (state g first) (state g b))
+      → IsDesk (state g a) → Survives (state g a) (state g new) (λ _. ⊥)
+  survives_read stays settled same desk =
+      let begun_now = ap (λ (it : Held S). (state g it).now) begun in
+      let there = desk_same (state g a) (state g first) (sym begun_now) desk in
+      let whole = survives_then (state g a) (state g b) (state g new) (λ _. ⊥) (λ db. db ≡ (state g b).now.trees) (state g a).may_leave (λ _ _ none. absurd none)
+      (λ clean db is.
+      let it = (same there (mid_clean clean)).0 in
+      let was_open = desk_open it.was_open in
+      let trees_are = ap (λ (d : Database). d.trees) (it.now_is ∙ begun_now ∙ settled was_open) in
+      subst (state g a).may_leave (sym (is ∙ trees_are)) (stays a.store was_open)) from_desk last in
+      record {
+        clean = whole.clean;
+        shield = whole.shield;
+        counts = whole.counts;
+        limit = whole.limit;
+        closes = whole.closes;
+        crash = λ clean db may. elim (whole.crash clean db may) [ inl was ↦ inl was | inr was ↦ inl was ];
+      }

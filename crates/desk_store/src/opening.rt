@@ -1,5 +1,7 @@
 //! A new desk, and one that was kept.
 ghost use Rattle.std.specs.Prelude.{◌≡◌, ◌≢◌, ◌⊎◌, false, Err, IfErr, IfOk, IsErrAnd, IsTrue};
+ghost use Rattle.desk_opening.specs.Crashes.{LeavesItself, LeavesNoMore};
+ghost use Rattle.desk_opening.specs.Making.{AreMade};
 ghost use Rattle.desk_opening.specs.Opening.{HandsBack, IsCause, IsCleanBack, IsInNone};
 ghost use Rattle.desk_opening.specs.Rising.{RowsRise};
 ghost use Rattle.desk_opening.specs.declared.fault.CreateFault.TheVariants.{NotEmpty};
@@ -13,7 +15,7 @@ ghost use Rattle.desk_tables.specs.Versions.{NotesVersion};
 ghost use Rattle.desk_words.specs.Changes.{empty_office};
 ghost use Rattle.desk_words.specs.declared.office.OfficeLists.{OfficeLists};
 ghost use Rattle.sqlite.specs.Held.{state};
-ghost use Rattle.sqlite.specs.State.{HasCleanDisk};
+ghost use Rattle.sqlite.specs.State.{HasCleanDisk, Survives};
 
 use crate::desk::Desk;
 use desk_opening::{CreateFault, HandedBack, OpenFault};
@@ -24,7 +26,9 @@ impl<S: Alter + Drop> Desk<S> {
     /// Makes the tables of a desk that holds nothing, in one transaction. The fault is `NotEmpty`
     /// exactly where the database has a table, an index or a view. A refusal hands the connection
     /// back, its tables as they were. A connection in a transaction is refused, as `NotEmpty` or
-    /// `Store`, and is handed back as it was.
+    /// `Store`, and is handed back as it was. Of a desk that is made a crash leaves the tables that
+    /// are read, and nothing else; after a refusal it leaves what it left before, or the tables that
+    /// are made, whole.
     pub fn create(
         alloc: Global,
         conn: Connection<S>,
@@ -41,6 +45,13 @@ impl<S: Alter + Drop> Desk<S> {
             → (state S.Store e.1).now ≡ (state S.Store conn).now) }
         ensures ended { IfErr result (λ e. conn.in_transaction ≡ false
             → e.1.in_transaction ≡ false) }
+        ensures untouched { IfErr result (λ e. e.0 ≡ NotEmpty → e.1 ≡ conn) }
+        ensures settled { IfOk result (λ desk. HasCleanDisk (state S.Store desk)
+            → LeavesItself (state S.Store desk)) }
+        ensures crash { IfOk result (λ desk.
+            Survives (state S.Store conn) (state S.Store desk) (AreMade (state S.Store conn))) }
+        ensures unmade { IfErr result (λ e.
+            Survives (state S.Store conn) (state S.Store e.1) (AreMade (state S.Store conn))) }
         ensures inside { IsTrue conn.in_transaction → IsErrAnd result (λ e.
             ((e.0 ≡ NotEmpty) ⊎ (e.0 ≡ creating.Store)) × (e.1 ≡ conn)) }
     {
@@ -57,7 +68,9 @@ impl<S: Alter + Drop> Desk<S> {
     /// or the first and a column that is read is missing or what they hold is no office. A refusal
     /// hands back the connection, or the store where that could not be read again, its tables as
     /// they were. A connection in a transaction is refused as `Store` and handed back as it was. A
-    /// limit of steps that was set on the connection is not kept.
+    /// limit of steps that was set on the connection is not kept. Of a desk that is opened a crash
+    /// leaves the tables that are read, and nothing else; after a refusal it leaves nothing that it
+    /// did not leave before.
     pub fn open(alloc: Global, conn: Connection<S>) -> Result<Desk<S>, (OpenFault, HandedBack<S>)>
         ensures stands { IfOk result (λ desk. HasCleanDisk (state S.Store desk)
             → (state S.Store conn).now.schema ≡ desk_schema
@@ -75,6 +88,9 @@ impl<S: Alter + Drop> Desk<S> {
             → IsCause e.0 (state S.Store conn)) }
         ensures kept { IfErr result (λ e. HandsBack S.Store (state S.Store conn).now.trees e.1) }
         ensures ended { IfErr result (λ e. conn.in_transaction ≡ false → IsInNone e.1) }
+        ensures settled { IfOk result (λ desk. HasCleanDisk (state S.Store desk)
+            → LeavesItself (state S.Store desk)) }
+        ensures crash { IfErr result (λ e. LeavesNoMore S.Store (state S.Store conn) e.1) }
         ensures inside { IsTrue conn.in_transaction
             → result ≡ Err (opening.Store, back.Connection conn) }
     {
@@ -87,7 +103,7 @@ impl<S: Alter + Drop> Desk<S> {
     /// Opens the desk that a database holds, as `open` does, where the numbers of the rows of each
     /// table are known to rise, as they are of a file that was just opened: so they are not read
     /// once more for that. A refusal hands back the connection, its tables as they were. A limit of
-    /// steps that was set on the connection is kept.
+    /// steps that was set on the connection is kept. A crash leaves what `open` says.
     pub fn open_risen(
         alloc: Global,
         conn: Connection<S>,
@@ -112,6 +128,10 @@ impl<S: Alter + Drop> Desk<S> {
             → IsTrue (state S.Store e.1).is_open
             → (state S.Store e.1).now.trees ≡ (state S.Store conn).now.trees) }
         ensures back { IfErr result (λ e. e.1.in_transaction ≡ false) }
+        ensures settled { IfOk result (λ desk. HasCleanDisk (state S.Store desk)
+            → LeavesItself (state S.Store desk)) }
+        ensures crash { IfErr result (λ e.
+            Survives (state S.Store conn) (state S.Store e.1) (λ _. ⊥)) }
     {
         match desk_opening::open_risen(alloc, conn) {
             Ok((risen, _)) => Ok(Desk { conn: risen, alloc }),

@@ -1,6 +1,7 @@
 //! A call, made and kept.
 ghost use Rattle.std.specs.Prelude.{◌≡◌, IfOk, IsTrue, None, Ok, OnOk};
 ghost use Rattle.std.specs.Fn.{FnOnceReturnsAt};
+ghost use Rattle.desk_opening.specs.Crashes.{LeavesItself};
 ghost use Rattle.desk_schema.specs.Statements.{WasOpen};
 ghost use Rattle.desk_store.specs.Joins.{AreAfter, IsAsItWas, Leaves, made_by};
 ghost use Rattle.desk_store.specs.Reads.{WritesIfAny};
@@ -74,7 +75,8 @@ impl<S: Alter> Desk<S> {
     /// Makes one call, in one transaction with one commit: the tables are then the office after the
     /// step. `show` is asked once for what is answered of the reply, before the commit. After a
     /// failure, that of `show` included, the tables are as they were; a call that changes nothing
-    /// writes nothing.
+    /// writes nothing. After an answer a crash leaves the tables that are read, and nothing else;
+    /// after a failure it leaves what it left before, or the office after the step.
     pub fn perform<T: Drop, F: FnOnce(&Reply) -> Result<T, AllocError>>(
         &mut self,
         call: Call,
@@ -89,6 +91,8 @@ impl<S: Alter> Desk<S> {
             (state S.Store self.new) }
         ensures stays_open { HasCleanDisk (state S.Store self.new)
             → OnOk result (IsTrue (state S.Store self.new).is_open) }
+        ensures settled { HasCleanDisk (state S.Store self.new)
+            → OnOk result (LeavesItself (state S.Store self.new)) }
         ensures still { HasCleanDisk (state S.Store self.new) → (office : OfficeLists)
             → Stands (state S.Store self.old) office → (decided office call).change ≡ None
             → OnOk result (IsAsItWas (state S.Store self.old) (state S.Store self.new)) }

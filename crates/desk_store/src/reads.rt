@@ -1,12 +1,15 @@
-//! What the tables say, without a change.
+//! What the tables say, without a change. Of a desk that is read a crash leaves what it left
+//! before, and after an answer the tables that are read, and nothing else.
 ghost use Rattle.std.specs.Prelude.{◌≡◌, IfOk, IsTrue, None, OnOk};
+ghost use Rattle.desk_opening.specs.Crashes.{LeavesItself};
+ghost use Rattle.desk_schema.specs.Statements.{IsDesk};
 ghost use Rattle.desk_store.specs.Joins.{Leaves};
 ghost use Rattle.caller_view.specs.Views.{own_of, public_of};
 ghost use Rattle.desk_store.specs.Reads.{caller_with};
 ghost use Rattle.desk_records.specs.Standing.{Stands};
 ghost use Rattle.desk_words.specs.declared.office.OfficeLists.{OfficeLists};
 ghost use Rattle.sqlite.specs.Held.{state};
-ghost use Rattle.sqlite.specs.State.{HasCleanDisk};
+ghost use Rattle.sqlite.specs.State.{HasCleanDisk, Survives};
 
 use crate::desk::Desk;
 use crate::reading::{failure_of, read_book, read_caller, read_record, read_things};
@@ -25,6 +28,10 @@ impl<S: Alter> Desk<S> {
         ensures leaves { Leaves None (state S.Store self.old) (state S.Store self.new) }
         ensures stays_open { HasCleanDisk (state S.Store self.new)
             → OnOk result (IsTrue (state S.Store self.new).is_open) }
+        ensures settled { HasCleanDisk (state S.Store self.new)
+            → OnOk result (LeavesItself (state S.Store self.new)) }
+        ensures crash { IsDesk (state S.Store self.old)
+            → Survives (state S.Store self.old) (state S.Store self.new) (λ _. ⊥) }
     {
         let _ = self.conn.is_autocommit();
         let mut tx = self.conn.transaction();
@@ -40,6 +47,10 @@ impl<S: Alter> Desk<S> {
         ensures leaves { Leaves None (state S.Store self.old) (state S.Store self.new) }
         ensures stays_open { HasCleanDisk (state S.Store self.new)
             → OnOk result (IsTrue (state S.Store self.new).is_open) }
+        ensures settled { HasCleanDisk (state S.Store self.new)
+            → OnOk result (LeavesItself (state S.Store self.new)) }
+        ensures crash { IsDesk (state S.Store self.old)
+            → Survives (state S.Store self.old) (state S.Store self.new) (λ _. ⊥) }
     {
         let _ = self.conn.is_autocommit();
         let mut tx = self.conn.transaction();
@@ -57,6 +68,10 @@ impl<S: Alter> Desk<S> {
         ensures leaves { Leaves None (state S.Store self.old) (state S.Store self.new) }
         ensures stays_open { HasCleanDisk (state S.Store self.new)
             → OnOk result (IsTrue (state S.Store self.new).is_open) }
+        ensures settled { HasCleanDisk (state S.Store self.new)
+            → OnOk result (LeavesItself (state S.Store self.new)) }
+        ensures crash { IsDesk (state S.Store self.old)
+            → Survives (state S.Store self.old) (state S.Store self.new) (λ _. ⊥) }
     {
         let _ = self.conn.is_autocommit();
         let mut tx = self.conn.transaction();
@@ -80,6 +95,10 @@ impl<S: Alter> Desk<S> {
         ensures leaves { Leaves None (state S.Store self.old) (state S.Store self.new) }
         ensures stays_open { HasCleanDisk (state S.Store self.new)
             → OnOk result (IsTrue (state S.Store self.new).is_open) }
+        ensures settled { HasCleanDisk (state S.Store self.new)
+            → OnOk result (LeavesItself (state S.Store self.new)) }
+        ensures crash { IsDesk (state S.Store self.old)
+            → Survives (state S.Store self.old) (state S.Store self.new) (λ _. ⊥) }
     {
         let _ = self.conn.is_autocommit();
         let mut tx = self.conn.transaction();

@@ -13,6 +13,7 @@ use Rattle.sqlite.specs.State.{State, HasCleanDisk, IsNotRun, IsUnchanged, store
 use Rattle.sqlite.specs.Order.{Row}
 use Rattle.sqlite_resolve.specs.declared.compiled.Compiled.{Compiled}
 use Rattle.sqlite_resolve.specs.declared.error.CompileError.{CompileError}
+use Rattle.sqlite.proofs.StateLemmas.{survives_then}
 use Rattle.sqlite_tied.specs.Compute.{everything}
 use Rattle.sqlite_trees.specs.declared.error.StoreError.{StoreError}
 use Rattle.sqlite_trees.specs.declared.error.StoreError.TheVariants as kind
@@ -91,18 +92,18 @@ rest P (x ∷ xs) ys h = rest P xs ys h.1
 -- what is asked next is asked of the same tables
 pub asks_then : {S T U : Type 0} {t : T} (g : store.Ghosts S) (a b c : Held S) (texts more : List (List ℕ)) (r : Result U ColumnFault) → Asks {T = T} g a b texts (Ok t) → Asks g b c more r → Asks g a c (texts ++ more) r
 asks_then g a b c texts more r one two = record {
-  clean = let p = one.clean in let q = two.clean in omega (arith, p, q);
+  crash = survives_then (state g a) (state g b) (state g c) (λ _. ⊥) (λ _. ⊥) (λ _. ⊥) (λ _ _ none. none) (λ _ _ none. none) one.crash two.crash;
   same = λ clean is_open.
-      let early : HasCleanDisk (state g b) = omega (arith, two.clean, clean) in
+      let early : HasCleanDisk (state g b) = omega (arith, two.crash.clean, clean) in
       let second = two.same clean is_open in
       let first = one.same early second.0 in
       (first.0, second.1 ∙ first.1);
   stand = λ clean.
-      let early : HasCleanDisk (state g b) = omega (arith, two.clean, clean) in
+      let early : HasCleanDisk (state g b) = omega (arith, two.crash.clean, clean) in
       let mine = one.stand early in
       on_ok_weaker r (λ h. (mine.0, h.1, both _ texts more mine.2 (subst (λ (d : Database). AreUnderstood d.schema more) (one.same early h.0).1 h.2))) (two.stand clean);
   missed = λ clean no.
-      let early : HasCleanDisk (state g b) = omega (arith, two.clean, clean) in
+      let early : HasCleanDisk (state g b) = omega (arith, two.crash.clean, clean) in
       let bad = two.missed clean no in
       let first = one.same early bad.0 in
       (first.0, λ are. bad.1 (subst (λ (d : Database). AreUnderstood d.schema more) (sym first.1) (rest _ texts more are)));
@@ -111,7 +112,7 @@ asks_then g a b c texts more r one two = record {
 -- what is missing ends the asking
 pub asks_stop : {S T U : Type 0} {e : ColumnFault} (g : store.Ghosts S) (a b : Held S) (texts more : List (List ℕ)) (r : Result U ColumnFault) → r ≡ Err e → Asks {T = T} g a b texts (Err e) → Asks g a b (texts ++ more) r
 asks_stop {e = e} g a b texts more r is one = subst (λ q. Asks g a b (texts ++ more) q) (sym is) (record {
-  clean = one.clean;
+  crash = one.crash;
   same = one.same;
   stand = λ _. tt;
   missed = λ clean told.

@@ -1,11 +1,10 @@
 -- What asking for columns tells.
-use Rattle.std.specs.Prelude.{◌≡◌, ◌≤◌, ℕ, List, [], ◌∷◌, ◌++◌, Result, Err, IsOk, IsTrue, OnOk, codes}
+use Rattle.std.specs.Prelude.{◌≡◌, ℕ, List, [], ◌∷◌, ◌++◌, Result, Err, IsOk, IsTrue, OnOk, codes}
 use Rattle.std.specs.List.{AllByRecursion}
 use Rattle.sqlite.specs.Held.{Held, state}
 use Rattle.sqlite.specs.Listing.{understood}
 use Rattle.sqlite.specs.Schema.{Schema}
-use Rattle.sqlite.specs.State.{HasCleanDisk}
-use Rattle.sqlite_trees.specs.View.{doubt}
+use Rattle.sqlite.specs.State.{HasCleanDisk, Survives}
 use Rattle.sqlite_trees.specs.declared.store.Store as store
 use Rattle.desk_tables.specs.declared.columns.ColumnFault.{ColumnFault}
 use Rattle.desk_tables.specs.declared.columns.ColumnFault.TheVariants.{Missing}
@@ -50,11 +49,12 @@ AreUnderstood schema texts = AllByRecursion (λ text. IsOk (understood schema te
 unfoldable pub HasColumns : Schema → Type 0
 HasColumns schema = AreUnderstood schema (meeting_columns ++ paper_columns ++ poll_columns)
 
--- outside a transaction nothing is changed; the columns are told to stand where the store is open
--- and the texts that name them are understood, and one is told to be missing where they are not
+-- outside a transaction nothing is changed, and a crash leaves what it left before; the columns
+-- are told to stand where the store is open and the texts that name them are understood, and one is
+-- told to be missing where they are not
 pub record Asks {S T : Type 0} (g : store.Ghosts S) (old new : Held S) (texts : List (List ℕ))
     (result : Result T ColumnFault) : Type 0 where
-  pub clean : doubt (state g old).is_clean ≤ doubt (state g new).is_clean
+  pub crash : Survives (state g old) (state g new) (λ _. ⊥)
   pub same : HasCleanDisk (state g new) → IsTrue (state g new).is_open
       → IsTrue (state g old).is_open × ((state g new).now ≡ (state g old).now)
   pub stand : HasCleanDisk (state g new)

@@ -6,6 +6,7 @@ use Rattle.sqlite.specs.State.{HasCleanDisk}
 use Rattle.desk_records.specs.Standing.{HasNoOffice}
 use Rattle.desk_words.specs.declared.office.OfficeLists.{OfficeLists}
 use Rattle.desk_opening.specs.declared.fault.OpenFault.{OpenFault}
+use Rattle.desk_opening.proofs.CrashLemmas.{nothing_then}
 use Rattle.desk_opening.proofs.FaultLemmas.{by_office}
 use Rattle.desk_opening.proofs.OpeningLemmas.{desk_same, same_database}
 use Rattle.desk_opening.proofs.RisingLemmas.{are_a_desk}
@@ -16,8 +17,8 @@ returns-in_err-office-clause-cause g c = λ clean noted rise.
     let old = state g.S.Store c.args.conn.now in
     let told = state g.S.Store c.judge_version.new.conn in
     let judged = state g.S.Store c.judge_columns.new.conn in
-    let late : HasCleanDisk judged = omega (arith, c.examine.ensures.clean, clean) in
-    let early : HasCleanDisk told = omega (arith, c.judge_columns.ensures.clean, late) in
+    let late : HasCleanDisk judged = omega (arith, c.examine.ensures.crash.clean, clean) in
+    let early : HasCleanDisk told = omega (arith, c.judge_columns.ensures.crash.clean, late) in
     let columns = c.judge_columns.ensures.same late (c.in_ok-judge_columns.ensures.columns late).0 in
     let version = c.judge_version.ensures.same early columns.0 in
     let same : judged.now ≡ old.now = columns.1 ∙ version.1 in
@@ -35,9 +36,9 @@ returns-clause-same g c = λ clean.
     let judged = state g.S.Store c.judge_columns.new.conn in
     let read = state g.S.Store c.examine.new.conn in
     let end = state g.S.Store c.ask_open.new.conn in
-    let last : HasCleanDisk read = omega (arith, c.ask_open.ensures.clean, clean) in
-    let late : HasCleanDisk judged = omega (arith, c.examine.ensures.clean, last) in
-    let early : HasCleanDisk told = omega (arith, c.judge_columns.ensures.clean, late) in
+    let last : HasCleanDisk read = omega (arith, c.ask_open.ensures.crash.clean, clean) in
+    let late : HasCleanDisk judged = omega (arith, c.examine.ensures.crash.clean, last) in
+    let early : HasCleanDisk told = omega (arith, c.judge_columns.ensures.crash.clean, late) in
     let is_open = c.in_ok-ask_open.ensures.is_open clean in
     let asked = c.ask_open.ensures.same clean is_open in
     let judged_open = c.examine.ensures.was_open last asked.0 in
@@ -45,3 +46,24 @@ returns-clause-same g c = λ clean.
     let version = c.judge_version.ensures.same early columns.0 in
     let same = ap (λ (d : Database). d.trees) asked.1 ∙ c.examine.ensures.kept last judged_open asked.0 ∙ ap (λ (d : Database). d.trees) (columns.1 ∙ version.1) in
     same_database old end same (c.schema.ensures.live version.0).0 (c.schema-2.ensures.live is_open).0
+
+pub returns-in_err-judge_columns-clause-crash : goal.returns-in_err-judge_columns-clause-crash
+returns-in_err-judge_columns-clause-crash g c =
+    nothing_then (state g.S.Store c.args.conn.now) (state g.S.Store c.judge_version.new.conn) (state g.S.Store c.judge_columns.new.conn) c.judge_version.ensures.crash c.judge_columns.ensures.crash
+
+pub returns-in_err-office-clause-crash : goal.returns-in_err-office-clause-crash
+returns-in_err-office-clause-crash g c =
+    let judged = nothing_then (state g.S.Store c.args.conn.now) (state g.S.Store c.judge_version.new.conn) (state g.S.Store c.judge_columns.new.conn) c.judge_version.ensures.crash c.judge_columns.ensures.crash in
+    nothing_then (state g.S.Store c.args.conn.now) (state g.S.Store c.judge_columns.new.conn) (state g.S.Store c.examine.new.conn) judged c.examine.ensures.crash
+
+pub returns-in_err-ask_open-clause-crash : goal.returns-in_err-ask_open-clause-crash
+returns-in_err-ask_open-clause-crash g c =
+    let judged = nothing_then (state g.S.Store c.args.conn.now) (state g.S.Store c.judge_version.new.conn) (state g.S.Store c.judge_columns.new.conn) c.judge_version.ensures.crash c.judge_columns.ensures.crash in
+    let read = nothing_then (state g.S.Store c.args.conn.now) (state g.S.Store c.judge_columns.new.conn) (state g.S.Store c.examine.new.conn) judged c.examine.ensures.crash in
+    nothing_then (state g.S.Store c.args.conn.now) (state g.S.Store c.examine.new.conn) (state g.S.Store c.ask_open.new.conn) read c.ask_open.ensures.crash
+
+pub returns-clause-crash : goal.returns-clause-crash
+returns-clause-crash g c =
+    let judged = nothing_then (state g.S.Store c.args.conn.now) (state g.S.Store c.judge_version.new.conn) (state g.S.Store c.judge_columns.new.conn) c.judge_version.ensures.crash c.judge_columns.ensures.crash in
+    let read = nothing_then (state g.S.Store c.args.conn.now) (state g.S.Store c.judge_columns.new.conn) (state g.S.Store c.examine.new.conn) judged c.examine.ensures.crash in
+    nothing_then (state g.S.Store c.args.conn.now) (state g.S.Store c.examine.new.conn) (state g.S.Store c.ask_open.new.conn) read c.ask_open.ensures.crash

@@ -1,4 +1,4 @@
-use Rattle.std.proofs.Common.{◌≡◌, Some, arith, ap, sym, subst, ◌∙◌}
+use Rattle.std.proofs.Common.{◌≡◌, Some, arith, ap, sym, subst, ◌∙◌, inl, inr}
 use Rattle.sqlite.specs.Effect.{Database}
 use Rattle.sqlite.specs.Held.{state}
 use Rattle.sqlite.specs.State.{HasCleanDisk}
@@ -17,7 +17,7 @@ pub returns-in-Ok-kept_office-clause-stands : goal.returns-in-Ok-kept_office-cla
 returns-in-Ok-kept_office-clause-stands g c = λ clean has.
     let opened = state g.S.Store c.in-Ok.conn in
     let kept = state g.S.Store c.kept_office.new.conn in
-    let early : HasCleanDisk opened = omega (arith, c.kept_office.ensures.clean, clean) in
+    let early : HasCleanDisk opened = omega (arith, c.kept_office.ensures.crash.clean, clean) in
     let is : opened.now.schema ≡ desk_schema = ap (λ (d : Database). d.schema) (c.in-Ok.ensures.same early) ∙ has in
     let rise = c.in-Ok.ensures.rising early in
     let desk = are_a_desk opened is rise in
@@ -33,26 +33,26 @@ returns-in-Ok-kept_office-clause-stands g c = λ clean has.
 
 pub returns-in-Ok-kept_office-clause-same : goal.returns-in-Ok-kept_office-clause-same
 returns-in-Ok-kept_office-clause-same g c = λ clean.
-    let early : HasCleanDisk (state g.S.Store c.in-Ok.conn) = omega (arith, c.kept_office.ensures.clean, clean) in
+    let early : HasCleanDisk (state g.S.Store c.in-Ok.conn) = omega (arith, c.kept_office.ensures.crash.clean, clean) in
     c.in-Ok-kept_office.ensures.same clean ∙ c.in-Ok.ensures.same early
 
 pub returns-in-Ok-kept_office-clause-version : goal.returns-in-Ok-kept_office-clause-version
 returns-in-Ok-kept_office-clause-version g c = λ clean notes.
     let opened = state g.S.Store c.in-Ok.conn in
-    let early : HasCleanDisk opened = omega (arith, c.kept_office.ensures.clean, clean) in
+    let early : HasCleanDisk opened = omega (arith, c.kept_office.ensures.crash.clean, clean) in
     let same = c.in-Ok.ensures.same early in
     let noted = are_noted opened (subst (λ (d : Database). NotesVersion d.schema) (sym same) notes) (c.in-Ok.ensures.rising early) in
     subst (λ (d : Database). IsVersionOne (record opened { now = d })) same (c.in-Ok-kept_office.ensures.version clean noted)
 
 pub returns-in-Ok-kept_office-clause-columns : goal.returns-in-Ok-kept_office-clause-columns
 returns-in-Ok-kept_office-clause-columns g c = λ clean.
-    let early : HasCleanDisk (state g.S.Store c.in-Ok.conn) = omega (arith, c.kept_office.ensures.clean, clean) in
+    let early : HasCleanDisk (state g.S.Store c.in-Ok.conn) = omega (arith, c.kept_office.ensures.crash.clean, clean) in
     subst (λ (d : Database). HasColumns d.schema) (c.in-Ok.ensures.same early) (c.in-Ok-kept_office.ensures.columns clean)
 
 pub returns-in-Err-kept_office-clause-cause : goal.returns-in-Err-kept_office-clause-cause
 returns-in-Err-kept_office-clause-cause g c = λ clean notes.
     let opened = state g.S.Store c.in-Ok.conn in
-    let early : HasCleanDisk opened = omega (arith, c.kept_office.ensures.clean, clean) in
+    let early : HasCleanDisk opened = omega (arith, c.kept_office.ensures.crash.clean, clean) in
     let same = c.in-Ok.ensures.same early in
     let rise = c.in-Ok.ensures.rising early in
     let noted = are_noted opened (subst (λ (d : Database). NotesVersion d.schema) (sym same) notes) rise in
@@ -60,5 +60,10 @@ returns-in-Err-kept_office-clause-cause g c = λ clean notes.
 
 pub returns-in-Err-kept_office-clause-kept : goal.returns-in-Err-kept_office-clause-kept
 returns-in-Err-kept_office-clause-kept g c = λ clean is_open.
-    let early : HasCleanDisk (state g.S.Store c.in-Ok.conn) = omega (arith, c.kept_office.ensures.clean, clean) in
+    let early : HasCleanDisk (state g.S.Store c.in-Ok.conn) = omega (arith, c.kept_office.ensures.crash.clean, clean) in
     c.in-Err-kept_office.ensures.kept clean is_open ∙ ap (λ (d : Database). d.trees) (c.in-Ok.ensures.same early)
+
+pub returns-in-Err-kept_office-clause-crash : goal.returns-in-Err-kept_office-clause-crash
+returns-in-Err-kept_office-clause-crash g c = λ clean db may.
+    let early : HasCleanDisk (state g.S.Store c.in-Ok.conn) = omega (arith, c.kept_office.ensures.crash.clean, clean) in
+    elim (c.kept_office.ensures.crash.crash clean db may) [ inl was ↦ c.in-Ok.ensures.found early db was | inr none ↦ absurd none ]

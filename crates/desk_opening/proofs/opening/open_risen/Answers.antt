@@ -14,7 +14,7 @@ pub returns-in-Ok-clause-stands : goal.returns-in-Ok-clause-stands
 returns-in-Ok-clause-stands g c = λ clean has.
     let opened = state g.S.Store c.args.conn in
     let kept = state g.S.Store c.kept_office.new.conn in
-    let early : HasCleanDisk opened = omega (arith, c.kept_office.ensures.clean, clean) in
+    let early : HasCleanDisk opened = omega (arith, c.kept_office.ensures.crash.clean, clean) in
     let rise = c.requires.rising early in
     let desk = are_a_desk opened has rise in
     let holds = c.in-Ok.ensures.holds clean desk in
@@ -30,12 +30,12 @@ returns-in-Ok-clause-stands g c = λ clean has.
 pub returns-in-Ok-clause-version : goal.returns-in-Ok-clause-version
 returns-in-Ok-clause-version g c = λ clean notes.
     let opened = state g.S.Store c.args.conn in
-    let early : HasCleanDisk opened = omega (arith, c.kept_office.ensures.clean, clean) in
+    let early : HasCleanDisk opened = omega (arith, c.kept_office.ensures.crash.clean, clean) in
     c.in-Ok.ensures.version clean (are_noted opened notes (c.requires.rising early))
 
 pub returns-in-Err-clause-cause : goal.returns-in-Err-clause-cause
 returns-in-Err-clause-cause g c = λ clean notes.
     let opened = state g.S.Store c.args.conn in
-    let early : HasCleanDisk opened = omega (arith, c.kept_office.ensures.clean, clean) in
+    let early : HasCleanDisk opened = omega (arith, c.kept_office.ensures.crash.clean, clean) in
     let rise = c.requires.rising early in
     c.in-Err.ensures.cause clean (are_noted opened notes rise) rise

@@ -1,4 +1,4 @@
-use Rattle.std.proofs.Common.{◌≡◌, IsTrue, false, arith, rules, sym, ◌∙◌, ap}
+use Rattle.std.proofs.Common.{◌≡◌, IsTrue, false, arith, rules, sym, ◌∙◌, ap, subst}
 use Rattle.std.proofs.lemmas.Bool.{both_ways, true_from_ne_false}
 use Rattle.sqlite.specs.Effect.{Database}
 use Rattle.sqlite.specs.Held.{state}
@@ -41,3 +41,24 @@ returns-in-Err-clause-kept g c = λ clear stands.
     let was_open : IsTrue (state g.S.Store c.args.conn).is_open = (undone.kept late).was_open is_open in
     let auto : IsTrue c.is_autocommit.result = search rules in
     c.in-Err.ensures.rows clear stands ∙ (undone.undone is_open).0 ∙ sym (ap (λ (d : Database). d.trees) (c.is_autocommit.ensures.settled auto was_open))
+
+pub returns-in-Ok-clause-found : goal.returns-in-Ok-clause-found
+returns-in-Ok-clause-found g c = λ clear db may.
+    let conn = state g.S.Store c.args.conn in
+    let store = c.into_store-store.result in
+    let v = g.S.Store.view store in
+    let late : IsClean v = omega (arith, c.in-Ok.ensures.clean, clear) in
+    let whole : v.is_broken ≡ false = sym (c.is_broken.ensures late) ∙ c.if-is_broken.false in
+    let is_open : IsTrue v.is_open = true_from_ne_false _ (λ shut. both_ways _ whole (g.met.S.Store.broken_if_shut store shut)) in
+    let undone = c.into_store-store.ensures.undone in
+    let was_open : IsTrue conn.is_open = (undone.kept late).was_open is_open in
+    let opens = (c.in-Ok.ensures.opens clear).0 in
+    let last = g.met.S.Store.settled c.in-Ok.conn.store db opens.is_open may in
+    let is : db ≡ conn.committed.trees = last ∙ sym (ap (λ (d : Database). d.trees) opens.clean) ∙ c.in-Ok.ensures.trees clear ∙ (undone.undone is_open).0 in
+    subst conn.may_leave (sym is) (g.met.S.Store.stays c.args.conn.store was_open)
+
+pub returns-in-Err-clause-crash : goal.returns-in-Err-clause-crash
+returns-in-Err-clause-crash g c = λ clear db may. c.into_store-store.ensures.quiet.outcomes db (c.in-Err.ensures.unharmed.outcomes db may)
+
+pub returns-then-is_broken-clause-crash : goal.returns-then-is_broken-clause-crash
+returns-then-is_broken-clause-crash g c = λ clear db may. c.into_store-store.ensures.quiet.outcomes db may

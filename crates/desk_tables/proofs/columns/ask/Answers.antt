@@ -12,7 +12,7 @@ returns-in-Err-SqlInputError-clause-asked g c =
     let auto : IsTrue c.is_autocommit.result = search rules in
     let is : c.prepare-prepared.result ≡ Err (SqlInputError c.in-Err-SqlInputError.field-0-0) = search rules in
     record {
-      clean = c.prepare-prepared.ensures.survives.clean;
+      crash = c.prepare-prepared.ensures.survives;
       same = λ clean is_open. stays_prepared old new c.args.sql.now c.prepare-prepared.result _ (c.prepare-prepared.ensures.ok clean) (c.prepare-prepared.ensures.err clean) (c.is_autocommit.ensures.settled auto) is_open;
       stand = λ _. tt;
       missed = λ clean no. unread_if old new c.args.sql.now c.prepare-prepared.result c.in-Err-SqlInputError.field-0-0 is (c.prepare-prepared.ensures.err clean);
@@ -25,7 +25,7 @@ returns-in_err-prepared-clause-asked g c =
     let auto : IsTrue c.is_autocommit.result = search rules in
     let p = err_from_is_err_and c.from_residual.result c.from_residual.ensures.1 in
     rw (p.1, p.2) (record {
-      clean = c.prepare-prepared.ensures.survives.clean;
+      crash = c.prepare-prepared.ensures.survives;
       same = λ clean is_open. stays_prepared old new c.args.sql.now c.prepare-prepared.result _ (c.prepare-prepared.ensures.ok clean) (c.prepare-prepared.ensures.err clean) (c.is_autocommit.ensures.settled auto) is_open;
       stand = λ _. tt;
       missed = λ clean no. absurd (not_missing _ no);
@@ -38,7 +38,7 @@ returns-clause-asked g c =
     let auto : IsTrue c.is_autocommit.result = search rules in
     let is : is_ok c.prepare-prepared.result ≡ true = search rules in
     record {
-      clean = c.prepare-prepared.ensures.survives.clean;
+      crash = c.prepare-prepared.ensures.survives;
       same = λ clean is_open. stays_prepared old new c.args.sql.now c.prepare-prepared.result _ (c.prepare-prepared.ensures.ok clean) (c.prepare-prepared.ensures.err clean) (c.is_autocommit.ensures.settled auto) is_open;
       stand = λ clean. stood old new c.args.sql.now c.prepare-prepared.result is (c.prepare-prepared.ensures.ok clean) (c.prepare-prepared.ensures.shape clean);
       missed = λ clean no. absurd cc;

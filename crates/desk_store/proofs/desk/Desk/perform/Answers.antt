@@ -6,7 +6,7 @@ use Rattle.sqlite.specs.Steps.{FailsToCommit}
 use Rattle.meeting_core.specs.Step.{decided, stepped}
 use Rattle.desk_words.specs.declared.office.OfficeLists.{OfficeLists}
 use Rattle.desk_records.specs.Standing.{Stands}
-use Rattle.desk_store.proofs.JoinLemmas.{IsWithin, as_it_was, committed, leaves_failed, not_committed, survives_call}
+use Rattle.desk_store.proofs.JoinLemmas.{IsOver, IsWithin, as_it_was, committed, itself_after, leaves_failed, not_committed, survives_call}
 use Rattle.desk_store.proofs.KeepingLemmas.{stands_same}
 use Rattle.desk_store.proofs.ReadLemmas.{error_of, mapped_failed, mapped_is, mapped_on}
 use Rattle.desk_store.proofs.desk.Desk.perform.Goals as goal
@@ -90,3 +90,8 @@ returns-clause-still g c = λ clean office stands none.
     let same = mapped_on {W = IsUnchanged first mid} _ c.step.result c.map_err.result c.in_ok-shown.shown c.map_err.ensures.cases c.in_ok-shown.was (c.step.ensures.still early office there none) in
     let over = mapped_on {W = IsTrue mid.in_transaction × Shows mid end mid.now mid.now false × KeepsCounts mid end × (end.marks ≡ [])} _ c.commit.result c.map_err-2.result c.in_ok-map_err.field-0 c.map_err-2.ensures.cases c.in_ok-map_err.was (c.commit.ensures.ok clean) in
     as_it_was g.S.Store c.args.self.now c.transaction-tx.result.conn.now c.step.new.tx.conn.now c.commit.new.self.0 begun within c.commit.ensures.ended c.commit.ensures.survives settled same over.1 over.2
+
+pub returns-clause-settled : goal.returns-clause-settled
+returns-clause-settled g c = λ clean.
+    let over = mapped_on {W = IsOver (state g.S.Store c.step.new.tx.conn.now) (state g.S.Store c.commit.new.self.0)} _ c.commit.result c.map_err-2.result c.in_ok-map_err.field-0 c.map_err-2.ensures.cases c.in_ok-map_err.was (c.commit.ensures.ok clean) in
+    itself_after g.S.Store c.step.new.tx.conn.now c.commit.new.self.0 g.met.S.Store.settled g.met.S.Store.stays over

@@ -4,8 +4,9 @@ use Rattle.sqlite.specs.State.{HasCleanDisk, IsUnchanged, KeepsCounts, Shows}
 use Rattle.sqlite.specs.Steps.{FailsToCommit}
 use Rattle.desk_words.specs.declared.office.OfficeLists.{OfficeLists}
 use Rattle.desk_records.specs.Standing.{Stands}
+use Rattle.desk_schema.specs.Statements.{IsDesk}
 use Rattle.desk_store.specs.Reads.{IsPublic}
-use Rattle.desk_store.proofs.JoinLemmas.{committed, not_committed, told_within}
+use Rattle.desk_store.proofs.JoinLemmas.{IsOver, committed, itself_after, not_committed, survives_read, told_within}
 use Rattle.desk_store.proofs.KeepingLemmas.{stands_same}
 use Rattle.desk_store.proofs.ReadLemmas.{error_of, mapped_failed, mapped_is, mapped_on}
 use Rattle.desk_store.proofs.desk.Desk.read_public.Goals as goal
@@ -45,3 +46,32 @@ returns-in_err-map_err-clause-leaves g c =
     let failed = mapped_failed _ c.commit.result c.map_err-2.result c.map_err-2.ensures.cases c.in_err-map_err.was in
     not_committed g.S.Store c.args.self.now c.transaction-tx.result.conn.now c.read_record.new.tx.conn.now c.commit.new.self.0 begun within c.commit.ensures.ended c.commit.ensures.survives
     (λ clean. error_of (FailsToCommit mid end) c.commit.result failed (c.commit.ensures.err clean)) settled (λ clean office stands. (same clean office stands).0.mode ∙ began)
+
+pub returns-clause-crash : goal.returns-clause-crash
+returns-clause-crash g c =
+    let old = state g.S.Store c.args.self.now in
+    let first = state g.S.Store c.transaction-tx.result.conn.now in
+    let mid = state g.S.Store c.read_record.new.tx.conn.now in
+    let begun : c.transaction-tx.result.conn.now ≡ record c.args.self.now { in_transaction = true } = search rules in
+    let within = told_within g.S.Store c.transaction-tx.result.conn.now c.read_record.new.tx.conn.now c.read_record.result (IsPublic c.args.meeting) c.read_record.ensures.tells in
+    let settled : IsTrue old.is_open → old.now ≡ old.committed = search rules in
+    let same : IsDesk first → HasCleanDisk mid → IsUnchanged first mid = λ desk clean.
+    mapped_on {W = IsUnchanged first mid} _ c.read_record.result c.map_err.result c.in_ok-kept.kept c.map_err.ensures.cases c.in_ok-kept.was (c.read_record.ensures.tells.same (clean, desk)) in
+    survives_read g.S.Store c.args.self.now c.transaction-tx.result.conn.now c.read_record.new.tx.conn.now c.commit.new.self.0 begun within c.commit.ensures.ended c.commit.ensures.survives g.met.S.Store.stays settled same
+
+pub returns-in_err-map_err-clause-crash : goal.returns-in_err-map_err-clause-crash
+returns-in_err-map_err-clause-crash g c =
+    let old = state g.S.Store c.args.self.now in
+    let first = state g.S.Store c.transaction-tx.result.conn.now in
+    let mid = state g.S.Store c.read_record.new.tx.conn.now in
+    let begun : c.transaction-tx.result.conn.now ≡ record c.args.self.now { in_transaction = true } = search rules in
+    let within = told_within g.S.Store c.transaction-tx.result.conn.now c.read_record.new.tx.conn.now c.read_record.result (IsPublic c.args.meeting) c.read_record.ensures.tells in
+    let settled : IsTrue old.is_open → old.now ≡ old.committed = search rules in
+    let same : IsDesk first → HasCleanDisk mid → IsUnchanged first mid = λ desk clean.
+    mapped_on {W = IsUnchanged first mid} _ c.read_record.result c.map_err.result c.in_ok-kept.kept c.map_err.ensures.cases c.in_ok-kept.was (c.read_record.ensures.tells.same (clean, desk)) in
+    survives_read g.S.Store c.args.self.now c.transaction-tx.result.conn.now c.read_record.new.tx.conn.now c.commit.new.self.0 begun within c.commit.ensures.ended c.commit.ensures.survives g.met.S.Store.stays settled same
+
+pub returns-clause-settled : goal.returns-clause-settled
+returns-clause-settled g c = λ clean.
+    let over = mapped_on {W = IsOver (state g.S.Store c.read_record.new.tx.conn.now) (state g.S.Store c.commit.new.self.0)} _ c.commit.result c.map_err-2.result c.in_ok-map_err.field-0 c.map_err-2.ensures.cases c.in_ok-map_err.was (c.commit.ensures.ok clean) in
+    itself_after g.S.Store c.read_record.new.tx.conn.now c.commit.new.self.0 g.met.S.Store.settled g.met.S.Store.stays over
