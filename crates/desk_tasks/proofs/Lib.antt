@@ -1,3 +1,4 @@
 pub mod AskingLemmas
 pub mod DeskLemmas
 pub mod LoadLemmas
+pub mod PrintLemmas

@@ -10,7 +10,7 @@ use Rattle.desk_files.specs.declared.fault.FileFault.{FileFault}
 use Rattle.desk_files.specs.declared.fault.FileFault.TheVariants as file
 use Rattle.desk_endings.specs.Endings.{Ending}
 use Rattle.desk_records.specs.Standing.{Stands}
-use Rattle.desk_tasks.specs.Loading.{Follows, Loads, ended_asking, office_asked}
+use Rattle.desk_tasks.specs.Loading.{Follows, Loads}
 use Rattle.desk_tasks.specs.Reading.{Reader, asked_by}
 
 module _ {X : Type 0} (spelled_by : List ℕ → Result X FileFault) (asking : X → Request) (limit : ℕ)
@@ -28,41 +28,31 @@ module _ {X : Type 0} (spelled_by : List ℕ → Result X FileFault) (asking : X
 
   asked : (read : Result X FileFault) (bytes : List ℕ)
       → HaveCome bytes before.rest before.passed after.passed → spelled_by bytes ≡ read → IsWhole
-      → end ≡ ended_asking office now (asked_by asking read)
-      → Stands tables (office_asked office now (asked_by asking read))
+      → Follows office now (asked_by asking read) end tables
       → Loads spelled_by asking limit before after office now end tables
-  asked read bytes came spelled whole ended stands =
+  asked read bytes came spelled whole after_it =
       inl (record {
         bytes = bytes;
         came = came;
         whole = whole;
-        ended = subst (λ r. end ≡ ended_asking office now (asked_by asking r)) (sym spelled) ended;
-        stands = subst (λ r. Stands tables (office_asked office now (asked_by asking r))) (sym spelled) stands;
+        follows = subst (λ r. Follows office now (asked_by asking r) end tables) (sym spelled) after_it;
       })
-
-  answered : (read : Result X FileFault) → IfJudged read (IsSpelled read) → IfJudged read IsWhole
-      → IfErr read
-      (λ f. HasCause f limit before.passed after.passed before.failures after.failures)
-      → end ≡ ended_asking office now (asked_by asking read)
-      → Stands tables (office_asked office now (asked_by asking read))
-      → Loads spelled_by asking limit before after office now end tables
-  answered (Ok rows) spelled whole cause ended stands =
-      asked (Ok rows) spelled.0 spelled.1 spelled.2 whole ended stands
-  answered (Err (file.BadRow line why)) spelled whole cause ended stands =
-      asked (Err (file.BadRow line why)) spelled.0 spelled.1 spelled.2 whole ended stands
-  answered (Err (file.Twice line)) spelled whole cause ended stands =
-      asked (Err (file.Twice line)) spelled.0 spelled.1 spelled.2 whole ended stands
-  answered (Err file.ReadFault) spelled whole cause ended stands = inr (inr (inr (ended, cause)))
-  answered (Err file.Memory) spelled whole cause ended stands = inr (inr (inl ended))
 
   follows : (read : Result X FileFault) → IfJudged read (IsSpelled read) → IfJudged read IsWhole
       → IfErr read
       (λ f. HasCause f limit before.passed after.passed before.failures after.failures)
       → Follows office now (asked_by asking read) end tables
       → Loads spelled_by asking limit before after office now end tables
-  follows read spelled whole cause (inl both) = answered read spelled whole cause both.0 both.1
-  follows read spelled whole cause (inr (inl store)) = inr (inl store)
-  follows read spelled whole cause (inr (inr memory)) = inr (inr (inl memory))
+  follows (Ok rows) spelled whole cause after_it =
+      asked (Ok rows) spelled.0 spelled.1 spelled.2 whole after_it
+  follows (Err (file.BadRow line why)) spelled whole cause after_it =
+      asked (Err (file.BadRow line why)) spelled.0 spelled.1 spelled.2 whole after_it
+  follows (Err (file.Twice line)) spelled whole cause after_it =
+      asked (Err (file.Twice line)) spelled.0 spelled.1 spelled.2 whole after_it
+  follows (Err file.ReadFault) spelled whole cause after_it =
+      inr (record { why = file.ReadFault; of_reading = tt; cause = cause; ended = after_it.0; stands = after_it.1 })
+  follows (Err file.Memory) spelled whole cause after_it =
+      inr (record { why = file.Memory; of_reading = tt; cause = cause; ended = after_it.0; stands = after_it.1 })
 
   -- the request was made of what was read
   pub loads : (read : Result X FileFault) (file : Result Request FileFault)

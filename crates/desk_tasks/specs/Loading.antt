@@ -11,9 +11,8 @@ use Rattle.desk_words.specs.declared.reply.Reply.TheVariants as reply
 use Rattle.desk_words.specs.declared.request.Call.{Call}
 use Rattle.desk_words.specs.declared.request.Request.{Request}
 use Rattle.meeting_core.specs.Step.{decided, stepped}
-use Rattle.desk_files.specs.Whole.{HaveCome, IsReadWhole, HasCause}
+use Rattle.desk_files.specs.Whole.{HaveCome, IsReadWhole, HasCause, IsOfReading}
 use Rattle.desk_files.specs.declared.fault.FileFault.{FileFault}
-use Rattle.desk_files.specs.declared.fault.FileFault.TheVariants.{ReadFault}
 use Rattle.desk_endings.specs.Endings.{Ending, done, ending, ended_by, ended_by_refusal, ended_by_file}
 use Rattle.desk_endings.specs.declared.ended.Fault.TheVariants as fault
 use Rattle.desk_records.specs.Standing.{Stands}
@@ -36,16 +35,6 @@ abbrev pub ended_by_failure : Failure → Ending
 ended_by_failure failure.Store = ended_by fault.Store
 ended_by_failure failure.Memory = ended_by fault.Memory
 
--- how it ends in an office, at a moment, by what a file asks: by the file's fault, or by the reply
-abbrev pub ended_asking : OfficeLists → Moment → Result Request FileFault → Ending
-ended_asking office now (Err fault) = ended_by_file fault
-ended_asking office now (Ok request) = ended_by_reply (decided office (by_office now request)).reply
-
--- the office then: after that one request, or as it was
-abbrev pub office_asked : OfficeLists → Moment → Result Request FileFault → OfficeLists
-office_asked office now (Err fault) = office
-office_asked office now (Ok request) = stepped office (by_office now request)
-
 -- the call was answered, and the tables are the office after it; or the store failed, or memory ran
 -- out
 abbrev pub Answers : OfficeLists → Call → Ending → State → Type 0
@@ -53,15 +42,13 @@ Answers office call end tables =
     ((end ≡ ended_by_reply (decided office call).reply) × Stands tables (stepped office call))
     ⊎ ((end ≡ ended_by fault.Store) ⊎ (end ≡ ended_by fault.Memory))
 
--- what a file asks was answered so, or its fault told, and the tables are the office then; or the
--- store failed, or memory ran out
+-- what a file asks was answered so; or its fault was told, and the tables are the office as it was
 abbrev pub Follows : OfficeLists → Moment → Result Request FileFault → Ending → State → Type 0
-Follows office now file end tables =
-    ((end ≡ ended_asking office now file) × Stands tables (office_asked office now file))
-    ⊎ ((end ≡ ended_by fault.Store) ⊎ (end ≡ ended_by fault.Memory))
+Follows office now (Err fault) end tables = (end ≡ ended_by_file fault) × Stands tables office
+Follows office now (Ok request) end tables = Answers office (by_office now request) end tables
 
--- the whole file was read, the office asked for what it spells, and the program ended so: `bytes`
--- came, and spell that or have the first fault that is told
+-- the whole file was read: `bytes` came, and what they spell was asked of the office, or the first
+-- fault that they have was told
 pub record HasAsked {X : Type 0} (spelled_by : List ℕ → Result X FileFault) (asking : X → Request)
     (limit : ℕ) (before after : Reader) (held : OfficeLists) (now : Moment) (end : Ending)
     (tables : State) : Type 0 where
@@ -69,21 +56,21 @@ pub record HasAsked {X : Type 0} (spelled_by : List ℕ → Result X FileFault) 
   pub came : HaveCome bytes before.rest before.passed after.passed
   pub whole : IsReadWhole limit before.rest after.rest before.passed after.passed
       before.failures after.failures
-  pub ended : end ≡ ended_asking held now (asked_by asking (spelled_by bytes))
-  pub stands : Stands tables (office_asked held now (asked_by asking (spelled_by bytes)))
+  pub follows : Follows held now (asked_by asking (spelled_by bytes)) end tables
 
--- it stopped before: the store failed, memory ran out, or the file could not be read or had more
--- bytes than the limit
-abbrev pub HasStopped : ℕ → Reader → Reader → Ending → Type 0
-HasStopped limit before after end =
-    (end ≡ ended_by fault.Store)
-    ⊎ ((end ≡ ended_by fault.Memory)
-    ⊎ ((end ≡ ended_by fault.ReadFault)
-    × HasCause ReadFault limit before.passed after.passed before.failures after.failures))
+-- what the file spells was not found out: a read failed, or it had more bytes than the limit, or
+-- memory ran out; nothing was asked, and the tables are the office as it was
+pub record HasNotRead (limit : ℕ) (before after : Reader) (held : OfficeLists) (end : Ending)
+    (tables : State) : Type 0 where
+  pub why : FileFault
+  pub of_reading : IsOfReading why
+  pub cause : HasCause why limit before.passed after.passed before.failures after.failures
+  pub ended : end ≡ ended_by_file why
+  pub stands : Stands tables held
 
 -- it has done either
 abbrev pub Loads : {X : Type 0} → (List ℕ → Result X FileFault) → (X → Request) → ℕ
     → Reader → Reader → OfficeLists → Moment → Ending → State → Type 0
 Loads spelled_by asking limit before after held now end tables =
     HasAsked spelled_by asking limit before after held now end tables
-    ⊎ HasStopped limit before after end
+    ⊎ HasNotRead limit before after held end tables

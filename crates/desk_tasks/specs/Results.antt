@@ -8,6 +8,7 @@ use Rattle.desk_papers.specs.Results.{results_of}
 use Rattle.desk_terms.specs.declared.refusal.Refusal.TheVariants.{NoMeeting}
 use Rattle.desk_words.specs.declared.records.Meeting.{Meeting}
 use Rattle.desk_endings.specs.Endings.{Ending, done, ended_by, ended_by_refusal}
+use Rattle.desk_endings.specs.declared.ended.Fault.{Fault}
 use Rattle.desk_endings.specs.declared.ended.Fault.TheVariants as fault
 
 -- how a writer stands: the bytes that it holds, where they are known, and how many of its writes
@@ -34,13 +35,19 @@ pub record HasFailed (public : PublicRecord) (before after : Writer) (end : Endi
   pub written : AppendsPrefix before.contents after.contents (results_of public)
   pub failed : after.failures ≡ one_more before.failures
 
--- the store failed or memory ran out, before anything was written
-pub record HasNotBegun (before after : Writer) (end : Ending) : Type 0 where
-  pub ended : (end ≡ ended_by fault.Store) ⊎ (end ≡ ended_by fault.Memory)
+-- nothing was written, and the program ends by this fault
+pub record HasNotBegun (why : Fault) (before after : Writer) (end : Ending) : Type 0 where
+  pub ended : end ≡ ended_by why
   pub untouched : after ≡ before
 
--- one of the three
+-- what comes of the printing of a public record that is at hand: all of it, a part where a write
+-- failed, or nothing for want of memory
+abbrev pub PrintsRecord : PublicRecord → Writer → Writer → Ending → Type 0
+PrintsRecord public before after end =
+    HasPrinted public before after end
+    ⊎ (HasFailed public before after end ⊎ HasNotBegun fault.Memory before after end)
+
+-- of one that is read from the tables first, nothing comes also where the store failed
 abbrev pub Prints : PublicRecord → Writer → Writer → Ending → Type 0
 Prints public before after end =
-    HasPrinted public before after end
-    ⊎ (HasFailed public before after end ⊎ HasNotBegun before after end)
+    PrintsRecord public before after end ⊎ HasNotBegun fault.Store before after end

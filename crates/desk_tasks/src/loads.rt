@@ -82,8 +82,9 @@ fn load<S: Alter>(desk: &mut Desk<S>, now: Moment, file: Result<Request, FileFau
 /// office, and ends with status 0 and `loaded` or `same`.
 ///
 /// A fault of the file ends with 3 and its line and cause, and nothing is asked. `ReadFault` says
-/// that a read failed or that more bytes came than the file may have. `Store` and `Memory` end with
-/// 3 too. With any other status than 0 the tables are the office that they were.
+/// that a read failed or that more bytes came than the file may have. `Memory` ends with 3 too, and
+/// so does `Store`, only where the office was asked. With any other status than 0 the tables are
+/// the office that they were.
 pub fn keys<S: Alter, R: Source>(
     alloc: Global,
     desk: &mut Desk<S>,

@@ -7,7 +7,7 @@ ghost use Rattle.desk_devices.specs.Written.{AppendsPrefix};
 ghost use Rattle.desk_endings.specs.Endings.{ended_view};
 ghost use Rattle.desk_papers.specs.Results.{results_of};
 ghost use Rattle.desk_records.specs.Standing.{Stands};
-ghost use Rattle.desk_tasks.specs.Results.{Prints, Writer};
+ghost use Rattle.desk_tasks.specs.Results.{Prints, PrintsRecord, Writer};
 ghost use Rattle.desk_words.specs.declared.office.OfficeLists.{OfficeLists};
 ghost use Rattle.sqlite.specs.Held.{state};
 ghost use Rattle.sqlite.specs.State.{HasCleanDisk};
@@ -24,7 +24,7 @@ use std::alloc::Global;
 
 /// Prints what a public record shows, or refuses where it has no meeting.
 fn print<W: Sink>(alloc: Global, public: &PublicRecord<'_>, writer: &mut W) -> Ended
-    ensures { Prints public.now
+    ensures { PrintsRecord public.now
         (record { contents = W.contents writer.old; failures = W.failures writer.old })
         (record { contents = W.contents writer.new; failures = W.failures writer.new })
         (ended_view result) }
@@ -43,6 +43,7 @@ fn print<W: Sink>(alloc: Global, public: &PublicRecord<'_>, writer: &mut W) -> E
 ///
 /// `WriteFault` says that a write failed; what was written is then a part of the text from its
 /// front. After `Store` and `Memory` nothing was written. The tables stay as they are.
+#[tactic(auto, using(crate::proofs::PrintLemmas::not_begun))]
 pub fn results<S: Alter, W: Sink>(
     alloc: Global,
     desk: &mut Desk<S>,

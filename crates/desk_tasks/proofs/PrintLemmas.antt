@@ -1,0 +1,15 @@
+-- How the printing ends where the public record was not read.
+use Rattle.std.proofs.Common.{◌≡◌, inl, inr}
+use Rattle.caller_view.specs.Public.{PublicRecord}
+use Rattle.desk_endings.specs.Endings.{Ending}
+use Rattle.desk_tasks.specs.Loading.{ended_by_failure}
+use Rattle.desk_tasks.specs.Results.{Prints, Writer}
+use Rattle.desk_words.specs.declared.reply.Failure.{Failure}
+use Rattle.desk_words.specs.declared.reply.Failure.TheVariants.{Store, Memory}
+
+-- nothing was written
+pub not_begun : (failure : Failure) (public : PublicRecord) (before after : Writer) (end : Ending)
+    → end ≡ ended_by_failure failure → after ≡ before → Prints public before after end
+not_begun Store public before after end is same = inr (record { ended = is; untouched = same })
+not_begun Memory public before after end is same =
+    inl (inr (inr (record { ended = is; untouched = same })))
