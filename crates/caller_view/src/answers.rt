@@ -2,44 +2,37 @@
 ghost use Rattle.std.specs.Prelude.{◌≡◌, true, IfOk, IsOk, map};
 ghost use Rattle.desk_words.specs.Rulings.{refuses, settled};
 ghost use Rattle.caller_view.specs.Answers.{mine_of, party_ruling};
-ghost use Rattle.caller_view.specs.Appointments.{cutoff_in, given_use};
+ghost use Rattle.caller_view.specs.Appointments.{cutoff_in, given_use, use_by};
 
 use crate::appointments::{appoint, end, use_by};
 use crate::attendance::{attend, authorise, demand};
 use crate::casts::{cast, instructed};
-use crate::copies::copies_of;
 use crate::notices::notice_in;
 use crate::views::{OwnView, PublicRecord};
 use desk_words::{
-    Answer, Entry, Given, GivenUse, Listing, Meeting, Mine, Moment, PartyRequest, Received,
+    Answer, AppointmentUse, Entry, Given, GivenUse, Listing, Meeting, Mine, Moment, PartyRequest,
     Refusal, Reply, refuse, tell,
 };
 use proxy_rules::cutoffs;
 use std::alloc::{AllocError, Global};
 
-fn used(given: &Given, cutoff: Moment) -> Result<GivenUse, AllocError>
-    ensures { IfOk result (λ u. u ≡ given_use cutoff given.now) }
+/// What an appointment that a party gave counts for.
+fn use_of(given: &Given, cutoff: Moment) -> AppointmentUse
+    ensures { result ≡ use_by cutoff given.now.appointment.moment }
 {
-    Ok(GivenUse {
-        given: given.clone()?,
-        used: use_by(cutoff, given.appointment.moment),
-    })
+    use_by(cutoff, given.appointment.moment)
 }
 
-fn given_uses(alloc: Global, given: &[Given], cutoff: Moment) -> Result<Vec<GivenUse>, AllocError>
-    ensures { IfOk result (λ v. v.items ≡ map (given_use cutoff) given.now) }
+/// The appointments that a party gave, each with what it counts for.
+fn given_uses(alloc: Global, given: Vec<Given>, cutoff: Moment) -> Result<Vec<GivenUse>, AllocError>
+    ensures { IfOk result (λ v. v.items ≡ map (given_use cutoff) given.items) }
 {
-    let mut uses = Vec::new(alloc);
+    let mut uses = Vec::with_capacity(alloc, given.len())?;
     for one in given {
-        uses.push(used(one, cutoff)?)?;
+        let used = use_of(&one, cutoff);
+        uses.push(GivenUse { given: one, used })?;
     }
     Ok(uses)
-}
-
-fn copy_received(received: &Listing<Received>) -> Result<Listing<Received>, AllocError>
-    ensures { IfOk result (λ l. l ≡ received.now) }
-{
-    received.clone()
 }
 
 /// The last moment at which an appointment counts for the meeting.
@@ -54,42 +47,39 @@ fn mine(
     alloc: Global,
     public: &PublicRecord,
     meeting: &Meeting,
-    own: &OwnView,
+    own: OwnView,
     now: Moment,
 ) -> Result<Mine, AllocError>
-    ensures { IfOk result (λ m. m ≡ mine_of public.now meeting.now own.now now) }
+    ensures { IfOk result (λ m. m ≡ mine_of public.now meeting.now own now) }
 {
     let cutoff = cutoff_in(public, meeting, now);
-    let given = given_uses(alloc, own.given.as_slice(), cutoff)?;
-    let received = copy_received(&own.received)?;
-    let authorised = own.authorised.clone()?;
-    let copies = copies_of(&own.row, &own.persons, &own.demands, &own.casts)?;
+    let given = given_uses(alloc, own.given.into_vec(), cutoff)?;
     Ok(Mine {
         meeting: meeting.id,
-        row: copies.row,
+        row: own.row,
         given: Listing::from_vec(given),
-        persons: copies.persons,
-        received,
-        authorised,
+        persons: own.persons,
+        received: own.received,
+        authorised: own.authorised,
         present: own.present,
-        demands: copies.demands,
-        casts: copies.casts,
+        demands: own.demands,
+        casts: own.casts,
     })
 }
 
 /// The answer to a party: a function of what it may see, the moment and the request. It is refused
-/// as `NoMeeting` where there is no meeting, and else as its request is. The error is want of
-/// memory; a refusal takes none.
+/// as `NoMeeting` where there is no meeting, and else as its request is. The own things are taken,
+/// since the reply may be made of them. The error is want of memory; a refusal takes none.
 pub fn answer(
     alloc: Global,
     public: &PublicRecord,
-    own: &OwnView,
+    own: OwnView,
     now: Moment,
     asked: &PartyRequest,
 ) -> Result<Answer<Entry>, AllocError>
     ensures answer { IfOk result (λ a. a ≡ settled
-        (party_ruling public.now own.now now asked.now)) }
-    ensures sure { refuses (party_ruling public.now own.now now asked.now) ≡ true → IsOk result }
+        (party_ruling public.now own now asked.now)) }
+    ensures sure { refuses (party_ruling public.now own now asked.now) ≡ true → IsOk result }
 {
     let Some(meeting) = public.meeting else {
         return Ok(refuse(Refusal::NoMeeting));
@@ -97,14 +87,14 @@ pub fn answer(
     match asked {
         PartyRequest::Notice => { Ok(tell(Reply::Notice(notice_in(alloc, public, meeting, now)?))) }
         PartyRequest::Mine => { Ok(tell(Reply::Mine(mine(alloc, public, meeting, own, now)?))) }
-        PartyRequest::Appoint(new) => appoint(public, meeting, own, now, new),
-        PartyRequest::End(number) => Ok(end(own, now, *number)),
-        PartyRequest::Authorise(person) => Ok(authorise(own, now, *person)),
-        PartyRequest::Attend => Ok(attend(own, now)),
-        PartyRequest::Demand(resolution) => Ok(demand(public, meeting, own, now, *resolution)),
-        PartyRequest::Cast(new) => Ok(cast(public, meeting, own, now, new)),
+        PartyRequest::Appoint(new) => appoint(public, meeting, &own, now, new),
+        PartyRequest::End(number) => Ok(end(&own, now, *number)),
+        PartyRequest::Authorise(person) => Ok(authorise(&own, now, *person)),
+        PartyRequest::Attend => Ok(attend(&own, now)),
+        PartyRequest::Demand(resolution) => Ok(demand(public, meeting, &own, now, *resolution)),
+        PartyRequest::Cast(new) => Ok(cast(public, meeting, &own, now, new)),
         PartyRequest::Instructed(resolution) => {
-            Ok(instructed(public, meeting, own, now, *resolution))
+            Ok(instructed(public, meeting, &own, now, *resolution))
         }
     }
 }

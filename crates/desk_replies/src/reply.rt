@@ -15,6 +15,17 @@ use std::alloc::{AllocError, Global};
 // What the text of a short reply has room in, so that its buffer grows for no token.
 const SHORT_TEXT: usize = 128;
 
+// What the text of most notices and own things has room in.
+const LONG_TEXT: usize = 1_024;
+
+/// The room in which the text of a reply is begun.
+fn room_for(reply: &Reply) -> usize {
+    match reply {
+        Reply::Notice(_) | Reply::Mine(_) => LONG_TEXT,
+        _ => SHORT_TEXT,
+    }
+}
+
 fn write_ok(out: &mut Writer, word: &str) -> Result<(), AllocError>
     ensures { OnOk result (WritesValue (ok_data word.now) out.old out.new) }
 {
@@ -70,7 +81,7 @@ pub fn reply_text(alloc: Global, reply: &Reply) -> Result<Vec<u8>, AllocError>
     ensures text { IfOk result (λ text. text.items ≡ reply_bytes reply.now) }
     ensures reads_back { IfOk result (λ text. read text.items ≡ Some (reply_data reply.now)) }
 {
-    let mut out = Writer::new(Vec::with_capacity(alloc, SHORT_TEXT)?);
+    let mut out = Writer::new(Vec::with_capacity(alloc, room_for(reply))?);
     write_reply(&mut out, reply)?;
     Ok(out.into_inner())
 }

@@ -55,7 +55,7 @@ fn answer_from(
         → a ≡ settled (party_ruling public.now (own_from all public.now now) now asked.now)) }
 {
     let own = own_for(alloc, rows, public, now, asked)?;
-    answer(alloc, public, &own, now, asked)
+    answer(alloc, public, own, now, asked)
 }
 
 /// What is decided of what a party asks in a meeting, from the public record and those of its rows

@@ -119,7 +119,7 @@ impl Book {
         let public = public_in(&self.closed, found);
         let rows = rows_read(self.alloc, found, party, asked)?;
         let own = own_for(self.alloc, &rows, &public, now, asked)?;
-        answer(self.alloc, &public, &own, now, asked)
+        answer(self.alloc, &public, own, now, asked)
     }
 
     /// The answer to what the office asks in a meeting.
