@@ -2,14 +2,17 @@
 ghost use Rattle.std.specs.Prelude.{◌≡◌, false, IfErr, IfOk};
 ghost use Rattle.desk_disk.specs.Disks.{EndsCreating, EndsOpening, tables_of};
 ghost use Rattle.desk_endings.specs.Endings.{ended_view};
+ghost use Rattle.desk_opening.specs.Rising.{RowsRise};
 ghost use Rattle.desk_records.specs.Standing.{Stands};
 ghost use Rattle.desk_schema.specs.Tables.{desk_schema};
 ghost use Rattle.desk_words.specs.declared.office.OfficeLists.{OfficeLists};
+ghost use Rattle.sqlite.specs.Files.{file_state};
 ghost use Rattle.sqlite.specs.State.{HasCleanDisk};
 
 use crate::file::{is_blank, make_file};
 use desk_endings::{Ended, Fault};
-use desk_store::{Desk, HandedBack};
+use desk_opening::laws::found_rows_rise;
+use desk_store::Desk;
 use desk_tasks::{by_file_error, init, open};
 use sqlite::{Connection, Error, ErrorCode, FileFrom, FileStore, Leftover, Wary};
 use std::fs;
@@ -39,8 +42,14 @@ type Left = Option<Leftover<FileFrom<Wary>>>;
 /// Opens a file as a database. It is made where it is not there.
 fn connect(rt: &HostRuntime, file: &str) -> Result<Connection<DeskFile>, (Error, Left)>
     ensures ended { IfOk result (λ conn. conn.in_transaction ≡ false) }
+    ensures rising { IfOk result (λ conn. HasCleanDisk (file_state conn)
+        → RowsRise (file_state conn)) }
 {
-    Connection::open_from(rt, file, false, Wary)
+    found_rows_rise();
+    match Connection::open_from(rt, file, false, Wary) {
+        Ok(conn) => Ok(conn),
+        Err(refused) => Err(refused),
+    }
 }
 
 /// Makes a new desk in a file, and ends with status 0 and `created`. The file is made where it is
@@ -83,7 +92,7 @@ fn by_refusal(error: Error, left: Left) -> Ended
 }
 
 /// How the program ends where what was opened is handed back, which is dropped.
-fn ended_of(refused: (Ended, HandedBack<DeskFile>)) -> Ended
+fn ended_of(refused: (Ended, Connection<DeskFile>)) -> Ended
     ensures { result ≡ refused.0 }
 {
     let (ended, _) = refused;

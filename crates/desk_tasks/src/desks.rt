@@ -1,7 +1,7 @@
 //! The making and the opening of a desk.
 ghost use Rattle.std.specs.Prelude.{◌≡◌, ◌≢◌, false, IfErr, IfOk, IsTrue};
 ghost use Rattle.desk_endings.specs.Endings.{ended_by, ended_view};
-ghost use Rattle.desk_opening.specs.Opening.{HandsBack, IsInNone};
+ghost use Rattle.desk_opening.specs.Rising.{RowsRise};
 ghost use Rattle.desk_records.specs.Standing.{IsVersionOne, Stands};
 ghost use Rattle.desk_schema.specs.Tables.{desk_schema};
 ghost use Rattle.desk_tables.specs.Columns.{HasColumns};
@@ -12,7 +12,7 @@ ghost use Rattle.sqlite.specs.Held.{state};
 ghost use Rattle.sqlite.specs.State.{HasCleanDisk};
 
 use desk_endings::{Ended, Fault};
-use desk_store::{CreateFault, Desk, HandedBack, OpenFault};
+use desk_store::{CreateFault, Desk, OpenFault};
 use sqlite::{Alter, Connection, Error, ErrorCode};
 use std::alloc::Global;
 
@@ -56,12 +56,15 @@ fn by_open(fault: OpenFault) -> Ended
     })
 }
 
-/// Opens the desk that a database holds. Where it holds none, this is how the program ends, with
-/// status 3 and the fault, and what was opened is handed back, its tables as they were.
+/// Opens the desk that a database holds, which was just opened itself, so that the numbers of the
+/// rows of each table are known to rise. Where it holds none, this is how the program ends, with
+/// status 3 and the fault, and the connection is handed back, its tables as they were.
 pub fn open<S: Alter + Drop>(
     alloc: Global,
     conn: Connection<S>,
-) -> Result<Desk<S>, (Ended, HandedBack<S>)>
+) -> Result<Desk<S>, (Ended, Connection<S>)>
+    requires none { conn.in_transaction ≡ false }
+    requires rising { HasCleanDisk (state S.Store conn) → RowsRise (state S.Store conn) }
     ensures stands { IfOk result (λ desk. HasCleanDisk (state S.Store desk)
         → (state S.Store desk).now.schema ≡ desk_schema
         → (office : OfficeLists) × Stands (state S.Store desk) office) }
@@ -74,12 +77,14 @@ pub fn open<S: Alter + Drop>(
     ensures columns { IfOk result (λ desk. HasCleanDisk (state S.Store desk)
         → HasColumns (state S.Store conn).now.schema) }
     ensures fault { IfErr result (λ e. IsUnopened S.Store conn (ended_view e.0) e.1) }
-    ensures kept { IfErr result (λ e. HandsBack S.Store (state S.Store conn).now.trees e.1) }
-    ensures ended { IfErr result (λ e. conn.in_transaction ≡ false → IsInNone e.1) }
+    ensures kept { IfErr result (λ e. HasCleanDisk (state S.Store e.1)
+        → IsTrue (state S.Store e.1).is_open
+        → (state S.Store e.1).now.trees ≡ (state S.Store conn).now.trees) }
+    ensures ended { IfErr result (λ e. e.1.in_transaction ≡ false) }
 {
-    match Desk::open(alloc, conn) {
+    match Desk::open_risen(alloc, conn) {
         Ok(desk) => Ok(desk),
-        Err((fault, back)) => Err((by_open(fault), back)),
+        Err((fault, conn)) => Err((by_open(fault), conn)),
     }
 }
 
