@@ -1,7 +1,7 @@
 -- What an office decides it can make, and what it decides of what a party asks.
-use Rattle.std.specs.Prelude.{◌≡◌, ℕ, Bool, List, length, Option, Some, option_map, is_some, IsTrue}
+use Rattle.std.specs.Prelude.{◌≡◌, ℕ, Bool, false, List, length, Option, Some, option_map, is_some, IsSomeAnd, IsTrue}
 use Rattle.desk_words.specs.Changes.{after, can_make}
-use Rattle.desk_words.specs.Office.{is_office}
+use Rattle.desk_words.specs.Office.{is_meeting, is_office}
 use Rattle.desk_words.specs.Finding.{meeting_named}
 use Rattle.desk_words.specs.Seen.{Day, MeetingName, Moment, Party}
 use Rattle.desk_words.specs.declared.caller.Caller.TheVariants as caller
@@ -18,7 +18,8 @@ use Rattle.caller_view.specs.Reads.{rows_read}
 use Rattle.caller_view.specs.Rows.{rows_in}
 use Rattle.caller_view.specs.Views.{meeting_at, public_of}
 use Rattle.caller_view.specs.declared.rows.OwnRows.{OwnRows}
-use Rattle.office_answers.specs.Reads.{days_read, lists_read}
+use Rattle.office_answers.specs.Reads.{days_read, lists_read, reads_register}
+use Rattle.office_checks.specs.InOrder.{in_order}
 use Rattle.meeting_core.specs.Step.{decided}
 
 -- the change that is decided in an office can be made there, where it leaves the lists of an office
@@ -63,6 +64,12 @@ pub record AreListsRead (office : OfficeLists) (meeting : MeetingName) (what : O
     (days : List Day) (found : Option MeetingLists) : Type 0 where
   pub closed : days ≡ days_read what office.closed
   pub lists : found ≡ option_map (lists_read what) (meeting_at office meeting)
+
+-- the request reads the register, and what was read are no meeting's lists, in whatever order the
+-- register is
+abbrev pub IsNoMeeting : OfficeRequest → Option MeetingLists → Type 0
+IsNoMeeting what found =
+    IsTrue (reads_register what) × IsSomeAnd found (λ m. is_meeting (in_order m) ≡ false)
 
 -- it is told whether a meeting of the office has that name, and how many meetings it has
 pub record AreMeetingsTold (office : OfficeLists) (meeting : MeetingName) (is_named : Bool)

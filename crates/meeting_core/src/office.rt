@@ -1,5 +1,5 @@
 //! What is decided of the office's calls, from what their answers read.
-ghost use Rattle.std.specs.Prelude.{◌≡◌, true, IfOk, IfSome, IsTrue, option_map};
+ghost use Rattle.std.specs.Prelude.{◌≡◌, true, false, Err, IfErr, IfOk, IfSome, IsTrue, None, Some, option_map};
 ghost use Rattle.desk_words.specs.Changes.{after_some};
 ghost use Rattle.desk_words.specs.Office.{is_meeting, is_office};
 ghost use Rattle.desk_words.specs.Seen.{Moment};
@@ -8,9 +8,10 @@ ghost use Rattle.desk_words.specs.declared.request.DeskRequest.TheVariants as de
 ghost use Rattle.office_answers.specs.Reads.{reads_register};
 ghost use Rattle.office_checks.specs.InOrder.{in_order};
 ghost use Rattle.meeting_core.specs.Checked.{in_order_for};
-ghost use Rattle.meeting_core.specs.Decisions.{AreListsRead, AreMeetingsTold};
+ghost use Rattle.meeting_core.specs.Decisions.{AreListsRead, AreMeetingsTold, IsNoMeeting};
 ghost use Rattle.meeting_core.specs.Decisions.{desk_call, office_call};
 ghost use Rattle.meeting_core.specs.Step.{decided};
+ghost use Rattle.meeting_core.specs.declared.book.lists.BookFault.TheVariants.{NoOffice};
 
 use crate::answers::in_meeting;
 use crate::book::BookFault;
@@ -34,15 +35,21 @@ fn reads_register(asked: &OfficeRequest) -> bool
     }
 }
 
+/// The lists of a meeting; where they are no meeting's, `NoOffice`.
+fn of_a_meeting(found: Option<MeetingLists>) -> Result<MeetingLists, BookFault>
+    ensures value { IfOk result (λ m. found ≡ Some m) }
+    ensures fault { IfErr result (λ e. (found ≡ None) × (e ≡ NoOffice)) }
+{
+    found.ok_or(BookFault::NoOffice)
+}
+
 /// The lists with the register in order, if they are those of a meeting.
 fn checked(alloc: Global, lists: MeetingLists) -> Result<MeetingLists, BookFault>
-    ensures { IfOk result (λ m. (is_meeting m ≡ true)
-        × (m ≡ in_order lists)) }
+    ensures value { IfOk result (λ m. (is_meeting m ≡ true) × (m ≡ in_order lists)) }
+    ensures no_office { result ≡ Err NoOffice → is_meeting (in_order lists) ≡ false }
 {
-    match meeting_of(alloc, lists)? {
-        Some(lists) => Ok(lists),
-        None => Err(BookFault::NoOffice),
-    }
+    let found = meeting_of(alloc, lists)?;
+    of_a_meeting(found)
 }
 
 /// What was read of a meeting, if it is that of a meeting where the answer reads the register.
@@ -54,6 +61,7 @@ fn checked_for(
     ensures right { IfOk result (λ found. IfSome found
         (λ m. reads_register asked.now ≡ true → is_meeting m ≡ true)) }
     ensures same { IfOk result (λ lists. lists ≡ option_map (in_order_for asked.now) found) }
+    ensures no_office { result ≡ Err NoOffice → IsNoMeeting asked.now found }
 {
     let Some(lists) = found else {
         return Ok(None);
@@ -66,8 +74,8 @@ fn checked_for(
 
 /// What is decided of what the office asks in a meeting, from those of the closed days and of the
 /// meeting's lists alone that the answer reads: it is so in every office of which these are read,
-/// and what it changes leaves the lists of an office. The fault is `NoOffice` where what was read
-/// with the register is no meeting's, and else want of memory.
+/// and what it changes leaves the lists of an office. The fault is `NoOffice` only where what was
+/// read with the register is no meeting's; `Memory`, which says nothing of it, is want of memory.
 pub fn decide_in_meeting(
     alloc: Global,
     meeting: MeetingId,
@@ -82,6 +90,7 @@ pub fn decide_in_meeting(
     ensures kept { IfOk result (λ a. (office : OfficeLists) → IsTrue (is_office office)
         → AreListsRead office meeting asked.now closed.now found
         → IsTrue (is_office (after_some office a.change))) }
+    ensures no_office { result ≡ Err NoOffice → IsNoMeeting asked.now found }
 {
     let lists = checked_for(alloc, found, asked)?;
     let answer = office_answer(alloc, closed, lists.as_ref(), now, asked)?;
