@@ -1,6 +1,7 @@
 -- Where the first line feed stands.
 use Rattle.std.proofs.Common.{◌≡◌, ℕ, zero, suc, ◌+◌, ◌<◌, ◌≤◌, Bool, true, false, not, cond, ltb, List, [], ◌∷◌, ◌++◌, Option, Some, None, MatchOption, length, take, drop, refl, ap, subst, sym, ◌∙◌, arith, ⊎_elim, length-append, length-drop, length-take}
 use Rattle.std.specs.List.{position}
+use Rattle.std.specs.Prelude.{nat_lt, slice_index}
 use Rattle.std.proofs.Math.Seq.{take-add, take-length}
 use Rattle.std.proofs.lemmas.List.{take-append-drop}
 use Rattle.std.proofs.lemmas.List.Sums.{count_by-le-length, prefix_len-le-length, sum_by-append, sum_by-cons}
@@ -8,6 +9,7 @@ use Rattle.std.proofs.lemmas.List.Folds.{prefix_len-append}
 use Rattle.std.proofs.lemmas.Bool.Decides.{nat_tests}
 use Rattle.std.proofs.lemmas.Bool.{cases_lt}
 use borrow.Author.Tests.{ltb-true, ltb-false}
+use Rattle.memchr.specs.Find.{IsFirstByte, is_byte}
 use Rattle.desk_lines.specs.Lines.{is_feed, feed_place, feeds_in}
 
 pub feed_place-le : (bytes : List ℕ) → feed_place bytes ≤ length bytes
@@ -77,6 +79,39 @@ found-behind searched bytes (Some place) h e =
       omega (arith, some.0, feed_place-drop searched bytes h),
       omega (arith, some.0, some.1, length-drop searched bytes),
     )
+
+-- bytes that are no line feed stand before the first
+feed_place-past : (n : ℕ) (bytes : List ℕ) → n ≤ length bytes → ((k : ℕ) → k < n → ¬ is_feed (slice_index bytes k) ≡ true) → n ≤ feed_place bytes
+feed_place-past zero bytes h none = omega arith
+feed_place-past (suc n) [] h none = absurd (omega (arith, h))
+feed_place-past (suc n) (x ∷ xs) h none =
+    past (is_feed x) n (feed_place xs) (none 0 (omega arith)) (feed_place-past n xs (omega (arith, h)) (λ k less. none (suc k) (omega (arith, less))))
+  where
+    past : (b : Bool) (n m : ℕ) → ¬ b ≡ true → n ≤ m → suc n ≤ cond (not b) (1 + m) 0
+    past true n m other up = absurd (other refl)
+    past false n m other up = omega (arith, up)
+
+-- a line feed stands no sooner than the first
+feed_place-upto : (k : ℕ) (bytes : List ℕ) → k < length bytes → is_feed (slice_index bytes k) ≡ true → feed_place bytes ≤ k
+feed_place-upto k [] h is = absurd (omega (arith, h))
+feed_place-upto zero (x ∷ xs) h is = let none : feed_place (x ∷ xs) ≡ 0 = ap (λ b. cond (not b) (1 + feed_place xs) 0) is in omega (arith, none)
+feed_place-upto (suc k) (x ∷ xs) h is = next (is_feed x) (feed_place xs) k (feed_place-upto k xs (omega (arith, h)) is)
+  where
+    next : (b : Bool) (m k : ℕ) → m ≤ k → cond (not b) (1 + m) 0 ≤ suc k
+    next true m k up = omega arith
+    next false m k up = omega (arith, up)
+
+-- the first place of a line feed is where one is found
+pub found-first : (bytes : List ℕ) (found : Option ℕ) → IsFirstByte (is_byte 10) bytes found → found ≡ position is_feed bytes
+found-first bytes None none =
+    let past = feed_place-past (length bytes) bytes (omega arith) (λ k less. none k (omega arith) less) in
+    let behind : nat_lt (feed_place bytes) (length bytes) ≡ false = grind (arith, nat_tests) in
+    sym (ap (λ b. cond b (Some (feed_place bytes)) None) behind)
+found-first bytes (Some k) is =
+    let low = feed_place-past k bytes (omega (arith, is.0.high)) (λ i less. is.0.before i (omega arith) less) in
+    let same : feed_place bytes ≡ k = omega (arith, low, feed_place-upto k bytes is.0.high is.1) in
+    let within : nat_lt (feed_place bytes) (length bytes) ≡ true = grind (arith, nat_tests, is.0.high) in
+    ap Some (sym same) ∙ sym (ap (λ b. cond b (Some (feed_place bytes)) None) within)
 
 -- ---- how many line feeds there are
 

@@ -2,6 +2,8 @@
 ghost use Rattle.std.specs.Prelude.{◌≡◌, ◌+◌, ◌<◌, ◌≤◌, length, take, position, MatchOption};
 ghost use Rattle.desk_lines.specs.Lines.{is_feed, feed_place, without_return};
 
+use memchr::memchr;
+
 /// The place of the first line feed. The bytes before `searched` are known to hold none.
 pub fn find_feed(bytes: &[u8], searched: usize) -> Option<usize>
     requires { searched ≤ feed_place bytes.now }
@@ -19,7 +21,7 @@ pub fn find_feed(bytes: &[u8], searched: usize) -> Option<usize>
 fn first_feed(bytes: &[u8]) -> Option<usize>
     ensures { result ≡ position is_feed bytes.now }
 {
-    bytes.iter().position(|byte| *byte == b'\n')
+    memchr(b'\n', bytes)
 }
 
 /// How many bytes there are, one carriage return at their end not counted.
