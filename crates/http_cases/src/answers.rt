@@ -18,13 +18,25 @@ struct Reads {
     failing: u64,
 }
 
-/// The first line of the reply to a refusal, and its body.
-fn refused_text(alloc: Global, refusal: Refusal) -> Result<String, AllocError> {
-    let reply = Reply::Refused(refusal);
+/// The JSON of a refusal.
+fn refusal_json(alloc: Global, refusal: Refusal) -> Result<Vec<u8>, AllocError> {
+    reply_text(alloc, &Reply::Refused(refusal))
+}
+
+/// The whole reply to a refusal.
+fn refusal_reply(alloc: Global, refusal: Refusal) -> Result<VecSink, AllocError> {
+    let status = status_of(&Reply::Refused(refusal));
+    let body = refusal_json(alloc, refusal)?;
     let mut sink = VecSink::new(alloc);
-    if write_reply(status_of(&reply), &reply_text(alloc, &reply)?, &mut sink).is_err() {
+    if write_reply(status, &body, &mut sink).is_err() {
         return Err(AllocError);
     }
+    Ok(sink)
+}
+
+/// The first line of the reply to a refusal, and its body.
+fn refused_text(alloc: Global, refusal: Refusal) -> Result<String, AllocError> {
+    let sink = refusal_reply(alloc, refusal)?;
     let text = String::from_utf8_lossy(alloc, sink.as_slice())?;
     let first = text.lines().next().unwrap_or("");
     let last = text.lines().last().unwrap_or("");
