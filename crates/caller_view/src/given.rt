@@ -25,26 +25,18 @@ fn moments_by_number(alloc: Global, ended: &[Ending]) -> Result<BTreeMap<u64, Mo
     Ok(moments)
 }
 
-fn copy_appointment(appointment: &Appointment) -> Result<Appointment, AllocError>
-    ensures { IfOk result (λ a. a ≡ appointment.now) }
-{
-    appointment.clone()
-}
-
 /// The appointments, each with its ending.
 fn given_with(
     alloc: Global,
-    given: &[Appointment],
+    given: Vec<Appointment>,
     moments: &BTreeMap<u64, Moment>,
-) -> Result<Listing<Given>, AllocError>
-    ensures { IfOk result (λ all. all ≡ map (given_kept moments.now) given.now) }
+) -> Result<Vec<Given>, AllocError>
+    ensures { IfOk result (λ all. all.items ≡ map (given_kept moments.now) given.items) }
 {
-    let mut all = Listing::new(alloc);
+    let mut all = Vec::with_capacity(alloc, given.len())?;
     for appointment in given {
-        all.push(Given {
-            appointment: copy_appointment(appointment)?,
-            ended: moments.get(&appointment.number).copied(),
-        })?;
+        let ended = moments.get(&appointment.number).copied();
+        all.push(Given { appointment, ended })?;
     }
     Ok(all)
 }
@@ -52,13 +44,14 @@ fn given_with(
 /// The appointments that a party gave, each with its ending.
 pub(crate) fn given_from(
     alloc: Global,
-    given: &[Appointment],
+    given: Listing<Appointment>,
     ended: &[Ending],
 ) -> Result<Listing<Given>, AllocError>
-    ensures { IfOk result (λ all. all ≡ map (given_in ended.now) given.now) }
+    ensures { IfOk result (λ all. all ≡ map (given_in ended.now) given) }
 {
     let moments = moments_by_number(alloc, ended)?;
-    given_with(alloc, given, &moments)
+    let all = given_with(alloc, given.into_vec(), &moments)?;
+    Ok(Listing::from_vec(all))
 }
 
 /// The shares of a row, 0 where it is no corporation's.

@@ -142,20 +142,20 @@ fn known(
     members: &Members,
     cutoffs: &Cutoffs,
     late: &[LatePoll],
-    appointment: &Appointment,
+    appointment: Appointment,
 ) -> Result<Received, AllocError>
     requires { AreByMember members.now.rows.now members.now.places.now }
     ensures { IfOk result
-        (λ known. known ≡ received_with members.now.rows.now cutoffs.now late.now appointment.now) }
+        (λ known. known ≡ received_with members.now.rows.now cutoffs.now late.now appointment) }
 {
     let (member, number) = (appointment.member, appointment.number);
     Ok(Received {
-        member,
-        range: appointment.range,
-        instructions: appointment.instructions.clone()?,
-        moment: appointment.moment,
         governs: members.governed_by(alloc, cutoffs, member, number)?,
         polls: members.polls_governed(alloc, late, member, number)?,
+        member,
+        range: appointment.range,
+        instructions: appointment.instructions,
+        moment: appointment.moment,
     })
 }
 
@@ -165,13 +165,13 @@ fn all_known(
     members: &Members,
     cutoffs: &Cutoffs,
     late: &[LatePoll],
-    received: &[Appointment],
-) -> Result<Listing<Received>, AllocError>
+    received: Vec<Appointment>,
+) -> Result<Vec<Received>, AllocError>
     requires { AreByMember members.now.rows.now members.now.places.now }
-    ensures { IfOk result (λ all. all
-        ≡ map (received_with members.now.rows.now cutoffs.now late.now) received.now) }
+    ensures { IfOk result (λ all. all.items
+        ≡ map (received_with members.now.rows.now cutoffs.now late.now) received.items) }
 {
-    let mut all = Listing::new(alloc);
+    let mut all = Vec::with_capacity(alloc, received.len())?;
     for appointment in received {
         all.push(known(alloc, members, cutoffs, late, appointment)?)?;
     }
@@ -183,7 +183,7 @@ fn all_known(
 /// there are none, nothing is worked out.
 pub(crate) fn received_from(
     alloc: Global,
-    received: &[Appointment],
+    received: Listing<Appointment>,
     members: &[MemberRows],
     closed: &Closed,
     meeting: &Meeting,
@@ -191,7 +191,7 @@ pub(crate) fn received_from(
     now: Moment,
 ) -> Result<Listing<Received>, AllocError>
     ensures { IfOk result (λ all. all
-        ≡ map (received_by members.now closed.now meeting.now polls.now now) received.now) }
+        ≡ map (received_by members.now closed.now meeting.now polls.now now) received) }
 {
     if received.is_empty() {
         return Ok(Listing::new(alloc));
@@ -203,5 +203,12 @@ pub(crate) fn received_from(
     };
     let late = late_polls(alloc, closed, polls)?;
     let cutoffs = cutoffs(meeting, None, closed, now);
-    all_known(alloc, &members, &cutoffs, late.as_slice(), received)
+    let all = all_known(
+        alloc,
+        &members,
+        &cutoffs,
+        late.as_slice(),
+        received.into_vec(),
+    )?;
+    Ok(Listing::from_vec(all))
 }

@@ -5,7 +5,6 @@ mod answers;
 mod appointments;
 mod attendance;
 mod casts;
-mod copies;
 mod given;
 mod governed;
 mod notices;

@@ -7,7 +7,6 @@ ghost use Rattle.caller_view.specs.Rows.{rows_of};
 ghost use Rattle.caller_view.specs.Views.{own_in, public_in};
 ghost use Rattle.caller_view.specs.declared.rows.OwnRows.{OwnRows};
 
-use crate::copies::copies_of;
 use crate::given::{authorised_from, given_from};
 use crate::governed::received_from;
 use crate::rows::OwnRows;
@@ -36,30 +35,40 @@ fn nothing_of(alloc: Global, party: Party) -> OwnView
 /// The own things of a party in a meeting, by the closed days and by these polls.
 fn own_by(
     alloc: Global,
-    rows: &OwnRows,
+    rows: OwnRows,
     closed: &Closed,
     meeting: &Meeting,
     polls: &[Poll],
     now: Moment,
 ) -> Result<OwnView, AllocError>
-    ensures { IfOk result (λ own. own ≡ own_by rows.now closed.now meeting.now polls.now now) }
+    ensures { IfOk result (λ own. own ≡ own_by rows closed.now meeting.now polls.now now) }
 {
-    let received = rows.received.as_slice();
-    let members = rows.members.as_slice();
-    let given = given_from(alloc, rows.given.as_slice(), rows.ended.as_slice())?;
-    let received = received_from(alloc, received, members, closed, meeting, polls, now)?;
-    let authorised = authorised_from(alloc, rows.authorised.as_slice())?;
-    let copies = copies_of(&rows.row, &rows.persons, &rows.demands, &rows.casts)?;
-    Ok(OwnView {
-        party: rows.party,
-        row: copies.row,
+    let OwnRows {
+        party,
+        row,
         given,
-        persons: copies.persons,
+        ended,
+        persons,
+        received,
+        members,
+        authorised,
+        present,
+        demands,
+        casts,
+    } = rows;
+    let members = members.as_slice();
+    let received = received_from(alloc, received, members, closed, meeting, polls, now)?;
+    let authorised = authorised_from(alloc, authorised.as_slice())?;
+    Ok(OwnView {
+        party,
+        row,
+        given: given_from(alloc, given, ended.as_slice())?,
+        persons,
         received,
         authorised: Listing::from_vec(authorised),
-        present: rows.present,
-        demands: copies.demands,
-        casts: copies.casts,
+        present,
+        demands,
+        casts,
     })
 }
 
@@ -67,17 +76,17 @@ fn own_by(
 /// meeting: by the closed days as they stand, and, where the record has no meeting, its own name
 /// alone. Of every meeting whose rows and public record it is given these are the party's own
 /// things there. Rows are taken as they are; an appointment of a holding such as no office keeps
-/// governs nothing. The error is want of memory.
+/// governs nothing. They are moved into the own things. The error is want of memory.
 pub fn own_from(
     alloc: Global,
-    rows: &OwnRows,
+    rows: OwnRows,
     public: &PublicRecord,
     now: Moment,
 ) -> Result<OwnView, AllocError>
-    ensures value { IfOk result (λ own. own ≡ own_from rows.now public.now now) }
-    ensures of_every_meeting { (m : MeetingLists) → rows.now ≡ rows_of m rows.now.party
+    ensures value { IfOk result (λ own. own ≡ own_from rows public.now now) }
+    ensures of_every_meeting { (m : MeetingLists) → rows ≡ rows_of m rows.party
         → public.now ≡ public_in (Some m) public.now.closed
-        → IfOk result (λ own. own ≡ own_in m public.now.closed rows.now.party now) }
+        → IfOk result (λ own. own ≡ own_in m public.now.closed rows.party now) }
 {
     match public.meeting {
         Some(meeting) => {
@@ -102,14 +111,14 @@ fn polls_on(alloc: Global, polls: &[Poll], resolution: u64) -> Result<Vec<Poll>,
 /// The own things, with what appointments govern for the poll on a resolution alone.
 fn own_on(
     alloc: Global,
-    rows: &OwnRows,
+    rows: OwnRows,
     public: &PublicRecord,
     meeting: &Meeting,
     now: Moment,
     resolution: u64,
 ) -> Result<OwnView, AllocError>
     ensures { IfOk result (λ own. own
-        ≡ own_by rows.now public.now.closed meeting.now
+        ≡ own_by rows public.now.closed meeting.now
         (polls_on resolution public.now.polls) now) }
 {
     let polls = polls_on(alloc, public.polls, resolution)?;
@@ -119,14 +128,14 @@ fn own_on(
 /// The own things of a party, by the polls for which the answer to a request reads them.
 fn own_asked(
     alloc: Global,
-    rows: &OwnRows,
+    rows: OwnRows,
     public: &PublicRecord,
     meeting: &Meeting,
     now: Moment,
     asked: &PartyRequest,
 ) -> Result<OwnView, AllocError>
     ensures { IfOk result (λ own. own
-        ≡ own_by rows.now public.now.closed meeting.now
+        ≡ own_by rows public.now.closed meeting.now
         (polls_read asked.now public.now.polls) now) }
 {
     match asked {
@@ -140,16 +149,16 @@ fn own_asked(
 }
 
 /// Those of the own things of a party at a moment that the answer to a request reads, and nothing
-/// in place of the others, from those of its rows that they are made of. The error is want of
-/// memory.
+/// in place of the others, from those of its rows that they are made of, which are moved into them.
+/// The error is want of memory.
 pub fn own_for(
     alloc: Global,
-    rows: &OwnRows,
+    rows: OwnRows,
     public: &PublicRecord,
     now: Moment,
     asked: &PartyRequest,
 ) -> Result<OwnView, AllocError>
-    ensures { IfOk result (λ own. (all : OwnRows) → rows.now ≡ rows_read asked.now all
+    ensures { IfOk result (λ own. (all : OwnRows) → rows ≡ rows_read asked.now all
         → own ≡ own_read asked.now (own_from all public.now now)) }
 {
     match public.meeting {

@@ -35,7 +35,7 @@ fn decide_for_party<S: Alter>(
 {
     let public = read_public(tx, alloc, meeting)?;
     let rows = read_asked(tx, alloc, meeting, party, asked)?;
-    let answer = decide_from_rows(alloc, meeting, &public.record(), &rows, now, asked)?;
+    let answer = decide_from_rows(alloc, meeting, &public.record(), rows, now, asked)?;
     Ok(answer)
 }
 

@@ -47,11 +47,11 @@ pub(crate) fn entering(meeting: MeetingId, answer: Answer<Entry>) -> Answer<Chan
 fn answer_from(
     alloc: Global,
     public: &PublicRecord,
-    rows: &OwnRows,
+    rows: OwnRows,
     now: Moment,
     asked: &PartyRequest,
 ) -> Result<Answer<Entry>, AllocError>
-    ensures { IfOk result (λ a. (all : OwnRows) → rows.now ≡ rows_read asked.now all
+    ensures { IfOk result (λ a. (all : OwnRows) → rows ≡ rows_read asked.now all
         → a ≡ settled (party_ruling public.now (own_from all public.now now) now asked.now)) }
 {
     let own = own_for(alloc, rows, public, now, asked)?;
@@ -65,15 +65,15 @@ pub fn decide_from_rows(
     alloc: Global,
     meeting: MeetingId,
     public: &PublicRecord,
-    rows: &OwnRows,
+    rows: OwnRows,
     now: Moment,
     asked: &PartyRequest,
 ) -> Result<Answer<Change>, AllocError>
     ensures decided { IfOk result (λ a. (office : OfficeLists) (party : Party)
-        → AreRead office party meeting asked.now public.now rows.now
+        → AreRead office party meeting asked.now public.now rows
         → a ≡ decided office (party_call party meeting now asked.now)) }
     ensures kept { IfOk result (λ a. (office : OfficeLists) (party : Party)
-        → AreRead office party meeting asked.now public.now rows.now → IsTrue (is_office office)
+        → AreRead office party meeting asked.now public.now rows → IsTrue (is_office office)
         → IsTrue (is_office (after_some office a.change))) }
 {
     let answer = answer_from(alloc, public, rows, now, asked)?;

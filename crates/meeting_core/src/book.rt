@@ -100,7 +100,7 @@ impl Book {
         let found = find_meeting(&self.meetings, meeting);
         let public = public_in(&self.closed, found);
         let rows = rows_in(self.alloc, found, party)?;
-        own_from(self.alloc, &rows, &public, now)
+        own_from(self.alloc, rows, &public, now)
     }
 
     /// The answer to what a party asks in a meeting.
@@ -118,7 +118,7 @@ impl Book {
         let found = find_meeting(&self.meetings, meeting);
         let public = public_in(&self.closed, found);
         let rows = rows_read(self.alloc, found, party, asked)?;
-        let own = own_for(self.alloc, &rows, &public, now, asked)?;
+        let own = own_for(self.alloc, rows, &public, now, asked)?;
         answer(self.alloc, &public, own, now, asked)
     }
 

@@ -11,6 +11,7 @@ ghost use Rattle.proxy_rules.specs.Parties.{authorises, is_authority_of, is_cast
 ghost use Rattle.proxy_rules.specs.Shares.{row_of};
 
 use caller_view::AuthorityRows;
+use desk_words::limits::MOST_CASTS;
 use desk_words::{
     Authority, CastMark, DemandMark, Ending, Filed, Listing, MeetingLists, Party, PresenceMark,
     RegisterRow,
@@ -122,8 +123,9 @@ pub(crate) fn casts_on(
         ≡ cast_on resolution (filter (is_cast_by party) casts.now)) }
 {
     let all = casts.as_slice();
-    let mut found = Vec::new(alloc);
-    for place in casts.places_by_first(party) {
+    let places = casts.places_by_first(party);
+    let mut found = Vec::with_capacity(alloc, places.len().min(MOST_CASTS))?;
+    for place in places {
         let cast = &all[*place];
         if cast.resolution == resolution {
             found.push(*cast)?;

@@ -75,12 +75,12 @@ pub fn read_rows<S: Alter>(
 /// The own things that rows and a public record make. The fault is want of memory.
 fn own_made(
     alloc: Global,
-    rows: &OwnRows,
+    rows: OwnRows,
     public: &KeptRecord,
     now: Moment,
 ) -> Result<OwnView, ReadFault>
     ensures { MatchResult result
-        (λ made. made ≡ own.own_from rows.now public.now now) (λ fault. fault ≡ Memory) }
+        (λ made. made ≡ own.own_from rows public.now now) (λ fault. fault ≡ Memory) }
 {
     Ok(own_from(alloc, rows, &public.record(), now)?)
 }
@@ -100,5 +100,5 @@ pub fn read_own<S: Alter>(
 {
     let public = read_public(tx, alloc, meeting)?;
     let rows = read_rows(tx, alloc, meeting, party)?;
-    own_made(alloc, &rows, &public, now)
+    own_made(alloc, rows, &public, now)
 }

@@ -19,9 +19,9 @@ returns-in-Some c =
     let meeting = c.in-Some.meeting.now in
     let found = sym (ap option_copied c.in-Some.is) ∙ ap (λ (r : PublicRecord). r.meeting) c.public.view_is in
     let polls = polls_read asked public.polls in
-    let due = λ (all : OwnRows) (read : c.args.rows.now ≡ rows_read asked all).
+    let due = λ (all : OwnRows) (read : c.args.rows ≡ rows_read asked all).
     ap (λ (rows : OwnRows). own_by rows public.closed meeting polls now) read
     ∙ own-read asked all public.closed meeting public.polls now
     ∙ ap (λ (o : Option Meeting). own_read asked (option_map_or (λ meeting. own_by all public.closed meeting public.polls now) o (nothing_of all.party))) found in
-    IfOk-weaker c.own_asked.result (λ (own : OwnView). own ≡ own_by c.args.rows.now public.closed meeting polls now)
-    (λ (own : OwnView). (all : OwnRows) → c.args.rows.now ≡ rows_read asked all → own ≡ own_read asked (own_from all public now)) (λ own same all read. same ∙ due all read) c.own_asked.ensures
+    IfOk-weaker c.own_asked.result (λ (own : OwnView). own ≡ own_by c.args.rows public.closed meeting polls now)
+    (λ (own : OwnView). (all : OwnRows) → c.args.rows ≡ rows_read asked all → own ≡ own_read asked (own_from all public now)) (λ own same all read. same ∙ due all read) c.own_asked.ensures

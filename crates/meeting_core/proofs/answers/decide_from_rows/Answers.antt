@@ -26,7 +26,7 @@ use Rattle.meeting_core.proofs.answers.decide_from_rows.Goals as goal
 
 -- the answer from the views is what is decided in each office whose views they are
 is_decided : (c : goal.After-entering) (office : OfficeLists) (party : Party)
-    → AreRead office party c.args.meeting c.args.asked.now c.args.public.now c.args.rows.now
+    → AreRead office party c.args.meeting c.args.asked.now c.args.public.now c.args.rows
     → c.entering.result ≡ decided office (party_call party c.args.meeting c.args.now c.args.asked.now)
 is_decided c office party read =
     let meeting = c.args.meeting in

@@ -14,9 +14,9 @@ loop-place-preserved c = grind (arith, common_steps, filter-append, filter_map-a
 
 pub returns : goal.returns
 returns c =
-    let places = c.places_by_first-place-items.result.now in
+    let places = c.places_by_first-places.result.now in
     let on = filter (λ (x : CastMark). x.resolution == c.args.resolution) in
     c.loop-place.invariant
     ∙ ap (λ l. on (filter_map (slice_get c.as_slice-all.result.now) l)) (take_all _ places c.loop-place-test.false)
     ∙ ap (λ (all : List CastMark). on (filter_map (slice_get all) places)) c.as_slice-all.ensures
-    ∙ ap on (c.places_by_first-place-items.ensures.picked ∙ filter-named (λ (x : CastMark). x.voter) c.args.party c.args.casts.now)
+    ∙ ap on (c.places_by_first-places.ensures.picked ∙ filter-named (λ (x : CastMark). x.voter) c.args.party c.args.casts.now)
