@@ -1,5 +1,5 @@
 -- The meeting that is found in an office.
-use Rattle.std.proofs.Common.{◌≡◌, ℕ, List, true, Option, Some, None, refl}
+use Rattle.std.proofs.Common.{◌≡◌, ℕ, List, true, Some, None, refl}
 use Rattle.std.specs.Prelude.{IfSome}
 use Rattle.desk_words.specs.Finding.{meeting_named}
 use Rattle.desk_words.specs.Office.{is_office}

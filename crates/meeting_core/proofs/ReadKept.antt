@@ -5,11 +5,9 @@ use Rattle.std.specs.Cmp.Lexicographic.{nat_list_cmp_total}
 use Rattle.std.proofs.lemmas.List.Sorted.{IsPermutation-refl}
 use Rattle.desk_lists.proofs.SortingLemmas.{sort_by-ascending}
 use Rattle.desk_words.specs.Changes.{after_some}
-use Rattle.desk_words.specs.Finding.{meeting_named}
 use Rattle.desk_words.specs.Office.{is_meeting, is_office}
 use Rattle.desk_words.specs.Rulings.{settled, within}
 use Rattle.desk_words.specs.declared.answer.Answer.{Answer}
-use Rattle.desk_words.specs.declared.caller.Caller.TheVariants as caller
 use Rattle.desk_words.specs.declared.change.Change.{Change}
 use Rattle.desk_words.specs.declared.change.Change.TheVariants.{InMeeting}
 use Rattle.desk_words.specs.declared.change.MeetingChange.{MeetingChange}

@@ -229,6 +229,21 @@ impl Book {
         Ok(())
     }
 
+    /// Writes a change, if there is one, that leaves the lists of an office. The error is want of
+    /// memory, and the book is then as it was; a change that sets fields needs none.
+    fn apply_if_any(&mut self, change: Option<Change>) -> Result<(), AllocError>
+        requires { IsTrue (is_office (after_some self.old change)) }
+        ensures ok { OnOk result (self.new ≡ after_some self.old change) }
+        ensures err { OnErr result (self.new ≡ self.old) }
+        ensures kept { IsTrue (is_office self.new) }
+        ensures sure { if_any sets_fields change ≡ true → IsOk result }
+    {
+        match change {
+            None => Ok(()),
+            Some(change) => self.apply(change),
+        }
+    }
+
     /// One step: the decision, and then its change. The error is want of memory, which is never
     /// answered where `decide` needs none. After it, and after a refusal, the book is as it was.
     pub fn step(&mut self, call: Call) -> Result<Reply, AllocError>
@@ -240,9 +255,7 @@ impl Book {
         ensures refusals { is_at_once_to call.caller (decided self.old call) ≡ true → IsOk result }
     {
         let (reply, change) = self.decide(&call)?;
-        if let Some(change) = change {
-            self.apply(change)?;
-        }
+        self.apply_if_any(change)?;
         Ok(reply)
     }
 }

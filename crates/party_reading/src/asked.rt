@@ -1,5 +1,5 @@
 //! Those of a party's rows in a meeting that the answer to its request reads, read from the tables.
-ghost use Rattle.std.specs.Prelude.{◌≡◌, ◌++◌, ℕ, [], ◌∷◌, IfOk, MatchResult, OnOk, filter};
+ghost use Rattle.std.specs.Prelude.{◌≡◌, ◌==◌, ℕ, filter};
 ghost use Rattle.desk_terms.specs.Names.{same_name};
 ghost use Rattle.proxy_rules.specs.Holdings.{is_given_by};
 ghost use Rattle.caller_view.specs.Reads.{appointments_read, authorities_read, cast_on, given_read, members_read, rows_read};
@@ -8,7 +8,6 @@ ghost use Rattle.caller_view.specs.Views.{meeting_at};
 ghost use Rattle.desk_words.specs.declared.request.PartyRequest.TheVariants as asked;
 ghost use Rattle.caller_view.specs.declared.rows.AuthorityRows.{AuthorityRows};
 ghost use Rattle.caller_view.specs.declared.rows.MemberRows.{MemberRows};
-ghost use Rattle.office_lists.specs.declared.fault.ReadFault.TheVariants.{Memory};
 ghost use Rattle.party_reading.specs.Lists.{persons_read};
 ghost use Rattle.party_reading.specs.Telling.{IsToldOf};
 
@@ -21,92 +20,44 @@ use desk_words::{
 use meeting_views::no_rows_of;
 use office_lists::ReadFault;
 use sqlite::{Alter, Transaction};
-use std::alloc::{AllocError, Global};
+use std::alloc::Global;
 
 /// The appointments of a member among these.
-fn of_member(
-    alloc: Global,
-    received: Listing<Appointment>,
-    member: Party,
-) -> Result<Listing<Appointment>, AllocError>
-    ensures { IfOk result (λ found. found ≡ filter (is_given_by member) received) }
+fn of_member(received: Listing<Appointment>, member: Party) -> Listing<Appointment>
+    ensures { result ≡ filter (is_given_by member) received }
 {
-    let mut found = Listing::new(alloc);
-    for appointment in received.into_vec() {
-        if appointment.member.is(member) {
-            found.push(appointment)?;
-        }
-    }
-    Ok(found)
+    let mut found = received.into_vec();
+    found.retain(|appointment| appointment.member.is(member));
+    Listing::from_vec(found)
 }
 
 /// A member among these.
-fn one_member(
-    alloc: Global,
-    members: Listing<MemberRows>,
-    member: Party,
-) -> Result<Listing<MemberRows>, AllocError>
-    ensures { IfOk result (λ found. found
-        ≡ filter (λ (rows : MemberRows). same_name rows.member member) members) }
+fn one_member(members: Listing<MemberRows>, member: Party) -> Listing<MemberRows>
+    ensures { result ≡ filter (λ (rows : MemberRows). same_name rows.member member) members }
 {
-    let mut found = Listing::new(alloc);
-    for rows in members.into_vec() {
-        if rows.member.is(member) {
-            found.push(rows)?;
-        }
-    }
-    Ok(found)
-}
-
-/// Adds an authority to others where it is a corporation's.
-fn push_if_of(
-    found: &mut Listing<AuthorityRows>,
-    rows: AuthorityRows,
-    corporation: Party,
-) -> Result<(), AllocError>
-    ensures { OnOk result (found.new
-        ≡ found.old ++ filter (λ (r : AuthorityRows). same_name r.authority.corporation corporation)
-        (rows ∷ [])) }
-{
-    let AuthorityRows { authority, row } = rows;
-    if authority.corporation.is(corporation) {
-        found.push(AuthorityRows { authority, row })?;
-    }
-    Ok(())
+    let mut found = members.into_vec();
+    found.retain(|rows| rows.member.is(member));
+    Listing::from_vec(found)
 }
 
 /// The authorities of a corporation among these.
-fn of_corporation(
-    alloc: Global,
-    authorised: Listing<AuthorityRows>,
-    corporation: Party,
-) -> Result<Listing<AuthorityRows>, AllocError>
-    ensures { IfOk result (λ found. found
+fn of_corporation(authorised: Listing<AuthorityRows>, corporation: Party) -> Listing<AuthorityRows>
+    ensures { result
         ≡ filter (λ (rows : AuthorityRows). same_name rows.authority.corporation corporation)
-        authorised) }
+        authorised }
 {
-    let mut found = Listing::new(alloc);
-    for rows in authorised.into_vec() {
-        push_if_of(&mut found, rows, corporation)?;
-    }
-    Ok(found)
+    let mut found = authorised.into_vec();
+    found.retain(|rows| rows.authority.corporation.is(corporation));
+    Listing::from_vec(found)
 }
 
 /// The votes on a resolution among these.
-fn casts_on(
-    alloc: Global,
-    casts: &[CastMark],
-    resolution: u64,
-) -> Result<Listing<CastMark>, AllocError>
-    ensures { IfOk result (λ found. found ≡ cast_on resolution casts.now) }
+fn casts_on(casts: Listing<CastMark>, resolution: u64) -> Listing<CastMark>
+    ensures { result ≡ cast_on resolution casts }
 {
-    let mut found = Listing::new(alloc);
-    for cast in casts {
-        if cast.resolution == resolution {
-            found.push(*cast)?;
-        }
-    }
-    Ok(found)
+    let mut found = casts.into_vec();
+    found.retain(|cast| cast.resolution == resolution);
+    Listing::from_vec(found)
 }
 
 /// What a vote reads of the appointments that name the party: as a proxy, those of the member.
@@ -114,26 +65,22 @@ fn appointments_read(
     alloc: Global,
     received: Listing<Appointment>,
     new: &NewCast,
-) -> Result<Listing<Appointment>, AllocError>
-    ensures { IfOk result (λ found. found ≡ appointments_read new.now received new.now.capacity) }
+) -> Listing<Appointment>
+    ensures { result ≡ appointments_read new.now received new.now.capacity }
 {
     match new.capacity {
-        Capacity::Proxy => of_member(alloc, received, new.member),
-        Capacity::Member | Capacity::Rep => Ok(Listing::new(alloc)),
+        Capacity::Proxy => of_member(received, new.member),
+        Capacity::Member | Capacity::Rep => Listing::new(alloc),
     }
 }
 
 /// What a vote reads of the members who named the party: as a proxy, the member.
-fn members_read(
-    alloc: Global,
-    members: Listing<MemberRows>,
-    new: &NewCast,
-) -> Result<Listing<MemberRows>, AllocError>
-    ensures { IfOk result (λ found. found ≡ members_read new.now members new.now.capacity) }
+fn members_read(alloc: Global, members: Listing<MemberRows>, new: &NewCast) -> Listing<MemberRows>
+    ensures { result ≡ members_read new.now members new.now.capacity }
 {
     match new.capacity {
-        Capacity::Proxy => one_member(alloc, members, new.member),
-        Capacity::Member | Capacity::Rep => Ok(Listing::new(alloc)),
+        Capacity::Proxy => one_member(members, new.member),
+        Capacity::Member | Capacity::Rep => Listing::new(alloc),
     }
 }
 
@@ -143,57 +90,39 @@ fn authorities_read(
     alloc: Global,
     authorised: Listing<AuthorityRows>,
     new: &NewCast,
-) -> Result<Listing<AuthorityRows>, AllocError>
-    ensures { IfOk result (λ found. found ≡ authorities_read new.now authorised new.now.capacity) }
+) -> Listing<AuthorityRows>
+    ensures { result ≡ authorities_read new.now authorised new.now.capacity }
 {
     match new.capacity {
-        Capacity::Rep => of_corporation(alloc, authorised, new.member),
-        Capacity::Member | Capacity::Proxy => Ok(Listing::new(alloc)),
+        Capacity::Rep => of_corporation(authorised, new.member),
+        Capacity::Member | Capacity::Proxy => Listing::new(alloc),
     }
 }
 
-/// What a vote reads of a party's rows. The fault is want of memory.
-fn for_cast(alloc: Global, rows: OwnRows, new: &NewCast) -> Result<OwnRows, ReadFault>
-    ensures { MatchResult result (λ read. read ≡ rows_read (asked.Cast new.now) rows)
-        (λ fault. fault ≡ Memory) }
+/// What a vote reads of a party's rows.
+fn for_cast(alloc: Global, rows: OwnRows, new: &NewCast) -> OwnRows
+    ensures { result ≡ rows_read (asked.Cast new.now) rows }
 {
-    let none = no_rows_of(alloc, rows.party);
-    let OwnRows {
-        row,
-        received,
-        members,
-        authorised,
-        casts,
-        ..
-    } = rows;
-    Ok(OwnRows {
-        row,
-        received: appointments_read(alloc, received, new)?,
-        members: members_read(alloc, members, new)?,
-        authorised: authorities_read(alloc, authorised, new)?,
-        casts: casts_on(alloc, casts.as_slice(), new.resolution)?,
-        ..none
-    })
+    OwnRows {
+        row: rows.row,
+        received: appointments_read(alloc, rows.received, new),
+        members: members_read(alloc, rows.members, new),
+        authorised: authorities_read(alloc, rows.authorised, new),
+        casts: casts_on(rows.casts, new.resolution),
+        ..no_rows_of(alloc, rows.party)
+    }
 }
 
-/// What is read of a party's rows for what it casts as instructed. The fault is want of memory.
-fn for_instructed(alloc: Global, rows: OwnRows, resolution: u64) -> Result<OwnRows, ReadFault>
-    ensures { MatchResult result (λ read. read ≡ rows_read (asked.Instructed resolution) rows)
-        (λ fault. fault ≡ Memory) }
+/// What is read of a party's rows for what it casts as instructed.
+fn for_instructed(alloc: Global, rows: OwnRows, resolution: u64) -> OwnRows
+    ensures { result ≡ rows_read (asked.Instructed resolution) rows }
 {
-    let none = no_rows_of(alloc, rows.party);
-    let OwnRows {
-        received,
-        members,
-        casts,
-        ..
-    } = rows;
-    Ok(OwnRows {
-        received,
-        members,
-        casts: casts_on(alloc, casts.as_slice(), resolution)?,
-        ..none
-    })
+    OwnRows {
+        received: rows.received,
+        members: rows.members,
+        casts: casts_on(rows.casts, resolution),
+        ..no_rows_of(alloc, rows.party)
+    }
 }
 
 /// The appointments that a party gave, and their endings, alone.
@@ -282,7 +211,7 @@ fn read_for_cast<S: Alter>(
         ≡ rows_read (asked.Cast new.now) (rows_in (meeting_at office meeting) party)) }
 {
     let rows = read_rows(tx, alloc, meeting, party)?;
-    for_cast(alloc, rows, new)
+    Ok(for_cast(alloc, rows, new))
 }
 
 /// What is read of a party's rows for what it casts as instructed.
@@ -299,7 +228,7 @@ fn read_for_instructed<S: Alter>(
         ≡ rows_read (asked.Instructed resolution) (rows_in (meeting_at office meeting) party)) }
 {
     let rows = read_rows(tx, alloc, meeting, party)?;
-    for_instructed(alloc, rows, resolution)
+    Ok(for_instructed(alloc, rows, resolution))
 }
 
 /// Those of a party's rows in a meeting that the answer to its request reads, and nothing in place

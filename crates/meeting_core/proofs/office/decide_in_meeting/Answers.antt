@@ -1,4 +1,4 @@
-use Rattle.std.proofs.Common.{◌≡◌, ap, ◌∙◌}
+use Rattle.std.proofs.Common.{ap, ◌∙◌}
 use Rattle.std.specs.Prelude.{Option}
 use Rattle.desk_words.specs.Rulings.{settled}
 use Rattle.desk_words.specs.declared.answer.Answer.{Answer}

@@ -1,14 +1,10 @@
-use Rattle.std.proofs.Common.{◌≡◌, subst}
-use Rattle.std.specs.Prelude.{MatchResult}
+use Rattle.std.proofs.Common.{◌∙◌, ap}
 use Rattle.desk_words.specs.declared.request.PartyRequest.TheVariants.{Cast}
 use Rattle.caller_view.specs.Reads.{rows_read}
-use Rattle.caller_view.specs.declared.rows.OwnRows.{OwnRows}
-use Rattle.office_lists.specs.declared.fault.ReadFault.TheVariants as fault
-use Rattle.party_reading.proofs.TellingLemmas.{made_tells, told_so}
+use Rattle.party_reading.proofs.TellingLemmas.{told_so}
 use Rattle.party_reading.proofs.asked.read_for_cast.Goals as goal
 
 pub returns-clause-told : goal.returns-clause-told
 returns-clause-told g c =
     told_so g.S.Store _ _ _ _ c.in_ok-rows.rows _ c.in_ok-rows.ensures.told
-    (λ office kept is. made_tells _ c.for_cast.result
-    (subst (λ (rows : OwnRows). MatchResult c.for_cast.result (λ made. made ≡ rows_read (Cast c.args.new.now) rows) (λ e. e ≡ fault.Memory)) is c.for_cast.ensures))
+    (λ office kept is. c.for_cast.ensures ∙ ap (rows_read (Cast c.args.new.now)) is)

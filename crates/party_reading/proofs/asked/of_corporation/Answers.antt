@@ -1,0 +1,10 @@
+use Rattle.std.proofs.Common.{◌∙◌, ap, filter, rules}
+use Rattle.std.proofs.lemmas.Fn.{filter_same}
+use Rattle.desk_terms.specs.Names.{same_name}
+use Rattle.caller_view.specs.declared.rows.AuthorityRows.{AuthorityRows}
+use Rattle.party_reading.proofs.asked.of_corporation.Goals as goal
+
+pub returns : goal.returns
+returns c =
+    let test = λ (rows : AuthorityRows). same_name rows.authority.corporation c.args.corporation in
+    c.from_vec.ensures ∙ filter_same _ test _ (λ x b f' k. search rules) _ _ c.retain.ensures.filtered ∙ ap (filter test) c.into_vec-found.ensures
