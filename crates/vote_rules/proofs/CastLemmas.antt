@@ -43,7 +43,7 @@ way_of_covers instructed covers place =
     find_map-map (way_tagged instructed) (λ (c : Cover). c.1) (filter (λ (c : Cover). holds c.0 place) (reverse covers))
     ∙ find_map-filter (λ (c : Cover). way_tagged instructed c.1) (λ (c : Cover). holds c.0 place) (reverse covers)
 
-way_of_tag : (instructed : Option Way) (way : Way) → way_tagged instructed (way_number way) ≡ Some way
+pub way_of_tag : (instructed : Option Way) (way : Way) → way_tagged instructed (way_number way) ≡ Some way
 way_of_tag instructed For = refl
 way_of_tag instructed Against = refl
 way_of_tag instructed Withheld = refl

@@ -1,3 +1,4 @@
+pub mod AlikeLemmas
 pub mod CastLemmas
 pub mod CountLemmas
 pub mod CoverLemmas

@@ -1,5 +1,5 @@
 -- The count of a holding on whose shares nothing is cast.
-use Rattle.std.proofs.Common.{◌≡◌, ℕ, zero, suc, ◌+◌, Bool, true, false, cond, List, [], ◌∷◌, refl, ap, ◌∙◌}
+use Rattle.std.proofs.Common.{◌≡◌, ℕ, Bool, true, false, cond, List, [], ◌∷◌, refl, ap, ◌∙◌}
 use Rattle.std.specs.Prelude.{Option, Some, None, option_map}
 use Rattle.std.specs.List.{cons_option, filter_map}
 use Rattle.desk_terms.specs.declared.range.TheConstants.{MOST_PLACES}
@@ -7,18 +7,13 @@ use Rattle.desk_terms.specs.Places.{holds}
 use Rattle.desk_terms.specs.declared.kinds.Capacity.{Capacity}
 use Rattle.desk_terms.specs.declared.kinds.Capacity.TheVariants.{Proxy, Rep}
 use Rattle.desk_terms.specs.declared.kinds.Way.{Way}
-use Rattle.desk_terms.specs.declared.kinds.Way.TheVariants.{For, Against, Withheld}
 use Rattle.desk_words.specs.declared.records.Appointment.{Appointment}
 use Rattle.desk_words.specs.declared.records.Authority.{Authority}
 use Rattle.desk_words.specs.declared.records.RegisterRow.{RegisterRow}
-use Rattle.desk_words.specs.declared.records.Tally.{Tally}
 use Rattle.proxy_rules.specs.Parties.{authorised_by}
 use Rattle.share_blocks.specs.Covers.{pieces_after}
-use Rattle.share_blocks.specs.Pieces.{tags_at, uncovered}
 use Rattle.vote_rules.specs.Casts.{Share, find_map, instructed_way}
 use Rattle.vote_rules.specs.Covers.{as_proxy, cast_among, covers_by, vote_among, way_at, way_tagged}
-use Rattle.vote_rules.specs.Sums.{tally_to}
-use Rattle.vote_rules.specs.Tallies.{votes_to}
 use Rattle.vote_rules.specs.Votes.{Casts, by_the_holder, by_the_proxy, by_the_representatives, common_way, first_that_applies, valid_vote}
 use Rattle.vote_rules.specs.declared.received.BlockCast.{BlockCast}
 
@@ -62,24 +57,8 @@ no_vote cast none authorities resolution row governing =
     λ i. first_that_applies (holder i ∷ representatives i ∷ proxy i ∷ [])
 
 -- with no blocks, and nothing as instructed, a share has no vote
-silent : (casts : List BlockCast) (last : List ℕ → Option ℕ) → casts ≡ [] → ((voter : List ℕ) → last voter ≡ None) → (authorities : List Authority) (resolution : ℕ) (row : RegisterRow) (share : Share)
+pub silent : (casts : List BlockCast) (last : List ℕ → Option ℕ) → casts ≡ [] → ((voter : List ℕ) → last voter ≡ None) → (authorities : List Authority) (resolution : ℕ) (row : RegisterRow) (share : Share)
     → vote_among casts last authorities resolution row share ≡ None
 silent casts last e none authorities resolution row share =
     ap (λ (l : List BlockCast). vote_among l last authorities resolution row share) e
     ∙ no_vote (cast_among [] last resolution share) (nothing_among last none resolution share) authorities resolution row share.governing
-
-no_votes : (way : Way) (n : ℕ) → votes_to (λ _. None) way n ≡ 0
-no_votes way zero = refl
-no_votes way (suc n) = ap (λ k. k + 0) (no_votes way n)
-
--- the count of so many shares of which none has a vote
-abbrev pub without : ℕ → Tally
-without n = record { votes_for = 0; votes_against = 0; withheld = 0; eligible = n }
-
-pub silent_tally : (n : ℕ) → tally_to (λ _. None) n ≡ without n
-silent_tally n = λ i. record { votes_for = no_votes For n i; votes_against = no_votes Against n i; withheld = no_votes Withheld n i; eligible = n }
-
--- and so of the shares of a row
-pub silent_row : (casts : List BlockCast) (last : List ℕ → Option ℕ) → casts ≡ [] → ((voter : List ℕ) → last voter ≡ None) → (authorities : List Authority) (resolution : ℕ) (row : RegisterRow) (share : ℕ → Share) (n : ℕ)
-    → tally_to (λ place. vote_among casts last authorities resolution row (share place)) n ≡ tally_to (λ _. None) n
-silent_row casts last e none authorities resolution row share n = λ i. tally_to (λ place. silent casts last e none authorities resolution row (share place) i) n

@@ -1,3 +1,4 @@
+pub mod Alike
 pub mod Ballots
 pub mod Casts
 pub mod Covers

@@ -15,6 +15,7 @@ ghost use Rattle.vote_rules.specs.Received.{is_on_shares_of};
 ghost use Rattle.vote_rules.specs.Sums.{FitsBoth, FitsMore, added, tally_over, tally_to, with_votes};
 ghost use Rattle.vote_rules.specs.Tallies.{share_at, tally_by, tally_of};
 
+use crate::alike::one_vote;
 use crate::ballots::{Ballots, governing_at, vote_by};
 use crate::parting::parted;
 use crate::received::{BlockCast, PollCasts};
@@ -128,28 +129,16 @@ fn tally_row_by<B: Blocks>(
     )
 }
 
-/// Whether nothing is cast on the shares of a row, and nothing as instructed by anybody.
-fn is_silent(on_row: &[BlockCast], instructed: &BTreeMap<Party, usize>) -> bool
-    ensures blocks { result ≡ true → on_row.now ≡ [] }
-    ensures instructed { result ≡ true
-        → (voter : List ℕ) → get name_cmp instructed.now voter ≡ None }
+/// The count of a row whose shares all have this vote.
+fn tally_alike(vote: Option<Way>, row: &RegisterRow) -> Tally
+    ensures { result ≡ tally_to (λ _. vote) (shares_of row.now) }
 {
-    on_row.is_empty() && instructed.is_empty()
+    let mut tally = NOTHING;
+    add_shares(&mut tally, vote, shares(row));
+    tally
 }
 
-/// The count of a row of whose shares none has a vote.
-fn without_votes(row: &RegisterRow) -> Tally
-    ensures { result ≡ tally_to (λ _. None) (shares_of row.now) }
-{
-    Tally {
-        votes_for: 0,
-        votes_against: 0,
-        withheld: 0,
-        eligible: shares(row),
-    }
-}
-
-/// The count of one holding. One on whose shares nothing is cast is not parted.
+/// The count of one holding. One whose shares plainly have one vote is not parted.
 fn tally_row(
     alloc: Global,
     cutoffs: &Cutoffs,
@@ -173,8 +162,8 @@ fn tally_row(
     let cast = casts.on_shares_of(alloc, row.member)?;
     let on_row = cast.as_slice();
     let instructed = &casts.instructed;
-    if is_silent(on_row, instructed) {
-        return Ok(without_votes(row));
+    if let Some(vote) = one_vote(on_row, instructed, row) {
+        return Ok(tally_alike(vote, row));
     }
     if on_row.len() <= MOST_IN_LISTS {
         tally_row_by::<PlainBlocks>(alloc, cutoffs, papers, on_row, instructed, resolution, row)

@@ -2,6 +2,7 @@
 //! of the votes by lengths.
 #![tactic(auto)]
 
+mod alike;
 mod ballots;
 mod counting;
 mod covers;

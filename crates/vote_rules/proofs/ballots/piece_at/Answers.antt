@@ -1,9 +1,7 @@
-use Rattle.std.proofs.Common.{◌≡◌, ◌≤◌, None, Some, true, false, length, get_or, cond, refl, ap, sym, ◌∙◌, arith}
-use Rattle.std.specs.Prelude.{nat_lt, option_and_then, slice_get}
-use Rattle.std.specs.List.Sorted.{IsPartitionPoint}
+use Rattle.std.proofs.Common.{◌≡◌, ◌≤◌, None, Some, length, cond, refl, ap, sym, ◌∙◌}
+use Rattle.std.specs.Prelude.{option_and_then, slice_get}
 use Rattle.std.proofs.lemmas.Bool.{ltb-false, ltb-true}
 use Rattle.std.proofs.lemmas.Option.{slice_get_past, slice_get_read}
-use Rattle.proxy_rules.specs.declared.pieces.GovernedPiece.{GovernedPiece}
 use Rattle.vote_rules.proofs.OrderLemmas.{find-piece, if_has}
 use Rattle.vote_rules.proofs.ballots.piece_at.Goals as goal
 
