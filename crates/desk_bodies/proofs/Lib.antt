@@ -4,3 +4,4 @@ mod ItemLemmas
 mod LawLemmas
 mod ReadUpTo
 mod RouteLemmas
+mod VerbLemmas

@@ -1,51 +1,31 @@
 -- Requests, as a meeting, a verb and a body ask them.
-use Rattle.std.specs.Prelude.{ℕ, List, Option, Some, option_map, Result, ok_or}
+use Rattle.std.specs.Prelude.{ℕ, List, Option, option_map, Result, ok_or}
 use Rattle.desk_terms.specs.declared.refusal.Refusal.{Refusal}
 use Rattle.desk_terms.specs.declared.refusal.Refusal.TheVariants as refusal
 use Rattle.desk_words.specs.declared.request.DeskRequest.TheVariants as desk
 use Rattle.desk_words.specs.declared.request.OfficeRequest.{OfficeRequest}
 use Rattle.desk_words.specs.declared.request.PartyRequest.{PartyRequest}
-use Rattle.desk_words.specs.declared.request.PartyRequest.TheVariants.{Notice, Mine}
 use Rattle.desk_words.specs.declared.request.Request.{Request}
 use Rattle.desk_words.specs.declared.request.Request.TheVariants as request
 use Rattle.desk_bodies.specs.declared.route.Route.{Route}
 use Rattle.desk_bodies.specs.declared.route.Route.TheVariants as route
 use Rattle.desk_bodies.specs.declared.verb.OfficeVerb.{OfficeVerb}
-use Rattle.desk_bodies.specs.declared.verb.OfficeVerb.TheVariants as office
 use Rattle.desk_bodies.specs.declared.verb.PartyVerb.{PartyVerb}
-use Rattle.desk_bodies.specs.declared.verb.PartyVerb.TheVariants as party
 use Rattle.desk_bodies.specs.Answers.{readable, ◌>>=◌}
-use Rattle.desk_bodies.specs.Appointments.{appoint_in, end_in}
 use Rattle.desk_bodies.specs.Bodies.{read_by}
 use Rattle.desk_bodies.specs.Calls.{call_in}
 use Rattle.desk_bodies.specs.Days.{closed_in}
 use Rattle.desk_bodies.specs.Keys.{keys_in}
-use Rattle.desk_bodies.specs.Polls.{order_in, start_in, close_in, declare_in, demand_in, cast_in, instructed_in}
-use Rattle.desk_bodies.specs.Presences.{open_in, presence_in, attend_in, authorise_in}
-use Rattle.desk_bodies.specs.Registers.{load_in}
 use Rattle.desk_bodies.specs.Routes.{route_of}
+use Rattle.desk_bodies.specs.Verbs.{office_way, party_way}
 
 -- what the office asks in a meeting, as the body says it
 abbrev pub office_asks : OfficeVerb → List ℕ → Option OfficeRequest
-office_asks office.Presence body = read_by presence_in body
-office_asks office.Register body = read_by load_in body
-office_asks office.Open body = read_by open_in body
-office_asks office.Order body = read_by order_in body
-office_asks office.Start body = read_by start_in body
-office_asks office.Close body = read_by close_in body
-office_asks office.Declare body = read_by declare_in body
+office_asks verb body = (office_way verb).1 body
 
--- what a party asks in a meeting, as the body says it; for `notice` and `mine` no body is looked at
+-- what a party asks in a meeting, as the body says it
 abbrev pub party_asks : PartyVerb → List ℕ → Option PartyRequest
-party_asks party.Notice body = Some Notice
-party_asks party.Mine body = Some Mine
-party_asks party.Appoint body = read_by appoint_in body
-party_asks party.End body = read_by end_in body
-party_asks party.Authorise body = read_by authorise_in body
-party_asks party.Attend body = read_by attend_in body
-party_asks party.Demand body = read_by demand_in body
-party_asks party.Cast body = read_by cast_in body
-party_asks party.Instructed body = read_by instructed_in body
+party_asks verb body = (party_way verb).1 body
 
 -- what is asked on a route, as the body says it
 abbrev pub asked : Route → List ℕ → Option Request

@@ -1,6 +1,6 @@
 //! Verbs, which name requests.
 ghost use Rattle.std.specs.Prelude.{◌≡◌};
-ghost use Rattle.desk_bodies.specs.Verbs.{office_word, party_word, verb_word, verb_of};
+ghost use Rattle.desk_bodies.specs.Verbs.{verb_of};
 
 /// What the office asks in a meeting.
 #[derive(Clone, Copy, PartialEq, Eq)]
@@ -59,86 +59,33 @@ pub enum Verb {
     Party(PartyVerb),
 }
 
-/// Every verb.
-const VERBS: [Verb; 19] = [
-    Verb::Call,
-    Verb::Closed,
-    Verb::Keys,
-    Verb::Office(OfficeVerb::Presence),
-    Verb::Office(OfficeVerb::Register),
-    Verb::Office(OfficeVerb::Open),
-    Verb::Office(OfficeVerb::Order),
-    Verb::Office(OfficeVerb::Start),
-    Verb::Office(OfficeVerb::Close),
-    Verb::Office(OfficeVerb::Declare),
-    Verb::Party(PartyVerb::Notice),
-    Verb::Party(PartyVerb::Mine),
-    Verb::Party(PartyVerb::Appoint),
-    Verb::Party(PartyVerb::End),
-    Verb::Party(PartyVerb::Authorise),
-    Verb::Party(PartyVerb::Attend),
-    Verb::Party(PartyVerb::Demand),
-    Verb::Party(PartyVerb::Cast),
-    Verb::Party(PartyVerb::Instructed),
-];
-
-impl OfficeVerb {
-    /// The word for it.
-    pub fn word(self) -> &'static str
-        ensures { result.now ≡ office_word self }
-    {
-        match self {
-            OfficeVerb::Presence => "presence",
-            OfficeVerb::Register => "register",
-            OfficeVerb::Open => "open",
-            OfficeVerb::Order => "order",
-            OfficeVerb::Start => "start",
-            OfficeVerb::Close => "close",
-            OfficeVerb::Declare => "declare",
-        }
-    }
-}
-
-impl PartyVerb {
-    /// The word for it.
-    pub fn word(self) -> &'static str
-        ensures { result.now ≡ party_word self }
-    {
-        match self {
-            PartyVerb::Notice => "notice",
-            PartyVerb::Mine => "mine",
-            PartyVerb::Appoint => "appoint",
-            PartyVerb::End => "end",
-            PartyVerb::Authorise => "authorise",
-            PartyVerb::Attend => "attend",
-            PartyVerb::Demand => "demand",
-            PartyVerb::Cast => "cast",
-            PartyVerb::Instructed => "instructed",
-        }
-    }
-}
-
 impl Verb {
-    /// The word for it.
-    pub fn word(self) -> &'static str
-        ensures { result.now ≡ verb_word self }
-    {
-        match self {
-            Verb::Call => "call",
-            Verb::Closed => "closed",
-            Verb::Keys => "keys",
-            Verb::Office(verb) => verb.word(),
-            Verb::Party(verb) => verb.word(),
-        }
-    }
-
     /// The one that a word stands for, or none where no such word is listed.
+    #[tactic(auto, using(crate::proofs::VerbLemmas::unlisted))]
     pub fn of_word(word: &[u8]) -> Option<Verb>
         ensures { result ≡ verb_of word.now }
     {
-        VERBS
-            .iter()
-            .copied()
-            .find(|verb| word == verb.word().as_bytes())
+        match str::from_utf8(word).ok()? {
+            "call" => Some(Verb::Call),
+            "closed" => Some(Verb::Closed),
+            "keys" => Some(Verb::Keys),
+            "presence" => Some(Verb::Office(OfficeVerb::Presence)),
+            "register" => Some(Verb::Office(OfficeVerb::Register)),
+            "open" => Some(Verb::Office(OfficeVerb::Open)),
+            "order" => Some(Verb::Office(OfficeVerb::Order)),
+            "start" => Some(Verb::Office(OfficeVerb::Start)),
+            "close" => Some(Verb::Office(OfficeVerb::Close)),
+            "declare" => Some(Verb::Office(OfficeVerb::Declare)),
+            "notice" => Some(Verb::Party(PartyVerb::Notice)),
+            "mine" => Some(Verb::Party(PartyVerb::Mine)),
+            "appoint" => Some(Verb::Party(PartyVerb::Appoint)),
+            "end" => Some(Verb::Party(PartyVerb::End)),
+            "authorise" => Some(Verb::Party(PartyVerb::Authorise)),
+            "attend" => Some(Verb::Party(PartyVerb::Attend)),
+            "demand" => Some(Verb::Party(PartyVerb::Demand)),
+            "cast" => Some(Verb::Party(PartyVerb::Cast)),
+            "instructed" => Some(Verb::Party(PartyVerb::Instructed)),
+            _ => None,
+        }
     }
 }

@@ -85,18 +85,6 @@ notice_below n =
     omega arith
 
 pub reply_below : (r : Reply) → depth (reply_data r) ≤ 127
-reply_below reply.Called = omega arith
-reply_below reply.Loaded = omega arith
-reply_below reply.Same = omega arith
-reply_below reply.MeetingOpened = omega arith
-reply_below reply.Ordered = omega arith
-reply_below reply.Started = omega arith
-reply_below reply.VotingClosed = omega arith
-reply_below (reply.Declared d) = omega arith
-reply_below (reply.Appointed r) = omega arith
-reply_below (reply.Ended n) = omega arith
-reply_below reply.Noted = omega arith
-reply_below reply.Recorded = omega arith
 reply_below (reply.Notice n) = omega (arith, notice_below n)
 reply_below (reply.Mine m) = omega (arith, mine_below m)
-reply_below (reply.Refused r) = omega arith
+reply_below other = omega arith

@@ -172,16 +172,10 @@ entered-cast secret c m =
 
 -- what it leaves of a meeting
 changed-hidden : (secret : Secret) (change : MeetingChange) (m : MeetingLists) → hidden_in secret (changed change m) ≡ changed_some (hidden_change_in secret change) (hidden_in secret m)
-changed-hidden secret (SetRegister rows) m = refl
-changed-hidden secret (SetOpened moment) m = refl
 changed-hidden secret (AddPoll p) m = ap (λ polls. record (hidden_in secret m) { polls = polls }) (uncounted-inserted secret.resolution p m.polls)
 changed-hidden secret (SetPoll number change) m = ap (λ polls. record (hidden_in secret m) { polls = polls }) (uncounted-changed secret.resolution number change m.polls)
 changed-hidden secret (Enter (entry.Cast c)) m = entered-cast secret c m
-changed-hidden secret (Enter (entry.Appointment a)) m = refl
-changed-hidden secret (Enter (entry.Ending e)) m = refl
-changed-hidden secret (Enter (entry.Authority a)) m = refl
-changed-hidden secret (Enter (entry.Presence mark)) m = refl
-changed-hidden secret (Enter (entry.Demand mark)) m = refl
+changed-hidden secret other m = refl
 
 -- and of the meeting of the secret in an office
 changed-here : (secret : Secret) (o : OfficeLists) (change : MeetingChange) → hidden secret (after_some o (Some (InMeeting secret.meeting change)))

@@ -6,7 +6,7 @@ use Rattle.std.proofs.Math.Bool.{or-false}
 use Rattle.desk_lists.proofs.Booleans.{neither_first}
 use Rattle.desk_terms.specs.Names.{same_name}
 use Rattle.desk_words.specs.Office.{implies}
-use Rattle.desk_words.specs.Rulings.{in_found, noted, settled, within}
+use Rattle.desk_words.specs.Rulings.{Ruling, in_found, noted, settled, within}
 use Rattle.desk_words.specs.declared.answer.Answer.{Answer}
 use Rattle.desk_words.specs.declared.caller.Caller.TheVariants as caller
 use Rattle.desk_words.specs.declared.change.Change.TheVariants.{InMeeting}
@@ -129,25 +129,26 @@ own-answer viewer one other now at what alike =
     sym (rows-near viewer (meeting_at one at) (alike.first at)) ∙ ap (rows_from viewer) near ∙ rows-near viewer (meeting_at other at) (alike.second at) in
     λ i. settled (party_ruling (public i) (own_from (rows i) (public i) now) now what)
 
+-- what is ruled of what a party gives, in a meeting that is found, from its rows
+abbrev given_from : OwnRows → PublicRecord → ℕ → PartyRequest → Option Meeting → Ruling Entry
+given_from rows public now what found =
+    let own = option_map_or (λ meeting. own_by rows public.closed meeting public.polls now) found (nothing_of rows.party) in
+    in_found found (party_in public own now what)
+
+given-from : (rows : OwnRows) (public : PublicRecord) (now : ℕ) (what : PartyRequest) → is_giving what ≡ true → (found : Option Meeting)
+    → given_from (rows_read what rows) public now what found ≡ given_from rows public now what found
+given-from rows public now (Appoint new) h None = refl
+given-from rows public now (Appoint new) h (Some meeting) = refl
+given-from rows public now (End number) h None = refl
+given-from rows public now (End number) h (Some meeting) = refl
+given-from rows public now (Authorise person) h None = refl
+given-from rows public now (Authorise person) h (Some meeting) = refl
+given-from rows public now other h found = absurd (cc)
+
 -- what a party gives is decided by what it gave
 enough : (rows : OwnRows) (public : PublicRecord) (now : ℕ) (what : PartyRequest) → is_giving what ≡ true
     → party_ruling public (own_from (rows_read what rows) public now) now what ≡ party_ruling public (own_from rows public now) now what
-enough rows public now (Appoint new) h =
-    elim (public.meeting) as (λ found.
-    in_found found (party_in public (option_map_or (λ meeting. own_by (rows_read (Appoint new) rows) public.closed meeting public.polls now) found (nothing_of rows.party)) now (Appoint new))
-    ≡ in_found found (party_in public (option_map_or (λ meeting. own_by rows public.closed meeting public.polls now) found (nothing_of rows.party)) now (Appoint new)))
-    [ None ↦ refl | Some meeting ↦ refl ]
-enough rows public now (End number) h =
-    elim (public.meeting) as (λ found.
-    in_found found (party_in public (option_map_or (λ meeting. own_by (rows_read (End number) rows) public.closed meeting public.polls now) found (nothing_of rows.party)) now (End number))
-    ≡ in_found found (party_in public (option_map_or (λ meeting. own_by rows public.closed meeting public.polls now) found (nothing_of rows.party)) now (End number)))
-    [ None ↦ refl | Some meeting ↦ refl ]
-enough rows public now (Authorise person) h =
-    elim (public.meeting) as (λ found.
-    in_found found (party_in public (option_map_or (λ meeting. own_by (rows_read (Authorise person) rows) public.closed meeting public.polls now) found (nothing_of rows.party)) now (Authorise person))
-    ≡ in_found found (party_in public (option_map_or (λ meeting. own_by rows public.closed meeting public.polls now) found (nothing_of rows.party)) now (Authorise person)))
-    [ None ↦ refl | Some meeting ↦ refl ]
-enough rows public now other h = absurd (cc)
+enough rows public now what h = given-from rows public now what h public.meeting
 
 -- the rows that are read are the party's
 party-in : (found : Option MeetingLists) (party : List ℕ) → (rows_in found party).party ≡ party
