@@ -51,7 +51,7 @@ newest_way : (voter : List ℕ) (shares place : ℕ) (way : Way) → 1 ≤ place
 newest_way voter shares place way low high [] e = e
 newest_way voter shares place way low high (c ∷ blocks) e =
     (elim (is_own voter c) as (λ b. option_and_then (way_on_all shares) (cond b (Some c) (find (is_own voter) blocks)) ≡ Some way
-        → option_or (option_and_then (cover_way None place) (cond b (Some (c.block.range, way_number c.block.way)) None)) (find_map (own_way voter place) blocks) ≡ Some way) [
+    → option_or (option_and_then (cover_way None place) (cond b (Some (c.block.range, way_number c.block.way)) None)) (find_map (own_way voter place) blocks) ≡ Some way) [
       | true ↦ λ h. ap (λ o. option_or o (find_map (own_way voter place) blocks)) (way_of_all shares place way c low high h)
       | false ↦ λ h. newest_way voter shares place way low high blocks h
     ]) e
