@@ -1,12 +1,11 @@
 //! The book beside the desk.
 use crate::handed::Handed;
 use crate::printed::print_failing;
-use crate::reads::{Asker, hold_alike, is_read_so};
-use crate::tables::Tables;
 use desk_endings::Ended;
 use desk_replies::reply_text;
 use desk_words::{
-    Call, Caller, DeskRequest, KeyRows, MeetingId, Moment, Party, Reply, Request, read_party,
+    Call, Caller, DeskRequest, KeyRows, MeetingId, Moment, Party, PartyRequest, Reply, Request,
+    read_party,
 };
 use meeting_core::Book;
 use std::alloc::{AllocError, Global};
@@ -42,20 +41,17 @@ fn ended_by(reply: &Reply) -> Ended {
     }
 }
 
-/// What a book replies where keys are loaded.
-fn reply_to_keys(
+/// Adds what a book replies to a call.
+fn add_reply(
     alloc: Global,
     book: &Book,
-    keys: KeyRows,
-    moment: Moment,
-) -> Result<Vec<u8>, AllocError> {
-    let call = Call {
-        moment,
-        caller: Caller::Office,
-        request: Request::Desk(DeskRequest::Keys(keys)),
-    };
-    let (reply, _) = book.decide(&call)?;
-    reply_text(alloc, &reply)
+    call: &Call,
+    told: &mut Vec<u8>,
+) -> Result<(), AllocError> {
+    let (reply, _) = book.decide(call)?;
+    told.extend_from_slice(&reply_text(alloc, &reply)?)?;
+    told.push(b'\n')?;
+    Ok(())
 }
 
 impl Beside {
@@ -88,24 +84,16 @@ impl Beside {
         Ok(())
     }
 
-    /// Takes the keys that a call loads, or the meeting that it names.
-    fn take_asked(&mut self, request: &Request) -> Result<(), AllocError> {
-        if let Request::Desk(DeskRequest::Keys(rows)) = request {
-            self.keys = rows.copy()?;
-        }
-        if let Some(meeting) = meeting_of(request) {
+    /// Takes the moment and the meeting of a call, and the parties that its text names.
+    pub fn take_names(&mut self, call: &Call, text: &[u8]) -> Result<(), AllocError> {
+        self.last = Some(call.moment);
+        self.take_parties(text)?;
+        if let Some(meeting) = meeting_of(&call.request) {
             if !self.meetings.contains(&meeting) {
                 self.meetings.push(meeting)?;
             }
         }
         Ok(())
-    }
-
-    /// Takes the moment of a call, what it loads or names, and the parties that its text names.
-    pub fn take_names(&mut self, call: &Call, text: &[u8]) -> Result<(), AllocError> {
-        self.last = Some(call.moment);
-        self.take_parties(text)?;
-        self.take_asked(&call.request)
     }
 
     /// Makes a call, and gives the text of its reply.
@@ -114,9 +102,15 @@ impl Beside {
         reply_text(self.alloc, &reply)
     }
 
-    /// Makes a call of the office at the moment of a file that it hands in, and gives how a command
-    /// ends that makes it.
-    fn load_asked(&mut self, handed: &Handed, request: Request) -> Result<Ended, AllocError> {
+    /// Makes the call of the command that loads a file, and gives how that command ends.
+    pub fn load(&mut self, handed: &Handed) -> Result<Ended, AllocError> {
+        let request = match handed.request(self.alloc) {
+            Ok(request) => request,
+            Err(fault) => return Ok(Ended::by_file(fault)),
+        };
+        if let Request::Desk(DeskRequest::Keys(rows)) = &request {
+            self.keys = rows.copy()?;
+        }
         let call = Call {
             moment: handed.now,
             caller: Caller::Office,
@@ -124,14 +118,6 @@ impl Beside {
         };
         self.take_names(&call, handed.bytes)?;
         Ok(ended_by(&self.book.step(call)?))
-    }
-
-    /// Makes the call of the command that loads a file, and gives how that command ends.
-    pub fn load(&mut self, handed: &Handed) -> Result<Ended, AllocError> {
-        match handed.request(self.alloc) {
-            Ok(request) => self.load_asked(handed, request),
-            Err(fault) => Ok(Ended::by_file(fault)),
-        }
     }
 
     /// Adds a line to an answer where other results of a meeting are printed than this text, or
@@ -145,42 +131,52 @@ impl Beside {
         print_failing(self.alloc, &self.book, meeting, text, answer)
     }
 
-    /// Whether a book replies as this one does where the keys that this one holds are loaded again.
-    fn has_keys_of(&self, book: &Book, moment: Moment) -> Result<bool, AllocError> {
-        let here = reply_to_keys(self.alloc, &self.book, self.keys.copy()?, moment)?;
-        let there = reply_to_keys(self.alloc, book, self.keys.copy()?, moment)?;
-        Ok(here.as_slice() == there.as_slice())
+    /// What a book replies where its keys are loaded again, and to each party that asks for the
+    /// notice of a meeting and for its own things.
+    fn told_by(&self, book: &Book, moment: Moment) -> Result<Vec<u8>, AllocError> {
+        let mut told = Vec::new(self.alloc);
+        let call = Call {
+            moment,
+            caller: Caller::Office,
+            request: Request::Desk(DeskRequest::Keys(self.keys.copy()?)),
+        };
+        add_reply(self.alloc, book, &call, &mut told)?;
+        for meeting in self.meetings.iter().copied() {
+            for party in self.parties.iter().copied() {
+                self.add_own(book, (moment, meeting, party), &mut told)?;
+            }
+        }
+        Ok(told)
     }
 
-    /// Whether a desk's book holds of a meeting and of a party in it what this one holds, and the
-    /// desk reads just that.
-    fn is_alike_for(
+    /// Adds what a book replies to a party that asks for the notice of a meeting and for its own
+    /// things.
+    fn add_own(
         &self,
-        asker: Asker,
         book: &Book,
-        tables: &mut Tables,
-    ) -> Result<bool, AllocError> {
-        let alloc = self.alloc;
-        Ok(hold_alike(alloc, book, asker, &self.book)? && is_read_so(alloc, book, asker, tables)?)
+        asked: (Moment, MeetingId, Party),
+        told: &mut Vec<u8>,
+    ) -> Result<(), AllocError> {
+        let (moment, meeting, party) = asked;
+        for asked in [PartyRequest::Notice, PartyRequest::Mine] {
+            let call = Call {
+                moment,
+                caller: Caller::Party(party),
+                request: Request::Party { meeting, asked },
+            };
+            add_reply(self.alloc, book, &call, told)?;
+        }
+        Ok(())
     }
 
-    /// Whether a desk's book holds what this one holds, and the desk reads what it holds: the keys,
-    /// and of each party that was named, in each meeting, the notice and its own things.
-    pub fn is_like(&self, book: &Book, tables: &mut Tables) -> Result<bool, AllocError> {
+    /// Whether a book holds what this one holds, as far as the replies tell: the keys, and for each
+    /// party that was named, in each meeting, the notice and its own things.
+    pub fn is_like(&self, book: &Book) -> Result<bool, AllocError> {
         let Some(moment) = self.last else {
             return Ok(true);
         };
-        let mut is_alike = self.has_keys_of(book, moment)?;
-        for meeting in self.meetings.iter().copied() {
-            for party in self.parties.iter().copied() {
-                let asker = Asker {
-                    moment,
-                    meeting,
-                    party,
-                };
-                is_alike = is_alike && self.is_alike_for(asker, book, tables)?;
-            }
-        }
-        Ok(is_alike)
+        let here = self.told_by(&self.book, moment)?;
+        let there = self.told_by(book, moment)?;
+        Ok(here.as_slice() == there.as_slice())
     }
 }

@@ -4,7 +4,6 @@
 //! Beside the desk a book in memory makes the same calls, and has to answer alike; after each call,
 //! each file that is loaded and each opening the two have to hold the same, as far as their replies
 //! tell: the keys, the notices of all meetings, and the own things of all parties that were named.
-//! The desk has to read just these where it reads one meeting and one party alone.
 //! A second desk is asked the same over HTTP, wherever a verb has a method, and has to reply with
 //! the same JSON.
 //!
@@ -19,7 +18,6 @@ mod findings;
 mod handed;
 mod office;
 mod printed;
-mod reads;
 mod served;
 mod tables;
 

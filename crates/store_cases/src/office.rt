@@ -58,7 +58,7 @@ impl Office {
     /// Whether the desk holds what the book beside it holds, as far as their replies tell.
     fn is_like_its_book(&mut self) -> Result<bool, AllocError> {
         match self.tables.book() {
-            Some(Ok(book)) => self.beside.is_like(&book, &mut self.tables),
+            Some(Ok(book)) => self.beside.is_like(&book),
             Some(Err(_)) => Ok(false),
             None => Ok(true),
         }
@@ -113,33 +113,20 @@ impl Office {
         }
     }
 
-    /// What the desk answers to the call of a line, with the names that stand in the line taken.
-    fn answer_to_line(&mut self, text: &str, is_shown: bool) -> Result<String, AllocError> {
-        let Ok(call) = call_of(self.alloc, text.as_bytes()) else {
-            return String::from_str(self.alloc, "no call");
-        };
-        self.beside.take_names(&call, text.as_bytes())?;
-        self.answer_to(call, is_shown)
-    }
-
-    /// Makes the call of a line by the book and by the desk beside it, and adds a line to an answer
-    /// where one of them answers otherwise.
-    fn compare_call(&mut self, text: &str, answer: &mut String) -> Result<(), AllocError> {
-        let Ok(call) = call_of(self.alloc, text.as_bytes()) else {
-            return Ok(());
-        };
-        let beside = self.beside.perform(call)?;
-        compare_answers(answer, &beside)?;
-        self.served.call(text, &beside, answer)
-    }
-
     /// The answer to a call, whose reply can be shown or not for want of memory; then the book
     /// and the desk beside it do not make it. A further line tells where that book or that desk
     /// answers otherwise, or that book holds something else afterwards.
     pub fn call(&mut self, text: &str, is_shown: bool) -> Result<String, AllocError> {
-        let mut answer = self.answer_to_line(text, is_shown)?;
+        let line = text.as_bytes();
+        let (Ok(call), Ok(again)) = (call_of(self.alloc, line), call_of(self.alloc, line)) else {
+            return String::from_str(self.alloc, "no call");
+        };
+        self.beside.take_names(&call, line)?;
+        let mut answer = self.answer_to(call, is_shown)?;
         if is_shown {
-            self.compare_call(text, &mut answer)?;
+            let beside = self.beside.perform(again)?;
+            compare_answers(&mut answer, &beside)?;
+            self.served.call(text, &beside, &mut answer)?;
         }
         self.compare(&mut answer)?;
         Ok(answer)

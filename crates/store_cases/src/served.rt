@@ -53,12 +53,6 @@ fn call_of_key(alloc: Global, moment: Moment, caller: Caller) -> Result<Option<C
     }
 }
 
-/// The moment and the caller of the call that a line asks.
-fn asker_of(alloc: Global, line: &str) -> Option<(Moment, Caller)> {
-    let call = call_of(alloc, line.as_bytes()).ok()?;
-    Some((call.moment, call.caller))
-}
-
 impl Served {
     /// A database without tables.
     pub fn new(alloc: Global) -> Result<Served, AllocError> {
@@ -84,54 +78,27 @@ impl Served {
         self.tables.load(handed);
     }
 
-    /// Makes the call of a line without HTTP, and does not ask its reply.
-    fn call_unasked(&mut self, line: &str) {
-        if let Ok(call) = call_of(self.alloc, line.as_bytes()) {
+    /// Makes the call of a line, and adds a line to an answer where the reply over HTTP has not
+    /// this JSON. A call whose verb has no method is made without HTTP, and its reply not asked.
+    pub fn call(&mut self, line: &str, json: &[u8], answer: &mut String) -> Result<(), AllocError> {
+        let Ok(call) = call_of(self.alloc, line.as_bytes()) else {
+            return Ok(());
+        };
+        let Some(request) = request_text(self.alloc, line)? else {
             self.tables.perform(call, true);
+            return Ok(());
+        };
+        if let Some(keys) = call_of_key(self.alloc, call.moment, call.caller)? {
+            self.tables.perform(keys, true);
         }
-    }
-
-    /// Gives a caller the key, at a moment.
-    fn give_key(&mut self, moment: Moment, caller: Caller) -> Result<(), AllocError> {
-        if let Some(call) = call_of_key(self.alloc, moment, caller)? {
-            self.tables.perform(call, true);
-        }
-        Ok(())
-    }
-
-    /// Serves a request at a moment, and adds a line to an answer where its reply has not this JSON.
-    fn compare(
-        &mut self,
-        moment: Moment,
-        request: &[u8],
-        json: &[u8],
-        answer: &mut String,
-    ) -> Result<(), AllocError> {
         let mut sink = VecSink::new(self.alloc);
-        self.tables.serve(moment, request, &mut sink);
+        self.tables
+            .serve(call.moment, request.as_bytes(), &mut sink);
         let text = String::from_utf8_lossy(self.alloc, sink.as_slice())?;
         let (_, body) = text.split_once("\r\n\r\n").unwrap_or(("", ""));
         if body.as_bytes() != json {
             write!(answer, "\nover HTTP it is answered otherwise: {text}")?;
         }
         Ok(())
-    }
-
-    /// Makes the call of a line, and adds a line to an answer where the reply over HTTP has not
-    /// this JSON. A call whose verb has no method is made without HTTP, and its reply not asked.
-    pub fn call(&mut self, line: &str, json: &[u8], answer: &mut String) -> Result<(), AllocError> {
-        let Some((moment, caller)) = asker_of(self.alloc, line) else {
-            return Ok(());
-        };
-        match request_text(self.alloc, line)? {
-            Some(request) => {
-                self.give_key(moment, caller)?;
-                self.compare(moment, request.as_bytes(), json, answer)
-            }
-            None => {
-                self.call_unasked(line);
-                Ok(())
-            }
-        }
     }
 }
