@@ -1,7 +1,8 @@
 -- What is cast on a resolution, by its place in the order of receipt.
-use Rattle.std.specs.Prelude.{ℕ, Bool, true, false, ◌&&◌, ◌==◌, nat_lt, List, reverse, Option, Some, None, if◌then◌else◌}
+use Rattle.std.specs.Prelude.{ℕ, Bool, true, false, not, ◌&&◌, ◌==◌, nat_lt, List, reverse, Option, Some, None, IsSortedByKey, if◌then◌else◌}
 use Rattle.std.specs.List.{enumerate_from, filter_map}
-use Rattle.desk_terms.specs.Names.{same_name}
+use Rattle.std.specs.Ordering.{is_lt}
+use Rattle.desk_terms.specs.Names.{name_cmp, same_name}
 use Rattle.desk_words.specs.Seen.{Number, Party}
 use Rattle.desk_words.specs.declared.records.CastKind.{CastKind}
 use Rattle.desk_words.specs.declared.records.CastKind.TheVariants as cast
@@ -31,6 +32,17 @@ blocks_on resolution casts = filter_map (block_on resolution) (enumerate_from 0 
 -- the block is cast on the member's shares
 abbrev pub is_on_shares_of : Party → BlockCast → Bool
 is_on_shares_of member cast = same_name cast.block.member member
+
+-- on those of a member who does not come before this one, and of one who comes after it
+abbrev pub is_from_member : Party → BlockCast → Bool
+is_from_member member cast = not (is_lt (name_cmp cast.block.member member))
+
+abbrev pub is_past_member : Party → BlockCast → Bool
+is_past_member member cast = is_lt (name_cmp member cast.block.member)
+
+-- the blocks stand in the order of the members on whose shares they are cast
+abbrev pub AreByMember : List BlockCast → Type 0
+AreByMember blocks = IsSortedByKey (λ (cast : BlockCast). cast.block.member) name_cmp blocks
 
 -- as instructed
 abbrev pub is_as_instructed : CastKind → Bool

@@ -11,14 +11,14 @@ ghost use Rattle.proxy_rules.specs.Shares.{are_rows, shares_of};
 ghost use Rattle.proxy_rules.specs.Tiles.{places_in};
 ghost use Rattle.vote_rules.specs.Ballots.{AreInOrder, governing_at, vote_by};
 ghost use Rattle.vote_rules.specs.Covers.{vote_among};
-ghost use Rattle.vote_rules.specs.Received.{is_on_shares_of};
+ghost use Rattle.vote_rules.specs.Received.{AreByMember, is_on_shares_of};
 ghost use Rattle.vote_rules.specs.Sums.{FitsBoth, FitsMore, added, tally_over, tally_to, with_votes};
 ghost use Rattle.vote_rules.specs.Tallies.{share_at, tally_by, tally_of};
 
 use crate::alike::one_vote;
 use crate::ballots::{Ballots, governing_at, vote_by};
 use crate::parting::parted;
-use crate::received::{BlockCast, PollCasts};
+use crate::received::{BlockCast, PollCasts, parted_at};
 use desk_words::{Appointment, Party, Range, RegisterRow, Tally, Way};
 use proxy_rules::{Cutoffs, GovernedPiece, Holding, Papers, shares};
 use share_blocks::{Blocks, LinkedBlocks, PlainBlocks};
@@ -138,12 +138,14 @@ fn tally_alike(vote: Option<Way>, row: &RegisterRow) -> Tally
     tally
 }
 
-/// The count of one holding. One whose shares plainly have one vote is not parted.
+/// The count of one holding, by what is cast on its shares. One whose shares plainly have one vote
+/// is not parted.
 fn tally_row(
     alloc: Global,
     cutoffs: &Cutoffs,
     papers: &Papers,
-    casts: &PollCasts,
+    on_row: &[BlockCast],
+    instructed: &BTreeMap<Party, usize>,
     resolution: u64,
     row: &RegisterRow,
 ) -> Result<Tally, AllocError>
@@ -151,17 +153,13 @@ fn tally_row(
     ensures { IfOk result
         (λ tally. tally
         ≡ tally_to
-        (λ place. vote_among (filter (is_on_shares_of row.now.member) casts.now.by_member)
-        (get name_cmp casts.now.instructed) papers.now.authorities.now resolution
-        row.now
+        (λ place. vote_among on_row.now (get name_cmp instructed.now)
+        papers.now.authorities.now resolution row.now
         (share_at cutoffs.now
         (holding_by papers.now.appointments.now papers.now.endings.now row.now)
         row.now.member place))
         (shares_of row.now)) }
 {
-    let cast = casts.on_shares_of(alloc, row.member)?;
-    let on_row = cast.as_slice();
-    let instructed = &casts.instructed;
     if let Some(vote) = one_vote(on_row, instructed, row) {
         return Ok(tally_alike(vote, row));
     }
@@ -185,7 +183,8 @@ fn add(a: Tally, b: Tally) -> Tally
     }
 }
 
-/// The count of the holdings, with what is cast on the resolution.
+/// The count of the holdings, with what is cast on the resolution. Rows and blocks both stand in
+/// the order of members, so what is cast on a row is the front of what is left.
 fn tally_rows(
     alloc: Global,
     cutoffs: &Cutoffs,
@@ -196,11 +195,12 @@ fn tally_rows(
     requires rows { are_rows papers.now.register.now ≡ true }
     requires tags { are_tags papers.now.appointments.now ≡ true }
     requires numbered { are_numbered_after [] papers.now.appointments.now ≡ true }
+    requires order { AreByMember casts.now.by_member.items }
     ensures { IfOk result
         (λ tally. tally
         ≡ tally_by
         (λ (row : RegisterRow) place. vote_among
-        (filter (is_on_shares_of row.member) casts.now.by_member)
+        (filter (is_on_shares_of row.member) casts.now.by_member.items)
         (get name_cmp casts.now.instructed) papers.now.authorities.now resolution row
         (share_at cutoffs.now
         (holding_by papers.now.appointments.now papers.now.endings.now row)
@@ -208,9 +208,13 @@ fn tally_rows(
         papers.now.register.now) }
 {
     let mut tally = NOTHING;
+    let mut left = casts.by_member.as_slice();
     for row in papers.register {
-        let more = tally_row(alloc, cutoffs, papers, casts, resolution, row)?;
+        let (on_row, later) = parted_at(left, row.member);
+        let instructed = &casts.instructed;
+        let more = tally_row(alloc, cutoffs, papers, on_row, instructed, resolution, row)?;
         tally = add(tally, more);
+        left = later;
     }
     Ok(tally)
 }
@@ -225,8 +229,8 @@ fn tally_rows(
 /// instruction (sections 324 and 324A). The cutoffs are those of the poll. The lists are those of
 /// an office. The error is want of memory.
 ///
-/// What is cast is grouped once by the member on whose shares it is cast, and what a member
-/// appointed and cast is looked up. A holding is counted by the parts into which its own
+/// What is cast is sorted once by the member on whose shares it is cast, and then taken row by row;
+/// what a member appointed is looked up. A holding is counted by the parts into which its own
 /// appointments and casts divide it, so the cost does not depend on how many shares there are.
 pub fn tally(
     alloc: Global,
