@@ -1,11 +1,12 @@
 //! The book beside the desk.
 use crate::handed::Handed;
 use crate::printed::print_failing;
+use crate::reads::{Asker, is_given};
+use crate::tables::Tables;
 use desk_endings::Ended;
 use desk_replies::reply_text;
 use desk_words::{
-    Call, Caller, DeskRequest, KeyRows, MeetingId, Moment, Party, PartyRequest, Reply, Request,
-    read_party,
+    Call, Caller, DeskRequest, KeyRows, MeetingId, Moment, Party, Reply, Request, read_party,
 };
 use meeting_core::Book;
 use std::alloc::{AllocError, Global};
@@ -41,17 +42,20 @@ fn ended_by(reply: &Reply) -> Ended {
     }
 }
 
-/// Adds what a book replies to a call.
-fn add_reply(
+/// What a book replies where keys are loaded.
+fn reply_to_keys(
     alloc: Global,
     book: &Book,
-    call: &Call,
-    told: &mut Vec<u8>,
-) -> Result<(), AllocError> {
-    let (reply, _) = book.decide(call)?;
-    told.extend_from_slice(&reply_text(alloc, &reply)?)?;
-    told.push(b'\n')?;
-    Ok(())
+    keys: KeyRows,
+    moment: Moment,
+) -> Result<Vec<u8>, AllocError> {
+    let call = Call {
+        moment,
+        caller: Caller::Office,
+        request: Request::Desk(DeskRequest::Keys(keys)),
+    };
+    let (reply, _) = book.decide(&call)?;
+    reply_text(alloc, &reply)
 }
 
 impl Beside {
@@ -131,52 +135,65 @@ impl Beside {
         print_failing(self.alloc, &self.book, meeting, text, answer)
     }
 
-    /// What a book replies where its keys are loaded again, and to each party that asks for the
-    /// notice of a meeting and for its own things.
-    fn told_by(&self, book: &Book, moment: Moment) -> Result<Vec<u8>, AllocError> {
-        let mut told = Vec::new(self.alloc);
-        let call = Call {
-            moment,
-            caller: Caller::Office,
-            request: Request::Desk(DeskRequest::Keys(self.keys.copy()?)),
+    /// Whether a book replies as this one does where the keys that this one holds are loaded again.
+    fn has_keys_of(&self, book: &Book, moment: Moment) -> Result<bool, AllocError> {
+        let here = reply_to_keys(self.alloc, &self.book, self.keys.copy()?, moment)?;
+        let there = reply_to_keys(self.alloc, book, self.keys.copy()?, moment)?;
+        Ok(here.as_slice() == there.as_slice())
+    }
+
+    /// Whether a desk reads of a party in a meeting, and of that meeting, what this book gives.
+    fn is_read(&self, asker: &Asker, tables: &mut Tables) -> Result<bool, AllocError> {
+        let Some(kept) = tables.read_public(asker) else {
+            return Ok(false);
         };
-        add_reply(self.alloc, book, &call, &mut told)?;
-        for meeting in self.meetings.iter().copied() {
-            for party in self.parties.iter().copied() {
-                self.add_own(book, (moment, meeting, party), &mut told)?;
+        let Some(own) = tables.read_own(asker) else {
+            return Ok(false);
+        };
+        is_given(self.alloc, asker, &self.book, &own, &kept.record())
+    }
+
+    /// Whether another book gives of a party in a meeting, and of that meeting, what this one gives.
+    fn is_given_alike(&self, asker: &Asker, book: &Book) -> Result<bool, AllocError> {
+        let own = asker.own_in(book)?;
+        let public = book.public_of(asker.meeting);
+        is_given(self.alloc, asker, &self.book, &own, &public)
+    }
+
+    /// Whether a desk and its book have of each party that was named in a meeting, and of that
+    /// meeting, what this book gives.
+    fn is_like_in(
+        &self,
+        meeting: MeetingId,
+        moment: Moment,
+        book: &Book,
+        tables: &mut Tables,
+    ) -> Result<bool, AllocError> {
+        for party in self.parties.iter().copied() {
+            let asker = Asker {
+                moment,
+                meeting,
+                party,
+            };
+            if !self.is_given_alike(&asker, book)? || !self.is_read(&asker, tables)? {
+                return Ok(false);
             }
         }
-        Ok(told)
+        Ok(true)
     }
 
-    /// Adds what a book replies to a party that asks for the notice of a meeting and for its own
-    /// things.
-    fn add_own(
-        &self,
-        book: &Book,
-        asked: (Moment, MeetingId, Party),
-        told: &mut Vec<u8>,
-    ) -> Result<(), AllocError> {
-        let (moment, meeting, party) = asked;
-        for asked in [PartyRequest::Notice, PartyRequest::Mine] {
-            let call = Call {
-                moment,
-                caller: Caller::Party(party),
-                request: Request::Party { meeting, asked },
-            };
-            add_reply(self.alloc, book, &call, told)?;
-        }
-        Ok(())
-    }
-
-    /// Whether a book holds what this one holds, as far as the replies tell: the keys, and for each
-    /// party that was named, in each meeting, the notice and its own things.
-    pub fn is_like(&self, book: &Book) -> Result<bool, AllocError> {
+    /// Whether a desk's book holds what this one holds, and the desk reads that where it reads less
+    /// than all: the keys, and of each meeting that was named its public record, and the own things
+    /// of each party that was named.
+    pub fn is_like(&self, book: &Book, tables: &mut Tables) -> Result<bool, AllocError> {
         let Some(moment) = self.last else {
             return Ok(true);
         };
-        let here = self.told_by(&self.book, moment)?;
-        let there = self.told_by(book, moment)?;
-        Ok(here.as_slice() == there.as_slice())
+        for meeting in self.meetings.iter().copied() {
+            if !self.is_like_in(meeting, moment, book, tables)? {
+                return Ok(false);
+            }
+        }
+        self.has_keys_of(book, moment)
     }
 }

@@ -2,8 +2,8 @@
 //! commands of the program, and what is done to the database itself.
 //!
 //! Beside the desk a book in memory makes the same calls, and has to answer alike; after each call,
-//! each file that is loaded and each opening the two have to hold the same, as far as their replies
-//! tell: the keys, the notices of all meetings, and the own things of all parties that were named.
+//! each file that is loaded and each opening the two have to hold the same, as `beside` tells, and
+//! the desk has to read just that where it reads one meeting or one party alone.
 //! A second desk is asked the same over HTTP, wherever a verb has a method, and has to reply with
 //! the same JSON.
 //!
@@ -18,6 +18,7 @@ mod findings;
 mod handed;
 mod office;
 mod printed;
+mod reads;
 mod served;
 mod tables;
 

@@ -55,10 +55,10 @@ impl Office {
         })
     }
 
-    /// Whether the desk holds what the book beside it holds, as far as their replies tell.
+    /// Whether the desk holds what the book beside it holds, and reads just that.
     fn is_like_its_book(&mut self) -> Result<bool, AllocError> {
         match self.tables.book() {
-            Some(Ok(book)) => self.beside.is_like(&book),
+            Some(Ok(book)) => self.beside.is_like(&book, &mut self.tables),
             Some(Err(_)) => Ok(false),
             None => Ok(true),
         }

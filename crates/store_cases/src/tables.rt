@@ -1,10 +1,12 @@
 //! A database in memory, with a desk over it or without.
 use crate::handed::{FileKind, Handed};
+use crate::reads::Asker;
+use caller_view::OwnView;
 use desk_devices::{SliceSource, VecSink};
 use desk_endings::Ended;
 use desk_http::serve_one;
 use desk_replies::reply_text;
-use desk_store::{CreateFault, Desk, HandedBack, OpenFault};
+use desk_store::{CreateFault, Desk, HandedBack, KeptRecord, OpenFault};
 use desk_tasks::{days, keys, register, results};
 use desk_words::{Call, Caller, Failure, MeetingId, Moment, SecretKey};
 use meeting_core::Book;
@@ -198,5 +200,22 @@ impl Tables {
     /// What the desk holds, where there is a desk.
     pub fn book(&mut self) -> Option<Result<Book, Failure>> {
         Some(self.desk()?.book())
+    }
+
+    /// What the desk reads of a meeting for everyone; none where there is no desk, or it fails.
+    pub fn read_public(&mut self, asker: &Asker) -> Option<KeptRecord> {
+        match self.desk()?.read_public(asker.meeting) {
+            Ok(kept) => Some(kept),
+            Err(_) => None,
+        }
+    }
+
+    /// What the desk reads of a party's own things; none where there is no desk, or it fails.
+    pub fn read_own(&mut self, asker: &Asker) -> Option<OwnView> {
+        let desk = self.desk()?;
+        match desk.read_own(asker.party, asker.meeting, asker.moment) {
+            Ok(own) => Some(own),
+            Err(_) => None,
+        }
     }
 }
