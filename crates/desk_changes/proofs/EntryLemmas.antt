@@ -7,7 +7,7 @@ use Rattle.desk_words.specs.declared.change.Entry.{Entry}
 use Rattle.desk_words.specs.declared.change.MeetingChange.TheVariants.{Enter}
 use Rattle.desk_words.specs.declared.office.MeetingLists.{MeetingLists}
 use Rattle.desk_rows.specs.Meanings.{◌>>=◌}
-use Rattle.desk_records.specs.Office.{FlatLists, office_of}
+use Rattle.desk_records.specs.Office.{FlatLists, office_of_records}
 use Rattle.desk_schema.specs.Statements.{Adds, CommitsNothing, Does}
 use Rattle.desk_records.proofs.FlatChanges.{table_changed}
 use Rattle.desk_records.proofs.Names.{ItemOf, ListName, kept_list, not_first, owned}
@@ -26,6 +26,6 @@ pub entered_writes : {S : Type 0} (g : store.Ghosts S) (old new : Held S) (id : 
 entered_writes g old new id k {what = what} is n added as_it_came same commits does =
     subst (λ it. Writes {T = Unit {0}} g old new (Ok tt) (InMeeting id (Enter it))) (sym is)
     (written_by g old new (InMeeting id (Enter what)) (kept_list n).table (λ was. was ++ in_meeting id added ∷ []) k (not_first n) does commits (λ done flat office held of can.
-    ap (λ (o : Option FlatLists). o >>= office_of) (table_changed (state g old) (state g new) flat held (Each n) (λ was. was ++ in_meeting id added ∷ []) done)
+    ap (λ (o : Option FlatLists). o >>= office_of_records) (table_changed (state g old) (state g new) flat held (Each n) (λ was. was ++ in_meeting id added ∷ []) done)
     ∙ received (list_of n) as_it_came flat id added office of can.before.differ (placed_in office id (Enter what) can)
     ∙ ap (λ (change : MeetingLists → MeetingLists). Some (with_changed id change office)) (λ i x. same x i)))

@@ -14,7 +14,7 @@ use Rattle.desk_words.proofs.RowLemmas.{same_name-refl}
 use Rattle.desk_rows.specs.declared.kept.MeetingRow.{MeetingRow}
 use Rattle.desk_rows.specs.Meanings.{◌>>=◌}
 use Rattle.desk_schema.specs.Contents.{without_resolutions}
-use Rattle.desk_records.specs.Office.{FlatLists, have_meetings, lists_of, lists_of_all, number_before, numbered_from, of_meeting, office_of, resolutions_of}
+use Rattle.desk_records.specs.Office.{FlatLists, have_meetings, lists_of, lists_of_all, number_before, numbered_from, of_meeting, office_of_records, resolutions_of}
 use Rattle.desk_records.proofs.Names.{ListName, kept_list}
 use Rattle.desk_records.proofs.Names.ListName.{Register, Appointments, Endings, Authorities, Presences, Demands, Polls, Casts}
 use Rattle.desk_records.proofs.OfficeLemmas.{AreOf, have_all, office_is, stands_there}
@@ -114,7 +114,7 @@ module _ (flat : FlatLists) (meeting : Meeting) where
         })
 
     -- a meeting of a new name is called, with its resolutions
-    pub meeting_added : office_of with_meeting ≡ Some (record office { meetings = office.meetings ++ new_lists meeting ∷ [] })
+    pub meeting_added : office_of_records with_meeting ≡ Some (record office { meetings = office.meetings ++ new_lists meeting ∷ [] })
     meeting_added =
         office_is with_meeting (record office { meetings = office.meetings ++ new_lists meeting ∷ [] }) all_stand
         (all-append with_meeting flat.meetings (without_resolutions meeting) office.meetings (new_lists meeting) (others_same flat.meetings none ∙ of.lists) its_lists)

@@ -21,7 +21,7 @@ use Rattle.desk_words.specs.declared.records.Tally.{Tally}
 use Rattle.desk_rows.specs.Meanings.{◌>>=◌}
 use Rattle.desk_schema.specs.Contents as table
 use Rattle.desk_schema.specs.Contents.{closed_at, declared_as, opened_at, started_at}
-use Rattle.desk_records.specs.Office.{FlatLists, office_of}
+use Rattle.desk_records.specs.Office.{FlatLists, office_of_records}
 use Rattle.desk_schema.specs.Statements.{Adds, CommitsNothing, Does, Sets}
 use Rattle.desk_records.proofs.FlatChanges.{table_changed}
 use Rattle.desk_records.proofs.Names.ListName.{Polls}
@@ -77,14 +77,14 @@ module _ {S : Type 0} (g : store.Ghosts S) (old new : Held S) (id : List ℕ) (n
   pub opened : (moment : ℕ) → Does g old new (Ok n) (Sets table.meetings (opened_at id moment)) → Writes {T = Unit {0}} g old new (Ok tt) (InMeeting id (SetOpened moment))
   opened moment does =
       written_by g old new (InMeeting id (SetOpened moment)) table.meetings (map (opened_at id moment)) n refl does commits (λ done flat office held of can.
-      ap (λ (o : Option FlatLists). o >>= office_of) (table_changed (state g old) (state g new) flat held Meetings (map (opened_at id moment)) done)
+      ap (λ (o : Option FlatLists). o >>= office_of_records) (table_changed (state g old) (state g new) flat held Meetings (map (opened_at id moment)) done)
       ∙ meeting_opened flat id office of can.before.differ moment)
 
   -- a poll is ordered
   pub ordered : (poll : Poll) → Does g old new (Ok n) (Adds table.polls (in_meeting id poll)) → Writes {T = Unit {0}} g old new (Ok tt) (InMeeting id (AddPoll poll))
   ordered poll does =
       written_by g old new (InMeeting id (AddPoll poll)) table.polls (λ was. was ++ in_meeting id poll ∷ []) n refl does commits (λ done flat office held of can.
-      ap (λ (o : Option FlatLists). o >>= office_of) (table_changed (state g old) (state g new) flat held (Each Polls) (λ was. was ++ in_meeting id poll ∷ []) done)
+      ap (λ (o : Option FlatLists). o >>= office_of_records) (table_changed (state g old) (state g new) flat held (Each Polls) (λ was. was ++ in_meeting id poll ∷ []) done)
       ∙ poll_added flat id poll office of can.before.differ (placed_in office id (AddPoll poll) can) (takes id poll office.meetings can.before.differ can.later.each))
 
   module _ (resolution : ℕ) where
@@ -97,7 +97,7 @@ module _ {S : Type 0} (g : store.Ghosts S) (old new : Held S) (id : List ℕ) (n
         → Writes {T = Unit {0}} g old new (Ok tt) (InMeeting id (SetPoll resolution change))
     moved_by change does =
         written_by g old new (InMeeting id (SetPoll resolution change)) table.polls (map (change_in id (λ (p : Poll). p.resolution == resolution) (moved change))) n refl does commits (λ done flat office held of can.
-        ap (λ (o : Option FlatLists). o >>= office_of) (table_changed (state g old) (state g new) flat held (Each Polls) (map (change_in id (λ (p : Poll). p.resolution == resolution) (moved change))) done)
+        ap (λ (o : Option FlatLists). o >>= office_of_records) (table_changed (state g old) (state g new) flat held (Each Polls) (map (change_in id (λ (p : Poll). p.resolution == resolution) (moved change))) done)
         ∙ poll_moved resolution (moved change) (stays_on change) flat id office of can.before.differ (all_in_order office.meetings can.before.each))
 
     -- a poll is started

@@ -16,7 +16,7 @@ use Rattle.desk_words.specs.declared.office.MeetingLists.{MeetingLists}
 use Rattle.desk_words.specs.declared.office.OfficeLists.{OfficeLists}
 use Rattle.desk_rows.specs.Meanings.{all_mean}
 use Rattle.desk_schema.specs.Contents as contents
-use Rattle.desk_records.specs.Office.{FlatLists, flat_in, office_in, office_of}
+use Rattle.desk_records.specs.Office.{FlatLists, flat_in, office_in, office_of_records}
 use Rattle.desk_schema.specs.Statements.{Changes, CommitsNothing, Does, KeepsOthers, TableOf, columns_of}
 use Rattle.desk_records.proofs.OfficeLemmas.{AreOf, are_of}
 use Rattle.desk_rows.proofs.MeaningLemmas.{bound}
@@ -69,7 +69,7 @@ Becomes change old new =
 
 pub becomes : (change : Change) (old new : State) (office : OfficeLists) → Holds office old → IsTrue (can_make office change) → Becomes change old new → office_in new.now.trees ≡ Some (after office change)
 becomes change old new office h can next =
-    let flat = bound (flat_in old.now.trees) office_of office h.means in
+    let flat = bound (flat_in old.now.trees) office_of_records office h.means in
     next flat.0 office flat.1 (are_of flat.0 office flat.2) (possible office change can)
 
 -- a change of another table leaves the version that is noted

@@ -18,7 +18,7 @@ use Rattle.desk_words.specs.declared.records.RegisterRow.{RegisterRow}
 use Rattle.desk_words.specs.declared.records.Resolution.{Resolution}
 use Rattle.desk_rows.specs.Meanings.{◌>>=◌}
 use Rattle.desk_schema.specs.Contents as table
-use Rattle.desk_records.specs.Office.{FlatLists, flat_in, office_of}
+use Rattle.desk_records.specs.Office.{FlatLists, flat_in, office_of_records}
 use Rattle.desk_schema.specs.Statements.{Adds, AddsAfter, Changes, CommitsNothing, Does, TableOf}
 use Rattle.desk_records.proofs.FlatChanges.{closed_held, table_changed}
 use Rattle.desk_records.proofs.Names.ListName.{Register}
@@ -28,7 +28,7 @@ use Rattle.desk_records.proofs.RecordLemmas.{in_meeting}
 use Rattle.desk_rows.proofs.MeaningLemmas.{bound}
 use Rattle.std.proofs.lemmas.Bool.{and_parts}
 use Rattle.desk_words.specs.Changes.{after}
-use Rattle.desk_changes.specs.Writes.{HoldsRecords, Turns, Writes, all_in, any_records, no_days, numbered, with_days, with_keys, with_resolutions, with_rows}
+use Rattle.desk_changes.specs.Writes.{HoldsRecords, Turns, Writes, all_in, any_records, no_days, numbered, days_added, keys_added, resolutions_added, rows_added}
 use Rattle.desk_changes.proofs.Possible.{Possible, possible, version_kept}
 
 on_ok : {T : Type 0} {P Q : Type 0} (r : Result T Error) → OnOk r P → (P → Q) → OnOk r Q
@@ -127,12 +127,12 @@ module _ {S : Type 0} (g : store.Ghosts S) where
 
   -- where the records become those of the office that a change leaves, the change is written
   pub writes_from : {T : Type 0} (a b : Held S) (r : Result T Error) (change : Change) (turn : FlatLists → FlatLists) → Turns g a b r any_records turn
-      → ((flat : FlatLists) (office : OfficeLists) → AreOf flat office → Possible office change → office_of (turn flat) ≡ Some (after office change)) → Writes g a b r change
+      → ((flat : FlatLists) (office : OfficeLists) → AreOf flat office → Possible office change → office_of_records (turn flat) ≡ Some (after office change)) → Writes g a b r change
   writes_from a b r change turn turns next = record {
     written = λ clean office h can.
-        let flat = bound (flat_in (state g a).now.trees) office_of office h.means in
+        let flat = bound (flat_in (state g a).now.trees) office_of_records office h.means in
         on_ok r (turns.done clean flat.0 (record { desk = h.desk; version = h.version; inside = h.inside; means = flat.1 }) refl) (λ has.
-        record { desk = has.desk; version = has.version; inside = has.inside; means = ap (λ (o : Option FlatLists). o >>= office_of) has.means ∙ next flat.0 office (are_of flat.0 office flat.2) (possible office change can) });
+        record { desk = has.desk; version = has.version; inside = has.inside; means = ap (λ (o : Option FlatLists). o >>= office_of_records) has.means ∙ next flat.0 office (are_of flat.0 office flat.2) (possible office change can) });
     kept = turns.kept;
     crash = turns.crash;
   }
@@ -149,49 +149,49 @@ module _ {S : Type 0} (g : store.Ghosts S) where
   -- ---- one record more
 
   module _ (a b c : Held S) (n : ℕ) (commits : CommitsNothing g b c) where
-    pub row_more : (id : List ℕ) (rows : List RegisterRow) (row : RegisterRow) → Turns {T = Unit {0}} g a b (Ok tt) any_records (with_rows id rows) → Does g b c (Ok n) (Adds table.register (in_meeting id row))
-        → Turns {T = Unit {0}} g a c (Ok tt) any_records (with_rows id (rows ++ row ∷ []))
+    pub row_more : (id : List ℕ) (rows : List RegisterRow) (row : RegisterRow) → Turns {T = Unit {0}} g a b (Ok tt) any_records (rows_added id rows) → Does g b c (Ok n) (Adds table.register (in_meeting id row))
+        → Turns {T = Unit {0}} g a c (Ok tt) any_records (rows_added id (rows ++ row ∷ []))
     row_more id rows row turns does =
         let more = λ (flat : FlatLists). record flat { register = flat.register ++ in_meeting id row ∷ [] } in
-        turns_same a c (Ok tt) any_records (λ flat. more (with_rows id rows flat)) (with_rows id (rows ++ row ∷ []))
+        turns_same a c (Ok tt) any_records (λ flat. more (rows_added id rows flat)) (rows_added id (rows ++ row ∷ []))
         (λ flat. ap (λ l. record flat { register = l }) (append_assoc flat.register (all_in id rows) (in_meeting id row ∷ []) ∙ ap (λ l. flat.register ++ l) (sym (map-append (in_meeting id) rows (row ∷ [])))))
-        (turns_then a b c any_records (with_rows id rows) turns (Ok tt) any_records more
+        (turns_then a b c any_records (rows_added id rows) turns (Ok tt) any_records more
         (turns_by b c n table.register (λ was. was ++ in_meeting id row ∷ []) more refl does commits (λ flat held. table_changed (state g b) (state g c) flat held (Each Register) (λ was. was ++ in_meeting id row ∷ []))) (λ flat good. refl))
 
-    pub key_more : (keys : List KeyRow) (key : KeyRow) → Turns {T = Unit {0}} g a b (Ok tt) any_records (with_keys keys) → Does g b c (Ok n) (Adds table.keys key)
-        → Turns {T = Unit {0}} g a c (Ok tt) any_records (with_keys (keys ++ key ∷ []))
+    pub key_more : (keys : List KeyRow) (key : KeyRow) → Turns {T = Unit {0}} g a b (Ok tt) any_records (keys_added keys) → Does g b c (Ok n) (Adds table.keys key)
+        → Turns {T = Unit {0}} g a c (Ok tt) any_records (keys_added (keys ++ key ∷ []))
     key_more keys key turns does =
         let more = λ (flat : FlatLists). record flat { keys = flat.keys ++ key ∷ [] } in
-        turns_same a c (Ok tt) any_records (λ flat. more (with_keys keys flat)) (with_keys (keys ++ key ∷ [])) (λ flat. ap (λ l. record flat { keys = l }) (append_assoc flat.keys keys (key ∷ [])))
-        (turns_then a b c any_records (with_keys keys) turns (Ok tt) any_records more
+        turns_same a c (Ok tt) any_records (λ flat. more (keys_added keys flat)) (keys_added (keys ++ key ∷ [])) (λ flat. ap (λ l. record flat { keys = l }) (append_assoc flat.keys keys (key ∷ [])))
+        (turns_then a b c any_records (keys_added keys) turns (Ok tt) any_records more
         (turns_by b c n table.keys (λ was. was ++ key ∷ []) more refl does commits (λ flat held. table_changed (state g b) (state g c) flat held Keys (λ was. was ++ key ∷ []))) (λ flat good. refl))
 
-    pub resolution_more : (id : List ℕ) (rs : List Resolution) (r : Resolution) (number : ℕ) → number ≡ 1 + length rs → Turns {T = Unit {0}} g a b (Ok tt) any_records (with_resolutions id rs)
-        → Does g b c (Ok n) (Adds table.resolutions (in_meeting id (record { number = number; resolution = r }))) → Turns {T = Unit {0}} g a c (Ok tt) any_records (with_resolutions id (rs ++ r ∷ []))
+    pub resolution_more : (id : List ℕ) (rs : List Resolution) (r : Resolution) (number : ℕ) → number ≡ 1 + length rs → Turns {T = Unit {0}} g a b (Ok tt) any_records (resolutions_added id rs)
+        → Does g b c (Ok n) (Adds table.resolutions (in_meeting id (record { number = number; resolution = r }))) → Turns {T = Unit {0}} g a c (Ok tt) any_records (resolutions_added id (rs ++ r ∷ []))
     resolution_more id rs r number is turns does =
         let one = in_meeting id (record { number = number; resolution = r }) in
         let more = λ (flat : FlatLists). record flat { resolutions = flat.resolutions ++ one ∷ [] } in
-        turns_same a c (Ok tt) any_records (λ flat. more (with_resolutions id rs flat)) (with_resolutions id (rs ++ r ∷ []))
+        turns_same a c (Ok tt) any_records (λ flat. more (resolutions_added id rs flat)) (resolutions_added id (rs ++ r ∷ []))
         (λ flat. ap (λ l. record flat { resolutions = l }) (append_assoc flat.resolutions (all_in id (numbered 1 rs)) (one ∷ [])
         ∙ ap (λ l. flat.resolutions ++ l) (sym (ap (all_in id) (numbered-last 1 rs r number is) ∙ map-append (in_meeting id) (numbered 1 rs) (record { number = number; resolution = r } ∷ [])))))
-        (turns_then a b c any_records (with_resolutions id rs) turns (Ok tt) any_records more
+        (turns_then a b c any_records (resolutions_added id rs) turns (Ok tt) any_records more
         (turns_by b c n table.resolutions (λ was. was ++ one ∷ []) more refl does commits (λ flat held. table_changed (state g b) (state g c) flat held Resolutions (λ was. was ++ one ∷ []))) (λ flat good. refl))
 
     -- a day after the earlier ones, where there was none before
-    pub day_more : (days : List ℕ) (day : ℕ) → list_all (λ earlier. nat_lt earlier day) days ≡ true → Turns {T = Unit {0}} g a b (Ok tt) no_days (with_days days)
-        → Does g b c (Ok n) (AddsAfter (λ earlier. nat_lt earlier day) table.closed day) → Turns {T = Unit {0}} g a c (Ok tt) no_days (with_days (days ++ day ∷ []))
+    pub day_more : (days : List ℕ) (day : ℕ) → list_all (λ earlier. nat_lt earlier day) days ≡ true → Turns {T = Unit {0}} g a b (Ok tt) no_days (days_added days)
+        → Does g b c (Ok n) (AddsAfter (λ earlier. nat_lt earlier day) table.closed day) → Turns {T = Unit {0}} g a c (Ok tt) no_days (days_added (days ++ day ∷ []))
     day_more days day behind turns does = record {
       done = λ clean flat has good.
           let early : HasCleanDisk (state g b) = omega (arith, commits.crash.clean) in
           let mid = turns.done early flat has good in
           let none : flat.closed ≡ [] = no_values flat.closed good in
           let all_earlier : list_all (λ earlier. nat_lt earlier day) (flat.closed ++ days) ≡ true = subst (λ l. list_all (λ earlier. nat_lt earlier day) (l ++ days) ≡ true) (sym none) behind in
-          let it = does clean mid.inside mid.desk (flat.closed ++ days) (closed_held (state g b).now.trees (with_days days flat) mid.means) all_earlier in
+          let it = does clean mid.inside mid.desk (flat.closed ++ days) (closed_held (state g b).now.trees (days_added days flat) mid.means) all_earlier in
           record {
             desk = it.desk;
             version = version_kept table.closed.number (state g b) (state g c) refl it.others mid.version;
             inside = it.inside;
-            means = table_changed (state g b) (state g c) (with_days days flat) mid.means Closed (λ was. was ++ day ∷ []) it
+            means = table_changed (state g b) (state g c) (days_added days flat) mid.means Closed (λ was. was ++ day ∷ []) it
                 ∙ ap (λ l. Some (record flat { closed = l })) (append_assoc flat.closed days (day ∷ []));
           };
       kept = λ clean.

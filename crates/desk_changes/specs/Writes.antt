@@ -75,18 +75,18 @@ numbered n [] = []
 numbered n (r ∷ rest) = record { number = n; resolution = r } ∷ numbered (suc n) rest
 
 -- the resolutions of a meeting, numbered from 1, behind those of the others
-abbrev pub with_resolutions : List ℕ → List Resolution → FlatLists → FlatLists
-with_resolutions id resolutions flat =
+abbrev pub resolutions_added : List ℕ → List Resolution → FlatLists → FlatLists
+resolutions_added id resolutions flat =
     record flat { resolutions = flat.resolutions ++ all_in id (numbered 1 resolutions) }
 
 -- the rows of a meeting's register behind the others
-abbrev pub with_rows : List ℕ → List RegisterRow → FlatLists → FlatLists
-with_rows id rows flat = record flat { register = flat.register ++ all_in id rows }
+abbrev pub rows_added : List ℕ → List RegisterRow → FlatLists → FlatLists
+rows_added id rows flat = record flat { register = flat.register ++ all_in id rows }
 
 -- keys behind the others
-abbrev pub with_keys : List KeyRow → FlatLists → FlatLists
-with_keys keys flat = record flat { keys = flat.keys ++ keys }
+abbrev pub keys_added : List KeyRow → FlatLists → FlatLists
+keys_added keys flat = record flat { keys = flat.keys ++ keys }
 
 -- closed days behind the others
-abbrev pub with_days : List ℕ → FlatLists → FlatLists
-with_days days flat = record flat { closed = flat.closed ++ days }
+abbrev pub days_added : List ℕ → FlatLists → FlatLists
+days_added days flat = record flat { closed = flat.closed ++ days }

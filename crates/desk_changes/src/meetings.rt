@@ -3,7 +3,7 @@ ghost use Rattle.std.specs.Prelude.{◌≡◌};
 ghost use Rattle.desk_words.specs.declared.change.Change.TheVariants as change;
 ghost use Rattle.desk_words.specs.declared.change.MeetingChange.TheVariants as meeting_change;
 ghost use Rattle.desk_changes.specs.Writes.{Turns, Writes, any_records};
-ghost use Rattle.desk_changes.specs.Writes.{with_resolutions, with_rows};
+ghost use Rattle.desk_changes.specs.Writes.{resolutions_added, rows_added};
 
 use desk_tables::{meetings, register, resolutions};
 use desk_words::{Meeting, MeetingId, Moment, Register, RegisterRow, Resolution};
@@ -16,7 +16,7 @@ fn add_resolutions<S: Alter>(
 ) -> Result<(), Error>
     ensures same_reference { tx.new.conn.ghost_name ≡ tx.old.conn.ghost_name }
     ensures turns { Turns S.Store tx.old.conn.now tx.new.conn.now result any_records
-        (with_resolutions meeting resolutions.now) }
+        (resolutions_added meeting resolutions.now) }
 {
     let mut number = 0;
     for resolution in resolutions {
@@ -46,7 +46,7 @@ fn add_rows<S: Alter>(
 ) -> Result<(), Error>
     ensures same_reference { tx.new.conn.ghost_name ≡ tx.old.conn.ghost_name }
     ensures turns { Turns S.Store tx.old.conn.now tx.new.conn.now result any_records
-        (with_rows meeting rows.now) }
+        (rows_added meeting rows.now) }
 {
     for row in rows {
         register::add(tx, meeting, row)?;

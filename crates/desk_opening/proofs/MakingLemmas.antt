@@ -8,8 +8,9 @@ use Rattle.desk_records.specs.Standing.{version_one}
 use Rattle.desk_schema.specs.Contents as contents
 use Rattle.desk_schema.specs.Statements.{AddsFirst, CommitsNothing, Does}
 use Rattle.desk_schema.specs.Tables.{desk_schema, no_schema}
+use Rattle.desk_statements.proofs.Frames.{empty_is_desk, ones_apart}
 use Rattle.desk_opening.specs.Making.{IsMaking, LeavesEmptyDesk}
-use Rattle.desk_opening.proofs.EmptyLemmas.{empty_desk, noted}
+use Rattle.desk_opening.proofs.EmptyLemmas.{noted}
 
 keeps_then : (a b c : State) → KeepsCommit a b → KeepsCommit b c → KeepsCommit a c
 keeps_then a b c p q = record { was_open = λ o. p.was_open (q.was_open o); committed = λ o. q.committed o ∙ p.committed (q.was_open o) }
@@ -21,7 +22,7 @@ made_and_noted g a b c t u v one added commits = record {
   made = λ clean inside empty.
       let early : HasCleanDisk (state g b) = omega (arith, commits.crash.clean, clean) in
       let done = one.made early inside empty in
-      noted (state g b) (state g c) done.0 (added clean done.1 (empty_desk (state g b) done.0));
+      noted (state g b) (state g c) done.0 (added clean done.1 (empty_is_desk ones_apart (state g b) done.0));
   kept = λ clean inside empty.
       let early : HasCleanDisk (state g b) = omega (arith, commits.crash.clean, clean) in
       let done = one.made early inside empty in

@@ -27,7 +27,7 @@ use Rattle.desk_words.specs.declared.records.Resolution.{Resolution}
 use Rattle.desk_words.proofs.OfficeFacts.{meeting_facts, office_facts, register_ascends}
 use Rattle.desk_rows.specs.Meanings.{◌>>=◌}
 use Rattle.desk_rows.specs.declared.kept.MeetingRow.{MeetingRow}
-use Rattle.desk_records.specs.Office.{FlatLists, flat_in, lists_of, lists_of_all, lists_with, of_meeting, office_in, office_of, resolutions_of}
+use Rattle.desk_records.specs.Office.{FlatLists, flat_in, lists_of, lists_of_all, lists_with, of_meeting, office_in, office_of_records, resolutions_of}
 use Rattle.desk_records.proofs.OfficeLemmas.{are_of}
 use Rattle.desk_rows.proofs.MeaningLemmas.{bound}
 use Rattle.desk_reading.specs.Reading.{IsReading}
@@ -68,7 +68,7 @@ meetings_stay flat (row ∷ rows) ms h all =
 -- the lists that tables hold are in order, where they are an office once each register is
 pub office_stays : (trees : Trees) (office : OfficeLists) → office_in trees ≡ Some office → is_office (office_in_order office) ≡ true → office_in_order office ≡ office
 office_stays trees office h so =
-    let flat = bound (flat_in trees) office_of office h in
+    let flat = bound (flat_in trees) office_of_records office h in
     let are = are_of flat.0 office flat.2 in
     ap (λ ms. record office { meetings = ms }) (meetings_stay flat.0 flat.0.meetings office.meetings are.lists (office_facts (office_in_order office) so).each)
 

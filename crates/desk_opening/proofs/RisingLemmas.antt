@@ -11,11 +11,11 @@ use Rattle.sqlite_trees.specs.declared.store.Shape.{Shape}
 use Rattle.sqlite_trees.specs.declared.store.Shape.TheVariants as shape
 use Rattle.sqlite_catalog.specs.Listing.{AreListed}
 use Rattle.sqlite_catalog.proofs.LayoutLemmas.{laid_out}
-use Rattle.desk_schema.specs.Statements.{IsDesk, IsRising, table_numbers}
+use Rattle.desk_schema.specs.Statements.{IsDesk, IsRising}
 use Rattle.desk_schema.specs.Tables.{desk_schema}
+use Rattle.desk_statements.proofs.Frames.{of_tables, of_tree, ones_apart}
 use Rattle.desk_tables.specs.Versions.{AreNoted, NotesVersion}
 use Rattle.desk_opening.specs.Rising.{Rise, RowsRise}
-use Rattle.desk_opening.proofs.EmptyLemmas.{each_table, of_each}
 
 -- each tree of a table is ordered as a table's is
 all_shaped : (shapes : ℕ → Shape) (trees : Trees) (tables : List Table) → IsOrdered shapes trees → AllByRecursion (λ (t : Table). shapes t.tree ≡ shape.Table) tables
@@ -37,10 +37,11 @@ risen v s same listed ordered are =
 
 -- tables that are declared as a desk's, and whose rows rise, are a desk's
 pub are_a_desk : (s : State) → s.now.schema ≡ desk_schema → RowsRise s → IsDesk s
-are_a_desk s has rise =
-    let each = each_table (λ n. IsRising (s.now.trees n)) (subst (λ (made : Schema). AllByRecursion (λ (t : Table). IsRising (s.now.trees t.tree)) made.tables) has rise) in
-    record { schema = has; rising = λ number is. of_each (λ n. n) (λ n. IsRising (s.now.trees n)) table_numbers number each is }
+are_a_desk s has rise = record {
+  schema = has;
+  rising = of_tables ones_apart (λ n. IsRising (s.now.trees n)) (subst (λ (made : Schema). AllByRecursion (λ (t : Table). IsRising (s.now.trees t.tree)) made.tables) has rise);
+}
 
 -- so do those of the table that notes the version
 pub are_noted : (s : State) → NotesVersion s.now.schema → RowsRise s → AreNoted s
-are_noted s noted rise = record { noted = noted; rising = of_each (λ (t : Table). t.tree) (λ n. IsRising (s.now.trees n)) s.now.schema.tables 0 rise noted.table }
+are_noted s noted rise = record { noted = noted; rising = of_tree (λ n. IsRising (s.now.trees n)) s.now.schema.tables 0 rise noted.table }

@@ -1,8 +1,8 @@
 //! The tables of a desk that holds nothing yet.
 ghost use Rattle.std.specs.Prelude.{◌≡◌};
 ghost use Rattle.desk_opening.specs.Making.{IsMaking, LeavesEmptyDesk};
-ghost use Rattle.desk_schema.specs.Tables.{desk_schema, no_schema, with_casts};
-ghost use Rattle.desk_schema.specs.Tables.{with_presences, with_register};
+ghost use Rattle.desk_schema.specs.Tables.{desk_schema, no_schema, up_to_casts};
+ghost use Rattle.desk_schema.specs.Tables.{up_to_presences, up_to_register};
 
 use desk_tables::{closed, desk, keys, meetings, register, resolutions};
 use meeting_tables::{
@@ -14,7 +14,7 @@ use sqlite::{Alter, Error, Transaction};
 fn make_meetings<S: Alter>(tx: &mut Transaction<'_, S>) -> Result<(), Error>
     ensures same_reference { tx.new.conn.ghost_name ≡ tx.old.conn.ghost_name }
     ensures made { IsMaking S.Store tx.old.conn.now tx.new.conn.now result
-        no_schema with_register }
+        no_schema up_to_register }
 {
     desk::make(tx)?;
     keys::make(tx)?;
@@ -29,7 +29,7 @@ fn make_meetings<S: Alter>(tx: &mut Transaction<'_, S>) -> Result<(), Error>
 fn make_papers<S: Alter>(tx: &mut Transaction<'_, S>) -> Result<(), Error>
     ensures same_reference { tx.new.conn.ghost_name ≡ tx.old.conn.ghost_name }
     ensures made { IsMaking S.Store tx.old.conn.now tx.new.conn.now result
-        with_register with_presences }
+        up_to_register up_to_presences }
 {
     appointments::make(tx)?;
     endings::make(tx)?;
@@ -42,7 +42,7 @@ fn make_papers<S: Alter>(tx: &mut Transaction<'_, S>) -> Result<(), Error>
 fn make_polls<S: Alter>(tx: &mut Transaction<'_, S>) -> Result<(), Error>
     ensures same_reference { tx.new.conn.ghost_name ≡ tx.old.conn.ghost_name }
     ensures made { IsMaking S.Store tx.old.conn.now tx.new.conn.now result
-        with_presences with_casts }
+        up_to_presences up_to_casts }
 {
     demands::make(tx)?;
     polls::make(tx)?;
@@ -54,7 +54,7 @@ fn make_polls<S: Alter>(tx: &mut Transaction<'_, S>) -> Result<(), Error>
 fn make_indexes<S: Alter>(tx: &mut Transaction<'_, S>) -> Result<(), Error>
     ensures same_reference { tx.new.conn.ghost_name ≡ tx.old.conn.ghost_name }
     ensures made { IsMaking S.Store tx.old.conn.now tx.new.conn.now result
-        with_casts desk_schema }
+        up_to_casts desk_schema }
 {
     indexes::make_appointments_by_proxy(tx)?;
     indexes::make_authorities_by_person(tx)?;

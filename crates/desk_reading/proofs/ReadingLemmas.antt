@@ -14,7 +14,7 @@ use Rattle.desk_rows.specs.Meanings.{◌>>=◌, IsFault, all_mean}
 use Rattle.desk_rows.specs.declared.fault.RowFault.{RowFault}
 use Rattle.desk_rows.specs.declared.fault.RowFault.TheVariants as row
 use Rattle.sqlite.specs.Order.{Row}
-use Rattle.desk_schema.specs.Statements.{ChangesNothing, IsDesk, IsRead, IsRising, TableOf, records_in, rows_of}
+use Rattle.desk_schema.specs.Statements.{ChangesNothing, IsDesk, IsRead, IsRising, TableOf, records_in, table_rows}
 use Rattle.desk_rows.proofs.MeaningLemmas.{bound}
 use Rattle.office_lists.specs.declared.fault.ReadFault.{ReadFault}
 use Rattle.office_lists.specs.declared.fault.ReadFault.TheVariants.{NoOffice, Store, Memory}
@@ -118,5 +118,5 @@ pub row_cause : {X : Type 0} (right : X → Bool) (fault : RowFault) (said : Opt
 row_cause right row.Unreadable said none = λ x h. absurd (let no : ◌≡◌ {A = Option _} None (Some x) = sym none ∙ h in cc)
 row_cause right row.Memory said none = tt
 
-pub meaning_is : {A : Type 0} (table : TableOf A) (means : Row → Option A) (rows : List Row) (trees : Trees) → table.means ≡ means → rows ≡ rows_of table trees → all_mean means rows ≡ records_in table trees
+pub meaning_is : {A : Type 0} (table : TableOf A) (means : Row → Option A) (rows : List Row) (trees : Trees) → table.means ≡ means → rows ≡ table_rows table trees → all_mean means rows ≡ records_in table trees
 meaning_is table means rows trees same is = ap (λ f. all_mean f rows) (sym same) ∙ ap (all_mean table.means) is

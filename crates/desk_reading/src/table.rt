@@ -2,7 +2,7 @@
 ghost use Rattle.std.specs.Prelude.{◌≡◌, IfOk, refl};
 ghost use Rattle.desk_reading.specs.Reading.{IsReading};
 ghost use Rattle.desk_schema.specs.Contents as contents;
-ghost use Rattle.desk_schema.specs.Statements.{ChangesNothing, IsRead, Reads, TableOf, records_in};
+ghost use Rattle.desk_schema.specs.Statements.{ChangesNothing, IsRead, ReadsTable, TableOf, records_in};
 ghost use Rattle.office_lists.specs.Yields.{any_at_all};
 
 use desk_rows::{FromRow, InMeeting, MeetingRow, NumberedResolution, records};
@@ -25,7 +25,7 @@ pub trait Kept: FromRow {
     fn rows<S: Alter>(tx: &mut Transaction<'_, S>) -> Result<Vec<Row>, Error>
         ensures same_reference { tx.new.conn.ghost_name ≡ tx.old.conn.ghost_name }
         ensures rows { IsRead S.Store tx.old.conn.now tx.new.conn.now → IfOk result (λ rows.
-            Reads S.Store tx.old.conn.now tx.new.conn.now table rows.items) }
+            ReadsTable S.Store tx.old.conn.now tx.new.conn.now table rows.items) }
         ensures changes { ChangesNothing S.Store tx.old.conn.now tx.new.conn.now };
 
     // A row of the table means what it reads as.

@@ -6,7 +6,7 @@ use Rattle.sqlite.specs.State.{State}
 use Rattle.sqlite.specs.Tree.{Trees}
 use Rattle.desk_rows.specs.Meanings.{◌>>=◌, all_mean}
 use Rattle.desk_schema.specs.Contents as table
-use Rattle.desk_schema.specs.Statements.{Changes, columns_of, is_table, records_in}
+use Rattle.desk_schema.specs.Statements.{Changes, columns_of, has_table, layout_one, records_in}
 use Rattle.desk_records.specs.Office.{FlatLists, flat_in}
 use Rattle.desk_records.proofs.Names.{RecordOf, TableName, all-changed, all-same, kept, number_of, same_table}
 use Rattle.desk_records.proofs.Names.ListName.{Register, Appointments, Endings, Authorities, Presences, Demands, Polls, Casts}
@@ -69,7 +69,7 @@ flat_from trees flat h =
 differ : (a b : ℕ) → (a == b) ≡ false → a ≢ b
 differ a b e = grind (arith, nat_tests)
 
-is_one : (n : TableName) → IsTrue (is_table (number_of n))
+is_one : (n : TableName) → IsTrue (has_table layout_one (number_of n))
 is_one = elim [ Keys ↦ refl | Each Register ↦ refl | _ ↦ refl ]
 
 -- where what one table holds is changed, so are its records

@@ -18,7 +18,7 @@ use Rattle.desk_words.specs.declared.records.RegisterRow.{RegisterRow}
 use Rattle.desk_words.specs.declared.records.Resolution.{Resolution}
 use Rattle.desk_rows.specs.declared.kept.InMeeting.{InMeeting}
 use Rattle.desk_rows.specs.declared.kept.MeetingRow.{MeetingRow}
-use Rattle.desk_records.specs.Office.{FlatLists, of_meeting, lists_with, name_meetings, have_meetings, office_of}
+use Rattle.desk_records.specs.Office.{FlatLists, of_meeting, lists_with, name_meetings, have_meetings, office_of_records}
 use Rattle.desk_records.proofs.Names.{ItemOf, ListName, kept_list, owned}
 use Rattle.desk_records.proofs.Names.ListName.{Register, Appointments, Endings, Authorities, Presences, Demands, Polls, Casts}
 use Rattle.desk_records.proofs.OfficeLemmas.{AllStand, AreOf, ChangesOne, have_all, office_changed, stands_there, with_changed}
@@ -57,7 +57,7 @@ module _ {A : Type 0} (k : ListOf A) (flat : FlatLists) (records : List (InMeeti
 
   -- where the records of one meeting are changed, its list is
   pub list_changed : (office : OfficeLists) → AreOf flat office → name_meetings flat.meetings records ≡ true → differ_by same_meeting office.meetings ≡ true → list_all test office.meetings ≡ true
-      → office_of (k.with_all records flat) ≡ Some (with_changed id (λ x. k.with_own (change (k.own x)) x) office)
+      → office_of_records (k.with_all records flat) ≡ Some (with_changed id (λ x. k.with_own (change (k.own x)) x) office)
   list_changed office of stand = office_changed flat (k.with_all records flat) (λ m. m) id (λ x. k.with_own (change (k.own x)) x) test changes_one office of (k.stand records flat of.stand stand)
 
 pub all_pass : {X : Type 0} (xs : List X) → list_all (λ _. true) xs ≡ true
@@ -67,7 +67,7 @@ all_pass (x ∷ xs) = all_pass xs
 -- a record that is received stands last in the list of its meeting, where that list is kept in order of receipt
 pub received : {A : Type 0} (k : ListOf A) → ((l : List A) → k.arrange l ≡ l) → (flat : FlatLists) (id : List ℕ) (added : A) (office : OfficeLists) → AreOf flat office
     → differ_by same_meeting office.meetings ≡ true → list_any (λ (x : MeetingLists). same_name x.meeting.id id) office.meetings ≡ true
-    → office_of (k.with_all (k.all flat ++ in_meeting id added ∷ []) flat) ≡ Some (with_changed id (λ x. k.with_own (k.own x ++ added ∷ []) x) office)
+    → office_of_records (k.with_all (k.all flat ++ in_meeting id added ∷ []) flat) ≡ Some (with_changed id (λ x. k.with_own (k.own x ++ added ∷ []) x) office)
 received k as_it_came flat id added office of differ one =
     list_changed k flat (k.all flat ++ in_meeting id added ∷ []) id (λ l. l ++ added ∷ []) (λ _. true)
     (λ m rs _ is. rw (as_it_came (of_meeting m.id (k.all flat ++ in_meeting id added ∷ [])), as_it_came (of_meeting m.id (k.all flat))) (of_meeting-last id m.id (k.all flat) added is))

@@ -17,7 +17,7 @@ use Rattle.desk_words.specs.declared.records.RegisterRow.{RegisterRow}
 use Rattle.desk_words.proofs.RowLemmas.{same_name-true}
 use Rattle.desk_rows.specs.declared.kept.MeetingRow.{MeetingRow}
 use Rattle.desk_schema.specs.Contents.{loaded_at, opened_at}
-use Rattle.desk_records.specs.Office.{FlatLists, have_meetings, office_of, of_meeting}
+use Rattle.desk_records.specs.Office.{FlatLists, have_meetings, office_of_records, of_meeting}
 use Rattle.desk_records.proofs.ListChanges.{all_pass, list_changed, the_register}
 use Rattle.desk_records.proofs.Names.{kept_list}
 use Rattle.desk_records.proofs.Names.ListName.{Register}
@@ -40,7 +40,7 @@ module _ (flat : FlatLists) (id : List ℕ) (office : OfficeLists) (of : AreOf f
   loaded_named m = elim (same_name m.id id) as (λ b. (if b then record m { loaded = true } else m).id ≡ m.id) [ true ↦ refl | false ↦ refl ]
 
   -- the register of a meeting is noted as loaded
-  pub meeting_loaded : office_of (record flat { meetings = map (loaded_at id) flat.meetings }) ≡ Some (with_changed id (λ x. record x { meeting = record x.meeting { loaded = true } }) office)
+  pub meeting_loaded : office_of_records (record flat { meetings = map (loaded_at id) flat.meetings }) ≡ Some (with_changed id (λ x. record x { meeting = record x.meeting { loaded = true } }) office)
   meeting_loaded =
       office_changed flat (record flat { meetings = map (loaded_at id) flat.meetings }) (loaded_at id) id (λ x. record x { meeting = record x.meeting { loaded = true } }) (λ _. true) (record {
         meetings = refl;
@@ -57,7 +57,7 @@ module _ (flat : FlatLists) (id : List ℕ) (office : OfficeLists) (of : AreOf f
     opened_named m = elim (same_name m.id id) as (λ b. (if b then record m { opened = Some moment } else m).id ≡ m.id) [ true ↦ refl | false ↦ refl ]
 
     -- a meeting is opened
-    pub meeting_opened : office_of (record flat { meetings = map (opened_at id moment) flat.meetings }) ≡ Some (with_changed id (λ x. record x { meeting = record x.meeting { opened = Some moment } }) office)
+    pub meeting_opened : office_of_records (record flat { meetings = map (opened_at id moment) flat.meetings }) ≡ Some (with_changed id (λ x. record x { meeting = record x.meeting { opened = Some moment } }) office)
     meeting_opened =
         office_changed flat (record flat { meetings = map (opened_at id moment) flat.meetings }) (opened_at id moment) id (λ x. record x { meeting = record x.meeting { opened = Some moment } }) (λ _. true) (record {
           meetings = refl;
@@ -87,7 +87,7 @@ with_register flat id rows = record flat { register = filter (is_other id) flat.
 
 module _ (flat : FlatLists) (id : List ℕ) (rows : List RegisterRow) (office : OfficeLists) (of : AreOf flat office) (differ : differ_by same_meeting office.meetings ≡ true)
     (one : list_any (λ (x : MeetingLists). same_name x.meeting.id id) office.meetings ≡ true) (sorted : sort_by member_before rows ≡ rows) where
-  rows_replaced : office_of (with_register flat id rows) ≡ Some (with_changed id (λ x. record x { register = rows }) office)
+  rows_replaced : office_of_records (with_register flat id rows) ≡ Some (with_changed id (λ x. record x { register = rows }) office)
   rows_replaced =
       list_changed the_register flat (filter (is_other id) flat.register ++ map (in_meeting id) rows) id (λ _. rows) (λ _. true)
       (λ m rs _ is. ap (sort_by member_before) (subst (λ n. of_meeting n (filter (is_other id) flat.register ++ map (in_meeting id) rows) ≡ rows) (sym (same_name-true m.id id is)) own) ∙ sorted)
@@ -103,7 +103,7 @@ module _ (flat : FlatLists) (id : List ℕ) (rows : List RegisterRow) (office : 
       own = of_meeting-append id (filter (is_other id) flat.register) (map (in_meeting id) rows) ∙ rw (of_meeting-emptied id flat.register) (of_meeting-own id rows)
 
   -- the rows of a meeting's register are replaced, and it is noted as loaded
-  pub register_set : office_of (record (with_register flat id rows) { meetings = map (loaded_at id) flat.meetings })
+  pub register_set : office_of_records (record (with_register flat id rows) { meetings = map (loaded_at id) flat.meetings })
       ≡ Some (with_changed id (λ x. record x { meeting = record x.meeting { loaded = true }; register = rows }) office)
   register_set =
       let between = with_changed id (λ x. record x { register = rows }) office in
@@ -120,9 +120,9 @@ module _ (flat : FlatLists) (office : OfficeLists) (of : AreOf flat office) wher
   have_same = have_all flat of.stand
 
   -- the keys are replaced
-  pub keys_set : (keys : List KeyRow) → sort_by caller_before keys ≡ keys → office_of (record flat { keys = keys }) ≡ Some (record office { keys = keys })
+  pub keys_set : (keys : List KeyRow) → sort_by caller_before keys ≡ keys → office_of_records (record flat { keys = keys }) ≡ Some (record office { keys = keys })
   keys_set keys sorted = office_is (record flat { keys = keys }) (record office { keys = keys }) have_same of.lists sorted of.closed
 
   -- the closed days are replaced
-  pub days_set : (days : List ℕ) → sort_by day_before days ≡ days → office_of (record flat { closed = days }) ≡ Some (record office { closed = days })
+  pub days_set : (days : List ℕ) → sort_by day_before days ≡ days → office_of_records (record flat { closed = days }) ≡ Some (record office { closed = days })
   days_set days sorted = office_is (record flat { closed = days }) (record office { closed = days }) have_same of.lists of.keys sorted

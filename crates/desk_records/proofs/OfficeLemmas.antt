@@ -14,7 +14,7 @@ use Rattle.desk_words.specs.declared.records.Resolution.{Resolution}
 use Rattle.desk_words.proofs.RowLemmas.{same_name-true}
 use Rattle.desk_rows.specs.declared.kept.MeetingRow.{MeetingRow}
 use Rattle.desk_rows.specs.Meanings.{◌>>=◌, only}
-use Rattle.desk_records.specs.Office.{FlatLists, resolutions_of, lists_with, lists_of, lists_of_all, name_meetings, have_meetings, office_of}
+use Rattle.desk_records.specs.Office.{FlatLists, resolutions_of, lists_with, lists_of, lists_of_all, name_meetings, have_meetings, office_of_records}
 use Rattle.desk_records.proofs.FlatChanges.{some_is}
 use Rattle.desk_records.proofs.ListLemmas.{any-map, map-once}
 use Rattle.desk_records.proofs.Names.{ListName, kept_list}
@@ -57,8 +57,8 @@ only_is : {B : Type 0} (b : Bool) (next : Unit {0} → Option B) (x : B) → (on
 only_is true next x h = (refl, h)
 only_is false next x h = absurd cc
 
-pub are_of : (flat : FlatLists) (office : OfficeLists) → office_of flat ≡ Some office → AreOf flat office
-unfolding office_of
+pub are_of : (flat : FlatLists) (office : OfficeLists) → office_of_records flat ≡ Some office → AreOf flat office
+unfolding office_of_records
 are_of flat office h =
     let known = only_is (have_meetings flat) _ office h in
     let lists = bound (lists_of_all flat flat.meetings) _ office known.1 in
@@ -71,8 +71,8 @@ are_of flat office h =
     }
 
 pub office_is : (flat : FlatLists) (office : OfficeLists) → have_meetings flat ≡ true → lists_of_all flat flat.meetings ≡ Some office.meetings → sort_by caller_before flat.keys ≡ office.keys
-    → sort_by day_before flat.closed ≡ office.closed → office_of flat ≡ Some office
-unfolding office_of
+    → sort_by day_before flat.closed ≡ office.closed → office_of_records flat ≡ Some office
+unfolding office_of_records
 office_is flat office stand lists keys closed = rw (stand, lists, keys, closed) refl
 
 -- ---- names of meetings
@@ -152,7 +152,7 @@ module _ (old new : FlatLists) (row : MeetingRow → MeetingRow) (id : List ℕ)
 
   -- the office is the one with that meeting changed
   pub office_changed : (office : OfficeLists) → AreOf old office → have_meetings new ≡ true → differ_by same_meeting office.meetings ≡ true → list_all test office.meetings ≡ true
-      → office_of new ≡ Some (with_changed id change office)
+      → office_of_records new ≡ Some (with_changed id change office)
   office_changed office of stand differ good =
       office_is new (with_changed id change office) stand
       (ap (lists_of_all new) c.meetings ∙ all_changed old.meetings office.meetings good of.lists

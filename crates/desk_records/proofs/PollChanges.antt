@@ -15,7 +15,7 @@ use Rattle.desk_words.specs.Office.{are_polls, implies, is_poll, poll_before, sa
 use Rattle.desk_words.specs.declared.office.MeetingLists.{MeetingLists}
 use Rattle.desk_words.specs.declared.office.OfficeLists.{OfficeLists}
 use Rattle.desk_words.specs.declared.records.Poll.{Poll}
-use Rattle.desk_records.specs.Office.{FlatLists, of_meeting, office_of}
+use Rattle.desk_records.specs.Office.{FlatLists, of_meeting, office_of_records}
 use Rattle.desk_records.proofs.ListChanges.{list_changed, the_polls}
 use Rattle.desk_records.proofs.ListLemmas.{map-once, sort_by-last, sort_by-map}
 use Rattle.desk_records.proofs.Names.ListName.{Polls}
@@ -45,7 +45,7 @@ takes_poll id poll x = implies (same_name x.meeting.id id) (ascends_by poll_befo
 -- a poll more of a meeting goes to its place in the order of resolutions
 pub poll_added : (flat : FlatLists) (id : List ℕ) (added : Poll) (office : OfficeLists) → AreOf flat office → differ_by same_meeting office.meetings ≡ true
     → list_any (λ (x : MeetingLists). same_name x.meeting.id id) office.meetings ≡ true → list_all (takes_poll id added) office.meetings ≡ true
-    → office_of (record flat { polls = flat.polls ++ in_meeting id added ∷ [] }) ≡ Some (with_changed id (λ x. record x { polls = insert_by poll_before added x.polls }) office)
+    → office_of_records (record flat { polls = flat.polls ++ in_meeting id added ∷ [] }) ≡ Some (with_changed id (λ x. record x { polls = insert_by poll_before added x.polls }) office)
 poll_added flat id added office of differ one =
     list_changed the_polls flat (flat.polls ++ in_meeting id added ∷ []) id (insert_by poll_before added) (takes_poll id added)
     (λ m rs good is. ap (sort_by poll_before) (of_meeting-last id m.id flat.polls added is) ∙ last_poll (of_meeting m.id flat.polls) added (rw is at good))
@@ -80,7 +80,7 @@ module _ (resolution : ℕ) (change : Poll → Poll) (same : (p : Poll) → (cha
 
   pub poll_moved : (flat : FlatLists) (id : List ℕ) (office : OfficeLists) → AreOf flat office → differ_by same_meeting office.meetings ≡ true
       → list_all (λ (x : MeetingLists). ascends_by poll_before x.polls) office.meetings ≡ true
-      → office_of (record flat { polls = map (change_in id is_on change) flat.polls }) ≡ Some (with_changed id (λ x. record x { polls = change_first is_on change x.polls }) office)
+      → office_of_records (record flat { polls = map (change_in id is_on change) flat.polls }) ≡ Some (with_changed id (λ x. record x { polls = change_first is_on change x.polls }) office)
   poll_moved flat id office of =
       list_changed the_polls flat (map (change_in id is_on change) flat.polls) id (change_first is_on change) (λ (x : MeetingLists). ascends_by poll_before x.polls)
       (λ m rs good is. ap (sort_by poll_before) (of_meeting-changed id is_on change m.id flat.polls is) ∙ changed_once (of_meeting m.id flat.polls) good)

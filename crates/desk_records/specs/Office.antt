@@ -99,8 +99,8 @@ abbrev pub resolutions_of : List ℕ → List (InMeeting NumberedResolution) →
 resolutions_of id records = numbered_from 1 (sort_by number_before (of_meeting id records))
 
 -- a meeting with its resolutions
-abbrev pub with_resolutions : MeetingRow → List Resolution → Meeting
-with_resolutions m resolutions = record {
+abbrev pub whole_meeting : MeetingRow → List Resolution → Meeting
+whole_meeting m resolutions = record {
   id = m.id;
   company = m.company;
   kind = m.kind;
@@ -116,7 +116,7 @@ with_resolutions m resolutions = record {
 -- the order of resolutions, and the others in order of receipt
 abbrev pub lists_with : FlatLists → MeetingRow → List Resolution → MeetingLists
 lists_with flat m resolutions = record {
-  meeting = with_resolutions m resolutions;
+  meeting = whole_meeting m resolutions;
   register = sort_by member_before (of_meeting m.id flat.register);
   appointments = of_meeting m.id flat.appointments;
   endings = of_meeting m.id flat.endings;
@@ -160,8 +160,8 @@ have_meetings flat =
     && name_meetings flat.meetings flat.casts
 
 -- the lists of an office that the records are, or nothing
-unfoldable pub office_of : FlatLists → Option OfficeLists
-office_of flat = do
+unfoldable pub office_of_records : FlatLists → Option OfficeLists
+office_of_records flat = do
   known ← only (have_meetings flat)
   lists ← lists_of_all flat flat.meetings
   Some
@@ -173,4 +173,4 @@ office_of flat = do
 
 -- the lists of an office that the tables are, or nothing where their rows are none
 abbrev pub office_in : Trees → Option OfficeLists
-office_in trees = flat_in trees >>= office_of
+office_in trees = flat_in trees >>= office_of_records

@@ -23,7 +23,7 @@ use Rattle.desk_terms.specs.declared.kinds.Way.TheVariants as way
 use Rattle.sqlite.specs.declared.types.Value.TheVariants.{Null, Text}
 use Rattle.desk_words.specs.declared.records.CastKind.TheVariants.{AsInstructed}
 use Rattle.desk_rows.specs.Marks.{cast_kind_of, instructed_word}
-use Rattle.desk_rows.specs.Columns.{string_of, natural_of, day_of, moment_of, text_of, read_word}
+use Rattle.desk_rows.specs.Columns.{string_of, natural_of, unix_day, moment_of, plain_text_of, read_word}
 
 -- a text is itself
 pub string_is : (bytes : List ℕ) → IsUtf8 bytes → string_of bytes ≡ Some bytes
@@ -42,7 +42,7 @@ shifted n k highest h = grind (arith, nat_tests)
 back : (n k : ℕ) → (pos n -ℤ pos k) +ℤ pos k ≡ pos n
 back n k = omega (arith, ints)
 
-pub day_kept : (n : ℕ) → n ≤ 401766 → day_of (pos n -ℤ pos 25567) ≡ Some n
+pub day_kept : (n : ℕ) → n ≤ 401766 → unix_day (pos n -ℤ pos 25567) ≡ Some n
 day_kept n h = rw (back n 25567, shifted n 0 401766 h) refl
 
 pub moment_kept : (n : ℕ) → n ≤ 34712668799 → moment_of (pos n -ℤ pos 2208988800) ≡ Some n
@@ -60,7 +60,7 @@ party_kept p h = rw (h.form, h.rest) refl
 pub key_kept : (k : List ℕ) → Holds 64 is_key k → key_of (letters_of k) ≡ Some k
 key_kept k h = rw (h.form, h.rest) refl
 
-pub text_kept : (t : List ℕ) → IsText t → read_word text_of t ≡ Some t
+pub text_kept : (t : List ℕ) → IsText t → read_word plain_text_of t ≡ Some t
 text_kept t h = rw (string_is t h.utf8, h.plain) refl
 
 pub company_kept : (x : Company) → read_word company_of (company_word x) ≡ Some x

@@ -41,8 +41,8 @@ abbrev pub flag_of : ℕ → Option Bool
 flag_of n = if n == 0 then Some false else if n == 1 then Some true else None
 
 -- the text, if it has the form of one
-abbrev pub text_of : List ℕ → Option (List ℕ)
-text_of string = if is_plain_text string then Some string else None
+abbrev pub plain_text_of : List ℕ → Option (List ℕ)
+plain_text_of string = if is_plain_text string then Some string else None
 
 -- the bytes of a text that is UTF-8
 abbrev pub word_of : Value → Option (List ℕ)
@@ -57,8 +57,8 @@ abbrev pub worded_of : {A : Type 0} → (List ℕ → Option A) → Value → Op
 worded_of reading value = word_of value >>= reading
 
 -- a number that is not negative
-abbrev pub number_of : Value → Option ℕ
-number_of value = integer_of value >>= natural_of
+abbrev pub natural_value : Value → Option ℕ
+natural_value value = integer_of value >>= natural_of
 
 -- what the bytes in a column spell
 unfoldable pub spelled : {A : Type 0} → (List ℕ → Option A) → Row → ℕ → Option A
@@ -70,15 +70,15 @@ worded reading row at = worded_of reading (column row at)
 
 -- the number in a column, which is not negative
 unfoldable pub number_in : Row → ℕ → Option ℕ
-number_in row at = number_of (column row at)
+number_in row at = natural_value (column row at)
 
 -- no or yes
 unfoldable pub flag_in : Row → ℕ → Option Bool
 flag_in row at = number_in row at >>= flag_of
 
 -- the day of a number of days since 1970-01-01, which is day 25567 of those since 1900-01-01
-abbrev pub day_of : ℤ → Option ℕ
-day_of n = natural_of (n +ℤ pos 25567) >>= up_to 401766
+abbrev pub unix_day : ℤ → Option ℕ
+unix_day n = natural_of (n +ℤ pos 25567) >>= up_to 401766
 
 -- the moment of a number of seconds since 1970-01-01T00:00:00, which is 2208988800 seconds after
 -- 1900-01-01T00:00:00
@@ -87,7 +87,7 @@ moment_of n = natural_of (n +ℤ pos 2208988800) >>= up_to 34712668799
 
 -- the day in a column
 unfoldable pub day_in : Row → ℕ → Option ℕ
-day_in row at = integer_of (column row at) >>= day_of
+day_in row at = integer_of (column row at) >>= unix_day
 
 -- the moment in a column
 unfoldable pub moment_in : Row → ℕ → Option ℕ

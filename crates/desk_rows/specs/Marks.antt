@@ -15,7 +15,7 @@ use Rattle.desk_words.specs.declared.records.CastKind.TheVariants as kind
 use Rattle.desk_words.specs.declared.records.CastMark.{CastMark}
 use Rattle.desk_rows.specs.declared.kept.InMeeting.{InMeeting}
 use Rattle.desk_rows.specs.Meanings.{◌>>=◌}
-use Rattle.desk_rows.specs.Columns.{spelled, spelled_of, worded_of, number_in, number_of, flag_in, moment_in, some_moment_in, is_null}
+use Rattle.desk_rows.specs.Columns.{spelled, spelled_of, worded_of, number_in, natural_value, flag_in, moment_in, some_moment_in, is_null}
 
 -- a party that is present at a meeting: meeting, party, moment (section 318)
 unfoldable pub presence_in : Row → Option (InMeeting PresenceMark)
@@ -26,8 +26,8 @@ presence_in cells = do
   Some (record { meeting = meeting; item = record { party = party; moment = moment } })
 
 -- a demand of a poll: meeting, resolution, party, moment (sections 321 and 329)
-unfoldable pub demand_in : Row → Option (InMeeting DemandMark)
-demand_in cells = do
+unfoldable pub demand_mark_in : Row → Option (InMeeting DemandMark)
+demand_mark_in cells = do
   meeting ← spelled meeting_of cells 0
   resolution ← number_in cells 1
   party ← spelled party_of cells 2
@@ -41,10 +41,10 @@ demand_in cells = do
 -- the count in four columns, of which none is NULL
 abbrev pub tally_of : Value → Value → Value → Value → Option Tally
 tally_of a b c d = do
-  votes_for ← number_of a
-  votes_against ← number_of b
-  withheld ← number_of c
-  eligible ← number_of d
+  votes_for ← natural_value a
+  votes_against ← natural_value b
+  withheld ← natural_value c
+  eligible ← natural_value d
   Some
       (record {
         votes_for = votes_for;
@@ -99,12 +99,12 @@ poll_in cells = do
       })
 
 -- a vote on some shares (section 322): capacity, member, first and last place, way
-abbrev pub block_of : Value → Value → Value → Value → Value → Option Block
-block_of a b c d e = do
+abbrev pub block_from : Value → Value → Value → Value → Value → Option Block
+block_from a b c d e = do
   capacity ← worded_of capacity_of a
   member ← spelled_of party_of b
-  first ← number_of c
-  last ← number_of d
+  first ← natural_value c
+  last ← natural_value d
   range ← range_of first last
   way ← worded_of way_of e
   Some (record { capacity = capacity; member = member; range = range; way = way })
@@ -129,7 +129,7 @@ cast_kind_of a b c d e =
     >>=
     λ instructed. if instructed
     then as_instructed_of b c d e
-    else block_of a b c d e >>= λ block. Some (kind.Block block)
+    else block_from a b c d e >>= λ block. Some (kind.Block block)
 
 -- what is cast, in the five columns from a place on
 unfoldable pub cast_kind_in : Row → ℕ → Option CastKind

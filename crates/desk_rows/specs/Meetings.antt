@@ -8,7 +8,7 @@ use Rattle.desk_rows.specs.declared.kept.InMeeting.{InMeeting}
 use Rattle.desk_rows.specs.declared.kept.MeetingRow.{MeetingRow}
 use Rattle.desk_rows.specs.declared.kept.NumberedResolution.{NumberedResolution}
 use Rattle.desk_rows.specs.Meanings.{◌>>=◌}
-use Rattle.desk_rows.specs.Columns.{spelled, worded, number_in, flag_in, day_in, moment_in, some_moment_in, text_of}
+use Rattle.desk_rows.specs.Columns.{spelled, worded, number_in, flag_in, day_in, moment_in, some_moment_in, plain_text_of}
 
 -- a meeting: its name, company, kind, the day of the notice, the appointed time, the moment as of
 -- which its register is taken, whether that is loaded, and when it opened (section 307)
@@ -40,7 +40,7 @@ resolution_in cells = do
   meeting ← spelled meeting_of cells 0
   number ← number_in cells 1
   kind ← worded resolution_kind_of cells 2
-  text ← worded text_of cells 3
+  text ← worded plain_text_of cells 3
   Some
       (record {
         meeting = meeting;
@@ -53,7 +53,7 @@ holding_in cells = do
   meeting ← spelled meeting_of cells 0
   member ← spelled party_of cells 1
   kind ← worded holder_kind_of cells 2
-  name ← worded text_of cells 3
+  name ← worded plain_text_of cells 3
   shares ← number_in cells 4
   paid ← number_in cells 5
   Some

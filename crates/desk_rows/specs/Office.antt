@@ -17,8 +17,8 @@ version_in cells = do
   Some (record { number = number })
 
 -- a caller and its key; the office's caller is `OFFICE`
-unfoldable pub key_in : Row → Option KeyRow
-key_in cells = do
+unfoldable pub key_row_in : Row → Option KeyRow
+key_row_in cells = do
   caller ← spelled caller_of cells 0
   secret ← spelled key_of cells 1
   Some (record { caller = caller; secret = secret })

@@ -1,6 +1,6 @@
 //! Rows of meetings, of their resolutions and of their registers.
 ghost use Rattle.std.specs.Prelude.{◌≡◌, Err, IsSome};
-ghost use Rattle.desk_rows.specs.Columns.{text_of, worded};
+ghost use Rattle.desk_rows.specs.Columns.{plain_text_of, worded};
 ghost use Rattle.desk_rows.specs.declared.fault.RowFault.TheVariants.{Memory};
 ghost use Rattle.desk_rows.specs.Meanings.{Gives, Reads, itself};
 ghost use Rattle.desk_rows.specs.Meetings.{meeting_in, resolution_in, holding_in};
@@ -50,7 +50,7 @@ impl FromRow for InMeeting<NumberedResolution> {
     #[tactic(auto, unfolding(crate::specs::Meetings::resolution_in))]
     fn from_row(alloc: Global, row: &Row) -> Result<InMeeting<NumberedResolution>, RowFault>
         ensures row { Gives itself result (resolution_in row.now) }
-        ensures memory { result ≡ Err Memory → IsSome (worded text_of row.now 3) }
+        ensures memory { result ≡ Err Memory → IsSome (worded plain_text_of row.now 3) }
     {
         let meeting = meeting_in(row, 0)?;
         let number = number_in(row, 1)?;
@@ -70,7 +70,7 @@ impl FromRow for InMeeting<RegisterRow> {
     #[tactic(auto, unfolding(crate::specs::Meetings::holding_in))]
     fn from_row(alloc: Global, row: &Row) -> Result<InMeeting<RegisterRow>, RowFault>
         ensures row { Gives itself result (holding_in row.now) }
-        ensures memory { result ≡ Err Memory → IsSome (worded text_of row.now 3) }
+        ensures memory { result ≡ Err Memory → IsSome (worded plain_text_of row.now 3) }
     {
         let meeting = meeting_in(row, 0)?;
         let member = party_in(row, 1)?;

@@ -7,7 +7,7 @@ ghost use Rattle.desk_terms.specs.Names.{party_of, meeting_of, key_of};
 ghost use Rattle.desk_words.specs.Callers.{caller_of};
 ghost use Rattle.desk_rows.specs.declared.fault.RowFault.TheVariants.{Memory};
 ghost use Rattle.desk_rows.specs.Meanings.{Gives, Reads, itself};
-ghost use Rattle.desk_rows.specs.Columns.{bytes_of, integer_of, natural_of, string_of, flag_of, word_of, text_of, day_of, moment_of, some_moment_of, is_null, spelled, worded, number_in, flag_in, day_in, moment_in, some_moment_in};
+ghost use Rattle.desk_rows.specs.Columns.{bytes_of, integer_of, natural_of, string_of, flag_of, word_of, plain_text_of, unix_day, moment_of, some_moment_of, is_null, spelled, worded, number_in, flag_in, day_in, moment_in, some_moment_in};
 
 use crate::fault::RowFault;
 use desk_words::{
@@ -100,7 +100,7 @@ pub(crate) fn flag_in(row: &Row, at: usize) -> Result<bool, RowFault>
 }
 
 fn day_of(days: i64) -> Result<Day, RowFault>
-    ensures { Reads itself result (day_of days) }
+    ensures { Reads itself result (unix_day days) }
 {
     let since_1900 = days
         .checked_add(UNIX_DAY)
@@ -220,8 +220,8 @@ pub(crate) fn way_in(row: &Row, at: usize) -> Result<Way, RowFault>
 }
 
 fn text_of(alloc: Global, string: &str) -> Result<Text, RowFault>
-    ensures text { Gives itself result (text_of string.now) }
-    ensures memory { result ≡ Err Memory → IsSome (text_of string.now) }
+    ensures text { Gives itself result (plain_text_of string.now) }
+    ensures memory { result ≡ Err Memory → IsSome (plain_text_of string.now) }
 {
     match Text::new(alloc, string.as_bytes()) {
         Ok(text) => Ok(text),
@@ -233,8 +233,8 @@ fn text_of(alloc: Global, string: &str) -> Result<Text, RowFault>
 /// The text in a column. The fault is `Unreadable` exactly where there is none, and else `Memory`.
 #[tactic(auto, unfolding(crate::specs::Columns::worded))]
 pub(crate) fn text_in(alloc: Global, row: &Row, at: usize) -> Result<Text, RowFault>
-    ensures text { Gives itself result (worded text_of row.now at) }
-    ensures memory { result ≡ Err Memory → IsSome (worded text_of row.now at) }
+    ensures text { Gives itself result (worded plain_text_of row.now at) }
+    ensures memory { result ≡ Err Memory → IsSome (worded plain_text_of row.now at) }
 {
     text_of(alloc, word_in(row, at)?)
 }

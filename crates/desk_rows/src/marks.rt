@@ -2,7 +2,7 @@
 ghost use Rattle.std.specs.Prelude.{◌≡◌};
 ghost use Rattle.sqlite.specs.Order.{column};
 ghost use Rattle.desk_rows.specs.Meanings.{Reads, itself};
-ghost use Rattle.desk_rows.specs.Marks.{presence_in, demand_in, tally_of, declared_in, poll_in, block_of, is_instructed, cast_kind_in, cast_in};
+ghost use Rattle.desk_rows.specs.Marks.{presence_in, demand_mark_in, tally_of, declared_in, poll_in, block_from, is_instructed, cast_kind_in, cast_in};
 
 use crate::column::{
     capacity_in, flag_in, is_null, meeting_in, moment_in, number_in, party_in, some_moment_in,
@@ -34,11 +34,11 @@ impl FromRow for InMeeting<PresenceMark> {
 }
 
 impl FromRow for InMeeting<DemandMark> {
-    ghost means = { demand_in };
+    ghost means = { demand_mark_in };
 
-    #[tactic(auto, unfolding(crate::specs::Marks::demand_in))]
+    #[tactic(auto, unfolding(crate::specs::Marks::demand_mark_in))]
     fn from_row(_: Global, row: &Row) -> Result<InMeeting<DemandMark>, RowFault>
-        ensures { Reads itself result (demand_in row.now) }
+        ensures { Reads itself result (demand_mark_in row.now) }
     {
         let meeting = meeting_in(row, 0)?;
         let resolution = number_in(row, 1)?;
@@ -115,7 +115,7 @@ impl FromRow for InMeeting<Poll> {
 #[tactic(auto, unfolding(crate::specs::Columns::number_in, crate::specs::Columns::spelled, crate::specs::Columns::worded))]
 fn block_in(row: &Row) -> Result<Block, RowFault>
     ensures { Reads itself result
-        (block_of (column row.now 3) (column row.now 4) (column row.now 5) (column row.now 6)
+        (block_from (column row.now 3) (column row.now 4) (column row.now 5) (column row.now 6)
         (column row.now 7)) }
 {
     let capacity = capacity_in(row, 3)?;

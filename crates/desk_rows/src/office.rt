@@ -1,7 +1,7 @@
 //! Rows of the desk's version, the keys and the closed days.
 ghost use Rattle.std.specs.Prelude.{◌≡◌};
 ghost use Rattle.desk_rows.specs.Meanings.{Reads, itself};
-ghost use Rattle.desk_rows.specs.Office.{version_in, key_in, closed_in};
+ghost use Rattle.desk_rows.specs.Office.{version_in, key_row_in, closed_in};
 
 use crate::column::{caller_in, day_in, key_in, number_in};
 use crate::fault::RowFault;
@@ -27,11 +27,11 @@ impl FromRow for Version {
 }
 
 impl FromRow for KeyRow {
-    ghost means = { key_in };
+    ghost means = { key_row_in };
 
-    #[tactic(auto, unfolding(crate::specs::Office::key_in))]
+    #[tactic(auto, unfolding(crate::specs::Office::key_row_in))]
     fn from_row(_: Global, row: &Row) -> Result<KeyRow, RowFault>
-        ensures { Reads itself result (key_in row.now) }
+        ensures { Reads itself result (key_row_in row.now) }
     {
         let caller = caller_in(row, 0)?;
         let secret = key_in(row, 1)?;

@@ -6,7 +6,7 @@ ghost use Rattle.desk_terms.specs.Kinds.{company_of, meeting_kind_of, resolution
 ghost use Rattle.desk_terms.specs.Names.{party_of, meeting_of, key_of};
 ghost use Rattle.desk_terms.specs.Places.{range_of};
 ghost use Rattle.desk_words.specs.Callers.{caller_of};
-ghost use Rattle.desk_rows.specs.Columns.{day_of, moment_of, some_moment_of, natural_of, text_of, read_word};
+ghost use Rattle.desk_rows.specs.Columns.{unix_day, moment_of, some_moment_of, natural_of, plain_text_of, read_word};
 ghost use Rattle.desk_rows.specs.Marks.{HasTooHighFigure, declared_of, cast_kind_of};
 
 use desk_words::{
@@ -17,7 +17,7 @@ use desk_words::{
 /// The days since 1970-01-01.
 #[tactic(auto, using(crate::proofs::ColumnLemmas::day_kept))]
 pub fn day_number(day: Day) -> i64
-    ensures { day_of result ≡ Some day }
+    ensures { unix_day result ≡ Some day }
 {
     // What a day keeps is known once it is asked.
     let _ = day.number();
@@ -71,7 +71,7 @@ pub fn key_text(key: &SecretKey) -> &str
 /// The bytes of a text.
 #[tactic(auto, using(crate::proofs::ColumnLemmas::text_kept))]
 pub fn text_value(text: &Text) -> &str
-    ensures { read_word text_of result.now ≡ Some text.now }
+    ensures { read_word plain_text_of result.now ≡ Some text.now }
 {
     text.as_str()
 }

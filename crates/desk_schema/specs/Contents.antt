@@ -17,9 +17,9 @@ use Rattle.desk_rows.specs.declared.kept.InMeeting.{InMeeting}
 use Rattle.desk_rows.specs.declared.kept.MeetingRow.{MeetingRow}
 use Rattle.desk_rows.specs.declared.kept.NumberedResolution.{NumberedResolution}
 use Rattle.desk_rows.specs.declared.kept.Version.{Version}
-use Rattle.desk_rows.specs.Marks.{presence_in, demand_in, poll_in, cast_in}
+use Rattle.desk_rows.specs.Marks.{presence_in, demand_mark_in, poll_in, cast_in}
 use Rattle.desk_rows.specs.Meetings.{meeting_in, resolution_in, holding_in}
-use Rattle.desk_rows.specs.Office.{version_in, key_in, closed_in}
+use Rattle.desk_rows.specs.Office.{version_in, key_row_in, closed_in}
 use Rattle.desk_rows.specs.Papers.{appointment_in, ending_in, authority_in}
 use Rattle.desk_schema.specs.Statements.{TableOf}
 
@@ -29,7 +29,7 @@ desk = record { number = 0; columns = 0 ∷ 2 ∷ []; means = version_in }
 
 -- the keys of the callers
 abbrev pub keys : TableOf KeyRow
-keys = record { number = 1; columns = 1 ∷ 2 ∷ []; means = key_in }
+keys = record { number = 1; columns = 1 ∷ 2 ∷ []; means = key_row_in }
 
 -- the closed days
 abbrev pub closed : TableOf ℕ
@@ -69,7 +69,7 @@ presences = record { number = 18; columns = 2 ∷ 3 ∷ 4 ∷ []; means = presen
 
 -- the demands, in order of receipt
 abbrev pub demands : TableOf (InMeeting DemandMark)
-demands = record { number = 20; columns = 2 ∷ 3 ∷ 4 ∷ 5 ∷ []; means = demand_in }
+demands = record { number = 20; columns = 2 ∷ 3 ∷ 4 ∷ 5 ∷ []; means = demand_mark_in }
 
 -- the polls
 abbrev pub polls : TableOf (InMeeting Poll)

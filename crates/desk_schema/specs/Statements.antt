@@ -14,22 +14,31 @@ use Rattle.sqlite_trees.specs.declared.store.Store as store
 use Rattle.desk_rows.specs.Meanings.{all_mean}
 use Rattle.desk_schema.specs.Tables.{desk_schema}
 
--- the numbers by which the database knows the tables, in the order in which they are made
-abbrev pub table_numbers : List ℕ
-table_numbers = 0 ∷ 1 ∷ 4 ∷ 5 ∷ 8 ∷ 10 ∷ 12 ∷ 14 ∷ 16 ∷ 18 ∷ 20 ∷ 22 ∷ 24 ∷ []
+-- a version of the tables: how they are declared, and the numbers by which the database knows those
+-- of the desk, in the order in which they are made
+pub record Layout : Type 0 where
+  pub schema : Schema
+  pub numbers : List ℕ
+
+-- version 1, which the desk makes and reads
+abbrev pub layout_one : Layout
+layout_one = record {
+  schema = desk_schema;
+  numbers = 0 ∷ 1 ∷ 4 ∷ 5 ∷ 8 ∷ 10 ∷ 12 ∷ 14 ∷ 16 ∷ 18 ∷ 20 ∷ 22 ∷ 24 ∷ [];
+}
 
 -- a table of the desk has this number
-abbrev pub is_table : ℕ → Bool
-is_table number = list_any (λ n. n == number) table_numbers
+abbrev pub has_table : Layout → ℕ → Bool
+has_table layout number = list_any (λ n. n == number) layout.numbers
 
 -- the rows have numbers, which rise
 abbrev pub IsRising : List Row → Type 0
 IsRising = IsShaped shape.Table
 
--- the tables are those of the desk, and the numbers of their rows rise
-pub record IsDesk (s : State) : Type 0 where
-  pub schema : s.now.schema ≡ desk_schema
-  pub rising : (number : ℕ) → IsTrue (is_table number) → IsRising (s.now.trees number)
+-- the tables are a desk's, of this version, and the numbers of their rows rise
+pub record IsDeskOf (layout : Layout) (s : State) : Type 0 where
+  pub schema : s.now.schema ≡ layout.schema
+  pub rising : (number : ℕ) → IsTrue (has_table layout number) → IsRising (s.now.trees number)
 
 -- a table: its number, the places of its columns in a row, and what these columns mean
 pub record TableOf (A : Type 0) : Type 0 where
@@ -42,28 +51,108 @@ abbrev pub columns_of : {A : Type 0} → TableOf A → Row → Row
 columns_of table row = map (column row) table.columns
 
 -- the columns of each row of a table, in the order of the rows
-abbrev pub rows_of : {A : Type 0} → TableOf A → Trees → List Row
-rows_of table trees = map (columns_of table) (trees table.number)
+abbrev pub table_rows : {A : Type 0} → TableOf A → Trees → List Row
+table_rows table trees = map (columns_of table) (trees table.number)
 
 -- what the rows of a table mean
 abbrev pub records_in : {A : Type 0} → TableOf A → Trees → Option (List A)
-records_in table trees = all_mean table.means (rows_of table trees)
+records_in table trees = all_mean table.means (table_rows table trees)
 
 -- the other tables keep their rows
-abbrev pub KeepsOthers : ℕ → State → State → Type 0
-KeepsOthers changed old new =
-    (number : ℕ) → IsTrue (is_table number) → number ≢ changed
+abbrev pub KeepsOthersIn : Layout → ℕ → State → State → Type 0
+KeepsOthersIn layout changed old new =
+    (number : ℕ) → IsTrue (has_table layout number) → number ≢ changed
     → new.now.trees number ≡ old.now.trees number
 
 -- what the rows of a table mean is changed, and nothing else
-pub record Changes {A : Type 0} (table : TableOf A) (change : List A → List A) (old new : State)
-    : Type 0 where
+pub record ChangesIn {A : Type 0} (layout : Layout) (table : TableOf A) (change : List A → List A)
+    (old new : State) : Type 0 where
   pub records : (was : List A)
       → records_in table old.now.trees ≡ Some was
       → records_in table new.now.trees ≡ Some (change was)
-  pub others : KeepsOthers table.number old new
-  pub desk : IsDesk new
+  pub others : KeepsOthersIn layout table.number old new
+  pub desk : IsDeskOf layout new
   pub inside : IsTrue new.in_transaction
+
+-- where a statement is answered in a transaction over the tables of a desk, and the disk returned
+-- what was written, this is what it did
+abbrev pub DoesIn : {S T : Type 0} → Layout → store.Ghosts S → Held S → Held S → Result T Error
+    → (State → State → Type 0) → Type 0
+DoesIn layout g old new result Effect =
+    HasCleanDisk (state g new) → IsTrue (state g old).in_transaction
+    → IsDeskOf layout (state g old)
+    → OnOk result (Effect (state g old) (state g new))
+
+-- the tables of a desk are read, and the disk returned what was written
+abbrev pub IsReadIn : {S : Type 0} → Layout → store.Ghosts S → Held S → Held S → Type 0
+IsReadIn layout g old new = HasCleanDisk (state g new) × IsDeskOf layout (state g old)
+
+-- where the disk returned what was written, a store that is open was open before
+abbrev pub WasOpen : State → State → Type 0
+WasOpen old new = HasCleanDisk new → IsTrue new.is_open → IsTrue old.is_open
+
+-- whatever is answered, nothing is committed, no store is opened again, and a crash leaves what it
+-- left before
+pub record ChangesNothingIn {S : Type 0} (layout : Layout) (g : store.Ghosts S) (old new : Held S)
+    : Type 0 where
+  pub kept : IsReadIn layout g old new → KeepsCommit (state g old) (state g new)
+  pub was_open : WasOpen (state g old) (state g new)
+  pub crash : Survives (state g old) (state g new) (λ _. ⊥)
+
+-- nothing is committed: the last commit stands, and a crash leaves what it left before
+pub record CommitsNothing {S : Type 0} (g : store.Ghosts S) (old new : Held S) : Type 0 where
+  pub kept : HasCleanDisk (state g new) → KeepsCommit (state g old) (state g new)
+  pub crash : Survives (state g old) (state g new) (λ _. ⊥)
+
+-- these are all rows of the table, in their order, and nothing is changed
+abbrev pub ReadsTable : {S A : Type 0} → store.Ghosts S → Held S → Held S → TableOf A → List Row
+    → Type 0
+ReadsTable g old new table rows =
+    (rows ≡ table_rows table (state g old).now.trees) × IsUnchanged (state g old) (state g new)
+
+-- what these rows mean is what passes the test of what the table holds, in the same order, and
+-- nothing is changed
+abbrev pub FindsRecords : {S A : Type 0} → store.Ghosts S → Held S → Held S → TableOf A
+    → (A → Bool) → List Row → Type 0
+FindsRecords {S} {A} g old new table test rows =
+    ((was : List A)
+    → records_in table (state g old).now.trees ≡ Some was
+    → all_mean table.means rows ≡ Some (filter test was))
+    × IsUnchanged (state g old) (state g new)
+
+-- the tables of this schema stand, with no row
+abbrev pub AreEmpty : Schema → State → Type 0
+AreEmpty schema s =
+    (s.now.schema ≡ schema) × AllByRecursion (λ (t : Table). s.now.trees t.tree ≡ []) schema.tables
+
+-- where a statement is answered in a transaction, and the disk returned what was written, the
+-- tables of the first schema, with no row, are now those of the second, with no row
+abbrev pub Makes : {S T : Type 0} → store.Ghosts S → Held S → Held S → Result T Error → Schema
+    → Schema → Type 0
+Makes g old new result before after =
+    HasCleanDisk (state g new) → IsTrue (state g old).in_transaction → AreEmpty before (state g old)
+    → OnOk result (AreEmpty after (state g new) × IsTrue (state g new).in_transaction)
+
+-- ---- of version 1
+
+abbrev pub IsDesk : State → Type 0
+IsDesk = IsDeskOf layout_one
+
+abbrev pub KeepsOthers : ℕ → State → State → Type 0
+KeepsOthers = KeepsOthersIn layout_one
+
+abbrev pub Changes : {A : Type 0} → TableOf A → (List A → List A) → State → State → Type 0
+Changes table = ChangesIn layout_one table
+
+abbrev pub Does : {S T : Type 0} → store.Ghosts S → Held S → Held S → Result T Error
+    → (State → State → Type 0) → Type 0
+Does g = DoesIn layout_one g
+
+abbrev pub IsRead : {S : Type 0} → store.Ghosts S → Held S → Held S → Type 0
+IsRead g = IsReadIn layout_one g
+
+abbrev pub ChangesNothing : {S : Type 0} → store.Ghosts S → Held S → Held S → Type 0
+ChangesNothing g = ChangesNothingIn layout_one g
 
 -- a record is added after the others
 abbrev pub Adds : {A : Type 0} → TableOf A → A → State → State → Type 0
@@ -92,59 +181,3 @@ TakesOut table test = Changes table (filter (λ it. not (test it)))
 -- each record is changed
 abbrev pub Sets : {A : Type 0} → TableOf A → (A → A) → State → State → Type 0
 Sets table change = Changes table (map change)
-
--- where a statement is answered in a transaction over the tables of a desk, and the disk returned
--- what was written, this is what it did
-abbrev pub Does : {S T : Type 0} → store.Ghosts S → Held S → Held S → Result T Error
-    → (State → State → Type 0) → Type 0
-Does g old new result Effect =
-    HasCleanDisk (state g new) → IsTrue (state g old).in_transaction → IsDesk (state g old)
-    → OnOk result (Effect (state g old) (state g new))
-
--- nothing is committed: the last commit stands, and a crash leaves what it left before
-pub record CommitsNothing {S : Type 0} (g : store.Ghosts S) (old new : Held S) : Type 0 where
-  pub kept : HasCleanDisk (state g new) → KeepsCommit (state g old) (state g new)
-  pub crash : Survives (state g old) (state g new) (λ _. ⊥)
-
--- the tables of a desk are read, and the disk returned what was written
-abbrev pub IsRead : {S : Type 0} → store.Ghosts S → Held S → Held S → Type 0
-IsRead g old new = HasCleanDisk (state g new) × IsDesk (state g old)
-
--- these are all rows of the table, in their order, and nothing is changed
-abbrev pub Reads : {S A : Type 0} → store.Ghosts S → Held S → Held S → TableOf A → List Row → Type 0
-Reads g old new table rows =
-    (rows ≡ rows_of table (state g old).now.trees) × IsUnchanged (state g old) (state g new)
-
--- what these rows mean is what passes the test of what the table holds, in the same order, and
--- nothing is changed
-abbrev pub Finds : {S A : Type 0} → store.Ghosts S → Held S → Held S → TableOf A → (A → Bool)
-    → List Row → Type 0
-Finds {S} {A} g old new table test rows =
-    ((was : List A)
-    → records_in table (state g old).now.trees ≡ Some was
-    → all_mean table.means rows ≡ Some (filter test was))
-    × IsUnchanged (state g old) (state g new)
-
--- where the disk returned what was written, a store that is open was open before
-abbrev pub WasOpen : State → State → Type 0
-WasOpen old new = HasCleanDisk new → IsTrue new.is_open → IsTrue old.is_open
-
--- whatever is answered, nothing is committed, no store is opened again, and a crash leaves what it
--- left before
-pub record ChangesNothing {S : Type 0} (g : store.Ghosts S) (old new : Held S) : Type 0 where
-  pub kept : IsRead g old new → KeepsCommit (state g old) (state g new)
-  pub was_open : WasOpen (state g old) (state g new)
-  pub crash : Survives (state g old) (state g new) (λ _. ⊥)
-
--- the tables of this schema stand, with no row
-abbrev pub AreEmpty : Schema → State → Type 0
-AreEmpty schema s =
-    (s.now.schema ≡ schema) × AllByRecursion (λ (t : Table). s.now.trees t.tree ≡ []) schema.tables
-
--- where a statement is answered in a transaction, and the disk returned what was written, the
--- tables of the first schema, with no row, are now those of the second, with no row
-abbrev pub Makes : {S T : Type 0} → store.Ghosts S → Held S → Held S → Result T Error → Schema
-    → Schema → Type 0
-Makes g old new result before after =
-    HasCleanDisk (state g new) → IsTrue (state g old).in_transaction → AreEmpty before (state g old)
-    → OnOk result (AreEmpty after (state g new) × IsTrue (state g new).in_transaction)

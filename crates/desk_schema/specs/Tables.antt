@@ -89,8 +89,8 @@ to_meetings at = record {
 }
 
 -- a table of rows of the meetings, in order of receipt
-abbrev pub meetings_table : String → List Column → Table
-meetings_table name columns =
+abbrev pub filed_table : String → List Column → Table
+filed_table name columns =
     record (received_table name (text "meeting" ∷ columns)) { references = to_meetings 2 ∷ [] }
 
 -- a table of rows of the meetings, of which each has the name or number of the next column once
@@ -108,70 +108,70 @@ once_table name columns =
 abbrev pub sequence : Table
 sequence = plain_table "sqlite_sequence" (anything "name" ∷ anything "seq" ∷ [])
 
-abbrev pub desk : Table
-desk = numbered_table "desk" (number "one" ∷ number "version" ∷ [])
+abbrev pub desk_table : Table
+desk_table = numbered_table "desk" (number "one" ∷ number "version" ∷ [])
 
-abbrev pub keys : Table
-keys = record (plain_table "keys" (text "party" ∷ text "secret" ∷ [])) {
+abbrev pub keys_table : Table
+keys_table = record (plain_table "keys" (text "party" ∷ text "secret" ∷ [])) {
   primary = 1 ∷ [];
   uniques = (1 ∷ []) ∷ (2 ∷ []) ∷ [];
   orders = plain ∷ plain ∷ [];
 }
 
-abbrev pub closed : Table
-closed = numbered_table "closed" (number "day" ∷ [])
+abbrev pub closed_table : Table
+closed_table = numbered_table "closed" (number "day" ∷ [])
 
-abbrev pub meetings : Table
-meetings =
+abbrev pub meetings_table : Table
+meetings_table =
     unique (2 ∷ [])
     (received_table "meetings"
     (text "meeting" ∷ text "company" ∷ text "kind" ∷ number "given" ∷ number "appointed"
     ∷ number "record" ∷ number "loaded" ∷ number_if_any "opened" ∷ []))
 
-abbrev pub resolutions : Table
-resolutions = once_table "resolutions" (number "number" ∷ text "kind" ∷ text "body" ∷ [])
+abbrev pub resolutions_table : Table
+resolutions_table = once_table "resolutions" (number "number" ∷ text "kind" ∷ text "body" ∷ [])
 
-abbrev pub register : Table
-register =
+abbrev pub register_table : Table
+register_table =
     once_table "register"
     (text "member" ∷ text "kind" ∷ text "name" ∷ number "shares" ∷ number "paid" ∷ [])
 
-abbrev pub appointments : Table
-appointments =
+abbrev pub appointments_table : Table
+appointments_table =
     unique (2 ∷ 3 ∷ 4 ∷ [])
-    (meetings_table "appointments"
+    (filed_table "appointments"
     (text "member" ∷ number "number" ∷ text "proxy" ∷ number "first" ∷ number "last"
     ∷ text "instructions" ∷ number "moment" ∷ []))
 
-abbrev pub endings : Table
-endings =
+abbrev pub endings_table : Table
+endings_table =
     unique (2 ∷ 3 ∷ 4 ∷ [])
-    (meetings_table "endings" (text "member" ∷ number "number" ∷ number "moment" ∷ []))
+    (filed_table "endings" (text "member" ∷ number "number" ∷ number "moment" ∷ []))
 
-abbrev pub authorities : Table
-authorities =
+abbrev pub authorities_table : Table
+authorities_table =
     unique (2 ∷ 3 ∷ 4 ∷ [])
-    (meetings_table "authorities" (text "corporation" ∷ text "person" ∷ number "moment" ∷ []))
+    (filed_table "authorities" (text "corporation" ∷ text "person" ∷ number "moment" ∷ []))
 
-abbrev pub presences : Table
-presences =
-    unique (2 ∷ 3 ∷ []) (meetings_table "presences" (text "party" ∷ number "moment" ∷ []))
+abbrev pub presences_table : Table
+presences_table =
+    unique (2 ∷ 3 ∷ []) (filed_table "presences" (text "party" ∷ number "moment" ∷ []))
 
-abbrev pub demands : Table
-demands =
+abbrev pub demands_table : Table
+demands_table =
     unique (2 ∷ 3 ∷ 4 ∷ [])
-    (meetings_table "demands" (number "resolution" ∷ text "party" ∷ number "moment" ∷ []))
+    (filed_table "demands" (number "resolution" ∷ text "party" ∷ number "moment" ∷ []))
 
-abbrev pub polls : Table
-polls =
+abbrev pub polls_table : Table
+polls_table =
     once_table "polls"
     (number "resolution" ∷ number "ordered" ∷ number "take" ∷ number "chair"
     ∷ number_if_any "started" ∷ number_if_any "closed" ∷ number_if_any "votes_for"
     ∷ number_if_any "votes_against" ∷ number_if_any "withheld" ∷ number_if_any "eligible" ∷ [])
 
-abbrev pub casts : Table
-casts =
-    meetings_table "casts"
+abbrev pub casts_table : Table
+casts_table =
+    filed_table "casts"
     (number "resolution" ∷ text "voter" ∷ text "capacity" ∷ text_if_any "member"
     ∷ number_if_any "first" ∷ number_if_any "last" ∷ text_if_any "way" ∷ number "moment" ∷ [])
 
@@ -180,44 +180,44 @@ casts =
 abbrev pub no_schema : Schema
 no_schema = record { tables = []; indexes = []; views = [] }
 
-abbrev pub with_desk : Schema
-with_desk = created no_schema desk
+abbrev pub up_to_desk : Schema
+up_to_desk = created no_schema desk_table
 
-abbrev pub with_keys : Schema
-with_keys = created with_desk keys
+abbrev pub up_to_keys : Schema
+up_to_keys = created up_to_desk keys_table
 
-abbrev pub with_closed : Schema
-with_closed = created with_keys closed
+abbrev pub up_to_closed : Schema
+up_to_closed = created up_to_keys closed_table
 
-abbrev pub with_meetings : Schema
-with_meetings = created (created with_closed meetings) sequence
+abbrev pub up_to_meetings : Schema
+up_to_meetings = created (created up_to_closed meetings_table) sequence
 
-abbrev pub with_resolutions : Schema
-with_resolutions = created with_meetings resolutions
+abbrev pub up_to_resolutions : Schema
+up_to_resolutions = created up_to_meetings resolutions_table
 
-abbrev pub with_register : Schema
-with_register = created with_resolutions register
+abbrev pub up_to_register : Schema
+up_to_register = created up_to_resolutions register_table
 
-abbrev pub with_appointments : Schema
-with_appointments = created with_register appointments
+abbrev pub up_to_appointments : Schema
+up_to_appointments = created up_to_register appointments_table
 
-abbrev pub with_endings : Schema
-with_endings = created with_appointments endings
+abbrev pub up_to_endings : Schema
+up_to_endings = created up_to_appointments endings_table
 
-abbrev pub with_authorities : Schema
-with_authorities = created with_endings authorities
+abbrev pub up_to_authorities : Schema
+up_to_authorities = created up_to_endings authorities_table
 
-abbrev pub with_presences : Schema
-with_presences = created with_authorities presences
+abbrev pub up_to_presences : Schema
+up_to_presences = created up_to_authorities presences_table
 
-abbrev pub with_demands : Schema
-with_demands = created with_presences demands
+abbrev pub up_to_demands : Schema
+up_to_demands = created up_to_presences demands_table
 
-abbrev pub with_polls : Schema
-with_polls = created with_demands polls
+abbrev pub up_to_polls : Schema
+up_to_polls = created up_to_demands polls_table
 
-abbrev pub with_casts : Schema
-with_casts = created with_polls casts
+abbrev pub up_to_casts : Schema
+up_to_casts = created up_to_polls casts_table
 
 -- ---- indexes, by which a party's rows are found
 
@@ -235,29 +235,31 @@ an_index name table columns = record {
 abbrev pub appointments_by_proxy : Index
 appointments_by_proxy = an_index "appointments_by_proxy" 12 (2 ∷ 5 ∷ [])
 
-abbrev pub with_appointments_by_proxy : Schema
-with_appointments_by_proxy =
-    indexed with_casts (record appointments { tree = 12 }) appointments_by_proxy
+abbrev pub up_to_appointments_by_proxy : Schema
+up_to_appointments_by_proxy =
+    indexed up_to_casts (record appointments_table { tree = 12 }) appointments_by_proxy
 
 abbrev pub authorities_by_person : Index
 authorities_by_person = an_index "authorities_by_person" 16 (2 ∷ 4 ∷ [])
 
-abbrev pub with_authorities_by_person : Schema
-with_authorities_by_person =
-    indexed with_appointments_by_proxy (record authorities { tree = 16 }) authorities_by_person
+abbrev pub up_to_authorities_by_person : Schema
+up_to_authorities_by_person =
+    indexed up_to_appointments_by_proxy (record authorities_table { tree = 16 })
+    authorities_by_person
 
 abbrev pub demands_by_party : Index
 demands_by_party = an_index "demands_by_party" 20 (2 ∷ 4 ∷ [])
 
-abbrev pub with_demands_by_party : Schema
-with_demands_by_party =
-    indexed with_authorities_by_person (record demands { tree = 20 }) demands_by_party
+abbrev pub up_to_demands_by_party : Schema
+up_to_demands_by_party =
+    indexed up_to_authorities_by_person (record demands_table { tree = 20 }) demands_by_party
 
 abbrev pub casts_by_voter : Index
 casts_by_voter = an_index "casts_by_voter" 24 (2 ∷ 4 ∷ [])
 
-abbrev pub with_casts_by_voter : Schema
-with_casts_by_voter = indexed with_demands_by_party (record casts { tree = 24 }) casts_by_voter
+abbrev pub up_to_casts_by_voter : Schema
+up_to_casts_by_voter =
+    indexed up_to_demands_by_party (record casts_table { tree = 24 }) casts_by_voter
 
 abbrev pub desk_schema : Schema
-desk_schema = with_casts_by_voter
+desk_schema = up_to_casts_by_voter

@@ -1,4 +1,4 @@
--- What INSERT of one row does to the tables of the desk.
+-- What INSERT of one row does to the tables of a desk.
 use Rattle.std.proofs.Common.{◌≡◌, ℕ, ℤ, List, [], ◌∷◌, ◌++◌, map, drop, slice_get, Bool, true, false, Some, Ok, Err, Result, OnOk, IsTrue, refl, sym, ap, subst, ◌∙◌}
 use Rattle.sqlite.specs.declared.types.Value.TheVariants.{Null, Int}
 use Rattle.sqlite.specs.Order.{Row}
@@ -14,20 +14,19 @@ use Rattle.sqlite.specs.Listing.{understood}
 use Rattle.sqlite.specs.State.{State, ExecutesInside}
 use Rattle.sqlite.proofs.Callers.{IsPlain, command_of, statement_of, runs_as}
 use Rattle.sqlite_trees.proofs.TreeLemmas.{IsShaped-put_row}
-use Rattle.desk_schema.specs.Tables.{desk_schema}
-use Rattle.desk_schema.specs.Statements.{TableOf, columns_of, is_table, IsDesk, IsRising, KeepsOthers, Adds}
+use Rattle.desk_schema.specs.Statements.{Layout, TableOf, columns_of, has_table, IsDeskOf, IsRising, KeepsOthersIn, ChangesIn}
 use Rattle.std.specs.List.{AllByRecursion}
 use Rattle.desk_statements.proofs.Seq.{IsBelow, chosen_by, put_last, below_chosen}
 use Rattle.desk_statements.proofs.Writing.{inserted, insert_edit, untouched, rows_of_values}
-use Rattle.desk_statements.proofs.Frames.{still, the_counts, sequence_is, still_desk, by_number, no_count}
+use Rattle.desk_statements.proofs.Frames.{AreApart, still_desk, by_number, no_count}
 use Rattle.desk_statements.proofs.Meanings.{records_added}
 
 -- a row is added after the others, under some number, and nothing else is changed
-pub record AddsRow (number : ℕ) (cells : Row) (old new : State) : Type 0 where
+pub record AddsRow (layout : Layout) (number : ℕ) (cells : Row) (old new : State) : Type 0 where
   pub id : ℤ
   pub rows : new.now.trees number ≡ old.now.trees number ++ (Int id ∷ cells) ∷ []
-  pub others : KeepsOthers number old new
-  pub desk : IsDesk new
+  pub others : KeepsOthersIn layout number old new
+  pub desk : IsDeskOf layout new
   pub inside : IsTrue new.in_transaction
 
 -- a row with no number of its own gets the next, and stands last
@@ -36,15 +35,15 @@ placed : (counts : Bool) (last : ℤ) (rows : List Row) (cells : Row) → IsRisi
 placed true last rows cells up = put_last _ rows (below_chosen true last rows up)
 placed false last rows cells up = put_last _ rows (below_chosen false last rows up)
 
-module _ (at : ℕ) (table : Table) (terms : List Term) (width : ℕ) (text : List ℕ) (params cells : Row)
-    (is : command_of (understood desk_schema text) ≡ Insert at (Values terms width)) (plain : IsPlain (understood desk_schema text))
-    (there : slice_get desk_schema.tables at ≡ Some table) (numbered_so : IsTrue (is_table table.tree))
+module _ {layout : Layout} (apart : AreApart layout) (at : ℕ) (table : Table) (terms : List Term) (width : ℕ) (text : List ℕ) (params cells : Row)
+    (is : command_of (understood layout.schema text) ≡ Insert at (Values terms width)) (plain : IsPlain (understood layout.schema text))
+    (there : slice_get layout.schema.tables at ≡ Some table) (numbered_so : IsTrue (has_table layout table.tree))
     (cast : map (λ s. cast_row table (drop 0 s)) (rows_of_values table params width terms) ≡ (Null ∷ cells) ∷ []) where
-  pub adds_row : (old new : State) (r : Result ℕ Error) → IsDesk old → IsTrue old.in_transaction → ExecutesInside 0 text params old new r → OnOk r (AddsRow table.tree cells old new)
+  pub adds_row : (old new : State) (r : Result ℕ Error) → IsDeskOf layout old → IsTrue old.in_transaction → ExecutesInside 0 text params old new r → OnOk r (AddsRow layout table.tree cells old new)
   adds_row old new (Err e) was inside h = tt
   adds_row old new (Ok count) was inside h =
-      let w = runs_as text params old new desk_schema was.schema (Insert at (Values terms width)) is plain count h.0 in
-      let i = inserted old new desk_schema at table terms width (statement_of text (understood desk_schema text)) params count still was.schema there w in
+      let w = runs_as text params old new layout.schema was.schema (Insert at (Values terms width)) is plain count h.0 in
+      let i = inserted old new layout.schema at table terms width (statement_of text (understood layout.schema text)) params count apart.still was.schema there w in
       let db = old.now.trees in
       let up = was.rising table.tree numbered_so in
       let last = count_of i.counter in
@@ -52,9 +51,9 @@ module _ (at : ℕ) (table : Table) (terms : List Term) (width : ℕ) (text : Li
       let row = Int id ∷ cells in
       let put : edited db (insert_edit db table i.counter (rows_of_values table params width terms)) ≡ db table.tree ++ row ∷ [] =
       ap (λ (l : List Row). put_all (db table.tree) (numbered (rowids_for table last) (db table.tree) l)) cast ∙ placed table.is_counted last (db table.tree) cells up in
-      let mine : new.now.trees table.tree ≡ db table.tree ++ row ∷ [] = i.kept the_counts sequence_is at table there (no_count table.tree numbered_so) ∙ i.put.rows ∙ put in
-      let kept = by_number table.tree old new (λ k it listed apart other.
-      i.kept the_counts sequence_is k it listed apart ∙ untouched desk_schema db i.mid (insert_edit db table i.counter (rows_of_values table params width terms)) i.put k it listed other) in
+      let mine : new.now.trees table.tree ≡ db table.tree ++ row ∷ [] = i.kept apart.counts apart.counted at table there (no_count apart table.tree numbered_so) ∙ i.put.rows ∙ put in
+      let kept = by_number apart table.tree old new (λ k it listed uncounted other.
+      i.kept apart.counts apart.counted k it listed uncounted ∙ untouched layout.schema db i.mid (insert_edit db table i.counter (rows_of_values table params width terms)) i.put k it listed other) in
       let last_is = put_last row (db table.tree) (below_chosen table.is_counted last (db table.tree) up) in
       let rises : IsRising (new.now.trees table.tree) = subst IsRising (sym (mine ∙ sym last_is)) (IsShaped-put_row row (db table.tree) refl up) in
       record { id = id; rows = mine; others = kept; desk = still_desk table.tree old new was i.same_schema kept rises; inside = w.shown.mode ∙ inside }
@@ -65,29 +64,29 @@ placed_so : (counts : Bool) (last : ℤ) (rows : List Row) (id : ℤ) (cells : R
 placed_so true last rows id cells below = put_last _ rows below
 placed_so false last rows id cells below = put_last _ rows below
 
-module _ (at : ℕ) (table : Table) (terms : List Term) (width : ℕ) (text : List ℕ) (params : Row) (id : ℤ) (cells : Row)
-    (is : command_of (understood desk_schema text) ≡ Insert at (Values terms width)) (plain : IsPlain (understood desk_schema text))
-    (there : slice_get desk_schema.tables at ≡ Some table) (numbered_so : IsTrue (is_table table.tree))
+module _ {layout : Layout} (apart : AreApart layout) (at : ℕ) (table : Table) (terms : List Term) (width : ℕ) (text : List ℕ) (params : Row) (id : ℤ) (cells : Row)
+    (is : command_of (understood layout.schema text) ≡ Insert at (Values terms width)) (plain : IsPlain (understood layout.schema text))
+    (there : slice_get layout.schema.tables at ≡ Some table) (numbered_so : IsTrue (has_table layout table.tree))
     (cast : map (λ s. cast_row table (drop 0 s)) (rows_of_values table params width terms) ≡ (Int id ∷ cells) ∷ []) where
-  pub adds_numbered : (old new : State) (r : Result ℕ Error) → IsDesk old → IsTrue old.in_transaction → AllByRecursion (IsBelow id) (old.now.trees table.tree)
-      → ExecutesInside 0 text params old new r → OnOk r ((added : AddsRow table.tree cells old new) × (added.id ≡ id))
+  pub adds_numbered : (old new : State) (r : Result ℕ Error) → IsDeskOf layout old → IsTrue old.in_transaction → AllByRecursion (IsBelow id) (old.now.trees table.tree)
+      → ExecutesInside 0 text params old new r → OnOk r ((added : AddsRow layout table.tree cells old new) × (added.id ≡ id))
   adds_numbered old new (Err e) was inside below h = tt
   adds_numbered old new (Ok count) was inside below h =
-      let w = runs_as text params old new desk_schema was.schema (Insert at (Values terms width)) is plain count h.0 in
-      let i = inserted old new desk_schema at table terms width (statement_of text (understood desk_schema text)) params count still was.schema there w in
+      let w = runs_as text params old new layout.schema was.schema (Insert at (Values terms width)) is plain count h.0 in
+      let i = inserted old new layout.schema at table terms width (statement_of text (understood layout.schema text)) params count apart.still was.schema there w in
       let db = old.now.trees in
       let last = count_of i.counter in
       let row = Int id ∷ cells in
       let put : edited db (insert_edit db table i.counter (rows_of_values table params width terms)) ≡ db table.tree ++ row ∷ [] =
       ap (λ (l : List Row). put_all (db table.tree) (numbered (rowids_for table last) (db table.tree) l)) cast ∙ placed_so table.is_counted last (db table.tree) id cells below in
-      let mine : new.now.trees table.tree ≡ db table.tree ++ row ∷ [] = i.kept the_counts sequence_is at table there (no_count table.tree numbered_so) ∙ i.put.rows ∙ put in
-      let kept = by_number table.tree old new (λ k it listed apart other.
-      i.kept the_counts sequence_is k it listed apart ∙ untouched desk_schema db i.mid (insert_edit db table i.counter (rows_of_values table params width terms)) i.put k it listed other) in
+      let mine : new.now.trees table.tree ≡ db table.tree ++ row ∷ [] = i.kept apart.counts apart.counted at table there (no_count apart table.tree numbered_so) ∙ i.put.rows ∙ put in
+      let kept = by_number apart table.tree old new (λ k it listed uncounted other.
+      i.kept apart.counts apart.counted k it listed uncounted ∙ untouched layout.schema db i.mid (insert_edit db table i.counter (rows_of_values table params width terms)) i.put k it listed other) in
       let rises : IsRising (new.now.trees table.tree) = subst IsRising (sym (mine ∙ sym (put_last row (db table.tree) below))) (IsShaped-put_row row (db table.tree) refl (was.rising table.tree numbered_so)) in
       (record { id = id; rows = mine; others = kept; desk = still_desk table.tree old new was i.same_schema kept rises; inside = w.shown.mode ∙ inside }, refl)
 
 -- what the new row means is added to what the rows mean
-pub means_more : {A : Type 0} (it : TableOf A) (cells : Row) (added : A) (old new : State) (h : AddsRow it.number cells old new) → it.means (columns_of it (Int h.id ∷ cells)) ≡ Some added → Adds it added old new
+pub means_more : {A : Type 0} {layout : Layout} (it : TableOf A) (cells : Row) (added : A) (old new : State) (h : AddsRow layout it.number cells old new) → it.means (columns_of it (Int h.id ∷ cells)) ≡ Some added → ChangesIn layout it (λ was. was ++ added ∷ []) old new
 means_more it cells added old new h means = record {
   records = λ was known. rw h.rows (records_added it (old.now.trees it.number) (Int h.id ∷ cells) was added known means);
   others = h.others;
@@ -95,7 +94,7 @@ means_more it cells added old new h means = record {
   inside = h.inside;
 }
 
-pub adds : {A : Type 0} (it : TableOf A) (cells : Row) (added : A) (old new : State) (r : Result ℕ Error) → OnOk r (AddsRow it.number cells old new)
-    → ((id : ℤ) → it.means (columns_of it (Int id ∷ cells)) ≡ Some added) → OnOk r (Adds it added old new)
-adds it cells added old new (Err e) h means = tt
-adds it cells added old new (Ok count) h means = means_more it cells added old new h (means h.id)
+pub adds : {A : Type 0} (layout : Layout) (it : TableOf A) (cells : Row) (added : A) (old new : State) (r : Result ℕ Error) → OnOk r (AddsRow layout it.number cells old new)
+    → ((id : ℤ) → it.means (columns_of it (Int id ∷ cells)) ≡ Some added) → OnOk r (ChangesIn layout it (λ was. was ++ added ∷ []) old new)
+adds layout it cells added old new (Err e) h means = tt
+adds layout it cells added old new (Ok count) h means = means_more it cells added old new h (means h.id)

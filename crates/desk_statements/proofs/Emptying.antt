@@ -1,4 +1,4 @@
--- What DELETE does to the tables of the desk.
+-- What DELETE does to the tables of a desk.
 use Rattle.std.proofs.Common.{◌≡◌, ℕ, List, [], ◌∷◌, filter, map, slice_get, Bool, true, false, not, cond, Some, None, Ok, Err, Result, OnOk, IsTrue, refl, sym, subst, ◌∙◌}
 use Rattle.sqlite.specs.Order.{Row}
 use Rattle.sqlite.specs.Term.{Term}
@@ -12,31 +12,30 @@ use Rattle.sqlite.proofs.Callers.{IsPlain, command_of, statement_of, runs_as}
 use Rattle.sqlite_trees.proofs.TreeLemmas.{IsShaped-filter}
 use Rattle.sqlite_trees.specs.declared.store.Shape.TheVariants as shape
 use Rattle.desk_rows.specs.Meanings.{all_mean}
-use Rattle.desk_schema.specs.Tables.{desk_schema}
-use Rattle.desk_schema.specs.Statements.{TableOf, columns_of, is_table, IsDesk, IsRising, KeepsOthers, Empties, TakesOut}
+use Rattle.desk_schema.specs.Statements.{Layout, TableOf, columns_of, has_table, IsDeskOf, IsRising, KeepsOthersIn, ChangesIn}
 use Rattle.desk_statements.proofs.Deleting.{chosen, passes, deleted}
-use Rattle.desk_statements.proofs.Frames.{still, still_desk, by_number}
+use Rattle.desk_statements.proofs.Frames.{AreApart, still_desk, by_number}
 use Rattle.desk_statements.proofs.GivenNumbers.{each_means}
 
 -- some rows are left, and nothing else is changed
-pub record LeavesRows (number : ℕ) (left : Row → Bool) (old new : State) : Type 0 where
+pub record LeavesRows (layout : Layout) (number : ℕ) (left : Row → Bool) (old new : State) : Type 0 where
   pub rows : new.now.trees number ≡ filter left (old.now.trees number)
-  pub others : KeepsOthers number old new
-  pub desk : IsDesk new
+  pub others : KeepsOthersIn layout number old new
+  pub desk : IsDeskOf layout new
   pub inside : IsTrue new.in_transaction
 
-module _ (at : ℕ) (table : Table) (tests : List Term) (text : List ℕ) (params : Row)
-    (is : command_of (understood desk_schema text) ≡ Delete at (record { lets = []; body = chosen table.tree tests })) (plain : IsPlain (understood desk_schema text))
-    (there : slice_get desk_schema.tables at ≡ Some table) (numbered_so : IsTrue (is_table table.tree)) (none : given_at [] table.tree ≡ None) where
-  pub leaves_rows : (old new : State) (r : Result ℕ Error) → IsDesk old → IsTrue old.in_transaction → ExecutesInside 0 text params old new r
-      → OnOk r (LeavesRows table.tree (λ row. not (passes tests params row)) old new)
+module _ {layout : Layout} (apart : AreApart layout) (at : ℕ) (table : Table) (tests : List Term) (text : List ℕ) (params : Row)
+    (is : command_of (understood layout.schema text) ≡ Delete at (record { lets = []; body = chosen table.tree tests })) (plain : IsPlain (understood layout.schema text))
+    (there : slice_get layout.schema.tables at ≡ Some table) (numbered_so : IsTrue (has_table layout table.tree)) (none : given_at [] table.tree ≡ None) where
+  pub leaves_rows : (old new : State) (r : Result ℕ Error) → IsDeskOf layout old → IsTrue old.in_transaction → ExecutesInside 0 text params old new r
+      → OnOk r (LeavesRows layout table.tree (λ row. not (passes tests params row)) old new)
   leaves_rows old new (Err e) was inside h = tt
   leaves_rows old new (Ok count) was inside h =
       let command = Delete at (record { lets = []; body = chosen table.tree tests }) in
-      let w = runs_as text params old new desk_schema was.schema command is plain count h.0 in
+      let w = runs_as text params old new layout.schema was.schema command is plain count h.0 in
       let up = was.rising table.tree numbered_so in
-      let d = deleted old new desk_schema at table tests (statement_of text (understood desk_schema text)) params count still was.schema there none up w in
-      let kept = by_number table.tree old new (λ k it listed apart other. d.kept k it listed other) in
+      let d = deleted old new layout.schema at table tests (statement_of text (understood layout.schema text)) params count apart.still was.schema there none up w in
+      let kept = by_number apart table.tree old new (λ k it listed uncounted other. d.kept k it listed other) in
       record {
         rows = d.left;
         others = kept;
@@ -49,9 +48,9 @@ none_left [] = refl
 none_left (row ∷ rows) = none_left rows
 
 -- no row is left, so no record
-pub empties : {A : Type 0} (it : TableOf A) (old new : State) (r : Result ℕ Error) → OnOk r (LeavesRows it.number (λ row. false) old new) → OnOk r (Empties it old new)
-empties it old new (Err e) h = tt
-empties it old new (Ok count) h = record {
+pub empties : {A : Type 0} (layout : Layout) (it : TableOf A) (old new : State) (r : Result ℕ Error) → OnOk r (LeavesRows layout it.number (λ row. false) old new) → OnOk r (ChangesIn layout it (λ _. []) old new)
+empties layout it old new (Err e) h = tt
+empties layout it old new (Ok count) h = record {
   records = λ was known. rw (h.rows, none_left (old.now.trees it.number)) refl;
   others = h.others;
   desk = h.desk;
@@ -76,9 +75,9 @@ module _ {A : Type 0} (it : TableOf A) (chooses : Row → Bool) (test : A → Bo
       go false true e left kept x means later = absurd cc
       go false false e left kept x means later = rw (means, later) refl
 
-  pub takes_out : (old new : State) (r : Result ℕ Error) → OnOk r (LeavesRows it.number (λ row. not (chooses row)) old new) → OnOk r (TakesOut it test old new)
-  takes_out old new (Err e) h = tt
-  takes_out old new (Ok count) h = record {
+  pub takes_out : (layout : Layout) (old new : State) (r : Result ℕ Error) → OnOk r (LeavesRows layout it.number (λ row. not (chooses row)) old new) → OnOk r (ChangesIn layout it (filter (λ x. not (test x))) old new)
+  takes_out layout old new (Err e) h = tt
+  takes_out layout old new (Ok count) h = record {
     records = λ was known. rw h.rows (taken_out (old.now.trees it.number) was known);
     others = h.others;
     desk = h.desk;

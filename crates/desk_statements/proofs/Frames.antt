@@ -1,33 +1,34 @@
--- The tables of the desk by their numbers, and what a write to one of them leaves of the others.
-use Rattle.std.proofs.Common.{◌≡◌, ◌≢◌, inl, inr, ℕ, suc, ◌==◌, List, [], ◌∷◌, Bool, true, false, ◌||◌, slice_get, Some, refl, sym, subst, ◌∙◌, IsTrue, true≢false}
-use Rattle.std.specs.List.{list_any}
-use Rattle.std.proofs.lemmas.Bool.{eqb-false}
+-- The tables of a version by their numbers, and what a write to one of them leaves of the others.
+use Rattle.std.proofs.Common.{◌≡◌, ◌≢◌, inl, inr, ℕ, suc, ◌==◌, List, [], ◌∷◌, Bool, true, not, ◌&&◌, slice_get, Some, refl, sym, subst, ◌∙◌, IsTrue, true≢false}
+use Rattle.std.specs.List.{AllByRecursion, list_all, list_any}
+use Rattle.std.proofs.lemmas.Bool.{and_parts}
 use Rattle.std.proofs.lemmas.Bool.Decides.{eqb_tells}
 use Rattle.sqlite.specs.Table.{Table}
 use Rattle.sqlite.specs.Rows.{sequence}
 use Rattle.sqlite.specs.State.{State}
-use Rattle.desk_schema.specs.Tables.{desk_schema, sequence as counts}
-use Rattle.desk_schema.specs.Statements.{is_table, AreEmpty, IsDesk, IsRising, KeepsOthers}
+use Rattle.desk_schema.specs.Tables.{sequence as counts_of_numbers}
+use Rattle.desk_schema.specs.Statements.{Layout, layout_one, has_table, AreEmpty, IsDeskOf, IsRising, KeepsOthersIn}
 use Rattle.sqlite_trees.proofs.ListLemmas.{all-slice_get}
 use Rattle.desk_statements.proofs.Writing.{are_still}
 
-pub still : are_still desk_schema ≡ true
-still = refl
+-- no reference acts, one table counts the numbers given so far, and each number of a table of the
+-- desk is that of another one that is declared
+pub record AreApart (layout : Layout) : Type 0 where
+  pub still : are_still layout.schema ≡ true
+  pub counts : Table
+  pub counted : sequence layout.schema ≡ Some counts
+  pub declared : IsTrue (list_all (λ number. list_any (λ (t : Table). t.tree == number) layout.schema.tables && not (number == counts.tree)) layout.numbers)
 
--- the table that counts the numbers given so far
-abbrev pub the_counts : Table
-the_counts = record counts { tree = 7 }
-
-pub sequence_is : sequence desk_schema ≡ Some the_counts
+pub ones_apart : AreApart layout_one
 unfolding Rattle.sqlite_schema.specs.Names.same_name
-sequence_is = refl
+ones_apart = record { still = refl; counts = record counts_of_numbers { tree = 7 }; counted = refl; declared = refl }
 
 -- a table with this number, and its place in the list
-pub record IsListed (tables : List Table) (number : ℕ) : Type 0 where
-  pub place : ℕ
-  pub table : Table
-  pub there : slice_get tables place ≡ Some table
-  pub numbered : table.tree ≡ number
+record IsListed (tables : List Table) (number : ℕ) : Type 0 where
+  place : ℕ
+  table : Table
+  there : slice_get tables place ≡ Some table
+  numbered : table.tree ≡ number
 
 listed_in : (tables : List Table) (number : ℕ) → list_any (λ (t : Table). t.tree == number) tables ≡ true → IsListed tables number
 listed_in [] number h = absurd (true≢false (sym h))
@@ -36,46 +37,48 @@ listed_in (t ∷ tables) number h = elim (eqb_tells t.tree number) [
   | inr other ↦ let later = listed_in tables number (rw other.0 at h) in record { place = suc later.place; table = later.table; there = later.there; numbered = later.numbered }
 ]
 
-one_more : (a b c d e f : Bool) → (a || (b || (c || (d || f)))) ≡ true → (a || (b || (c || (d || (e || f))))) ≡ true
-one_more true b c d e f h = refl
-one_more false true c d e f h = refl
-one_more false false true d e f h = refl
-one_more false false false true e f h = refl
-one_more false false false false true f h = refl
-one_more false false false false false f h = h
+-- what holds of the tree of each table that is declared holds of a number that is one's
+pub of_tree : (P : ℕ → Type 0) (tables : List Table) (number : ℕ) → AllByRecursion (λ (t : Table). P t.tree) tables → IsTrue (list_any (λ (t : Table). t.tree == number) tables) → P number
+of_tree P tables number all is = let it = listed_in tables number is in subst P it.numbered (all-slice_get (λ (t : Table). P t.tree) tables it.place it.table it.there all)
 
-pub listed : (number : ℕ) → IsTrue (is_table number) → IsListed desk_schema.tables number
-listed number h = listed_in desk_schema.tables number (one_more (0 == number) (1 == number) (4 == number) (5 == number) (7 == number) _ h)
+-- a number of a list that passes a test passes it
+passes_so : (test : ℕ → Bool) (numbers : List ℕ) (number : ℕ) → list_all test numbers ≡ true → list_any (λ n. n == number) numbers ≡ true → test number ≡ true
+passes_so test [] number all h = absurd (true≢false (sym h))
+passes_so test (n ∷ numbers) number all h =
+    let tests = and_parts (test n) (list_all test numbers) all in
+    elim (eqb_tells n number) [ inl same ↦ subst (λ k. test k ≡ true) same.1 tests.0 | inr other ↦ passes_so test numbers number tests.1 (rw other.0 at h) ]
 
-pub no_count : (number : ℕ) → IsTrue (is_table number) → number ≢ 7
-no_count number h same = absurd (true≢false (sym (subst (λ n. IsTrue (is_table n)) same h)))
+module _ {layout : Layout} (apart : AreApart layout) where
+  declared_apart : (number : ℕ) → IsTrue (has_table layout number) → IsTrue (list_any (λ (t : Table). t.tree == number) layout.schema.tables) × IsTrue (not (number == apart.counts.tree))
+  declared_apart number is = and_parts _ _ (passes_so _ layout.numbers number apart.declared is)
 
--- each table but that of the counts and one other keeps its rows
-abbrev pub KeepsListed : ℕ → State → State → Type 0
-KeepsListed changed old new = (k : ℕ) (it : Table) → slice_get desk_schema.tables k ≡ Some it → it.tree ≢ 7 → it.tree ≢ changed → new.now.trees it.tree ≡ old.now.trees it.tree
+  pub no_count : (number : ℕ) → IsTrue (has_table layout number) → number ≢ apart.counts.tree
+  no_count number is = elim (eqb_tells number apart.counts.tree) [ inl same ↦ absurd (true≢false (sym (rw same.0 at (declared_apart number is).1))) | inr other ↦ other.1 ]
 
-pub by_number : (changed : ℕ) (old new : State) → KeepsListed changed old new → KeepsOthers changed old new
-by_number changed old new kept = λ number is other.
-    let it = listed number is in
-    let same = it.numbered in
-    subst (λ n. new.now.trees n ≡ old.now.trees n) same (kept it.place it.table it.there (λ e. no_count number is (sym same ∙ e)) (λ e. other (sym same ∙ e)))
+  -- what holds of the tree of each table that is declared holds of the numbers of the desk's
+  pub of_tables : (P : ℕ → Type 0) → AllByRecursion (λ (t : Table). P t.tree) layout.schema.tables → (number : ℕ) → IsTrue (has_table layout number) → P number
+  of_tables P all number is = of_tree P layout.schema.tables number all (declared_apart number is).0
+
+  -- each table but that of the counts and one other keeps its rows
+  abbrev pub KeepsListed : ℕ → State → State → Type 0
+  KeepsListed changed old new = (k : ℕ) (it : Table) → slice_get layout.schema.tables k ≡ Some it → it.tree ≢ apart.counts.tree → it.tree ≢ changed → new.now.trees it.tree ≡ old.now.trees it.tree
+
+  pub by_number : (changed : ℕ) (old new : State) → KeepsListed changed old new → KeepsOthersIn layout changed old new
+  by_number changed old new kept = λ number is other.
+      let it = listed_in layout.schema.tables number (declared_apart number is).0 in
+      let same = it.numbered in
+      subst (λ n. new.now.trees n ≡ old.now.trees n) same (kept it.place it.table it.there (λ e. no_count number is (sym same ∙ e)) (λ e. other (sym same ∙ e)))
+
+  -- tables with no row are those of a desk
+  pub empty_is_desk : (s : State) → AreEmpty layout.schema s → IsDeskOf layout s
+  empty_is_desk s h = record { schema = h.0; rising = λ number is. subst IsRising (sym (of_tables (λ n. s.now.trees n ≡ []) h.1 number is)) (tt, tt) }
 
 -- the tables are still those of the desk after a write to one of them, where its rows rise
-pub still_desk : (changed : ℕ) (old new : State) → IsDesk old → new.now.schema ≡ desk_schema → KeepsOthers changed old new → IsRising (new.now.trees changed) → IsDesk new
+pub still_desk : {layout : Layout} (changed : ℕ) (old new : State) → IsDeskOf layout old → new.now.schema ≡ layout.schema → KeepsOthersIn layout changed old new → IsRising (new.now.trees changed) → IsDeskOf layout new
 still_desk changed old new was schema kept mine = record {
   schema = schema;
   rising = λ number is. elim (eqb_tells number changed) [
     | inl same ↦ subst (λ n. IsRising (new.now.trees n)) (sym same.1) mine
-    | inr other ↦ subst IsRising (sym (kept number is (eqb-false number changed other.0))) (was.rising number is)
+    | inr other ↦ subst IsRising (sym (kept number is other.1)) (was.rising number is)
   ];
-}
-
--- tables with no row are those of a desk
-pub empty_is_desk : (s : State) → AreEmpty desk_schema s → IsDesk s
-empty_is_desk s h = record {
-  schema = h.0;
-  rising = λ number is.
-      let it = listed number is in
-      let none : s.now.trees number ≡ [] = subst (λ n. s.now.trees n ≡ []) it.numbered (all-slice_get (λ (t : Table). s.now.trees t.tree ≡ []) desk_schema.tables it.place it.table it.there h.1) in
-      subst IsRising (sym none) (tt, tt);
 }

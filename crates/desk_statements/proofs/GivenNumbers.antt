@@ -11,7 +11,7 @@ use Rattle.sqlite.specs.Tree.{rowid}
 use Rattle.sqlite.specs.Edit.{id_in}
 use Rattle.sqlite_value.proofs.OrderLemmas.{value_cmp-Int}
 use Rattle.sqlite_trees.specs.View.{is_int}
-use Rattle.desk_rows.specs.Columns.{integer_of, day_of, up_to, natural_of, day_in}
+use Rattle.desk_rows.specs.Columns.{integer_of, unix_day, up_to, natural_of, day_in}
 use Rattle.desk_rows.specs.Meanings.{all_mean, ◌>>=◌}
 use Rattle.desk_rows.specs.Office.{closed_in}
 use Rattle.desk_schema.specs.Statements.{TableOf, columns_of, IsRising}
@@ -37,7 +37,7 @@ none_below {A} table (row ∷ rows) was id h none =
     let all : list_all (λ (x : A). false) (it.0 ∷ it.1) ≡ true = subst (λ (l : List A). list_all (λ (x : A). false) l ≡ true) it.4 none in
     absurd (true≢false (sym all))
 
-day_is : (k : ℤ) (d : ℕ) → day_of k ≡ Some d → k +ℤ pos 25567 ≡ pos d
+day_is : (k : ℤ) (d : ℕ) → unix_day k ≡ Some d → k +ℤ pos 25567 ≡ pos d
 day_is k d h = go (k +ℤ pos 25567) h
   where
     kept : (n : ℕ) (b : Bool) → ◌≡◌ {A = Option ℕ} (if b then Some n else None) (Some d) → n ≡ d
@@ -52,7 +52,7 @@ earlier : (k n : ℤ) (d day : ℕ) → k +ℤ pos 25567 ≡ pos d → n +ℤ po
 earlier k n d day a b h = let less : d < day = grind (arith, nat_tests) in omega (arith, ints)
 
 -- where each day is earlier, the number of each row is lower
-pub days_below : (rows : List Row) (was : List ℕ) (n : ℤ) (day : ℕ) → IsRising rows → day_of n ≡ Some day → all_mean closed.means (map (columns_of closed) rows) ≡ Some was → IsTrue (list_all (λ d. nat_lt d day) was) → AllByRecursion (IsBelow n) rows
+pub days_below : (rows : List Row) (was : List ℕ) (n : ℤ) (day : ℕ) → IsRising rows → unix_day n ≡ Some day → all_mean closed.means (map (columns_of closed) rows) ≡ Some was → IsTrue (list_all (λ d. nat_lt d day) was) → AllByRecursion (IsBelow n) rows
 unfolding closed_in day_in
 days_below rows was n day up is h all = go rows was up.1 h all
   where
@@ -61,6 +61,6 @@ days_below rows was n day up is h all = go rows was up.1 h all
     go (row ∷ rows) was keyed h all =
         let it = each_means closed.means (columns_of closed row) (map (columns_of closed) rows) was h in
         let passed = and_parts (nat_lt it.0 day) (list_all (λ d. nat_lt d day) it.1) (subst (λ l. list_all (λ d. nat_lt d day) l ≡ true) it.4 all) in
-        let known : day_of (id_in (rowid row)) ≡ Some it.0 = subst (λ v. (integer_of v >>= day_of) ≡ Some it.0) (is_its_id row keyed.0) it.2 in
+        let known : unix_day (id_in (rowid row)) ≡ Some it.0 = subst (λ v. (integer_of v >>= unix_day) ≡ Some it.0) (is_its_id row keyed.0) it.2 in
         let less = earlier (id_in (rowid row)) n it.0 day (day_is (id_in (rowid row)) it.0 known) (day_is n day is) passed.0 in
         (subst (λ v. value_cmp v (Int n) ≡ Less) (sym (is_its_id row keyed.0)) (value_cmp-Int (id_in (rowid row)) n ∙ sym (int_cmp_is (id_in (rowid row)) n Less less)), go rows it.1 keyed.1 it.3 passed.1)

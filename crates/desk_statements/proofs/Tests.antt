@@ -21,7 +21,7 @@ use Rattle.sqlite_value.proofs.OrderLemmas.{value_cmp-Int, value_cmp-Text}
 use Rattle.desk_terms.specs.Names.{same_name, name_if, meeting_of, key_of, letters_of, in_places, is_name, is_name_letter, is_key, is_key_letter}
 use Rattle.desk_terms.proofs.NameLemmas.{letters_of-in_places, letters_of_name, letters_of_key}
 use Rattle.desk_words.proofs.RowLemmas.{same_name-true, same_name-refl}
-use Rattle.desk_rows.specs.Columns.{spelled_of, worded_of, integer_of, number_of, natural_of, some_moment_of, is_null}
+use Rattle.desk_rows.specs.Columns.{spelled_of, worded_of, integer_of, natural_value, natural_of, some_moment_of, is_null}
 use Rattle.desk_rows.specs.Marks.{tally_of, declared_of}
 use Rattle.desk_words.specs.declared.records.Tally.{Tally}
 use Rattle.desk_rows.specs.Meanings.{◌>>=◌}
@@ -96,7 +96,7 @@ number_test : (m n : ℕ) → is_eq (int_cmp (pos m) (pos n)) ≡ (m == n)
 number_test m n = grind (arith, ints, nat_tests)
 
 -- a row is chosen by a number exactly where it has that number
-pub numbers_tell : (v : Value) (z : ℤ) (m n : ℕ) → number_of v ≡ Some m → natural_of z ≡ Some n → is_true (binary (Compare Eq Binary) v (Int z)) ≡ (m == n)
+pub numbers_tell : (v : Value) (z : ℤ) (m n : ℕ) → natural_value v ≡ Some m → natural_of z ≡ Some n → is_true (binary (Compare Eq Binary) v (Int z)) ≡ (m == n)
 unfolding binary
 numbers_tell (Int k) z m n h e =
     truth_is (is_eq (value_cmp (Int k) (Int z))) ∙ ap is_eq (value_cmp-Int k z) ∙ subst (λ a. is_eq (int_cmp a z) ≡ (m == n)) (sym (natural_is k m h))
@@ -146,7 +146,7 @@ null_is (Blob b) h = absurd (true≢false (sym h))
 null_stays : (v : Value) → is_null v ≡ true → cast Integer v ≡ v
 null_stays v h = subst (λ w. cast Integer w ≡ w) (sym (null_is v h)) cast_null
 
-number_stays : (v : Value) (n : ℕ) → number_of v ≡ Some n → cast Integer v ≡ v
+number_stays : (v : Value) (n : ℕ) → natural_value v ≡ Some n → cast Integer v ≡ v
 number_stays (Int z) n h = cast_int z
 number_stays Null n h = absurd cc
 number_stays (Text t) n h = absurd cc
@@ -166,8 +166,8 @@ declared_stays a b c d x h = go (is_null a && is_null b && is_null c && is_null 
         (null_stays a one.0, null_stays b one.1, null_stays c two.1, null_stays d three.1)
     go false e t =
         let tally = bound (tally_of a b c d) (λ tally. Some (Some tally)) x t in
-        let first = bound (number_of a) _ tally.0 tally.1 in
-        let second = bound (number_of b) _ tally.0 first.2 in
-        let third = bound (number_of c) _ tally.0 second.2 in
-        let fourth = bound (number_of d) _ tally.0 third.2 in
+        let first = bound (natural_value a) _ tally.0 tally.1 in
+        let second = bound (natural_value b) _ tally.0 first.2 in
+        let third = bound (natural_value c) _ tally.0 second.2 in
+        let fourth = bound (natural_value d) _ tally.0 third.2 in
         (number_stays a first.0 first.1, number_stays b second.0 second.1, number_stays c third.0 third.1, number_stays d fourth.0 fourth.1)

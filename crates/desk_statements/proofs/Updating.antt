@@ -1,4 +1,4 @@
--- What UPDATE does to the tables of the desk.
+-- What UPDATE does to the tables of a desk.
 use Rattle.std.proofs.Common.{◌≡◌, inl, inr, ℕ, List, [], ◌∷◌, map, filter, drop, slice_get, Bool, true, false, not, if◌then◌else◌, Some, None, Ok, Err, Result, OnOk, IsTrue, IsPermutation, Less, refl, sym, ap, ap₂, subst, ◌∙◌}
 use Rattle.std.specs.List.{AllByRecursion}
 use Rattle.std.specs.Ordering.{ordering_reverse}
@@ -31,10 +31,9 @@ use Rattle.sqlite_trees.specs.View.{is_int}
 use Rattle.sqlite_trees.proofs.TreeLemmas.{IsTable-put_row}
 use Rattle.sqlite_trees.proofs.ListLemmas.{all-permutation, ascending-filter}
 use Rattle.desk_rows.specs.Meanings.{all_mean}
-use Rattle.desk_schema.specs.Tables.{desk_schema}
-use Rattle.desk_schema.specs.Statements.{TableOf, columns_of, is_table, IsDesk, IsRising, KeepsOthers, Sets}
+use Rattle.desk_schema.specs.Statements.{Layout, TableOf, columns_of, has_table, IsDeskOf, IsRising, KeepsOthersIn, ChangesIn}
 use Rattle.desk_statements.proofs.Deleting.{picked, picked_rows, left_are, passes, stays_in}
-use Rattle.desk_statements.proofs.Frames.{still, still_desk, by_number}
+use Rattle.desk_statements.proofs.Frames.{AreApart, still_desk, by_number}
 use Rattle.desk_statements.proofs.GivenNumbers.{each_means}
 use Rattle.desk_statements.proofs.Writing.{applied, untouched, went, same_value}
 
@@ -137,23 +136,23 @@ module _ (table : Table) (tests new : List Term) (params : Row) (keeps : (row : 
       go false h y x = refl
 
 -- some rows are changed, and nothing else
-pub record ChangesRows (number : ℕ) (change : Row → Row) (old new : State) : Type 0 where
+pub record ChangesRows (layout : Layout) (number : ℕ) (change : Row → Row) (old new : State) : Type 0 where
   pub rows : new.now.trees number ≡ map change (old.now.trees number)
-  pub others : KeepsOthers number old new
-  pub desk : IsDesk new
+  pub others : KeepsOthersIn layout number old new
+  pub desk : IsDeskOf layout new
   pub inside : IsTrue new.in_transaction
 
-module _ (at : ℕ) (table : Table) (tests new : List Term) (text : List ℕ) (params : Row)
-    (is : command_of (understood desk_schema text) ≡ Update at (record { lets = []; body = picked table.tree tests new })) (plain : IsPlain (understood desk_schema text))
-    (there : slice_get desk_schema.tables at ≡ Some table) (numbered_so : IsTrue (is_table table.tree)) (none : given_at [] table.tree ≡ None)
+module _ {layout : Layout} (apart : AreApart layout) (at : ℕ) (table : Table) (tests new : List Term) (text : List ℕ) (params : Row)
+    (is : command_of (understood layout.schema text) ≡ Update at (record { lets = []; body = picked table.tree tests new })) (plain : IsPlain (understood layout.schema text))
+    (there : slice_get layout.schema.tables at ≡ Some table) (numbered_so : IsTrue (has_table layout table.tree)) (none : given_at [] table.tree ≡ None)
     (keeps : (row : Row) → IsTrue (is_int (rowid row)) → rowid (new_row table new params row) ≡ rowid row) where
-  pub changes_rows : (old now : State) (r : Result ℕ Error) → IsDesk old → IsTrue old.in_transaction → ExecutesInside 0 text params old now r
-      → OnOk r (ChangesRows table.tree (λ row. if passes tests params row then new_row table new params row else row) old now)
+  pub changes_rows : (old now : State) (r : Result ℕ Error) → IsDeskOf layout old → IsTrue old.in_transaction → ExecutesInside 0 text params old now r
+      → OnOk r (ChangesRows layout table.tree (λ row. if passes tests params row then new_row table new params row else row) old now)
   changes_rows old now (Err e) was inside h = tt
   changes_rows old now (Ok count) was inside h =
       let command = Update at (record { lets = []; body = picked table.tree tests new }) in
-      let w = runs_as text params old now desk_schema was.schema command is plain count h.0 in
-      let changed = rw there at (subst (λ s. Does old.step_limit (mode_of old) params (record old.now { schema = s }) (statement_of text (understood desk_schema text)) None command (Ok (w.tally, now.now))) was.schema w.changed) in
+      let w = runs_as text params old now layout.schema was.schema command is plain count h.0 in
+      let changed = rw there at (subst (λ s. Does old.step_limit (mode_of old) params (record old.now { schema = s }) (statement_of text (understood layout.schema text)) None command (Ok (w.tally, now.now))) was.schema w.changed) in
       let done = went changed in
       let now_is = ap (λ (p : Tally × Database). p.1) (same_value (went (went done.2).2).2) in
       let given = went done.1 in
@@ -161,7 +160,7 @@ module _ (at : ℕ) (table : Table) (tests new : List Term) (text : List ℕ) (p
       let trees : done.0.trees ≡ written.0 = ap (λ (it : Written). it.trees) (same_value written.2) in
       let final : now.now.trees ≡ written.0 = ap (λ (d : Database). d.trees) now_is ∙ trees in
       let edit = edit_of old.now.trees table (ids_of given.0) Given 1 given.0 in
-      let step = applied desk_schema still old.now.trees written.0 edit written.1 in
+      let step = applied layout.schema apart.still old.now.trees written.0 edit written.1 in
       let db = old.now.trees table.tree in
       let up = was.rising table.tree numbered_so in
       let same = picked_rows table.tree tests new old.now.trees params given.0 none (given.1.answer Null) in
@@ -170,7 +169,7 @@ module _ (at : ℕ) (table : Table) (tests new : List Term) (text : List ℕ) (p
       let news_are : edit.news ≡ news = given_stay news (without_all db (ids_of given.0)) in
       let fresh = subst (λ l. are_fresh l news ≡ true) left (subst (λ n. are_fresh (without_all db (ids_of given.0)) n ≡ true) news_are step.fresh) in
       let rows = ap (λ (t : Trees). t table.tree) final ∙ step.rows ∙ ap₂ put_all left news_are ∙ all_changed table tests new params keeps db given.0 up same fresh in
-      let kept = by_number table.tree old now (λ k it listed apart other. ap (λ (t : Trees). t it.tree) final ∙ untouched desk_schema old.now.trees written.0 edit step k it listed other) in
+      let kept = by_number apart table.tree old now (λ k it listed uncounted other. ap (λ (t : Trees). t it.tree) final ∙ untouched layout.schema old.now.trees written.0 edit step k it listed other) in
       record {
         rows = rows;
         others = kept;
@@ -186,9 +185,9 @@ module _ {A : Type 0} (it : TableOf A) (change : Row → Row) (set : A → A) (s
       let each = each_means it.means (columns_of it row) (map (columns_of it) rows) was h in
       rw (same row each.0 each.2, all_set rows each.1 each.3) (ap (λ (l : List A). Some (map set l)) (sym each.4))
 
-  pub sets : (old new : State) (r : Result ℕ Error) → OnOk r (ChangesRows it.number change old new) → OnOk r (Sets it set old new)
-  sets old new (Err e) h = tt
-  sets old new (Ok count) h = record {
+  pub sets : (layout : Layout) (old new : State) (r : Result ℕ Error) → OnOk r (ChangesRows layout it.number change old new) → OnOk r (ChangesIn layout it (map set) old new)
+  sets layout old new (Err e) h = tt
+  sets layout old new (Ok count) h = record {
     records = λ was known. rw h.rows (all_set (old.now.trees it.number) was known);
     others = h.others;
     desk = h.desk;

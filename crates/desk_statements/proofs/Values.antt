@@ -6,7 +6,7 @@ use Rattle.sqlite.specs.Values.{or_null, bound_value}
 use Rattle.sqlite.specs.Kind.TheVariants.{Integer, Text}
 use Rattle.sqlite.specs.Cast.{cast}
 use Rattle.sqlite.specs.Ops.{unary}
-use Rattle.desk_rows.specs.Columns.{number_of, flag_of}
+use Rattle.desk_rows.specs.Columns.{natural_value, flag_of}
 use Rattle.desk_rows.specs.Meanings.{◌>>=◌}
 use Rattle.desk_statements.proofs.Writing.{either}
 
@@ -46,6 +46,6 @@ flag b = Int (if b then pos 1 else pos 0)
 pub cast_flag : (b : Bool) → cast Integer (flag b) ≡ flag b
 cast_flag b = cast_int (if b then pos 1 else pos 0)
 
-pub flag_kept : (b : Bool) → (number_of (flag b) >>= flag_of) ≡ Some b
+pub flag_kept : (b : Bool) → (natural_value (flag b) >>= flag_of) ≡ Some b
 flag_kept true = refl
 flag_kept false = refl

@@ -22,8 +22,8 @@ use Rattle.desk_words.proofs.OfficeFacts.{office_facts}
 use Rattle.desk_words.proofs.RowLemmas.{same_name-true}
 use Rattle.desk_rows.specs.Meanings.{all_mean}
 use Rattle.desk_schema.specs.Contents as table
-use Rattle.desk_records.specs.Office.{flat_in, office_of}
-use Rattle.desk_schema.specs.Statements.{ChangesNothing, Finds, IsRead}
+use Rattle.desk_records.specs.Office.{flat_in, office_of_records}
+use Rattle.desk_schema.specs.Statements.{ChangesNothing, FindsRecords, IsRead}
 use Rattle.desk_records.proofs.FlatChanges.{keys_held}
 use Rattle.desk_records.proofs.OfficeLemmas.{are_of}
 use Rattle.desk_rows.proofs.MeaningLemmas.{bound}
@@ -92,11 +92,11 @@ module _ (key : List ℕ) where
 
   module _ {S : Type 0} (g : store.Ghosts S) (a b : Held S) where
     -- the first of the rows that are found has the caller
-    pub caller_told : (rows : List Row) (found : List KeyRow) (caller : Option Caller) → (IsRead g a b → Finds g a b table.keys test rows) → ChangesNothing g a b → all_mean table.keys.means rows ≡ Some found
+    pub caller_told : (rows : List Row) (found : List KeyRow) (caller : Option Caller) → (IsRead g a b → FindsRecords g a b table.keys test rows) → ChangesNothing g a b → all_mean table.keys.means rows ≡ Some found
         → caller ≡ option_map (λ (row : KeyRow). row.caller) (slice_get found 0) → IsTold {X = Option Caller} g a b (Ok caller) (IsCallerWith key)
     caller_told rows found caller finds changes mean is = record {
       told = λ clean office stands.
-          let flat = bound (flat_in (state g a).now.trees) office_of office stands.holds in
+          let flat = bound (flat_in (state g a).now.trees) office_of_records office stands.holds in
           let own = are_of flat.0 office flat.2 in
           let passing : ◌≡◌ {A = Option (List KeyRow)} (Some found) (Some (filter test flat.0.keys)) = sym mean ∙ (finds (clean, stands.desk)).0 flat.0.keys (keys_held (state g a).now.trees flat.0 flat.1) in
           let same : found ≡ filter test flat.0.keys = cc in

@@ -9,23 +9,24 @@ use Rattle.sqlite.specs.declared.error.Error.{Error}
 use Rattle.sqlite.specs.Listing.{understood}
 use Rattle.sqlite.specs.State.{State, ExecutesInside}
 use Rattle.sqlite.proofs.Callers.{IsPlain, command_of}
-use Rattle.desk_rows.specs.Columns.{day_of, day_in}
+use Rattle.desk_rows.specs.Columns.{unix_day, day_in}
 use Rattle.desk_rows.specs.Office.{closed_in}
 use Rattle.desk_statements.proofs.GivenNumbers.{days_below}
-use Rattle.desk_schema.specs.Tables.{desk_schema, with_keys, closed as table}
+use Rattle.desk_schema.specs.Tables.{desk_schema, up_to_keys, closed_table as table}
 use Rattle.desk_schema.specs.Contents.{closed}
-use Rattle.desk_schema.specs.Statements.{IsDesk, Empties, AddsAfter}
+use Rattle.desk_schema.specs.Statements.{IsDesk, Empties, AddsAfter, layout_one}
 use Rattle.desk_statements.proofs.Adding.{adds_numbered, means_more}
 use Rattle.desk_statements.proofs.Deleting.{chosen}
 use Rattle.desk_statements.proofs.Emptying.{empties, leaves_rows}
 use Rattle.desk_statements.proofs.Listing.{ListsTable}
 use Rattle.desk_statements.proofs.Making.{MakesTable}
 use Rattle.desk_statements.proofs.Values.{cast_null, cast_int}
+use Rattle.desk_statements.proofs.Frames.{ones_apart}
 
 abbrev make_text : List ℕ
 make_text = codes "CREATE TABLE closed (day INTEGER NOT NULL PRIMARY KEY) STRICT"
 
-pub makes : MakesTable with_keys make_text table
+pub makes : MakesTable up_to_keys make_text table
 unfolding understood everything Rattle.sqlite_schema.specs.Names.same_name
 makes = record { is = refl; alone = refl; plain = (refl, refl); defined = refl; full = refl }
 
@@ -43,22 +44,22 @@ add_plain : IsPlain (understood desk_schema add_text)
 unfolding understood everything
 add_plain = (refl, refl)
 
-means : (n : ℤ) (day : ℕ) → day_of n ≡ Some day → closed_in (Int n ∷ []) ≡ Some day
+means : (n : ℤ) (day : ℕ) → unix_day n ≡ Some day → closed_in (Int n ∷ []) ≡ Some day
 unfolding closed_in day_in
 means n day is = is
 
-pub adds_day : (day : ℕ) (n : ℤ) → day_of n ≡ Some day → (old new : State) (r : Result ℕ Error) → IsDesk old → IsTrue old.in_transaction → ExecutesInside 0 add_text (Int n ∷ []) old new r
+pub adds_day : (day : ℕ) (n : ℤ) → unix_day n ≡ Some day → (old new : State) (r : Result ℕ Error) → IsDesk old → IsTrue old.in_transaction → ExecutesInside 0 add_text (Int n ∷ []) old new r
     → OnOk r (AddsAfter (λ earlier. nat_lt earlier day) closed day old new)
 adds_day day n is old new (Err e) was inside h = tt
 adds_day day n is old new (Ok count) was inside h = λ records known passed.
-    let row = adds_numbered 2 (record table { tree = 4 }) terms 2 add_text (Int n ∷ []) n (Null ∷ []) add_is add_plain refl refl (rw (cast_null, cast_int n) refl) old new (Ok count) was inside
+    let row = adds_numbered ones_apart 2 (record table { tree = 4 }) terms 2 add_text (Int n ∷ []) n (Null ∷ []) add_is add_plain refl refl (rw (cast_null, cast_int n) refl) old new (Ok count) was inside
     (days_below (old.now.trees 4) records n day (was.rising 4 refl) is known passed) h in
     means_more closed (Null ∷ []) day old new row.0 (rw row.1 (means n day is))
 
 abbrev all_text : List ℕ
 all_text = codes "SELECT day FROM closed ORDER BY day"
 
-pub lists : ListsTable closed all_text
+pub lists : ListsTable layout_one closed all_text
 unfolding understood everything
 lists = record {
   shows = col 1 0 ∷ [];
@@ -83,4 +84,4 @@ unfolding understood everything
 empty_plain = (refl, refl)
 
 pub empties_all : (old new : State) (r : Result ℕ Error) → IsDesk old → IsTrue old.in_transaction → ExecutesInside 0 empty_text [] old new r → OnOk r (Empties closed old new)
-empties_all old new r was inside h = empties closed old new r (leaves_rows 2 (record table { tree = 4 }) [] empty_text [] empty_is empty_plain refl refl refl old new r was inside h)
+empties_all old new r was inside h = empties layout_one closed old new r (leaves_rows ones_apart 2 (record table { tree = 4 }) [] empty_text [] empty_is empty_plain refl refl refl old new r was inside h)

@@ -19,7 +19,7 @@ use Rattle.sqlite_trees.specs.declared.error.StoreError.{StoreError}
 use Rattle.sqlite_trees.specs.declared.error.StoreError.TheVariants as kind
 use Rattle.sqlite_trees.specs.declared.store.Store as store
 use Rattle.desk_schema.specs.Tables.{desk_schema}
-use Rattle.desk_tables.specs.Columns.{AreUnderstood, Asks, HasColumns}
+use Rattle.desk_tables.specs.Columns.{AreUnderstood, AsksFor, HasColumns}
 use Rattle.desk_tables.specs.declared.columns.ColumnFault.{ColumnFault}
 use Rattle.desk_tables.specs.declared.columns.ColumnFault.TheVariants.{Missing, Refused}
 
@@ -90,7 +90,7 @@ rest P [] ys h = h
 rest P (x ∷ xs) ys h = rest P xs ys h.1
 
 -- what is asked next is asked of the same tables
-pub asks_then : {S T U : Type 0} {t : T} (g : store.Ghosts S) (a b c : Held S) (texts more : List (List ℕ)) (r : Result U ColumnFault) → Asks {T = T} g a b texts (Ok t) → Asks g b c more r → Asks g a c (texts ++ more) r
+pub asks_then : {S T U : Type 0} {t : T} (g : store.Ghosts S) (a b c : Held S) (texts more : List (List ℕ)) (r : Result U ColumnFault) → AsksFor {T = T} g a b texts (Ok t) → AsksFor g b c more r → AsksFor g a c (texts ++ more) r
 asks_then g a b c texts more r one two = record {
   crash = survives_then (state g a) (state g b) (state g c) (λ _. ⊥) (λ _. ⊥) (λ _. ⊥) (λ _ _ none. none) (λ _ _ none. none) one.crash two.crash;
   same = λ clean is_open.
@@ -110,8 +110,8 @@ asks_then g a b c texts more r one two = record {
 }
 
 -- what is missing ends the asking
-pub asks_stop : {S T U : Type 0} {e : ColumnFault} (g : store.Ghosts S) (a b : Held S) (texts more : List (List ℕ)) (r : Result U ColumnFault) → r ≡ Err e → Asks {T = T} g a b texts (Err e) → Asks g a b (texts ++ more) r
-asks_stop {e = e} g a b texts more r is one = subst (λ q. Asks g a b (texts ++ more) q) (sym is) (record {
+pub asks_stop : {S T U : Type 0} {e : ColumnFault} (g : store.Ghosts S) (a b : Held S) (texts more : List (List ℕ)) (r : Result U ColumnFault) → r ≡ Err e → AsksFor {T = T} g a b texts (Err e) → AsksFor g a b (texts ++ more) r
+asks_stop {e = e} g a b texts more r is one = subst (λ q. AsksFor g a b (texts ++ more) q) (sym is) (record {
   crash = one.crash;
   same = one.same;
   stand = λ _. tt;

@@ -17,18 +17,19 @@ use Rattle.sqlite_resolve.specs.declared.compiled.Compiled.{Compiled}
 use Rattle.sqlite_resolve.specs.declared.error.CompileError.{CompileError}
 use Rattle.sqlite_schema.specs.declared.schema.Index.{Index}
 use Rattle.sqlite_schema.specs.declared.schema.View.{View as Stored}
-use Rattle.desk_tables.specs.Versions.{Answers, AreNoted, NotesVersion, beside_desk, version_text}
+use Rattle.desk_tables.specs.Versions.{IsAnsweredBy, AreNoted, NotesVersion, beside_desk, version_text}
 use Rattle.desk_rows.specs.Columns.{number_in}
 use Rattle.desk_rows.specs.Office.{version_in}
 use Rattle.desk_statements.proofs.GivenNumbers.{none_below}
-use Rattle.desk_schema.specs.Tables.{desk_schema, no_schema, desk as table}
+use Rattle.desk_schema.specs.Tables.{desk_schema, no_schema, desk_table as table}
 use Rattle.desk_schema.specs.Contents.{desk}
-use Rattle.desk_schema.specs.Statements.{IsDesk, AddsFirst, rows_of}
+use Rattle.desk_schema.specs.Statements.{IsDesk, AddsFirst, table_rows}
 use Rattle.desk_statements.proofs.Adding.{adds_numbered, means_more}
 use Rattle.desk_statements.proofs.Commits.{query_keeps}
 use Rattle.desk_statements.proofs.Making.{MakesTable}
 use Rattle.desk_statements.proofs.Reading.{in_order, shown_same, whole}
 use Rattle.desk_statements.proofs.Values.{cast_null, cast_int}
+use Rattle.desk_statements.proofs.Frames.{ones_apart}
 
 abbrev make_text : List ℕ
 make_text = codes "CREATE TABLE desk (one INTEGER NOT NULL PRIMARY KEY, version INTEGER NOT NULL) STRICT"
@@ -59,17 +60,17 @@ pub adds_version : (old new : State) (r : Result ℕ Error) → IsDesk old → I
 adds_version old new (Err e) was inside h = tt
 adds_version old new (Ok count) was inside h = λ records known none.
     let cells = Null ∷ Int (pos 1) ∷ [] in
-    let row = adds_numbered 0 (record table { tree = 0 }) terms 3 add_text [] (pos 1) cells add_is add_plain refl refl (rw (cast_null, cast_int (pos 1)) refl) old new (Ok count) was inside (none_below desk (old.now.trees 0) records (pos 1) known none) h in
+    let row = adds_numbered ones_apart 0 (record table { tree = 0 }) terms 3 add_text [] (pos 1) cells add_is add_plain refl refl (rw (cast_null, cast_int (pos 1)) refl) old new (Ok count) was inside (none_below desk (old.now.trees 0) records (pos 1) known none) h in
     means_more desk cells (record { number = 1 }) old new row.0 (rw row.1 means)
 
 -- ---- the version of tables of any schema
 
 -- what answers a statement that is understood is what its command reads
-command_reads : (r : Result Compiled CompileError) (command : Command) (db : Database) (rows : List Row) → command_of r ≡ command → Answers r db rows → Shows command db [] rows
+command_reads : (r : Result Compiled CompileError) (command : Command) (db : Database) (rows : List Row) → command_of r ≡ command → IsAnsweredBy r db rows → Shows command db [] rows
 command_reads (Ok c) command db rows is h = subst (λ k. Shows k db [] rows) is h
 command_reads (Err e) command db rows is h = absurd h
 
-answered : (r : Result Compiled CompileError) (db : Database) (rows : List Row) → IsPlain r → Shows (command_of r) db [] rows → Answers r db rows
+answered : (r : Result Compiled CompileError) (db : Database) (rows : List Row) → IsPlain r → Shows (command_of r) db [] rows → IsAnsweredBy r db rows
 answered (Ok c) db rows plain h = h
 answered (Err e) db rows plain h = absurd plain
 
@@ -101,7 +102,7 @@ pub desk_notes : NotesVersion desk_schema
 desk_notes = notes _ _ []
 
 pub reads : {V : Type 0} (items : V → List Row) (old new : State) (r : Result V Error) → AreNoted old → IfOk r (λ v. Shown version_text [] old new (items v))
-    → IfOk r (λ v. (items v ≡ rows_of desk old.now.trees) × IsUnchanged old new)
+    → IfOk r (λ v. (items v ≡ table_rows desk old.now.trees) × IsUnchanged old new)
 reads items old new (Err e) was h = tt
 reads items old new (Ok v) was h =
     let plain = was.noted.plain in

@@ -15,12 +15,12 @@ use Rattle.sqlite.specs.State.{State, ExecutesInside, Shown, IsUnchanged, FailsT
 use Rattle.sqlite.proofs.Callers.{IsPlain, command_of}
 use Rattle.desk_words.specs.declared.caller.KeyRow.{KeyRow}
 use Rattle.desk_rows.specs.Columns.{spelled}
-use Rattle.desk_rows.specs.Office.{key_in}
+use Rattle.desk_rows.specs.Office.{key_row_in}
 use Rattle.desk_terms.specs.Names.{key_of, same_name}
 use Rattle.desk_words.specs.Callers.{caller_of}
-use Rattle.desk_schema.specs.Tables.{desk_schema, with_desk, keys as table}
+use Rattle.desk_schema.specs.Tables.{desk_schema, up_to_desk, keys_table as table}
 use Rattle.desk_schema.specs.Contents.{keys}
-use Rattle.desk_schema.specs.Statements.{IsDesk, columns_of, records_in, Adds, Empties}
+use Rattle.desk_schema.specs.Statements.{IsDesk, columns_of, records_in, Adds, Empties, layout_one}
 use Rattle.desk_statements.proofs.Adding.{adds_row, adds}
 use Rattle.desk_statements.proofs.Commits.{query_keeps}
 use Rattle.desk_statements.proofs.Deleting.{chosen, passes}
@@ -33,11 +33,12 @@ use Rattle.desk_rows.proofs.MeaningLemmas.{bound, option_ap}
 use Rattle.desk_statements.proofs.Tests.{keys_tell}
 use Rattle.std.proofs.Math.Bool.{and-true}
 use Rattle.desk_statements.proofs.Values.{cast_null}
+use Rattle.desk_statements.proofs.Frames.{ones_apart}
 
 abbrev make_text : List ℕ
 make_text = codes "CREATE TABLE keys (party TEXT NOT NULL PRIMARY KEY, secret TEXT NOT NULL UNIQUE) STRICT"
 
-pub makes : MakesTable with_desk make_text table
+pub makes : MakesTable up_to_desk make_text table
 unfolding understood everything Rattle.sqlite_schema.specs.Names.same_name
 makes = record { is = refl; alone = refl; plain = (refl, refl); defined = refl; full = refl }
 
@@ -59,16 +60,16 @@ module _ (k : KeyRow) (party : List ℕ) (secret : List ℕ) where
   abbrev pub values : Row
   values = Text party ∷ Text secret ∷ []
 
-  means : caller_of party ≡ Some k.caller → key_of secret ≡ Some k.secret → key_in values ≡ Some (k)
-  unfolding key_in spelled
+  means : caller_of party ≡ Some k.caller → key_of secret ≡ Some k.secret → key_row_in values ≡ Some (k)
+  unfolding key_row_in spelled
   means party_is secret_is = rw (party_is, secret_is) refl
 
   pub adds_key : caller_of party ≡ Some k.caller → key_of secret ≡ Some k.secret
       → (old new : State) (r : Result ℕ Error) → IsDesk old → IsTrue old.in_transaction → ExecutesInside 0 add_text values old new r → OnOk r (Adds keys (k) old new)
   adds_key party_is secret_is old new r was inside h =
       let cells = values in
-      adds keys cells (k) old new r
-      (adds_row 1 (record table { tree = 1 }) terms 3 add_text values cells add_is add_plain refl refl (rw (cast_null) refl) old new r was inside h)
+      adds layout_one keys cells (k) old new r
+      (adds_row ones_apart 1 (record table { tree = 1 }) terms 3 add_text values cells add_is add_plain refl refl (rw (cast_null) refl) old new r was inside h)
       (λ id. means party_is secret_is)
 
 abbrev all_text : List ℕ
@@ -80,7 +81,7 @@ shows = col 1 1 ∷ col 1 2 ∷ []
 abbrev names : List (List ℕ)
 names = codes "party" ∷ codes "secret" ∷ []
 
-pub lists : ListsTable keys all_text
+pub lists : ListsTable layout_one keys all_text
 unfolding understood everything
 lists = record {
   shows = shows;
@@ -105,7 +106,7 @@ unfolding understood everything
 empty_plain = (refl, refl)
 
 pub empties_all : (old new : State) (r : Result ℕ Error) → IsDesk old → IsTrue old.in_transaction → ExecutesInside 0 empty_text [] old new r → OnOk r (Empties keys old new)
-empties_all old new r was inside h = empties keys old new r (leaves_rows 1 (record table { tree = 1 }) [] empty_text [] empty_is empty_plain refl refl refl old new r was inside h)
+empties_all old new r was inside h = empties layout_one keys old new r (leaves_rows ones_apart 1 (record table { tree = 1 }) [] empty_text [] empty_is empty_plain refl refl refl old new r was inside h)
 
 abbrev find_text : List ℕ
 find_text = codes "SELECT party, secret FROM keys WHERE secret = ?1 ORDER BY rowid"
@@ -121,8 +122,8 @@ find_plain : IsPlain (understood desk_schema find_text)
 unfolding understood everything
 find_plain = (refl, refl)
 
-secret_is : (cells : Row) (x : KeyRow) → key_in cells ≡ Some x → spelled key_of cells 1 ≡ Some x.secret
-unfolding key_in
+secret_is : (cells : Row) (x : KeyRow) → key_row_in cells ≡ Some x → spelled key_of cells 1 ≡ Some x.secret
+unfolding key_row_in
 secret_is cells x h =
     let caller = bound (spelled caller_of cells 0) _ x h in
     let secret = bound (spelled key_of cells 1) _ x caller.2 in
@@ -134,7 +135,7 @@ chosen_so s secret is cells x h = and-true _ ∙ keys_tell (column cells 2) secr
 
 pub finds_secret : {V : Type 0} (items : V → List Row) (s secret : List ℕ) → key_of secret ≡ Some s → (old new : State) (r : Result V Error) → IsDesk old → IfOk r (λ v. Shown find_text (Text secret ∷ []) old new (items v))
     → IfOk r (λ v. ((was : List KeyRow) → records_in keys old.now.trees ≡ Some was → all_mean keys.means (items v) ≡ Some (filter (λ x. same_name x.secret s) was)) × IsUnchanged old new)
-finds_secret items s secret is = finds items keys with_secret shows names find_text (Text secret ∷ []) (λ x. same_name x.secret s) find_is.0 find_plain find_is.1 refl refl (λ cells. refl) (chosen_so s secret is)
+finds_secret items s secret is = finds layout_one items keys with_secret shows names find_text (Text secret ∷ []) (λ x. same_name x.secret s) find_is.0 find_plain find_is.1 refl refl (λ cells. refl) (chosen_so s secret is)
 
 pub find_keeps : {V : Type 0} (items : V → List Row) (secret : List ℕ) (old new : State) (r : Result V Error) → IsDesk old → IfOk r (λ v. Shown find_text (Text secret ∷ []) old new (items v))
     → IfErr r (λ e. FailsToQuery find_text (Text secret ∷ []) old new e ⊎ IsTooLate find_text (Text secret ∷ []) old new e) → KeepsCommit old new

@@ -19,13 +19,13 @@ use Rattle.sqlite.specs.Listing.{understood}
 use Rattle.sqlite.specs.State.{State, ExecutesInside}
 use Rattle.sqlite.proofs.Callers.{IsPlain, command_of, statement_of}
 use Rattle.desk_words.specs.declared.records.Meeting.{Meeting}
-use Rattle.desk_rows.specs.Columns.{day_in, day_of, flag_in, flag_of, integer_of, moment_in, moment_of, natural_of, number_in, number_of, read_word, some_moment_in, some_moment_of, spelled, spelled_of, worded, worded_of}
+use Rattle.desk_rows.specs.Columns.{day_in, unix_day, flag_in, flag_of, integer_of, moment_in, moment_of, natural_of, number_in, natural_value, read_word, some_moment_in, some_moment_of, spelled, spelled_of, worded, worded_of}
 use Rattle.desk_rows.specs.Meetings.{meeting_in}
 use Rattle.desk_terms.specs.Kinds.{company_of, meeting_kind_of}
 use Rattle.desk_terms.specs.Names.{meeting_of, same_name}
-use Rattle.desk_schema.specs.Tables.{desk_schema, with_closed, with_meetings, meetings as table, sequence}
+use Rattle.desk_schema.specs.Tables.{desk_schema, up_to_closed, up_to_meetings, meetings_table as table, sequence}
 use Rattle.desk_schema.specs.Contents.{meetings, without_resolutions, loaded_at, opened_at}
-use Rattle.desk_schema.specs.Statements.{IsDesk, Adds, Sets, columns_of, AreEmpty}
+use Rattle.desk_schema.specs.Statements.{IsDesk, Adds, Sets, columns_of, AreEmpty, layout_one}
 use Rattle.desk_statements.proofs.Adding.{adds_row, adds}
 use Rattle.desk_statements.proofs.Deleting.{picked, passes}
 use Rattle.desk_statements.proofs.Listing.{ListsTable}
@@ -43,25 +43,26 @@ use Rattle.desk_statements.proofs.Tests.{names_tell, kept_spelled, kept_worded, 
 use Rattle.std.proofs.Math.Bool.{and-true}
 use Rattle.desk_statements.proofs.Updating.{new_row, changes_rows, sets}
 use Rattle.desk_statements.proofs.Values.{cast_flag, cast_int, cast_null, cast_some, flag, flag_kept}
+use Rattle.desk_statements.proofs.Frames.{ones_apart}
 
 abbrev make_text : List ℕ
 make_text = codes "CREATE TABLE meetings (seq INTEGER PRIMARY KEY AUTOINCREMENT, meeting TEXT NOT NULL UNIQUE, company TEXT NOT NULL, kind TEXT NOT NULL, given INTEGER NOT NULL, appointed INTEGER NOT NULL, record INTEGER NOT NULL, loaded INTEGER NOT NULL, opened INTEGER) STRICT"
 
-make_is : (command_of (understood with_closed make_text) ≡ CreateTable) × (statement_of make_text (understood with_closed make_text) ≡ make_text) × (table_defined_by make_text ≡ Ok table)
+make_is : (command_of (understood up_to_closed make_text) ≡ CreateTable) × (statement_of make_text (understood up_to_closed make_text) ≡ make_text) × (table_defined_by make_text ≡ Ok table)
 unfolding understood everything
 make_is = (refl, refl, refl)
 
-make_plain : IsPlain (understood with_closed make_text)
+make_plain : IsPlain (understood up_to_closed make_text)
 unfolding understood everything
 make_plain = (refl, refl)
 
-make_lacks : (lacks_sequence (created with_closed table) ≡ true) × (table_defined_by sequence_text ≡ Ok sequence)
+make_lacks : (lacks_sequence (created up_to_closed table) ≡ true) × (table_defined_by sequence_text ≡ Ok sequence)
 unfolding Rattle.sqlite_schema.specs.Names.same_name everything
 make_lacks = (refl, refl)
 
-pub makes : (old new : State) (r : Result ℕ Error) → AreEmpty with_closed old → IsTrue old.in_transaction → ExecutesInside 0 make_text [] old new r
-    → OnOk r (AreEmpty with_meetings new × IsTrue new.in_transaction)
-makes old new r = made_counted old new with_closed make_text table sequence r make_is.0 make_is.1 make_plain make_is.2 make_lacks.0 make_lacks.1
+pub makes : (old new : State) (r : Result ℕ Error) → AreEmpty up_to_closed old → IsTrue old.in_transaction → ExecutesInside 0 make_text [] old new r
+    → OnOk r (AreEmpty up_to_meetings new × IsTrue new.in_transaction)
+makes old new r = made_counted old new up_to_closed make_text table sequence r make_is.0 make_is.1 make_plain make_is.2 make_lacks.0 make_lacks.1
 
 abbrev add_text : List ℕ
 add_text = codes "INSERT INTO meetings (meeting, company, kind, given, appointed, record, loaded, opened) VALUES (?1, ?2, ?3, ?4, ?5, ?6, ?7, ?8)"
@@ -81,22 +82,22 @@ module _ (m : Meeting) (meeting : List ℕ) (company : List ℕ) (kind : List �
   abbrev pub values : Row
   values = Text meeting ∷ Text company ∷ Text kind ∷ Int given ∷ Int appointed ∷ Int recorded ∷ flag m.loaded ∷ or_null Int opened ∷ []
 
-  means : meeting_of meeting ≡ Some m.id → read_word company_of company ≡ Some m.company → read_word meeting_kind_of kind ≡ Some m.kind → day_of given ≡ Some m.given → moment_of appointed ≡ Some m.appointed → moment_of recorded ≡ Some m.record_moment → some_moment_of (or_null Int opened) ≡ Some m.opened → meeting_in values ≡ Some (without_resolutions m)
+  means : meeting_of meeting ≡ Some m.id → read_word company_of company ≡ Some m.company → read_word meeting_kind_of kind ≡ Some m.kind → unix_day given ≡ Some m.given → moment_of appointed ≡ Some m.appointed → moment_of recorded ≡ Some m.record_moment → some_moment_of (or_null Int opened) ≡ Some m.opened → meeting_in values ≡ Some (without_resolutions m)
   unfolding meeting_in day_in flag_in moment_in number_in some_moment_in spelled worded
   means meeting_is company_is kind_is given_is appointed_is recorded_is opened_is = rw (meeting_is, company_is, kind_is, given_is, appointed_is, recorded_is, opened_is, flag_kept m.loaded) refl
 
-  pub adds_meeting : meeting_of meeting ≡ Some m.id → read_word company_of company ≡ Some m.company → read_word meeting_kind_of kind ≡ Some m.kind → day_of given ≡ Some m.given → moment_of appointed ≡ Some m.appointed → moment_of recorded ≡ Some m.record_moment → some_moment_of (or_null Int opened) ≡ Some m.opened
+  pub adds_meeting : meeting_of meeting ≡ Some m.id → read_word company_of company ≡ Some m.company → read_word meeting_kind_of kind ≡ Some m.kind → unix_day given ≡ Some m.given → moment_of appointed ≡ Some m.appointed → moment_of recorded ≡ Some m.record_moment → some_moment_of (or_null Int opened) ≡ Some m.opened
       → (old new : State) (r : Result ℕ Error) → IsDesk old → IsTrue old.in_transaction → ExecutesInside 0 add_text values old new r → OnOk r (Adds meetings (without_resolutions m) old new)
   adds_meeting meeting_is company_is kind_is given_is appointed_is recorded_is opened_is old new r was inside h =
       let cells = Null ∷ values in
-      adds meetings cells (without_resolutions m) old new r
-      (adds_row 3 (record table { tree = 5 }) terms 10 add_text values cells add_is add_plain refl refl (rw (cast_null, cast_int given, cast_int appointed, cast_int recorded, cast_flag m.loaded, cast_some opened) refl) old new r was inside h)
+      adds layout_one meetings cells (without_resolutions m) old new r
+      (adds_row ones_apart 3 (record table { tree = 5 }) terms 10 add_text values cells add_is add_plain refl refl (rw (cast_null, cast_int given, cast_int appointed, cast_int recorded, cast_flag m.loaded, cast_some opened) refl) old new r was inside h)
       (λ id. means meeting_is company_is kind_is given_is appointed_is recorded_is opened_is)
 
 abbrev all_text : List ℕ
 all_text = codes "SELECT meeting, company, kind, given, appointed, record, loaded, opened FROM meetings ORDER BY seq"
 
-pub lists : ListsTable meetings all_text
+pub lists : ListsTable layout_one meetings all_text
 unfolding understood everything
 lists = record {
   shows = col 1 2 ∷ col 1 3 ∷ col 1 4 ∷ col 1 5 ∷ col 1 6 ∷ col 1 7 ∷ col 1 8 ∷ col 1 9 ∷ [];
@@ -183,22 +184,22 @@ record IsKeptRow (cells : Row) (x : MeetingRow) : Type 0 where
   id : spelled_of meeting_of (cast Texts (column cells 2)) ≡ Some x.id
   company : worded_of company_of (cast Texts (column cells 3)) ≡ Some x.company
   kind : worded_of meeting_kind_of (cast Texts (column cells 4)) ≡ Some x.kind
-  given : (integer_of (cast Integer (column cells 5)) >>= day_of) ≡ Some x.given
+  given : (integer_of (cast Integer (column cells 5)) >>= unix_day) ≡ Some x.given
   appointed : (integer_of (cast Integer (column cells 6)) >>= moment_of) ≡ Some x.appointed
   recorded : (integer_of (cast Integer (column cells 7)) >>= moment_of) ≡ Some x.record_moment
-  loaded : (number_of (cast Integer (column cells 8)) >>= flag_of) ≡ Some x.loaded
+  loaded : (natural_value (cast Integer (column cells 8)) >>= flag_of) ≡ Some x.loaded
   opened : some_moment_of (cast Integer (column cells 9)) ≡ Some x.opened
 
 kept_row : (cells : Row) (x : MeetingRow) → meetings.means (columns_of meetings cells) ≡ Some x → IsKeptRow cells x
 unfolding spelled worded day_in moment_in flag_in number_in some_moment_in
 kept_row cells x h =
     let p = parts (columns_of meetings cells) x h in
-    let flag_part = bound (number_of (column cells 8)) flag_of x.loaded p.loaded in
+    let flag_part = bound (natural_value (column cells 8)) flag_of x.loaded p.loaded in
     record {
       id = kept_spelled meeting_of (column cells 2) x.id p.id;
       company = kept_worded company_of (column cells 3) x.company p.company;
       kind = kept_worded meeting_kind_of (column cells 4) x.kind p.kind;
-      given = kept_integer day_of (column cells 5) x.given p.given;
+      given = kept_integer unix_day (column cells 5) x.given p.given;
       appointed = kept_integer moment_of (column cells 6) x.appointed p.appointed;
       recorded = kept_integer moment_of (column cells 7) x.record_moment p.recorded;
       loaded = rw (kept_integer natural_of (column cells 8) flag_part.0 flag_part.1) flag_part.2;
@@ -214,7 +215,7 @@ keeps_number : (new : List Term) (params cells : Row) → IsTrue (is_int (rowid 
 keeps_number new params cells keyed = subst (λ v. cast Integer v ≡ v) (sym (is_its_id cells keyed)) (cast_int (id_in (rowid cells)))
 
 again : (cells : Row) (x : MeetingRow) → IsKeptRow cells x → (loaded : Value) (opened : Value) (set : MeetingRow) → set ≡ record x { loaded = set.loaded; opened = set.opened }
-    → (number_of loaded >>= flag_of) ≡ Some set.loaded → some_moment_of opened ≡ Some set.opened
+    → (natural_value loaded >>= flag_of) ≡ Some set.loaded → some_moment_of opened ≡ Some set.opened
     → meeting_in (cast Texts (column cells 2) ∷ cast Texts (column cells 3) ∷ cast Texts (column cells 4) ∷ cast Integer (column cells 5) ∷ cast Integer (column cells 6) ∷ cast Integer (column cells 7) ∷ loaded ∷ opened ∷ []) ≡ Some set
 unfolding spelled worded day_in moment_in flag_in number_in some_moment_in
 again cells x k loaded opened set same a b =
@@ -229,7 +230,7 @@ again cells x k loaded opened set same a b =
       opened = b;
     })
 
-one_is_yes : (number_of (cast Integer (Int (pos 1))) >>= flag_of) ≡ Some true
+one_is_yes : (natural_value (cast Integer (Int (pos 1))) >>= flag_of) ≡ Some true
 one_is_yes = rw (cast_int (pos 1)) refl
 
 load_sets : (m meeting : List ℕ) → meeting_of meeting ≡ Some m → (cells : Row) (x : MeetingRow) → meetings.means (columns_of meetings cells) ≡ Some x
@@ -258,11 +259,11 @@ open_sets m meeting n moment is at cells x h = go (passes named (Text meeting �
 pub loads : (m meeting : List ℕ) → meeting_of meeting ≡ Some m → (old new : State) (r : Result ℕ Error) → IsDesk old → IsTrue old.in_transaction → ExecutesInside 0 load_text (Text meeting ∷ []) old new r
     → OnOk r (Sets meetings (loaded_at m) old new)
 loads m meeting is old new r was inside h =
-    sets meetings (λ cells. if passes named (Text meeting ∷ []) cells then new_row (record table { tree = 5 }) load_terms (Text meeting ∷ []) cells else cells) (loaded_at m) (load_sets m meeting is) old new r
-    (changes_rows 3 (record table { tree = 5 }) named load_terms load_text (Text meeting ∷ []) load_is load_plain refl refl refl (keeps_number load_terms (Text meeting ∷ [])) old new r was inside h)
+    sets meetings (λ cells. if passes named (Text meeting ∷ []) cells then new_row (record table { tree = 5 }) load_terms (Text meeting ∷ []) cells else cells) (loaded_at m) (load_sets m meeting is) layout_one old new r
+    (changes_rows ones_apart 3 (record table { tree = 5 }) named load_terms load_text (Text meeting ∷ []) load_is load_plain refl refl refl (keeps_number load_terms (Text meeting ∷ [])) old new r was inside h)
 
 pub opens : (m meeting : List ℕ) (n : ℤ) (moment : ℕ) → meeting_of meeting ≡ Some m → moment_of n ≡ Some moment → (old new : State) (r : Result ℕ Error) → IsDesk old → IsTrue old.in_transaction
     → ExecutesInside 0 open_text (Text meeting ∷ Int n ∷ []) old new r → OnOk r (Sets meetings (opened_at m moment) old new)
 opens m meeting n moment is at old new r was inside h =
-    sets meetings (λ cells. if passes named (Text meeting ∷ Int n ∷ []) cells then new_row (record table { tree = 5 }) open_terms (Text meeting ∷ Int n ∷ []) cells else cells) (opened_at m moment) (open_sets m meeting n moment is at) old new r
-    (changes_rows 3 (record table { tree = 5 }) named open_terms open_text (Text meeting ∷ Int n ∷ []) open_is open_plain refl refl refl (keeps_number open_terms (Text meeting ∷ Int n ∷ [])) old new r was inside h)
+    sets meetings (λ cells. if passes named (Text meeting ∷ Int n ∷ []) cells then new_row (record table { tree = 5 }) open_terms (Text meeting ∷ Int n ∷ []) cells else cells) (opened_at m moment) (open_sets m meeting n moment is at) layout_one old new r
+    (changes_rows ones_apart 3 (record table { tree = 5 }) named open_terms open_text (Text meeting ∷ Int n ∷ []) open_is open_plain refl refl refl (keeps_number open_terms (Text meeting ∷ Int n ∷ [])) old new r was inside h)

@@ -15,13 +15,13 @@ use Rattle.sqlite.specs.State.{State, ExecutesInside}
 use Rattle.sqlite.proofs.Callers.{IsPlain, command_of}
 use Rattle.desk_rows.specs.declared.kept.InMeeting.{InMeeting}
 use Rattle.desk_words.specs.declared.records.RegisterRow.{RegisterRow}
-use Rattle.desk_rows.specs.Columns.{natural_of, number_in, read_word, spelled, text_of, worded}
+use Rattle.desk_rows.specs.Columns.{natural_of, number_in, read_word, spelled, plain_text_of, worded}
 use Rattle.desk_rows.specs.Meetings.{holding_in}
 use Rattle.desk_terms.specs.Kinds.{holder_kind_of}
 use Rattle.desk_terms.specs.Names.{meeting_of, party_of, same_name}
-use Rattle.desk_schema.specs.Tables.{desk_schema, with_resolutions, register as table}
+use Rattle.desk_schema.specs.Tables.{desk_schema, up_to_resolutions, register_table as table}
 use Rattle.desk_schema.specs.Contents.{register}
-use Rattle.desk_schema.specs.Statements.{IsDesk, Adds, TakesOut, columns_of}
+use Rattle.desk_schema.specs.Statements.{IsDesk, Adds, TakesOut, columns_of, layout_one}
 use Rattle.desk_statements.proofs.Adding.{adds_row, adds}
 use Rattle.desk_statements.proofs.Deleting.{chosen, passes}
 use Rattle.desk_statements.proofs.Emptying.{takes_out, leaves_rows}
@@ -31,11 +31,12 @@ use Rattle.desk_rows.proofs.MeaningLemmas.{bound, option_ap}
 use Rattle.desk_statements.proofs.Tests.{names_tell}
 use Rattle.std.proofs.Math.Bool.{and-true}
 use Rattle.desk_statements.proofs.Values.{cast_int, cast_null}
+use Rattle.desk_statements.proofs.Frames.{ones_apart}
 
 abbrev make_text : List ℕ
 make_text = codes "CREATE TABLE register (meeting TEXT NOT NULL REFERENCES meetings (meeting), member TEXT NOT NULL, kind TEXT NOT NULL, name TEXT NOT NULL, shares INTEGER NOT NULL, paid INTEGER NOT NULL, PRIMARY KEY (meeting, member)) STRICT"
 
-pub makes : MakesTable with_resolutions make_text table
+pub makes : MakesTable up_to_resolutions make_text table
 unfolding understood everything Rattle.sqlite_schema.specs.Names.same_name
 makes = record { is = refl; alone = refl; plain = (refl, refl); defined = refl; full = refl }
 
@@ -57,22 +58,22 @@ module _ (m : List ℕ) (x : RegisterRow) (meeting : List ℕ) (member : List �
   abbrev pub values : Row
   values = Text meeting ∷ Text member ∷ Text kind ∷ Text name ∷ Int shares ∷ Int paid ∷ []
 
-  means : meeting_of meeting ≡ Some m → party_of member ≡ Some x.member → read_word holder_kind_of kind ≡ Some x.kind → read_word text_of name ≡ Some x.name → natural_of shares ≡ Some x.shares → natural_of paid ≡ Some x.paid → holding_in values ≡ Some (record { meeting = m; item = x })
+  means : meeting_of meeting ≡ Some m → party_of member ≡ Some x.member → read_word holder_kind_of kind ≡ Some x.kind → read_word plain_text_of name ≡ Some x.name → natural_of shares ≡ Some x.shares → natural_of paid ≡ Some x.paid → holding_in values ≡ Some (record { meeting = m; item = x })
   unfolding holding_in number_in spelled worded
   means meeting_is member_is kind_is name_is shares_is paid_is = rw (meeting_is, member_is, kind_is, name_is, shares_is, paid_is) refl
 
-  pub adds_register : meeting_of meeting ≡ Some m → party_of member ≡ Some x.member → read_word holder_kind_of kind ≡ Some x.kind → read_word text_of name ≡ Some x.name → natural_of shares ≡ Some x.shares → natural_of paid ≡ Some x.paid
+  pub adds_register : meeting_of meeting ≡ Some m → party_of member ≡ Some x.member → read_word holder_kind_of kind ≡ Some x.kind → read_word plain_text_of name ≡ Some x.name → natural_of shares ≡ Some x.shares → natural_of paid ≡ Some x.paid
       → (old new : State) (r : Result ℕ Error) → IsDesk old → IsTrue old.in_transaction → ExecutesInside 0 add_text values old new r → OnOk r (Adds register (record { meeting = m; item = x }) old new)
   adds_register meeting_is member_is kind_is name_is shares_is paid_is old new r was inside h =
       let cells = values in
-      adds register cells (record { meeting = m; item = x }) old new r
-      (adds_row 6 (record table { tree = 10 }) terms 7 add_text values cells add_is add_plain refl refl (rw (cast_null, cast_int shares, cast_int paid) refl) old new r was inside h)
+      adds layout_one register cells (record { meeting = m; item = x }) old new r
+      (adds_row ones_apart 6 (record table { tree = 10 }) terms 7 add_text values cells add_is add_plain refl refl (rw (cast_null, cast_int shares, cast_int paid) refl) old new r was inside h)
       (λ id. means meeting_is member_is kind_is name_is shares_is paid_is)
 
 abbrev all_text : List ℕ
 all_text = codes "SELECT meeting, member, kind, name, shares, paid FROM register ORDER BY rowid"
 
-pub lists : ListsTable register all_text
+pub lists : ListsTable layout_one register all_text
 unfolding understood everything
 lists = record {
   shows = col 1 1 ∷ col 1 2 ∷ col 1 3 ∷ col 1 4 ∷ col 1 5 ∷ col 1 6 ∷ [];
@@ -103,7 +104,7 @@ meeting_is cells x h =
     let meeting = bound (spelled meeting_of cells 0) _ x h in
     let member = bound (spelled party_of cells 1) _ x meeting.2 in
     let kind = bound (worded holder_kind_of cells 2) _ x member.2 in
-    let name = bound (worded text_of cells 3) _ x kind.2 in
+    let name = bound (worded plain_text_of cells 3) _ x kind.2 in
     let shares = bound (number_in cells 4) _ x name.2 in
     let paid = bound (number_in cells 5) _ x shares.2 in
     meeting.1 ∙ option_ap (λ (y : InMeeting RegisterRow). y.meeting) paid.2
@@ -116,5 +117,5 @@ chosen_so m meeting is cells x h = and-true _ ∙ names_tell (column cells 1) me
 pub empties_meeting : (m meeting : List ℕ) → meeting_of meeting ≡ Some m → (old new : State) (r : Result ℕ Error) → IsDesk old → IsTrue old.in_transaction
     → ExecutesInside 0 empty_text (Text meeting ∷ []) old new r → OnOk r (TakesOut register (λ x. same_name x.meeting m) old new)
 empties_meeting m meeting is old new r was inside h =
-    takes_out register (passes (op2 (Compare Eq Binary) (col 1 1) (col 0 0) ∷ []) (Text meeting ∷ [])) (λ x. same_name x.meeting m) (chosen_so m meeting is) old new r
-    (leaves_rows 6 (record table { tree = 10 }) (op2 (Compare Eq Binary) (col 1 1) (col 0 0) ∷ []) empty_text (Text meeting ∷ []) empty_is empty_plain refl refl refl old new r was inside h)
+    takes_out register (passes (op2 (Compare Eq Binary) (col 1 1) (col 0 0) ∷ []) (Text meeting ∷ [])) (λ x. same_name x.meeting m) (chosen_so m meeting is) layout_one old new r
+    (leaves_rows ones_apart 6 (record table { tree = 10 }) (op2 (Compare Eq Binary) (col 1 1) (col 0 0) ∷ []) empty_text (Text meeting ∷ []) empty_is empty_plain refl refl refl old new r was inside h)

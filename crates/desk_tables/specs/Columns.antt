@@ -52,7 +52,7 @@ HasColumns schema = AreUnderstood schema (meeting_columns ++ paper_columns ++ po
 -- outside a transaction nothing is changed, and a crash leaves what it left before; the columns
 -- are told to stand where the store is open and the texts that name them are understood, and one is
 -- told to be missing where they are not
-pub record Asks {S T : Type 0} (g : store.Ghosts S) (old new : Held S) (texts : List (List ℕ))
+pub record AsksFor {S T : Type 0} (g : store.Ghosts S) (old new : Held S) (texts : List (List ℕ))
     (result : Result T ColumnFault) : Type 0 where
   pub crash : Survives (state g old) (state g new) (λ _. ⊥)
   pub same : HasCleanDisk (state g new) → IsTrue (state g new).is_open

@@ -13,17 +13,17 @@ use Rattle.sqlite_resolve.specs.declared.error.CompileError.{CompileError}
 use Rattle.sqlite_schema.specs.declared.schema.Index.{Index}
 use Rattle.sqlite_schema.specs.declared.schema.View.{View as Stored}
 use Rattle.desk_schema.specs.Contents.{desk}
-use Rattle.desk_schema.specs.Statements.{IsRising, rows_of}
-use Rattle.desk_schema.specs.Tables.{desk as desk_table}
+use Rattle.desk_schema.specs.Statements.{IsRising, table_rows}
+use Rattle.desk_schema.specs.Tables.{desk_table}
 
 -- the text that reads the version of the tables
 abbrev pub version_text : List ℕ
 version_text = codes "SELECT one, version FROM desk ORDER BY one"
 
 -- these rows answer a statement, as it is understood
-abbrev pub Answers : Result Compiled CompileError → Database → List Row → Type 0
-Answers (Ok it) db rows = Shows it.command db [] rows
-Answers (Err error) db rows = ⊥
+abbrev pub IsAnsweredBy : Result Compiled CompileError → Database → List Row → Type 0
+IsAnsweredBy (Ok it) db rows = Shows it.command db [] rows
+IsAnsweredBy (Err error) db rows = ⊥
 
 -- over tables of this schema, the text that reads the version reads the table `desk` whole: the
 -- rows that answer it are all rows of that table, in the order of their numbers
@@ -32,7 +32,7 @@ pub record NotesVersion (declared : Schema) : Type 0 where
   pub plain : IsPlain (understood declared version_text)
   pub listed : reads_listing declared version_text ≡ false
   pub whole : (db : Database) → IsRising (db.trees desk.number) → (rows : List Row)
-      → Answers (understood declared version_text) db rows → rows ≡ rows_of desk db.trees
+      → IsAnsweredBy (understood declared version_text) db rows → rows ≡ table_rows desk db.trees
 
 -- the tables note their version, and the numbers of the rows of the table that does rise
 pub record AreNoted (s : State) : Type 0 where

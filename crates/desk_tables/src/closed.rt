@@ -1,8 +1,8 @@
 //! The table `closed`: the closed days (section 1173).
 ghost use Rattle.std.specs.Prelude.{◌≡◌, IfOk, nat_lt};
 ghost use Rattle.desk_schema.specs.Contents.{closed};
-ghost use Rattle.desk_schema.specs.Statements.{AddsAfter, ChangesNothing, CommitsNothing, Does, Empties, IsRead, Makes, Reads};
-ghost use Rattle.desk_schema.specs.Tables.{with_keys, with_closed};
+ghost use Rattle.desk_schema.specs.Statements.{AddsAfter, ChangesNothing, CommitsNothing, Does, Empties, IsRead, Makes, ReadsTable};
+ghost use Rattle.desk_schema.specs.Tables.{up_to_keys, up_to_closed};
 
 use desk_rows::day_number;
 use desk_words::Day;
@@ -11,7 +11,7 @@ use sqlite::{Alter, Error, Row, Transaction, params};
 /// Makes the table, after that of keys.
 pub fn make<S: Alter>(tx: &mut Transaction<'_, S>) -> Result<usize, Error>
     ensures same_reference { tx.new.conn.ghost_name ≡ tx.old.conn.ghost_name }
-    ensures made { Makes S.Store tx.old.conn.now tx.new.conn.now result with_keys with_closed }
+    ensures made { Makes S.Store tx.old.conn.now tx.new.conn.now result up_to_keys up_to_closed }
     ensures commits { CommitsNothing S.Store tx.old.conn.now tx.new.conn.now }
 {
     tx.execute(
@@ -37,7 +37,8 @@ pub fn add<S: Alter>(tx: &mut Transaction<'_, S>, day: Day) -> Result<usize, Err
 pub fn all<S: Alter>(tx: &mut Transaction<'_, S>) -> Result<Vec<Row>, Error>
     ensures same_reference { tx.new.conn.ghost_name ≡ tx.old.conn.ghost_name }
     ensures rows { IsRead S.Store tx.old.conn.now tx.new.conn.now
-        → IfOk result (λ rows. Reads S.Store tx.old.conn.now tx.new.conn.now closed rows.items) }
+        → IfOk result
+        (λ rows. ReadsTable S.Store tx.old.conn.now tx.new.conn.now closed rows.items) }
     ensures changes { ChangesNothing S.Store tx.old.conn.now tx.new.conn.now }
 {
     tx.query_all("SELECT day FROM closed ORDER BY day", &[])

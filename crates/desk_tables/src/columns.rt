@@ -1,7 +1,7 @@
 //! Whether the columns that are read stand.
 ghost use Rattle.std.specs.Prelude.{◌≡◌, ◌++◌, ◌∷◌, [], false};
 ghost use Rattle.desk_schema.specs.Tables.{desk_schema};
-ghost use Rattle.desk_tables.specs.Columns.{Asks, HasColumns};
+ghost use Rattle.desk_tables.specs.Columns.{AsksFor, HasColumns};
 ghost use Rattle.desk_tables.specs.Columns.{meeting_columns, paper_columns, poll_columns};
 ghost use Rattle.desk_tables.specs.Versions.{version_text};
 ghost use Rattle.desk_tables.specs.declared.columns.ColumnFault.TheVariants.{Refused};
@@ -29,7 +29,7 @@ impl From<Error> for ColumnFault {
 fn ask<S: Alter>(conn: &mut Connection<S>, sql: &str) -> Result<(), ColumnFault>
     requires { conn.old.in_transaction ≡ false }
     ensures ended { conn.new.in_transaction ≡ false }
-    ensures asked { Asks S.Store conn.old conn.new (sql.now ∷ []) result }
+    ensures asked { AsksFor S.Store conn.old conn.new (sql.now ∷ []) result }
 {
     let _ = conn.is_autocommit();
     let prepared = conn.prepare(sql);
@@ -44,7 +44,7 @@ fn ask<S: Alter>(conn: &mut Connection<S>, sql: &str) -> Result<(), ColumnFault>
 pub fn ask_version<S: Alter>(conn: &mut Connection<S>) -> Result<(), ColumnFault>
     requires { conn.old.in_transaction ≡ false }
     ensures ended { conn.new.in_transaction ≡ false }
-    ensures asked { Asks S.Store conn.old conn.new (version_text ∷ []) result }
+    ensures asked { AsksFor S.Store conn.old conn.new (version_text ∷ []) result }
 {
     ask(conn, "SELECT one, version FROM desk ORDER BY one")
 }
@@ -53,7 +53,7 @@ pub fn ask_version<S: Alter>(conn: &mut Connection<S>) -> Result<(), ColumnFault
 fn ask_meetings<S: Alter>(conn: &mut Connection<S>) -> Result<(), ColumnFault>
     requires { conn.old.in_transaction ≡ false }
     ensures ended { conn.new.in_transaction ≡ false }
-    ensures asked { Asks S.Store conn.old conn.new meeting_columns result }
+    ensures asked { AsksFor S.Store conn.old conn.new meeting_columns result }
 {
     ask(conn, "SELECT one, version FROM desk")?;
     ask(conn, "SELECT party, secret FROM keys")?;
@@ -73,7 +73,7 @@ fn ask_meetings<S: Alter>(conn: &mut Connection<S>) -> Result<(), ColumnFault>
 fn ask_papers<S: Alter>(conn: &mut Connection<S>) -> Result<(), ColumnFault>
     requires { conn.old.in_transaction ≡ false }
     ensures ended { conn.new.in_transaction ≡ false }
-    ensures asked { Asks S.Store conn.old conn.new paper_columns result }
+    ensures asked { AsksFor S.Store conn.old conn.new paper_columns result }
 {
     ask(
         conn,
@@ -94,7 +94,7 @@ fn ask_papers<S: Alter>(conn: &mut Connection<S>) -> Result<(), ColumnFault>
 fn ask_polls<S: Alter>(conn: &mut Connection<S>) -> Result<(), ColumnFault>
     requires { conn.old.in_transaction ≡ false }
     ensures ended { conn.new.in_transaction ≡ false }
-    ensures asked { Asks S.Store conn.old conn.new poll_columns result }
+    ensures asked { AsksFor S.Store conn.old conn.new poll_columns result }
 {
     ask(
         conn,
@@ -114,7 +114,8 @@ fn ask_polls<S: Alter>(conn: &mut Connection<S>) -> Result<(), ColumnFault>
 pub fn ask_columns<S: Alter>(conn: &mut Connection<S>) -> Result<(), ColumnFault>
     requires { conn.old.in_transaction ≡ false }
     ensures ended { conn.new.in_transaction ≡ false }
-    ensures asked { Asks S.Store conn.old conn.new (meeting_columns ++ paper_columns ++ poll_columns) result }
+    ensures asked { AsksFor S.Store conn.old conn.new
+        (meeting_columns ++ paper_columns ++ poll_columns) result }
 {
     ask_meetings(conn)?;
     ask_papers(conn)?;

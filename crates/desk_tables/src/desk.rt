@@ -1,9 +1,9 @@
 //! The table `desk`: the version of the tables.
 ghost use Rattle.std.specs.Prelude.{◌≡◌, IfOk};
 ghost use Rattle.desk_schema.specs.Contents.{desk};
-ghost use Rattle.desk_schema.specs.Statements.{AddsFirst, CommitsNothing, Does, Makes, Reads};
+ghost use Rattle.desk_schema.specs.Statements.{AddsFirst, CommitsNothing, Does, Makes, ReadsTable};
 ghost use Rattle.desk_schema.specs.Statements.{WasOpen};
-ghost use Rattle.desk_schema.specs.Tables.{no_schema, with_desk};
+ghost use Rattle.desk_schema.specs.Tables.{no_schema, up_to_desk};
 ghost use Rattle.desk_tables.specs.Versions.{AreNoted, FirstTableNotes, NotesVersion};
 ghost use Rattle.sqlite.specs.Held.{state};
 ghost use Rattle.sqlite.specs.State.{HasCleanDisk, KeepsCommit, Survives};
@@ -13,7 +13,7 @@ use sqlite::{Alter, Error, Row, Transaction};
 /// Makes the table, the first of all.
 pub fn make<S: Alter>(tx: &mut Transaction<'_, S>) -> Result<usize, Error>
     ensures same_reference { tx.new.conn.ghost_name ≡ tx.old.conn.ghost_name }
-    ensures made { Makes S.Store tx.old.conn.now tx.new.conn.now result no_schema with_desk }
+    ensures made { Makes S.Store tx.old.conn.now tx.new.conn.now result no_schema up_to_desk }
     ensures commits { CommitsNothing S.Store tx.old.conn.now tx.new.conn.now }
 {
     tx.execute(
@@ -37,7 +37,7 @@ pub fn all<S: Alter>(tx: &mut Transaction<'_, S>) -> Result<Vec<Row>, Error>
     ensures same_reference { tx.new.conn.ghost_name ≡ tx.old.conn.ghost_name }
     ensures rows { HasCleanDisk (state S.Store tx.new.conn.now)
         → AreNoted (state S.Store tx.old.conn.now) → IfOk result (λ rows.
-        Reads S.Store tx.old.conn.now tx.new.conn.now desk rows.items) }
+        ReadsTable S.Store tx.old.conn.now tx.new.conn.now desk rows.items) }
     ensures kept { HasCleanDisk (state S.Store tx.new.conn.now)
         → NotesVersion (state S.Store tx.old.conn.now).now.schema
         → KeepsCommit (state S.Store tx.old.conn.now) (state S.Store tx.new.conn.now) }

@@ -2,8 +2,8 @@
 ghost use Rattle.std.specs.Prelude.{◌≡◌, IfOk};
 ghost use Rattle.desk_terms.specs.Names.{same_name};
 ghost use Rattle.desk_schema.specs.Contents.{keys};
-ghost use Rattle.desk_schema.specs.Statements.{Adds, ChangesNothing, CommitsNothing, Does, Empties, Finds, IsRead, Makes, Reads};
-ghost use Rattle.desk_schema.specs.Tables.{with_desk, with_keys};
+ghost use Rattle.desk_schema.specs.Statements.{Adds, ChangesNothing, CommitsNothing, Does, Empties, FindsRecords, IsRead, Makes, ReadsTable};
+ghost use Rattle.desk_schema.specs.Tables.{up_to_desk, up_to_keys};
 
 use desk_rows::{caller_text, key_text};
 use desk_words::{KeyRow, SecretKey};
@@ -12,7 +12,7 @@ use sqlite::{Alter, Error, Row, Transaction, params};
 /// Makes the table, after that of desk.
 pub fn make<S: Alter>(tx: &mut Transaction<'_, S>) -> Result<usize, Error>
     ensures same_reference { tx.new.conn.ghost_name ≡ tx.old.conn.ghost_name }
-    ensures made { Makes S.Store tx.old.conn.now tx.new.conn.now result with_desk with_keys }
+    ensures made { Makes S.Store tx.old.conn.now tx.new.conn.now result up_to_desk up_to_keys }
     ensures commits { CommitsNothing S.Store tx.old.conn.now tx.new.conn.now }
 {
     tx.execute(
@@ -37,7 +37,7 @@ pub fn add<S: Alter>(tx: &mut Transaction<'_, S>, key: &KeyRow) -> Result<usize,
 pub fn all<S: Alter>(tx: &mut Transaction<'_, S>) -> Result<Vec<Row>, Error>
     ensures same_reference { tx.new.conn.ghost_name ≡ tx.old.conn.ghost_name }
     ensures rows { IsRead S.Store tx.old.conn.now tx.new.conn.now
-        → IfOk result (λ rows. Reads S.Store tx.old.conn.now tx.new.conn.now keys rows.items) }
+        → IfOk result (λ rows. ReadsTable S.Store tx.old.conn.now tx.new.conn.now keys rows.items) }
     ensures changes { ChangesNothing S.Store tx.old.conn.now tx.new.conn.now }
 {
     tx.query_all("SELECT party, secret FROM keys ORDER BY rowid", &[])
@@ -57,7 +57,7 @@ pub fn find<S: Alter>(tx: &mut Transaction<'_, S>, secret: &SecretKey) -> Result
     ensures same_reference { tx.new.conn.ghost_name ≡ tx.old.conn.ghost_name }
     ensures rows { IsRead S.Store tx.old.conn.now tx.new.conn.now
         → IfOk result
-        (λ rows. Finds S.Store tx.old.conn.now tx.new.conn.now keys
+        (λ rows. FindsRecords S.Store tx.old.conn.now tx.new.conn.now keys
         (λ row. same_name row.secret secret.now) rows.items) }
     ensures changes { ChangesNothing S.Store tx.old.conn.now tx.new.conn.now }
 {

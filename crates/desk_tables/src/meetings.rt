@@ -1,8 +1,8 @@
 //! The table `meetings`: the meetings, in the order in which they were called (section 307).
 ghost use Rattle.std.specs.Prelude.{◌≡◌, IfOk};
 ghost use Rattle.desk_schema.specs.Contents.{loaded_at, meetings, opened_at, without_resolutions};
-ghost use Rattle.desk_schema.specs.Statements.{Adds, ChangesNothing, CommitsNothing, Does, IsRead, Makes, Reads, Sets};
-ghost use Rattle.desk_schema.specs.Tables.{with_closed, with_meetings};
+ghost use Rattle.desk_schema.specs.Statements.{Adds, ChangesNothing, CommitsNothing, Does, IsRead, Makes, ReadsTable, Sets};
+ghost use Rattle.desk_schema.specs.Tables.{up_to_closed, up_to_meetings};
 
 use desk_rows::{
     company_text, day_number, meeting_kind_text, meeting_text, moment_number, some_moment_number,
@@ -13,7 +13,8 @@ use sqlite::{Alter, Error, Row, Transaction, params};
 /// Makes the table, after that of closed.
 pub fn make<S: Alter>(tx: &mut Transaction<'_, S>) -> Result<usize, Error>
     ensures same_reference { tx.new.conn.ghost_name ≡ tx.old.conn.ghost_name }
-    ensures made { Makes S.Store tx.old.conn.now tx.new.conn.now result with_closed with_meetings }
+    ensures made { Makes S.Store tx.old.conn.now tx.new.conn.now result
+        up_to_closed up_to_meetings }
     ensures commits { CommitsNothing S.Store tx.old.conn.now tx.new.conn.now }
 {
     tx.execute(
@@ -48,7 +49,8 @@ pub fn add<S: Alter>(tx: &mut Transaction<'_, S>, meeting: &Meeting) -> Result<u
 pub fn all<S: Alter>(tx: &mut Transaction<'_, S>) -> Result<Vec<Row>, Error>
     ensures same_reference { tx.new.conn.ghost_name ≡ tx.old.conn.ghost_name }
     ensures rows { IsRead S.Store tx.old.conn.now tx.new.conn.now
-        → IfOk result (λ rows. Reads S.Store tx.old.conn.now tx.new.conn.now meetings rows.items) }
+        → IfOk result
+        (λ rows. ReadsTable S.Store tx.old.conn.now tx.new.conn.now meetings rows.items) }
     ensures changes { ChangesNothing S.Store tx.old.conn.now tx.new.conn.now }
 {
     tx.query_all(

@@ -2,8 +2,8 @@
 ghost use Rattle.std.specs.Prelude.{◌≡◌, IfOk};
 ghost use Rattle.desk_terms.specs.Names.{same_name};
 ghost use Rattle.desk_schema.specs.Contents.{register};
-ghost use Rattle.desk_schema.specs.Statements.{Adds, ChangesNothing, CommitsNothing, Does, IsRead, Makes, Reads, TakesOut};
-ghost use Rattle.desk_schema.specs.Tables.{with_resolutions, with_register};
+ghost use Rattle.desk_schema.specs.Statements.{Adds, ChangesNothing, CommitsNothing, Does, IsRead, Makes, ReadsTable, TakesOut};
+ghost use Rattle.desk_schema.specs.Tables.{up_to_resolutions, up_to_register};
 
 use desk_rows::{holder_kind_text, meeting_text, party_text, text_value};
 use desk_statements::whole;
@@ -13,8 +13,8 @@ use sqlite::{Alter, Error, Row, Transaction, params};
 /// Makes the table, after that of resolutions.
 pub fn make<S: Alter>(tx: &mut Transaction<'_, S>) -> Result<usize, Error>
     ensures same_reference { tx.new.conn.ghost_name ≡ tx.old.conn.ghost_name }
-    ensures made { Makes S.Store tx.old.conn.now tx.new.conn.now result with_resolutions
-        with_register }
+    ensures made { Makes S.Store tx.old.conn.now tx.new.conn.now result up_to_resolutions
+        up_to_register }
     ensures commits { CommitsNothing S.Store tx.old.conn.now tx.new.conn.now }
 {
     tx.execute(
@@ -53,7 +53,8 @@ pub fn add<S: Alter>(
 pub fn all<S: Alter>(tx: &mut Transaction<'_, S>) -> Result<Vec<Row>, Error>
     ensures same_reference { tx.new.conn.ghost_name ≡ tx.old.conn.ghost_name }
     ensures rows { IsRead S.Store tx.old.conn.now tx.new.conn.now
-        → IfOk result (λ rows. Reads S.Store tx.old.conn.now tx.new.conn.now register rows.items) }
+        → IfOk result
+        (λ rows. ReadsTable S.Store tx.old.conn.now tx.new.conn.now register rows.items) }
     ensures changes { ChangesNothing S.Store tx.old.conn.now tx.new.conn.now }
 {
     tx.query_all(

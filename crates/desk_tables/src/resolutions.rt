@@ -1,8 +1,8 @@
 //! The table `resolutions`: the resolutions of which notice was given (section 283(6)).
 ghost use Rattle.std.specs.Prelude.{◌≡◌, IfOk};
 ghost use Rattle.desk_schema.specs.Contents.{resolutions};
-ghost use Rattle.desk_schema.specs.Statements.{Adds, ChangesNothing, CommitsNothing, Does, IsRead, Makes, Reads};
-ghost use Rattle.desk_schema.specs.Tables.{with_meetings, with_resolutions};
+ghost use Rattle.desk_schema.specs.Statements.{Adds, ChangesNothing, CommitsNothing, Does, IsRead, Makes, ReadsTable};
+ghost use Rattle.desk_schema.specs.Tables.{up_to_meetings, up_to_resolutions};
 
 use desk_rows::{meeting_text, resolution_kind_text, text_value};
 use desk_statements::whole;
@@ -12,8 +12,8 @@ use sqlite::{Alter, Error, Row, Transaction, params};
 /// Makes the table, after that of meetings.
 pub fn make<S: Alter>(tx: &mut Transaction<'_, S>) -> Result<usize, Error>
     ensures same_reference { tx.new.conn.ghost_name ≡ tx.old.conn.ghost_name }
-    ensures made { Makes S.Store tx.old.conn.now tx.new.conn.now result with_meetings
-        with_resolutions }
+    ensures made { Makes S.Store tx.old.conn.now tx.new.conn.now result up_to_meetings
+        up_to_resolutions }
     ensures commits { CommitsNothing S.Store tx.old.conn.now tx.new.conn.now }
 {
     tx.execute(
@@ -55,7 +55,7 @@ pub fn all<S: Alter>(tx: &mut Transaction<'_, S>) -> Result<Vec<Row>, Error>
     ensures same_reference { tx.new.conn.ghost_name ≡ tx.old.conn.ghost_name }
     ensures rows { IsRead S.Store tx.old.conn.now tx.new.conn.now
         → IfOk result
-        (λ rows. Reads S.Store tx.old.conn.now tx.new.conn.now resolutions rows.items) }
+        (λ rows. ReadsTable S.Store tx.old.conn.now tx.new.conn.now resolutions rows.items) }
     ensures changes { ChangesNothing S.Store tx.old.conn.now tx.new.conn.now }
 {
     tx.query_all(

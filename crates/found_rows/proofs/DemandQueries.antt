@@ -10,7 +10,7 @@ use Rattle.sqlite.proofs.Callers.{IsPlain, command_of}
 use Rattle.desk_rows.specs.declared.kept.InMeeting.{InMeeting}
 use Rattle.desk_words.specs.declared.records.DemandMark.{DemandMark}
 use Rattle.desk_rows.specs.Columns.{spelled, number_in, moment_in}
-use Rattle.desk_rows.specs.Marks.{demand_in}
+use Rattle.desk_rows.specs.Marks.{demand_mark_in}
 use Rattle.desk_rows.proofs.MeaningLemmas.{bound, option_ap}
 use Rattle.desk_terms.specs.Names.{meeting_of, party_of, same_name}
 use Rattle.desk_schema.specs.Tables.{desk_schema}
@@ -26,8 +26,8 @@ abbrev names : List (List ℕ)
 names = codes "meeting" ∷ codes "resolution" ∷ codes "party" ∷ codes "moment" ∷ []
 
 -- what a row names
-names_in : (cells : Row) (x : InMeeting DemandMark) → demand_in cells ≡ Some x → (spelled meeting_of cells 0 ≡ Some x.meeting) × (spelled party_of cells 2 ≡ Some x.item.party)
-unfolding demand_in
+names_in : (cells : Row) (x : InMeeting DemandMark) → demand_mark_in cells ≡ Some x → (spelled meeting_of cells 0 ≡ Some x.meeting) × (spelled party_of cells 2 ≡ Some x.item.party)
+unfolding demand_mark_in
 names_in cells x h =
     let meeting = bound (spelled meeting_of cells 0) _ x h in
     let resolution = bound (number_in cells 1) _ x meeting.2 in

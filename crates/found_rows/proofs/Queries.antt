@@ -21,7 +21,7 @@ use Rattle.sqlite_trees.specs.declared.store.Store as store
 use Rattle.desk_terms.specs.Names.{in_places, is_name, is_party, meeting_of, party_of, same_name}
 use Rattle.desk_rows.specs.Columns.{spelled_of}
 use Rattle.desk_schema.specs.Tables.{desk_schema}
-use Rattle.desk_schema.specs.Statements.{ChangesNothing, Finds, IsRead, TableOf, columns_of, is_table}
+use Rattle.desk_schema.specs.Statements.{ChangesNothing, FindsRecords, IsRead, TableOf, columns_of, has_table, layout_one}
 use Rattle.desk_statements.proofs.Commits.{query_keeps, query_opened}
 use Rattle.desk_statements.proofs.Deleting.{passes}
 use Rattle.desk_statements.proofs.Reading.{finds, sought}
@@ -69,15 +69,15 @@ pub record IsQuery {A : Type 0} (it : TableOf A) (sql : List ℕ) (params : Row)
   pub plain : IsPlain (understood desk_schema sql)
   pub unlisted : reads_listing desk_schema sql ≡ false
   pub none : given_at [] it.number ≡ None
-  pub numbered : IsTrue (is_table it.number)
+  pub numbered : IsTrue (has_table layout_one it.number)
   pub columns : (row : Row) → eval_all project (params ∷ row ∷ []) ≡ columns_of it row
   pub same : (row : Row) (x : A) → it.means (columns_of it row) ≡ Some x → passes tests params row ≡ test x
 
 module _ {S V A : Type 0} (g : store.Ghosts S) (a b : Held S) (items : V → List Row) (r : Result V Error) {it : TableOf A} {sql : List ℕ} {params : Row} {test : A → Bool} (q : IsQuery it sql params test)
     (ok : HasCleanDisk (state g b) → IfOk r (λ v. Shown sql params (state g a) (state g b) (items v))) where
-  pub finds_rows : IsRead g a b → IfOk r (λ v. Finds g a b it test (items v))
+  pub finds_rows : IsRead g a b → IfOk r (λ v. FindsRecords g a b it test (items v))
   finds_rows read =
-      finds items it q.tests q.project q.names sql params test q.is q.plain q.unlisted q.none q.numbered q.columns q.same (state g a) (state g b) r read.1 (ok read.0)
+      finds layout_one items it q.tests q.project q.names sql params test q.is q.plain q.unlisted q.none q.numbered q.columns q.same (state g a) (state g b) r read.1 (ok read.0)
 
   pub nothing_changed : (HasCleanDisk (state g b) → IfErr r (λ e. FailsToQuery sql params (state g a) (state g b) e ⊎ IsTooLate sql params (state g a) (state g b) e))
       → Survives (state g a) (state g b) (λ _. ⊥) → ChangesNothing g a b

@@ -9,7 +9,7 @@ use Rattle.sqlite.specs.Listing.{understood, reads_listing}
 use Rattle.sqlite.proofs.Callers.{IsPlain, command_of}
 use Rattle.desk_rows.specs.declared.kept.InMeeting.{InMeeting}
 use Rattle.desk_words.specs.declared.records.RegisterRow.{RegisterRow}
-use Rattle.desk_rows.specs.Columns.{spelled, worded, number_in, text_of}
+use Rattle.desk_rows.specs.Columns.{spelled, worded, number_in, plain_text_of}
 use Rattle.desk_rows.specs.Meetings.{holding_in}
 use Rattle.desk_terms.specs.Kinds.{holder_kind_of}
 use Rattle.desk_rows.proofs.MeaningLemmas.{bound, option_ap}
@@ -33,7 +33,7 @@ names_in cells x h =
     let meeting = bound (spelled meeting_of cells 0) _ x h in
     let member = bound (spelled party_of cells 1) _ x meeting.2 in
     let kind = bound (worded holder_kind_of cells 2) _ x member.2 in
-    let name = bound (worded text_of cells 3) _ x kind.2 in
+    let name = bound (worded plain_text_of cells 3) _ x kind.2 in
     let shares = bound (number_in cells 4) _ x name.2 in
     let paid = bound (number_in cells 5) _ x shares.2 in
     (meeting.1 ∙ option_ap (λ (y : InMeeting RegisterRow). y.meeting) paid.2, member.1 ∙ option_ap (λ (y : InMeeting RegisterRow). y.item.member) paid.2)

@@ -9,7 +9,7 @@ use Rattle.sqlite.specs.Listing.{understood, reads_listing}
 use Rattle.sqlite.proofs.Callers.{IsPlain, command_of}
 use Rattle.desk_rows.specs.declared.kept.InMeeting.{InMeeting}
 use Rattle.desk_rows.specs.declared.kept.NumberedResolution.{NumberedResolution}
-use Rattle.desk_rows.specs.Columns.{spelled, worded, number_in, text_of}
+use Rattle.desk_rows.specs.Columns.{spelled, worded, number_in, plain_text_of}
 use Rattle.desk_rows.specs.Meetings.{resolution_in}
 use Rattle.desk_terms.specs.Kinds.{resolution_kind_of}
 use Rattle.desk_rows.proofs.MeaningLemmas.{bound, option_ap}
@@ -33,7 +33,7 @@ names_in cells x h =
     let meeting = bound (spelled meeting_of cells 0) _ x h in
     let number = bound (number_in cells 1) _ x meeting.2 in
     let kind = bound (worded resolution_kind_of cells 2) _ x number.2 in
-    let text = bound (worded text_of cells 3) _ x kind.2 in
+    let text = bound (worded plain_text_of cells 3) _ x kind.2 in
     meeting.1 ∙ option_ap (λ (y : InMeeting NumberedResolution). y.meeting) text.2
 
 abbrev of_meeting_text : List ℕ

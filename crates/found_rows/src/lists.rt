@@ -3,7 +3,7 @@
 ghost use Rattle.std.specs.Prelude.{◌≡◌, IfOk};
 ghost use Rattle.desk_terms.specs.Names.{same_name};
 ghost use Rattle.desk_schema.specs.Contents as contents;
-ghost use Rattle.desk_schema.specs.Statements.{ChangesNothing, Finds, IsRead};
+ghost use Rattle.desk_schema.specs.Statements.{ChangesNothing, FindsRecords, IsRead};
 
 use desk_rows::meeting_text;
 use desk_words::MeetingId;
@@ -17,7 +17,7 @@ pub fn register<S: Alter>(
     ensures same_reference { tx.new.conn.ghost_name ≡ tx.old.conn.ghost_name }
     ensures rows { IsRead S.Store tx.old.conn.now tx.new.conn.now
         → IfOk result
-        (λ rows. Finds S.Store tx.old.conn.now tx.new.conn.now contents.register
+        (λ rows. FindsRecords S.Store tx.old.conn.now tx.new.conn.now contents.register
         (λ it. same_name it.meeting meeting) rows.items) }
     ensures changes { ChangesNothing S.Store tx.old.conn.now tx.new.conn.now }
 {
@@ -35,7 +35,7 @@ pub fn appointments<S: Alter>(
     ensures same_reference { tx.new.conn.ghost_name ≡ tx.old.conn.ghost_name }
     ensures rows { IsRead S.Store tx.old.conn.now tx.new.conn.now
         → IfOk result
-        (λ rows. Finds S.Store tx.old.conn.now tx.new.conn.now contents.appointments
+        (λ rows. FindsRecords S.Store tx.old.conn.now tx.new.conn.now contents.appointments
         (λ it. same_name it.meeting meeting) rows.items) }
     ensures changes { ChangesNothing S.Store tx.old.conn.now tx.new.conn.now }
 {
@@ -50,7 +50,7 @@ pub fn endings<S: Alter>(tx: &mut Transaction<'_, S>, meeting: MeetingId) -> Res
     ensures same_reference { tx.new.conn.ghost_name ≡ tx.old.conn.ghost_name }
     ensures rows { IsRead S.Store tx.old.conn.now tx.new.conn.now
         → IfOk result
-        (λ rows. Finds S.Store tx.old.conn.now tx.new.conn.now contents.endings
+        (λ rows. FindsRecords S.Store tx.old.conn.now tx.new.conn.now contents.endings
         (λ it. same_name it.meeting meeting) rows.items) }
     ensures changes { ChangesNothing S.Store tx.old.conn.now tx.new.conn.now }
 {
@@ -68,7 +68,7 @@ pub fn authorities<S: Alter>(
     ensures same_reference { tx.new.conn.ghost_name ≡ tx.old.conn.ghost_name }
     ensures rows { IsRead S.Store tx.old.conn.now tx.new.conn.now
         → IfOk result
-        (λ rows. Finds S.Store tx.old.conn.now tx.new.conn.now contents.authorities
+        (λ rows. FindsRecords S.Store tx.old.conn.now tx.new.conn.now contents.authorities
         (λ it. same_name it.meeting meeting) rows.items) }
     ensures changes { ChangesNothing S.Store tx.old.conn.now tx.new.conn.now }
 {
@@ -86,7 +86,7 @@ pub fn presences<S: Alter>(
     ensures same_reference { tx.new.conn.ghost_name ≡ tx.old.conn.ghost_name }
     ensures rows { IsRead S.Store tx.old.conn.now tx.new.conn.now
         → IfOk result
-        (λ rows. Finds S.Store tx.old.conn.now tx.new.conn.now contents.presences
+        (λ rows. FindsRecords S.Store tx.old.conn.now tx.new.conn.now contents.presences
         (λ it. same_name it.meeting meeting) rows.items) }
     ensures changes { ChangesNothing S.Store tx.old.conn.now tx.new.conn.now }
 {
@@ -101,7 +101,7 @@ pub fn demands<S: Alter>(tx: &mut Transaction<'_, S>, meeting: MeetingId) -> Res
     ensures same_reference { tx.new.conn.ghost_name ≡ tx.old.conn.ghost_name }
     ensures rows { IsRead S.Store tx.old.conn.now tx.new.conn.now
         → IfOk result
-        (λ rows. Finds S.Store tx.old.conn.now tx.new.conn.now contents.demands
+        (λ rows. FindsRecords S.Store tx.old.conn.now tx.new.conn.now contents.demands
         (λ it. same_name it.meeting meeting) rows.items) }
     ensures changes { ChangesNothing S.Store tx.old.conn.now tx.new.conn.now }
 {
@@ -116,7 +116,7 @@ pub fn casts<S: Alter>(tx: &mut Transaction<'_, S>, meeting: MeetingId) -> Resul
     ensures same_reference { tx.new.conn.ghost_name ≡ tx.old.conn.ghost_name }
     ensures rows { IsRead S.Store tx.old.conn.now tx.new.conn.now
         → IfOk result
-        (λ rows. Finds S.Store tx.old.conn.now tx.new.conn.now contents.casts
+        (λ rows. FindsRecords S.Store tx.old.conn.now tx.new.conn.now contents.casts
         (λ it. same_name it.meeting meeting) rows.items) }
     ensures changes { ChangesNothing S.Store tx.old.conn.now tx.new.conn.now }
 {

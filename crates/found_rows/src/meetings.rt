@@ -2,7 +2,7 @@
 ghost use Rattle.std.specs.Prelude.{◌≡◌, IfOk};
 ghost use Rattle.desk_terms.specs.Names.{same_name};
 ghost use Rattle.desk_schema.specs.Contents.{meetings};
-ghost use Rattle.desk_schema.specs.Statements.{ChangesNothing, Finds, IsRead};
+ghost use Rattle.desk_schema.specs.Statements.{ChangesNothing, FindsRecords, IsRead};
 
 use desk_rows::meeting_text;
 use desk_words::MeetingId;
@@ -13,7 +13,7 @@ pub fn named<S: Alter>(tx: &mut Transaction<'_, S>, meeting: MeetingId) -> Resul
     ensures same_reference { tx.new.conn.ghost_name ≡ tx.old.conn.ghost_name }
     ensures rows { IsRead S.Store tx.old.conn.now tx.new.conn.now
         → IfOk result
-        (λ rows. Finds S.Store tx.old.conn.now tx.new.conn.now meetings
+        (λ rows. FindsRecords S.Store tx.old.conn.now tx.new.conn.now meetings
         (λ it. same_name it.id meeting) rows.items) }
     ensures changes { ChangesNothing S.Store tx.old.conn.now tx.new.conn.now }
 {

@@ -2,7 +2,7 @@
 ghost use Rattle.std.specs.Prelude.{◌≡◌, ◌&&◌, IfOk};
 ghost use Rattle.desk_terms.specs.Names.{same_name};
 ghost use Rattle.desk_schema.specs.Contents.{presences};
-ghost use Rattle.desk_schema.specs.Statements.{ChangesNothing, Finds, IsRead};
+ghost use Rattle.desk_schema.specs.Statements.{ChangesNothing, FindsRecords, IsRead};
 
 use desk_rows::{meeting_text, party_text};
 use desk_words::{MeetingId, Party};
@@ -17,7 +17,7 @@ pub fn of_party<S: Alter>(
     ensures same_reference { tx.new.conn.ghost_name ≡ tx.old.conn.ghost_name }
     ensures rows { IsRead S.Store tx.old.conn.now tx.new.conn.now
         → IfOk result
-        (λ rows. Finds S.Store tx.old.conn.now tx.new.conn.now presences
+        (λ rows. FindsRecords S.Store tx.old.conn.now tx.new.conn.now presences
         (λ it. same_name it.meeting meeting && same_name it.item.party party) rows.items) }
     ensures changes { ChangesNothing S.Store tx.old.conn.now tx.new.conn.now }
 {

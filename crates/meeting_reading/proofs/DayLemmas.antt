@@ -7,7 +7,7 @@ use Rattle.sqlite.specs.State.{HasCleanDisk, KeepsCommit, Survives}
 use Rattle.sqlite_trees.specs.declared.store.Store as store
 use Rattle.desk_words.specs.declared.office.OfficeLists.{OfficeLists}
 use Rattle.desk_schema.specs.Contents as table
-use Rattle.desk_schema.specs.Statements.{ChangesNothing, IsRead, Reads, WasOpen}
+use Rattle.desk_schema.specs.Statements.{ChangesNothing, IsRead, ReadsTable, WasOpen}
 use Rattle.desk_tables.specs.Versions.{AreNoted, NotesVersion}
 use Rattle.desk_tables.proofs.DeskLemmas.{desk_notes}
 use Rattle.office_lists.specs.Yields.{fault_of_error}
@@ -24,7 +24,7 @@ module _ {S X : Type 0} (g : store.Ghosts S) (a b : Held S) (kept : HasCleanDisk
   changes = record { kept = λ read. kept read.0 (noted read).noted; was_open = was_open; crash = crash }
 
   -- what needs no telling
-  pub asked_so : {V : Type 0} (items : V → List Row) (v : V) (x : X) → (HasCleanDisk (state g b) → AreNoted (state g a) → Reads g a b table.desk (items v)) → ((office : OfficeLists) → R office x) → IsToldOf g a b (Ok x) R
+  pub asked_so : {V : Type 0} (items : V → List Row) (v : V) (x : X) → (HasCleanDisk (state g b) → AreNoted (state g a) → ReadsTable g a b table.desk (items v)) → ((office : OfficeLists) → R office x) → IsToldOf g a b (Ok x) R
   asked_so items v x reads so = record {
     told = λ read office holds kept. so office;
     same = λ read. (reads read.0 (noted read)).1;

@@ -56,13 +56,13 @@ abbrev pub shares_alone : MeetingLists → MeetingLists
 shares_alone m = record m { presences = []; demands = []; casts = [] }
 
 -- and with its presences
-abbrev pub with_presences : MeetingLists → MeetingLists
-with_presences m = record m { demands = []; casts = [] }
+abbrev pub shares_and_presences : MeetingLists → MeetingLists
+shares_and_presences m = record m { demands = []; casts = [] }
 
 -- or with its demands
-abbrev pub with_demands : MeetingLists → MeetingLists
-with_demands m = record m { presences = []; casts = [] }
+abbrev pub shares_and_demands : MeetingLists → MeetingLists
+shares_and_demands m = record m { presences = []; casts = [] }
 
 -- or with its votes
-abbrev pub with_casts : MeetingLists → MeetingLists
-with_casts m = record m { presences = []; demands = [] }
+abbrev pub shares_and_casts : MeetingLists → MeetingLists
+shares_and_casts m = record m { presences = []; demands = [] }

@@ -4,10 +4,11 @@ ghost use Rattle.std.specs.Prelude.{◌≡◌, [], option_map, if◌then◌else�
 ghost use Rattle.caller_view.specs.Views.{meeting_at};
 ghost use Rattle.office_answers.specs.Reads.{days_read, lists_read, polls_alone};
 ghost use Rattle.party_reading.specs.Telling.{IsToldOf};
-ghost use Rattle.meeting_reading.specs.Parts.{with_demands};
+ghost use Rattle.meeting_reading.specs.Parts.{shares_and_demands};
 
 use crate::parts::{
-    polls_alone, presence_alone, register_alone, with_casts, with_demands, with_presences,
+    polls_alone, presence_alone, register_alone, shares_and_casts, shares_and_demands,
+    shares_and_presences,
 };
 use desk_tables::desk;
 use desk_words::{DayList, MeetingId, MeetingLists, OfficeRequest};
@@ -27,13 +28,13 @@ fn for_order<S: Alter>(
     ensures same_reference { tx.new.conn.ghost_name ≡ tx.old.conn.ghost_name }
     ensures told { IsToldOf S.Store tx.old.conn.now tx.new.conn.now result
         (λ office lists. lists
-        ≡ option_map (λ m. if chair then polls_alone m else with_demands m)
+        ≡ option_map (λ m. if chair then polls_alone m else shares_and_demands m)
         (meeting_at office meeting)) }
 {
     if chair {
         polls_alone(tx, alloc, meeting)
     } else {
-        with_demands(tx, alloc, meeting)
+        shares_and_demands(tx, alloc, meeting)
     }
 }
 
@@ -52,10 +53,10 @@ pub fn read_lists<S: Alter>(
     match asked {
         OfficeRequest::LoadRegister(_) => register_alone(tx, alloc, meeting),
         OfficeRequest::Presence(party) => presence_alone(tx, alloc, meeting, *party),
-        OfficeRequest::OpenMeeting => with_presences(tx, alloc, meeting),
+        OfficeRequest::OpenMeeting => shares_and_presences(tx, alloc, meeting),
         OfficeRequest::Order(new) => for_order(tx, alloc, meeting, new.chair),
         OfficeRequest::Start(_) | OfficeRequest::Close(_) => polls_alone(tx, alloc, meeting),
-        OfficeRequest::Declare(_) => with_casts(tx, alloc, meeting),
+        OfficeRequest::Declare(_) => shares_and_casts(tx, alloc, meeting),
     }
 }
 

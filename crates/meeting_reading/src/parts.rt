@@ -7,7 +7,7 @@ ghost use Rattle.party_reading.specs.Telling.{IsToldOf};
 ghost use Rattle.proxy_rules.specs.Parties.{is_presence_of};
 ghost use Rattle.meeting_reading.specs.Parts.{meeting_with, shares_alone, shares_in, with_shares};
 ghost use Rattle.meeting_reading.specs.Parts.{register_alone, presence_alone};
-ghost use Rattle.meeting_reading.specs.Parts.{with_presences, with_demands, with_casts};
+ghost use Rattle.meeting_reading.specs.Parts.{shares_and_presences, shares_and_demands, shares_and_casts};
 
 use crate::filed::{
     appointments_of, authorities_of, casts_of, demands_of, endings_of, presence_of, presences_of,
@@ -170,14 +170,14 @@ fn shares_alone<S: Alter>(
 }
 
 /// The same with the presences: by these a quorum is counted (section 318).
-pub(crate) fn with_presences<S: Alter>(
+pub(crate) fn shares_and_presences<S: Alter>(
     tx: &mut Transaction<'_, S>,
     alloc: Global,
     meeting: MeetingId,
 ) -> Result<Option<MeetingLists>, ReadFault>
     ensures same_reference { tx.new.conn.ghost_name ≡ tx.old.conn.ghost_name }
     ensures told { IsToldOf S.Store tx.old.conn.now tx.new.conn.now result
-        (λ office lists. lists ≡ option_map with_presences (meeting_at office meeting)) }
+        (λ office lists. lists ≡ option_map shares_and_presences (meeting_at office meeting)) }
 {
     let Some(lists) = shares_alone(tx, alloc, meeting)? else {
         return Ok(None);
@@ -188,14 +188,14 @@ pub(crate) fn with_presences<S: Alter>(
 
 /// The meeting with its polls, the lists by which shares are counted and the demands, the shares of
 /// which are (section 321).
-pub(crate) fn with_demands<S: Alter>(
+pub(crate) fn shares_and_demands<S: Alter>(
     tx: &mut Transaction<'_, S>,
     alloc: Global,
     meeting: MeetingId,
 ) -> Result<Option<MeetingLists>, ReadFault>
     ensures same_reference { tx.new.conn.ghost_name ≡ tx.old.conn.ghost_name }
     ensures told { IsToldOf S.Store tx.old.conn.now tx.new.conn.now result
-        (λ office lists. lists ≡ option_map with_demands (meeting_at office meeting)) }
+        (λ office lists. lists ≡ option_map shares_and_demands (meeting_at office meeting)) }
 {
     let Some(lists) = shares_alone(tx, alloc, meeting)? else {
         return Ok(None);
@@ -206,14 +206,14 @@ pub(crate) fn with_demands<S: Alter>(
 
 /// The meeting with its polls, the lists by which shares are counted and the votes, which are
 /// counted by them (section 284).
-pub(crate) fn with_casts<S: Alter>(
+pub(crate) fn shares_and_casts<S: Alter>(
     tx: &mut Transaction<'_, S>,
     alloc: Global,
     meeting: MeetingId,
 ) -> Result<Option<MeetingLists>, ReadFault>
     ensures same_reference { tx.new.conn.ghost_name ≡ tx.old.conn.ghost_name }
     ensures told { IsToldOf S.Store tx.old.conn.now tx.new.conn.now result
-        (λ office lists. lists ≡ option_map with_casts (meeting_at office meeting)) }
+        (λ office lists. lists ≡ option_map shares_and_casts (meeting_at office meeting)) }
 {
     let Some(lists) = shares_alone(tx, alloc, meeting)? else {
         return Ok(None);

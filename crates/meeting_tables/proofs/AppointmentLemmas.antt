@@ -16,18 +16,19 @@ use Rattle.desk_rows.specs.Instructions.{instructions_of}
 use Rattle.desk_rows.specs.Papers.{appointment_in}
 use Rattle.desk_terms.specs.Names.{meeting_of, party_of}
 use Rattle.desk_terms.specs.Places.{range_of}
-use Rattle.desk_schema.specs.Tables.{desk_schema, with_register, appointments as table}
+use Rattle.desk_schema.specs.Tables.{desk_schema, up_to_register, appointments_table as table}
 use Rattle.desk_schema.specs.Contents.{appointments}
-use Rattle.desk_schema.specs.Statements.{IsDesk, Adds}
+use Rattle.desk_schema.specs.Statements.{IsDesk, Adds, layout_one}
 use Rattle.desk_statements.proofs.Adding.{adds_row, adds}
 use Rattle.desk_statements.proofs.Listing.{ListsTable}
 use Rattle.desk_statements.proofs.Making.{MakesTable}
 use Rattle.desk_statements.proofs.Values.{cast_int, cast_null}
+use Rattle.desk_statements.proofs.Frames.{ones_apart}
 
 abbrev make_text : List ℕ
 make_text = codes "CREATE TABLE appointments (seq INTEGER PRIMARY KEY AUTOINCREMENT, meeting TEXT NOT NULL REFERENCES meetings (meeting), member TEXT NOT NULL, number INTEGER NOT NULL, proxy TEXT NOT NULL, first INTEGER NOT NULL, last INTEGER NOT NULL, instructions TEXT NOT NULL, moment INTEGER NOT NULL, UNIQUE (meeting, member, number)) STRICT"
 
-pub makes : MakesTable with_register make_text table
+pub makes : MakesTable up_to_register make_text table
 unfolding understood everything Rattle.sqlite_schema.specs.Names.same_name
 makes = record { is = refl; alone = refl; plain = (refl, refl); defined = refl; full = refl }
 
@@ -57,14 +58,14 @@ module _ (m : List ℕ) (a : Appointment) (meeting : List ℕ) (member : List �
       → (old new : State) (r : Result ℕ Error) → IsDesk old → IsTrue old.in_transaction → ExecutesInside 0 add_text values old new r → OnOk r (Adds appointments (record { meeting = m; item = a }) old new)
   adds_appointment meeting_is member_is number_is proxy_is first_is last_is range_is letters_is moment_is old new r was inside h =
       let cells = Null ∷ values in
-      adds appointments cells (record { meeting = m; item = a }) old new r
-      (adds_row 7 (record table { tree = 12 }) terms 10 add_text values cells add_is add_plain refl refl (rw (cast_null, cast_int number, cast_int first, cast_int last, cast_int moment) refl) old new r was inside h)
+      adds layout_one appointments cells (record { meeting = m; item = a }) old new r
+      (adds_row ones_apart 7 (record table { tree = 12 }) terms 10 add_text values cells add_is add_plain refl refl (rw (cast_null, cast_int number, cast_int first, cast_int last, cast_int moment) refl) old new r was inside h)
       (λ id. means meeting_is member_is number_is proxy_is first_is last_is range_is letters_is moment_is)
 
 abbrev all_text : List ℕ
 all_text = codes "SELECT meeting, member, number, proxy, first, last, instructions, moment FROM appointments ORDER BY seq"
 
-pub lists : ListsTable appointments all_text
+pub lists : ListsTable layout_one appointments all_text
 unfolding understood everything
 lists = record {
   shows = col 1 2 ∷ col 1 3 ∷ col 1 4 ∷ col 1 5 ∷ col 1 6 ∷ col 1 7 ∷ col 1 8 ∷ col 1 9 ∷ [];

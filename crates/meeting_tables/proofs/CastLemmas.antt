@@ -15,18 +15,19 @@ use Rattle.desk_words.specs.declared.records.CastMark.{CastMark}
 use Rattle.desk_rows.specs.Columns.{moment_in, moment_of, natural_of, number_in, spelled}
 use Rattle.desk_rows.specs.Marks.{cast_in, cast_kind_in, cast_kind_of}
 use Rattle.desk_terms.specs.Names.{meeting_of, party_of}
-use Rattle.desk_schema.specs.Tables.{desk_schema, with_polls, casts as table}
+use Rattle.desk_schema.specs.Tables.{desk_schema, up_to_polls, casts_table as table}
 use Rattle.desk_schema.specs.Contents.{casts}
-use Rattle.desk_schema.specs.Statements.{IsDesk, Adds}
+use Rattle.desk_schema.specs.Statements.{IsDesk, Adds, layout_one}
 use Rattle.desk_statements.proofs.Adding.{adds_row, adds}
 use Rattle.desk_statements.proofs.Listing.{ListsTable}
 use Rattle.desk_statements.proofs.Making.{MakesTable}
 use Rattle.desk_statements.proofs.Values.{cast_int, cast_null, cast_some, cast_some_text, some_text}
+use Rattle.desk_statements.proofs.Frames.{ones_apart}
 
 abbrev make_text : List ℕ
 make_text = codes "CREATE TABLE casts (seq INTEGER PRIMARY KEY AUTOINCREMENT, meeting TEXT NOT NULL REFERENCES meetings (meeting), resolution INTEGER NOT NULL, voter TEXT NOT NULL, capacity TEXT NOT NULL, member TEXT, first INTEGER, last INTEGER, way TEXT, moment INTEGER NOT NULL) STRICT"
 
-pub makes : MakesTable with_polls make_text table
+pub makes : MakesTable up_to_polls make_text table
 unfolding understood everything Rattle.sqlite_schema.specs.Names.same_name
 makes = record { is = refl; alone = refl; plain = (refl, refl); defined = refl; full = refl }
 
@@ -56,14 +57,14 @@ module _ (m : List ℕ) (x : CastMark) (meeting : List ℕ) (resolution : ℤ) (
       → (old new : State) (r : Result ℕ Error) → IsDesk old → IsTrue old.in_transaction → ExecutesInside 0 add_text values old new r → OnOk r (Adds casts (record { meeting = m; item = x }) old new)
   adds_cast meeting_is resolution_is voter_is what_is moment_is old new r was inside h =
       let cells = Null ∷ values in
-      adds casts cells (record { meeting = m; item = x }) old new r
-      (adds_row 13 (record table { tree = 24 }) terms 11 add_text values cells add_is add_plain refl refl (rw (cast_null, cast_int resolution, cast_some_text member, cast_some first, cast_some last, cast_some_text way, cast_int moment) refl) old new r was inside h)
+      adds layout_one casts cells (record { meeting = m; item = x }) old new r
+      (adds_row ones_apart 13 (record table { tree = 24 }) terms 11 add_text values cells add_is add_plain refl refl (rw (cast_null, cast_int resolution, cast_some_text member, cast_some first, cast_some last, cast_some_text way, cast_int moment) refl) old new r was inside h)
       (λ id. means meeting_is resolution_is voter_is what_is moment_is)
 
 abbrev all_text : List ℕ
 all_text = codes "SELECT meeting, resolution, voter, capacity, member, first, last, way, moment FROM casts ORDER BY seq"
 
-pub lists : ListsTable casts all_text
+pub lists : ListsTable layout_one casts all_text
 unfolding understood everything
 lists = record {
   shows = col 1 2 ∷ col 1 3 ∷ col 1 4 ∷ col 1 5 ∷ col 1 6 ∷ col 1 7 ∷ col 1 8 ∷ col 1 9 ∷ col 1 10 ∷ [];

@@ -12,20 +12,21 @@ use Rattle.sqlite.specs.State.{State, ExecutesInside}
 use Rattle.sqlite.proofs.Callers.{IsPlain, command_of}
 use Rattle.desk_words.specs.declared.records.DemandMark.{DemandMark}
 use Rattle.desk_rows.specs.Columns.{moment_in, moment_of, natural_of, number_in, spelled}
-use Rattle.desk_rows.specs.Marks.{demand_in}
+use Rattle.desk_rows.specs.Marks.{demand_mark_in}
 use Rattle.desk_terms.specs.Names.{meeting_of, party_of}
-use Rattle.desk_schema.specs.Tables.{desk_schema, with_presences, demands as table}
+use Rattle.desk_schema.specs.Tables.{desk_schema, up_to_presences, demands_table as table}
 use Rattle.desk_schema.specs.Contents.{demands}
-use Rattle.desk_schema.specs.Statements.{IsDesk, Adds}
+use Rattle.desk_schema.specs.Statements.{IsDesk, Adds, layout_one}
 use Rattle.desk_statements.proofs.Adding.{adds_row, adds}
 use Rattle.desk_statements.proofs.Listing.{ListsTable}
 use Rattle.desk_statements.proofs.Making.{MakesTable}
 use Rattle.desk_statements.proofs.Values.{cast_int, cast_null}
+use Rattle.desk_statements.proofs.Frames.{ones_apart}
 
 abbrev make_text : List ℕ
 make_text = codes "CREATE TABLE demands (seq INTEGER PRIMARY KEY AUTOINCREMENT, meeting TEXT NOT NULL REFERENCES meetings (meeting), resolution INTEGER NOT NULL, party TEXT NOT NULL, moment INTEGER NOT NULL, UNIQUE (meeting, resolution, party)) STRICT"
 
-pub makes : MakesTable with_presences make_text table
+pub makes : MakesTable up_to_presences make_text table
 unfolding understood everything Rattle.sqlite_schema.specs.Names.same_name
 makes = record { is = refl; alone = refl; plain = (refl, refl); defined = refl; full = refl }
 
@@ -47,22 +48,22 @@ module _ (m : List ℕ) (x : DemandMark) (meeting : List ℕ) (resolution : ℤ)
   abbrev pub values : Row
   values = Text meeting ∷ Int resolution ∷ Text party ∷ Int moment ∷ []
 
-  means : meeting_of meeting ≡ Some m → natural_of resolution ≡ Some x.resolution → party_of party ≡ Some x.party → moment_of moment ≡ Some x.moment → demand_in values ≡ Some (record { meeting = m; item = x })
-  unfolding demand_in moment_in number_in spelled
+  means : meeting_of meeting ≡ Some m → natural_of resolution ≡ Some x.resolution → party_of party ≡ Some x.party → moment_of moment ≡ Some x.moment → demand_mark_in values ≡ Some (record { meeting = m; item = x })
+  unfolding demand_mark_in moment_in number_in spelled
   means meeting_is resolution_is party_is moment_is = rw (meeting_is, resolution_is, party_is, moment_is) refl
 
   pub adds_demand : meeting_of meeting ≡ Some m → natural_of resolution ≡ Some x.resolution → party_of party ≡ Some x.party → moment_of moment ≡ Some x.moment
       → (old new : State) (r : Result ℕ Error) → IsDesk old → IsTrue old.in_transaction → ExecutesInside 0 add_text values old new r → OnOk r (Adds demands (record { meeting = m; item = x }) old new)
   adds_demand meeting_is resolution_is party_is moment_is old new r was inside h =
       let cells = Null ∷ values in
-      adds demands cells (record { meeting = m; item = x }) old new r
-      (adds_row 11 (record table { tree = 20 }) terms 6 add_text values cells add_is add_plain refl refl (rw (cast_null, cast_int resolution, cast_int moment) refl) old new r was inside h)
+      adds layout_one demands cells (record { meeting = m; item = x }) old new r
+      (adds_row ones_apart 11 (record table { tree = 20 }) terms 6 add_text values cells add_is add_plain refl refl (rw (cast_null, cast_int resolution, cast_int moment) refl) old new r was inside h)
       (λ id. means meeting_is resolution_is party_is moment_is)
 
 abbrev all_text : List ℕ
 all_text = codes "SELECT meeting, resolution, party, moment FROM demands ORDER BY seq"
 
-pub lists : ListsTable demands all_text
+pub lists : ListsTable layout_one demands all_text
 unfolding understood everything
 lists = record {
   shows = col 1 2 ∷ col 1 3 ∷ col 1 4 ∷ col 1 5 ∷ [];

@@ -14,18 +14,19 @@ use Rattle.desk_words.specs.declared.records.Ending.{Ending}
 use Rattle.desk_rows.specs.Columns.{moment_in, moment_of, natural_of, number_in, spelled}
 use Rattle.desk_rows.specs.Papers.{ending_in}
 use Rattle.desk_terms.specs.Names.{meeting_of, party_of}
-use Rattle.desk_schema.specs.Tables.{desk_schema, with_appointments, endings as table}
+use Rattle.desk_schema.specs.Tables.{desk_schema, up_to_appointments, endings_table as table}
 use Rattle.desk_schema.specs.Contents.{endings}
-use Rattle.desk_schema.specs.Statements.{IsDesk, Adds}
+use Rattle.desk_schema.specs.Statements.{IsDesk, Adds, layout_one}
 use Rattle.desk_statements.proofs.Adding.{adds_row, adds}
 use Rattle.desk_statements.proofs.Listing.{ListsTable}
 use Rattle.desk_statements.proofs.Making.{MakesTable}
 use Rattle.desk_statements.proofs.Values.{cast_int, cast_null}
+use Rattle.desk_statements.proofs.Frames.{ones_apart}
 
 abbrev make_text : List ℕ
 make_text = codes "CREATE TABLE endings (seq INTEGER PRIMARY KEY AUTOINCREMENT, meeting TEXT NOT NULL REFERENCES meetings (meeting), member TEXT NOT NULL, number INTEGER NOT NULL, moment INTEGER NOT NULL, UNIQUE (meeting, member, number)) STRICT"
 
-pub makes : MakesTable with_appointments make_text table
+pub makes : MakesTable up_to_appointments make_text table
 unfolding understood everything Rattle.sqlite_schema.specs.Names.same_name
 makes = record { is = refl; alone = refl; plain = (refl, refl); defined = refl; full = refl }
 
@@ -55,14 +56,14 @@ module _ (m : List ℕ) (x : Ending) (meeting : List ℕ) (member : List ℕ) (n
       → (old new : State) (r : Result ℕ Error) → IsDesk old → IsTrue old.in_transaction → ExecutesInside 0 add_text values old new r → OnOk r (Adds endings (record { meeting = m; item = x }) old new)
   adds_ending meeting_is member_is number_is moment_is old new r was inside h =
       let cells = Null ∷ values in
-      adds endings cells (record { meeting = m; item = x }) old new r
-      (adds_row 8 (record table { tree = 14 }) terms 6 add_text values cells add_is add_plain refl refl (rw (cast_null, cast_int number, cast_int moment) refl) old new r was inside h)
+      adds layout_one endings cells (record { meeting = m; item = x }) old new r
+      (adds_row ones_apart 8 (record table { tree = 14 }) terms 6 add_text values cells add_is add_plain refl refl (rw (cast_null, cast_int number, cast_int moment) refl) old new r was inside h)
       (λ id. means meeting_is member_is number_is moment_is)
 
 abbrev all_text : List ℕ
 all_text = codes "SELECT meeting, member, number, moment FROM endings ORDER BY seq"
 
-pub lists : ListsTable endings all_text
+pub lists : ListsTable layout_one endings all_text
 unfolding understood everything
 lists = record {
   shows = col 1 2 ∷ col 1 3 ∷ col 1 4 ∷ col 1 5 ∷ [];

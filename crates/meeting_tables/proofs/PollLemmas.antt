@@ -16,12 +16,12 @@ use Rattle.sqlite.specs.Listing.{understood}
 use Rattle.sqlite.specs.State.{State, ExecutesInside}
 use Rattle.sqlite.proofs.Callers.{IsPlain, command_of}
 use Rattle.desk_words.specs.declared.records.Poll.{Poll}
-use Rattle.desk_rows.specs.Columns.{flag_in, flag_of, integer_of, moment_in, moment_of, natural_of, number_in, number_of, some_moment_in, some_moment_of, spelled, spelled_of}
+use Rattle.desk_rows.specs.Columns.{flag_in, flag_of, integer_of, moment_in, moment_of, natural_of, number_in, natural_value, some_moment_in, some_moment_of, spelled, spelled_of}
 use Rattle.desk_rows.specs.Marks.{declared_in, declared_of, poll_in}
 use Rattle.desk_terms.specs.Names.{meeting_of}
-use Rattle.desk_schema.specs.Tables.{desk_schema, with_demands, polls as table}
+use Rattle.desk_schema.specs.Tables.{desk_schema, up_to_demands, polls_table as table}
 use Rattle.desk_schema.specs.Contents.{polls, is_named, started_at, closed_at, declared_as}
-use Rattle.desk_schema.specs.Statements.{IsDesk, Adds, Sets, columns_of}
+use Rattle.desk_schema.specs.Statements.{IsDesk, Adds, Sets, columns_of, layout_one}
 use Rattle.desk_statements.proofs.Adding.{adds_row, adds}
 use Rattle.desk_statements.proofs.Deleting.{picked, passes}
 use Rattle.desk_statements.proofs.Listing.{ListsTable}
@@ -41,11 +41,12 @@ use Rattle.desk_statements.proofs.Tests.{names_tell, numbers_tell, kept_spelled,
 use Rattle.std.proofs.Math.Bool.{and-true}
 use Rattle.desk_statements.proofs.Updating.{new_row, changes_rows, sets}
 use Rattle.desk_statements.proofs.Values.{cast_flag, cast_int, cast_null, cast_some, flag, flag_kept}
+use Rattle.desk_statements.proofs.Frames.{ones_apart}
 
 abbrev make_text : List ℕ
 make_text = codes "CREATE TABLE polls (meeting TEXT NOT NULL REFERENCES meetings (meeting), resolution INTEGER NOT NULL, ordered INTEGER NOT NULL, take INTEGER NOT NULL, chair INTEGER NOT NULL, started INTEGER, closed INTEGER, votes_for INTEGER, votes_against INTEGER, withheld INTEGER, eligible INTEGER, PRIMARY KEY (meeting, resolution)) STRICT"
 
-pub makes : MakesTable with_demands make_text table
+pub makes : MakesTable up_to_demands make_text table
 unfolding understood everything Rattle.sqlite_schema.specs.Names.same_name
 makes = record { is = refl; alone = refl; plain = (refl, refl); defined = refl; full = refl }
 
@@ -75,14 +76,14 @@ module _ (m : List ℕ) (x : Poll) (meeting : List ℕ) (resolution : ℤ) (orde
       → (old new : State) (r : Result ℕ Error) → IsDesk old → IsTrue old.in_transaction → ExecutesInside 0 add_text values old new r → OnOk r (Adds polls (record { meeting = m; item = x }) old new)
   adds_poll meeting_is resolution_is ordered_is take_is started_is closed_is declared_is old new r was inside h =
       let cells = values in
-      adds polls cells (record { meeting = m; item = x }) old new r
-      (adds_row 12 (record table { tree = 22 }) terms 12 add_text values cells add_is add_plain refl refl (rw (cast_null, cast_int resolution, cast_int ordered, cast_int take, cast_flag x.chair, cast_some started, cast_some closed, cast_some votes_for, cast_some votes_against, cast_some withheld, cast_some eligible) refl) old new r was inside h)
+      adds layout_one polls cells (record { meeting = m; item = x }) old new r
+      (adds_row ones_apart 12 (record table { tree = 22 }) terms 12 add_text values cells add_is add_plain refl refl (rw (cast_null, cast_int resolution, cast_int ordered, cast_int take, cast_flag x.chair, cast_some started, cast_some closed, cast_some votes_for, cast_some votes_against, cast_some withheld, cast_some eligible) refl) old new r was inside h)
       (λ id. means meeting_is resolution_is ordered_is take_is started_is closed_is declared_is)
 
 abbrev all_text : List ℕ
 all_text = codes "SELECT meeting, resolution, ordered, take, chair, started, closed, votes_for, votes_against, withheld, eligible FROM polls ORDER BY rowid"
 
-pub lists : ListsTable polls all_text
+pub lists : ListsTable layout_one polls all_text
 unfolding understood everything
 lists = record {
   shows = col 1 1 ∷ col 1 2 ∷ col 1 3 ∷ col 1 4 ∷ col 1 5 ∷ col 1 6 ∷ col 1 7 ∷ col 1 8 ∷ col 1 9 ∷ col 1 10 ∷ col 1 11 ∷ [];
@@ -181,10 +182,10 @@ whole_row cells x p = rw (p.meeting, p.resolution, p.ordered, p.taken, p.chair, 
 -- the columns of a row that is written again
 record IsKeptRow (cells : Row) (x : InMeeting Poll) : Type 0 where
   meeting : spelled_of meeting_of (cast Texts (column cells 1)) ≡ Some x.meeting
-  resolution : number_of (cast Integer (column cells 2)) ≡ Some x.item.resolution
+  resolution : natural_value (cast Integer (column cells 2)) ≡ Some x.item.resolution
   ordered : (integer_of (cast Integer (column cells 3)) >>= moment_of) ≡ Some x.item.ordered
   taken : (integer_of (cast Integer (column cells 4)) >>= moment_of) ≡ Some x.item.take
-  chair : (number_of (cast Integer (column cells 5)) >>= flag_of) ≡ Some x.item.chair
+  chair : (natural_value (cast Integer (column cells 5)) >>= flag_of) ≡ Some x.item.chair
   started : some_moment_of (cast Integer (column cells 6)) ≡ Some x.item.started
   closed : some_moment_of (cast Integer (column cells 7)) ≡ Some x.item.closed
   declared : declared_of (cast Integer (column cells 8)) (cast Integer (column cells 9)) (cast Integer (column cells 10)) (cast Integer (column cells 11)) ≡ Some x.item.declared
@@ -193,7 +194,7 @@ kept_row : (cells : Row) (x : InMeeting Poll) → polls.means (columns_of polls 
 unfolding spelled moment_in flag_in number_in some_moment_in declared_in
 kept_row cells x h =
     let p = parts (columns_of polls cells) x h in
-    let flag_part = bound (number_of (column cells 5)) flag_of x.item.chair p.chair in
+    let flag_part = bound (natural_value (column cells 5)) flag_of x.item.chair p.chair in
     let stays = declared_stays (column cells 8) (column cells 9) (column cells 10) (column cells 11) x.item.declared p.declared in
     record {
       meeting = kept_spelled meeting_of (column cells 1) x.meeting p.meeting;
@@ -253,8 +254,8 @@ module _ (name : PollName) (meeting : List ℕ) (n : ℤ) (is : meeting_of meeti
   pub starts : (z : ℤ) (moment : ℕ) → moment_of z ≡ Some moment → (old new : State) (r : Result ℕ Error) → IsDesk old → IsTrue old.in_transaction
       → ExecutesInside 0 start_text (Text meeting ∷ Int n ∷ Int z ∷ []) old new r → OnOk r (Sets polls (started_at name moment) old new)
   starts z moment at old new r was inside h =
-      sets polls (λ cells. if passes named (Text meeting ∷ Int n ∷ Int z ∷ []) cells then new_row (record table { tree = 22 }) start_terms (Text meeting ∷ Int n ∷ Int z ∷ []) cells else cells) (started_at name moment) (start_sets z moment at) old new r
-      (changes_rows 12 (record table { tree = 22 }) named start_terms start_text (Text meeting ∷ Int n ∷ Int z ∷ []) start_is start_plain refl refl refl (keeps_number start_terms (Text meeting ∷ Int n ∷ Int z ∷ [])) old new r was inside h)
+      sets polls (λ cells. if passes named (Text meeting ∷ Int n ∷ Int z ∷ []) cells then new_row (record table { tree = 22 }) start_terms (Text meeting ∷ Int n ∷ Int z ∷ []) cells else cells) (started_at name moment) (start_sets z moment at) layout_one old new r
+      (changes_rows ones_apart 12 (record table { tree = 22 }) named start_terms start_text (Text meeting ∷ Int n ∷ Int z ∷ []) start_is start_plain refl refl refl (keeps_number start_terms (Text meeting ∷ Int n ∷ Int z ∷ [])) old new r was inside h)
 
   close_sets : (z : ℤ) (moment : ℕ) → moment_of z ≡ Some moment → (cells : Row) (x : InMeeting Poll) → polls.means (columns_of polls cells) ≡ Some x
       → polls.means (columns_of polls (if passes named (Text meeting ∷ Int n ∷ Int z ∷ []) cells then new_row (record table { tree = 22 }) close_terms (Text meeting ∷ Int n ∷ Int z ∷ []) cells else cells)) ≡ Some (closed_at name moment x)
@@ -275,8 +276,8 @@ module _ (name : PollName) (meeting : List ℕ) (n : ℤ) (is : meeting_of meeti
   pub closes : (z : ℤ) (moment : ℕ) → moment_of z ≡ Some moment → (old new : State) (r : Result ℕ Error) → IsDesk old → IsTrue old.in_transaction
       → ExecutesInside 0 close_text (Text meeting ∷ Int n ∷ Int z ∷ []) old new r → OnOk r (Sets polls (closed_at name moment) old new)
   closes z moment at old new r was inside h =
-      sets polls (λ cells. if passes named (Text meeting ∷ Int n ∷ Int z ∷ []) cells then new_row (record table { tree = 22 }) close_terms (Text meeting ∷ Int n ∷ Int z ∷ []) cells else cells) (closed_at name moment) (close_sets z moment at) old new r
-      (changes_rows 12 (record table { tree = 22 }) named close_terms close_text (Text meeting ∷ Int n ∷ Int z ∷ []) close_is close_plain refl refl refl (keeps_number close_terms (Text meeting ∷ Int n ∷ Int z ∷ [])) old new r was inside h)
+      sets polls (λ cells. if passes named (Text meeting ∷ Int n ∷ Int z ∷ []) cells then new_row (record table { tree = 22 }) close_terms (Text meeting ∷ Int n ∷ Int z ∷ []) cells else cells) (closed_at name moment) (close_sets z moment at) layout_one old new r
+      (changes_rows ones_apart 12 (record table { tree = 22 }) named close_terms close_text (Text meeting ∷ Int n ∷ Int z ∷ []) close_is close_plain refl refl refl (keeps_number close_terms (Text meeting ∷ Int n ∷ Int z ∷ [])) old new r was inside h)
 
   abbrev figures : ℤ → ℤ → ℤ → ℤ → Row
   figures a b c d = Text meeting ∷ Int n ∷ Int a ∷ Int b ∷ Int c ∷ Int d ∷ []
@@ -300,5 +301,5 @@ module _ (name : PollName) (meeting : List ℕ) (n : ℤ) (is : meeting_of meeti
   pub declares : (a b c d : ℤ) (tally : Tally) → declared_of (Int a) (Int b) (Int c) (Int d) ≡ Some (Some tally) → (old new : State) (r : Result ℕ Error) → IsDesk old → IsTrue old.in_transaction
       → ExecutesInside 0 declare_text (figures a b c d) old new r → OnOk r (Sets polls (declared_as name tally) old new)
   declares a b c d tally at old new r was inside h =
-      sets polls (λ cells. if passes named (figures a b c d) cells then new_row (record table { tree = 22 }) declare_terms (figures a b c d) cells else cells) (declared_as name tally) (declare_sets a b c d tally at) old new r
-      (changes_rows 12 (record table { tree = 22 }) named declare_terms declare_text (figures a b c d) declare_is declare_plain refl refl refl (keeps_number declare_terms (figures a b c d)) old new r was inside h)
+      sets polls (λ cells. if passes named (figures a b c d) cells then new_row (record table { tree = 22 }) declare_terms (figures a b c d) cells else cells) (declared_as name tally) (declare_sets a b c d tally at) layout_one old new r
+      (changes_rows ones_apart 12 (record table { tree = 22 }) named declare_terms declare_text (figures a b c d) declare_is declare_plain refl refl refl (keeps_number declare_terms (figures a b c d)) old new r was inside h)

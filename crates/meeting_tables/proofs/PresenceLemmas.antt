@@ -14,18 +14,19 @@ use Rattle.desk_words.specs.declared.records.PresenceMark.{PresenceMark}
 use Rattle.desk_rows.specs.Columns.{moment_in, moment_of, spelled}
 use Rattle.desk_rows.specs.Marks.{presence_in}
 use Rattle.desk_terms.specs.Names.{meeting_of, party_of}
-use Rattle.desk_schema.specs.Tables.{desk_schema, with_authorities, presences as table}
+use Rattle.desk_schema.specs.Tables.{desk_schema, up_to_authorities, presences_table as table}
 use Rattle.desk_schema.specs.Contents.{presences}
-use Rattle.desk_schema.specs.Statements.{IsDesk, Adds}
+use Rattle.desk_schema.specs.Statements.{IsDesk, Adds, layout_one}
 use Rattle.desk_statements.proofs.Adding.{adds_row, adds}
 use Rattle.desk_statements.proofs.Listing.{ListsTable}
 use Rattle.desk_statements.proofs.Making.{MakesTable}
 use Rattle.desk_statements.proofs.Values.{cast_int, cast_null}
+use Rattle.desk_statements.proofs.Frames.{ones_apart}
 
 abbrev make_text : List ℕ
 make_text = codes "CREATE TABLE presences (seq INTEGER PRIMARY KEY AUTOINCREMENT, meeting TEXT NOT NULL REFERENCES meetings (meeting), party TEXT NOT NULL, moment INTEGER NOT NULL, UNIQUE (meeting, party)) STRICT"
 
-pub makes : MakesTable with_authorities make_text table
+pub makes : MakesTable up_to_authorities make_text table
 unfolding understood everything Rattle.sqlite_schema.specs.Names.same_name
 makes = record { is = refl; alone = refl; plain = (refl, refl); defined = refl; full = refl }
 
@@ -55,14 +56,14 @@ module _ (m : List ℕ) (x : PresenceMark) (meeting : List ℕ) (party : List �
       → (old new : State) (r : Result ℕ Error) → IsDesk old → IsTrue old.in_transaction → ExecutesInside 0 add_text values old new r → OnOk r (Adds presences (record { meeting = m; item = x }) old new)
   adds_presence meeting_is party_is moment_is old new r was inside h =
       let cells = Null ∷ values in
-      adds presences cells (record { meeting = m; item = x }) old new r
-      (adds_row 10 (record table { tree = 18 }) terms 5 add_text values cells add_is add_plain refl refl (rw (cast_null, cast_int moment) refl) old new r was inside h)
+      adds layout_one presences cells (record { meeting = m; item = x }) old new r
+      (adds_row ones_apart 10 (record table { tree = 18 }) terms 5 add_text values cells add_is add_plain refl refl (rw (cast_null, cast_int moment) refl) old new r was inside h)
       (λ id. means meeting_is party_is moment_is)
 
 abbrev all_text : List ℕ
 all_text = codes "SELECT meeting, party, moment FROM presences ORDER BY seq"
 
-pub lists : ListsTable presences all_text
+pub lists : ListsTable layout_one presences all_text
 unfolding understood everything
 lists = record {
   shows = col 1 2 ∷ col 1 3 ∷ col 1 4 ∷ [];

@@ -1,8 +1,8 @@
 //! The table `appointments`: the appointments of proxies, in order of receipt (section 324).
 ghost use Rattle.std.specs.Prelude.{◌≡◌, IfOk};
 ghost use Rattle.desk_schema.specs.Contents.{appointments};
-ghost use Rattle.desk_schema.specs.Statements.{Adds, ChangesNothing, CommitsNothing, Does, IsRead, Makes, Reads};
-ghost use Rattle.desk_schema.specs.Tables.{with_register, with_appointments};
+ghost use Rattle.desk_schema.specs.Statements.{Adds, ChangesNothing, CommitsNothing, Does, IsRead, Makes, ReadsTable};
+ghost use Rattle.desk_schema.specs.Tables.{up_to_register, up_to_appointments};
 
 use desk_rows::{letters_of, meeting_text, moment_number, party_text, range_numbers};
 use desk_statements::whole;
@@ -13,8 +13,8 @@ use std::alloc::Global;
 /// Makes the table, after that of register.
 pub fn make<S: Alter>(tx: &mut Transaction<'_, S>) -> Result<usize, Error>
     ensures same_reference { tx.new.conn.ghost_name ≡ tx.old.conn.ghost_name }
-    ensures made { Makes S.Store tx.old.conn.now tx.new.conn.now result with_register
-        with_appointments }
+    ensures made { Makes S.Store tx.old.conn.now tx.new.conn.now result up_to_register
+        up_to_appointments }
     ensures commits { CommitsNothing S.Store tx.old.conn.now tx.new.conn.now }
 {
     tx.execute(
@@ -58,7 +58,7 @@ pub fn all<S: Alter>(tx: &mut Transaction<'_, S>) -> Result<Vec<Row>, Error>
     ensures same_reference { tx.new.conn.ghost_name ≡ tx.old.conn.ghost_name }
     ensures rows { IsRead S.Store tx.old.conn.now tx.new.conn.now
         → IfOk result
-        (λ rows. Reads S.Store tx.old.conn.now tx.new.conn.now appointments rows.items) }
+        (λ rows. ReadsTable S.Store tx.old.conn.now tx.new.conn.now appointments rows.items) }
     ensures changes { ChangesNothing S.Store tx.old.conn.now tx.new.conn.now }
 {
     tx.query_all(

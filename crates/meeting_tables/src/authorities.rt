@@ -1,8 +1,8 @@
 //! The table `authorities`: the authorities of representatives, in order of receipt (section 323).
 ghost use Rattle.std.specs.Prelude.{◌≡◌, IfOk};
 ghost use Rattle.desk_schema.specs.Contents.{authorities};
-ghost use Rattle.desk_schema.specs.Statements.{Adds, ChangesNothing, CommitsNothing, Does, IsRead, Makes, Reads};
-ghost use Rattle.desk_schema.specs.Tables.{with_endings, with_authorities};
+ghost use Rattle.desk_schema.specs.Statements.{Adds, ChangesNothing, CommitsNothing, Does, IsRead, Makes, ReadsTable};
+ghost use Rattle.desk_schema.specs.Tables.{up_to_endings, up_to_authorities};
 
 use desk_rows::{meeting_text, moment_number, party_text};
 use desk_words::{Authority, MeetingId};
@@ -11,8 +11,8 @@ use sqlite::{Alter, Error, Row, Transaction, params};
 /// Makes the table, after that of endings.
 pub fn make<S: Alter>(tx: &mut Transaction<'_, S>) -> Result<usize, Error>
     ensures same_reference { tx.new.conn.ghost_name ≡ tx.old.conn.ghost_name }
-    ensures made { Makes S.Store tx.old.conn.now tx.new.conn.now result with_endings
-        with_authorities }
+    ensures made { Makes S.Store tx.old.conn.now tx.new.conn.now result up_to_endings
+        up_to_authorities }
     ensures commits { CommitsNothing S.Store tx.old.conn.now tx.new.conn.now }
 {
     tx.execute(
@@ -48,7 +48,7 @@ pub fn all<S: Alter>(tx: &mut Transaction<'_, S>) -> Result<Vec<Row>, Error>
     ensures same_reference { tx.new.conn.ghost_name ≡ tx.old.conn.ghost_name }
     ensures rows { IsRead S.Store tx.old.conn.now tx.new.conn.now
         → IfOk result
-        (λ rows. Reads S.Store tx.old.conn.now tx.new.conn.now authorities rows.items) }
+        (λ rows. ReadsTable S.Store tx.old.conn.now tx.new.conn.now authorities rows.items) }
     ensures changes { ChangesNothing S.Store tx.old.conn.now tx.new.conn.now }
 {
     tx.query_all(

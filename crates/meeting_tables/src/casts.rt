@@ -1,8 +1,8 @@
 //! The table `casts`: the votes, in order of receipt (sections 284 and 322).
 ghost use Rattle.std.specs.Prelude.{◌≡◌, IfOk};
 ghost use Rattle.desk_schema.specs.Contents.{casts};
-ghost use Rattle.desk_schema.specs.Statements.{Adds, ChangesNothing, CommitsNothing, Does, IsRead, Makes, Reads};
-ghost use Rattle.desk_schema.specs.Tables.{with_polls, with_casts};
+ghost use Rattle.desk_schema.specs.Statements.{Adds, ChangesNothing, CommitsNothing, Does, IsRead, Makes, ReadsTable};
+ghost use Rattle.desk_schema.specs.Tables.{up_to_polls, up_to_casts};
 
 use desk_rows::{cast_columns, meeting_text, moment_number, party_text};
 use desk_statements::whole;
@@ -12,7 +12,7 @@ use sqlite::{Alter, Error, Row, Transaction, params};
 /// Makes the table, after that of polls.
 pub fn make<S: Alter>(tx: &mut Transaction<'_, S>) -> Result<usize, Error>
     ensures same_reference { tx.new.conn.ghost_name ≡ tx.old.conn.ghost_name }
-    ensures made { Makes S.Store tx.old.conn.now tx.new.conn.now result with_polls with_casts }
+    ensures made { Makes S.Store tx.old.conn.now tx.new.conn.now result up_to_polls up_to_casts }
     ensures commits { CommitsNothing S.Store tx.old.conn.now tx.new.conn.now }
 {
     tx.execute(
@@ -54,7 +54,8 @@ pub fn add<S: Alter>(
 pub fn all<S: Alter>(tx: &mut Transaction<'_, S>) -> Result<Vec<Row>, Error>
     ensures same_reference { tx.new.conn.ghost_name ≡ tx.old.conn.ghost_name }
     ensures rows { IsRead S.Store tx.old.conn.now tx.new.conn.now
-        → IfOk result (λ rows. Reads S.Store tx.old.conn.now tx.new.conn.now casts rows.items) }
+        → IfOk result
+        (λ rows. ReadsTable S.Store tx.old.conn.now tx.new.conn.now casts rows.items) }
     ensures changes { ChangesNothing S.Store tx.old.conn.now tx.new.conn.now }
 {
     tx.query_all(

@@ -1,8 +1,8 @@
 //! The table `demands`: the demands of polls, in order of receipt (sections 321 and 329).
 ghost use Rattle.std.specs.Prelude.{◌≡◌, IfOk};
 ghost use Rattle.desk_schema.specs.Contents.{demands};
-ghost use Rattle.desk_schema.specs.Statements.{Adds, ChangesNothing, CommitsNothing, Does, IsRead, Makes, Reads};
-ghost use Rattle.desk_schema.specs.Tables.{with_presences, with_demands};
+ghost use Rattle.desk_schema.specs.Statements.{Adds, ChangesNothing, CommitsNothing, Does, IsRead, Makes, ReadsTable};
+ghost use Rattle.desk_schema.specs.Tables.{up_to_presences, up_to_demands};
 
 use desk_rows::{meeting_text, moment_number, party_text};
 use desk_statements::whole;
@@ -12,8 +12,8 @@ use sqlite::{Alter, Error, Row, Transaction, params};
 /// Makes the table, after that of presences.
 pub fn make<S: Alter>(tx: &mut Transaction<'_, S>) -> Result<usize, Error>
     ensures same_reference { tx.new.conn.ghost_name ≡ tx.old.conn.ghost_name }
-    ensures made { Makes S.Store tx.old.conn.now tx.new.conn.now result with_presences
-        with_demands }
+    ensures made { Makes S.Store tx.old.conn.now tx.new.conn.now result up_to_presences
+        up_to_demands }
     ensures commits { CommitsNothing S.Store tx.old.conn.now tx.new.conn.now }
 {
     tx.execute(
@@ -49,7 +49,8 @@ pub fn add<S: Alter>(
 pub fn all<S: Alter>(tx: &mut Transaction<'_, S>) -> Result<Vec<Row>, Error>
     ensures same_reference { tx.new.conn.ghost_name ≡ tx.old.conn.ghost_name }
     ensures rows { IsRead S.Store tx.old.conn.now tx.new.conn.now
-        → IfOk result (λ rows. Reads S.Store tx.old.conn.now tx.new.conn.now demands rows.items) }
+        → IfOk result
+        (λ rows. ReadsTable S.Store tx.old.conn.now tx.new.conn.now demands rows.items) }
     ensures changes { ChangesNothing S.Store tx.old.conn.now tx.new.conn.now }
 {
     tx.query_all(

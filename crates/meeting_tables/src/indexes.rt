@@ -2,15 +2,15 @@
 //! a key of the table.
 ghost use Rattle.std.specs.Prelude.{◌≡◌};
 ghost use Rattle.desk_schema.specs.Statements.{CommitsNothing, Makes};
-ghost use Rattle.desk_schema.specs.Tables.{with_casts, with_appointments_by_proxy, with_authorities_by_person, with_demands_by_party, with_casts_by_voter};
+ghost use Rattle.desk_schema.specs.Tables.{up_to_casts, up_to_appointments_by_proxy, up_to_authorities_by_person, up_to_demands_by_party, up_to_casts_by_voter};
 
 use sqlite::{Alter, Error, Transaction};
 
 /// Makes the index of appointments by the proxy, after the last table.
 pub fn make_appointments_by_proxy<S: Alter>(tx: &mut Transaction<'_, S>) -> Result<usize, Error>
     ensures same_reference { tx.new.conn.ghost_name ≡ tx.old.conn.ghost_name }
-    ensures made { Makes S.Store tx.old.conn.now tx.new.conn.now result with_casts
-        with_appointments_by_proxy }
+    ensures made { Makes S.Store tx.old.conn.now tx.new.conn.now result up_to_casts
+        up_to_appointments_by_proxy }
     ensures commits { CommitsNothing S.Store tx.old.conn.now tx.new.conn.now }
 {
     tx.execute(
@@ -22,8 +22,8 @@ pub fn make_appointments_by_proxy<S: Alter>(tx: &mut Transaction<'_, S>) -> Resu
 /// Makes the index of authorities by the person, after that of appointments.
 pub fn make_authorities_by_person<S: Alter>(tx: &mut Transaction<'_, S>) -> Result<usize, Error>
     ensures same_reference { tx.new.conn.ghost_name ≡ tx.old.conn.ghost_name }
-    ensures made { Makes S.Store tx.old.conn.now tx.new.conn.now result with_appointments_by_proxy
-        with_authorities_by_person }
+    ensures made { Makes S.Store tx.old.conn.now tx.new.conn.now result up_to_appointments_by_proxy
+        up_to_authorities_by_person }
     ensures commits { CommitsNothing S.Store tx.old.conn.now tx.new.conn.now }
 {
     tx.execute(
@@ -35,8 +35,8 @@ pub fn make_authorities_by_person<S: Alter>(tx: &mut Transaction<'_, S>) -> Resu
 /// Makes the index of demands by the party, after that of authorities.
 pub fn make_demands_by_party<S: Alter>(tx: &mut Transaction<'_, S>) -> Result<usize, Error>
     ensures same_reference { tx.new.conn.ghost_name ≡ tx.old.conn.ghost_name }
-    ensures made { Makes S.Store tx.old.conn.now tx.new.conn.now result with_authorities_by_person
-        with_demands_by_party }
+    ensures made { Makes S.Store tx.old.conn.now tx.new.conn.now result up_to_authorities_by_person
+        up_to_demands_by_party }
     ensures commits { CommitsNothing S.Store tx.old.conn.now tx.new.conn.now }
 {
     tx.execute(
@@ -48,8 +48,8 @@ pub fn make_demands_by_party<S: Alter>(tx: &mut Transaction<'_, S>) -> Result<us
 /// Makes the index of votes by the voter, after that of demands.
 pub fn make_casts_by_voter<S: Alter>(tx: &mut Transaction<'_, S>) -> Result<usize, Error>
     ensures same_reference { tx.new.conn.ghost_name ≡ tx.old.conn.ghost_name }
-    ensures made { Makes S.Store tx.old.conn.now tx.new.conn.now result with_demands_by_party
-        with_casts_by_voter }
+    ensures made { Makes S.Store tx.old.conn.now tx.new.conn.now result up_to_demands_by_party
+        up_to_casts_by_voter }
     ensures commits { CommitsNothing S.Store tx.old.conn.now tx.new.conn.now }
 {
     tx.execute("CREATE INDEX casts_by_voter ON casts (meeting, voter)", &[])

@@ -1,8 +1,8 @@
 //! The table `polls`: the polls (section 321).
 ghost use Rattle.std.specs.Prelude.{◌≡◌, IfOk};
 ghost use Rattle.desk_schema.specs.Contents.{closed_at, declared_as, polls, started_at};
-ghost use Rattle.desk_schema.specs.Statements.{Adds, ChangesNothing, CommitsNothing, Does, IsRead, Makes, Reads, Sets};
-ghost use Rattle.desk_schema.specs.Tables.{with_demands, with_polls};
+ghost use Rattle.desk_schema.specs.Statements.{Adds, ChangesNothing, CommitsNothing, Does, IsRead, Makes, ReadsTable, Sets};
+ghost use Rattle.desk_schema.specs.Tables.{up_to_demands, up_to_polls};
 
 use desk_rows::{meeting_text, moment_number, some_moment_number};
 use desk_schema::PollName;
@@ -13,7 +13,7 @@ use sqlite::{Alter, Error, Row, Transaction, params};
 /// Makes the table, after that of demands.
 pub fn make<S: Alter>(tx: &mut Transaction<'_, S>) -> Result<usize, Error>
     ensures same_reference { tx.new.conn.ghost_name ≡ tx.old.conn.ghost_name }
-    ensures made { Makes S.Store tx.old.conn.now tx.new.conn.now result with_demands with_polls }
+    ensures made { Makes S.Store tx.old.conn.now tx.new.conn.now result up_to_demands up_to_polls }
     ensures commits { CommitsNothing S.Store tx.old.conn.now tx.new.conn.now }
 {
     tx.execute(
@@ -57,7 +57,8 @@ pub fn add<S: Alter>(
 pub fn all<S: Alter>(tx: &mut Transaction<'_, S>) -> Result<Vec<Row>, Error>
     ensures same_reference { tx.new.conn.ghost_name ≡ tx.old.conn.ghost_name }
     ensures rows { IsRead S.Store tx.old.conn.now tx.new.conn.now
-        → IfOk result (λ rows. Reads S.Store tx.old.conn.now tx.new.conn.now polls rows.items) }
+        → IfOk result
+        (λ rows. ReadsTable S.Store tx.old.conn.now tx.new.conn.now polls rows.items) }
     ensures changes { ChangesNothing S.Store tx.old.conn.now tx.new.conn.now }
 {
     tx.query_all(

@@ -1,8 +1,8 @@
 //! The table `presences`: the parties that are present, in order of receipt (section 318).
 ghost use Rattle.std.specs.Prelude.{◌≡◌, IfOk};
 ghost use Rattle.desk_schema.specs.Contents.{presences};
-ghost use Rattle.desk_schema.specs.Statements.{Adds, ChangesNothing, CommitsNothing, Does, IsRead, Makes, Reads};
-ghost use Rattle.desk_schema.specs.Tables.{with_authorities, with_presences};
+ghost use Rattle.desk_schema.specs.Statements.{Adds, ChangesNothing, CommitsNothing, Does, IsRead, Makes, ReadsTable};
+ghost use Rattle.desk_schema.specs.Tables.{up_to_authorities, up_to_presences};
 
 use desk_rows::{meeting_text, moment_number, party_text};
 use desk_words::{MeetingId, PresenceMark};
@@ -11,8 +11,8 @@ use sqlite::{Alter, Error, Row, Transaction, params};
 /// Makes the table, after that of authorities.
 pub fn make<S: Alter>(tx: &mut Transaction<'_, S>) -> Result<usize, Error>
     ensures same_reference { tx.new.conn.ghost_name ≡ tx.old.conn.ghost_name }
-    ensures made { Makes S.Store tx.old.conn.now tx.new.conn.now result with_authorities
-        with_presences }
+    ensures made { Makes S.Store tx.old.conn.now tx.new.conn.now result up_to_authorities
+        up_to_presences }
     ensures commits { CommitsNothing S.Store tx.old.conn.now tx.new.conn.now }
 {
     tx.execute(
@@ -46,7 +46,8 @@ pub fn add<S: Alter>(
 pub fn all<S: Alter>(tx: &mut Transaction<'_, S>) -> Result<Vec<Row>, Error>
     ensures same_reference { tx.new.conn.ghost_name ≡ tx.old.conn.ghost_name }
     ensures rows { IsRead S.Store tx.old.conn.now tx.new.conn.now
-        → IfOk result (λ rows. Reads S.Store tx.old.conn.now tx.new.conn.now presences rows.items) }
+        → IfOk result
+        (λ rows. ReadsTable S.Store tx.old.conn.now tx.new.conn.now presences rows.items) }
     ensures changes { ChangesNothing S.Store tx.old.conn.now tx.new.conn.now }
 {
     tx.query_all(

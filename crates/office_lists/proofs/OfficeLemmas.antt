@@ -13,7 +13,7 @@ use Rattle.desk_words.specs.declared.office.MeetingLists.{MeetingLists}
 use Rattle.desk_words.specs.declared.office.OfficeLists.{OfficeLists}
 use Rattle.desk_rows.specs.Meanings.{◌>>=◌, only}
 use Rattle.desk_rows.specs.declared.kept.MeetingRow.{MeetingRow}
-use Rattle.desk_records.specs.Office.{FlatLists, have_meetings, lists_of, lists_of_all, lists_with, office_of, resolutions_of}
+use Rattle.desk_records.specs.Office.{FlatLists, have_meetings, lists_of, lists_of_all, lists_with, office_of_records, resolutions_of}
 use Rattle.desk_rows.proofs.MeaningLemmas.{bound}
 use Rattle.std.specs.Prelude.{Result}
 use Rattle.office_lists.specs.declared.fault.ReadFault.{ReadFault}
@@ -73,8 +73,8 @@ known_if : (b : Bool) → (u : Unit {0}) → only b ≡ Some u → b ≡ true
 known_if true u h = refl
 known_if false u h = absurd cc
 
-pub parts : (flat : FlatLists) (office : OfficeLists) → office_of flat ≡ Some office → Parts flat office
-unfolding office_of
+pub parts : (flat : FlatLists) (office : OfficeLists) → office_of_records flat ≡ Some office → Parts flat office
+unfolding office_of_records
 parts flat office h =
     let known = bound (only (have_meetings flat)) (λ _. lists_of_all flat flat.meetings >>= λ lists. Some (record { keys = sort_by caller_before flat.keys; closed = sort_by day_before flat.closed; meetings = lists })) office h in
     let lists = bound (lists_of_all flat flat.meetings) (λ lists. Some (record { keys = sort_by caller_before flat.keys; closed = sort_by day_before flat.closed; meetings = lists })) office known.2 in
@@ -90,8 +90,8 @@ parts flat office h =
 -- records that name meetings that stand are an office where each meeting's lists are some
 pub office_made : (flat : FlatLists) (keys : List KeyRow) (closed : List ℕ) (lists : List MeetingLists) → have_meetings flat ≡ true
     → Some (sort_by caller_before flat.keys) ≡ Some keys → Some (sort_by day_before flat.closed) ≡ Some closed → lists_of_all flat flat.meetings ≡ Some lists
-    → office_of flat ≡ Some (record { keys = keys; closed = closed; meetings = lists })
-unfolding office_of
+    → office_of_records flat ≡ Some (record { keys = keys; closed = closed; meetings = lists })
+unfolding office_of_records
 office_made flat keys closed lists known keys_are days_are made =
     let same_keys : sort_by caller_before flat.keys ≡ keys = cc in
     let same_days : sort_by day_before flat.closed ≡ closed = cc in
@@ -99,19 +99,19 @@ office_made flat keys closed lists known keys_are days_are made =
 
 -- ---- where they are no office
 
-pub keys_wrong : (flat : FlatLists) → is_key_list (sort_by caller_before flat.keys) ≡ false → (office : OfficeLists) → office_of flat ≡ Some office → is_office office ≡ false
+pub keys_wrong : (flat : FlatLists) → is_key_list (sort_by caller_before flat.keys) ≡ false → (office : OfficeLists) → office_of_records flat ≡ Some office → is_office office ≡ false
 keys_wrong flat none office h =
     let p = parts flat office h in
     let here : is_key_list office.keys ≡ false = ap is_key_list p.keys ∙ none in
     rw here refl
 
-pub days_wrong : (flat : FlatLists) → is_day_list (sort_by day_before flat.closed) ≡ false → (office : OfficeLists) → office_of flat ≡ Some office → is_office office ≡ false
+pub days_wrong : (flat : FlatLists) → is_day_list (sort_by day_before flat.closed) ≡ false → (office : OfficeLists) → office_of_records flat ≡ Some office → is_office office ≡ false
 days_wrong flat none office h =
     let p = parts flat office h in
     let here : is_day_list office.closed ≡ false = ap is_day_list p.closed ∙ none in
     ap (λ b. b && are_meetings office.meetings) (second_false (is_key_list office.keys) (is_day_list office.closed) here)
 
-pub meetings_wrong : (flat : FlatLists) → ((lists : List MeetingLists) → lists_of_all flat flat.meetings ≡ Some lists → list_all is_meeting lists ≡ false) → (office : OfficeLists) → office_of flat ≡ Some office → is_office office ≡ false
+pub meetings_wrong : (flat : FlatLists) → ((lists : List MeetingLists) → lists_of_all flat flat.meetings ≡ Some lists → list_all is_meeting lists ≡ false) → (office : OfficeLists) → office_of_records flat ≡ Some office → is_office office ≡ false
 meetings_wrong flat none office h =
     let p = parts flat office h in
     second_false (is_key_list office.keys && is_day_list office.closed) (are_meetings office.meetings)
@@ -155,7 +155,7 @@ count_so flat (m ∷ rows) lists h =
     ap length (sym same) ∙ ap suc (count_so flat rows later.0 later.1)
 
 -- there are too many meetings, two have one name, or a record names none
-pub names_wrong : (flat : FlatLists) → (are_meeting_rows flat.meetings && have_meetings flat) ≡ false → (office : OfficeLists) → office_of flat ≡ Some office → is_office office ≡ false
+pub names_wrong : (flat : FlatLists) → (are_meeting_rows flat.meetings && have_meetings flat) ≡ false → (office : OfficeLists) → office_of_records flat ≡ Some office → is_office office ≡ false
 names_wrong flat none office h =
     let p = parts flat office h in
     let wrong : are_meeting_rows flat.meetings ≡ false = first_is (are_meeting_rows flat.meetings) (have_meetings flat) p.known none in
@@ -169,7 +169,7 @@ names_wrong flat none office h =
     first_is false b t f = refl
 
 -- why records are not given out
-pub names_cause : {T : Type 0} (flat : FlatLists) (e : ReadFault) → (◌≡◌ {A = Result T ReadFault} (Err e) (Err NoOffice) → (are_meeting_rows flat.meetings && have_meetings flat) ≡ false) → IsCause is_office e (office_of flat)
+pub names_cause : {T : Type 0} (flat : FlatLists) (e : ReadFault) → (◌≡◌ {A = Result T ReadFault} (Err e) (Err NoOffice) → (are_meeting_rows flat.meetings && have_meetings flat) ≡ false) → IsCause is_office e (office_of_records flat)
 names_cause flat NoOffice none = names_wrong flat (none refl)
 names_cause flat fault.Store none = tt
 names_cause flat fault.Memory none = tt

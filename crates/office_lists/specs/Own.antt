@@ -17,7 +17,7 @@ use Rattle.desk_words.specs.declared.records.Resolution.{Resolution}
 use Rattle.desk_rows.specs.Meanings.{◌>>=◌}
 use Rattle.desk_rows.specs.declared.kept.MeetingRow.{MeetingRow}
 use Rattle.desk_rows.specs.declared.kept.NumberedResolution.{NumberedResolution}
-use Rattle.desk_records.specs.Office.{number_before, numbered_from, with_resolutions}
+use Rattle.desk_records.specs.Office.{number_before, numbered_from, whole_meeting}
 use Rattle.office_lists.specs.declared.own.OwnRecords.{OwnRecords}
 
 -- a meeting without records
@@ -38,7 +38,7 @@ nothing_own m = record {
 -- the lists of a meeting with these resolutions
 abbrev pub lists_own_with : OwnRecords → List Resolution → MeetingLists
 lists_own_with own resolutions = record {
-  meeting = with_resolutions own.meeting resolutions;
+  meeting = whole_meeting own.meeting resolutions;
   register = sort_by member_before own.register;
   appointments = own.appointments;
   endings = own.endings;

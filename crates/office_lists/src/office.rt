@@ -1,6 +1,6 @@
 //! The office that the records are.
 ghost use Rattle.std.specs.List.{list_all};
-ghost use Rattle.desk_records.specs.Office.{office_of};
+ghost use Rattle.desk_records.specs.Office.{office_of_records};
 ghost use Rattle.desk_words.specs.Office.{is_meeting, is_office};
 ghost use Rattle.office_lists.specs.Giving.{all_lists_own};
 ghost use Rattle.office_lists.specs.Yields.{Yields};
@@ -27,7 +27,7 @@ fn lists_from(alloc: Global, all: Vec<OwnRecords>) -> Result<Listing<MeetingList
 
 /// The office that the records are. The fault is `NoOffice` only where they are no office's.
 pub fn office_from(alloc: Global, flat: FlatRecords) -> Result<OfficeLists, ReadFault>
-    ensures { Yields is_office result (office_of flat) }
+    ensures { Yields is_office result (office_of_records flat) }
 {
     let FlatRecords {
         keys,

@@ -16,8 +16,8 @@ use Rattle.desk_rows.specs.Meanings.{all_mean}
 use Rattle.desk_rows.specs.declared.kept.InMeeting.{InMeeting}
 use Rattle.desk_rows.proofs.MeaningLemmas.{bound}
 use Rattle.desk_terms.specs.Names.{same_name}
-use Rattle.desk_schema.specs.Statements.{ChangesNothing, Finds, IsRead, TableOf, records_in}
-use Rattle.desk_records.specs.Office.{FlatLists, flat_in, of_meeting, office_of}
+use Rattle.desk_schema.specs.Statements.{ChangesNothing, FindsRecords, IsRead, TableOf, records_in}
+use Rattle.desk_records.specs.Office.{FlatLists, flat_in, of_meeting, office_of_records}
 use Rattle.desk_records.proofs.ListChanges.{ListOf}
 use Rattle.desk_records.proofs.OfficeLemmas.{AreOf, are_of}
 use Rattle.office_lists.specs.declared.fault.ReadFault.{ReadFault}
@@ -85,13 +85,13 @@ module _ {A : Type 0} (found : Result (List (InMeeting A)) ReadFault) (r : Resul
       go (Ok all) (Err e) h w = tt
       go (Err e) q h w = subst (λ (p : Result (List A) ReadFault). OnOk p W) (sym h) tt
 
-found_changes : {V A : Type 0} {S : Type 0} (g : store.Ghosts S) (a b : Held S) (rows_in : V → List Row) (table : TableOf A) (test : A → Bool) (rows : Result V Error) → IfOk rows (λ v. Finds g a b table test (rows_in v))
+found_changes : {V A : Type 0} {S : Type 0} (g : store.Ghosts S) (a b : Held S) (rows_in : V → List Row) (table : TableOf A) (test : A → Bool) (rows : Result V Error) → IfOk rows (λ v. FindsRecords g a b table test (rows_in v))
     → OnOk rows (IsUnchanged (state g a) (state g b))
 found_changes g a b rows_in table test (Ok v) h = h.1
 found_changes g a b rows_in table test (Err e) h = tt
 
 found_said : {V A : Type 0} {S : Type 0} (g : store.Ghosts S) (a b : Held S) (rows_in : V → List Row) (table : TableOf A) (test : A → Bool) (rows : Result V Error) (was : List A) → records_in table (state g a).now.trees ≡ Some was
-    → IfOk rows (λ v. Finds g a b table test (rows_in v)) → IfOk rows (λ v. all_mean table.means (rows_in v) ≡ Some (filter test was))
+    → IfOk rows (λ v. FindsRecords g a b table test (rows_in v)) → IfOk rows (λ v. all_mean table.means (rows_in v) ≡ Some (filter test was))
 found_said g a b rows_in table test (Ok v) was held h = h.0 was held
 found_said g a b rows_in table test (Err e) was held h = tt
 
@@ -100,7 +100,7 @@ pub says : {X : Type 0} (R : X → Type 0) (said : X) (r : Result X ReadFault) �
 says R said r holds = tells_weaker (λ x. x ≡ said) R r (λ x is. subst R (sym is) holds)
 
 module _ {V A S : Type 0} (g : store.Ghosts S) (a b : Held S) (rows_in : V → List Row) (table : TableOf A) (all : FlatLists → List A) (held : (trees : Trees) (flat : FlatLists) → HoldAll trees flat → records_in table trees ≡ Some (all flat))
-    (test : A → Bool) (rows : Result V Error) (finds : IsRead g a b → IfOk rows (λ v. Finds g a b table test (rows_in v))) (changes : ChangesNothing g a b) where
+    (test : A → Bool) (rows : Result V Error) (finds : IsRead g a b → IfOk rows (λ v. FindsRecords g a b table test (rows_in v))) (changes : ChangesNothing g a b) where
   module _ (r : Result (List A) ReadFault) (found : MatchResult rows (λ v. Yields any_at_all r (all_mean table.means (rows_in v))) (λ e. r ≡ Err (fault_of_error e))) where
     found_flat : (flat : FlatLists) → IsRead g a b → flat_in (state g a).now.trees ≡ Some flat → TellsOnly (λ l. l ≡ filter test (all flat)) r
     found_flat flat read is =
@@ -111,7 +111,7 @@ module _ {V A S : Type 0} (g : store.Ghosts S) (a b : Held S) (rows_in : V → L
     pub found_told : (R : OfficeLists → List A → Type 0) → ((flat : FlatLists) (office : OfficeLists) → AreOf flat office → IsTrue (is_office office) → R office (filter test (all flat))) → IsToldOf g a b r R
     found_told R so = record {
       told = λ read office holds kept.
-          let flat = bound (flat_in (state g a).now.trees) office_of office holds in
+          let flat = bound (flat_in (state g a).now.trees) office_of_records office holds in
           says (R office) (filter test (all flat.0)) r (so flat.0 office (are_of flat.0 office flat.2) kept) (found_flat flat.0 read flat.1);
       same = λ read. rows_on rows_in table.means rows r found _ (found_changes g a b rows_in table test rows (finds read));
       changes = changes;
@@ -119,13 +119,13 @@ module _ {V A S : Type 0} (g : store.Ghosts S) (a b : Held S) (rows_in : V → L
 
 -- and without their meetings
 module _ {V A S : Type 0} (g : store.Ghosts S) (a b : Held S) (rows_in : V → List Row) (table : TableOf (InMeeting A)) (all : FlatLists → List (InMeeting A))
-    (held : (trees : Trees) (flat : FlatLists) → HoldAll trees flat → records_in table trees ≡ Some (all flat)) (test : InMeeting A → Bool) (rows : Result V Error) (finds : IsRead g a b → IfOk rows (λ v. Finds g a b table test (rows_in v))) (changes : ChangesNothing g a b)
+    (held : (trees : Trees) (flat : FlatLists) → HoldAll trees flat → records_in table trees ≡ Some (all flat)) (test : InMeeting A → Bool) (rows : Result V Error) (finds : IsRead g a b → IfOk rows (λ v. FindsRecords g a b table test (rows_in v))) (changes : ChangesNothing g a b)
     (found : Result (List (InMeeting A)) ReadFault) (read_as : MatchResult rows (λ v. Yields any_at_all found (all_mean table.means (rows_in v))) (λ e. found ≡ Err (fault_of_error e))) (r : Result (List A) ReadFault)
     (made : MatchResult found (λ them. MatchResult r (λ items. items ≡ map item_of them) (λ e. e ≡ fault.Memory)) (λ e. r ≡ Err e)) where
   pub items_told : (R : OfficeLists → List A → Type 0) → ((flat : FlatLists) (office : OfficeLists) → AreOf flat office → IsTrue (is_office office) → R office (map item_of (filter test (all flat)))) → IsToldOf g a b r R
   items_told R so = record {
     told = λ read office holds kept.
-        let flat = bound (flat_in (state g a).now.trees) office_of office holds in
+        let flat = bound (flat_in (state g a).now.trees) office_of_records office holds in
         says (R office) (map item_of (filter test (all flat.0))) r (so flat.0 office (are_of flat.0 office flat.2) kept)
         (items_tell found r made (filter test (all flat.0)) (found_flat g a b rows_in table all held test rows finds changes found read_as flat.0 read flat.1));
     same = λ read. items_on found r made _ (rows_on rows_in table.means rows found read_as _ (found_changes g a b rows_in table test rows (finds read)));

@@ -18,7 +18,7 @@ use Rattle.desk_rows.specs.declared.kept.MeetingRow.{MeetingRow}
 use Rattle.desk_rows.specs.declared.kept.NumberedResolution.{NumberedResolution}
 use Rattle.desk_rows.proofs.MeaningLemmas.{bound}
 use Rattle.desk_schema.specs.Contents.{without_resolutions}
-use Rattle.desk_records.specs.Office.{FlatLists, flat_in, of_meeting, office_of, with_resolutions}
+use Rattle.desk_records.specs.Office.{FlatLists, flat_in, of_meeting, office_of_records, whole_meeting}
 use Rattle.desk_records.proofs.ListChanges.{the_polls}
 use Rattle.desk_records.proofs.OfficeLemmas.{AreOf, are_of}
 use Rattle.desk_records.proofs.PollChanges.{polls_ascend}
@@ -38,7 +38,7 @@ pub reading_told : {S X : Type 0} (g : store.Ghosts S) (a b : Held S) (said : Tr
     → ((flat : FlatLists) (office : OfficeLists) → AreOf flat office → IsTrue (is_office office) → R office (all flat)) → IsToldOf g a b r R
 reading_told g a b said all held r reading R so = record {
   told = λ read office holds kept.
-      let flat = bound (flat_in (state g a).now.trees) office_of office holds in
+      let flat = bound (flat_in (state g a).now.trees) office_of_records office holds in
       says (R office) (all flat.0) r (so flat.0 office (are_of flat.0 office flat.2) kept)
       (yields_tell any_at_all r (all flat.0) (said (state g a).now.trees) (reading.told read) (held (state g a).now.trees flat.0 flat.1) refl);
   same = reading.same;
@@ -69,16 +69,16 @@ resolutions_so id flat office of m is =
 
 module _ (id : List ℕ) (office : OfficeLists) (row : MeetingRow) (rows : List NumberedResolution) (one : Some row ≡ row_at office id) (are : AreResolutions id office rows) where
   -- the row with the resolutions is the meeting
-  pub meeting_so : (resolutions : List Resolution) → resolutions_own rows ≡ Some resolutions → Some (with_resolutions row resolutions) ≡ option_map (λ (m : MeetingLists). m.meeting) (meeting_named office.meetings id)
+  pub meeting_so : (resolutions : List Resolution) → resolutions_own rows ≡ Some resolutions → Some (whole_meeting row resolutions) ≡ option_map (λ (m : MeetingLists). m.meeting) (meeting_named office.meetings id)
   meeting_so resolutions read = go (meeting_named office.meetings id) one are
     where
       go : (found : Option MeetingLists) → Some row ≡ option_map (λ (m : MeetingLists). without_resolutions m.meeting) found → ((m : MeetingLists) → found ≡ Some m → resolutions_own rows ≡ Some m.meeting.resolutions)
-          → Some (with_resolutions row resolutions) ≡ option_map (λ (m : MeetingLists). m.meeting) found
+          → Some (whole_meeting row resolutions) ≡ option_map (λ (m : MeetingLists). m.meeting) found
       go None e next = absurd cc
       go (Some m) e next =
           let same : row ≡ without_resolutions m.meeting = the_same e in
           let its : resolutions ≡ m.meeting.resolutions = the_same (sym read ∙ next m refl) in
-          λ i. Some (with_resolutions (same i) (its i))
+          λ i. Some (whole_meeting (same i) (its i))
 
   -- and where they are refused, it is not for want of a meeting
   pub resolutions_tell : {X : Type 0} (P : X → Type 0) (e : ReadFault) → IsTrue (is_office office) → IsCause are_resolutions e (resolutions_own rows) → TellsOnly P (Err e)

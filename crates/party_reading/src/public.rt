@@ -1,6 +1,6 @@
 //! What is public of a meeting, read from the tables by its name.
 ghost use Rattle.std.specs.Prelude.{◌≡◌, option_map};
-ghost use Rattle.desk_records.specs.Office.{with_resolutions};
+ghost use Rattle.desk_records.specs.Office.{whole_meeting};
 ghost use Rattle.desk_words.specs.declared.office.MeetingLists.{MeetingLists};
 ghost use Rattle.caller_view.specs.Views.{meeting_at, polls_in, public_of};
 ghost use Rattle.party_reading.specs.Telling.{IsToldOf};
@@ -56,8 +56,8 @@ pub fn read_closed<S: Alter>(
 }
 
 /// A meeting with its resolutions.
-fn with_resolutions(row: MeetingRow, resolutions: Resolutions) -> Meeting
-    ensures { result ≡ with_resolutions row resolutions }
+fn whole_meeting(row: MeetingRow, resolutions: Resolutions) -> Meeting
+    ensures { result ≡ whole_meeting row resolutions }
 {
     Meeting {
         id: row.id,
@@ -89,7 +89,7 @@ pub fn meeting_of<S: Alter>(
     };
     let rows = items(alloc, found(alloc, resolutions::of_meeting(tx, meeting)))?;
     let resolutions = resolution_list(alloc, rows)?;
-    Ok(Some(with_resolutions(row, resolutions)))
+    Ok(Some(whole_meeting(row, resolutions)))
 }
 
 /// The polls of a meeting (section 321), in the order of resolutions.

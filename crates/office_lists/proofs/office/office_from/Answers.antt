@@ -4,7 +4,7 @@ use Rattle.desk_lists.specs.Sorting.{sort_by}
 use Rattle.desk_words.specs.Lists.{caller_before, day_before, is_day_list, is_key_list}
 use Rattle.desk_words.specs.Office.{is_meeting, is_office}
 use Rattle.desk_rows.specs.declared.kept.MeetingRow.{MeetingRow}
-use Rattle.desk_records.specs.Office.{lists_of_all, office_of}
+use Rattle.desk_records.specs.Office.{lists_of_all, office_of_records}
 use Rattle.office_lists.specs.Flat.{flat_with}
 use Rattle.office_lists.specs.Giving.{all_lists_own, all_name_meetings, are_meeting_rows, own_of}
 use Rattle.office_lists.specs.Yields.{Yields}
@@ -19,8 +19,8 @@ returns-in_err-keys c =
     let same : flat ≡ c.args.flat = c.flat.view_is in
     let is : c.from_residual.result ≡ Err c.in_err-keys.field-0.0 = search rules in
     let sorted = sort_by caller_before i.keys in
-    subst (λ r. Yields is_office r (office_of c.args.flat)) (sym is) (subst (λ f. Yields is_office (Err c.in_err-keys.field-0.0) (office_of f)) same
-    (cause_by is_key_list is_office c.in_err-keys.field-0.0 (Some sorted) (office_of flat) (λ wrong. keys_wrong flat (wrong sorted refl)) c.in_err-keys.ensures))
+    subst (λ r. Yields is_office r (office_of_records c.args.flat)) (sym is) (subst (λ f. Yields is_office (Err c.in_err-keys.field-0.0) (office_of_records f)) same
+    (cause_by is_key_list is_office c.in_err-keys.field-0.0 (Some sorted) (office_of_records flat) (λ wrong. keys_wrong flat (wrong sorted refl)) c.in_err-keys.ensures))
 
 pub returns-in_err-closed : goal.returns-in_err-closed
 returns-in_err-closed c =
@@ -29,8 +29,8 @@ returns-in_err-closed c =
     let same : flat ≡ c.args.flat = c.flat.view_is in
     let is : c.from_residual-in_err-closed.result ≡ Err c.in_err-closed.field-0.0 = search rules in
     let sorted = sort_by day_before i.closed in
-    subst (λ r. Yields is_office r (office_of c.args.flat)) (sym is) (subst (λ f. Yields is_office (Err c.in_err-closed.field-0.0) (office_of f)) same
-    (cause_by is_day_list is_office c.in_err-closed.field-0.0 (Some sorted) (office_of flat) (λ wrong. days_wrong flat (wrong sorted refl)) c.in_err-closed.ensures))
+    subst (λ r. Yields is_office r (office_of_records c.args.flat)) (sym is) (subst (λ f. Yields is_office (Err c.in_err-closed.field-0.0) (office_of_records f)) same
+    (cause_by is_day_list is_office c.in_err-closed.field-0.0 (Some sorted) (office_of_records flat) (λ wrong. days_wrong flat (wrong sorted refl)) c.in_err-closed.ensures))
 
 pub returns-in_err-meetings : goal.returns-in_err-meetings
 returns-in_err-meetings c =
@@ -39,7 +39,7 @@ returns-in_err-meetings c =
     let same : flat ≡ c.args.flat = c.flat.view_is in
     let named = λ (rows : List MeetingRow). are_meeting_rows rows && all_name_meetings i.records rows in
     let is : c.from_residual-in_err-meetings.result ≡ Err c.in_err-meetings.field-0.0 = search rules in
-    subst (λ r. Yields is_office r (office_of c.args.flat)) (sym is) (subst (λ f. Yields is_office (Err c.in_err-meetings.field-0.0) (office_of f)) same
+    subst (λ r. Yields is_office r (office_of_records c.args.flat)) (sym is) (subst (λ f. Yields is_office (Err c.in_err-meetings.field-0.0) (office_of_records f)) same
     (names_cause flat c.in_err-meetings.field-0.0 (λ h. ap named (sym c.as_slice.ensures) ∙ c.in_err-meetings.ensures.none h)))
 
 pub returns-in_err-lists_from : goal.returns-in_err-lists_from
@@ -51,8 +51,8 @@ returns-in_err-lists_from c =
     let all = c.in_ok-meetings.meetings.items in
     let lists : all_lists_own all ≡ lists_of_all flat flat.meetings =
     ap all_lists_own (c.in_ok-meetings.ensures.made ∙ ap (map (own_of i.records)) c.as_slice.ensures) ∙ lists_same i.keys i.closed i.meetings i.records i.meetings in
-    subst (λ r. Yields is_office r (office_of c.args.flat)) (sym is) (subst (λ f. Yields is_office (Err c.in_err-lists_from.field-0.0) (office_of f)) same
-    (cause_by (list_all is_meeting) is_office c.in_err-lists_from.field-0.0 (all_lists_own all) (office_of flat) (λ wrong. meetings_wrong flat (λ l h. wrong l (lists ∙ h))) c.in_err-lists_from.ensures))
+    subst (λ r. Yields is_office r (office_of_records c.args.flat)) (sym is) (subst (λ f. Yields is_office (Err c.in_err-lists_from.field-0.0) (office_of_records f)) same
+    (cause_by (list_all is_meeting) is_office c.in_err-lists_from.field-0.0 (all_lists_own all) (office_of_records flat) (λ wrong. meetings_wrong flat (λ l h. wrong l (lists ∙ h))) c.in_err-lists_from.ensures))
 
 pub returns : goal.returns
 returns c =
@@ -63,6 +63,6 @@ returns c =
     let lists : all_lists_own all ≡ lists_of_all flat flat.meetings =
     ap all_lists_own (c.in_ok-meetings.ensures.made ∙ ap (map (own_of i.records)) c.as_slice.ensures) ∙ lists_same i.keys i.closed i.meetings i.records i.meetings in
     let known : all_name_meetings i.records i.meetings ≡ true = ap (all_name_meetings i.records) (sym c.as_slice.ensures) ∙ c.in_ok-meetings.ensures.named in
-    ap office_of (sym same)
+    ap office_of_records (sym same)
     ∙ office_made flat c.keys.inside.rows.items c.closed-2.inside.days.items c.in_ok-lists_from.field-0 known (c.in_ok-keys.ensures ∙ ap (λ l. Some l) (sym c.keys.view_is))
     (c.in_ok-closed.ensures ∙ ap (λ l. Some l) (sym c.closed-2.view_is)) (sym lists ∙ c.in_ok-lists_from.ensures)

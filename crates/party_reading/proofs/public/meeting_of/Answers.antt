@@ -59,4 +59,4 @@ returns-clause-told g c =
     _ c.in_ok-rows.ensures (IsRow c.args.meeting) (λ flat office of kept. meeting_row_so c.args.meeting flat office of))
     (items_told g.S.Store c.named.new.tx.conn.now c.of_meeting.new.tx.conn.now (λ v. v.items) table.resolutions (λ flat. flat.resolutions) (λ trees flat held. held.resolutions) _ c.of_meeting.result c.of_meeting.ensures.rows c.of_meeting.ensures.changes c.found-2.result c.found-2.ensures
     _ c.in_ok-rows-2.ensures (AreResolutions c.args.meeting) (λ flat office of kept. resolutions_so c.args.meeting flat office of)))
-    (λ office kept p. ap (λ m. Some m) c.with_resolutions.ensures ∙ meeting_so c.args.meeting office c.in-Some.row c.in_ok-rows-2.rows (c.in-Some.ensures ∙ p.0) p.1 c.in_ok-resolutions.resolutions c.in_ok-resolutions.ensures)
+    (λ office kept p. ap (λ m. Some m) c.whole_meeting.ensures ∙ meeting_so c.args.meeting office c.in-Some.row c.in_ok-rows-2.rows (c.in-Some.ensures ∙ p.0) p.1 c.in_ok-resolutions.resolutions c.in_ok-resolutions.ensures)

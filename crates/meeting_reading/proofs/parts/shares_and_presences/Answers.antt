@@ -2,14 +2,14 @@ use Rattle.std.proofs.Common.{◌≡◌, Err, refl, sym, ◌∙◌, rules}
 use Rattle.desk_words.specs.Finding.{meeting_named}
 use Rattle.party_reading.specs.Lists.{presences_in}
 use Rattle.party_reading.proofs.TellingLemmas.{told_after, told_both, told_so, told_stop}
-use Rattle.meeting_reading.specs.Parts.{shares_alone, with_presences}
+use Rattle.meeting_reading.specs.Parts.{shares_alone, shares_and_presences}
 use Rattle.meeting_reading.proofs.PartLemmas.{joined, none_so}
-use Rattle.meeting_reading.proofs.parts.with_presences.Goals as goal
+use Rattle.meeting_reading.proofs.parts.shares_and_presences.Goals as goal
 
 pub returns-in_default-clause-told : goal.returns-in_default-clause-told
 returns-in_default-clause-told g c =
     told_so g.S.Store _ _ _ _ c.in_ok-lists.field-0 _ c.in_ok-lists.ensures.told
-    (λ office kept p. none_so shares_alone with_presences (meeting_named office.meetings c.args.meeting) (sym c.in_default.is ∙ p))
+    (λ office kept p. none_so shares_alone shares_and_presences (meeting_named office.meetings c.args.meeting) (sym c.in_default.is ∙ p))
 
 pub returns-in_err-presences-clause-told : goal.returns-in_err-presences-clause-told
 returns-in_err-presences-clause-told g c =
@@ -21,4 +21,4 @@ pub returns-clause-told : goal.returns-clause-told
 returns-clause-told g c =
     told_so g.S.Store _ _ _ _ c.in_ok-presences.presences _
     (told_both g.S.Store _ _ _ c.in_ok-lists.field-0 c.in_ok-presences.presences _ _ c.in_ok-lists.ensures.told c.in_ok-presences.ensures.told)
-    (λ office kept p. joined shares_alone with_presences presences_in (λ m marks. record m { presences = marks }) (λ m. refl) (meeting_named office.meetings c.args.meeting) c.in-Some.lists c.in_ok-presences.presences (sym c.in-Some.is ∙ p.0) p.1)
+    (λ office kept p. joined shares_alone shares_and_presences presences_in (λ m marks. record m { presences = marks }) (λ m. refl) (meeting_named office.meetings c.args.meeting) c.in-Some.lists c.in_ok-presences.presences (sym c.in-Some.is ∙ p.0) p.1)
