@@ -14,7 +14,7 @@ use Rattle.desk_words.specs.declared.records.Meeting.{Meeting}
 use Rattle.desk_words.specs.declared.records.Poll.{Poll}
 use Rattle.proxy_rules.specs.Cutoffs.{cutoffs_of, is_late_poll}
 use Rattle.proxy_rules.specs.declared.papers.Cutoffs.{Cutoffs}
-use Rattle.caller_view.specs.Kept.{governed_late, late_of, received_with}
+use Rattle.caller_view.specs.Kept.{late_in_rows, late_of, received_with}
 use Rattle.caller_view.specs.Own.{governed_by, known_to_proxy, poll_governed, received_by, rows_by}
 use Rattle.caller_view.specs.declared.governed.LatePoll.{LatePoll}
 use Rattle.caller_view.specs.declared.rows.MemberRows.{MemberRows}
@@ -42,7 +42,7 @@ place-put members i rows member before after h is put kept =
 
 -- what is governed for late polls, by their own cutoffs
 pub late-governed : (members : List MemberRows) (closed : List ℕ) (member : List ℕ) (number : ℕ) (polls : List Poll)
-    → map (governed_late members member number) (map (late_of closed) polls) ≡ map (poll_governed members closed member number) polls
+    → map (late_in_rows members member number) (map (late_of closed) polls) ≡ map (poll_governed members closed member number) polls
 late-governed members closed member number [] = refl
 late-governed members closed member number (poll ∷ polls) = ap (λ l. poll_governed members closed member number poll ∷ l) (late-governed members closed member number polls)
 
@@ -52,9 +52,9 @@ pub received-alike : (members : List MemberRows) (closed : List ℕ) (meeting : 
     → map (received_with members cutoffs late) received ≡ map (received_by members closed meeting polls now) received
 received-alike members closed meeting polls now cutoffs late [] by_cutoffs are_late = refl
 received-alike members closed meeting polls now cutoffs late (a ∷ received) by_cutoffs are_late =
-    let polls_too = ap (map (governed_late members a.member a.number)) are_late ∙ late-governed members closed a.member a.number (filter (is_late_poll closed) polls) in
+    let polls_too = ap (map (late_in_rows members a.member a.number)) are_late ∙ late-governed members closed a.member a.number (filter (is_late_poll closed) polls) in
     ap (λ first. first ∷ map (received_with members cutoffs late) received)
-    (ap (λ c. known_to_proxy a (governed_by members c a.member a.number) (map (governed_late members a.member a.number) late)) by_cutoffs
+    (ap (λ c. known_to_proxy a (governed_by members c a.member a.number) (map (late_in_rows members a.member a.number) late)) by_cutoffs
     ∙ ap (known_to_proxy a (governed_by members (cutoffs_of meeting None closed now) a.member a.number)) polls_too)
     ∙ ap (λ rest. received_by members closed meeting polls now a ∷ rest) (received-alike members closed meeting polls now cutoffs late received by_cutoffs are_late)
 

@@ -20,7 +20,7 @@ use Rattle.proxy_rules.specs.Cutoffs.{cutoffs_of, is_late_poll, late_cutoffs}
 use Rattle.proxy_rules.specs.Holdings.{is_given_by}
 use Rattle.proxy_rules.specs.declared.papers.Cutoffs.{Cutoffs}
 use Rattle.proxy_rules.proofs.ListLemmas.{reverse-filter}
-use Rattle.caller_view.specs.Own.{authorised_by, governed_by, governed_kept, known_to_proxy, own_by, poll_governed, received_by, rows_by}
+use Rattle.caller_view.specs.Own.{authorised_in_rows, governed_by, governed_kept, known_to_proxy, own_by, poll_governed, received_by, rows_by}
 use Rattle.caller_view.specs.Reads.{appointments_read, authorised_read, authorities_read, cast_on, for_poll, members_read, own_read, polls_on, polls_read, received_read, rows_read}
 use Rattle.caller_view.specs.declared.rows.AuthorityRows.{AuthorityRows}
 use Rattle.caller_view.specs.declared.rows.MemberRows.{MemberRows}
@@ -115,9 +115,9 @@ module _ (members : List MemberRows) (closed : List ℕ) (meeting : Meeting) (po
 
 -- what a vote reads of the authorities
 authorised-read : (new : NewCast) (capacity : Capacity) (authorised : List AuthorityRows)
-    → map authorised_by (authorities_read new authorised capacity) ≡ authorised_read new (map authorised_by authorised) capacity
+    → map authorised_in_rows (authorities_read new authorised capacity) ≡ authorised_read new (map authorised_in_rows authorised) capacity
 authorised-read new Member authorised = refl
-authorised-read new Rep authorised = sym (filter-map (λ (a : Authorised). same_name a.corporation new.member) authorised_by authorised)
+authorised-read new Rep authorised = sym (filter-map (λ (a : Authorised). same_name a.corporation new.member) authorised_in_rows authorised)
 authorised-read new Proxy authorised = refl
 
 -- the own things that an answer reads, from the rows that it reads

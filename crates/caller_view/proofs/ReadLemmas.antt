@@ -22,7 +22,7 @@ use Rattle.desk_words.specs.declared.records.Meeting.{Meeting}
 use Rattle.desk_words.specs.declared.request.NewCast.{NewCast}
 use Rattle.desk_words.specs.declared.request.PartyRequest.{PartyRequest}
 use Rattle.desk_words.specs.declared.request.PartyRequest.TheVariants.{Mine, Cast, Instructed}
-use Rattle.caller_view.specs.Answers.{party_ruling, ruling_in}
+use Rattle.caller_view.specs.Answers.{party_ruling, ruling_for}
 use Rattle.caller_view.specs.Casts.{cast_ruling, cast_count, has_cast_enough, instructed_ruling, is_late_on}
 use Rattle.proxy_rules.specs.Instructions.{allows, instructed_on}
 use Rattle.caller_view.specs.Reads.{authorised_read, cast_on, for_poll, own_read, received_read}
@@ -185,7 +185,7 @@ instructed-alike public meeting own now resolution =
 
 -- the others change no ruling
 ruled_alike : (public : PublicRecord) (own : OwnView) (now : ℕ) (asked : PartyRequest) (meeting : Meeting)
-    → ruling_in public (own_read asked own) now asked meeting ≡ ruling_in public own now asked meeting
+    → ruling_for public (own_read asked own) now asked meeting ≡ ruling_for public own now asked meeting
 ruled_alike public own now Mine meeting = refl
 ruled_alike public own now (Cast new) meeting = cast-alike public meeting own now new
 ruled_alike public own now (Instructed resolution) meeting = instructed-alike public meeting own now resolution

@@ -30,20 +30,20 @@ mine_of public meeting own now = record {
 }
 
 -- what decides a party's request in a meeting, from what the party may see and the moment
-abbrev pub ruling_in : PublicRecord → OwnView → Moment → PartyRequest → Meeting → Ruling Entry
-ruling_in public own now Notice meeting =
+abbrev pub ruling_for : PublicRecord → OwnView → Moment → PartyRequest → Meeting → Ruling Entry
+ruling_for public own now Notice meeting =
     told (reply.Notice (notice_of meeting public.polls public.closed now))
-ruling_in public own now OwnThings meeting = told (reply.Mine (mine_of public meeting own now))
-ruling_in public own now (Appoint new) meeting = appoint_ruling public meeting own now new
-ruling_in public own now (End number) meeting = end_ruling own now number
-ruling_in public own now (Authorise person) meeting = authorise_ruling own now person
-ruling_in public own now Attend meeting = attend_ruling own now
-ruling_in public own now (Demand resolution) meeting =
+ruling_for public own now OwnThings meeting = told (reply.Mine (mine_of public meeting own now))
+ruling_for public own now (Appoint new) meeting = appoint_ruling public meeting own now new
+ruling_for public own now (End number) meeting = end_ruling own now number
+ruling_for public own now (Authorise person) meeting = authorise_ruling own now person
+ruling_for public own now Attend meeting = attend_ruling own now
+ruling_for public own now (Demand resolution) meeting =
     demand_ruling public meeting own now resolution
-ruling_in public own now (Cast new) meeting = cast_ruling public meeting own now new
-ruling_in public own now (Instructed resolution) meeting =
+ruling_for public own now (Cast new) meeting = cast_ruling public meeting own now new
+ruling_for public own now (Instructed resolution) meeting =
     instructed_ruling public meeting own now resolution
 
 -- what decides a party's request: that there is no meeting, and else what is ruled in it
 abbrev pub party_ruling : PublicRecord → OwnView → Moment → PartyRequest → Ruling Entry
-party_ruling public own now asked = in_found public.meeting (ruling_in public own now asked)
+party_ruling public own now asked = in_found public.meeting (ruling_for public own now asked)

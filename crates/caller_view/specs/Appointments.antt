@@ -85,16 +85,16 @@ abbrev pub given_numbered : List Given → Number → Option Given
 given_numbered given number = find (λ (g : Given). g.appointment.number == number) given
 
 -- there is one, and it is ended
-abbrev pub is_ended : Option Given → Bool
-is_ended None = false
-is_ended (Some given) = is_some given.ended
+abbrev pub is_given_ended : Option Given → Bool
+is_given_ended None = false
+is_given_ended (Some given) = is_some given.ended
 
 -- when an ending is not recorded: the party gave no appointment of that number, or ended it already
 -- (section 330)
 abbrev pub end_cases : OwnView → Number → List Case
 end_cases own number =
     record { refusal = NoSuchNumber; holds = is_none (given_numbered own.given number) }
-    ∷ record { refusal = AlreadyEnded; holds = is_ended (given_numbered own.given number) }
+    ∷ record { refusal = AlreadyEnded; holds = is_given_ended (given_numbered own.given number) }
     ∷ []
 
 -- the ending that is recorded (section 330)

@@ -71,8 +71,8 @@ abbrev pub may_demand : OwnView → Bool
 may_demand own = holds_as_individual own.row || represents own || governs_any own
 
 -- the party has demanded a poll on the resolution already
-abbrev pub has_demanded : OwnView → Number → Bool
-has_demanded own resolution = list_any (λ (d : DemandMark). d.resolution == resolution) own.demands
+abbrev pub own_demanded : OwnView → Number → Bool
+own_demanded own resolution = list_any (λ (d : DemandMark). d.resolution == resolution) own.demands
 
 -- when a demand is not noted (section 321)
 abbrev pub demand_cases : PublicRecord → Meeting → OwnView → Number → List Case
@@ -86,13 +86,13 @@ demand_cases public meeting own resolution =
     ∷ []
 
 -- the demand that is noted (section 321)
-abbrev pub demand_of : OwnView → Moment → Number → DemandMark
-demand_of own now resolution = record { resolution = resolution; party = own.party; moment = now }
+abbrev pub demand_mark : OwnView → Moment → Number → DemandMark
+demand_mark own now resolution = record { resolution = resolution; party = own.party; moment = now }
 
 -- a demand is noted, or refused by the public record and the party's own things; whether the
 -- demands are enough is not said (section 321)
 abbrev pub demand_ruling : PublicRecord → Meeting → OwnView → Moment → Number → Ruling Entry
 demand_ruling public meeting own now resolution = record {
   cases = demand_cases public meeting own resolution;
-  accepted = noted (has_demanded own resolution) (entry.Demand (demand_of own now resolution));
+  accepted = noted (own_demanded own resolution) (entry.Demand (demand_mark own now resolution));
 }

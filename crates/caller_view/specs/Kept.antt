@@ -31,8 +31,8 @@ late_of closed poll = record {
 }
 
 -- what a member's appointment of a number governs for a late poll
-abbrev pub governed_late : List MemberRows → Party → Number → LatePoll → PollGoverned
-governed_late members member number late = record {
+abbrev pub late_in_rows : List MemberRows → Party → Number → LatePoll → PollGoverned
+late_in_rows members member number late = record {
   resolution = late.resolution;
   governs = governed_by members late.cutoffs member number;
 }
@@ -41,7 +41,7 @@ governed_late members member number late = record {
 abbrev pub received_with : List MemberRows → Cutoffs → List LatePoll → Appointment → Received
 received_with members cutoffs late a =
     known_to_proxy a (governed_by members cutoffs a.member a.number)
-    (map (governed_late members a.member a.number) late)
+    (map (late_in_rows members a.member a.number) late)
 
 -- an appointment, with its ending as a map keeps it by number
 abbrev pub given_kept : BTreeMap Number Moment → Appointment → Given

@@ -38,19 +38,19 @@ abbrev pub given_in : List Ending → Appointment → Given
 given_in ended a = record { appointment = a; ended = ended_at ended a.number }
 
 -- the shares of a holding if a corporation holds them, and else 0
-abbrev pub shares_if : HolderKind → ℕ → ℕ
-shares_if Corporation shares = shares
-shares_if Individual shares = 0
-shares_if Treasury shares = 0
+abbrev pub shares_of_kind : HolderKind → ℕ → ℕ
+shares_of_kind Corporation shares = shares
+shares_of_kind Individual shares = 0
+shares_of_kind Treasury shares = 0
 
 -- the shares of a row, 0 where it is no corporation's
 abbrev pub shares_in : Option RegisterRow → ℕ
 shares_in None = 0
-shares_in (Some row) = shares_if row.kind row.shares
+shares_in (Some row) = shares_of_kind row.kind row.shares
 
 -- an authority's corporation, with its shares in the register (section 323)
-abbrev pub authorised_by : AuthorityRows → Authorised
-authorised_by rows = record {
+abbrev pub authorised_in_rows : AuthorityRows → Authorised
+authorised_in_rows rows = record {
   corporation = rows.authority.corporation;
   shares = shares_in rows.row;
 }
@@ -123,7 +123,7 @@ own_by rows closed meeting polls now = record {
   given = map (given_in rows.ended) rows.given;
   persons = rows.persons;
   received = map (received_by rows.members closed meeting polls now) rows.received;
-  authorised = map authorised_by rows.authorised;
+  authorised = map authorised_in_rows rows.authorised;
   present = rows.present;
   demands = rows.demands;
   casts = rows.casts;

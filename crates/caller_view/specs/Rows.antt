@@ -14,14 +14,14 @@ use Rattle.caller_view.specs.declared.rows.MemberRows.{MemberRows}
 use Rattle.caller_view.specs.declared.rows.OwnRows.{OwnRows}
 
 -- the parties, each once, where it first stands
-abbrev pub each_once : List Party → List Party
-each_once [] = []
-each_once (party ∷ parties) =
-    party ∷ filter (λ other. not (same_name other party)) (each_once parties)
+abbrev pub parties_once : List Party → List Party
+parties_once [] = []
+parties_once (party ∷ parties) =
+    party ∷ filter (λ other. not (same_name other party)) (parties_once parties)
 
 -- the members who gave these appointments, each once
 abbrev pub givers : List Appointment → List Party
-givers given = each_once (map (λ (a : Appointment). a.member) given)
+givers given = parties_once (map (λ (a : Appointment). a.member) given)
 
 -- a member, with its shares, its appointments and its endings in a meeting
 abbrev pub member_in : MeetingLists → Party → MemberRows
@@ -31,8 +31,8 @@ member_in m member = record {
 }
 
 -- an authority, with its corporation's row in the register of a meeting
-abbrev pub authority_in : MeetingLists → Authority → AuthorityRows
-authority_in m a = record { authority = a; row = row_of m.register a.corporation }
+abbrev pub authority_rows_in : MeetingLists → Authority → AuthorityRows
+authority_rows_in m a = record { authority = a; row = row_of m.register a.corporation }
 
 -- the rows of a party in a meeting
 abbrev pub rows_of : MeetingLists → Party → OwnRows
@@ -44,7 +44,7 @@ rows_of m party = record {
   persons = filter (is_authority_of party) m.authorities;
   received = filter (names party) m.appointments;
   members = map (member_in m) (givers (filter (names party) m.appointments));
-  authorised = map (authority_in m) (filter (authorises party) m.authorities);
+  authorised = map (authority_rows_in m) (filter (authorises party) m.authorities);
   present = list_any (is_presence_of party) m.presences;
   demands = filter (is_demanded_by party) m.demands;
   casts = filter (is_cast_by party) m.casts;

@@ -2,7 +2,7 @@
 ghost use Rattle.std.specs.Prelude.{◌≡◌};
 ghost use Rattle.desk_words.specs.Refusals.{first_refusal};
 ghost use Rattle.desk_words.specs.Rulings.{settled};
-ghost use Rattle.caller_view.specs.Attendance.{attend_ruling, authorise_cases, authorise_ruling, demand_cases, demand_ruling, gave_authority, governs_any, has_demanded, may_demand, represents};
+ghost use Rattle.caller_view.specs.Attendance.{attend_ruling, authorise_cases, authorise_ruling, demand_cases, demand_ruling, gave_authority, governs_any, own_demanded, may_demand, represents};
 
 use crate::rights::holds_as_individual;
 use crate::views::{OwnView, PublicRecord};
@@ -87,7 +87,7 @@ fn may_demand(own: &OwnView) -> bool
 
 /// Whether the party has demanded a poll on the resolution already.
 fn has_demanded(own: &OwnView, resolution: u64) -> bool
-    ensures { result ≡ has_demanded own.now resolution }
+    ensures { result ≡ own_demanded own.now resolution }
 {
     let demands = own.demands.as_slice();
     demands.iter().any(|demand| demand.resolution == resolution)

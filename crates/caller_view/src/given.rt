@@ -4,7 +4,7 @@ ghost use Rattle.std.specs.BTreeMap.{get};
 ghost use Rattle.std.specs.Option.{option_copied};
 ghost use Rattle.std.specs.Ordering.{nat_cmp};
 ghost use Rattle.caller_view.specs.Kept.{given_kept};
-ghost use Rattle.caller_view.specs.Own.{authorised_by, ended_at, given_in, shares_in};
+ghost use Rattle.caller_view.specs.Own.{authorised_in_rows, ended_at, given_in, shares_in};
 
 use crate::rows::AuthorityRows;
 use desk_words::{
@@ -69,7 +69,7 @@ fn shares_in(row: Option<&RegisterRow>) -> u64
 
 /// An authority's corporation, with its shares in the register.
 fn authorised_by(rows: &AuthorityRows) -> Authorised
-    ensures { result ≡ authorised_by rows.now }
+    ensures { result ≡ authorised_in_rows rows.now }
 {
     Authorised {
         corporation: rows.authority.corporation,
@@ -82,7 +82,7 @@ pub(crate) fn authorised_from(
     alloc: Global,
     authorised: &[AuthorityRows],
 ) -> Result<Vec<Authorised>, AllocError>
-    ensures { IfOk result (λ all. all.items ≡ map authorised_by authorised.now) }
+    ensures { IfOk result (λ all. all.items ≡ map authorised_in_rows authorised.now) }
 {
     authorised.iter().map(authorised_by).collect(alloc)
 }

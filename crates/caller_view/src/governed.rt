@@ -6,7 +6,7 @@ ghost use Rattle.std.specs.List.{slice_get};
 ghost use Rattle.std.specs.Option.{option_copied};
 ghost use Rattle.desk_terms.specs.Names.{name_cmp};
 ghost use Rattle.proxy_rules.specs.Cutoffs.{is_late_poll};
-ghost use Rattle.caller_view.specs.Kept.{AreByMember, governed_late, late_of, received_with};
+ghost use Rattle.caller_view.specs.Kept.{AreByMember, late_in_rows, late_of, received_with};
 ghost use Rattle.caller_view.specs.Own.{governed_by, governed_kept, received_by, rows_by};
 
 use crate::rows::MemberRows;
@@ -123,7 +123,7 @@ impl<'a> Members<'a> {
     ) -> Result<Listing<PollGoverned>, AllocError>
         requires { AreByMember self.now.rows.now self.now.places.now }
         ensures { IfOk result
-            (λ polls. polls ≡ map (governed_late self.now.rows.now member number) late.now) }
+            (λ polls. polls ≡ map (late_in_rows self.now.rows.now member number) late.now) }
     {
         let mut polls = Listing::new(alloc);
         for poll in late {

@@ -25,7 +25,11 @@ impl<'a> Model for PublicRecord<'a> {
 
     ghost Value = { PublicRecord };
 
-    ghost view = { λ r. record { closed = r.closed.now; meeting = option_copied r.meeting; polls = r.polls.now } };
+    ghost view = { λ r. record {
+      closed = r.closed.now;
+      meeting = option_copied r.meeting;
+      polls = r.polls.now;
+    } };
 }
 
 impl<'a> PublicRecord<'a> {

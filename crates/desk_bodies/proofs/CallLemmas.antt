@@ -4,9 +4,9 @@ use Rattle.desk_calendar.specs.Texts.{day_of, moment_of}
 use Rattle.desk_terms.specs.Kinds.{company_of, meeting_kind_of}
 use Rattle.desk_words.specs.declared.request.NewMeeting.{NewMeeting}
 use Rattle.desk_bodies.specs.Bodies.{body_of, read_by}
-use Rattle.desk_bodies.specs.Calls.{call_in, resolutions_in}
-use Rattle.desk_bodies.specs.Places.{has_fields, spelled}
-use Rattle.desk_bodies.specs.Reads.{only, ◌>>=◌}
+use Rattle.desk_bodies.specs.Calls.{call_body, resolutions_in}
+use Rattle.desk_bodies.specs.Places.{has_fields, spelled_at}
+use Rattle.desk_terms.specs.Options.{only, ◌>>=◌}
 
 -- a fact holds for what is read
 pub record Keeps {A : Type 0} (kept : A → Type 0) (read : Option A) : Type 0 where
@@ -21,15 +21,15 @@ keeps_next kept (Some x) next later = later x
 keeps_next kept None next later = record { some = λ y e. cc }
 
 -- the meeting that is called has the name
-pub call_keeps : (meeting body : List ℕ) → Keeps (λ (new : NewMeeting). Some meeting ≡ Some new.meeting) (read_by (call_in meeting) body)
-unfolding read_by call_in
+pub call_keeps : (meeting body : List ℕ) → Keeps (λ (new : NewMeeting). Some meeting ≡ Some new.meeting) (read_by (call_body meeting) body)
+unfolding read_by call_body
 call_keeps meeting body =
     let kept : NewMeeting → Type 0 = λ new. Some meeting ≡ Some new.meeting in
     keeps_next kept (body_of body) _ (λ d.
     keeps_next kept (only (has_fields 6 d)) _ (λ exactly.
-    keeps_next kept (spelled company_of _) _ (λ company.
-    keeps_next kept (spelled meeting_kind_of _) _ (λ kind.
-    keeps_next kept (spelled day_of _) _ (λ given.
-    keeps_next kept (spelled moment_of _) _ (λ appointed.
-    keeps_next kept (spelled moment_of _) _ (λ record_moment.
+    keeps_next kept (spelled_at company_of _) _ (λ company.
+    keeps_next kept (spelled_at meeting_kind_of _) _ (λ kind.
+    keeps_next kept (spelled_at day_of _) _ (λ given.
+    keeps_next kept (spelled_at moment_of _) _ (λ appointed.
+    keeps_next kept (spelled_at moment_of _) _ (λ record_moment.
     keeps_next kept (resolutions_in _) _ (λ resolutions. keeps_some kept _ refl))))))))

@@ -1,6 +1,7 @@
 -- The laws of requests.
 use Rattle.std.proofs.Common.{◌≡◌, ℕ, List, Option, Some, None, Ok, Err, refl, ap, ◌∙◌, ◌⊎◌, inl, inr}
 use Rattle.std.specs.Prelude.{option_map}
+use Rattle.desk_terms.specs.Results.{◌>>=◌}
 use Rattle.desk_terms.specs.declared.refusal.Refusal.{Refusal}
 use Rattle.desk_terms.specs.declared.refusal.Refusal.TheVariants as refusal
 use Rattle.desk_terms.specs.Names.{meeting_of}
@@ -9,13 +10,13 @@ use Rattle.desk_words.specs.declared.request.Request.{Request}
 use Rattle.desk_words.specs.declared.request.Request.TheVariants as request
 use Rattle.desk_bodies.specs.declared.route.Route.{Route}
 use Rattle.desk_bodies.specs.declared.route.Route.TheVariants as route
-use Rattle.desk_bodies.specs.Answers.{◌>>=◌, readable}
+use Rattle.desk_bodies.specs.Answers.{readable}
 use Rattle.desk_bodies.specs.Bodies.{read_by}
-use Rattle.desk_bodies.specs.Calls.{call_in}
-use Rattle.desk_bodies.specs.Days.{closed_in}
-use Rattle.desk_bodies.specs.Keys.{keys_in}
-use Rattle.desk_bodies.specs.Laws.{meeting_in}
-use Rattle.desk_bodies.specs.Requests.{asked, office_asks, party_asks, request_of, routed}
+use Rattle.desk_bodies.specs.Calls.{call_body}
+use Rattle.desk_bodies.specs.Days.{closed_body}
+use Rattle.desk_bodies.specs.Keys.{keys_body}
+use Rattle.desk_bodies.specs.Laws.{meeting_asked}
+use Rattle.desk_bodies.specs.Requests.{asked_on_route, office_asks, party_asks, request_of, routed}
 use Rattle.desk_bodies.specs.Routes.{route_of}
 use Rattle.desk_bodies.proofs.CallLemmas.{call_keeps}
 use Rattle.desk_bodies.proofs.RouteLemmas.{meeting_on, route_keeps}
@@ -26,19 +27,19 @@ unreadable : (read : Option Request) (why : Refusal) → readable read ≡ Err w
 unreadable None why e = cc
 unreadable (Some request) why e = cc
 
-two : (found : Option Route) (body : List ℕ) (why : Refusal) → routed found >>= (λ way. readable (asked way body)) ≡ Err why → (why ≡ refusal.Route) ⊎ (why ≡ refusal.Unreadable)
+two : (found : Option Route) (body : List ℕ) (why : Refusal) → routed found >>= (λ way. readable (asked_on_route way body)) ≡ Err why → (why ≡ refusal.Route) ⊎ (why ≡ refusal.Unreadable)
 two None body why e = let same : why ≡ refusal.Route = cc in inl same
-two (Some way) body why e = inr (unreadable (asked way body) why e)
+two (Some way) body why e = inr (unreadable (asked_on_route way body) why e)
 
 pub refusals_are_two_lem : (meeting verb body : List ℕ) (why : Refusal) → request_of meeting verb body ≡ Err why → (why ≡ refusal.Route) ⊎ (why ≡ refusal.Unreadable)
 unfolding request_of
 refusals_are_two_lem meeting verb body why e = two (route_of meeting verb) body why e
 
 first : (found : Option Route) (body other : List ℕ)
-    → routed found >>= (λ way. readable (asked way body)) ≡ Err refusal.Route
-    → routed found >>= (λ way. readable (asked way other)) ≡ Err refusal.Route
+    → routed found >>= (λ way. readable (asked_on_route way body)) ≡ Err refusal.Route
+    → routed found >>= (λ way. readable (asked_on_route way other)) ≡ Err refusal.Route
 first None body other e = refl
-first (Some way) body other e = let same : refusal.Route ≡ refusal.Unreadable = unreadable (asked way body) refusal.Route e in cc
+first (Some way) body other e = let same : refusal.Route ≡ refusal.Unreadable = unreadable (asked_on_route way body) refusal.Route e in cc
 
 pub route_comes_first_lem : (meeting verb body other : List ℕ) → request_of meeting verb body ≡ Err refusal.Route → request_of meeting verb other ≡ Err refusal.Route
 unfolding request_of
@@ -47,15 +48,15 @@ route_comes_first_lem meeting verb body other e = first (route_of meeting verb) 
 -- ---- the meeting is kept
 
 -- what is read on a route is of its meeting
-of_made : {A : Type 0} (meeting : Option (List ℕ)) (made : A → Request) (read : Option A) → ((x : A) → read ≡ Some x → meeting ≡ meeting_in (made x))
-    → (wanted : Request) → option_map made read ≡ Some wanted → meeting ≡ meeting_in wanted
+of_made : {A : Type 0} (meeting : Option (List ℕ)) (made : A → Request) (read : Option A) → ((x : A) → read ≡ Some x → meeting ≡ meeting_asked (made x))
+    → (wanted : Request) → option_map made read ≡ Some wanted → meeting ≡ meeting_asked wanted
 of_made meeting made None same wanted e = cc
-of_made meeting made (Some x) same wanted e = let is : made x ≡ wanted = cc in same x refl ∙ ap meeting_in is
+of_made meeting made (Some x) same wanted e = let is : made x ≡ wanted = cc in same x refl ∙ ap meeting_asked is
 
-of_route : (way : Route) (body : List ℕ) (wanted : Request) → asked way body ≡ Some wanted → meeting_on way ≡ meeting_in wanted
-of_route (route.Call m) body wanted e = of_made (Some m) (λ new. request.Desk (desk.CallMeeting new)) (read_by (call_in m) body) (call_keeps m body).some wanted e
-of_route route.Closed body wanted e = of_made None (λ days. request.Desk (desk.ClosedDays days)) (read_by closed_in body) (λ days is. refl) wanted e
-of_route route.Keys body wanted e = of_made None (λ rows. request.Desk (desk.Keys rows)) (read_by keys_in body) (λ rows is. refl) wanted e
+of_route : (way : Route) (body : List ℕ) (wanted : Request) → asked_on_route way body ≡ Some wanted → meeting_on way ≡ meeting_asked wanted
+of_route (route.Call m) body wanted e = of_made (Some m) (λ new. request.Desk (desk.CallMeeting new)) (read_by (call_body m) body) (call_keeps m body).some wanted e
+of_route route.Closed body wanted e = of_made None (λ days. request.Desk (desk.ClosedDays days)) (read_by closed_body body) (λ days is. refl) wanted e
+of_route route.Keys body wanted e = of_made None (λ rows. request.Desk (desk.Keys rows)) (read_by keys_body body) (λ rows is. refl) wanted e
 of_route (route.Office m verb) body wanted e = of_made (Some m) (λ what. request.Office m what) (office_asks verb body) (λ what is. refl) wanted e
 of_route (route.Party m verb) body wanted e = of_made (Some m) (λ what. request.Party m what) (party_asks verb body) (λ what is. refl) wanted e
 
@@ -64,10 +65,10 @@ of_readable None wanted e = cc
 of_readable (Some made) wanted e = cc
 
 kept : (meeting : List ℕ) (found : Option Route) → ((way : Route) → found ≡ Some way → meeting_of meeting ≡ meeting_on way)
-    → (body : List ℕ) (wanted : Request) → routed found >>= (λ way. readable (asked way body)) ≡ Ok wanted → meeting_of meeting ≡ meeting_in wanted
+    → (body : List ℕ) (wanted : Request) → routed found >>= (λ way. readable (asked_on_route way body)) ≡ Ok wanted → meeting_of meeting ≡ meeting_asked wanted
 kept meeting None is body wanted e = cc
-kept meeting (Some way) is body wanted e = is way refl ∙ of_route way body wanted (of_readable (asked way body) wanted e)
+kept meeting (Some way) is body wanted e = is way refl ∙ of_route way body wanted (of_readable (asked_on_route way body) wanted e)
 
-pub requests_keep_the_meeting_lem : (meeting verb body : List ℕ) (request : Request) → request_of meeting verb body ≡ Ok request → meeting_of meeting ≡ meeting_in request
+pub requests_keep_the_meeting_lem : (meeting verb body : List ℕ) (request : Request) → request_of meeting verb body ≡ Ok request → meeting_of meeting ≡ meeting_asked request
 unfolding request_of
 requests_keep_the_meeting_lem meeting verb body request e = kept meeting (route_of meeting verb) (route_keeps meeting verb) body request e

@@ -7,7 +7,7 @@ use Rattle.desk_bodies.specs.declared.route.Route.{Route}
 use Rattle.desk_bodies.specs.declared.route.Route.TheVariants as route
 use Rattle.desk_bodies.specs.declared.verb.Verb.{Verb}
 use Rattle.desk_bodies.specs.declared.verb.Verb.TheVariants.{Call, Closed, Keys, Office, Party}
-use Rattle.desk_bodies.specs.Reads.{◌>>=◌}
+use Rattle.desk_terms.specs.Options.{◌>>=◌}
 use Rattle.desk_bodies.specs.Routes.{route_by, route_of}
 use Rattle.desk_bodies.specs.Verbs.{verb_of}
 

@@ -11,19 +11,9 @@ Refuses (Refused refusal) answer = answer ≡ Err refusal
 Refuses Memory answer = Unit {0}
 
 -- what was returned, as contracts see it, is the answer, unless memory ran out
-abbrev pub Gives : {X Y : Type 0} → (X → Y) → Result X Ask → Result Y Refusal → Type 0
-Gives seen (Ok x) answer = answer ≡ Ok (seen x)
-Gives seen (Err ask) answer = Refuses ask answer
-
--- as it is
-abbrev pub itself : {X : Type 0} → X → X
-itself x = x
-
--- one reading after another, up to the first refusal
-infixl 10 ◌>>=◌
-abbrev pub ◌>>=◌ : {A B : Type 0} → Result A Refusal → (A → Result B Refusal) → Result B Refusal
-(Ok x) >>= next = next x
-(Err refusal) >>= next = Err refusal
+abbrev pub Says : {X Y : Type 0} → (X → Y) → Result X Ask → Result Y Refusal → Type 0
+Says seen (Ok x) answer = answer ≡ Ok (seen x)
+Says seen (Err ask) answer = Refuses ask answer
 
 -- unreadable where there is none
 abbrev pub readable : {A : Type 0} → Option A → Result A Refusal

@@ -9,12 +9,12 @@ use Rattle.desk_terms.specs.Names.{party_of}
 use Rattle.desk_words.specs.declared.limits.TheConstants.{MOST_RESOLUTIONS}
 use Rattle.desk_words.specs.declared.request.PartyRequest.{PartyRequest}
 use Rattle.desk_words.specs.declared.request.PartyRequest.TheVariants.{Appoint, End}
-use Rattle.desk_bodies.specs.Reads.{only, ◌>>=◌}
-use Rattle.desk_bodies.specs.Places.{has_fields, items_in, number_in, spelled, each}
+use Rattle.desk_terms.specs.Options.{only, ◌>>=◌}
+use Rattle.desk_bodies.specs.Places.{has_fields, items_in, number_at, spelled_at, each}
 
 -- a value is the word for an instruction
 unfoldable pub instruction_at : Data → Option Instr
-instruction_at d = spelled instruction_of (Some d)
+instruction_at d = spelled_at instruction_of (Some d)
 
 -- the instructions at a place: 0 to `MOST_RESOLUTIONS` words
 unfoldable pub instructions_in : Option Data → Option (List Instr)
@@ -24,12 +24,12 @@ instructions_in place = do
   each instruction_at items
 
 -- the appointment that a value gives (section 324): four fields, each of its form
-unfoldable pub appoint_in : Data → Option PartyRequest
-appoint_in d = do
+unfoldable pub appoint_body : Data → Option PartyRequest
+appoint_body d = do
   exactly ← only (has_fields 4 d)
-  proxy ← spelled party_of (get (codes "proxy") d)
-  from ← number_in (get (codes "from") d)
-  to ← number_in (get (codes "to") d)
+  proxy ← spelled_at party_of (get (codes "proxy") d)
+  from ← number_at (get (codes "from") d)
+  to ← number_at (get (codes "to") d)
   instructions ← instructions_in (get (codes "instructions") d)
   Some (Appoint (record { proxy = proxy; from = from; to = to; instructions = instructions }))
 
@@ -37,5 +37,5 @@ appoint_in d = do
 unfoldable pub end_in : Data → Option PartyRequest
 end_in d = do
   exactly ← only (has_fields 1 d)
-  number ← number_in (get (codes "number") d)
+  number ← number_at (get (codes "number") d)
   Some (End number)

@@ -3,7 +3,7 @@ use Rattle.std.specs.Prelude.{ℕ, ◌==◌, List, length, Option, None, codes, 
 use Rattle.std.specs.Str.{is_utf8}
 use Rattle.serde_json.specs.Data.{Data}
 use Rattle.serde_json.specs.Read.{read}
-use Rattle.desk_bodies.specs.Reads.{◌>>=◌}
+use Rattle.desk_terms.specs.Options.{◌>>=◌}
 
 -- an empty body stands for an object with no fields
 abbrev pub filled : List ℕ → List ℕ

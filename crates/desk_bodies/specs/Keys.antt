@@ -6,15 +6,15 @@ use Rattle.desk_terms.specs.Names.{key_of}
 use Rattle.desk_words.specs.Callers.{caller_of}
 use Rattle.desk_words.specs.Lists.{key_list_of}
 use Rattle.desk_words.specs.declared.caller.KeyRow.{KeyRow}
-use Rattle.desk_bodies.specs.Reads.{only, ◌>>=◌}
-use Rattle.desk_bodies.specs.Places.{has_fields, has_items, items_in, spelled, each}
+use Rattle.desk_terms.specs.Options.{only, ◌>>=◌}
+use Rattle.desk_bodies.specs.Places.{has_fields, has_items, items_in, spelled_at, each}
 
 -- a row is a pair of a caller and its key
 unfoldable pub key_row_of : Data → Option KeyRow
 key_row_of d = do
   pair ← only (has_items 2 d)
-  caller ← spelled caller_of (at 0 d)
-  secret ← spelled key_of (at 1 d)
+  caller ← spelled_at caller_of (at 0 d)
+  secret ← spelled_at key_of (at 1 d)
   Some (record { caller = caller; secret = secret })
 
 -- the list that the rows at a place make
@@ -25,7 +25,7 @@ key_rows_in place = do
   key_list_of rows
 
 -- the keys that a value loads: one field alone
-unfoldable pub keys_in : Data → Option (List KeyRow)
-keys_in d = do
+unfoldable pub keys_body : Data → Option (List KeyRow)
+keys_body d = do
   exactly ← only (has_fields 1 d)
   key_rows_in (get (codes "rows") d)

@@ -12,8 +12,8 @@ use Rattle.desk_bodies.specs.Requests.{request_of}
 use Rattle.desk_bodies.specs.Verbs.{verb_word, verb_of}
 
 -- each word reads back as the verb that it was written for
-abbrev pub WordsReadBack : Type 0
-WordsReadBack = (verb : Verb) → verb_of (verb_word verb) ≡ Some verb
+abbrev pub VerbsReadBack : Type 0
+VerbsReadBack = (verb : Verb) → verb_of (verb_word verb) ≡ Some verb
 
 -- every refusal is one of two
 abbrev pub RefusalsAreTwo : Type 0
@@ -35,14 +35,14 @@ meeting_called (CallMeeting called) = Some called.meeting
 meeting_called other = None
 
 -- the meeting of a request
-abbrev pub meeting_in : Request → Option (List ℕ)
-meeting_in (Desk what) = meeting_called what
-meeting_in (Office meeting what) = Some meeting
-meeting_in (Party meeting what) = Some meeting
+abbrev pub meeting_asked : Request → Option (List ℕ)
+meeting_asked (Desk what) = meeting_called what
+meeting_asked (Office meeting what) = Some meeting
+meeting_asked (Party meeting what) = Some meeting
 
 -- a request is of the meeting that was named, and one of the whole desk of none
 abbrev pub RequestsKeepTheMeeting : Type 0
 RequestsKeepTheMeeting =
     (meeting verb body : List ℕ) (request : Request)
     → request_of meeting verb body ≡ Ok request
-    → meeting_of meeting ≡ meeting_in request
+    → meeting_of meeting ≡ meeting_asked request

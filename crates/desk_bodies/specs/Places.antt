@@ -7,7 +7,7 @@ use Rattle.serde_json.specs.View.{view}
 use Rattle.serde_json.specs.declared.value.Value.{Value}
 use Rattle.serde_json.specs.Find.{as_number, as_u64, as_bool, as_str, as_object, as_array}
 use Rattle.serde_json.specs.Events.{members_len, items_len}
-use Rattle.desk_bodies.specs.Reads.{◌>>=◌}
+use Rattle.desk_terms.specs.Options.{◌>>=◌}
 
 -- the value at a place, if there is one
 abbrev pub there : Option (Bor Value) → Option Data
@@ -26,20 +26,20 @@ abbrev pub string_in : Option Data → Option (List ℕ)
 string_in place = option_and_then as_str place
 
 -- the number at a place, which is whole, with no sign, fraction or exponent, and below 2^64
-abbrev pub number_in : Option Data → Option ℕ
-number_in place = option_and_then as_u64 (option_and_then as_number place)
+abbrev pub number_at : Option Data → Option ℕ
+number_at place = option_and_then as_u64 (option_and_then as_number place)
 
 -- true or false, whichever stands at a place
-abbrev pub flag_in : Option Data → Option Bool
-flag_in place = option_and_then as_bool place
+abbrev pub flag_at : Option Data → Option Bool
+flag_at place = option_and_then as_bool place
 
 -- the items of the array at a place
 abbrev pub items_in : Option Data → Option Items
 items_in place = option_and_then as_array place
 
 -- what the string at a place spells
-unfoldable pub spelled : {A : Type 0} → (List ℕ → Option A) → Option Data → Option A
-spelled reading place = string_in place >>= reading
+unfoldable pub spelled_at : {A : Type 0} → (List ℕ → Option A) → Option Data → Option A
+spelled_at reading place = string_in place >>= reading
 
 -- what each of the items is
 abbrev pub each : {A : Type 0} → (Data → Option A) → Items → Option (List A)

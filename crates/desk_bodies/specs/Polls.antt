@@ -10,58 +10,58 @@ use Rattle.desk_words.specs.declared.request.OfficeRequest.{OfficeRequest}
 use Rattle.desk_words.specs.declared.request.OfficeRequest.TheVariants.{Order, Start, Close, Declare}
 use Rattle.desk_words.specs.declared.request.PartyRequest.{PartyRequest}
 use Rattle.desk_words.specs.declared.request.PartyRequest.TheVariants.{Demand, Cast, Instructed}
-use Rattle.desk_bodies.specs.Reads.{only, ◌>>=◌}
-use Rattle.desk_bodies.specs.Places.{has_fields, number_in, flag_in, spelled}
+use Rattle.desk_terms.specs.Options.{only, ◌>>=◌}
+use Rattle.desk_bodies.specs.Places.{has_fields, number_at, flag_at, spelled_at}
 
 -- the poll that a value orders (section 321): three fields, each of its form
 unfoldable pub order_in : Data → Option OfficeRequest
 order_in d = do
   exactly ← only (has_fields 3 d)
-  resolution ← number_in (get (codes "resolution") d)
-  take ← spelled moment_of (get (codes "take") d)
-  chair ← flag_in (get (codes "chair") d)
+  resolution ← number_at (get (codes "resolution") d)
+  take ← spelled_at moment_of (get (codes "take") d)
+  chair ← flag_at (get (codes "chair") d)
   Some (Order (record { resolution = resolution; take = take; chair = chair }))
 
 -- the poll that a value names: by its resolution, and one field alone
-unfoldable pub poll_in : Data → Option Number
-poll_in d = do
+unfoldable pub poll_body : Data → Option Number
+poll_body d = do
   exactly ← only (has_fields 1 d)
-  number_in (get (codes "resolution") d)
+  number_at (get (codes "resolution") d)
 
 -- the start of that poll
 unfoldable pub start_in : Data → Option OfficeRequest
 start_in d = do
-  resolution ← poll_in d
+  resolution ← poll_body d
   Some (Start resolution)
 
 -- the close of the voting on that poll
 unfoldable pub close_in : Data → Option OfficeRequest
 close_in d = do
-  resolution ← poll_in d
+  resolution ← poll_body d
   Some (Close resolution)
 
 -- the declaration of that poll
 unfoldable pub declare_in : Data → Option OfficeRequest
 declare_in d = do
-  resolution ← poll_in d
+  resolution ← poll_body d
   Some (Declare resolution)
 
 -- a demand of that poll (section 321)
-unfoldable pub demand_in : Data → Option PartyRequest
-demand_in d = do
-  resolution ← poll_in d
+unfoldable pub demand_body : Data → Option PartyRequest
+demand_body d = do
+  resolution ← poll_body d
   Some (Demand resolution)
 
 -- the vote that a value casts (sections 284, 322, 323 and 324): six fields, each of its form
-unfoldable pub cast_in : Data → Option PartyRequest
-cast_in d = do
+unfoldable pub cast_body : Data → Option PartyRequest
+cast_body d = do
   exactly ← only (has_fields 6 d)
-  resolution ← number_in (get (codes "resolution") d)
-  capacity ← spelled capacity_of (get (codes "as") d)
-  member ← spelled party_of (get (codes "member") d)
-  from ← number_in (get (codes "from") d)
-  to ← number_in (get (codes "to") d)
-  way ← spelled way_of (get (codes "way") d)
+  resolution ← number_at (get (codes "resolution") d)
+  capacity ← spelled_at capacity_of (get (codes "as") d)
+  member ← spelled_at party_of (get (codes "member") d)
+  from ← number_at (get (codes "from") d)
+  to ← number_at (get (codes "to") d)
+  way ← spelled_at way_of (get (codes "way") d)
   Some
       (Cast
       (record {
@@ -76,5 +76,5 @@ cast_in d = do
 -- what is cast as instructed (section 324A)
 unfoldable pub instructed_in : Data → Option PartyRequest
 instructed_in d = do
-  resolution ← poll_in d
+  resolution ← poll_body d
   Some (Instructed resolution)

@@ -7,8 +7,8 @@ use Rattle.desk_words.specs.declared.request.OfficeRequest.{OfficeRequest}
 use Rattle.desk_words.specs.declared.request.OfficeRequest.TheVariants.{OpenMeeting, Presence}
 use Rattle.desk_words.specs.declared.request.PartyRequest.{PartyRequest}
 use Rattle.desk_words.specs.declared.request.PartyRequest.TheVariants.{Attend, Authorise}
-use Rattle.desk_bodies.specs.Reads.{only, ◌>>=◌}
-use Rattle.desk_bodies.specs.Places.{has_fields, spelled}
+use Rattle.desk_terms.specs.Options.{only, ◌>>=◌}
+use Rattle.desk_bodies.specs.Places.{has_fields, spelled_at}
 
 -- the opening of the meeting, of which the value says nothing
 unfoldable pub open_in : Data → Option OfficeRequest
@@ -17,10 +17,10 @@ open_in d = do
   Some OpenMeeting
 
 -- the presence that a value notes (section 318): of a party, and one field alone
-unfoldable pub presence_in : Data → Option OfficeRequest
-presence_in d = do
+unfoldable pub presence_body : Data → Option OfficeRequest
+presence_body d = do
   exactly ← only (has_fields 1 d)
-  party ← spelled party_of (get (codes "party") d)
+  party ← spelled_at party_of (get (codes "party") d)
   Some (Presence party)
 
 -- a party's own presence, of which the value says nothing
@@ -33,5 +33,5 @@ attend_in d = do
 unfoldable pub authorise_in : Data → Option PartyRequest
 authorise_in d = do
   exactly ← only (has_fields 1 d)
-  person ← spelled party_of (get (codes "person") d)
+  person ← spelled_at party_of (get (codes "person") d)
   Some (Authorise person)

@@ -12,20 +12,9 @@ ReadsNothing Unreadable read = read ≡ None
 ReadsNothing Memory read = Unit {0}
 
 -- what was returned, as contracts see it, is what was read, unless memory ran out
-abbrev pub Reads : {X Y : Type 0} → (X → Y) → Result X Unread → Option Y → Type 0
-Reads seen (Ok x) read = read ≡ Some (seen x)
-Reads seen (Err unread) read = ReadsNothing unread read
-
--- one reading after another, up to the first that is unreadable
-infixl 10 ◌>>=◌
-abbrev pub ◌>>=◌ : {A B : Type 0} → Option A → (A → Option B) → Option B
-(Some x) >>= next = next x
-None >>= next = None
-
--- unreadable where the test fails
-abbrev pub only : Bool → Option (Unit {0})
-only true = Some tt
-only false = None
+abbrev pub ReadsData : {X Y : Type 0} → (X → Y) → Result X Unread → Option Y → Type 0
+ReadsData seen (Ok x) read = read ≡ Some (seen x)
+ReadsData seen (Err unread) read = ReadsNothing unread read
 
 -- what is not read is refused as unreadable
 abbrev pub ask_of : Unread → Ask

@@ -9,32 +9,32 @@ use Rattle.desk_words.specs.Registers.{register_of}
 use Rattle.desk_words.specs.declared.records.RegisterRow.{RegisterRow}
 use Rattle.desk_words.specs.declared.request.OfficeRequest.{OfficeRequest}
 use Rattle.desk_words.specs.declared.request.OfficeRequest.TheVariants.{LoadRegister}
-use Rattle.desk_bodies.specs.Reads.{only, ◌>>=◌}
+use Rattle.desk_terms.specs.Options.{only, ◌>>=◌}
 use Rattle.desk_terms.specs.Texts.{text_of}
-use Rattle.desk_bodies.specs.Places.{has_fields, has_items, items_in, number_in, spelled, each}
+use Rattle.desk_bodies.specs.Places.{has_fields, has_items, items_in, number_at, spelled_at, each}
 
 -- a row is a member, its kind, its name, its shares and what is paid up on each of them
-unfoldable pub row_of : Data → Option RegisterRow
-row_of d = do
+unfoldable pub row_at : Data → Option RegisterRow
+row_at d = do
   five ← only (has_items 5 d)
-  member ← spelled party_of (at 0 d)
-  kind ← spelled holder_kind_of (at 1 d)
-  name ← spelled text_of (at 2 d)
-  shares ← number_in (at 3 d)
-  paid ← number_in (at 4 d)
+  member ← spelled_at party_of (at 0 d)
+  kind ← spelled_at holder_kind_of (at 1 d)
+  name ← spelled_at text_of (at 2 d)
+  shares ← number_at (at 3 d)
+  paid ← number_at (at 4 d)
   Some (record { member = member; kind = kind; name = name; shares = shares; paid = paid })
 
 -- the register that the rows at a place make
-unfoldable pub register_in : Option Data → Option (List RegisterRow)
-register_in place = do
+unfoldable pub register_body : Option Data → Option (List RegisterRow)
+register_body place = do
   items ← items_in place
-  rows ← each row_of items
+  rows ← each row_at items
   register_of rows
 
 -- the register that a value loads: two fields, each of its form
 unfoldable pub load_in : Data → Option OfficeRequest
 load_in d = do
   exactly ← only (has_fields 2 d)
-  record_moment ← spelled moment_of (get (codes "record") d)
-  rows ← register_in (get (codes "rows") d)
+  record_moment ← spelled_at moment_of (get (codes "record") d)
+  rows ← register_body (get (codes "rows") d)
   Some (LoadRegister (record { record_moment = record_moment; rows = rows }))

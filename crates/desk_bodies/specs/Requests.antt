@@ -1,5 +1,6 @@
 -- Requests, as a meeting, a verb and a body ask them.
 use Rattle.std.specs.Prelude.{ℕ, List, Option, option_map, Result, ok_or}
+use Rattle.desk_terms.specs.Results.{◌>>=◌}
 use Rattle.desk_terms.specs.declared.refusal.Refusal.{Refusal}
 use Rattle.desk_terms.specs.declared.refusal.Refusal.TheVariants as refusal
 use Rattle.desk_words.specs.declared.request.DeskRequest.TheVariants as desk
@@ -11,11 +12,11 @@ use Rattle.desk_bodies.specs.declared.route.Route.{Route}
 use Rattle.desk_bodies.specs.declared.route.Route.TheVariants as route
 use Rattle.desk_bodies.specs.declared.verb.OfficeVerb.{OfficeVerb}
 use Rattle.desk_bodies.specs.declared.verb.PartyVerb.{PartyVerb}
-use Rattle.desk_bodies.specs.Answers.{readable, ◌>>=◌}
+use Rattle.desk_bodies.specs.Answers.{readable}
 use Rattle.desk_bodies.specs.Bodies.{read_by}
-use Rattle.desk_bodies.specs.Calls.{call_in}
-use Rattle.desk_bodies.specs.Days.{closed_in}
-use Rattle.desk_bodies.specs.Keys.{keys_in}
+use Rattle.desk_bodies.specs.Calls.{call_body}
+use Rattle.desk_bodies.specs.Days.{closed_body}
+use Rattle.desk_bodies.specs.Keys.{keys_body}
 use Rattle.desk_bodies.specs.Routes.{route_of}
 use Rattle.desk_bodies.specs.Verbs.{office_way, party_way}
 
@@ -28,15 +29,16 @@ abbrev pub party_asks : PartyVerb → List ℕ → Option PartyRequest
 party_asks verb body = (party_way verb).1 body
 
 -- what is asked on a route, as the body says it
-abbrev pub asked : Route → List ℕ → Option Request
-asked (route.Call meeting) body =
-    option_map (λ new. request.Desk (desk.CallMeeting new)) (read_by (call_in meeting) body)
-asked route.Closed body =
-    option_map (λ days. request.Desk (desk.ClosedDays days)) (read_by closed_in body)
-asked route.Keys body = option_map (λ rows. request.Desk (desk.Keys rows)) (read_by keys_in body)
-asked (route.Office meeting verb) body =
+abbrev pub asked_on_route : Route → List ℕ → Option Request
+asked_on_route (route.Call meeting) body =
+    option_map (λ new. request.Desk (desk.CallMeeting new)) (read_by (call_body meeting) body)
+asked_on_route route.Closed body =
+    option_map (λ days. request.Desk (desk.ClosedDays days)) (read_by closed_body body)
+asked_on_route route.Keys body =
+    option_map (λ rows. request.Desk (desk.Keys rows)) (read_by keys_body body)
+asked_on_route (route.Office meeting verb) body =
     option_map (λ what. request.Office meeting what) (office_asks verb body)
-asked (route.Party meeting verb) body =
+asked_on_route (route.Party meeting verb) body =
     option_map (λ what. request.Party meeting what) (party_asks verb body)
 
 -- no route where there is none
@@ -47,4 +49,4 @@ routed found = ok_or found refusal.Route
 unfoldable pub request_of : List ℕ → List ℕ → List ℕ → Result Request Refusal
 request_of meeting verb body = do
   way ← routed (route_of meeting verb)
-  readable (asked way body)
+  readable (asked_on_route way body)

@@ -9,15 +9,15 @@ use Rattle.desk_bodies.specs.declared.verb.OfficeVerb.{OfficeVerb}
 use Rattle.desk_bodies.specs.declared.verb.OfficeVerb.TheVariants as office
 use Rattle.desk_bodies.specs.declared.verb.PartyVerb.{PartyVerb}
 use Rattle.desk_bodies.specs.declared.verb.PartyVerb.TheVariants as party
-use Rattle.desk_bodies.specs.Appointments.{appoint_in, end_in}
+use Rattle.desk_bodies.specs.Appointments.{appoint_body, end_in}
 use Rattle.desk_bodies.specs.Bodies.{read_by}
-use Rattle.desk_bodies.specs.Polls.{order_in, start_in, close_in, declare_in, demand_in, cast_in, instructed_in}
-use Rattle.desk_bodies.specs.Presences.{open_in, presence_in, attend_in, authorise_in}
+use Rattle.desk_bodies.specs.Polls.{order_in, start_in, close_in, declare_in, demand_body, cast_body, instructed_in}
+use Rattle.desk_bodies.specs.Presences.{open_in, presence_body, attend_in, authorise_in}
 use Rattle.desk_bodies.specs.Registers.{load_in}
 
 -- the word for what the office asks in a meeting, and what a body asks by it
 abbrev pub office_way : OfficeVerb → List ℕ × (List ℕ → Option OfficeRequest)
-office_way office.Presence = (codes "presence", read_by presence_in)
+office_way office.Presence = (codes "presence", read_by presence_body)
 office_way office.Register = (codes "register", read_by load_in)
 office_way office.Open = (codes "open", read_by open_in)
 office_way office.Order = (codes "order", read_by order_in)
@@ -30,12 +30,12 @@ office_way office.Declare = (codes "declare", read_by declare_in)
 abbrev pub party_way : PartyVerb → List ℕ × (List ℕ → Option PartyRequest)
 party_way party.Notice = (codes "notice", λ body. Some Notice)
 party_way party.Mine = (codes "mine", λ body. Some Mine)
-party_way party.Appoint = (codes "appoint", read_by appoint_in)
+party_way party.Appoint = (codes "appoint", read_by appoint_body)
 party_way party.End = (codes "end", read_by end_in)
 party_way party.Authorise = (codes "authorise", read_by authorise_in)
 party_way party.Attend = (codes "attend", read_by attend_in)
-party_way party.Demand = (codes "demand", read_by demand_in)
-party_way party.Cast = (codes "cast", read_by cast_in)
+party_way party.Demand = (codes "demand", read_by demand_body)
+party_way party.Cast = (codes "cast", read_by cast_body)
 party_way party.Instructed = (codes "instructed", read_by instructed_in)
 
 -- the word for a verb

@@ -1,10 +1,11 @@
 //! Appointments of proxies, and their endings.
 ghost use Rattle.std.specs.Prelude.{nat_le};
+ghost use Rattle.desk_terms.specs.Options.{only};
 ghost use Rattle.serde_json.specs.Events.{items_len};
 ghost use Rattle.serde_json.specs.View.{view, items_view};
-ghost use Rattle.desk_bodies.specs.Answers.{itself};
-ghost use Rattle.desk_bodies.specs.Reads.{Reads, only};
-ghost use Rattle.desk_bodies.specs.Appointments.{instruction_at, instructions_in, appoint_in, end_in};
+ghost use Rattle.desk_terms.specs.Itself.{itself};
+ghost use Rattle.desk_bodies.specs.Reads.{ReadsData};
+ghost use Rattle.desk_bodies.specs.Appointments.{instruction_at, instructions_in, appoint_body, end_in};
 ghost use Rattle.desk_bodies.specs.Places.{there, each};
 
 use crate::ask::Unread;
@@ -16,7 +17,7 @@ use std::alloc::Global;
 
 #[tactic(auto, unfolding(crate::specs::Appointments::instruction_at))]
 fn instruction(value: &Value) -> Result<Instr, Unread>
-    ensures { Reads itself result (instruction_at (view value.now)) }
+    ensures { ReadsData itself result (instruction_at (view value.now)) }
 {
     instruction_in(Some(value))
 }
@@ -25,7 +26,7 @@ fn instruction(value: &Value) -> Result<Instr, Unread>
 /// resolutions of a meeting.
 #[tactic(auto, using(crate::proofs::ItemLemmas::items_seen))]
 fn few(items: &[Value]) -> Result<(), Unread>
-    ensures { Reads itself result
+    ensures { ReadsData itself result
         (only (nat_le (items_len (items_view items.now)) MOST_RESOLUTIONS)) }
 {
     if items.len() <= MOST_RESOLUTIONS {
@@ -36,7 +37,7 @@ fn few(items: &[Value]) -> Result<(), Unread>
 }
 
 fn instructions_from(alloc: Global, items: &[Value]) -> Result<Vec<Instr>, Unread>
-    ensures { Reads (λ v. v.items) result (each instruction_at (items_view items.now)) }
+    ensures { ReadsData (λ v. v.items) result (each instruction_at (items_view items.now)) }
 {
     let mut found = Vec::new(alloc);
     for item in items {
@@ -47,7 +48,7 @@ fn instructions_from(alloc: Global, items: &[Value]) -> Result<Vec<Instr>, Unrea
 
 #[tactic(auto, unfolding(crate::specs::Appointments::instructions_in))]
 fn instructions_in(alloc: Global, place: Option<&Value>) -> Result<Listing<Instr>, Unread>
-    ensures { Reads itself result (instructions_in (there place.entry)) }
+    ensures { ReadsData itself result (instructions_in (there place.entry)) }
 {
     let items = items_in(place)?;
     few(items)?;
@@ -58,9 +59,9 @@ fn instructions_in(alloc: Global, place: Option<&Value>) -> Result<Listing<Instr
 /// The appointment that a value gives. It has the fields `proxy` (a party), `from` and `to`
 /// (numbers), and `instructions` (0 to `MOST_RESOLUTIONS` of the words `for`, `against`, `withheld`
 /// and `free`).
-#[tactic(auto, unfolding(crate::specs::Appointments::appoint_in))]
+#[tactic(auto, unfolding(crate::specs::Appointments::appoint_body))]
 pub(crate) fn appoint(alloc: Global, value: &Value) -> Result<PartyRequest, Unread>
-    ensures { Reads itself result (appoint_in (view value.now)) }
+    ensures { ReadsData itself result (appoint_body (view value.now)) }
 {
     exactly_fields(value, 4)?;
     let proxy = party_in(value.get("proxy"))?;
@@ -78,7 +79,7 @@ pub(crate) fn appoint(alloc: Global, value: &Value) -> Result<PartyRequest, Unre
 /// The ending that a value gives. It has the field `number` (the number of an appointment).
 #[tactic(auto, unfolding(crate::specs::Appointments::end_in))]
 pub(crate) fn end(value: &Value) -> Result<PartyRequest, Unread>
-    ensures { Reads itself result (end_in (view value.now)) }
+    ensures { ReadsData itself result (end_in (view value.now)) }
 {
     exactly_fields(value, 1)?;
     let number = number_in(value.get("number"))?;

@@ -2,8 +2,8 @@
 ghost use Rattle.std.specs.Prelude.{◌≡◌};
 ghost use Rattle.serde_json.specs.Data.{no_members, object};
 ghost use Rattle.serde_json.specs.View.{view};
-ghost use Rattle.desk_bodies.specs.Answers.{itself};
-ghost use Rattle.desk_bodies.specs.Reads.{Reads};
+ghost use Rattle.desk_terms.specs.Itself.{itself};
+ghost use Rattle.desk_bodies.specs.Reads.{ReadsData};
 ghost use Rattle.desk_bodies.specs.Bodies.{value_of, body_of};
 
 use crate::ask::Unread;
@@ -20,7 +20,7 @@ fn no_fields(alloc: Global) -> Value
 /// The value that bytes are. The reader has large locals, for which a caller is not to pay.
 #[inline(never)]
 fn read_value(alloc: Global, bytes: &[u8]) -> Result<Value, Unread>
-    ensures { Reads view result (value_of bytes.now) }
+    ensures { ReadsData view result (value_of bytes.now) }
 {
     match Value::from_slice(alloc, bytes) {
         Ok(value) => Ok(value),
@@ -35,7 +35,7 @@ fn read_value(alloc: Global, bytes: &[u8]) -> Result<Value, Unread>
 
 /// The value that a body is; an empty one stands for an object with no fields.
 pub(crate) fn read_body(alloc: Global, body: &[u8]) -> Result<Value, Unread>
-    ensures { Reads view result (body_of body.now) }
+    ensures { ReadsData view result (body_of body.now) }
 {
     if body.is_empty() {
         Ok(no_fields(alloc))

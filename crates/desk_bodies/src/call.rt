@@ -1,9 +1,9 @@
 //! The calling of a meeting.
 ghost use Rattle.serde_json.specs.View.{view, items_view};
-ghost use Rattle.desk_bodies.specs.Answers.{itself};
-ghost use Rattle.desk_bodies.specs.Reads.{Reads};
+ghost use Rattle.desk_terms.specs.Itself.{itself};
+ghost use Rattle.desk_bodies.specs.Reads.{ReadsData};
 ghost use Rattle.desk_bodies.specs.Places.{there, each};
-ghost use Rattle.desk_bodies.specs.Calls.{resolution_of, counted, resolutions_in, call_in};
+ghost use Rattle.desk_bodies.specs.Calls.{resolution_at, counted, resolutions_in, call_body};
 
 use crate::ask::Unread;
 use crate::place::{
@@ -15,9 +15,9 @@ use serde_json::Value;
 use std::alloc::Global;
 
 /// A resolution is a pair of its kind and its text.
-#[tactic(auto, unfolding(crate::specs::Calls::resolution_of))]
+#[tactic(auto, unfolding(crate::specs::Calls::resolution_at))]
 fn resolution(alloc: Global, value: &Value) -> Result<Resolution, Unread>
-    ensures { Reads itself result (resolution_of (view value.now)) }
+    ensures { ReadsData itself result (resolution_at (view value.now)) }
 {
     exactly_items(value, 2)?;
     let kind = resolution_kind_in(value.get(0))?;
@@ -26,7 +26,7 @@ fn resolution(alloc: Global, value: &Value) -> Result<Resolution, Unread>
 }
 
 fn resolutions_from(alloc: Global, items: &[Value]) -> Result<Vec<Resolution>, Unread>
-    ensures { Reads (λ v. v.items) result (each resolution_of (items_view items.now)) }
+    ensures { ReadsData (λ v. v.items) result (each resolution_at (items_view items.now)) }
 {
     let mut found = Vec::new(alloc);
     for item in items {
@@ -36,7 +36,7 @@ fn resolutions_from(alloc: Global, items: &[Value]) -> Result<Vec<Resolution>, U
 }
 
 fn counted(resolutions: Vec<Resolution>) -> Result<Resolutions, Unread>
-    ensures { Reads itself result (counted resolutions.items) }
+    ensures { ReadsData itself result (counted resolutions.items) }
 {
     match Resolutions::new(resolutions) {
         Ok(resolutions) => Ok(resolutions),
@@ -47,7 +47,7 @@ fn counted(resolutions: Vec<Resolution>) -> Result<Resolutions, Unread>
 
 #[tactic(auto, unfolding(crate::specs::Calls::resolutions_in))]
 fn resolutions_in(alloc: Global, place: Option<&Value>) -> Result<Resolutions, Unread>
-    ensures { Reads itself result (resolutions_in (there place.entry)) }
+    ensures { ReadsData itself result (resolutions_in (there place.entry)) }
 {
     let items = items_in(place)?;
     let resolutions = resolutions_from(alloc, items)?;
@@ -58,9 +58,9 @@ fn resolutions_in(alloc: Global, place: Option<&Value>) -> Result<Resolutions, U
 /// (`annual` or `general`), `given` (the day of the notice), `appointed` and `record` (moments),
 /// and `resolutions` (1 to `MOST_RESOLUTIONS` pairs of a kind, `ordinary` or `special`, and a
 /// text).
-#[tactic(auto, unfolding(crate::specs::Calls::call_in))]
+#[tactic(auto, unfolding(crate::specs::Calls::call_body))]
 pub(crate) fn call(alloc: Global, meeting: MeetingId, value: &Value) -> Result<NewMeeting, Unread>
-    ensures { Reads itself result (call_in meeting (view value.now)) }
+    ensures { ReadsData itself result (call_body meeting (view value.now)) }
 {
     exactly_fields(value, 6)?;
     let company = company_in(value.get("company"))?;

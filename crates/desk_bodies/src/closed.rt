@@ -1,8 +1,8 @@
 //! The loading of closed days.
 ghost use Rattle.serde_json.specs.View.{view, items_view};
-ghost use Rattle.desk_bodies.specs.Answers.{itself};
-ghost use Rattle.desk_bodies.specs.Reads.{Reads};
-ghost use Rattle.desk_bodies.specs.Days.{day_at, days_in, closed_in};
+ghost use Rattle.desk_terms.specs.Itself.{itself};
+ghost use Rattle.desk_bodies.specs.Reads.{ReadsData};
+ghost use Rattle.desk_bodies.specs.Days.{day_at, days_body, closed_body};
 ghost use Rattle.desk_words.specs.Lists.{day_list_of};
 ghost use Rattle.desk_bodies.specs.Places.{there, each};
 
@@ -14,13 +14,13 @@ use std::alloc::Global;
 
 #[tactic(auto, unfolding(crate::specs::Days::day_at))]
 fn day(value: &Value) -> Result<Day, Unread>
-    ensures { Reads itself result (day_at (view value.now)) }
+    ensures { ReadsData itself result (day_at (view value.now)) }
 {
     day_in(Some(value))
 }
 
 fn days_from(alloc: Global, items: &[Value]) -> Result<Vec<Day>, Unread>
-    ensures { Reads (λ v. v.items) result (each day_at (items_view items.now)) }
+    ensures { ReadsData (λ v. v.items) result (each day_at (items_view items.now)) }
 {
     let mut found = Vec::new(alloc);
     for item in items {
@@ -30,7 +30,7 @@ fn days_from(alloc: Global, items: &[Value]) -> Result<Vec<Day>, Unread>
 }
 
 fn day_list(days: Vec<Day>) -> Result<DayList, Unread>
-    ensures { Reads itself result (day_list_of days.items) }
+    ensures { ReadsData itself result (day_list_of days.items) }
 {
     match DayList::new(days) {
         Ok(days) => Ok(days),
@@ -39,9 +39,9 @@ fn day_list(days: Vec<Day>) -> Result<DayList, Unread>
     }
 }
 
-#[tactic(auto, unfolding(crate::specs::Days::days_in))]
+#[tactic(auto, unfolding(crate::specs::Days::days_body))]
 fn days_in(alloc: Global, place: Option<&Value>) -> Result<DayList, Unread>
-    ensures { Reads itself result (days_in (there place.entry)) }
+    ensures { ReadsData itself result (days_body (there place.entry)) }
 {
     let items = items_in(place)?;
     let days = days_from(alloc, items)?;
@@ -50,9 +50,9 @@ fn days_in(alloc: Global, place: Option<&Value>) -> Result<DayList, Unread>
 
 /// The closed days that a value loads. It has the field `days`, an array of days, of which at most
 /// `MOST_CLOSED_DAYS` are different.
-#[tactic(auto, unfolding(crate::specs::Days::closed_in))]
+#[tactic(auto, unfolding(crate::specs::Days::closed_body))]
 pub(crate) fn closed(alloc: Global, value: &Value) -> Result<DayList, Unread>
-    ensures { Reads itself result (closed_in (view value.now)) }
+    ensures { ReadsData itself result (closed_body (view value.now)) }
 {
     exactly_fields(value, 1)?;
     days_in(alloc, value.get("days"))

@@ -1,9 +1,9 @@
 //! Laws of requests.
-ghost use Rattle.desk_bodies.specs.Laws.{WordsReadBack, RefusalsAreTwo, RouteComesFirst, RequestsKeepTheMeeting};
+ghost use Rattle.desk_bodies.specs.Laws.{VerbsReadBack, RefusalsAreTwo, RouteComesFirst, RequestsKeepTheMeeting};
 
 /// Each word of a verb reads back as that verb.
 pub fn words_read_back()
-    ensures { WordsReadBack }
+    ensures { VerbsReadBack }
 {}
 
 /// Every refusal of a request is `Route` or `Unreadable`.

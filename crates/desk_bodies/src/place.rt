@@ -1,13 +1,14 @@
 //! What stands at a place in a JSON value: at a name in an object, or at an index in an array.
 ghost use Rattle.std.specs.Prelude.{◌≡◌};
+ghost use Rattle.desk_terms.specs.Options.{only};
 ghost use Rattle.serde_json.specs.View.{view, items_view};
 ghost use Rattle.desk_calendar.specs.Texts.{day_of, moment_of};
 ghost use Rattle.desk_terms.specs.Kinds.{company_of, meeting_kind_of, resolution_kind_of, holder_kind_of, way_of, capacity_of, instruction_of};
 ghost use Rattle.desk_terms.specs.Names.{key_of, party_of};
 ghost use Rattle.desk_words.specs.Callers.{caller_of};
-ghost use Rattle.desk_bodies.specs.Answers.{itself};
-ghost use Rattle.desk_bodies.specs.Reads.{Reads, only};
-ghost use Rattle.desk_bodies.specs.Places.{there, has_fields, has_items, string_in, number_in, flag_in, items_in, spelled};
+ghost use Rattle.desk_terms.specs.Itself.{itself};
+ghost use Rattle.desk_bodies.specs.Reads.{ReadsData};
+ghost use Rattle.desk_bodies.specs.Places.{there, has_fields, has_items, string_in, number_at, flag_at, items_in, spelled_at};
 ghost use Rattle.desk_terms.specs.Texts.{text_of};
 
 use crate::ask::Unread;
@@ -38,7 +39,7 @@ fn has_items(value: &Value, count: usize) -> bool
 
 /// Refuses what is no object of so many fields.
 pub(crate) fn exactly_fields(value: &Value, count: usize) -> Result<(), Unread>
-    ensures { Reads itself result (only (has_fields count (view value.now))) }
+    ensures { ReadsData itself result (only (has_fields count (view value.now))) }
 {
     if has_fields(value, count) {
         Ok(())
@@ -49,7 +50,7 @@ pub(crate) fn exactly_fields(value: &Value, count: usize) -> Result<(), Unread>
 
 /// Refuses what is no array of so many items.
 pub(crate) fn exactly_items(value: &Value, count: usize) -> Result<(), Unread>
-    ensures { Reads itself result (only (has_items count (view value.now))) }
+    ensures { ReadsData itself result (only (has_items count (view value.now))) }
 {
     if has_items(value, count) {
         Ok(())
@@ -60,28 +61,28 @@ pub(crate) fn exactly_items(value: &Value, count: usize) -> Result<(), Unread>
 
 /// The string at a place.
 pub(crate) fn string_in(place: Option<&Value>) -> Result<&str, Unread>
-    ensures { Reads (λ s. s.now) result (string_in (there place.entry)) }
+    ensures { ReadsData (λ s. s.now) result (string_in (there place.entry)) }
 {
     place.and_then(Value::as_str).ok_or(Unread::Unreadable)
 }
 
 /// The number at a place: whole, with no sign, fraction or exponent, and below 2^64.
 pub(crate) fn number_in(place: Option<&Value>) -> Result<u64, Unread>
-    ensures { Reads itself result (number_in (there place.entry)) }
+    ensures { ReadsData itself result (number_at (there place.entry)) }
 {
     place.and_then(Value::as_u64).ok_or(Unread::Unreadable)
 }
 
 /// Whether `true` or `false` stands at a place.
 pub(crate) fn flag_in(place: Option<&Value>) -> Result<bool, Unread>
-    ensures { Reads itself result (flag_in (there place.entry)) }
+    ensures { ReadsData itself result (flag_at (there place.entry)) }
 {
     place.and_then(Value::as_bool).ok_or(Unread::Unreadable)
 }
 
 /// The items of the array at a place.
 pub(crate) fn items_in(place: Option<&Value>) -> Result<&[Value], Unread>
-    ensures { Reads (λ vs. items_view vs.now) result (items_in (there place.entry)) }
+    ensures { ReadsData (λ vs. items_view vs.now) result (items_in (there place.entry)) }
 {
     match place.and_then(Value::as_array) {
         Some(items) => Ok(items),
@@ -89,92 +90,92 @@ pub(crate) fn items_in(place: Option<&Value>) -> Result<&[Value], Unread>
     }
 }
 
-#[tactic(auto, unfolding(crate::specs::Places::spelled))]
+#[tactic(auto, unfolding(crate::specs::Places::spelled_at))]
 pub(crate) fn company_in(place: Option<&Value>) -> Result<Company, Unread>
-    ensures { Reads itself result (spelled company_of (there place.entry)) }
+    ensures { ReadsData itself result (spelled_at company_of (there place.entry)) }
 {
     Company::of_word(string_in(place)?).ok_or(Unread::Unreadable)
 }
 
-#[tactic(auto, unfolding(crate::specs::Places::spelled))]
+#[tactic(auto, unfolding(crate::specs::Places::spelled_at))]
 pub(crate) fn meeting_kind_in(place: Option<&Value>) -> Result<MeetingKind, Unread>
-    ensures { Reads itself result (spelled meeting_kind_of (there place.entry)) }
+    ensures { ReadsData itself result (spelled_at meeting_kind_of (there place.entry)) }
 {
     MeetingKind::of_word(string_in(place)?).ok_or(Unread::Unreadable)
 }
 
-#[tactic(auto, unfolding(crate::specs::Places::spelled))]
+#[tactic(auto, unfolding(crate::specs::Places::spelled_at))]
 pub(crate) fn resolution_kind_in(place: Option<&Value>) -> Result<ResKind, Unread>
-    ensures { Reads itself result (spelled resolution_kind_of (there place.entry)) }
+    ensures { ReadsData itself result (spelled_at resolution_kind_of (there place.entry)) }
 {
     ResKind::of_word(string_in(place)?).ok_or(Unread::Unreadable)
 }
 
-#[tactic(auto, unfolding(crate::specs::Places::spelled))]
+#[tactic(auto, unfolding(crate::specs::Places::spelled_at))]
 pub(crate) fn holder_kind_in(place: Option<&Value>) -> Result<HolderKind, Unread>
-    ensures { Reads itself result (spelled holder_kind_of (there place.entry)) }
+    ensures { ReadsData itself result (spelled_at holder_kind_of (there place.entry)) }
 {
     HolderKind::of_word(string_in(place)?).ok_or(Unread::Unreadable)
 }
 
-#[tactic(auto, unfolding(crate::specs::Places::spelled))]
+#[tactic(auto, unfolding(crate::specs::Places::spelled_at))]
 pub(crate) fn way_in(place: Option<&Value>) -> Result<Way, Unread>
-    ensures { Reads itself result (spelled way_of (there place.entry)) }
+    ensures { ReadsData itself result (spelled_at way_of (there place.entry)) }
 {
     Way::of_word(string_in(place)?).ok_or(Unread::Unreadable)
 }
 
-#[tactic(auto, unfolding(crate::specs::Places::spelled))]
+#[tactic(auto, unfolding(crate::specs::Places::spelled_at))]
 pub(crate) fn capacity_in(place: Option<&Value>) -> Result<Capacity, Unread>
-    ensures { Reads itself result (spelled capacity_of (there place.entry)) }
+    ensures { ReadsData itself result (spelled_at capacity_of (there place.entry)) }
 {
     Capacity::of_word(string_in(place)?).ok_or(Unread::Unreadable)
 }
 
-#[tactic(auto, unfolding(crate::specs::Places::spelled))]
+#[tactic(auto, unfolding(crate::specs::Places::spelled_at))]
 pub(crate) fn instruction_in(place: Option<&Value>) -> Result<Instr, Unread>
-    ensures { Reads itself result (spelled instruction_of (there place.entry)) }
+    ensures { ReadsData itself result (spelled_at instruction_of (there place.entry)) }
 {
     Instr::of_word(string_in(place)?).ok_or(Unread::Unreadable)
 }
 
-#[tactic(auto, unfolding(crate::specs::Places::spelled))]
+#[tactic(auto, unfolding(crate::specs::Places::spelled_at))]
 pub(crate) fn day_in(place: Option<&Value>) -> Result<Day, Unread>
-    ensures { Reads itself result (spelled day_of (there place.entry)) }
+    ensures { ReadsData itself result (spelled_at day_of (there place.entry)) }
 {
     read_day(string_in(place)?.as_bytes()).ok_or(Unread::Unreadable)
 }
 
-#[tactic(auto, unfolding(crate::specs::Places::spelled))]
+#[tactic(auto, unfolding(crate::specs::Places::spelled_at))]
 pub(crate) fn moment_in(place: Option<&Value>) -> Result<Moment, Unread>
-    ensures { Reads itself result (spelled moment_of (there place.entry)) }
+    ensures { ReadsData itself result (spelled_at moment_of (there place.entry)) }
 {
     read_moment(string_in(place)?.as_bytes()).ok_or(Unread::Unreadable)
 }
 
-#[tactic(auto, unfolding(crate::specs::Places::spelled))]
+#[tactic(auto, unfolding(crate::specs::Places::spelled_at))]
 pub(crate) fn party_in(place: Option<&Value>) -> Result<Party, Unread>
-    ensures { Reads itself result (spelled party_of (there place.entry)) }
+    ensures { ReadsData itself result (spelled_at party_of (there place.entry)) }
 {
     read_party(string_in(place)?.as_bytes()).ok_or(Unread::Unreadable)
 }
 
-#[tactic(auto, unfolding(crate::specs::Places::spelled))]
+#[tactic(auto, unfolding(crate::specs::Places::spelled_at))]
 pub(crate) fn caller_in(place: Option<&Value>) -> Result<Caller, Unread>
-    ensures { Reads itself result (spelled caller_of (there place.entry)) }
+    ensures { ReadsData itself result (spelled_at caller_of (there place.entry)) }
 {
     read_caller(string_in(place)?.as_bytes()).ok_or(Unread::Unreadable)
 }
 
-#[tactic(auto, unfolding(crate::specs::Places::spelled))]
+#[tactic(auto, unfolding(crate::specs::Places::spelled_at))]
 pub(crate) fn key_in(place: Option<&Value>) -> Result<SecretKey, Unread>
-    ensures { Reads itself result (spelled key_of (there place.entry)) }
+    ensures { ReadsData itself result (spelled_at key_of (there place.entry)) }
 {
     read_key(string_in(place)?.as_bytes()).ok_or(Unread::Unreadable)
 }
 
 fn text_of(alloc: Global, string: &str) -> Result<Text, Unread>
-    ensures { Reads itself result (text_of string.now) }
+    ensures { ReadsData itself result (text_of string.now) }
 {
     match Text::new(alloc, string.as_bytes()) {
         Ok(text) => Ok(text),
@@ -183,9 +184,9 @@ fn text_of(alloc: Global, string: &str) -> Result<Text, Unread>
     }
 }
 
-#[tactic(auto, unfolding(crate::specs::Places::spelled))]
+#[tactic(auto, unfolding(crate::specs::Places::spelled_at))]
 pub(crate) fn text_in(alloc: Global, place: Option<&Value>) -> Result<Text, Unread>
-    ensures { Reads itself result (spelled text_of (there place.entry)) }
+    ensures { ReadsData itself result (spelled_at text_of (there place.entry)) }
 {
     text_of(alloc, string_in(place)?)
 }

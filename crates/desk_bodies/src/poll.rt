@@ -1,8 +1,8 @@
 //! Polls, and the votes on them.
 ghost use Rattle.serde_json.specs.View.{view};
-ghost use Rattle.desk_bodies.specs.Answers.{itself};
-ghost use Rattle.desk_bodies.specs.Reads.{Reads};
-ghost use Rattle.desk_bodies.specs.Polls.{order_in, poll_in, start_in, close_in, declare_in, demand_in, cast_in, instructed_in};
+ghost use Rattle.desk_terms.specs.Itself.{itself};
+ghost use Rattle.desk_bodies.specs.Reads.{ReadsData};
+ghost use Rattle.desk_bodies.specs.Polls.{order_in, poll_body, start_in, close_in, declare_in, demand_body, cast_body, instructed_in};
 
 use crate::ask::Unread;
 use crate::place::{capacity_in, exactly_fields, flag_in, moment_in, number_in, party_in, way_in};
@@ -13,7 +13,7 @@ use serde_json::Value;
 /// `chair` (true or false).
 #[tactic(auto, unfolding(crate::specs::Polls::order_in))]
 pub(crate) fn order(value: &Value) -> Result<OfficeRequest, Unread>
-    ensures { Reads itself result (order_in (view value.now)) }
+    ensures { ReadsData itself result (order_in (view value.now)) }
 {
     exactly_fields(value, 3)?;
     let resolution = number_in(value.get("resolution"))?;
@@ -27,9 +27,9 @@ pub(crate) fn order(value: &Value) -> Result<OfficeRequest, Unread>
 }
 
 /// The poll that a value names. It has the field `resolution` (a number).
-#[tactic(auto, unfolding(crate::specs::Polls::poll_in))]
+#[tactic(auto, unfolding(crate::specs::Polls::poll_body))]
 fn poll_in(value: &Value) -> Result<u64, Unread>
-    ensures { Reads itself result (poll_in (view value.now)) }
+    ensures { ReadsData itself result (poll_body (view value.now)) }
 {
     exactly_fields(value, 1)?;
     number_in(value.get("resolution"))
@@ -37,7 +37,7 @@ fn poll_in(value: &Value) -> Result<u64, Unread>
 
 #[tactic(auto, unfolding(crate::specs::Polls::start_in))]
 pub(crate) fn start(value: &Value) -> Result<OfficeRequest, Unread>
-    ensures { Reads itself result (start_in (view value.now)) }
+    ensures { ReadsData itself result (start_in (view value.now)) }
 {
     let resolution = poll_in(value)?;
     Ok(OfficeRequest::Start(resolution))
@@ -45,7 +45,7 @@ pub(crate) fn start(value: &Value) -> Result<OfficeRequest, Unread>
 
 #[tactic(auto, unfolding(crate::specs::Polls::close_in))]
 pub(crate) fn close(value: &Value) -> Result<OfficeRequest, Unread>
-    ensures { Reads itself result (close_in (view value.now)) }
+    ensures { ReadsData itself result (close_in (view value.now)) }
 {
     let resolution = poll_in(value)?;
     Ok(OfficeRequest::Close(resolution))
@@ -53,15 +53,15 @@ pub(crate) fn close(value: &Value) -> Result<OfficeRequest, Unread>
 
 #[tactic(auto, unfolding(crate::specs::Polls::declare_in))]
 pub(crate) fn declare(value: &Value) -> Result<OfficeRequest, Unread>
-    ensures { Reads itself result (declare_in (view value.now)) }
+    ensures { ReadsData itself result (declare_in (view value.now)) }
 {
     let resolution = poll_in(value)?;
     Ok(OfficeRequest::Declare(resolution))
 }
 
-#[tactic(auto, unfolding(crate::specs::Polls::demand_in))]
+#[tactic(auto, unfolding(crate::specs::Polls::demand_body))]
 pub(crate) fn demand(value: &Value) -> Result<PartyRequest, Unread>
-    ensures { Reads itself result (demand_in (view value.now)) }
+    ensures { ReadsData itself result (demand_body (view value.now)) }
 {
     let resolution = poll_in(value)?;
     Ok(PartyRequest::Demand(resolution))
@@ -69,7 +69,7 @@ pub(crate) fn demand(value: &Value) -> Result<PartyRequest, Unread>
 
 #[tactic(auto, unfolding(crate::specs::Polls::instructed_in))]
 pub(crate) fn instructed(value: &Value) -> Result<PartyRequest, Unread>
-    ensures { Reads itself result (instructed_in (view value.now)) }
+    ensures { ReadsData itself result (instructed_in (view value.now)) }
 {
     let resolution = poll_in(value)?;
     Ok(PartyRequest::Instructed(resolution))
@@ -77,9 +77,9 @@ pub(crate) fn instructed(value: &Value) -> Result<PartyRequest, Unread>
 
 /// The vote that a value casts. It has the fields `resolution`, `from` and `to` (numbers), `as`
 /// (`member`, `rep` or `proxy`), `member` (a party) and `way` (`for`, `against` or `withheld`).
-#[tactic(auto, unfolding(crate::specs::Polls::cast_in))]
+#[tactic(auto, unfolding(crate::specs::Polls::cast_body))]
 pub(crate) fn cast(value: &Value) -> Result<PartyRequest, Unread>
-    ensures { Reads itself result (cast_in (view value.now)) }
+    ensures { ReadsData itself result (cast_body (view value.now)) }
 {
     exactly_fields(value, 6)?;
     let resolution = number_in(value.get("resolution"))?;

@@ -1,8 +1,8 @@
 //! The opening of a meeting, presences, and the persons who are to represent parties.
 ghost use Rattle.serde_json.specs.View.{view};
-ghost use Rattle.desk_bodies.specs.Answers.{itself};
-ghost use Rattle.desk_bodies.specs.Reads.{Reads};
-ghost use Rattle.desk_bodies.specs.Presences.{open_in, presence_in, attend_in, authorise_in};
+ghost use Rattle.desk_terms.specs.Itself.{itself};
+ghost use Rattle.desk_bodies.specs.Reads.{ReadsData};
+ghost use Rattle.desk_bodies.specs.Presences.{open_in, presence_body, attend_in, authorise_in};
 
 use crate::ask::Unread;
 use crate::place::{exactly_fields, party_in};
@@ -12,16 +12,16 @@ use serde_json::Value;
 /// The opening of the meeting. The value has no fields.
 #[tactic(auto, unfolding(crate::specs::Presences::open_in))]
 pub(crate) fn open(value: &Value) -> Result<OfficeRequest, Unread>
-    ensures { Reads itself result (open_in (view value.now)) }
+    ensures { ReadsData itself result (open_in (view value.now)) }
 {
     exactly_fields(value, 0)?;
     Ok(OfficeRequest::OpenMeeting)
 }
 
 /// The presence that a value notes. It has the field `party` (a party).
-#[tactic(auto, unfolding(crate::specs::Presences::presence_in))]
+#[tactic(auto, unfolding(crate::specs::Presences::presence_body))]
 pub(crate) fn presence(value: &Value) -> Result<OfficeRequest, Unread>
-    ensures { Reads itself result (presence_in (view value.now)) }
+    ensures { ReadsData itself result (presence_body (view value.now)) }
 {
     exactly_fields(value, 1)?;
     let party = party_in(value.get("party"))?;
@@ -31,7 +31,7 @@ pub(crate) fn presence(value: &Value) -> Result<OfficeRequest, Unread>
 /// A party's own presence. The value has no fields.
 #[tactic(auto, unfolding(crate::specs::Presences::attend_in))]
 pub(crate) fn attend(value: &Value) -> Result<PartyRequest, Unread>
-    ensures { Reads itself result (attend_in (view value.now)) }
+    ensures { ReadsData itself result (attend_in (view value.now)) }
 {
     exactly_fields(value, 0)?;
     Ok(PartyRequest::Attend)
@@ -40,7 +40,7 @@ pub(crate) fn attend(value: &Value) -> Result<PartyRequest, Unread>
 /// The authority that a value gives. It has the field `person` (a party).
 #[tactic(auto, unfolding(crate::specs::Presences::authorise_in))]
 pub(crate) fn authorise(value: &Value) -> Result<PartyRequest, Unread>
-    ensures { Reads itself result (authorise_in (view value.now)) }
+    ensures { ReadsData itself result (authorise_in (view value.now)) }
 {
     exactly_fields(value, 1)?;
     let person = party_in(value.get("person"))?;

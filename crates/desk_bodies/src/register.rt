@@ -1,10 +1,10 @@
 //! The loading of a register.
 ghost use Rattle.serde_json.specs.View.{view, items_view};
 ghost use Rattle.desk_words.specs.Registers.{register_of};
-ghost use Rattle.desk_bodies.specs.Answers.{itself};
-ghost use Rattle.desk_bodies.specs.Reads.{Reads};
+ghost use Rattle.desk_terms.specs.Itself.{itself};
+ghost use Rattle.desk_bodies.specs.Reads.{ReadsData};
 ghost use Rattle.desk_bodies.specs.Places.{there, each};
-ghost use Rattle.desk_bodies.specs.Registers.{row_of, register_in, load_in};
+ghost use Rattle.desk_bodies.specs.Registers.{row_at, register_body, load_in};
 
 use crate::ask::Unread;
 use crate::place::{
@@ -16,9 +16,9 @@ use serde_json::Value;
 use std::alloc::Global;
 
 /// A row is a member, its kind, its name, its shares and what is paid up on each of them.
-#[tactic(auto, unfolding(crate::specs::Registers::row_of))]
+#[tactic(auto, unfolding(crate::specs::Registers::row_at))]
 fn row(alloc: Global, value: &Value) -> Result<RegisterRow, Unread>
-    ensures { Reads itself result (row_of (view value.now)) }
+    ensures { ReadsData itself result (row_at (view value.now)) }
 {
     exactly_items(value, 5)?;
     let member = party_in(value.get(0))?;
@@ -36,7 +36,7 @@ fn row(alloc: Global, value: &Value) -> Result<RegisterRow, Unread>
 }
 
 fn rows_from(alloc: Global, items: &[Value]) -> Result<Vec<RegisterRow>, Unread>
-    ensures { Reads (λ v. v.items) result (each row_of (items_view items.now)) }
+    ensures { ReadsData (λ v. v.items) result (each row_at (items_view items.now)) }
 {
     let mut found = Vec::new(alloc);
     for item in items {
@@ -46,7 +46,7 @@ fn rows_from(alloc: Global, items: &[Value]) -> Result<Vec<RegisterRow>, Unread>
 }
 
 fn registered(rows: Vec<RegisterRow>) -> Result<Register, Unread>
-    ensures { Reads itself result (register_of rows.items) }
+    ensures { ReadsData itself result (register_of rows.items) }
 {
     match Register::new(rows) {
         Ok(register) => Ok(register),
@@ -55,9 +55,9 @@ fn registered(rows: Vec<RegisterRow>) -> Result<Register, Unread>
     }
 }
 
-#[tactic(auto, unfolding(crate::specs::Registers::register_in))]
+#[tactic(auto, unfolding(crate::specs::Registers::register_body))]
 fn register_in(alloc: Global, place: Option<&Value>) -> Result<Register, Unread>
-    ensures { Reads itself result (register_in (there place.entry)) }
+    ensures { ReadsData itself result (register_body (there place.entry)) }
 {
     let items = items_in(place)?;
     let rows = rows_from(alloc, items)?;
@@ -69,7 +69,7 @@ fn register_in(alloc: Global, place: Option<&Value>) -> Result<Register, Unread>
 /// shares and the pence paid up on each of them, and together make a register.
 #[tactic(auto, unfolding(crate::specs::Registers::load_in))]
 pub(crate) fn load(alloc: Global, value: &Value) -> Result<OfficeRequest, Unread>
-    ensures { Reads itself result (load_in (view value.now)) }
+    ensures { ReadsData itself result (load_in (view value.now)) }
 {
     exactly_fields(value, 2)?;
     let record_moment = moment_in(value.get("record"))?;

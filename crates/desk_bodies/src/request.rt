@@ -1,14 +1,15 @@
 //! Requests, as a meeting, a verb and a body ask them.
 ghost use Rattle.std.specs.Prelude.{option_map};
+ghost use Rattle.desk_terms.specs.Itself.{itself};
 ghost use Rattle.desk_words.specs.declared.request.DeskRequest.TheVariants as desk;
 ghost use Rattle.desk_words.specs.declared.request.Request.TheVariants as request;
-ghost use Rattle.desk_bodies.specs.Answers.{Gives, itself, readable};
+ghost use Rattle.desk_bodies.specs.Answers.{Says, readable};
 ghost use Rattle.desk_bodies.specs.Bodies.{read_by};
-ghost use Rattle.desk_bodies.specs.Calls.{call_in};
-ghost use Rattle.desk_bodies.specs.Days.{closed_in};
-ghost use Rattle.desk_bodies.specs.Keys.{keys_in};
-ghost use Rattle.desk_bodies.specs.Reads.{Reads};
-ghost use Rattle.desk_bodies.specs.Requests.{asked, office_asks, party_asks, request_of};
+ghost use Rattle.desk_bodies.specs.Calls.{call_body};
+ghost use Rattle.desk_bodies.specs.Days.{closed_body};
+ghost use Rattle.desk_bodies.specs.Keys.{keys_body};
+ghost use Rattle.desk_bodies.specs.Reads.{ReadsData};
+ghost use Rattle.desk_bodies.specs.Requests.{asked_on_route, office_asks, party_asks, request_of};
 
 use crate::appointment::{appoint, end};
 use crate::ask::{Ask, Unread};
@@ -31,21 +32,21 @@ const ROUTE: Ask = Ask::Refused(Refusal::Route);
 
 #[tactic(auto, unfolding(crate::specs::Bodies::read_by))]
 fn called(alloc: Global, meeting: MeetingId, body: &[u8]) -> Result<NewMeeting, Unread>
-    ensures { Reads itself result (read_by (call_in meeting) body.now) }
+    ensures { ReadsData itself result (read_by (call_body meeting) body.now) }
 {
     call(alloc, meeting, &read_body(alloc, body)?)
 }
 
 #[tactic(auto, unfolding(crate::specs::Bodies::read_by))]
 fn closed_days(alloc: Global, body: &[u8]) -> Result<DayList, Unread>
-    ensures { Reads itself result (read_by closed_in body.now) }
+    ensures { ReadsData itself result (read_by closed_body body.now) }
 {
     closed(alloc, &read_body(alloc, body)?)
 }
 
 #[tactic(auto, unfolding(crate::specs::Bodies::read_by))]
 fn key_rows(alloc: Global, body: &[u8]) -> Result<KeyRows, Unread>
-    ensures { Reads itself result (read_by keys_in body.now) }
+    ensures { ReadsData itself result (read_by keys_body body.now) }
 {
     keys(alloc, &read_body(alloc, body)?)
 }
@@ -53,7 +54,7 @@ fn key_rows(alloc: Global, body: &[u8]) -> Result<KeyRows, Unread>
 /// What the office asks in a meeting.
 #[tactic(auto, unfolding(crate::specs::Bodies::read_by))]
 fn office_asks(alloc: Global, verb: OfficeVerb, body: &[u8]) -> Result<OfficeRequest, Unread>
-    ensures { Reads itself result (office_asks verb body.now) }
+    ensures { ReadsData itself result (office_asks verb body.now) }
 {
     match verb {
         OfficeVerb::Presence => presence(&read_body(alloc, body)?),
@@ -69,7 +70,7 @@ fn office_asks(alloc: Global, verb: OfficeVerb, body: &[u8]) -> Result<OfficeReq
 /// What a party asks in a meeting.
 #[tactic(auto, unfolding(crate::specs::Bodies::read_by))]
 fn party_asks(alloc: Global, verb: PartyVerb, body: &[u8]) -> Result<PartyRequest, Unread>
-    ensures { Reads itself result (party_asks verb body.now) }
+    ensures { ReadsData itself result (party_asks verb body.now) }
 {
     match verb {
         PartyVerb::Notice => Ok(PartyRequest::Notice),
@@ -86,8 +87,8 @@ fn party_asks(alloc: Global, verb: PartyVerb, body: &[u8]) -> Result<PartyReques
 
 /// What `call` asks, in the meeting that is to have that name.
 fn by_call(alloc: Global, meeting: MeetingId, body: &[u8]) -> Result<Request, Ask>
-    ensures { Gives itself result (readable (option_map (λ new. request.Desk (desk.CallMeeting new))
-        (read_by (call_in meeting) body.now))) }
+    ensures { Says itself result (readable (option_map (λ new. request.Desk (desk.CallMeeting new))
+        (read_by (call_body meeting) body.now))) }
 {
     let new = called(alloc, meeting, body)?;
     Ok(Request::Desk(DeskRequest::CallMeeting(new)))
@@ -95,9 +96,9 @@ fn by_call(alloc: Global, meeting: MeetingId, body: &[u8]) -> Result<Request, As
 
 /// What `closed` asks of the whole desk.
 fn by_closed(alloc: Global, body: &[u8]) -> Result<Request, Ask>
-    ensures { Gives itself result (readable (option_map
+    ensures { Says itself result (readable (option_map
         (λ days. request.Desk (desk.ClosedDays days))
-        (read_by closed_in body.now))) }
+        (read_by closed_body body.now))) }
 {
     let days = closed_days(alloc, body)?;
     Ok(Request::Desk(DeskRequest::ClosedDays(days)))
@@ -105,8 +106,8 @@ fn by_closed(alloc: Global, body: &[u8]) -> Result<Request, Ask>
 
 /// What `keys` asks of the whole desk.
 fn by_keys(alloc: Global, body: &[u8]) -> Result<Request, Ask>
-    ensures { Gives itself result (readable (option_map (λ rows. request.Desk (desk.Keys rows))
-        (read_by keys_in body.now))) }
+    ensures { Says itself result (readable (option_map (λ rows. request.Desk (desk.Keys rows))
+        (read_by keys_body body.now))) }
 {
     let rows = key_rows(alloc, body)?;
     Ok(Request::Desk(DeskRequest::Keys(rows)))
@@ -119,7 +120,7 @@ fn by_office(
     meeting: MeetingId,
     body: &[u8],
 ) -> Result<Request, Ask>
-    ensures { Gives itself result (readable (option_map (λ what. request.Office meeting what)
+    ensures { Says itself result (readable (option_map (λ what. request.Office meeting what)
         (office_asks verb body.now))) }
 {
     let asked = office_asks(alloc, verb, body)?;
@@ -128,7 +129,7 @@ fn by_office(
 
 /// What a party asks in that meeting.
 fn by_party(alloc: Global, verb: PartyVerb, meeting: MeetingId, body: &[u8]) -> Result<Request, Ask>
-    ensures { Gives itself result (readable (option_map (λ what. request.Party meeting what)
+    ensures { Says itself result (readable (option_map (λ what. request.Party meeting what)
         (party_asks verb body.now))) }
 {
     let asked = party_asks(alloc, verb, body)?;
@@ -142,7 +143,7 @@ impl Route {
     /// stands for an object with no fields. The error is `Memory` only where an allocation was
     /// refused.
     pub fn request(self, alloc: Global, body: &[u8]) -> Result<Request, Ask>
-        ensures { Gives itself result (readable (asked self body.now)) }
+        ensures { Says itself result (readable (asked_on_route self body.now)) }
     {
         match self {
             Route::Call(meeting) => by_call(alloc, meeting, body),
@@ -164,7 +165,7 @@ impl Route {
 /// fields. The error is `Memory` only where an allocation was refused.
 #[tactic(auto, unfolding(crate::specs::Requests::request_of))]
 pub fn request_of(alloc: Global, meeting: &[u8], verb: &[u8], body: &[u8]) -> Result<Request, Ask>
-    ensures { Gives itself result (request_of meeting.now verb.now body.now) }
+    ensures { Says itself result (request_of meeting.now verb.now body.now) }
 {
     let route = route_of(meeting, verb).ok_or(ROUTE)?;
     route.request(alloc, body)

@@ -6,7 +6,7 @@ use Rattle.desk_words.specs.declared.change.Change.TheVariants.{InMeeting}
 use Rattle.desk_words.specs.declared.change.Entry.{Entry}
 use Rattle.desk_words.specs.declared.change.MeetingChange.TheVariants.{Enter}
 use Rattle.desk_words.specs.declared.office.MeetingLists.{MeetingLists}
-use Rattle.desk_rows.specs.Meanings.{◌>>=◌}
+use Rattle.desk_terms.specs.Options.{◌>>=◌}
 use Rattle.desk_records.specs.Office.{FlatLists, office_of_records}
 use Rattle.desk_schema.specs.Statements.{Adds, CommitsNothing, Does}
 use Rattle.desk_records.proofs.FlatChanges.{table_changed}

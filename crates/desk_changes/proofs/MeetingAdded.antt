@@ -12,7 +12,7 @@ use Rattle.desk_words.specs.declared.records.Meeting.{Meeting}
 use Rattle.desk_words.specs.declared.records.Resolution.{Resolution}
 use Rattle.desk_words.proofs.RowLemmas.{same_name-refl}
 use Rattle.desk_rows.specs.declared.kept.MeetingRow.{MeetingRow}
-use Rattle.desk_rows.specs.Meanings.{◌>>=◌}
+use Rattle.desk_terms.specs.Options.{◌>>=◌}
 use Rattle.desk_schema.specs.Contents.{without_resolutions}
 use Rattle.desk_records.specs.Office.{FlatLists, have_meetings, lists_of, lists_of_all, number_before, numbered_from, of_meeting, office_of_records, resolutions_of}
 use Rattle.desk_records.proofs.Names.{ListName, kept_list}
@@ -20,7 +20,7 @@ use Rattle.desk_records.proofs.Names.ListName.{Register, Appointments, Endings, 
 use Rattle.desk_records.proofs.OfficeLemmas.{AreOf, have_all, office_is, stands_there}
 use Rattle.desk_records.proofs.RecordLemmas.{in_meeting, name_turned, of_meeting-append, of_meeting-none, of_meeting-own, stand-append, stand-more, stand-none, stand-own, stands}
 use Rattle.desk_words.specs.Changes.{new_lists}
-use Rattle.desk_changes.specs.Writes.{numbered}
+use Rattle.desk_changes.specs.Writes.{numbered_on}
 
 -- ---- resolutions that are numbered
 
@@ -31,16 +31,16 @@ same_number : (n : ℕ) → (n == n) ≡ true
 same_number n = grind (arith, nat_tests)
 
 -- they stand in the order of their numbers
-numbered-sorted : (n : ℕ) (rs : List Resolution) → sort_by number_before (numbered n rs) ≡ numbered n rs
+numbered-sorted : (n : ℕ) (rs : List Resolution) → sort_by number_before (numbered_on n rs) ≡ numbered_on n rs
 numbered-sorted n [] = refl
 numbered-sorted n (r ∷ rest) = rw (numbered-sorted (suc n) rest) (first rest)
   where
-    first : (rest : List Resolution) → insert_by number_before (record { number = n; resolution = r }) (numbered (suc n) rest) ≡ record { number = n; resolution = r } ∷ numbered (suc n) rest
+    first : (rest : List Resolution) → insert_by number_before (record { number = n; resolution = r }) (numbered_on (suc n) rest) ≡ record { number = n; resolution = r } ∷ numbered_on (suc n) rest
     first [] = refl
     first (s ∷ more) = rw (next_higher n) refl
 
 -- and are read in that order
-numbered-read : (n : ℕ) (rs : List Resolution) → numbered_from n (numbered n rs) ≡ Some rs
+numbered-read : (n : ℕ) (rs : List Resolution) → numbered_from n (numbered_on n rs) ≡ Some rs
 numbered-read n [] = refl
 numbered-read n (r ∷ rest) = rw (same_number n, numbered-read (suc n) rest) refl
 
@@ -63,15 +63,15 @@ module _ (flat : FlatLists) (meeting : Meeting) where
   abbrev pub with_meeting : FlatLists
   with_meeting = record flat {
     meetings = flat.meetings ++ without_resolutions meeting ∷ [];
-    resolutions = flat.resolutions ++ map (in_meeting meeting.id) (numbered 1 meeting.resolutions);
+    resolutions = flat.resolutions ++ map (in_meeting meeting.id) (numbered_on 1 meeting.resolutions);
   }
 
   others_same : (rows : List MeetingRow) → stands meeting.id rows ≡ false → lists_of_all with_meeting rows ≡ lists_of_all flat rows
   others_same [] none = refl
   others_same (m ∷ rest) none =
       let apart = neither (same_name m.id meeting.id) (stands meeting.id rest) none in
-      let own = of_meeting-append m.id flat.resolutions (map (in_meeting meeting.id) (numbered 1 meeting.resolutions))
-      ∙ ap (λ l. of_meeting m.id flat.resolutions ++ l) (of_meeting-none meeting.id m.id (numbered 1 meeting.resolutions) (name_turned meeting.id m.id ∙ apart.0)) ∙ append-nil (of_meeting m.id flat.resolutions) in
+      let own = of_meeting-append m.id flat.resolutions (map (in_meeting meeting.id) (numbered_on 1 meeting.resolutions))
+      ∙ ap (λ l. of_meeting m.id flat.resolutions ++ l) (of_meeting-none meeting.id m.id (numbered_on 1 meeting.resolutions) (name_turned meeting.id m.id ∙ apart.0)) ∙ append-nil (of_meeting m.id flat.resolutions) in
       rw (own, others_same rest apart.1) refl
     where
       neither : (a b : Bool) → (a || b) ≡ false → (a ≡ false) × (b ≡ false)
@@ -88,9 +88,9 @@ module _ (flat : FlatLists) (meeting : Meeting) where
     its_resolutions : resolutions_of meeting.id with_meeting.resolutions ≡ Some meeting.resolutions
     its_resolutions =
         rw (
-          of_meeting-append meeting.id flat.resolutions (map (in_meeting meeting.id) (numbered 1 meeting.resolutions)),
+          of_meeting-append meeting.id flat.resolutions (map (in_meeting meeting.id) (numbered_on 1 meeting.resolutions)),
           stand-none flat.meetings meeting.id flat.resolutions of.stand.resolutions none,
-          of_meeting-own meeting.id (numbered 1 meeting.resolutions),
+          of_meeting-own meeting.id (numbered_on 1 meeting.resolutions),
           numbered-sorted 1 meeting.resolutions,
         ) (numbered-read 1 meeting.resolutions)
 
@@ -105,8 +105,8 @@ module _ (flat : FlatLists) (meeting : Meeting) where
     all_stand =
         let more = without_resolutions meeting ∷ [] in
         have_all with_meeting (record {
-          resolutions = stand-append with_meeting.meetings flat.resolutions (map (in_meeting meeting.id) (numbered 1 meeting.resolutions)) (stand-more flat.meetings more flat.resolutions of.stand.resolutions)
-              (stand-own with_meeting.meetings meeting.id (numbered 1 meeting.resolutions) now_stands);
+          resolutions = stand-append with_meeting.meetings flat.resolutions (map (in_meeting meeting.id) (numbered_on 1 meeting.resolutions)) (stand-more flat.meetings more flat.resolutions of.stand.resolutions)
+              (stand-own with_meeting.meetings meeting.id (numbered_on 1 meeting.resolutions) now_stands);
           lists = elim [
             | Register ↦ stand-more flat.meetings more ((kept_list Register).all flat) (of.stand.lists Register)
             | n ↦ stand-more flat.meetings more ((kept_list n).all flat) (of.stand.lists n)

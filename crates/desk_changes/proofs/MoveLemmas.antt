@@ -18,7 +18,7 @@ use Rattle.desk_words.specs.declared.office.MeetingLists.{MeetingLists}
 use Rattle.desk_words.proofs.RowLemmas.{same_name-true}
 use Rattle.desk_words.specs.declared.records.Poll.{Poll}
 use Rattle.desk_words.specs.declared.records.Tally.{Tally}
-use Rattle.desk_rows.specs.Meanings.{◌>>=◌}
+use Rattle.desk_terms.specs.Options.{◌>>=◌}
 use Rattle.desk_schema.specs.Contents as table
 use Rattle.desk_schema.specs.Contents.{closed_at, declared_as, opened_at, started_at}
 use Rattle.desk_records.specs.Office.{FlatLists, office_of_records}

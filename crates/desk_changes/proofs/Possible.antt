@@ -22,7 +22,7 @@ use Rattle.desk_records.proofs.OfficeLemmas.{AreOf, are_of}
 use Rattle.desk_rows.proofs.MeaningLemmas.{bound}
 use Rattle.std.proofs.lemmas.Bool.{and_parts}
 use Rattle.desk_words.specs.Changes.{after, can_make, is_placed}
-use Rattle.desk_changes.specs.Writes.{Holds, Writes}
+use Rattle.desk_changes.specs.Writes.{StandsIn, Writes}
 use Rattle.desk_records.specs.Standing.{IsVersionOne}
 
 -- an office: its meetings differ, and each is one
@@ -67,7 +67,7 @@ abbrev pub Becomes : Change → State → State → Type 0
 Becomes change old new =
     (flat : FlatLists) (office : OfficeLists) → flat_in old.now.trees ≡ Some flat → AreOf flat office → Possible office change → office_in new.now.trees ≡ Some (after office change)
 
-pub becomes : (change : Change) (old new : State) (office : OfficeLists) → Holds office old → IsTrue (can_make office change) → Becomes change old new → office_in new.now.trees ≡ Some (after office change)
+pub becomes : (change : Change) (old new : State) (office : OfficeLists) → StandsIn office old → IsTrue (can_make office change) → Becomes change old new → office_in new.now.trees ≡ Some (after office change)
 becomes change old new office h can next =
     let flat = bound (flat_in old.now.trees) office_of_records office h.means in
     next flat.0 office flat.1 (are_of flat.0 office flat.2) (possible office change can)

@@ -32,7 +32,7 @@ use Rattle.desk_records.proofs.MeetingChanges.{days_set, keys_set, register_set}
 use Rattle.desk_records.proofs.RecordLemmas.{is_other}
 use Rattle.std.proofs.lemmas.Bool.{and_parts}
 use Rattle.desk_words.specs.Changes.{new_lists}
-use Rattle.desk_changes.specs.Writes.{Turns, Writes, any_records, no_days, days_added, keys_added, resolutions_added, rows_added}
+use Rattle.desk_changes.specs.Writes.{Rewrites, Writes, any_records, no_days, days_added, keys_added, resolutions_added, rows_added}
 use Rattle.desk_changes.proofs.MeetingAdded.{meeting_added}
 use Rattle.desk_changes.proofs.Possible.{placed_in}
 use Rattle.desk_changes.proofs.TurnLemmas.{turns_by, turns_then, writes_failed, writes_from, turns_refused}
@@ -58,7 +58,7 @@ differ_last alike (x ∷ xs) y h =
 module _ {S : Type 0} (g : store.Ghosts S) where
   module _ (a b c : Held S) (n : ℕ) (commits : CommitsNothing g a b) {T : Type 0} (r : Result T Error) where
     -- the keys are emptied, and then added
-    pub keys_written : (keys : List KeyRow) → is_key_list keys ≡ true → Does g a b (Ok n) (Empties table.keys) → Turns g b c r any_records (keys_added keys) → Writes g a c r (change.SetKeys keys)
+    pub keys_written : (keys : List KeyRow) → is_key_list keys ≡ true → Does g a b (Ok n) (Empties table.keys) → Rewrites g b c r any_records (keys_added keys) → Writes g a c r (change.SetKeys keys)
     keys_written keys kept does turns =
         let emptied = λ (flat : FlatLists). record flat { keys = [] } in
         writes_from g a c r (change.SetKeys keys) (λ flat. keys_added keys (emptied flat))
@@ -66,7 +66,7 @@ module _ {S : Type 0} (g : store.Ghosts S) where
         (λ flat office of can. keys_set flat office of keys (keys_sorted keys kept))
 
     -- the closed days are emptied, and then added
-    pub days_written : (days : List ℕ) → is_day_list days ≡ true → Does g a b (Ok n) (Empties table.closed) → Turns g b c r no_days (days_added days) → Writes g a c r (change.SetClosedDays days)
+    pub days_written : (days : List ℕ) → is_day_list days ≡ true → Does g a b (Ok n) (Empties table.closed) → Rewrites g b c r no_days (days_added days) → Writes g a c r (change.SetClosedDays days)
     days_written days kept does turns =
         let emptied = λ (flat : FlatLists). record flat { closed = [] } in
         writes_from g a c r (change.SetClosedDays days) (λ flat. days_added days (emptied flat))
@@ -74,7 +74,7 @@ module _ {S : Type 0} (g : store.Ghosts S) where
         (λ flat office of can. days_set flat office of days (days_sorted days kept))
 
     -- a meeting is added, and then its resolutions
-    pub meeting_written : (m : Meeting) → Does g a b (Ok n) (Adds table.meetings (without_resolutions m)) → Turns g b c r any_records (resolutions_added m.id m.resolutions) → Writes g a c r (change.AddMeeting m)
+    pub meeting_written : (m : Meeting) → Does g a b (Ok n) (Adds table.meetings (without_resolutions m)) → Rewrites g b c r any_records (resolutions_added m.id m.resolutions) → Writes g a c r (change.AddMeeting m)
     meeting_written m does turns =
         let more = λ (flat : FlatLists). record flat { meetings = flat.meetings ++ without_resolutions m ∷ [] } in
         writes_from g a c r (change.AddMeeting m) (λ flat. resolutions_added m.id m.resolutions (more flat))
@@ -86,14 +86,14 @@ module _ {S : Type 0} (g : store.Ghosts S) where
     abbrev taken_out : List ℕ → FlatLists → FlatLists
     taken_out id flat = record flat { register = filter (is_other id) flat.register }
 
-    pub rows_turned : (id : List ℕ) (rows : List RegisterRow) → Does g a b (Ok n) (TakesOut table.register (λ holding. same_name holding.meeting id)) → Turns g b c r any_records (rows_added id rows)
-        → Turns g a c r any_records (λ flat. rows_added id rows (taken_out id flat))
+    pub rows_turned : (id : List ℕ) (rows : List RegisterRow) → Does g a b (Ok n) (TakesOut table.register (λ holding. same_name holding.meeting id)) → Rewrites g b c r any_records (rows_added id rows)
+        → Rewrites g a c r any_records (λ flat. rows_added id rows (taken_out id flat))
     rows_turned id rows does turns =
         turns_then g a b c any_records (taken_out id) (turns_by g a b n table.register (filter (is_other id)) (taken_out id) refl does commits (λ flat held. table_changed (state g a) (state g b) flat held (Each Register) (filter (is_other id))))
         r any_records (rows_added id rows) turns (λ flat good. refl)
 
   -- and then the meeting is noted as loaded
-  pub register_written : (a c d : Held S) (n : ℕ) (id : List ℕ) (rows : List RegisterRow) → is_register rows ≡ true → Turns {T = Unit {0}} g a c (Ok tt) any_records (λ flat. rows_added id rows (record flat { register = filter (is_other id) flat.register }))
+  pub register_written : (a c d : Held S) (n : ℕ) (id : List ℕ) (rows : List RegisterRow) → is_register rows ≡ true → Rewrites {T = Unit {0}} g a c (Ok tt) any_records (λ flat. rows_added id rows (record flat { register = filter (is_other id) flat.register }))
       → Does g c d (Ok n) (Sets table.meetings (loaded_at id)) → CommitsNothing g c d → Writes {T = Unit {0}} g a d (Ok tt) (change.InMeeting id (SetRegister rows))
   register_written a c d n id rows kept turns does commits =
       let loaded = λ (flat : FlatLists). record flat { meetings = map (loaded_at id) flat.meetings } in
@@ -105,7 +105,7 @@ module _ {S : Type 0} (g : store.Ghosts S) where
 
   -- unless that is refused
   pub rows_unloaded : {T : Type 0} (a c d : Held S) (id : List ℕ) (rows asked : List RegisterRow) (e : Error) (answer : Result T Error) → IsErr answer
-      → Turns {T = Unit {0}} g a c (Ok tt) any_records (λ flat. rows_added id rows (record flat { register = filter (is_other id) flat.register })) → CommitsNothing g c d → Writes g a d answer (change.InMeeting id (SetRegister asked))
+      → Rewrites {T = Unit {0}} g a c (Ok tt) any_records (λ flat. rows_added id rows (record flat { register = filter (is_other id) flat.register })) → CommitsNothing g c d → Writes g a d answer (change.InMeeting id (SetRegister asked))
   rows_unloaded {T} a c d id rows asked e answer bad turns commits =
       let filled = λ (flat : FlatLists). rows_added id rows (record flat { register = filter (is_other id) flat.register }) in
       writes_failed g a d (Err e) answer (change.InMeeting id (SetRegister asked)) (λ flat. filled (filled flat)) bad

@@ -16,7 +16,7 @@ use Rattle.desk_words.specs.declared.change.Change.{Change}
 use Rattle.desk_words.specs.declared.office.OfficeLists.{OfficeLists}
 use Rattle.desk_words.specs.declared.records.RegisterRow.{RegisterRow}
 use Rattle.desk_words.specs.declared.records.Resolution.{Resolution}
-use Rattle.desk_rows.specs.Meanings.{◌>>=◌}
+use Rattle.desk_terms.specs.Options.{◌>>=◌}
 use Rattle.desk_schema.specs.Contents as table
 use Rattle.desk_records.specs.Office.{FlatLists, flat_in, office_of_records}
 use Rattle.desk_schema.specs.Statements.{Adds, AddsAfter, Changes, CommitsNothing, Does, TableOf}
@@ -28,7 +28,7 @@ use Rattle.desk_records.proofs.RecordLemmas.{in_meeting}
 use Rattle.desk_rows.proofs.MeaningLemmas.{bound}
 use Rattle.std.proofs.lemmas.Bool.{and_parts}
 use Rattle.desk_words.specs.Changes.{after}
-use Rattle.desk_changes.specs.Writes.{HoldsRecords, Turns, Writes, all_in, any_records, no_days, numbered, days_added, keys_added, resolutions_added, rows_added}
+use Rattle.desk_changes.specs.Writes.{HoldsRecords, Rewrites, Writes, all_in, any_records, no_days, numbered_on, days_added, keys_added, resolutions_added, rows_added}
 use Rattle.desk_changes.proofs.Possible.{Possible, possible, version_kept}
 
 on_ok : {T : Type 0} {P Q : Type 0} (r : Result T Error) → OnOk r P → (P → Q) → OnOk r Q
@@ -43,7 +43,7 @@ no_values (x ∷ l) h = absurd (positive (length l) h)
     positive n e = grind (arith, nat_tests)
 
 -- one resolution more has the next number
-numbered-last : (n : ℕ) (rs : List Resolution) (r : Resolution) (k : ℕ) → k ≡ n + length rs → numbered n (rs ++ r ∷ []) ≡ numbered n rs ++ record { number = k; resolution = r } ∷ []
+numbered-last : (n : ℕ) (rs : List Resolution) (r : Resolution) (k : ℕ) → k ≡ n + length rs → numbered_on n (rs ++ r ∷ []) ≡ numbered_on n rs ++ record { number = k; resolution = r } ∷ []
 numbered-last n [] r k is = let same : n ≡ k = omega (arith, is) in ap (λ m. record { number = m; resolution = r } ∷ []) same
 numbered-last n (q ∷ rest) r k is = ap (λ l. record { number = n; resolution = q } ∷ l) (numbered-last (suc n) rest r k (omega (arith, is)))
 
@@ -67,7 +67,7 @@ earlier (x ∷ days) day up = let parts = earlier_each x days day up in rw (part
 
 module _ {S : Type 0} (g : store.Ghosts S) where
   -- nothing is done yet
-  pub nothing_turned : (held : Held S) (test : FlatLists → Bool) (change : FlatLists → FlatLists) → ((flat : FlatLists) → change flat ≡ flat) → Turns {T = Unit {0}} g held held (Ok tt) test change
+  pub nothing_turned : (held : Held S) (test : FlatLists → Bool) (change : FlatLists → FlatLists) → ((flat : FlatLists) → change flat ≡ flat) → Rewrites {T = Unit {0}} g held held (Ok tt) test change
   nothing_turned held test change same = record {
     done = λ clean flat has good. subst (λ f. HoldsRecords f (state g held)) (sym (same flat)) has;
     kept = λ clean. record { was_open = λ o. o; committed = λ o. refl };
@@ -81,9 +81,9 @@ module _ {S : Type 0} (g : store.Ghosts S) where
     };
   }
 
-  module _ (a b c : Held S) (test : FlatLists → Bool) (first : FlatLists → FlatLists) (one : Turns {T = Unit {0}} g a b (Ok tt) test first) where
-    pub turns_then : {T : Type 0} (r : Result T Error) (later : FlatLists → Bool) (second : FlatLists → FlatLists) → Turns g b c r later second → ((flat : FlatLists) → test flat ≡ true → later (first flat) ≡ true)
-        → Turns g a c r test (λ flat. second (first flat))
+  module _ (a b c : Held S) (test : FlatLists → Bool) (first : FlatLists → FlatLists) (one : Rewrites {T = Unit {0}} g a b (Ok tt) test first) where
+    pub turns_then : {T : Type 0} (r : Result T Error) (later : FlatLists → Bool) (second : FlatLists → FlatLists) → Rewrites g b c r later second → ((flat : FlatLists) → test flat ≡ true → later (first flat) ≡ true)
+        → Rewrites g a c r test (λ flat. second (first flat))
     turns_then r later second two fits = record {
       done = λ clean flat has good.
           let early : HasCleanDisk (state g b) = omega (arith, two.crash.clean) in
@@ -97,17 +97,17 @@ module _ {S : Type 0} (g : store.Ghosts S) where
     }
 
   -- a statement is refused
-  pub turns_refused : {T : Type 0} (a b : Held S) (e : Error) (test : FlatLists → Bool) (change : FlatLists → FlatLists) → CommitsNothing g a b → Turns {T = T} g a b (Err e) test change
+  pub turns_refused : {T : Type 0} (a b : Held S) (e : Error) (test : FlatLists → Bool) (change : FlatLists → FlatLists) → CommitsNothing g a b → Rewrites {T = T} g a b (Err e) test change
   turns_refused a b e test change commits = record { done = λ clean flat has good. tt; kept = commits.kept; crash = commits.crash }
 
   -- statements that are refused change nothing that is promised
-  pub turns_err : {T U : Type 0} (a b : Held S) (r : Result T Error) (answer : Result U Error) (test : FlatLists → Bool) (turn change : FlatLists → FlatLists) → IsErr answer → Turns g a b r test turn → Turns g a b answer test change
+  pub turns_err : {T U : Type 0} (a b : Held S) (r : Result T Error) (answer : Result U Error) (test : FlatLists → Bool) (turn change : FlatLists → FlatLists) → IsErr answer → Rewrites g a b r test turn → Rewrites g a b answer test change
   turns_err a b r (Ok x) test turn change bad turns = absurd cc
   turns_err a b r (Err e) test turn change bad turns = record { done = λ clean flat has good. tt; kept = turns.kept; crash = turns.crash }
 
   -- a statement is refused behind others
-  pub turns_failed : {T : Type 0} (a b c : Held S) (answer : Result T Error) (e : Error) (test : FlatLists → Bool) (first change : FlatLists → FlatLists) → IsErr answer → Turns {T = Unit {0}} g a b (Ok tt) test first → CommitsNothing g b c
-      → Turns g a c answer test change
+  pub turns_failed : {T : Type 0} (a b c : Held S) (answer : Result T Error) (e : Error) (test : FlatLists → Bool) (first change : FlatLists → FlatLists) → IsErr answer → Rewrites {T = Unit {0}} g a b (Ok tt) test first → CommitsNothing g b c
+      → Rewrites g a c answer test change
   turns_failed {T} a b c answer e test first change bad one commits =
       turns_err a c (Err e) answer test (λ flat. first (first flat)) change bad
       (turns_then a b c test first one {T = T} (Err e) any_records first (turns_refused {T = T} b c e any_records first commits) (λ flat good. refl))
@@ -115,18 +115,18 @@ module _ {S : Type 0} (g : store.Ghosts S) where
   -- a statement is answered
   pub turns_by : {A : Type 0} (a b : Held S) (n : ℕ) (its : TableOf A) (effect : List A → List A) (change : FlatLists → FlatLists) → (0 == its.number) ≡ false → Does g a b (Ok n) (Changes its effect) → CommitsNothing g a b
       → ((flat : FlatLists) → flat_in (state g a).now.trees ≡ Some flat → Changes its effect (state g a) (state g b) → flat_in (state g b).now.trees ≡ Some (change flat))
-      → Turns {T = Unit {0}} g a b (Ok tt) any_records change
+      → Rewrites {T = Unit {0}} g a b (Ok tt) any_records change
   turns_by a b n its effect change apart does commits flatly = record {
     done = λ clean flat has good. let it = does clean has.inside has.desk in record { desk = it.desk; version = version_kept its.number (state g a) (state g b) apart it.others has.version; inside = it.inside; means = flatly flat has.means it };
     kept = commits.kept;
     crash = commits.crash;
   }
 
-  pub turns_same : {T : Type 0} (a b : Held S) (r : Result T Error) (test : FlatLists → Bool) (f h : FlatLists → FlatLists) → ((flat : FlatLists) → f flat ≡ h flat) → Turns g a b r test f → Turns g a b r test h
-  turns_same a b r test f h same turns = subst (λ change. Turns g a b r test change) (λ i flat. same flat i) turns
+  pub turns_same : {T : Type 0} (a b : Held S) (r : Result T Error) (test : FlatLists → Bool) (f h : FlatLists → FlatLists) → ((flat : FlatLists) → f flat ≡ h flat) → Rewrites g a b r test f → Rewrites g a b r test h
+  turns_same a b r test f h same turns = subst (λ change. Rewrites g a b r test change) (λ i flat. same flat i) turns
 
   -- where the records become those of the office that a change leaves, the change is written
-  pub writes_from : {T : Type 0} (a b : Held S) (r : Result T Error) (change : Change) (turn : FlatLists → FlatLists) → Turns g a b r any_records turn
+  pub writes_from : {T : Type 0} (a b : Held S) (r : Result T Error) (change : Change) (turn : FlatLists → FlatLists) → Rewrites g a b r any_records turn
       → ((flat : FlatLists) (office : OfficeLists) → AreOf flat office → Possible office change → office_of_records (turn flat) ≡ Some (after office change)) → Writes g a b r change
   writes_from a b r change turn turns next = record {
     written = λ clean office h can.
@@ -138,7 +138,7 @@ module _ {S : Type 0} (g : store.Ghosts S) where
   }
 
   -- a change that is not written
-  pub writes_failed : {T U : Type 0} (a b : Held S) (r : Result T Error) (answer : Result U Error) (change : Change) (turn : FlatLists → FlatLists) → IsErr answer → Turns g a b r any_records turn → Writes g a b answer change
+  pub writes_failed : {T U : Type 0} (a b : Held S) (r : Result T Error) (answer : Result U Error) (change : Change) (turn : FlatLists → FlatLists) → IsErr answer → Rewrites g a b r any_records turn → Writes g a b answer change
   writes_failed a b r (Ok x) change turn bad turns = absurd cc
   writes_failed a b r (Err e) change turn bad turns = record {
     written = λ clean office h can. tt;
@@ -149,8 +149,8 @@ module _ {S : Type 0} (g : store.Ghosts S) where
   -- ---- one record more
 
   module _ (a b c : Held S) (n : ℕ) (commits : CommitsNothing g b c) where
-    pub row_more : (id : List ℕ) (rows : List RegisterRow) (row : RegisterRow) → Turns {T = Unit {0}} g a b (Ok tt) any_records (rows_added id rows) → Does g b c (Ok n) (Adds table.register (in_meeting id row))
-        → Turns {T = Unit {0}} g a c (Ok tt) any_records (rows_added id (rows ++ row ∷ []))
+    pub row_more : (id : List ℕ) (rows : List RegisterRow) (row : RegisterRow) → Rewrites {T = Unit {0}} g a b (Ok tt) any_records (rows_added id rows) → Does g b c (Ok n) (Adds table.register (in_meeting id row))
+        → Rewrites {T = Unit {0}} g a c (Ok tt) any_records (rows_added id (rows ++ row ∷ []))
     row_more id rows row turns does =
         let more = λ (flat : FlatLists). record flat { register = flat.register ++ in_meeting id row ∷ [] } in
         turns_same a c (Ok tt) any_records (λ flat. more (rows_added id rows flat)) (rows_added id (rows ++ row ∷ []))
@@ -158,28 +158,28 @@ module _ {S : Type 0} (g : store.Ghosts S) where
         (turns_then a b c any_records (rows_added id rows) turns (Ok tt) any_records more
         (turns_by b c n table.register (λ was. was ++ in_meeting id row ∷ []) more refl does commits (λ flat held. table_changed (state g b) (state g c) flat held (Each Register) (λ was. was ++ in_meeting id row ∷ []))) (λ flat good. refl))
 
-    pub key_more : (keys : List KeyRow) (key : KeyRow) → Turns {T = Unit {0}} g a b (Ok tt) any_records (keys_added keys) → Does g b c (Ok n) (Adds table.keys key)
-        → Turns {T = Unit {0}} g a c (Ok tt) any_records (keys_added (keys ++ key ∷ []))
+    pub key_more : (keys : List KeyRow) (key : KeyRow) → Rewrites {T = Unit {0}} g a b (Ok tt) any_records (keys_added keys) → Does g b c (Ok n) (Adds table.keys key)
+        → Rewrites {T = Unit {0}} g a c (Ok tt) any_records (keys_added (keys ++ key ∷ []))
     key_more keys key turns does =
         let more = λ (flat : FlatLists). record flat { keys = flat.keys ++ key ∷ [] } in
         turns_same a c (Ok tt) any_records (λ flat. more (keys_added keys flat)) (keys_added (keys ++ key ∷ [])) (λ flat. ap (λ l. record flat { keys = l }) (append_assoc flat.keys keys (key ∷ [])))
         (turns_then a b c any_records (keys_added keys) turns (Ok tt) any_records more
         (turns_by b c n table.keys (λ was. was ++ key ∷ []) more refl does commits (λ flat held. table_changed (state g b) (state g c) flat held Keys (λ was. was ++ key ∷ []))) (λ flat good. refl))
 
-    pub resolution_more : (id : List ℕ) (rs : List Resolution) (r : Resolution) (number : ℕ) → number ≡ 1 + length rs → Turns {T = Unit {0}} g a b (Ok tt) any_records (resolutions_added id rs)
-        → Does g b c (Ok n) (Adds table.resolutions (in_meeting id (record { number = number; resolution = r }))) → Turns {T = Unit {0}} g a c (Ok tt) any_records (resolutions_added id (rs ++ r ∷ []))
+    pub resolution_more : (id : List ℕ) (rs : List Resolution) (r : Resolution) (number : ℕ) → number ≡ 1 + length rs → Rewrites {T = Unit {0}} g a b (Ok tt) any_records (resolutions_added id rs)
+        → Does g b c (Ok n) (Adds table.resolutions (in_meeting id (record { number = number; resolution = r }))) → Rewrites {T = Unit {0}} g a c (Ok tt) any_records (resolutions_added id (rs ++ r ∷ []))
     resolution_more id rs r number is turns does =
         let one = in_meeting id (record { number = number; resolution = r }) in
         let more = λ (flat : FlatLists). record flat { resolutions = flat.resolutions ++ one ∷ [] } in
         turns_same a c (Ok tt) any_records (λ flat. more (resolutions_added id rs flat)) (resolutions_added id (rs ++ r ∷ []))
-        (λ flat. ap (λ l. record flat { resolutions = l }) (append_assoc flat.resolutions (all_in id (numbered 1 rs)) (one ∷ [])
-        ∙ ap (λ l. flat.resolutions ++ l) (sym (ap (all_in id) (numbered-last 1 rs r number is) ∙ map-append (in_meeting id) (numbered 1 rs) (record { number = number; resolution = r } ∷ [])))))
+        (λ flat. ap (λ l. record flat { resolutions = l }) (append_assoc flat.resolutions (all_in id (numbered_on 1 rs)) (one ∷ [])
+        ∙ ap (λ l. flat.resolutions ++ l) (sym (ap (all_in id) (numbered-last 1 rs r number is) ∙ map-append (in_meeting id) (numbered_on 1 rs) (record { number = number; resolution = r } ∷ [])))))
         (turns_then a b c any_records (resolutions_added id rs) turns (Ok tt) any_records more
         (turns_by b c n table.resolutions (λ was. was ++ one ∷ []) more refl does commits (λ flat held. table_changed (state g b) (state g c) flat held Resolutions (λ was. was ++ one ∷ []))) (λ flat good. refl))
 
     -- a day after the earlier ones, where there was none before
-    pub day_more : (days : List ℕ) (day : ℕ) → list_all (λ earlier. nat_lt earlier day) days ≡ true → Turns {T = Unit {0}} g a b (Ok tt) no_days (days_added days)
-        → Does g b c (Ok n) (AddsAfter (λ earlier. nat_lt earlier day) table.closed day) → Turns {T = Unit {0}} g a c (Ok tt) no_days (days_added (days ++ day ∷ []))
+    pub day_more : (days : List ℕ) (day : ℕ) → list_all (λ earlier. nat_lt earlier day) days ≡ true → Rewrites {T = Unit {0}} g a b (Ok tt) no_days (days_added days)
+        → Does g b c (Ok n) (AddsAfter (λ earlier. nat_lt earlier day) table.closed day) → Rewrites {T = Unit {0}} g a c (Ok tt) no_days (days_added (days ++ day ∷ []))
     day_more days day behind turns does = record {
       done = λ clean flat has good.
           let early : HasCleanDisk (state g b) = omega (arith, commits.crash.clean) in

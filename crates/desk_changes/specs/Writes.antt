@@ -17,7 +17,7 @@ use Rattle.desk_schema.specs.Statements.{IsDesk}
 use Rattle.desk_words.specs.Changes.{after, can_make}
 
 -- in a transaction the tables are those of a desk, of version 1, and they are this office
-pub record Holds (office : OfficeLists) (s : State) : Type 0 where
+pub record StandsIn (office : OfficeLists) (s : State) : Type 0 where
   pub desk : IsDesk s
   pub version : IsVersionOne s
   pub inside : IsTrue s.in_transaction
@@ -28,8 +28,8 @@ pub record Writes {S T : Type 0} (g : store.Ghosts S) (old new : Held S) (result
     (change : Change) : Type 0 where
   -- where the office can make the change, and the disk returned what was written, they are then the
   -- office that it leaves
-  pub written : HasCleanDisk (state g new) → (office : OfficeLists) → Holds office (state g old)
-      → IsTrue (can_make office change) → OnOk result (Holds (after office change) (state g new))
+  pub written : HasCleanDisk (state g new) → (office : OfficeLists) → StandsIn office (state g old)
+      → IsTrue (can_make office change) → OnOk result (StandsIn (after office change) (state g new))
   -- whatever is answered, nothing is committed
   pub kept : HasCleanDisk (state g new) → KeepsCommit (state g old) (state g new)
   -- and a crash leaves what it left before
@@ -45,7 +45,7 @@ pub record HoldsRecords (flat : FlatLists) (s : State) : Type 0 where
   pub means : flat_in s.now.trees ≡ Some flat
 
 -- what statements ensure of tables whose records pass a test
-pub record Turns {S T : Type 0} (g : store.Ghosts S) (old new : Held S) (result : Result T Error)
+pub record Rewrites {S T : Type 0} (g : store.Ghosts S) (old new : Held S) (result : Result T Error)
     (test : FlatLists → Bool) (change : FlatLists → FlatLists) : Type 0 where
   -- where the disk returned what was written, the records are then changed
   pub done : HasCleanDisk (state g new) → (flat : FlatLists) → HoldsRecords flat (state g old)
@@ -70,14 +70,14 @@ abbrev pub all_in : {A : Type 0} → List ℕ → List A → List (InMeeting A)
 all_in id items = map (λ item. record { meeting = id; item = item }) items
 
 -- the resolutions of a notice with their numbers, which go on from a number
-abbrev pub numbered : ℕ → List Resolution → List NumberedResolution
-numbered n [] = []
-numbered n (r ∷ rest) = record { number = n; resolution = r } ∷ numbered (suc n) rest
+abbrev pub numbered_on : ℕ → List Resolution → List NumberedResolution
+numbered_on n [] = []
+numbered_on n (r ∷ rest) = record { number = n; resolution = r } ∷ numbered_on (suc n) rest
 
 -- the resolutions of a meeting, numbered from 1, behind those of the others
 abbrev pub resolutions_added : List ℕ → List Resolution → FlatLists → FlatLists
 resolutions_added id resolutions flat =
-    record flat { resolutions = flat.resolutions ++ all_in id (numbered 1 resolutions) }
+    record flat { resolutions = flat.resolutions ++ all_in id (numbered_on 1 resolutions) }
 
 -- the rows of a meeting's register behind the others
 abbrev pub rows_added : List ℕ → List RegisterRow → FlatLists → FlatLists

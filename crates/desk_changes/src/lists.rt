@@ -2,7 +2,7 @@
 ghost use Rattle.std.specs.Prelude.{◌≡◌, IsTrue};
 ghost use Rattle.desk_words.specs.Lists.{is_day_list};
 ghost use Rattle.desk_words.specs.declared.change.Change.TheVariants as change;
-ghost use Rattle.desk_changes.specs.Writes.{Turns, Writes, any_records, no_days};
+ghost use Rattle.desk_changes.specs.Writes.{Rewrites, Writes, any_records, no_days};
 ghost use Rattle.desk_changes.specs.Writes.{days_added, keys_added};
 
 use desk_tables::{closed, keys};
@@ -11,7 +11,7 @@ use sqlite::{Alter, Error, Transaction};
 
 fn add_keys<S: Alter>(tx: &mut Transaction<'_, S>, keys: &[KeyRow]) -> Result<(), Error>
     ensures same_reference { tx.new.conn.ghost_name ≡ tx.old.conn.ghost_name }
-    ensures turns { Turns S.Store tx.old.conn.now tx.new.conn.now result any_records
+    ensures turns { Rewrites S.Store tx.old.conn.now tx.new.conn.now result any_records
         (keys_added keys.now) }
 {
     for key in keys {
@@ -34,7 +34,7 @@ pub(crate) fn set_keys<S: Alter>(tx: &mut Transaction<'_, S>, keys: &KeyRows) ->
 fn add_days<S: Alter>(tx: &mut Transaction<'_, S>, days: &[Day]) -> Result<(), Error>
     requires { IsTrue (is_day_list days.now) }
     ensures same_reference { tx.new.conn.ghost_name ≡ tx.old.conn.ghost_name }
-    ensures turns { Turns S.Store tx.old.conn.now tx.new.conn.now result no_days
+    ensures turns { Rewrites S.Store tx.old.conn.now tx.new.conn.now result no_days
         (days_added days.now) }
 {
     for day in days {

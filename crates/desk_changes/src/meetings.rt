@@ -2,7 +2,7 @@
 ghost use Rattle.std.specs.Prelude.{◌≡◌};
 ghost use Rattle.desk_words.specs.declared.change.Change.TheVariants as change;
 ghost use Rattle.desk_words.specs.declared.change.MeetingChange.TheVariants as meeting_change;
-ghost use Rattle.desk_changes.specs.Writes.{Turns, Writes, any_records};
+ghost use Rattle.desk_changes.specs.Writes.{Rewrites, Writes, any_records};
 ghost use Rattle.desk_changes.specs.Writes.{resolutions_added, rows_added};
 
 use desk_tables::{meetings, register, resolutions};
@@ -15,7 +15,7 @@ fn add_resolutions<S: Alter>(
     resolutions: &[Resolution],
 ) -> Result<(), Error>
     ensures same_reference { tx.new.conn.ghost_name ≡ tx.old.conn.ghost_name }
-    ensures turns { Turns S.Store tx.old.conn.now tx.new.conn.now result any_records
+    ensures turns { Rewrites S.Store tx.old.conn.now tx.new.conn.now result any_records
         (resolutions_added meeting resolutions.now) }
 {
     let mut number = 0;
@@ -45,7 +45,7 @@ fn add_rows<S: Alter>(
     rows: &[RegisterRow],
 ) -> Result<(), Error>
     ensures same_reference { tx.new.conn.ghost_name ≡ tx.old.conn.ghost_name }
-    ensures turns { Turns S.Store tx.old.conn.now tx.new.conn.now result any_records
+    ensures turns { Rewrites S.Store tx.old.conn.now tx.new.conn.now result any_records
         (rows_added meeting rows.now) }
 {
     for row in rows {

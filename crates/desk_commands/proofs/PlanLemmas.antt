@@ -7,27 +7,27 @@ use Rattle.clap.specs.Simple.{subcommand_of}
 use Rattle.clap.specs.Walk.{Text, is_empty}
 use Rattle.clap.specs.declared.error.kind.ErrorKind.{ErrorKind}
 use Rattle.clap.specs.declared.error.kind.ErrorKind.TheVariants as kind
-use Rattle.desk_commands.specs.App.{desk}
-use Rattle.desk_commands.specs.Plans.{Asked, Wrong, Words, Gives, IsRefused, IsWrong, plan_view, asked, asked_in}
+use Rattle.desk_commands.specs.App.{desk_app}
+use Rattle.desk_commands.specs.Plans.{CommandAsked, Wrong, Words, GivesPlan, IsRefused, IsWrong, plan_view, asked_by_words, asked_in}
 use Rattle.desk_commands.specs.declared.plan.Plan.{Plan}
 use Rattle.desk_commands.specs.declared.plan.WordsFault.{WordsFault}
 use Rattle.desk_commands.specs.declared.plan.WordsFault.TheVariants as fault
 
 -- words in which no fault is found
-pub asked-taken : (words : List Text) → fault_of desk words ≡ [] → asked words ≡ asked_in (subcommand_of desk words)
-unfolding asked
-asked-taken words none = ap (λ (faults : Kinds). cond (is_empty faults) (asked_in (subcommand_of desk words)) (Err Words)) none
+pub asked-taken : (words : List Text) → fault_of desk_app words ≡ [] → asked_by_words words ≡ asked_in (subcommand_of desk_app words)
+unfolding asked_by_words
+asked-taken words none = ap (λ (faults : Kinds). cond (is_empty faults) (asked_in (subcommand_of desk_app words)) (Err Words)) none
 
-none_asked : (cause : ErrorKind) (kinds : Kinds) (other : Result Asked Wrong) → IsAmong cause kinds → cond (is_empty kinds) other (Err Words) ≡ Err Words
+none_asked : (cause : ErrorKind) (kinds : Kinds) (other : Result CommandAsked Wrong) → IsAmong cause kinds → cond (is_empty kinds) other (Err Words) ≡ Err Words
 none_asked cause [] other among = absurd among
 none_asked cause (k ∷ ks) other among = let some : is_empty (k ∷ ks) ≡ false = grind (arith, nat_tests) in ap (λ b. cond b other (Err Words)) some
 
 -- words in which a fault is found
-pub asked-refused : (words : List Text) (cause : ErrorKind) → IsAmong cause (fault_of desk words) → asked words ≡ Err Words
-unfolding asked
-asked-refused words cause among = none_asked cause (fault_of desk words) (asked_in (subcommand_of desk words)) among
+pub asked-refused : (words : List Text) (cause : ErrorKind) → IsAmong cause (fault_of desk_app words) → asked_by_words words ≡ Err Words
+unfolding asked_by_words
+asked-refused words cause among = none_asked cause (fault_of desk_app words) (asked_in (subcommand_of desk_app words)) among
 
-pub wrong-refused : (words : List Text) (cause : ErrorKind) (wrong : WordsFault) → IsRefused cause wrong → (cause ≡ kind.OutOfMemory) ⊎ IsAmong cause (fault_of desk words) → IsWrong wrong (asked words)
+pub wrong-refused : (words : List Text) (cause : ErrorKind) (wrong : WordsFault) → IsRefused cause wrong → (cause ≡ kind.OutOfMemory) ⊎ IsAmong cause (fault_of desk_app words) → IsWrong wrong (asked_by_words words)
 wrong-refused words cause (fault.Words text) not (inl memory) = absurd (not memory)
 wrong-refused words cause (fault.Words text) not (inr among) = asked-refused words cause among
 wrong-refused words cause fault.Memory h either = tt
@@ -35,5 +35,5 @@ wrong-refused words cause fault.Meeting h either = absurd h
 wrong-refused words cause fault.Record h either = absurd h
 wrong-refused words cause fault.Zone h either = absurd h
 
-pub gives-same : (returned : Result Plan WordsFault) (a b : Result Asked Wrong) → Gives plan_view returned a → a ≡ b → Gives plan_view returned b
-gives-same returned a b given same = let P : Result Asked Wrong → Type 0 = λ answer. Gives plan_view returned answer in subst P same given
+pub gives-same : (returned : Result Plan WordsFault) (a b : Result CommandAsked Wrong) → GivesPlan plan_view returned a → a ≡ b → GivesPlan plan_view returned b
+gives-same returned a b given same = let P : Result CommandAsked Wrong → Type 0 = λ answer. GivesPlan plan_view returned answer in subst P same given

@@ -51,32 +51,32 @@ on_meeting name = with_rule (on_file name) (wanted (codes "MEETING"))
 abbrev pub loading : Text → App → App
 loading id a = with_rule (with_rule a (wanted id)) zone
 
-abbrev pub init : App
-init = on_file (codes "init")
+abbrev pub init_app : App
+init_app = on_file (codes "init_app")
 
-abbrev pub keys : App
-keys = loading (codes "CSV") (on_file (codes "keys"))
+abbrev pub keys_app : App
+keys_app = loading (codes "CSV") (on_file (codes "keys_app"))
 
-abbrev pub days : App
-days = loading (codes "TXT") (on_file (codes "days"))
+abbrev pub days_app : App
+days_app = loading (codes "TXT") (on_file (codes "days_app"))
 
-abbrev pub register : App
-register =
-    loading (codes "CSV") (with_rule (on_meeting (codes "register")) (wanted (codes "RECORD")))
+abbrev pub register_app : App
+register_app =
+    loading (codes "CSV") (with_rule (on_meeting (codes "register_app")) (wanted (codes "RECORD")))
 
-abbrev pub serve : App
-serve = with_rule (with_rule (with_rule (on_file (codes "serve")) port) requests) zone
+abbrev pub serve_app : App
+serve_app = with_rule (with_rule (with_rule (on_file (codes "serve_app")) port) requests) zone
 
-abbrev pub results : App
-results = on_meeting (codes "results")
+abbrev pub results_app : App
+results_app = on_meeting (codes "results_app")
 
-abbrev pub replay : App
-replay = new_app (codes "replay")
+abbrev pub replay_app : App
+replay_app = new_app (codes "replay_app")
 
 abbrev pub top : App
 top =
-    record (new_app (codes "desk")) {
-      top = record (new_app (codes "desk")).top {
+    record (new_app (codes "desk_app")) {
+      top = record (new_app (codes "desk_app")).top {
         subcommand_required = true;
         arg_required_else_help = true;
         no_binary_name = true;
@@ -87,13 +87,14 @@ top =
 abbrev pub with_loads : App
 with_loads =
     with_subcommand
-    (with_subcommand (with_subcommand (with_subcommand top init.top) keys.top) days.top)
-    register.top
+    (with_subcommand (with_subcommand (with_subcommand top init_app.top) keys_app.top) days_app.top)
+    register_app.top
 
 -- the program: its seven commands
-abbrev pub desk : App
-desk =
-    with_subcommand (with_subcommand (with_subcommand with_loads serve.top) results.top) replay.top
+abbrev pub desk_app : App
+desk_app =
+    with_subcommand
+    (with_subcommand (with_subcommand with_loads serve_app.top) results_app.top) replay_app.top
 
 -- the command is that one, and has no argument that is global
 abbrev pub IsCommand : Command → App → Type 0

@@ -1,6 +1,7 @@
 -- What the words of the program ask for.
 use Rattle.std.specs.Prelude.{◌≡◌, ⊤, ℕ, List, Option, Some, None, Result, Ok, Err, ok_or, bytes_eq, codes, if◌then◌else◌}
 use Rattle.std.specs.Str.Parse.{digits_value, without_leading_plus}
+use Rattle.desk_terms.specs.Results.{◌>>=◌}
 use Rattle.clap.specs.ValueTests.{is_unsigned_in}
 use Rattle.clap.specs.declared.error.kind.ErrorKind.{ErrorKind}
 use Rattle.clap.specs.declared.error.kind.ErrorKind.TheVariants as kind
@@ -10,7 +11,7 @@ use Rattle.clap.specs.Walk.{Row, Text, first_of, is_empty}
 use Rattle.desk_calendar.specs.Texts.{moment_of}
 use Rattle.desk_terms.specs.Names.{meeting_of}
 use Rattle.office_clock.specs.Zones.{Rule, rule_in, rule_of}
-use Rattle.desk_commands.specs.App.{desk}
+use Rattle.desk_commands.specs.App.{desk_app}
 use Rattle.desk_commands.specs.declared.plan.Plan.{Plan}
 use Rattle.desk_commands.specs.declared.plan.Plan.TheVariants as plan
 use Rattle.desk_commands.specs.declared.plan.WordsFault.{WordsFault}
@@ -18,14 +19,14 @@ use Rattle.desk_commands.specs.declared.plan.WordsFault.TheVariants as fault
 
 -- a command, with the texts of its files, its meeting, its record moment, its port, its number of
 -- requests and the rule of its zone
-pub data Asked : Type 0 where
-  Init : Text → Asked
-  Keys : Text → Text → Rule → Asked
-  Days : Text → Text → Rule → Asked
-  Register : Text → List ℕ → ℕ → Text → Rule → Asked
-  Serve : Text → ℕ → ℕ → Rule → Asked
-  Results : Text → List ℕ → Asked
-  Replay : Asked
+pub data CommandAsked : Type 0 where
+  Init : Text → CommandAsked
+  Keys : Text → Text → Rule → CommandAsked
+  Days : Text → Text → Rule → CommandAsked
+  Register : Text → List ℕ → ℕ → Text → Rule → CommandAsked
+  Serve : Text → ℕ → ℕ → Rule → CommandAsked
+  Results : Text → List ℕ → CommandAsked
+  Replay : CommandAsked
 
 -- why the words ask for nothing
 pub data Wrong : Type 0 where
@@ -35,7 +36,7 @@ pub data Wrong : Type 0 where
   Zone : Wrong
 
 -- a plan, as contracts see it
-abbrev pub plan_view : Plan → Asked
+abbrev pub plan_view : Plan → CommandAsked
 plan_view (plan.Init file) = Init file.now
 plan_view (plan.Keys file csv zone) = Keys file.now csv.now (rule_of zone)
 plan_view (plan.Days file txt zone) = Days file.now txt.now (rule_of zone)
@@ -54,9 +55,9 @@ IsWrong fault.Zone answer = answer ≡ Err Zone
 IsWrong fault.Memory answer = ⊤
 
 -- what was returned, as contracts see it, is the answer, unless memory ran out
-abbrev pub Gives : {X Y : Type 0} → (X → Y) → Result X WordsFault → Result Y Wrong → Type 0
-Gives seen (Ok x) answer = answer ≡ Ok (seen x)
-Gives seen (Err wrong) answer = IsWrong wrong answer
+abbrev pub GivesPlan : {X Y : Type 0} → (X → Y) → Result X WordsFault → Result Y Wrong → Type 0
+GivesPlan seen (Ok x) answer = answer ≡ Ok (seen x)
+GivesPlan seen (Err wrong) answer = IsWrong wrong answer
 
 -- the fault of words that `clap` refuses for this cause: their text, or want of memory
 abbrev pub IsRefused : ErrorKind → WordsFault → Type 0
@@ -66,37 +67,31 @@ IsRefused cause fault.Meeting = ⊥
 IsRefused cause fault.Record = ⊥
 IsRefused cause fault.Zone = ⊥
 
--- one reading after another, up to the first fault
-infixl 10 ◌>>=◌
-abbrev pub ◌>>=◌ : {A B : Type 0} → Result A Wrong → (A → Result B Wrong) → Result B Wrong
-(Ok x) >>= next = next x
-(Err wrong) >>= next = Err wrong
-
 -- the word that is given for an id
 abbrev pub word_in : Text → List Row → Result Text Wrong
 word_in id rows = ok_or (first_of id rows) Words
 
 -- the number that a word spells, where `clap` takes it for one within the bounds
-abbrev pub number_in : ℕ → ℕ → Text → Option ℕ
-number_in least most word =
+abbrev pub number_between : ℕ → ℕ → Text → Option ℕ
+number_between least most word =
     if is_unsigned_in least most word
     then Some (digits_value 10 (without_leading_plus word)) else None
 
-unfoldable pub init_in : List Row → Result Asked Wrong
-init_in rows = do
+unfoldable pub init_asked : List Row → Result CommandAsked Wrong
+init_asked rows = do
   file ← word_in (codes "FILE") rows
   Ok (Init file)
 
-unfoldable pub keys_in : List Row → Result Asked Wrong
-keys_in rows = do
+unfoldable pub keys_asked : List Row → Result CommandAsked Wrong
+keys_asked rows = do
   file ← word_in (codes "FILE") rows
   csv ← word_in (codes "CSV") rows
   zone ← word_in (codes "zone") rows
   rule ← ok_or (rule_in zone) Zone
   Ok (Keys file csv rule)
 
-unfoldable pub days_in : List Row → Result Asked Wrong
-days_in rows = do
+unfoldable pub days_asked : List Row → Result CommandAsked Wrong
+days_asked rows = do
   file ← word_in (codes "FILE") rows
   txt ← word_in (codes "TXT") rows
   zone ← word_in (codes "zone") rows
@@ -104,8 +99,8 @@ days_in rows = do
   Ok (Days file txt rule)
 
 -- all words are there first; then the meeting is read, the record moment, and the zone
-unfoldable pub register_in : List Row → Result Asked Wrong
-register_in rows = do
+unfoldable pub register_asked : List Row → Result CommandAsked Wrong
+register_asked rows = do
   file ← word_in (codes "FILE") rows
   meeting_word ← word_in (codes "MEETING") rows
   record_word ← word_in (codes "RECORD") rows
@@ -117,42 +112,44 @@ register_in rows = do
   Ok (Register file meeting record_moment csv rule)
 
 -- all words are there first; then the port is read, the number of requests, and the zone
-unfoldable pub serve_in : List Row → Result Asked Wrong
-serve_in rows = do
+unfoldable pub serve_asked : List Row → Result CommandAsked Wrong
+serve_asked rows = do
   file ← word_in (codes "FILE") rows
   port_word ← word_in (codes "port") rows
   requests_word ← word_in (codes "requests") rows
   zone ← word_in (codes "zone") rows
-  port ← ok_or (number_in 1 65535 port_word) Words
-  requests ← ok_or (number_in 1 1000000000 requests_word) Words
+  port ← ok_or (number_between 1 65535 port_word) Words
+  requests ← ok_or (number_between 1 1000000000 requests_word) Words
   rule ← ok_or (rule_in zone) Zone
   Ok (Serve file port requests rule)
 
-unfoldable pub results_in : List Row → Result Asked Wrong
-results_in rows = do
+unfoldable pub results_asked : List Row → Result CommandAsked Wrong
+results_asked rows = do
   file ← word_in (codes "FILE") rows
   meeting_word ← word_in (codes "MEETING") rows
   meeting ← ok_or (meeting_of meeting_word) Meeting
   Ok (Results file meeting)
 
 -- what a command of that name asks
-abbrev pub asked_by : Text → List Row → Result Asked Wrong
-asked_by name rows =
-    if bytes_eq name (codes "init") then init_in rows
-    else if bytes_eq name (codes "keys") then keys_in rows
-    else if bytes_eq name (codes "days") then days_in rows
-    else if bytes_eq name (codes "register") then register_in rows
-    else if bytes_eq name (codes "serve") then serve_in rows
-    else if bytes_eq name (codes "results") then results_in rows
+abbrev pub asked_by_name : Text → List Row → Result CommandAsked Wrong
+asked_by_name name rows =
+    if bytes_eq name (codes "init") then init_asked rows
+    else if bytes_eq name (codes "keys") then keys_asked rows
+    else if bytes_eq name (codes "days") then days_asked rows
+    else if bytes_eq name (codes "register") then register_asked rows
+    else if bytes_eq name (codes "serve") then serve_asked rows
+    else if bytes_eq name (codes "results") then results_asked rows
     else if bytes_eq name (codes "replay") then Ok Replay
     else Err Words
 
 -- what the command that the words name asks
-abbrev pub asked_in : Option (Text × List Row) → Result Asked Wrong
+abbrev pub asked_in : Option (Text × List Row) → Result CommandAsked Wrong
 asked_in None = Err Words
-asked_in (Some named) = asked_by named.0 named.1
+asked_in (Some named) = asked_by_name named.0 named.1
 
 -- what the words ask for, where `clap` finds no fault in them
-unfoldable pub asked : List Text → Result Asked Wrong
-asked words =
-    if is_empty (fault_of desk words) then asked_in (subcommand_of desk words) else Err Words
+unfoldable pub asked_by_words : List Text → Result CommandAsked Wrong
+asked_by_words words =
+    if is_empty (fault_of desk_app words)
+    then asked_in (subcommand_of desk_app words)
+    else Err Words

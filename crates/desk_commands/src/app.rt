@@ -130,21 +130,21 @@ fn loading<'a>(
 }
 
 fn keys<'a>(alloc: Global) -> Result<Command<'a>, AllocError>
-    ensures { IfOk result (λ c. spec.IsCommand c spec.keys) }
+    ensures { IfOk result (λ c. spec.IsCommand c spec.keys_app) }
 {
     let keys = on_file(alloc, "keys", help::KEYS)?;
     loading(alloc, keys, "CSV", help::KEY_FILE)
 }
 
 fn days<'a>(alloc: Global) -> Result<Command<'a>, AllocError>
-    ensures { IfOk result (λ c. spec.IsCommand c spec.days) }
+    ensures { IfOk result (λ c. spec.IsCommand c spec.days_app) }
 {
     let days = on_file(alloc, "days", help::DAYS)?;
     loading(alloc, days, "TXT", help::DAY_FILE)
 }
 
 fn register<'a>(alloc: Global) -> Result<Command<'a>, AllocError>
-    ensures { IfOk result (λ c. spec.IsCommand c spec.register) }
+    ensures { IfOk result (λ c. spec.IsCommand c spec.register_app) }
 {
     let register = on_meeting(alloc, "register", help::REGISTER)?;
     let with_record = with_word(alloc, register, "RECORD", help::RECORD)?;
@@ -152,7 +152,7 @@ fn register<'a>(alloc: Global) -> Result<Command<'a>, AllocError>
 }
 
 fn serve<'a>(alloc: Global) -> Result<Command<'a>, AllocError>
-    ensures { IfOk result (λ c. spec.IsCommand c spec.serve) }
+    ensures { IfOk result (λ c. spec.IsCommand c spec.serve_app) }
 {
     let serve = on_file(alloc, "serve", help::SERVE)?;
     let with_port = with_port(alloc, serve)?;
@@ -203,7 +203,7 @@ fn with_loads<'a>(alloc: Global) -> Result<Command<'a>, AllocError>
 }
 
 fn desk<'a>(alloc: Global) -> Result<Command<'a>, AllocError>
-    ensures { IfOk result (λ c. spec.IsCommand c spec.desk) }
+    ensures { IfOk result (λ c. spec.IsCommand c spec.desk_app) }
 {
     let with_loads = with_loads(alloc)?;
     let fifth = with_made(with_loads, serve(alloc))?;
@@ -214,8 +214,9 @@ fn desk<'a>(alloc: Global) -> Result<Command<'a>, AllocError>
 /// What `clap` makes of the words, the program's own name not among them.
 pub(crate) fn desk_matches<'a>(alloc: Global, words: &'a [String]) -> Result<ArgMatches<'a>, Error>
     ensures named { IfOk result
-        (λ m. subcommand_rows_of m ≡ subcommand_of spec.desk (map string_bytes words.entry.now)) }
-    ensures exact { FailsBy (fault_of spec.desk (map string_bytes words.entry.now)) result }
+        (λ m. subcommand_rows_of m
+        ≡ subcommand_of spec.desk_app (map string_bytes words.entry.now)) }
+    ensures exact { FailsBy (fault_of spec.desk_app (map string_bytes words.entry.now)) result }
 {
     let command = desk(alloc)?;
     command.try_get_matches_from(words)

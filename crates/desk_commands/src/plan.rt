@@ -5,7 +5,7 @@ ghost use Rattle.clap.specs.Values.{kind_of};
 ghost use Rattle.clap.specs.Simple.{subcommand_rows_of};
 ghost use Rattle.clap.specs.Walk.{rows_of};
 ghost use Rattle.office_clock.specs.Zones.{rule_in, rule_of};
-ghost use Rattle.desk_commands.specs.Plans.{Gives, IsRefused, Words, Zone, plan_view, word_in, init_in, keys_in, days_in, register_in, serve_in, number_in, results_in, asked_by, asked_in, asked};
+ghost use Rattle.desk_commands.specs.Plans.{GivesPlan, IsRefused, Words, Zone, plan_view, word_in, init_asked, keys_asked, days_asked, register_asked, serve_asked, number_between, results_asked, asked_by_name, asked_in, asked_by_words};
 
 use crate::app::desk_matches;
 use clap::error::ErrorKind;
@@ -76,7 +76,7 @@ pub enum WordsFault {
 
 /// The zone that a POSIX rule spells. The fault is exactly that the text is no rule.
 fn read_zone(rule: &str) -> Result<OfficeZone, WordsFault>
-    ensures { Gives rule_of result (ok_or (rule_in rule.now) Zone) }
+    ensures { GivesPlan rule_of result (ok_or (rule_in rule.now) Zone) }
 {
     match OfficeZone::read(rule) {
         Ok(zone) => Ok(zone),
@@ -86,7 +86,7 @@ fn read_zone(rule: &str) -> Result<OfficeZone, WordsFault>
 
 /// The word that is given for an id. `clap` gives no matches without each word that is wanted.
 fn word<'a>(alloc: Global, matches: &ArgMatches<'a>, id: &str) -> Result<&'a str, WordsFault>
-    ensures { Gives (λ s. s.now) result (word_in id.now (rows_of (found_of matches.now))) }
+    ensures { GivesPlan (λ s. s.now) result (word_in id.now (rows_of (found_of matches.now))) }
 {
     match matches.get_str(id) {
         Some(word) => Ok(word),
@@ -96,7 +96,7 @@ fn word<'a>(alloc: Global, matches: &ArgMatches<'a>, id: &str) -> Result<&'a str
 
 /// The port that a word spells: 1 to 65,535.
 fn port_of(word: &str) -> Option<u16>
-    ensures { result ≡ number_in 1 65535 word.now }
+    ensures { result ≡ number_between 1 65535 word.now }
 {
     match word.parse::<u16>() {
         Ok(port) => { if port == 0 { None } else { Some(port) } }
@@ -106,7 +106,7 @@ fn port_of(word: &str) -> Option<u16>
 
 /// The number of requests that a word spells: 1 to 1,000,000,000.
 fn requests_of(word: &str) -> Option<u32>
-    ensures { result ≡ number_in 1 1000000000 word.now }
+    ensures { result ≡ number_between 1 1000000000 word.now }
 {
     match word.parse::<u32>() {
         Ok(requests) => {
@@ -124,7 +124,7 @@ fn requests_of(word: &str) -> Option<u32>
 
 /// The number that was read. `clap` gives no matches with a word that spells none within the bounds.
 fn taken<T>(alloc: Global, read: Option<T>) -> Result<T, WordsFault>
-    ensures { Gives (λ number. number) result (ok_or read Words) }
+    ensures { GivesPlan (λ number. number) result (ok_or read Words) }
 {
     match read {
         Some(number) => Ok(number),
@@ -132,17 +132,17 @@ fn taken<T>(alloc: Global, read: Option<T>) -> Result<T, WordsFault>
     }
 }
 
-#[tactic(auto, unfolding(crate::specs::Plans::init_in))]
+#[tactic(auto, unfolding(crate::specs::Plans::init_asked))]
 fn init_in<'a>(alloc: Global, matches: &ArgMatches<'a>) -> Result<Plan<'a>, WordsFault>
-    ensures { Gives plan_view result (init_in (rows_of (found_of matches.now))) }
+    ensures { GivesPlan plan_view result (init_asked (rows_of (found_of matches.now))) }
 {
     let file = word(alloc, matches, "FILE")?;
     Ok(Plan::Init { file })
 }
 
-#[tactic(auto, unfolding(crate::specs::Plans::keys_in))]
+#[tactic(auto, unfolding(crate::specs::Plans::keys_asked))]
 fn keys_in<'a>(alloc: Global, matches: &ArgMatches<'a>) -> Result<Plan<'a>, WordsFault>
-    ensures { Gives plan_view result (keys_in (rows_of (found_of matches.now))) }
+    ensures { GivesPlan plan_view result (keys_asked (rows_of (found_of matches.now))) }
 {
     let file = word(alloc, matches, "FILE")?;
     let csv = word(alloc, matches, "CSV")?;
@@ -151,9 +151,9 @@ fn keys_in<'a>(alloc: Global, matches: &ArgMatches<'a>) -> Result<Plan<'a>, Word
     Ok(Plan::Keys { file, csv, zone })
 }
 
-#[tactic(auto, unfolding(crate::specs::Plans::days_in))]
+#[tactic(auto, unfolding(crate::specs::Plans::days_asked))]
 fn days_in<'a>(alloc: Global, matches: &ArgMatches<'a>) -> Result<Plan<'a>, WordsFault>
-    ensures { Gives plan_view result (days_in (rows_of (found_of matches.now))) }
+    ensures { GivesPlan plan_view result (days_asked (rows_of (found_of matches.now))) }
 {
     let file = word(alloc, matches, "FILE")?;
     let txt = word(alloc, matches, "TXT")?;
@@ -162,9 +162,9 @@ fn days_in<'a>(alloc: Global, matches: &ArgMatches<'a>) -> Result<Plan<'a>, Word
     Ok(Plan::Days { file, txt, zone })
 }
 
-#[tactic(auto, unfolding(crate::specs::Plans::register_in))]
+#[tactic(auto, unfolding(crate::specs::Plans::register_asked))]
 fn register_in<'a>(alloc: Global, matches: &ArgMatches<'a>) -> Result<Plan<'a>, WordsFault>
-    ensures { Gives plan_view result (register_in (rows_of (found_of matches.now))) }
+    ensures { GivesPlan plan_view result (register_asked (rows_of (found_of matches.now))) }
 {
     let file = word(alloc, matches, "FILE")?;
     let meeting_word = word(alloc, matches, "MEETING")?;
@@ -183,9 +183,9 @@ fn register_in<'a>(alloc: Global, matches: &ArgMatches<'a>) -> Result<Plan<'a>, 
     })
 }
 
-#[tactic(auto, unfolding(crate::specs::Plans::serve_in))]
+#[tactic(auto, unfolding(crate::specs::Plans::serve_asked))]
 fn serve_in<'a>(alloc: Global, matches: &ArgMatches<'a>) -> Result<Plan<'a>, WordsFault>
-    ensures { Gives plan_view result (serve_in (rows_of (found_of matches.now))) }
+    ensures { GivesPlan plan_view result (serve_asked (rows_of (found_of matches.now))) }
 {
     let file = word(alloc, matches, "FILE")?;
     let port_word = word(alloc, matches, "port")?;
@@ -202,9 +202,9 @@ fn serve_in<'a>(alloc: Global, matches: &ArgMatches<'a>) -> Result<Plan<'a>, Wor
     })
 }
 
-#[tactic(auto, unfolding(crate::specs::Plans::results_in))]
+#[tactic(auto, unfolding(crate::specs::Plans::results_asked))]
 fn results_in<'a>(alloc: Global, matches: &ArgMatches<'a>) -> Result<Plan<'a>, WordsFault>
-    ensures { Gives plan_view result (results_in (rows_of (found_of matches.now))) }
+    ensures { GivesPlan plan_view result (results_asked (rows_of (found_of matches.now))) }
 {
     let file = word(alloc, matches, "FILE")?;
     let meeting = word(alloc, matches, "MEETING")?;
@@ -213,7 +213,7 @@ fn results_in<'a>(alloc: Global, matches: &ArgMatches<'a>) -> Result<Plan<'a>, W
 }
 
 fn plan_by<'a>(alloc: Global, name: &str, matches: &ArgMatches<'a>) -> Result<Plan<'a>, WordsFault>
-    ensures { Gives plan_view result (asked_by name.now (rows_of (found_of matches.now))) }
+    ensures { GivesPlan plan_view result (asked_by_name name.now (rows_of (found_of matches.now))) }
 {
     match name {
         "init" => init_in(alloc, matches),
@@ -228,7 +228,7 @@ fn plan_by<'a>(alloc: Global, name: &str, matches: &ArgMatches<'a>) -> Result<Pl
 }
 
 fn plan_in<'a>(alloc: Global, matches: &ArgMatches<'a>) -> Result<Plan<'a>, WordsFault>
-    ensures { Gives plan_view result (asked_in (subcommand_rows_of matches.now)) }
+    ensures { GivesPlan plan_view result (asked_in (subcommand_rows_of matches.now)) }
 {
     match matches.subcommand() {
         Some((name, under)) => plan_by(alloc, name, under),
@@ -253,7 +253,7 @@ fn refused(alloc: Global, error: &Error) -> WordsFault
 /// its values. The faults are found in their order: the words, the meeting, the record moment, the
 /// zone.
 pub fn read_words<'a>(alloc: Global, words: &'a [String]) -> Result<Plan<'a>, WordsFault>
-    ensures { Gives plan_view result (asked (map string_bytes words.entry.now)) }
+    ensures { GivesPlan plan_view result (asked_by_words (map string_bytes words.entry.now)) }
 {
     match desk_matches(alloc, words) {
         Ok(matches) => plan_in(alloc, &matches),

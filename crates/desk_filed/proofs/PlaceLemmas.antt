@@ -4,7 +4,7 @@ use Rattle.std.specs.List.{All, cons_option, filter, filter_map, list_any, slice
 use Rattle.std.proofs.lemmas.Bool.Decides.{nat_tests}
 use Rattle.std.proofs.lemmas.List.{map-append, length-map}
 use Rattle.std.proofs.lemmas.List.Elements.{All-nil, All-cons, All-map, All-weaker}
-use Rattle.desk_filed.specs.Places.{places_that}
+use Rattle.desk_filed.specs.Places.{places_passing}
 
 -- the first place, where the first item passes, before the others, which are one further on
 abbrev place_first : Bool → List ℕ → List ℕ
@@ -17,18 +17,18 @@ place_first-more false true places n = map-append suc places (n ∷ [])
 place_first-more false false places n = map-append suc places []
 
 -- one item more has its place behind the others, where it passes
-pub places_that-more : {A : Type 0} (test : A → Bool) (xs : List A) (x : A) → places_that test (xs ++ x ∷ []) ≡ places_that test xs ++ cond (test x) (length xs ∷ []) []
+pub places_that-more : {A : Type 0} (test : A → Bool) (xs : List A) (x : A) → places_passing test (xs ++ x ∷ []) ≡ places_passing test xs ++ cond (test x) (length xs ∷ []) []
 places_that-more test [] x = refl
 places_that-more test (y ∷ ys) x =
-    ap (place_first (test y)) (places_that-more test ys x) ∙ place_first-more (test y) (test x) (places_that test ys) (length ys)
+    ap (place_first (test y)) (places_that-more test ys x) ∙ place_first-more (test y) (test x) (places_passing test ys) (length ys)
 
 -- each place is in the list
-pub places_that-within : {A : Type 0} (test : A → Bool) (xs : List A) → All (λ place. place < length xs) (places_that test xs)
+pub places_that-within : {A : Type 0} (test : A → Bool) (xs : List A) → All (λ place. place < length xs) (places_passing test xs)
 places_that-within test [] = All-nil _
 places_that-within test (x ∷ xs) =
-    let further : All (λ place. place < suc (length xs)) (map suc (places_that test xs)) =
-    All-map (λ place. place < suc (length xs)) suc (places_that test xs) (All-weaker (λ place. place < length xs) (λ place. suc place < suc (length xs)) (λ place below. omega arith) (places_that test xs) (places_that-within test xs)) in
-    (elim (test x) as (λ b. All (λ place. place < suc (length xs)) (place_first b (places_that test xs))) [
+    let further : All (λ place. place < suc (length xs)) (map suc (places_passing test xs)) =
+    All-map (λ place. place < suc (length xs)) suc (places_passing test xs) (All-weaker (λ place. place < length xs) (λ place. suc place < suc (length xs)) (λ place below. omega arith) (places_passing test xs) (places_that-within test xs)) in
+    (elim (test x) as (λ b. All (λ place. place < suc (length xs)) (place_first b (places_passing test xs))) [
       | true ↦ All-cons (λ place. place < suc (length xs)) 0 _ (omega arith) further
       | false ↦ further
     ])
@@ -38,11 +38,11 @@ filter_map-further x xs [] = refl
 filter_map-further x xs (p ∷ ps) = ap (cons_option (slice_get xs p)) (filter_map-further x xs ps)
 
 -- the items at the places are those that pass
-pub items_at-places_that : {A : Type 0} (test : A → Bool) (xs : List A) → filter_map (slice_get xs) (places_that test xs) ≡ filter test xs
+pub items_at-places_that : {A : Type 0} (test : A → Bool) (xs : List A) → filter_map (slice_get xs) (places_passing test xs) ≡ filter test xs
 items_at-places_that test [] = refl
 items_at-places_that test (x ∷ xs) =
-    let further = filter_map-further x xs (places_that test xs) ∙ items_at-places_that test xs in
-    (elim (test x) as (λ b. filter_map (slice_get (x ∷ xs)) (place_first b (places_that test xs)) ≡ cond b (x ∷ filter test xs) (filter test xs)) [
+    let further = filter_map-further x xs (places_passing test xs) ∙ items_at-places_that test xs in
+    (elim (test x) as (λ b. filter_map (slice_get (x ∷ xs)) (place_first b (places_passing test xs)) ≡ cond b (x ∷ filter test xs) (filter test xs)) [
       | true ↦ ap (λ l. x ∷ l) further
       | false ↦ further
     ])
@@ -51,10 +51,10 @@ one_more : (n : ℕ) → not (suc n == 0) ≡ true
 one_more n = grind (arith, nat_tests)
 
 -- there is a place exactly where an item passes
-pub any-places_that : {A : Type 0} (test : A → Bool) (xs : List A) → not (length (places_that test xs) == 0) ≡ list_any test xs
+pub any-places_that : {A : Type 0} (test : A → Bool) (xs : List A) → not (length (places_passing test xs) == 0) ≡ list_any test xs
 any-places_that test [] = refl
 any-places_that test (x ∷ xs) =
-    elim (test x) as (λ b. not (length (place_first b (places_that test xs)) == 0) ≡ (b || list_any test xs)) [
-      | true ↦ one_more (length (map suc (places_that test xs)))
-      | false ↦ ap (λ n. not (n == 0)) (length-map (places_that test xs) suc) ∙ any-places_that test xs
+    elim (test x) as (λ b. not (length (place_first b (places_passing test xs)) == 0) ≡ (b || list_any test xs)) [
+      | true ↦ one_more (length (map suc (places_passing test xs)))
+      | false ↦ ap (λ n. not (n == 0)) (length-map (places_passing test xs) suc) ∙ any-places_that test xs
     ]

@@ -7,8 +7,8 @@ use Rattle.std.specs.declared.alloc.Global.{Global}
 use Rattle.std.specs.declared.cmp.Ordering.{Ordering}
 
 -- there is a key, and it is the wanted one
-abbrev pub is_key : {K : Type 0} → (K → K → Ordering) → Option K → K → Bool
-is_key cmp found wanted = option_map_or (λ key. is_eq (cmp key wanted)) found false
+abbrev pub is_at_key : {K : Type 0} → (K → K → Ordering) → Option K → K → Bool
+is_at_key cmp found wanted = option_map_or (λ key. is_eq (cmp key wanted)) found false
 
 -- the item's first key is the wanted one
 abbrev pub has_first : {T K : Type 0} → (K → K → Ordering) → (T → K) → K → T → Bool
@@ -16,13 +16,13 @@ has_first cmp first wanted item = is_eq (cmp (first item) wanted)
 
 -- the item has a second key, and it is the wanted one
 abbrev pub has_second : {T K : Type 0} → (K → K → Ordering) → (T → Option K) → K → T → Bool
-has_second cmp second wanted item = is_key cmp (second item) wanted
+has_second cmp second wanted item = is_at_key cmp (second item) wanted
 
 -- the places of the items that pass, ascending
-abbrev pub places_that : {A : Type 0} → (A → Bool) → List A → List ℕ
-places_that test [] = []
-places_that test (x ∷ xs) =
-    if test x then 0 ∷ map suc (places_that test xs) else map suc (places_that test xs)
+abbrev pub places_passing : {A : Type 0} → (A → Bool) → List A → List ℕ
+places_passing test [] = []
+places_passing test (x ∷ xs) =
+    if test x then 0 ∷ map suc (places_passing test xs) else map suc (places_passing test xs)
 
 -- the places that a map keeps for a key
 abbrev pub places_at : {K : Type 0} → (K → K → Ordering) → BTreeMap K (Vec ℕ Global) → K → List ℕ
@@ -33,4 +33,4 @@ places_at cmp filed key =
 abbrev pub AreFiled : {T K : Type 0} → (K → K → Ordering) → (K → T → Bool) → List T
     → BTreeMap K (Vec ℕ Global) → Type 0
 AreFiled {T} {K} cmp has items filed =
-    (key : K) → places_at cmp filed key ≡ places_that (has key) items
+    (key : K) → places_at cmp filed key ≡ places_passing (has key) items

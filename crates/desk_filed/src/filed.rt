@@ -1,7 +1,7 @@
 //! The list.
 ghost use Rattle.std.specs.Prelude.{◌≡◌, ◌<◌, [], ◌∷◌, ◌++◌, length, filter, Option, All, IfOk, OnOk, OnErr};
 ghost use Rattle.std.specs.List.{filter_map, list_any, slice_get};
-ghost use Rattle.desk_filed.specs.Places.{has_first, has_second, places_that};
+ghost use Rattle.desk_filed.specs.Places.{has_first, has_second, places_passing};
 
 use crate::places::{file_under, places_of};
 use std::alloc::{AllocError, Global};
@@ -71,7 +71,7 @@ impl<T: FiledBy> Filed<T> {
     /// steps as the number of keys has binary digits.
     pub fn places_by_first(&self, key: T::Key) -> &[usize]
         ensures places { result.now
-            ≡ places_that (has_first T.Key.cmp T.first_key_of key) self.now }
+            ≡ places_passing (has_first T.Key.cmp T.first_key_of key) self.now }
         ensures within { All (λ place. place < length self.now) result.now }
         ensures picked { filter_map (slice_get self.now) result.now
             ≡ filter (has_first T.Key.cmp T.first_key_of key) self.now }
@@ -83,7 +83,7 @@ impl<T: FiledBy> Filed<T> {
     /// steps as the number of keys has binary digits.
     pub fn places_by_second(&self, key: T::Key) -> &[usize]
         ensures places { result.now
-            ≡ places_that (has_second T.Key.cmp T.second_key_of key) self.now }
+            ≡ places_passing (has_second T.Key.cmp T.second_key_of key) self.now }
         ensures within { All (λ place. place < length self.now) result.now }
         ensures picked { filter_map (slice_get self.now) result.now
             ≡ filter (has_second T.Key.cmp T.second_key_of key) self.now }

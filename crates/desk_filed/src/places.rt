@@ -1,7 +1,7 @@
 //! Places that are kept by key.
 ghost use Rattle.std.specs.Prelude.{◌≡◌, ◌-◌, [], ◌∷◌, ◌++◌, length, take, OnOk, OnErr, if◌then◌else◌};
 ghost use Rattle.std.specs.Ordering.{is_eq};
-ghost use Rattle.desk_filed.specs.Places.{is_key, places_at};
+ghost use Rattle.desk_filed.specs.Places.{is_at_key, places_at};
 
 use std::alloc::AllocError;
 use std::collections::BTreeMap;
@@ -58,7 +58,7 @@ pub(crate) fn file_under<K: Ord + Copy>(
         ((wanted : K)
         → places_at K.cmp by_second.new wanted
         ≡ places_at K.cmp by_second.old wanted
-        ++ (if is_key K.cmp second wanted then place ∷ [] else [])) }
+        ++ (if is_at_key K.cmp second wanted then place ∷ [] else [])) }
     ensures err { OnErr result
         ((wanted : K) → places_at K.cmp by_first.new wanted ≡ places_at K.cmp by_first.old wanted) }
     ensures err_second { OnErr result

@@ -3,7 +3,7 @@ use Rattle.std.proofs.Common.{◌≡◌, ℕ, suc, ◌+◌, ◌<◌, ◌≤◌, 
 use Rattle.desk_lines.proofs.LineLaws.{lines_of-cons}
 use Rattle.desk_words.specs.Lists.{day_count}
 use Rattle.desk_files.specs.Days.{days_in, with_line}
-use Rattle.desk_files.specs.Faults.{◌>>=◌}
+use Rattle.desk_terms.specs.Results.{◌>>=◌}
 use Rattle.std.specs.Prelude.{nat_eq}
 use Rattle.std.proofs.lemmas.Map.Made.{distinct_count-le}
 use Rattle.csv.specs.Reading.{is_bom, strip_bom}

@@ -20,7 +20,7 @@ use Rattle.desk_words.specs.declared.limits.TheConstants.{MOST_SHARES}
 use Rattle.desk_files.specs.declared.fault.FileFault.{FileFault}
 use Rattle.desk_files.specs.declared.fault.FileFault.TheVariants.{BadRow}
 use Rattle.desk_files.specs.declared.fault.Why.TheVariants as why
-use Rattle.desk_files.specs.Faults.{◌>>=◌}
+use Rattle.desk_terms.specs.Results.{◌>>=◌}
 use Rattle.desk_files.specs.Registers.{as_register, is_register_header, next_row, next_spelled, register_file}
 use Rattle.desk_files.specs.Tables.{records_of, rows_in, table_of, under_header}
 use Rattle.desk_files.proofs.RowLemmas.{after_record, after-fault, rows-grow, under-header-ok}

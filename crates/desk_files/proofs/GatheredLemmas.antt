@@ -19,7 +19,7 @@ use Rattle.desk_words.specs.declared.limits.TheConstants.{MOST_SHARES}
 use Rattle.desk_files.specs.declared.fault.FileFault.{FileFault}
 use Rattle.desk_files.specs.declared.fault.FileFault.TheVariants.{BadRow, Twice}
 use Rattle.desk_files.specs.declared.fault.Why.TheVariants as why
-use Rattle.desk_files.specs.Faults.{only, ◌>>=◌}
+use Rattle.desk_terms.specs.Results.{only, ◌>>=◌}
 use Rattle.desk_files.specs.Gathered.{HoldsEach, AreRowsSoFar, keep_limits_so_far, AreKeysSoFar, keep_keys_so_far}
 use Rattle.desk_files.specs.Keys.{key_in, next_key}
 use Rattle.desk_words.specs.Callers.{party_in}

@@ -1,13 +1,14 @@
 -- The rows of records in turn.
 use Rattle.std.proofs.Common.{◌≡◌, ℕ, ◌+◌, Bool, List, [], ◌∷◌, ◌++◌, length, Option, Some, None, Result, Ok, Err, refl, sym, ap, ◌∙◌, append-nil, append_assoc, fold}
 use Rattle.std.proofs.lemmas.List.Sums.{fold_push}
+use Rattle.desk_terms.specs.Results.{◌>>=◌}
 use Rattle.csv.specs.Machine.{next_record}
 use Rattle.csv.specs.Reading.{Reached, default_config, strip_bom}
 use Rattle.csv.specs.declared.parser.State.{State}
 use Rattle.csv.specs.declared.parser.State.TheVariants as st
 use Rattle.desk_files.specs.declared.fault.FileFault.{FileFault}
 use Rattle.desk_files.specs.declared.fault.FileFault.TheVariants.{BadRow, Twice, ReadFault, Memory}
-use Rattle.desk_files.specs.Faults.{Gives, ◌>>=◌}
+use Rattle.desk_files.specs.Faults.{Returns}
 use Rattle.desk_files.specs.Tables.{one_record_more, rows_in, records_of, under_header}
 use Rattle.desk_files.proofs.RecordLemmas.{records-begin, records-are}
 
@@ -69,14 +70,14 @@ under-header-ok (Err fault) rows h = absurd (cc)
 
 -- a fault is given whatever the reading was to give
 pub gives-fault : {X Y Z W : Type 0} (seen : X → Y) (other : Z → W) (fault : FileFault) (answer : Result W FileFault) (whole : Result Y FileFault)
-    → Gives other (Err fault) answer → (answer ≡ Err fault → whole ≡ Err fault) → Gives seen (Err fault) whole
+    → Returns other (Err fault) answer → (answer ≡ Err fault → whole ≡ Err fault) → Returns seen (Err fault) whole
 gives-fault seen other (BadRow line why) answer whole given so = so given
 gives-fault seen other (Twice line) answer whole given so = so given
 gives-fault seen other ReadFault answer whole given so = given
 gives-fault seen other Memory answer whole given so = tt
 
 -- what is given of an answer is given of one that is the same
-pub gives-same : {X Y : Type 0} (seen : X → Y) (returned : Result X FileFault) (answer whole : Result Y FileFault) → Gives seen returned answer → whole ≡ answer → Gives seen returned whole
+pub gives-same : {X Y : Type 0} (seen : X → Y) (returned : Result X FileFault) (answer whole : Result Y FileFault) → Returns seen returned answer → whole ≡ answer → Returns seen returned whole
 gives-same seen (Ok x) answer whole given same = same ∙ given
 gives-same seen (Err (BadRow line why)) answer whole given same = same ∙ given
 gives-same seen (Err (Twice line)) answer whole given same = same ∙ given

@@ -9,7 +9,7 @@ use Rattle.desk_words.specs.declared.limits.TheConstants.{MOST_CLOSED_DAYS}
 use Rattle.desk_files.specs.declared.fault.FileFault.{FileFault}
 use Rattle.desk_files.specs.declared.fault.FileFault.TheVariants.{BadRow}
 use Rattle.desk_files.specs.declared.fault.Why.TheVariants as why
-use Rattle.desk_files.specs.Faults.{only, ◌>>=◌}
+use Rattle.desk_terms.specs.Results.{only, ◌>>=◌}
 
 -- the days so far with one day more at its place in the order, unless it is among them
 abbrev pub with_day_among : List ℕ → ℕ → List ℕ

@@ -20,30 +20,14 @@ why_word why.Key = codes "key"
 why_word why.Total = codes "total"
 why_word why.Day = codes "day"
 
--- one reading after another, up to the first fault
-infixl 10 ◌>>=◌
-abbrev pub ◌>>=◌ : {A B : Type 0} → Result A FileFault → (A → Result B FileFault)
-    → Result B FileFault
-(Ok x) >>= next = next x
-(Err fault) >>= next = Err fault
-
--- a fault where the test fails
-abbrev pub only : Bool → FileFault → Result (Unit {0}) FileFault
-only true fault = Ok tt
-only false fault = Err fault
-
 -- what was returned, as contracts see it, is the answer; of want of memory nothing is said, and no
 -- read can have failed
-abbrev pub Gives : {X Y : Type 0} → (X → Y) → Result X FileFault → Result Y FileFault → Type 0
-Gives seen (Ok x) answer = answer ≡ Ok (seen x)
-Gives seen (Err (BadRow line why)) answer = answer ≡ Err (BadRow line why)
-Gives seen (Err (Twice line)) answer = answer ≡ Err (Twice line)
-Gives seen (Err ReadFault) answer = ⊥
-Gives seen (Err Memory) answer = ⊤
-
--- as it is
-abbrev pub itself : {X : Type 0} → X → X
-itself x = x
+abbrev pub Returns : {X Y : Type 0} → (X → Y) → Result X FileFault → Result Y FileFault → Type 0
+Returns seen (Ok x) answer = answer ≡ Ok (seen x)
+Returns seen (Err (BadRow line why)) answer = answer ≡ Err (BadRow line why)
+Returns seen (Err (Twice line)) answer = answer ≡ Err (Twice line)
+Returns seen (Err ReadFault) answer = ⊥
+Returns seen (Err Memory) answer = ⊤
 
 -- the fault is of the file's own records
 abbrev pub IsOfRecords : FileFault → Type 0 → Type 0

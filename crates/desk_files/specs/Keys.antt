@@ -10,7 +10,7 @@ use Rattle.desk_words.specs.declared.caller.KeyRow.{KeyRow}
 use Rattle.desk_files.specs.declared.fault.FileFault.{FileFault}
 use Rattle.desk_files.specs.declared.fault.FileFault.TheVariants.{BadRow, Twice}
 use Rattle.desk_files.specs.declared.fault.Why.TheVariants as why
-use Rattle.desk_files.specs.Faults.{only, ◌>>=◌}
+use Rattle.desk_terms.specs.Results.{only, ◌>>=◌}
 use Rattle.desk_files.specs.Tables.{column, table_of}
 
 -- the record names the columns of a key file

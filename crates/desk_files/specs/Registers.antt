@@ -12,8 +12,8 @@ use Rattle.desk_words.specs.declared.limits.TheConstants.{MOST_PENCE, MOST_ROWS,
 use Rattle.desk_files.specs.declared.fault.FileFault.{FileFault}
 use Rattle.desk_files.specs.declared.fault.FileFault.TheVariants.{BadRow, Twice}
 use Rattle.desk_files.specs.declared.fault.Why.TheVariants as why
-use Rattle.desk_files.specs.Faults.{only, ◌>>=◌}
-use Rattle.desk_files.specs.Numbers.{number_of, within}
+use Rattle.desk_terms.specs.Results.{only, ◌>>=◌}
+use Rattle.desk_files.specs.Numbers.{decimal_of, bounded}
 use Rattle.desk_files.specs.Tables.{column, table_of}
 
 -- the record names the columns of a register
@@ -34,8 +34,8 @@ row_in line fields = do
   member ← ok_or (party_of (column 0 fields)) (BadRow line why.Member)
   kind ← ok_or (holder_kind_of (column 1 fields)) (BadRow line why.Kind)
   name ← ok_or (text_of (column 2 fields)) (BadRow line why.Name)
-  shares ← ok_or (within 1 MOST_PLACES (number_of (column 3 fields))) (BadRow line why.Shares)
-  paid ← ok_or (within 0 MOST_PENCE (number_of (column 4 fields))) (BadRow line why.Paid)
+  shares ← ok_or (bounded 1 MOST_PLACES (decimal_of (column 3 fields))) (BadRow line why.Shares)
+  paid ← ok_or (bounded 0 MOST_PENCE (decimal_of (column 4 fields))) (BadRow line why.Paid)
   Ok (record { member = member; kind = kind; name = name; shares = shares; paid = paid })
 
 -- the row that a record spells by itself, behind so many rows: one of the first `MOST_ROWS`

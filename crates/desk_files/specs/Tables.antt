@@ -9,7 +9,7 @@ use Rattle.csv.specs.declared.reader.Trim.TheVariants as trim
 use Rattle.desk_files.specs.declared.fault.FileFault.{FileFault}
 use Rattle.desk_files.specs.declared.fault.FileFault.TheVariants.{BadRow}
 use Rattle.desk_files.specs.declared.fault.Why.TheVariants as why
-use Rattle.desk_files.specs.Faults.{◌>>=◌}
+use Rattle.desk_terms.specs.Results.{◌>>=◌}
 
 -- the records of a text, as `csv` reads them, a byte order mark at its front dropped
 abbrev pub records_of : List ℕ → List (List (List ℕ))

@@ -20,12 +20,12 @@ pub record HaveCome (bytes : List ℕ) (held : Option (List ℕ)) (passed passed
 
 -- why the bytes were not read: one read failed, or one byte more came than the limit; for want of
 -- memory no read failed
-abbrev pub HasCause : FileFault → ℕ → ℕ → ℕ → ℕ → ℕ → Type 0
-HasCause ReadFault limit passed passed' failures failures' =
+abbrev pub IsWhyUnread : FileFault → ℕ → ℕ → ℕ → ℕ → ℕ → Type 0
+IsWhyUnread ReadFault limit passed passed' failures failures' =
     (failures' ≡ one_more failures) ⊎ ((failures' ≡ failures) × (passed' ≡ passed + limit + 1))
-HasCause Memory limit passed passed' failures failures' = failures' ≡ failures
-HasCause (BadRow line why) limit passed passed' failures failures' = ⊤
-HasCause (Twice line) limit passed passed' failures failures' = ⊤
+IsWhyUnread Memory limit passed passed' failures failures' = failures' ≡ failures
+IsWhyUnread (BadRow line why) limit passed passed' failures failures' = ⊤
+IsWhyUnread (Twice line) limit passed passed' failures failures' = ⊤
 
 -- the fault is of the reading, and not of what was read
 abbrev pub IsOfReading : FileFault → Type 0

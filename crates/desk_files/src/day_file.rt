@@ -2,11 +2,12 @@
 ghost use Rattle.std.specs.Prelude.{◌≡◌, ℕ, ◌+◌, ◌≤◌, List, length, position, Ok, IfOk, IfErr};
 ghost use Rattle.std.specs.BTreeSet.{keys, IsOrdered};
 ghost use Rattle.std.specs.Ordering.{nat_cmp};
+ghost use Rattle.desk_terms.specs.Itself.{itself};
 ghost use Rattle.csv.specs.Reading.{is_bom, strip_bom};
 ghost use Rattle.desk_lines.specs.Lines.{is_feed, without_return, first_line, after_line};
 ghost use Rattle.desk_files.specs.Days.{with_day, with_line, day_file};
-ghost use Rattle.desk_files.specs.Faults.{Gives, IfJudged, itself};
-ghost use Rattle.desk_files.specs.Whole.{HasCause, HaveCome, IsReadWhole};
+ghost use Rattle.desk_files.specs.Faults.{Returns, IfJudged};
+ghost use Rattle.desk_files.specs.Whole.{IsWhyUnread, HaveCome, IsReadWhole};
 
 use crate::fault::{FileFault, Why};
 use crate::whole::{DAY_FILE_LIMIT, read_whole};
@@ -66,7 +67,7 @@ fn split_line(bytes: &[u8]) -> (&[u8], &[u8])
 /// The days so far, in order, each once, and one day more.
 #[tactic(auto, unfolding(crate::specs::Days::with_day))]
 fn with_day(line: u64, so_far: BTreeSet<Day>, day: Day) -> Result<BTreeSet<Day>, FileFault>
-    ensures days { Gives keys result (with_day line (keys so_far) day) }
+    ensures days { Returns keys result (with_day line (keys so_far) day) }
     ensures few { IfOk result (λ days. length (keys days) ≤ MOST_CLOSED_DAYS) }
 {
     let mut days = so_far;
@@ -84,7 +85,7 @@ fn with_day(line: u64, so_far: BTreeSet<Day>, day: Day) -> Result<BTreeSet<Day>,
 #[tactic(auto, unfolding(crate::specs::Days::with_line))]
 fn with_line(line: u64, so_far: BTreeSet<Day>, text: &[u8]) -> Result<BTreeSet<Day>, FileFault>
     requires { length (keys so_far) ≤ MOST_CLOSED_DAYS }
-    ensures days { Gives keys result (with_line line (keys so_far) text.now) }
+    ensures days { Returns keys result (with_line line (keys so_far) text.now) }
     ensures few { IfOk result (λ days. length (keys days) ≤ MOST_CLOSED_DAYS) }
 {
     if text.is_empty() {
@@ -108,7 +109,7 @@ fn listed(alloc: Global, days: &BTreeSet<Day>) -> Result<Vec<Day>, AllocError>
 
 fn day_list(alloc: Global, days: BTreeSet<Day>) -> Result<DayList, FileFault>
     requires { length (keys days) ≤ MOST_CLOSED_DAYS }
-    ensures { Gives itself result (Ok (keys days)) }
+    ensures { Returns itself result (Ok (keys days)) }
 {
     let listed = listed(alloc, &days)?;
     match DayList::new(listed) {
@@ -125,7 +126,7 @@ fn day_list(alloc: Global, days: BTreeSet<Day>) -> Result<DayList, FileFault>
 /// The days that the bytes of a file spell, or its first fault.
 fn days_in(alloc: Global, bytes: &[u8]) -> Result<DayList, FileFault>
     requires { length bytes.now ≤ DAY_FILE_LIMIT }
-    ensures { Gives itself result (day_file bytes.now) }
+    ensures { Returns itself result (day_file bytes.now) }
 {
     let mut rest = without_mark(bytes);
     let mut days = BTreeSet::new(alloc);
@@ -152,13 +153,13 @@ fn days_in(alloc: Global, bytes: &[u8]) -> Result<DayList, FileFault>
 pub fn read_days<S: Source>(alloc: Global, source: &mut S) -> Result<DayList, FileFault>
     ensures spelled { IfJudged result
         ((bytes : List ℕ) × HaveCome bytes (S.remaining source.old) (S.passed source.old)
-        (S.passed source.new) × Gives itself result (day_file bytes)) }
+        (S.passed source.new) × Returns itself result (day_file bytes)) }
     ensures whole { IfJudged result
         (IsReadWhole DAY_FILE_LIMIT (S.remaining source.old) (S.remaining source.new)
         (S.passed source.old) (S.passed source.new) (S.failures source.old)
         (S.failures source.new)) }
     ensures cause { IfErr result
-        (λ fault. HasCause fault DAY_FILE_LIMIT (S.passed source.old) (S.passed source.new)
+        (λ fault. IsWhyUnread fault DAY_FILE_LIMIT (S.passed source.old) (S.passed source.new)
         (S.failures source.old) (S.failures source.new)) }
     ensures bound { S.passed source.new ≤ S.passed source.old + DAY_FILE_LIMIT + 1 }
 {

@@ -1,10 +1,11 @@
 //! Key files.
 ghost use Rattle.std.specs.Prelude.{◌≡◌, ℕ, ◌+◌, ◌≤◌, List, Err, IfErr};
+ghost use Rattle.desk_terms.specs.Itself.{itself};
 ghost use Rattle.csv.specs.Records.{fields_of};
-ghost use Rattle.desk_files.specs.Faults.{Gives, IfJudged, itself};
+ghost use Rattle.desk_files.specs.Faults.{Returns, IfJudged};
 ghost use Rattle.desk_files.specs.Keys.{is_key_header, key_in, next_key, as_key_list, key_file};
 ghost use Rattle.desk_files.specs.Tables.{one_row_more};
-ghost use Rattle.desk_files.specs.Whole.{HasCause, HaveCome, IsReadWhole};
+ghost use Rattle.desk_files.specs.Whole.{IsWhyUnread, HaveCome, IsReadWhole};
 ghost use Rattle.desk_files.specs.declared.fault.FileFault.TheVariants.{Memory};
 
 use crate::columns::column;
@@ -39,7 +40,7 @@ fn is_key_header(fields: &ByteRecord) -> bool
 /// The key that a record spells by itself.
 #[tactic(auto, unfolding(crate::specs::Keys::key_in))]
 fn key_in(line: u64, fields: &ByteRecord) -> Result<KeyRow, FileFault>
-    ensures key { Gives itself result (key_in line (fields_of fields.now)) }
+    ensures key { Returns itself result (key_in line (fields_of fields.now)) }
     ensures no_memory { (result ≡ Err Memory) → ⊥ }
 {
     let bad = |why| FileFault::BadRow { line, why };
@@ -103,7 +104,7 @@ impl Gather for KeysSoFar {
 /// The keys so far, and that of one record more.
 #[tactic(auto, unfolding(crate::specs::Keys::next_key))]
 fn with_key(so_far: KeysSoFar, fields: &ByteRecord) -> Result<KeysSoFar, FileFault>
-    ensures { Gives itself result (one_row_more next_key so_far (fields_of fields.now)) }
+    ensures { Returns itself result (one_row_more next_key so_far (fields_of fields.now)) }
 {
     let KeysSoFar {
         mut rows,
@@ -133,7 +134,7 @@ fn with_key(so_far: KeysSoFar, fields: &ByteRecord) -> Result<KeysSoFar, FileFau
 }
 
 fn as_key_list(so_far: KeysSoFar) -> Result<KeyRows, FileFault>
-    ensures keys { Gives itself result (as_key_list so_far) }
+    ensures keys { Returns itself result (as_key_list so_far) }
     ensures no_memory { (result ≡ Err Memory) → ⊥ }
 {
     let KeysSoFar { rows, .. } = so_far;
@@ -150,7 +151,7 @@ fn as_key_list(so_far: KeysSoFar) -> Result<KeyRows, FileFault>
 
 /// The keys that the bytes of a file spell, or its first fault.
 fn keys_in(alloc: Global, bytes: &[u8]) -> Result<KeyRows, FileFault>
-    ensures { Gives itself result (key_file bytes.now) }
+    ensures { Returns itself result (key_file bytes.now) }
 {
     match rows_under_header(alloc, bytes) {
         Ok(so_far) => as_key_list(so_far),
@@ -169,13 +170,13 @@ fn keys_in(alloc: Global, bytes: &[u8]) -> Result<KeyRows, FileFault>
 pub fn read_keys<S: Source>(alloc: Global, source: &mut S) -> Result<KeyRows, FileFault>
     ensures spelled { IfJudged result
         ((bytes : List ℕ) × HaveCome bytes (S.remaining source.old) (S.passed source.old)
-        (S.passed source.new) × Gives itself result (key_file bytes)) }
+        (S.passed source.new) × Returns itself result (key_file bytes)) }
     ensures whole { IfJudged result
         (IsReadWhole FILE_LIMIT (S.remaining source.old) (S.remaining source.new)
         (S.passed source.old) (S.passed source.new) (S.failures source.old)
         (S.failures source.new)) }
     ensures cause { IfErr result
-        (λ fault. HasCause fault FILE_LIMIT (S.passed source.old) (S.passed source.new)
+        (λ fault. IsWhyUnread fault FILE_LIMIT (S.passed source.old) (S.passed source.new)
         (S.failures source.old) (S.failures source.new)) }
     ensures bound { S.passed source.new ≤ S.passed source.old + FILE_LIMIT + 1 }
 {

@@ -1,10 +1,10 @@
 //! Numbers in the fields of records.
 ghost use Rattle.std.specs.Prelude.{◌≡◌, ◌≤◌, IfSome};
-ghost use Rattle.desk_files.specs.Numbers.{number_of, within};
+ghost use Rattle.desk_files.specs.Numbers.{decimal_of, bounded};
 
 /// The number that 1 to 19 digits write, or none where the bytes are anything else.
 pub(crate) fn read_number(bytes: &[u8]) -> Option<u64>
-    ensures { result ≡ number_of bytes.now }
+    ensures { result ≡ decimal_of bytes.now }
 {
     if bytes.is_empty() || bytes.len() > 19 {
         return None;
@@ -21,7 +21,7 @@ pub(crate) fn read_number(bytes: &[u8]) -> Option<u64>
 
 /// The number, if it is one of those from `low` to `high`.
 pub(crate) fn within(low: u64, high: u64, number: Option<u64>) -> Option<u64>
-    ensures value { result ≡ within low high number }
+    ensures value { result ≡ bounded low high number }
     ensures bounds { IfSome result (λ found. (low ≤ found) × (found ≤ high)) }
 {
     number.filter(|number| low <= *number && *number <= high)

@@ -1,15 +1,16 @@
 //! Register files.
 ghost use Rattle.std.specs.Prelude.{◌≡◌, ℕ, ◌+◌, ◌<◌, ◌≤◌, List, IfOk, IfErr, IsTrue};
 ghost use Rattle.std.specs.Prelude.{◌≢◌, None, Err, bytes_eq, ok_or};
+ghost use Rattle.desk_terms.specs.Itself.{itself};
 ghost use Rattle.csv.specs.Records.{fields_of};
 ghost use Rattle.desk_terms.specs.Kinds.{holder_kind_of, holder_kind_word};
 ghost use Rattle.desk_terms.specs.Texts.{text_of};
 ghost use Rattle.desk_words.specs.Registers.{is_holding};
-ghost use Rattle.desk_files.specs.Faults.{Gives, IfJudged, itself};
+ghost use Rattle.desk_files.specs.Faults.{Returns, IfJudged};
 ghost use Rattle.desk_files.specs.Registers.{is_register_header, row_in, next_spelled};
 ghost use Rattle.desk_files.specs.Registers.{next_row, as_register, register_file};
 ghost use Rattle.desk_files.specs.Tables.{one_row_more};
-ghost use Rattle.desk_files.specs.Whole.{HasCause, HaveCome, IsReadWhole};
+ghost use Rattle.desk_files.specs.Whole.{IsWhyUnread, HaveCome, IsReadWhole};
 
 use crate::columns::column;
 use crate::fault::{FileFault, Why};
@@ -67,7 +68,7 @@ fn read_kind(bytes: &[u8]) -> Option<HolderKind>
 }
 
 fn read_text(alloc: Global, line: u64, bytes: &[u8]) -> Result<Text, FileFault>
-    ensures text { Gives itself result
+    ensures text { Returns itself result
         (ok_or (text_of bytes.now) (FileFault.BadRow line Why.Name)) }
     ensures memory { (result ≡ Err FileFault.Memory) → text_of bytes.now ≢ None }
 {
@@ -84,7 +85,7 @@ fn read_text(alloc: Global, line: u64, bytes: &[u8]) -> Result<Text, FileFault>
 /// The row that a record spells by itself.
 #[tactic(auto, unfolding(crate::specs::Registers::row_in))]
 fn row_in(alloc: Global, line: u64, fields: &ByteRecord) -> Result<RegisterRow, FileFault>
-    ensures row { Gives itself result (row_in line (fields_of fields.now)) }
+    ensures row { Returns itself result (row_in line (fields_of fields.now)) }
     ensures holding { IfOk result (λ row. IsTrue (is_holding row)) }
 {
     let bad = |why| FileFault::BadRow { line, why };
@@ -113,7 +114,7 @@ pub(crate) fn next_spelled(
     count: usize,
     fields: &ByteRecord,
 ) -> Result<RegisterRow, FileFault>
-    ensures row { Gives itself result (next_spelled line count (fields_of fields.now)) }
+    ensures row { Returns itself result (next_spelled line count (fields_of fields.now)) }
     ensures holding { IfOk result (λ row. IsTrue (is_holding row)) }
     ensures room { IfOk result (λ row. count < MOST_ROWS) }
 {
@@ -178,7 +179,7 @@ impl Gather for RowsSoFar {
 /// The rows so far, and that of one record more.
 #[tactic(auto, unfolding(crate::specs::Registers::next_row))]
 fn with_row(alloc: Global, so_far: RowsSoFar, fields: &ByteRecord) -> Result<RowsSoFar, FileFault>
-    ensures { Gives itself result (one_row_more next_row so_far (fields_of fields.now)) }
+    ensures { Returns itself result (one_row_more next_row so_far (fields_of fields.now)) }
 {
     let RowsSoFar {
         mut rows,
@@ -208,7 +209,7 @@ fn with_row(alloc: Global, so_far: RowsSoFar, fields: &ByteRecord) -> Result<Row
 
 /// The register of the rows, of which there must be one.
 fn as_register(so_far: RowsSoFar) -> Result<Register, FileFault>
-    ensures register { Gives itself result (as_register so_far) }
+    ensures register { Returns itself result (as_register so_far) }
     ensures no_memory { (result ≡ Err FileFault.Memory) → ⊥ }
 {
     let RowsSoFar { rows, .. } = so_far;
@@ -224,7 +225,7 @@ fn as_register(so_far: RowsSoFar) -> Result<Register, FileFault>
 
 /// The register that the bytes of a file spell, or its first fault, row by row.
 fn judged_register(alloc: Global, bytes: &[u8]) -> Result<Register, FileFault>
-    ensures { Gives itself result (register_file bytes.now) }
+    ensures { Returns itself result (register_file bytes.now) }
 {
     match rows_under_header(alloc, bytes) {
         Ok(so_far) => as_register(so_far),
@@ -235,7 +236,7 @@ fn judged_register(alloc: Global, bytes: &[u8]) -> Result<Register, FileFault>
 /// The register that the bytes of a file spell, or its first fault. Only a file with a fault is
 /// gone through row by row, to find the first row at fault.
 fn register_in(alloc: Global, bytes: &[u8]) -> Result<Register, FileFault>
-    ensures { Gives itself result (register_file bytes.now) }
+    ensures { Returns itself result (register_file bytes.now) }
 {
     match faultless_register(alloc, bytes)? {
         Some(register) => Ok(register),
@@ -254,13 +255,13 @@ fn register_in(alloc: Global, bytes: &[u8]) -> Result<Register, FileFault>
 pub fn read_register<S: Source>(alloc: Global, source: &mut S) -> Result<Register, FileFault>
     ensures spelled { IfJudged result
         ((bytes : List ℕ) × HaveCome bytes (S.remaining source.old) (S.passed source.old)
-        (S.passed source.new) × Gives itself result (register_file bytes)) }
+        (S.passed source.new) × Returns itself result (register_file bytes)) }
     ensures whole { IfJudged result
         (IsReadWhole FILE_LIMIT (S.remaining source.old) (S.remaining source.new)
         (S.passed source.old) (S.passed source.new) (S.failures source.old)
         (S.failures source.new)) }
     ensures cause { IfErr result
-        (λ fault. HasCause fault FILE_LIMIT (S.passed source.old) (S.passed source.new)
+        (λ fault. IsWhyUnread fault FILE_LIMIT (S.passed source.old) (S.passed source.new)
         (S.failures source.old) (S.failures source.new)) }
     ensures bound { S.passed source.new ≤ S.passed source.old + FILE_LIMIT + 1 }
 {

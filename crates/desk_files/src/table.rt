@@ -2,7 +2,7 @@
 ghost use Rattle.std.specs.Prelude.{◌≡◌, [], true, option_map, Err, IfNone, IfOk, OnErr, OnOk};
 ghost use Rattle.csv.specs.Reading.{ReadRecord, has_failed};
 ghost use Rattle.csv.specs.Records.{fields_of};
-ghost use Rattle.desk_files.specs.Faults.{Gives};
+ghost use Rattle.desk_files.specs.Faults.{Returns};
 ghost use Rattle.desk_files.specs.Tables.{ReadsRecords, left_of_slice, one_record_more};
 ghost use Rattle.desk_files.specs.Tables.{one_row_more, table_of, under_header};
 ghost use Rattle.desk_files.specs.declared.fault.FileFault.TheVariants.{Memory};
@@ -39,7 +39,7 @@ pub(crate) trait Gather: Drop {
     /// The rows so far, and that of one record more. The error is its first fault, or want of
     /// memory.
     fn with_record(self, alloc: Global, fields: &ByteRecord) -> Result<Self, FileFault>
-        ensures { Gives seen result (one_row_more row_after (seen self) (fields_of fields.now)) };
+        ensures { Returns seen result (one_row_more row_after (seen self) (fields_of fields.now)) };
 }
 
 fn one_record_more<T: Gather>(
@@ -48,7 +48,7 @@ fn one_record_more<T: Gather>(
     found: Option<T>,
     fields: &ByteRecord,
 ) -> Result<Option<T>, FileFault>
-    ensures rows { Gives (option_map T.seen) result
+    ensures rows { Returns (option_map T.seen) result
         (one_record_more T.names_columns T.row_after (option_map T.seen found)
         (fields_of fields.now)) }
     ensures memory { (result ≡ Err Memory)
@@ -69,7 +69,7 @@ fn one_record_more<T: Gather>(
 }
 
 fn under_header<T: Gather>(found: Option<T>) -> Result<T, FileFault>
-    ensures rows { Gives T.seen result (under_header (option_map T.seen found)) }
+    ensures rows { Returns T.seen result (under_header (option_map T.seen found)) }
     ensures no_memory { (result ≡ Err Memory) → ⊥ }
 {
     found.ok_or(FileFault::BadRow {
@@ -103,7 +103,7 @@ fn next_record(reader: &mut Reader<&[u8]>, fields: &mut ByteRecord) -> Result<bo
 
 /// What is gathered of the records under the header of a file: its rows, or its first fault.
 pub(crate) fn rows_under_header<T: Gather>(alloc: Global, bytes: &[u8]) -> Result<T, FileFault>
-    ensures { Gives T.seen result (table_of T.names_columns T.row_after bytes.now) }
+    ensures { Returns T.seen result (table_of T.names_columns T.row_after bytes.now) }
 {
     let mut reader = ReaderBuilder::new()
         .has_headers(false)

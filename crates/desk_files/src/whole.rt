@@ -1,6 +1,6 @@
 //! The reading of a whole file.
 ghost use Rattle.std.specs.Prelude.{◌≡◌, ℕ, ◌+◌, ◌≤◌, length, IfOk, IfErr};
-ghost use Rattle.desk_files.specs.Whole.{HasCause, HaveCome, IsOfReading, IsReadWhole};
+ghost use Rattle.desk_files.specs.Whole.{IsWhyUnread, HaveCome, IsOfReading, IsReadWhole};
 
 use crate::fault::FileFault;
 use desk_devices::{FillFailed, Source, read_to_fill};
@@ -33,7 +33,7 @@ pub(crate) fn read_whole<S: Source>(
         (S.passed source.new)) }
     ensures cause { IfErr result
         (λ fault. IsOfReading fault
-        × HasCause fault limit (S.passed source.old) (S.passed source.new)
+        × IsWhyUnread fault limit (S.passed source.old) (S.passed source.new)
         (S.failures source.old) (S.failures source.new)) }
     ensures bound { S.passed source.new ≤ S.passed source.old + limit + 1 }
 {

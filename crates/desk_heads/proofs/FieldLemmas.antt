@@ -10,11 +10,11 @@ use Rattle.std.proofs.lemmas.Bool.Decides.{Decides-eqb, nat_tests}
 use Rattle.std.proofs.lemmas.List.Folds.{list_all_at}
 use Rattle.std.proofs.lemmas.Slice.Eq.{slice_eq-Decides}
 use Rattle.std.proofs.Math.Seq.{take-suc}
-use Rattle.desk_heads.specs.Fields.{same_name, values_of}
+use Rattle.desk_heads.specs.Fields.{same_field, values_of}
 
 -- names are the same where their lower letters are
-pub name_decides : (a b : List ℕ) → Decides (same_name a b) (map to_ascii_lowercase a ≡ map to_ascii_lowercase b)
-name_decides a b = slice_eq-Decides Decides-eqb (map to_ascii_lowercase a) (map to_ascii_lowercase b) (same_name a b) refl
+pub name_decides : (a b : List ℕ) → Decides (same_field a b) (map to_ascii_lowercase a ≡ map to_ascii_lowercase b)
+name_decides a b = slice_eq-Decides Decides-eqb (map to_ascii_lowercase a) (map to_ascii_lowercase b) (same_field a b) refl
 
 settled : (b : Bool) → (b ≡ false → ⊥) → b ≡ true
 settled true not_false = refl
@@ -37,10 +37,10 @@ pub capped_more : (ds : List ℕ) (i n m : ℕ) → i < length ds → n ≡ min 
 capped_more ds i n m inside e = omega (arith, digits_value_more 10 ds i inside)
 
 values_of-push : (name : List ℕ) (fields : List (List ℕ × List ℕ)) (field : List ℕ × List ℕ)
-    → values_of name (fields ++ field ∷ []) ≡ values_of name fields ++ map (λ f. f.1) (cond (same_name field.0 name) (field ∷ []) [])
+    → values_of name (fields ++ field ∷ []) ≡ values_of name fields ++ map (λ f. f.1) (cond (same_field field.0 name) (field ∷ []) [])
 values_of-push name fields field =
-    ap (map (λ (f : List ℕ × List ℕ). f.1)) (filter-append (λ f. same_name f.0 name) fields (field ∷ []))
-    ∙ map-append (λ f. f.1) (filter (λ f. same_name f.0 name) fields) (filter (λ f. same_name f.0 name) (field ∷ []))
+    ap (map (λ (f : List ℕ × List ℕ). f.1)) (filter-append (λ f. same_field f.0 name) fields (field ∷ []))
+    ∙ map-append (λ f. f.1) (filter (λ f. same_field f.0 name) fields) (filter (λ f. same_field f.0 name) (field ∷ []))
 
 one_more : {A : Type 0} (h : A → List ℕ × List ℕ) (items : List A) (i : ℕ) (d : A) → i < length items
     → map h (take (i + 1) items) ≡ map h (take i items) ++ h (get_or items i d) ∷ []
@@ -48,7 +48,7 @@ one_more h items i d inside = rw (add-one, take-suc items i d inside) (map-appen
 
 -- one field more, which has the name
 pub values_of-named : {A : Type 0} (name : List ℕ) (h : A → List ℕ × List ℕ) (items : List A) (i : ℕ) (d : A) → i < length items
-    → same_name (h (get_or items i d)).0 name ≡ true
+    → same_field (h (get_or items i d)).0 name ≡ true
     → values_of name (map h (take (i + 1) items)) ≡ values_of name (map h (take i items)) ++ (h (get_or items i d)).1 ∷ []
 values_of-named name h items i d inside named =
     ap (values_of name) (one_more h items i d inside) ∙ values_of-push name (map h (take i items)) (h (get_or items i d))
@@ -56,7 +56,7 @@ values_of-named name h items i d inside named =
 
 -- one field more, which has another
 pub values_of-other : {A : Type 0} (name : List ℕ) (h : A → List ℕ × List ℕ) (items : List A) (i : ℕ) (d : A) → i < length items
-    → same_name (h (get_or items i d)).0 name ≡ false
+    → same_field (h (get_or items i d)).0 name ≡ false
     → values_of name (map h (take (i + 1) items)) ≡ values_of name (map h (take i items))
 values_of-other name h items i d inside other =
     ap (values_of name) (one_more h items i d inside) ∙ values_of-push name (map h (take i items)) (h (get_or items i d))

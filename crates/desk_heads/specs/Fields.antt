@@ -4,12 +4,12 @@ use Rattle.std.specs.Prelude.{ℕ, Bool, List, [], ◌∷◌, map, filter, Optio
 use Rattle.std.specs.Char.{to_ascii_lowercase}
 
 -- whether two names are the same, without regard to ASCII case
-abbrev pub same_name : List ℕ → List ℕ → Bool
-same_name a b = bytes_eq (map to_ascii_lowercase a) (map to_ascii_lowercase b)
+abbrev pub same_field : List ℕ → List ℕ → Bool
+same_field a b = bytes_eq (map to_ascii_lowercase a) (map to_ascii_lowercase b)
 
 -- the values of the fields of a name, in order
 abbrev pub values_of : List ℕ → List (List ℕ × List ℕ) → List (List ℕ)
-values_of name fields = map (λ field. field.1) (filter (λ field. same_name field.0 name) fields)
+values_of name fields = map (λ field. field.1) (filter (λ field. same_field field.0 name) fields)
 
 -- the one of a list, or none where there are none or more
 abbrev pub the_only : List (List ℕ) → Option (List ℕ)

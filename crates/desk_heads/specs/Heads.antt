@@ -16,8 +16,8 @@ pub record Asked : Type 0 where
   pub fields : List (List ℕ × List ℕ)
 
 -- what this head asks
-abbrev pub asked_in : RequestHead → Asked
-asked_in h = record {
+abbrev pub asked_of_head : RequestHead → Asked
+asked_of_head h = record {
   method = h.method;
   target = h.target;
   fields = map name_and_value h.fields;
@@ -70,7 +70,7 @@ pub record HoldsHead (input left : List ℕ) (held : Held) : Type 0 where
   pub head : RequestHead
   pub is_head : HasHead input head (held.rest ++ left)
   pub few : length head.fields ≤ MOST_FIELDS
-  pub asked : held.asked ≡ asked_in head
+  pub asked : held.asked ≡ asked_of_head head
 
 -- what stands at the front of an input, of which these bytes are left to be read
 abbrev pub Finds : Front → List ℕ → List ℕ → Held → Type 0

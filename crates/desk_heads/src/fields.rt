@@ -1,7 +1,7 @@
 //! The values of the fields of a name.
 ghost use Rattle.std.specs.Prelude.{◌≡◌, ℕ, List, [], ◌∷◌, ◌++◌, length, map, All, option_copied};
 ghost use Rattle.httparse.specs.Spans.{IsHeaderWithin, header_bytes};
-ghost use Rattle.desk_heads.specs.Fields.{same_name, values_of, only_value};
+ghost use Rattle.desk_heads.specs.Fields.{same_field, values_of, only_value};
 ghost use Rattle.desk_heads.specs.Found.{AreValues};
 
 use httparse::spans::HeaderSpan;
@@ -34,7 +34,7 @@ impl<'a> Values<'a> {
 
 /// Whether two names are the same, without regard to ASCII case.
 fn same_name(a: &[u8], b: &[u8]) -> bool
-    ensures { result ≡ same_name a.now b.now }
+    ensures { result ≡ same_field a.now b.now }
 {
     a.eq_ignore_ascii_case(b)
 }

@@ -14,8 +14,8 @@ use Rattle.desk_requests.specs.declared.received.Received.{Received}
 use Rattle.desk_requests.specs.declared.received.Received.TheVariants.{Refused}
 use Rattle.desk_requests.specs.declared.received.Unheard.{Unheard}
 use Rattle.desk_records.specs.Standing.{Stands}
-use Rattle.desk_store.specs.Joins.{Leaves, after_call}
-use Rattle.desk_http.specs.Answers.{IsAnswer, Makes, Shows, call_in, call_of, if_ok, reply_in, reply_of, unheard_reply}
+use Rattle.desk_store.specs.Joins.{Leaves, office_after}
+use Rattle.desk_http.specs.Answers.{IsAnswer, MakesCall, ShowsReply, call_received, call_of, if_ok, reply_in, reply_of, unheard_reply}
 use Rattle.desk_http.specs.declared.answers.Answered.{Answered}
 
 -- a desk that is not asked is left as it was
@@ -37,7 +37,7 @@ leaves_then made a b c one two = record {
 }
 
 -- no call is made
-pub makes_none : (call : OfficeLists → Option Call) (old new : State) → Leaves None old new → Makes call old new
+pub makes_none : (call : OfficeLists → Option Call) (old new : State) → Leaves None old new → MakesCall call old new
 makes_none call old new leaves = record { made = None; leaves = leaves; by = λ clean office stands. inl refl }
 
 if_ok_or_none : {T E : Type 0} (r : Result T E) (call : Option Call) → (if_ok r call ≡ None) ⊎ (if_ok r call ≡ call)
@@ -47,7 +47,7 @@ if_ok_or_none (Err e) call = inl refl
 -- the call is made, if it is answered, of the caller that was found
 pub makes_found : {T E : Type 0} (r : Result T E) (found : Option Caller) (now : Moment) (heard : Result Request Unheard) (who : OfficeLists → Option Caller) (a b c : State)
     → (HasCleanDisk b → (office : OfficeLists) → Stands a office → found ≡ who office) → Leaves None a b → Leaves (if_ok r (call_of now found heard)) b c
-    → Makes (λ office. call_of now (who office) heard) a c
+    → MakesCall (λ office. call_of now (who office) heard) a c
 makes_found r found now heard who a b c is one two = record {
   made = if_ok r (call_of now found heard);
   leaves = leaves_then (if_ok r (call_of now found heard)) a b c one two;
@@ -63,24 +63,24 @@ unmade r call e old new is leaves = subst (λ q. Leaves (if_ok q call) old new) 
 module _ (s : State) (office : OfficeLists) (now : Moment) (stands : Stands s office) where
   -- to what was not heard of a caller
   pub unheard_done : {E : Type 0} (who : Caller) (heard : Result Request Unheard) (why : Unheard) (r : Result Answered E) → heard ≡ Err why → IfOk r (IsAnswer (unheard_reply why))
-      → IfOk r (λ a. IsAnswer (reply_of office now (Some who) heard) a × Stands s (after_call office (call_of now (Some who) heard)))
+      → IfOk r (λ a. IsAnswer (reply_of office now (Some who) heard) a × Stands s (office_after office (call_of now (Some who) heard)))
   unheard_done who heard why (Err e) is shown = tt
   unheard_done who heard why (Ok a) is shown =
-      subst (λ h. IsAnswer (reply_of office now (Some who) h) a × Stands s (after_call office (call_of now (Some who) h))) (sym is) (shown, stands)
+      subst (λ h. IsAnswer (reply_of office now (Some who) h) a × Stands s (office_after office (call_of now (Some who) h))) (sym is) (shown, stands)
 
   -- to a key that is nobody's
-  pub nobody_done : {E : Type 0} (who : Option Caller) (heard : Result Request Unheard) (r : Result Answered E) → who ≡ None → IfOk r (Shows (reply.Refused Key))
-      → IfOk r (λ a. IsAnswer (reply_of office now who heard) a × Stands s (after_call office (call_of now who heard)))
+  pub nobody_done : {E : Type 0} (who : Option Caller) (heard : Result Request Unheard) (r : Result Answered E) → who ≡ None → IfOk r (ShowsReply (reply.Refused Key))
+      → IfOk r (λ a. IsAnswer (reply_of office now who heard) a × Stands s (office_after office (call_of now who heard)))
   nobody_done who heard (Err e) is shown = tt
   nobody_done who heard (Ok a) is shown =
-      subst (λ w. IsAnswer (reply_of office now w heard) a × Stands s (after_call office (call_of now w heard))) (sym is) ((reply.Refused Key, refl, shown), stands)
+      subst (λ w. IsAnswer (reply_of office now w heard) a × Stands s (office_after office (call_of now w heard))) (sym is) ((reply.Refused Key, refl, shown), stands)
 
   -- to what was refused as it came
-  pub refused_done : {E : Type 0} (received : Received) (refusal : Refusal) (r : Result Answered E) → received ≡ Refused refusal → IfOk r (Shows (reply.Refused refusal))
-      → IfOk r (λ a. IsAnswer (reply_in office now received) a × Stands s (after_call office (call_in office now received)))
+  pub refused_done : {E : Type 0} (received : Received) (refusal : Refusal) (r : Result Answered E) → received ≡ Refused refusal → IfOk r (ShowsReply (reply.Refused refusal))
+      → IfOk r (λ a. IsAnswer (reply_in office now received) a × Stands s (office_after office (call_received office now received)))
   refused_done received refusal (Err e) is shown = tt
   refused_done received refusal (Ok a) is shown =
-      subst (λ q. IsAnswer (reply_in office now q) a × Stands s (after_call office (call_in office now q))) (sym is) ((reply.Refused refusal, refl, shown), stands)
+      subst (λ q. IsAnswer (reply_in office now q) a × Stands s (office_after office (call_received office now q))) (sym is) ((reply.Refused refusal, refl, shown), stands)
 
 -- what was not heard makes no call
 pub unheard_leaves : {T E : Type 0} (s : State) (r : Result T E) (now : Moment) (who : Caller) (heard : Result Request Unheard) (why : Unheard) → heard ≡ Err why → s.in_transaction ≡ false

@@ -3,7 +3,7 @@ use Rattle.std.proofs.Common.{◌≡◌, ◌⊎◌, ℕ, inl, inr, true, false, 
 use Rattle.httparse.specs.Grammar.{EndsInTarget}
 use Rattle.desk_terms.specs.declared.refusal.Refusal.{Refusal}
 use Rattle.desk_terms.specs.declared.refusal.Refusal.TheVariants.{Key}
-use Rattle.desk_heads.specs.Heads.{asked_in, head_place}
+use Rattle.desk_heads.specs.Heads.{asked_of_head, head_place}
 use Rattle.desk_heads.specs.declared.front.Front.{Front}
 use Rattle.desk_heads.specs.declared.front.Front.TheVariants as front
 use Rattle.desk_words.specs.Seen.{Moment, Party}
@@ -15,7 +15,7 @@ use Rattle.desk_words.specs.declared.office.OfficeLists.{OfficeLists}
 use Rattle.desk_words.specs.declared.reply.Reply.{Reply}
 use Rattle.desk_words.specs.declared.reply.Reply.TheVariants as reply
 use Rattle.desk_words.specs.declared.request.Request.{Request}
-use Rattle.desk_requests.specs.Asked.{key_in, request_in}
+use Rattle.desk_requests.specs.Asked.{key_of_head, request_in}
 use Rattle.desk_requests.specs.Laws.{SpellsOne, is_said, is_told}
 use Rattle.desk_requests.specs.Received.{Hears, IsWith, Spells, SpellsAt}
 use Rattle.desk_requests.specs.declared.received.Received.{Received}
@@ -25,10 +25,10 @@ use Rattle.desk_requests.specs.declared.received.Unheard.TheVariants as unheard
 use Rattle.desk_store.specs.Reads.{caller_with}
 use Rattle.meeting_laws.specs.Worlds.{ReadsTheViews, party_answer}
 use Rattle.desk_http.specs.Answers.{reply_in, reply_of}
-use Rattle.desk_http.specs.Laws.{AgreeOn, AgreeTo, AgreeWith, RepliesTellNoMore, TextsTellNoMore}
-use Rattle.desk_http.specs.Served.{text_of}
+use Rattle.desk_http.specs.Laws.{AgreeOnRequest, AgreeTo, AgreeWith, RepliesTellNoMore, TextsTellNoMore}
+use Rattle.desk_http.specs.Served.{replied_text}
 
-party_alike : ReadsTheViews party_answer → (one other : OfficeLists) (now : Moment) (party : Party) (heard : Result Request Unheard) → AgreeOn one other now party heard
+party_alike : ReadsTheViews party_answer → (one other : OfficeLists) (now : Moment) (party : Party) (heard : Result Request Unheard) → AgreeOnRequest one other now party heard
     → reply_of one now (Some (caller.Party party)) heard ≡ reply_of other now (Some (caller.Party party)) heard
 party_alike law one other now party (Ok request) agree = ap (λ (a : Answer Change). Some a.reply) (law one other party now request agree)
 party_alike law one other now party (Err why) agree = refl
@@ -84,7 +84,7 @@ with_told (Some key) said a (heard, is, hears) = heard_told key said a heard is 
 
 front_told : (input : List ℕ) (front : Front) (a : Received) → SpellsAt front input a → HasTold (SpellsAt front input) a
 front_told input front.Whole a (head, behind, has, few, asks) =
-    let there = with_told (key_in (asked_in head)) (request_in (asked_in head) behind) a asks in
+    let there = with_told (key_of_head (asked_of_head head)) (request_in (asked_of_head head) behind) a asks in
     record { told = there.told; says = (head, behind, has, few, there.says); is = there.is; alike = there.alike }
 front_told input front.TooLarge a (is, x) = record { told = a; says = (is, x); is = ap is_told x; alike = inl refl }
 front_told input front.Unreadable a (is, x) = record { told = a; says = (is, x); is = ap is_told x; alike = inl refl }
@@ -128,6 +128,6 @@ texts_alike law one_request one other now input a b spells_a spells_b agree x y 
     by_one (one_request input first.told second.told first.says second.says first.is second.is)
     (told_agree one other now a first.told x first.alike is_x agree) (told_reply one now a first.told x first.alike is_x) (told_reply other now b second.told y second.alike is_y)
   where
-    by_one : {p q : Received} → (p ≡ q) ⊎ EndsInTarget (head_place input) → AgreeWith one other now p → reply_in one now p ≡ Some x → reply_in other now q ≡ Some y → (text_of x ≡ text_of y) ⊎ EndsInTarget (head_place input)
-    by_one (inl same) agreed is_p is_q = inl (ap text_of (some_same x y (sym is_p ∙ replies_alike law one other now _ agreed ∙ ap (reply_in other now) same ∙ is_q)))
+    by_one : {p q : Received} → (p ≡ q) ⊎ EndsInTarget (head_place input) → AgreeWith one other now p → reply_in one now p ≡ Some x → reply_in other now q ≡ Some y → (replied_text x ≡ replied_text y) ⊎ EndsInTarget (head_place input)
+    by_one (inl same) agreed is_p is_q = inl (ap replied_text (some_same x y (sym is_p ∙ replies_alike law one other now _ agreed ∙ ap (reply_in other now) same ∙ is_q)))
     by_one (inr ends) agreed is_p is_q = inr ends

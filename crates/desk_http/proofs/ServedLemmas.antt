@@ -8,8 +8,8 @@ use Rattle.desk_words.specs.declared.reply.Failure.{Failure}
 use Rattle.desk_requests.specs.declared.received.Received.{Received}
 use Rattle.desk_routes.specs.ReplyTexts.{reply_text}
 use Rattle.desk_records.specs.Standing.{Stands}
-use Rattle.desk_store.specs.Joins.{Leaves, after_call}
-use Rattle.desk_http.specs.Answers.{IsAnswer, call_in, reply_in}
+use Rattle.desk_store.specs.Joins.{Leaves, office_after}
+use Rattle.desk_http.specs.Answers.{IsAnswer, call_received, reply_in}
 use Rattle.desk_http.specs.Served.{Serves, TellsFailure, as_write, failure_text}
 use Rattle.desk_http.specs.declared.answers.Answered.{Answered}
 use Rattle.desk_http.specs.declared.answers.Unanswered.{Unanswered}
@@ -18,7 +18,7 @@ use Rattle.desk_http.specs.declared.serve.ServeFault.TheVariants.{Write}
 
 -- the text of what is answered, or a part of it, is written
 pub serves_reply : (now : Moment) (received : Received) (old new : State) (answered : Answered) (IsWritten : List ℕ → Type 0)
-    → (HasCleanDisk new → (office : OfficeLists) → Stands old office → IsAnswer (reply_in office now received) answered × Stands new (after_call office (call_in office now received)))
+    → (HasCleanDisk new → (office : OfficeLists) → Stands old office → IsAnswer (reply_in office now received) answered × Stands new (office_after office (call_received office now received)))
     → IsWritten (reply_text answered.status answered.body.items) → Serves now received old new IsWritten
 serves_reply now received old new answered IsWritten done written = λ clean office stands.
     let it = done clean office stands in (

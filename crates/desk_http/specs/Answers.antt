@@ -30,9 +30,9 @@ call_of now (Some who) (Ok request) =
 call_of now (Some who) (Err why) = None
 
 -- the call that is made of what was received: that of the caller whose key it is
-abbrev pub call_in : OfficeLists → Moment → Received → Option Call
-call_in office now (Refused refusal) = None
-call_in office now (With key heard) = call_of now (caller_with office.keys key) heard
+abbrev pub call_received : OfficeLists → Moment → Received → Option Call
+call_received office now (Refused refusal) = None
+call_received office now (With key heard) = call_of now (caller_with office.keys key) heard
 
 -- what was not heard is refused; want of memory and a source that failed have no reply
 abbrev pub unheard_reply : Unheard → Option Reply
@@ -54,12 +54,12 @@ reply_in office now (Refused refusal) = Some (reply.Refused refusal)
 reply_in office now (With key heard) = reply_of office now (caller_with office.keys key) heard
 
 -- it is that reply, as it is sent
-abbrev pub Shows : Reply → Answered → Type 0
-Shows reply a = (a.status ≡ reply_status reply) × (a.body.items ≡ reply_bytes reply)
+abbrev pub ShowsReply : Reply → Answered → Type 0
+ShowsReply reply a = (a.status ≡ reply_status reply) × (a.body.items ≡ reply_bytes reply)
 
 -- there is such a reply, and it is that one, as it is sent
 abbrev pub IsAnswer : Option Reply → Answered → Type 0
-IsAnswer found a = (reply : Reply) × (found ≡ Some reply) × Shows reply a
+IsAnswer found a = (reply : Reply) × (found ≡ Some reply) × ShowsReply reply a
 
 -- the call, if it was answered
 abbrev pub if_ok : {T E : Type 0} → Result T E → Option Call → Option Call
@@ -68,7 +68,7 @@ if_ok (Err e) call = None
 
 -- a call was made, or none: the one that the office for which the tables stood lets be made, if it
 -- lets any
-pub record Makes (call : OfficeLists → Option Call) (old new : State) : Type 0 where
+pub record MakesCall (call : OfficeLists → Option Call) (old new : State) : Type 0 where
   pub made : Option Call
   pub leaves : Leaves made old new
   pub by : HasCleanDisk new → (office : OfficeLists) → Stands old office

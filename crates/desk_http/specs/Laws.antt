@@ -15,13 +15,13 @@ use Rattle.desk_requests.specs.declared.received.Unheard.{Unheard}
 use Rattle.desk_store.specs.Reads.{caller_with}
 use Rattle.meeting_laws.specs.Worlds.{AgreeFor}
 use Rattle.desk_http.specs.Answers.{reply_in}
-use Rattle.desk_http.specs.Served.{text_of}
+use Rattle.desk_http.specs.Served.{replied_text}
 
 -- two offices agree for a party on what it was heard to ask
-abbrev pub AgreeOn :
+abbrev pub AgreeOnRequest :
     OfficeLists → OfficeLists → Moment → Party → Result Request Unheard → Type 0
-AgreeOn one other now party (Ok request) = AgreeFor one other party now request
-AgreeOn one other now party (Err why) = ⊤
+AgreeOnRequest one other now party (Ok request) = AgreeFor one other party now request
+AgreeOnRequest one other now party (Err why) = ⊤
 
 -- a key is the same caller's in both, and where that is a party, they agree for it; of the office,
 -- which may know all, nothing is said
@@ -31,7 +31,7 @@ abbrev pub AgreeTo :
 AgreeTo one other now None who heard = who ≡ None
 AgreeTo one other now (Some caller.Office) who heard = ⊥
 AgreeTo one other now (Some (caller.Party party)) who heard =
-    (who ≡ Some (caller.Party party)) × AgreeOn one other now party heard
+    (who ≡ Some (caller.Party party)) × AgreeOnRequest one other now party heard
 
 -- two offices agree on all that the sender of what was received may know: that its key is the same
 -- party's in both or nobody's, and, in the meeting in which it asks, on the public record and on
@@ -56,4 +56,4 @@ TextsTellNoMore =
     → Spells input a → Spells input b
     → AgreeWith one other now a
     → (x y : Reply) → reply_in one now a ≡ Some x → reply_in other now b ≡ Some y
-    → (text_of x ≡ text_of y) ⊎ EndsInTarget (head_place input)
+    → (replied_text x ≡ replied_text y) ⊎ EndsInTarget (head_place input)

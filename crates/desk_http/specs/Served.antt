@@ -13,16 +13,16 @@ use Rattle.desk_requests.specs.Received.{Came, Spells}
 use Rattle.desk_requests.specs.declared.received.Received.{Received}
 use Rattle.desk_routes.specs.ReplyTexts.{failure_body, reply_text}
 use Rattle.desk_routes.specs.Statuses.{reply_status}
-use Rattle.desk_store.specs.Joins.{after_call}
-use Rattle.desk_http.specs.Answers.{call_in, reply_in}
+use Rattle.desk_store.specs.Joins.{office_after}
+use Rattle.desk_http.specs.Answers.{call_received, reply_in}
 use Rattle.desk_http.specs.declared.answers.Unanswered.{Unanswered}
 use Rattle.desk_http.specs.declared.answers.Unanswered.TheVariants as unanswered
 use Rattle.desk_http.specs.declared.serve.ServeFault.{ServeFault}
 use Rattle.desk_http.specs.declared.serve.ServeFault.TheVariants.{Write}
 
 -- the text of a reply
-abbrev pub text_of : Reply → List ℕ
-text_of reply = reply_text (reply_status reply) (reply_bytes reply)
+abbrev pub replied_text : Reply → List ℕ
+replied_text reply = reply_text (reply_status reply) (reply_bytes reply)
 
 -- the text that tells of a failure
 abbrev pub failure_text : Failure → List ℕ
@@ -33,8 +33,8 @@ pub record IsReplied (office : OfficeLists) (now : Moment) (received : Received)
     (text : List ℕ) : Type 0 where
   pub reply : Reply
   pub is : reply_in office now received ≡ Some reply
-  pub text_is : text ≡ text_of reply
-  pub stands : Stands new (after_call office (call_in office now received))
+  pub text_is : text ≡ replied_text reply
+  pub stands : Stands new (office_after office (call_received office now received))
 
 -- the text tells of a failure, and the tables of a store that is open are the office as it was
 pub record IsFailed (office : OfficeLists) (new : State) (text : List ℕ) : Type 0 where

@@ -1,13 +1,13 @@
 //! What is answered of a request on a desk.
 ghost use Rattle.std.specs.Prelude.{◌≡◌, IfErr, IfOk, OnErr, Some, None, true};
-ghost use Rattle.desk_http.specs.Answers.{IsAnswer, Makes, Shows, call_in, call_of, if_ok};
+ghost use Rattle.desk_http.specs.Answers.{IsAnswer, MakesCall, ShowsReply, call_received, call_of, if_ok};
 ghost use Rattle.desk_http.specs.Answers.{reply_in, reply_of, unheard_reply};
 ghost use Rattle.desk_requests.specs.declared.received.Unheard.TheVariants.{Failed};
 ghost use Rattle.desk_http.specs.declared.answers.Unanswered.TheVariants.{CutOff};
 ghost use Rattle.desk_http.specs.declared.answers.Unanswered.TheVariants as unanswered;
 ghost use Rattle.desk_records.specs.Standing.{Stands};
 ghost use Rattle.desk_requests.specs.Received.{is_cut_off, is_unheard};
-ghost use Rattle.desk_store.specs.Joins.{Leaves, after_call};
+ghost use Rattle.desk_store.specs.Joins.{Leaves, office_after};
 ghost use Rattle.desk_words.specs.declared.office.OfficeLists.{OfficeLists};
 ghost use Rattle.desk_words.specs.declared.reply.Failure.TheVariants as failure;
 ghost use Rattle.desk_words.specs.declared.reply.Reply.TheVariants as reply;
@@ -59,7 +59,7 @@ impl From<AllocError> for Unanswered {
 
 /// A reply, as it is sent. The error is want of memory alone.
 pub(crate) fn shown(alloc: Global, reply: &Reply) -> Result<Answered, AllocError>
-    ensures { IfOk result (Shows reply.now) }
+    ensures { IfOk result (ShowsReply reply.now) }
 {
     let body = reply_text(alloc, reply)?;
     let status = status_of(reply);
@@ -68,7 +68,7 @@ pub(crate) fn shown(alloc: Global, reply: &Reply) -> Result<Answered, AllocError
 
 /// A refusal, as it is sent.
 fn refused(alloc: Global, refusal: Refusal) -> Result<Answered, Unanswered>
-    ensures shown { IfOk result (Shows (reply.Refused refusal)) }
+    ensures shown { IfOk result (ShowsReply (reply.Refused refusal)) }
     ensures cause { IfErr result (λ why. why ≡ unanswered.Failure failure.Memory) }
 {
     Ok(shown(alloc, &Reply::Refused(refusal))?)
@@ -98,7 +98,7 @@ fn answer_to<S: Alter>(
         → Stands (state S.Store desk.old) office
         → IfOk result (λ a. IsAnswer (reply_of office moment (Some caller) heard) a
         × Stands (state S.Store desk.new)
-        (after_call office (call_of moment (Some caller) heard))) }
+        (office_after office (call_of moment (Some caller) heard))) }
     ensures leaves { Leaves (if_ok result (call_of moment (Some caller) heard))
         (state S.Store desk.old) (state S.Store desk.new) }
     ensures cause { IfErr result (λ why. why ≡ CutOff → is_unheard heard ≡ true) }
@@ -129,8 +129,8 @@ fn answer_with<S: Alter>(
         → Stands (state S.Store desk.old) office
         → IfOk result (λ a. IsAnswer (reply_in office moment (With key heard)) a
         × Stands (state S.Store desk.new)
-        (after_call office (call_in office moment (With key heard)))) }
-    ensures makes { Makes (λ office. call_in office moment (With key heard))
+        (office_after office (call_received office moment (With key heard)))) }
+    ensures makes { MakesCall (λ office. call_received office moment (With key heard))
         (state S.Store desk.old) (state S.Store desk.new) }
     ensures unmade { OnErr result
         (Leaves None (state S.Store desk.old) (state S.Store desk.new)) }
@@ -160,8 +160,9 @@ pub fn answer<S: Alter>(
     ensures done { HasCleanDisk (state S.Store desk.new) → (office : OfficeLists)
         → Stands (state S.Store desk.old) office
         → IfOk result (λ a. IsAnswer (reply_in office moment received) a
-        × Stands (state S.Store desk.new) (after_call office (call_in office moment received))) }
-    ensures makes { Makes (λ office. call_in office moment received)
+        × Stands (state S.Store desk.new)
+        (office_after office (call_received office moment received))) }
+    ensures makes { MakesCall (λ office. call_received office moment received)
         (state S.Store desk.old) (state S.Store desk.new) }
     ensures unmade { OnErr result
         (Leaves None (state S.Store desk.old) (state S.Store desk.new)) }

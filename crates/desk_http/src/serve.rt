@@ -5,7 +5,7 @@ ghost use Rattle.desk_devices.specs.Counts.{one_more};
 ghost use Rattle.desk_devices.specs.Written.{AppendsPrefix};
 ghost use Rattle.desk_heads.specs.declared.front.TheConstants.{LONGEST_HEAD};
 ghost use Rattle.desk_heads.specs.declared.length.TheConstants.{LONGEST_BODY};
-ghost use Rattle.desk_http.specs.Answers.{Makes, call_in};
+ghost use Rattle.desk_http.specs.Answers.{MakesCall, call_received};
 ghost use Rattle.desk_http.specs.Served.{IsReceived, Serves, TellsFailure, as_write, failure_text};
 ghost use Rattle.desk_http.specs.declared.answers.Unanswered.TheVariants.{CutOff};
 ghost use Rattle.desk_http.specs.declared.serve.ServeFault.TheVariants.{Read, Write};
@@ -102,7 +102,7 @@ pub fn reply_to<S: Alter, W: Sink>(
     ensures partly { IfErr result (λ fault. fault ≡ Write
         → Serves moment received (state S.Store desk.old) (state S.Store desk.new)
         (AppendsPrefix (W.contents writer.old) (W.contents writer.new))) }
-    ensures makes { Makes (λ office. call_in office moment received)
+    ensures makes { MakesCall (λ office. call_received office moment received)
         (state S.Store desk.old) (state S.Store desk.new) }
     ensures unread { IfErr result (λ fault. fault ≡ Read
         → (is_cut_off received ≡ true)
@@ -151,7 +151,7 @@ pub fn serve_one<S: Alter, R: Source, W: Sink>(
     ensures failed { IfErr result (λ fault. fault ≡ Write
         → W.failures writer.new ≡ one_more (W.failures writer.old)) }
     ensures makes { (received : Received)
-        × Makes (λ office. call_in office moment received)
+        × MakesCall (λ office. call_received office moment received)
         (state S.Store desk.old) (state S.Store desk.new) }
     ensures bound { R.passed reader.new ≤ R.passed reader.old + (LONGEST_HEAD + LONGEST_BODY) }
 {

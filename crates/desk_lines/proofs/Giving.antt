@@ -5,7 +5,7 @@ use Rattle.std.proofs.lemmas.List.{take-append-le}
 use Rattle.std.proofs.lemmas.Bool.Decides.{nat_tests}
 use Rattle.std.specs.Io.KnownBytes.{Keeps}
 use Rattle.desk_lines.specs.Lines.{feed_place, first_line, after_line, without_return}
-use Rattle.desk_lines.specs.Reading.{unread, Gives, TakesLine, longest_line}
+use Rattle.desk_lines.specs.Reading.{unread, NextIs, TakesLine, longest_line}
 use Rattle.desk_lines.specs.declared.outcome.NextLine.{NextLine}
 use Rattle.desk_lines.specs.declared.outcome.NextLine.TheVariants.{Whole, TooLong, End}
 use Rattle.desk_lines.specs.Front.{GivesFirst, SameLines, StaysInLine, LosesLine}
@@ -51,7 +51,7 @@ taken-fed bytes mid new rest IsGiven same some e given =
     )
 
 pub gives-fed : (next : NextLine) (a : Option (List ℕ)) (mid new line : List ℕ) (remaining : Option (List ℕ)) → Keeps a (unread mid remaining) → feed_place mid < length mid →
-    GivesFirst next mid new line → Gives next a (unread new remaining) line
+    GivesFirst next mid new line → NextIs next a (unread new remaining) line
 gives-fed End a mid new line remaining same some given = absurd given
 gives-fed Whole None mid new line remaining same some given = (given.0, tt)
 gives-fed Whole (Some bytes) mid new line None same some given = absurd same
@@ -65,7 +65,7 @@ long-front : (front rest : List ℕ) → feed_place front ≡ length front → 6
 long-front front rest none long = omega (arith, feed_place-append_none front rest none, length-first_line (front ++ rest))
 
 pub gives-skipped : (a : Option (List ℕ)) (mid line : List ℕ) (remaining b : Option (List ℕ)) → Keeps a (unread mid remaining) → feed_place mid ≡ length mid → 65538 ≤ length mid →
-    LosesLine (unread mid remaining) b → line ≡ [] → Gives TooLong a b line
+    LosesLine (unread mid remaining) b → line ≡ [] → NextIs TooLong a b line
 gives-skipped None mid line remaining b same none full lost e = (e, tt)
 gives-skipped (Some bytes) mid line None b same none full lost e = absurd same
 gives-skipped (Some bytes) mid line (Some rest) None same none full lost e = absurd lost

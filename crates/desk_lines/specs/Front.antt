@@ -1,7 +1,7 @@
 -- How the reading towards the end of a line ended.
 use Rattle.std.specs.Prelude.{◌≡◌, ℕ, ◌+◌, ◌<◌, ◌≤◌, ◌⊎◌, List, [], ◌++◌, Option, None, Some, length, ⊤}
 use Rattle.std.specs.Io.KnownBytes.{Keeps, IsAtEnd}
-use Rattle.desk_lines.specs.Held.{Reading}
+use Rattle.desk_lines.specs.Held.{LineReading}
 use Rattle.desk_lines.specs.Lines.{feed_place, first_line, after_line}
 use Rattle.desk_lines.specs.Reading.{unread, longest_line, SameWhole}
 use Rattle.desk_lines.specs.declared.outcome.NextLine.{NextLine}
@@ -11,14 +11,14 @@ use Rattle.desk_lines.specs.declared.reader.Front.TheVariants.{Feed, Long, Ended
 
 -- the pending bytes hold a line feed, or they begin a line that is too long, or they are the last
 -- ones
-abbrev pub IsFront : Front → List ℕ → Option (List ℕ) → Type 0
-IsFront (Feed place) pending remaining = (place ≡ feed_place pending) × (place < length pending)
-IsFront Long pending remaining = (feed_place pending ≡ length pending) × (65538 ≤ length pending)
-IsFront Ended pending remaining =
+abbrev pub LineFront : Front → List ℕ → Option (List ℕ) → Type 0
+LineFront (Feed place) pending remaining = (place ≡ feed_place pending) × (place < length pending)
+LineFront Long pending remaining = (feed_place pending ≡ length pending) × (65538 ≤ length pending)
+LineFront Ended pending remaining =
     (feed_place pending ≡ length pending) × (length pending < 65538) × IsAtEnd remaining
 
 -- the reader read on, and gave nothing
-pub record ReadsOn (old new : Reading) (remaining left : Option (List ℕ)) (passed passed' : ℕ)
+pub record ReadsOn (old new : LineReading) (remaining left : Option (List ℕ)) (passed passed' : ℕ)
     : Type 0 where
   pub unread_kept : Keeps (unread old.pending remaining) (unread new.pending left)
   pub counted : new.taken + passed ≡ old.taken + passed'

@@ -6,7 +6,7 @@ use Rattle.desk_lines.specs.declared.outcome.NextLine.{NextLine}
 use Rattle.desk_lines.specs.declared.outcome.NextLine.TheVariants.{Whole, TooLong, End}
 use Rattle.desk_lines.specs.declared.outcome.ReadFault.{ReadFault}
 use Rattle.desk_lines.specs.declared.outcome.ReadFault.TheVariants.{Device, TooMuch}
-use Rattle.desk_lines.specs.Held.{Reading}
+use Rattle.desk_lines.specs.Held.{LineReading}
 use Rattle.desk_lines.specs.Lines.{first_line, after_line}
 
 -- the most bytes that a line has
@@ -30,10 +30,10 @@ TakesLine (Some bytes) (Some rest) IsGiven =
     (0 < length bytes) × (rest ≡ after_line bytes) × IsGiven (first_line bytes)
 
 -- what a call gave of the unread bytes, and the line that the reader shows after it
-abbrev pub Gives : NextLine → Option (List ℕ) → Option (List ℕ) → List ℕ → Type 0
-Gives Whole old new line = (length line ≤ longest_line) × TakesLine old new (λ first. line ≡ first)
-Gives TooLong old new line = (line ≡ []) × TakesLine old new (λ first. longest_line < length first)
-Gives End old new line = (line ≡ []) × IsAtEnd old × IsAtEnd new
+abbrev pub NextIs : NextLine → Option (List ℕ) → Option (List ℕ) → List ℕ → Type 0
+NextIs Whole old new line = (length line ≤ longest_line) × TakesLine old new (λ first. line ≡ first)
+NextIs TooLong old new line = (line ≡ []) × TakesLine old new (λ first. longest_line < length first)
+NextIs End old new line = (line ≡ []) × IsAtEnd old × IsAtEnd new
 
 -- why a call failed: the source failed once in it, or more bytes came than an input has
 abbrev pub HasCause : ReadFault → ℕ → ℕ → ℕ → Type 0
@@ -47,5 +47,5 @@ SameWhole taken (Some old) taken' None = ⊥
 SameWhole taken (Some old) taken' (Some new) = taken' + length new ≡ taken + length old
 
 -- more bytes were given than before: those that were taken, less those that are still pending
-abbrev pub MovesOn : Reading → Reading → Type 0
+abbrev pub MovesOn : LineReading → LineReading → Type 0
 MovesOn old new = old.taken + length new.pending < new.taken + length old.pending

@@ -3,12 +3,12 @@ use Rattle.std.specs.Prelude.{◌≡◌, ℕ, ◌+◌, ◌≤◌, List, Option, 
 use Rattle.std.specs.Io.KnownBytes.{Consumes}
 
 -- the bytes of the last line, and those that were read and not yet given
-pub record Held : Type 0 where
+pub record HeldLine : Type 0 where
   pub line : List ℕ
   pub pending : List ℕ
 
 -- the line and the pending bytes lie in a buffer of 81,922 bytes
-pub record IsInside (line_start line_len start end capacity : ℕ) : Type 0 where
+pub record IsWindow (line_start line_len start end capacity : ℕ) : Type 0 where
   pub capacity_is : capacity ≡ 81922
   pub line_inside : line_start + line_len ≤ capacity
   pub in_order : start ≤ end

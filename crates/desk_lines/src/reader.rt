@@ -3,7 +3,7 @@ ghost use Rattle.std.specs.Prelude.{◌≡◌, ◌≢◌, ℕ, ◌+◌, ◌<◌,
 ghost use Rattle.std.specs.Io.KnownBytes.{Consumes, Keeps, IsAtEnd};
 ghost use Rattle.desk_devices.specs.Counts.{one_more};
 ghost use Rattle.desk_lines.specs.Lines.{feed_place, HasFeed};
-ghost use Rattle.desk_lines.specs.Reading.{Gives, HasCause, MovesOn, SameWhole, unread, longest_line, longest_input};
+ghost use Rattle.desk_lines.specs.Reading.{NextIs, HasCause, MovesOn, SameWhole, unread, longest_line, longest_input};
 
 use crate::outcome::{NextLine, ReadFault};
 use crate::scan;
@@ -37,18 +37,22 @@ pub struct LineReader {
 
 impl Model for LineReader {
     ghost use Rattle.std.specs.Prelude.{◌+◌, ◌≤◌};
-    ghost use Rattle.desk_lines.specs.Held.{Reading};
+    ghost use Rattle.desk_lines.specs.Held.{LineReading};
     ghost use Rattle.desk_lines.specs.Lines.{feed_place};
 
-    ghost Value = { Reading };
+    ghost Value = { LineReading };
 
-    ghost view = { λ r. record { line = r.window.line; pending = r.window.pending; taken = r.taken } };
+    ghost view = { λ r. record {
+      line = r.window.line;
+      pending = r.window.pending;
+      taken = r.taken;
+    } };
 
     ghost invariant = { λ r. (r.searched ≤ feed_place r.window.pending) × (r.taken ≤ 16777217) };
 }
 
 impl LineReader {
-    ghost use Rattle.desk_lines.specs.Front.{ReadsOn, IsFront, GivesFirst, SameLines, StaysInLine, LosesLine};
+    ghost use Rattle.desk_lines.specs.Front.{ReadsOn, LineFront, GivesFirst, SameLines, StaysInLine, LosesLine};
 
     /// A reader that has read nothing. It holds its one buffer in itself, and takes no memory.
     pub fn new() -> Self
@@ -86,7 +90,7 @@ impl LineReader {
     /// where this one stood. Of a line that is too long some bytes may be lost then, and it is
     /// still too long.
     pub fn next_line<S: Source>(&mut self, source: &mut S) -> Result<NextLine, ReadFault>
-        ensures given { IfOk result (λ next. Gives next
+        ensures given { IfOk result (λ next. NextIs next
             (unread self.old.pending (S.remaining source.old))
             (unread self.new.pending (S.remaining source.new)) self.new.line) }
         ensures works { OnOk result (S.failures source.new ≡ S.failures source.old) }
@@ -182,7 +186,7 @@ impl LineReader {
     fn read_on<S: Source>(&mut self, source: &mut S) -> Result<Front, ReadFault>
         requires { feed_place self.old.pending ≡ length self.old.pending }
         ensures front { IfOk result
-            (λ front. IsFront front self.new.pending (S.remaining source.new)) }
+            (λ front. LineFront front self.new.pending (S.remaining source.new)) }
         ensures reads { ReadsOn self.old self.new (S.remaining source.old) (S.remaining source.new)
             (S.passed source.old) (S.passed source.new) }
         ensures works { OnOk result (S.failures source.new ≡ S.failures source.old) }
@@ -316,7 +320,7 @@ impl LineReader {
     /// Reads on, and gives the line whose front is pending.
     fn read_line<S: Source>(&mut self, source: &mut S) -> Result<NextLine, ReadFault>
         requires { feed_place self.old.pending ≡ length self.old.pending }
-        ensures given { IfOk result (λ next. Gives next
+        ensures given { IfOk result (λ next. NextIs next
             (unread self.old.pending (S.remaining source.old))
             (unread self.new.pending (S.remaining source.new)) self.new.line) }
         ensures same { OnErr result (SameLines

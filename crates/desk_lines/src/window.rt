@@ -26,16 +26,16 @@ pub struct Window {
 
 impl Model for Window {
     ghost use Rattle.std.specs.Prelude.{◌-◌, length, take, drop};
-    ghost use Rattle.desk_lines.specs.Window.{Held, IsInside};
+    ghost use Rattle.desk_lines.specs.Window.{HeldLine, IsWindow};
 
-    ghost Value = { Held };
+    ghost Value = { HeldLine };
 
     ghost view = { λ w. record {
       line = take w.line_len (drop w.line_start w.buffer);
       pending = take (w.end - w.start) (drop w.start w.buffer);
     } };
 
-    ghost invariant = { λ w. IsInside w.line_start w.line_len w.start w.end (length w.buffer) };
+    ghost invariant = { λ w. IsWindow w.line_start w.line_len w.start w.end (length w.buffer) };
 }
 
 impl Window {

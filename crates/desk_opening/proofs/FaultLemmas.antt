@@ -10,7 +10,7 @@ use Rattle.desk_tables.specs.declared.columns.ColumnFault.TheVariants.{Missing, 
 use Rattle.desk_records.specs.Standing.{HasNoOffice, HasNoVersion, IsNewer, IsVersionOne}
 use Rattle.desk_schema.specs.Tables.{desk_schema}
 use Rattle.desk_tables.specs.Columns.{HasColumns}
-use Rattle.desk_opening.specs.Opening.{IsCause, IsFaultOf, IsNoDesk, creating_fault, fault_of_columns, opening_fault}
+use Rattle.desk_opening.specs.Opening.{IsOpenCause, IsFaultOf, IsNoDesk, creating_fault, fault_of_columns, opening_fault}
 use Rattle.desk_opening.specs.declared.fault.OpenFault.{OpenFault}
 use Rattle.desk_opening.specs.declared.fault.CreateFault.TheVariants.{NotEmpty}
 use Rattle.desk_opening.specs.declared.fault.OpenFault.TheVariants.{NotADesk, NewerVersion, Store, Memory}
@@ -40,28 +40,28 @@ never_newer (Refused other) h = cc
 -- ---- why tables that note their version are no desk's
 
 -- the version is wrong
-pub by_version : (fault : OpenFault) (s : State) → IsFaultOf HasNoVersion fault s → IsCause fault s
+pub by_version : (fault : OpenFault) (s : State) → IsFaultOf HasNoVersion fault s → IsOpenCause fault s
 by_version NotADesk s h = inl h
 by_version NewerVersion s h = h
 by_version Store s h = tt
 by_version Memory s h = tt
 
 -- it is the first, and a column is missing
-pub by_columns : (fault : OpenFault) (s : State) → IsVersionOne s → fault ≢ NewerVersion → (fault ≡ NotADesk → ¬ HasColumns s.now.schema) → IsCause fault s
+pub by_columns : (fault : OpenFault) (s : State) → IsVersionOne s → fault ≢ NewerVersion → (fault ≡ NotADesk → ¬ HasColumns s.now.schema) → IsOpenCause fault s
 by_columns NotADesk s one other h = inr (one, inl (h refl))
 by_columns NewerVersion s one other h = absurd (other refl)
 by_columns Store s one other h = tt
 by_columns Memory s one other h = tt
 
 -- it is the first, and what is held is no office
-pub by_office : (fault : OpenFault) (s : State) → IsVersionOne s → fault ≢ NewerVersion → (fault ≡ NotADesk → s.now.schema ≡ desk_schema → HasNoOffice s) → IsCause fault s
+pub by_office : (fault : OpenFault) (s : State) → IsVersionOne s → fault ≢ NewerVersion → (fault ≡ NotADesk → s.now.schema ≡ desk_schema → HasNoOffice s) → IsOpenCause fault s
 by_office NotADesk s one other h = inr (one, inr (h refl))
 by_office NewerVersion s one other h = absurd (other refl)
 by_office Store s one other h = tt
 by_office Memory s one other h = tt
 
 -- the store refused, or memory
-pub by_store : (fault : OpenFault) (s : State) → (fault ≡ Store) ⊎ (fault ≡ Memory) → IsCause fault s
+pub by_store : (fault : OpenFault) (s : State) → (fault ≡ Store) ⊎ (fault ≡ Memory) → IsOpenCause fault s
 by_store NotADesk s (inl h) = absurd cc
 by_store NotADesk s (inr h) = absurd cc
 by_store NewerVersion s (inl h) = absurd cc
@@ -70,7 +70,7 @@ by_store Store s h = tt
 by_store Memory s h = tt
 
 -- tables that are the same are no desk's for the same cause
-pub cause_same : (fault : OpenFault) (s t : State) → s.now ≡ t.now → IsCause fault s → IsCause fault t
+pub cause_same : (fault : OpenFault) (s t : State) → s.now ≡ t.now → IsOpenCause fault s → IsOpenCause fault t
 cause_same NotADesk s t same h = subst (λ (d : Database). IsNoDesk (record s { now = d })) same h
 cause_same NewerVersion s t same h = subst (λ (d : Database). IsNewer (record s { now = d })) same h
 cause_same Store s t same h = tt

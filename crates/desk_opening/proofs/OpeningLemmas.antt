@@ -25,7 +25,7 @@ use Rattle.desk_words.specs.declared.office.OfficeLists.{OfficeLists}
 use Rattle.desk_words.specs.declared.records.RegisterRow.{RegisterRow}
 use Rattle.desk_words.specs.declared.records.Resolution.{Resolution}
 use Rattle.desk_words.proofs.OfficeFacts.{meeting_facts, office_facts, register_ascends}
-use Rattle.desk_rows.specs.Meanings.{◌>>=◌}
+use Rattle.desk_terms.specs.Options.{◌>>=◌}
 use Rattle.desk_rows.specs.declared.kept.MeetingRow.{MeetingRow}
 use Rattle.desk_records.specs.Office.{FlatLists, flat_in, lists_of, lists_of_all, lists_with, of_meeting, office_in, office_of_records, resolutions_of}
 use Rattle.desk_records.proofs.OfficeLemmas.{are_of}

@@ -52,8 +52,8 @@ IsNoDesk s =
     × (¬ HasColumns s.now.schema ⊎ (s.now.schema ≡ desk_schema → HasNoOffice s)))
 
 -- why tables that note their version are not opened as a desk
-abbrev pub IsCause : OpenFault → State → Type 0
-IsCause = IsFaultOf IsNoDesk
+abbrev pub IsOpenCause : OpenFault → State → Type 0
+IsOpenCause = IsFaultOf IsNoDesk
 
 -- in a transaction over tables that note their version they are told to be of version 1, or why
 -- not, and nothing is committed

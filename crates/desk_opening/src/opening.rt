@@ -1,7 +1,7 @@
 //! The tables of a desk that was kept.
 ghost use Rattle.std.specs.Prelude.{◌≡◌, ◌≢◌, ◌⊎◌, false, Err, IfErr, IfOk, IsTrue, OnOk};
 ghost use Rattle.desk_opening.specs.Crashes.{LeavesItself, LeavesNoMore};
-ghost use Rattle.desk_opening.specs.Opening.{HandsBack, HoldsOffice, IsCause, IsCleanBack};
+ghost use Rattle.desk_opening.specs.Opening.{HandsBack, HoldsOffice, IsOpenCause, IsCleanBack};
 ghost use Rattle.desk_opening.specs.Opening.{IsInNone, IsVerdict};
 ghost use Rattle.desk_opening.specs.Rising.{RowsRise};
 ghost use Rattle.desk_records.specs.Standing.{HasNoOffice, IsVersionOne, Stands};
@@ -189,7 +189,7 @@ fn kept_office<S: Alter>(conn: &mut Connection<S>, alloc: Global) -> Result<Offi
         → OnOk result (HasColumns (state S.Store conn.old).now.schema) }
     ensures cause { HasCleanDisk (state S.Store conn.new) → AreNoted (state S.Store conn.old)
         → RowsRise (state S.Store conn.old)
-        → IfErr result (λ fault. IsCause fault (state S.Store conn.old)) }
+        → IfErr result (λ fault. IsOpenCause fault (state S.Store conn.old)) }
     ensures settled { HasCleanDisk (state S.Store conn.new)
         → OnOk result (LeavesItself (state S.Store conn.new)) }
 {
@@ -231,7 +231,7 @@ pub fn open<S: Alter + Drop>(
     ensures none { IfOk result (λ opened. opened.0.in_transaction ≡ false) }
     ensures cause { IfErr result (λ e. IsCleanBack S.Store e.1
         → NotesVersion (state S.Store conn).now.schema
-        → IsCause e.0 (state S.Store conn)) }
+        → IsOpenCause e.0 (state S.Store conn)) }
     ensures kept { IfErr result (λ e. HandsBack S.Store (state S.Store conn).now.trees e.1) }
     ensures ended { IfErr result (λ e. conn.in_transaction ≡ false → IsInNone e.1) }
     ensures settled { IfOk result (λ opened. HasCleanDisk (state S.Store opened.0)
@@ -278,7 +278,7 @@ pub fn open_risen<S: Alter + Drop>(
     ensures ended { IfOk result (λ opened. opened.0.in_transaction ≡ false) }
     ensures cause { IfErr result (λ e. HasCleanDisk (state S.Store e.1)
         → NotesVersion (state S.Store conn).now.schema
-        → IsCause e.0 (state S.Store conn)) }
+        → IsOpenCause e.0 (state S.Store conn)) }
     ensures kept { IfErr result (λ e. HasCleanDisk (state S.Store e.1)
         → IsTrue (state S.Store e.1).is_open
         → (state S.Store e.1).now.trees ≡ (state S.Store conn).now.trees) }

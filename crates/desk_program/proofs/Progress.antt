@@ -14,7 +14,7 @@ use Rattle.desk_words.specs.declared.office.OfficeLists.{OfficeLists}
 use Rattle.desk_words.specs.Changes.{empty_office}
 use Rattle.desk_program.proofs.RunLaws.{answered_in_turn}
 use Rattle.desk_program.specs.ReplaySteps.{standing, AnswersLine, AnswersInPart, Stops, Turns}
-use Rattle.desk_program.specs.Transcript.{answered, transcript, AreAnswered, IsAnsweredSoFar, IsAnsweredInPart, IsReplayedUntil}
+use Rattle.desk_program.specs.Transcript.{line_answered, transcript, AreAnswered, IsAnsweredSoFar, IsAnsweredInPart, IsReplayedUntil}
 use Rattle.desk_program.specs.declared.script.ReplayFault.{ReplayFault}
 use Rattle.desk_program.specs.declared.script.ReplayFault.TheVariants.{Read, Write}
 
@@ -22,7 +22,7 @@ use Rattle.desk_program.specs.declared.script.ReplayFault.TheVariants.{Read, Wri
 abbrev pub after_lines : OfficeLists → List (List ℕ) → List Bool → OfficeLists
 after_lines office [] refused = office
 after_lines office (line ∷ lines) [] = office
-after_lines office (line ∷ lines) (r ∷ refused) = after_lines (answered r office line).office lines refused
+after_lines office (line ∷ lines) (r ∷ refused) = after_lines (line_answered r office line).office lines refused
 
 transcript-append : (o : OfficeLists) (ls : List (List ℕ)) (rs : List Bool) (ms : List (List ℕ)) (ss : List Bool) → length rs ≡ length ls
     → transcript o (ls ++ ms) (rs ++ ss) ≡ transcript o ls rs ++ transcript (after_lines o ls rs) ms ss
@@ -30,18 +30,18 @@ transcript-append o [] [] ms ss h = refl
 transcript-append o [] (r ∷ rs) ms ss h = absurd (omega arith)
 transcript-append o (l ∷ ls) [] ms ss h = absurd (omega arith)
 transcript-append o (l ∷ ls) (r ∷ rs) ms ss h =
-    let back = transcript (after_lines (answered r o l).office ls rs) ms ss in
+    let back = transcript (after_lines (line_answered r o l).office ls rs) ms ss in
     answered_in_turn o l (ls ++ ms) r (rs ++ ss)
-    ∙ ap (λ t. (answered r o l).text ++ t) (transcript-append (answered r o l).office ls rs ms ss (omega arith))
-    ∙ sym (append_assoc (answered r o l).text (transcript (answered r o l).office ls rs) back)
+    ∙ ap (λ t. (line_answered r o l).text ++ t) (transcript-append (line_answered r o l).office ls rs ms ss (omega arith))
+    ∙ sym (append_assoc (line_answered r o l).text (transcript (line_answered r o l).office ls rs) back)
     ∙ ap (λ t. t ++ back) (sym (answered_in_turn o l ls r rs))
 
 after_lines-push : (o : OfficeLists) (ls : List (List ℕ)) (rs : List Bool) (l : List ℕ) (r : Bool) → length rs ≡ length ls
-    → after_lines o (ls ++ l ∷ []) (rs ++ r ∷ []) ≡ (answered r (after_lines o ls rs) l).office
+    → after_lines o (ls ++ l ∷ []) (rs ++ r ∷ []) ≡ (line_answered r (after_lines o ls rs) l).office
 after_lines-push o [] [] l r h = refl
 after_lines-push o [] (x ∷ rs) l r h = absurd (omega arith)
 after_lines-push o (m ∷ ls) [] l r h = absurd (omega arith)
-after_lines-push o (m ∷ ls) (x ∷ rs) l r h = after_lines-push (answered x o m).office ls rs l r (omega arith)
+after_lines-push o (m ∷ ls) (x ∷ rs) l r h = after_lines-push (line_answered x o m).office ls rs l r (omega arith)
 
 appends-chained : (a b c : Option (List ℕ)) (xs ys : List ℕ) → Appends a b xs → Appends b c ys → Appends a c (xs ++ ys)
 appends-chained None b c xs ys p q = tt
@@ -93,10 +93,10 @@ one_more_line : (input rest rest' : List ℕ) (office after : OfficeLists) (old 
     → AnswersLine rest rest' (standing (Some rest) office mid) (standing (Some rest') after new) → Progress input (Some rest') after old new
 one_more_line input rest rest' office after old mid new p same a =
     let first = first_line rest in
-    let text = (answered a.refused office first).text in
+    let text = (line_answered a.refused office first).text in
     let line = take (feed_place rest + 1) rest in
     let parts : rest ≡ line ++ rest' = sym (take-append-drop (feed_place rest + 1) rest) ∙ ap (λ r. line ++ r) (sym a.rest_is) in
-    let here : answered a.refused office first ≡ answered a.refused (after_lines empty_office p.done p.refused) first = ap (λ o. answered a.refused o first) p.office_is in
+    let here : line_answered a.refused office first ≡ line_answered a.refused (after_lines empty_office p.done p.refused) first = ap (λ o. line_answered a.refused o first) p.office_is in
     let last : transcript (after_lines empty_office p.done p.refused) (first ∷ []) (a.refused ∷ []) ≡ text = answered_in_turn _ first [] a.refused [] ∙ append-nil _ ∙ ap (λ x. x.text) (sym here) in
     record {
       rest = rest';
@@ -170,14 +170,14 @@ stopped_writing input bytes office old mid new p same a =
     let later = lines_of (after_line bytes) in
     let o = after_lines empty_office p.done p.refused in
     let front = transcript empty_office p.done p.refused in
-    let text = (answered a.refused o first).text in
-    let back = transcript (answered a.refused o first).office later (unmarked later) in
+    let text = (line_answered a.refused o first).text in
+    let back = transcript (line_answered a.refused o first).office later (unmarked later) in
     let marks = p.refused ++ a.refused ∷ unmarked later in
     let split : lines_of input ≡ p.done ++ first ∷ later = p.lines ∙ ap (λ r. p.done ++ lines_of r) same ∙ ap (λ ls. p.done ++ ls) (lines_of-cons bytes a.some_left) in
     let whole : transcript empty_office (lines_of input) marks ≡ front ++ (text ++ back) =
     ap (λ l. transcript empty_office l marks) split ∙ transcript-append empty_office p.done p.refused (first ∷ later) (a.refused ∷ unmarked later) p.each
     ∙ ap (λ t. front ++ t) (answered_in_turn o first later a.refused (unmarked later)) in
-    let part : AppendsPrefix mid new text = subst (λ x. AppendsPrefix mid new (answered a.refused x first).text) p.office_is a.written in
+    let part : AppendsPrefix mid new text = subst (λ x. AppendsPrefix mid new (line_answered a.refused x first).text) p.office_is a.written in
     let n = part.0 in
     let cut : take (length front + n) (front ++ (text ++ back)) ≡ front ++ take n text =
     take-append-add front (text ++ back) n ∙ ap (λ t. front ++ t) (take-append-le n text back (omega (arith, part.1))) in

@@ -5,7 +5,7 @@ use Rattle.desk_terms.specs.declared.refusal.Refusal.{Refusal}
 use Rattle.desk_words.specs.declared.office.OfficeLists.{OfficeLists}
 use Rattle.desk_words.specs.declared.request.Call.{Call}
 use Rattle.meeting_core.specs.Step.{run_of}
-use Rattle.desk_program.specs.ReplayLines.{asked_by}
+use Rattle.desk_program.specs.ReplayLines.{asked_in_line}
 use Rattle.desk_program.specs.ReplayRuns.{answer_before, answer_unless, call_before, call_unless, calls_of, spread}
 use Rattle.desk_program.specs.Transcript.{Answered, answered_call, transcript, unless_refused, LinesAreAnsweredInTurn}
 
@@ -21,7 +21,7 @@ asked_line (Err refusal) office lines refused = refl
 unless_line : (r : Bool) (line : List ℕ) (office : OfficeLists) (lines : List (List ℕ)) (refused : List Bool)
     → answer_unless r line (run_of office (call_unless r line (calls_of lines refused))).replies (spread lines refused) ≡ Follows (unless_refused r office line) lines refused
 unless_line true line office lines refused = refl
-unless_line false line office lines refused = asked_line (asked_by line) office lines refused
+unless_line false line office lines refused = asked_line (asked_in_line line) office lines refused
 
 pub answered_in_turn : LinesAreAnsweredInTurn
 answered_in_turn office line lines r refused =

@@ -8,7 +8,7 @@ use Rattle.std.proofs.lemmas.Bool.Decides.{nat_tests}
 use Rattle.std.specs.Io.KnownBytes.{IsAtEnd}
 use Rattle.desk_devices.specs.Written.{AppendsPrefix}
 use Rattle.desk_lines.specs.Lines.{first_line}
-use Rattle.desk_lines.specs.Reading.{Gives, longest_line, unread}
+use Rattle.desk_lines.specs.Reading.{NextIs, longest_line, unread}
 use Rattle.desk_lines.specs.declared.outcome.NextLine.TheVariants.{Whole, TooLong}
 use Rattle.desk_terms.specs.declared.refusal.Refusal.TheVariants.{TooLarge}
 use Rattle.desk_words.specs.declared.office.OfficeLists.{OfficeLists}
@@ -17,14 +17,14 @@ use Rattle.desk_replies.specs.Replies.{reply_bytes}
 use Rattle.desk_program.specs.ReplayLines.{spelled_call}
 use Rattle.desk_program.specs.ReplaySteps.{standing, Stops}
 use Rattle.desk_program.specs.ReplayRuns.{as_line}
-use Rattle.desk_program.specs.Transcript.{Answered, answered, answered_call, text_or_failure, unless_refused}
+use Rattle.desk_program.specs.Transcript.{Answered, line_answered, answered_call, text_or_failure, unless_refused}
 use Rattle.desk_program.specs.declared.script.ReplayFault.TheVariants.{Write}
 
 abbrev skipped : OfficeLists → Answered
 skipped office = record { text = []; office = office }
 
 -- a line that is not empty is not skipped
-pub answered-some : (refused : Bool) (office : OfficeLists) (line : List ℕ) → 0 < length line → answered refused office line ≡ unless_refused refused office line
+pub answered-some : (refused : Bool) (office : OfficeLists) (line : List ℕ) → 0 < length line → line_answered refused office line ≡ unless_refused refused office line
 answered-some refused office line h =
     let some : (length line == 0) ≡ false = grind (arith, nat_tests) in
     ap (λ b. cond b (skipped office) (unless_refused refused office line)) some
@@ -52,7 +52,7 @@ stops_at office bytes remaining (Err e) old new some line is partly = record {
 
 -- the answer to a line that is too long was written in part
 pub stops-too_long : (unread left remaining : Option (List ℕ)) (line : List ℕ) (office : OfficeLists) (text : Result (Vec ℕ Global) AllocError) (old new : Option (List ℕ))
-    → Gives TooLong unread left line → IfOk text (λ t. t.items ≡ as_line (reply_bytes (Refused TooLarge)))
+    → NextIs TooLong unread left line → IfOk text (λ t. t.items ≡ as_line (reply_bytes (Refused TooLarge)))
     → AppendsPrefix old new (text_or_failure text) → Stops Write (standing unread office old) remaining new
 stops-too_long None left remaining line office text old new given is partly = tt
 stops-too_long (Some bytes) None remaining line office text old new given is partly = absurd given.1
@@ -63,7 +63,7 @@ stops-too_long (Some bytes) (Some rest) remaining line office text old new given
 
 -- the answer to a whole line was written in part
 pub stops-whole : (unread left remaining : Option (List ℕ)) (line : List ℕ) (office : OfficeLists) (text : Result (Vec ℕ Global) AllocError) (old new : Option (List ℕ))
-    → Gives Whole unread left line → 0 < length line → IfOk text (λ t. t.items ≡ (unless_refused false office line).text)
+    → NextIs Whole unread left line → 0 < length line → IfOk text (λ t. t.items ≡ (unless_refused false office line).text)
     → AppendsPrefix old new (text_or_failure text) → Stops Write (standing unread office old) remaining new
 stops-whole None left remaining line office text old new given some is partly = tt
 stops-whole (Some bytes) None remaining line office text old new given some is partly = absurd given.1

@@ -2,13 +2,14 @@
 use Rattle.std.specs.Prelude.{ℕ, ◌==◌, List, [], length, nat_lt, Option, Some, None, Result, Ok, Err, ok_or, unwrap_or, if◌then◌else◌, Bool}
 use Rattle.std.specs.List.{position_or_len, before_first, after_first}
 use Rattle.std.specs.Str.{is_utf8}
+use Rattle.desk_terms.specs.Results.{◌>>=◌}
 use Rattle.desk_calendar.specs.Texts.{moment_of}
 use Rattle.desk_terms.specs.declared.refusal.Refusal.{Refusal}
 use Rattle.desk_terms.specs.declared.refusal.Refusal.TheVariants.{Key, TooLarge, Unreadable}
 use Rattle.desk_words.specs.Callers.{caller_of}
 use Rattle.desk_words.specs.declared.request.Call.{Call}
 use Rattle.desk_lines.specs.Reading.{longest_line}
-use Rattle.desk_bodies.specs.Answers.{◌>>=◌, readable}
+use Rattle.desk_bodies.specs.Answers.{readable}
 use Rattle.desk_bodies.specs.Requests.{request_of}
 
 -- a space is the byte 32
@@ -16,8 +17,8 @@ abbrev pub is_space : ℕ → Bool
 is_space byte = byte == 32
 
 -- what stands before the first space, and what stands after it
-abbrev pub parted : List ℕ → Option (List ℕ × List ℕ)
-parted bytes =
+abbrev pub at_first_space : List ℕ → Option (List ℕ × List ℕ)
+at_first_space bytes =
     if nat_lt (position_or_len is_space bytes) (length bytes)
     then Some (before_first is_space bytes, after_first is_space bytes)
     else None
@@ -33,10 +34,10 @@ pub record Parts : Type 0 where
 -- a line is parted at its first four spaces; with three alone its body is empty
 unfoldable pub parts_of : List ℕ → Result Parts Refusal
 parts_of line = do
-  a ← readable (parted line)
-  b ← readable (parted a.1)
-  c ← readable (parted b.1)
-  let d = unwrap_or (parted c.1) (c.1, [])
+  a ← readable (at_first_space line)
+  b ← readable (at_first_space a.1)
+  c ← readable (at_first_space b.1)
+  let d = unwrap_or (at_first_space c.1) (c.1, [])
   Ok (record { moment = a.0; caller = b.0; meeting = c.0; verb = d.0; body = d.1 })
 
 -- the caller that was found; where there is none, the key is refused
@@ -59,5 +60,5 @@ spelled_call line = do
   Ok (record { moment = moment; caller = caller; request = request })
 
 -- what a line of any length asks: one that is too long is refused unread
-abbrev pub asked_by : List ℕ → Result Call Refusal
-asked_by line = if nat_lt longest_line (length line) then Err TooLarge else spelled_call line
+abbrev pub asked_in_line : List ℕ → Result Call Refusal
+asked_in_line line = if nat_lt longest_line (length line) then Err TooLarge else spelled_call line

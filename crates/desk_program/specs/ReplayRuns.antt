@@ -6,7 +6,7 @@ use Rattle.desk_words.specs.declared.reply.Failure.TheVariants.{Memory}
 use Rattle.desk_words.specs.declared.reply.Reply.{Reply}
 use Rattle.desk_words.specs.declared.reply.Reply.TheVariants.{Refused}
 use Rattle.desk_replies.specs.Replies.{reply_bytes, failure_bytes}
-use Rattle.desk_program.specs.ReplayLines.{asked_by}
+use Rattle.desk_program.specs.ReplayLines.{asked_in_line}
 
 -- a text and a line feed
 abbrev pub as_line : List ℕ → List ℕ
@@ -20,7 +20,7 @@ call_before (Err refusal) calls = calls
 -- a line that was refused memory is no call
 abbrev pub call_unless : Bool → List ℕ → List Call → List Call
 call_unless true line calls = calls
-call_unless false line calls = call_before (asked_by line) calls
+call_unless false line calls = call_before (asked_in_line line) calls
 
 -- the calls that lines ask, without those of the lines that were refused memory
 abbrev pub calls_of : List (List ℕ) → List Bool → List Call
@@ -38,7 +38,7 @@ answer_before (Err refusal) replies rest = as_line (reply_bytes (Refused refusal
 -- a line that was refused memory is answered by the failure's text, and takes no reply
 abbrev pub answer_unless : Bool → List ℕ → List Reply → (List Reply → List ℕ) → List ℕ
 answer_unless true line replies rest = as_line (failure_bytes Memory) ++ rest replies
-answer_unless false line replies rest = answer_before (asked_by line) replies rest
+answer_unless false line replies rest = answer_before (asked_in_line line) replies rest
 
 -- the texts of replies, one for each line that is a call, among the other lines' answers
 abbrev pub spread : List (List ℕ) → List Bool → List Reply → List ℕ

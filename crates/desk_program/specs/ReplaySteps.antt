@@ -9,7 +9,7 @@ use Rattle.desk_lines.specs.Reading.{longest_input}
 use Rattle.desk_words.specs.declared.office.OfficeLists.{OfficeLists}
 use Rattle.desk_program.specs.declared.script.ReplayFault.{ReplayFault}
 use Rattle.desk_program.specs.declared.script.ReplayFault.TheVariants.{Read, Write}
-use Rattle.desk_program.specs.Transcript.{answered}
+use Rattle.desk_program.specs.Transcript.{line_answered}
 
 -- where a replay stands: what is unread, as far as it is known, the office, and what is written
 pub record Standing : Type 0 where
@@ -25,9 +25,10 @@ pub record AnswersLine (bytes rest : List ℕ) (before after : Standing) : Type 
   pub some_left : 0 < length bytes
   pub rest_is : rest ≡ after_line bytes
   pub refused : Bool
-  pub after_is : after.office ≡ (answered refused before.office (first_line bytes)).office
+  pub after_is : after.office ≡ (line_answered refused before.office (first_line bytes)).office
   pub written :
-      Appends before.written after.written (answered refused before.office (first_line bytes)).text
+      Appends before.written after.written
+      (line_answered refused before.office (first_line bytes)).text
 
 -- where it is known what was unread and what is left, the first line was answered
 abbrev pub AnswersIfKnown : Option (List ℕ) → Option (List ℕ) → Standing → Standing → Type 0
@@ -46,7 +47,8 @@ pub record AnswersInPart (bytes : List ℕ) (before : Standing) (written' : Opti
   pub some_left : 0 < length bytes
   pub refused : Bool
   pub written :
-      AppendsPrefix before.written written' (answered refused before.office (first_line bytes)).text
+      AppendsPrefix before.written written'
+      (line_answered refused before.office (first_line bytes)).text
 
 -- where it is known what was unread, its first line was answered in part
 abbrev pub InPartIfKnown : Option (List ℕ) → Standing → Option (List ℕ) → Type 0

@@ -14,7 +14,7 @@ use Rattle.desk_words.specs.declared.reply.Reply.TheVariants.{Refused}
 use Rattle.desk_replies.specs.Replies.{reply_bytes, failure_bytes}
 use Rattle.desk_words.specs.Changes.{empty_office}
 use Rattle.meeting_core.specs.Step.{decided, run_of, stepped}
-use Rattle.desk_program.specs.ReplayLines.{asked_by}
+use Rattle.desk_program.specs.ReplayLines.{asked_in_line}
 use Rattle.desk_program.specs.ReplayRuns.{as_line, calls_of, spread}
 use Rattle.desk_program.specs.declared.script.ReplayFault.{ReplayFault}
 use Rattle.desk_program.specs.declared.script.ReplayFault.TheVariants.{Read, Write}
@@ -38,11 +38,11 @@ answered_call office (Err refusal) = record {
 -- where memory was refused, the line says so, and the office is as it was
 abbrev pub unless_refused : Bool → OfficeLists → List ℕ → Answered
 unless_refused true office line = record { text = as_line (failure_bytes Memory); office = office }
-unless_refused false office line = answered_call office (asked_by line)
+unless_refused false office line = answered_call office (asked_in_line line)
 
 -- an empty line is skipped
-abbrev pub answered : Bool → OfficeLists → List ℕ → Answered
-answered refused office line =
+abbrev pub line_answered : Bool → OfficeLists → List ℕ → Answered
+line_answered refused office line =
     if length line == 0
     then record { text = []; office = office }
     else unless_refused refused office line
@@ -57,7 +57,7 @@ transcript office lines refused =
 abbrev pub LinesAreAnsweredInTurn : Type 0
 LinesAreAnsweredInTurn =
     (office : OfficeLists) (line : List ℕ) (lines : List (List ℕ)) (r : Bool) (refused : List Bool)
-    → let answer = answered r office line in transcript office (line ∷ lines) (r ∷ refused)
+    → let answer = line_answered r office line in transcript office (line ∷ lines) (r ∷ refused)
     ≡ answer.text ++ transcript answer.office lines refused
 
 -- the answers to these lines were written, each whole, in a run from the empty office; some lines

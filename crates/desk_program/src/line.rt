@@ -1,7 +1,8 @@
 //! Lines of a replay.
 ghost use Rattle.std.specs.Prelude.{◌≡◌, option_map};
-ghost use Rattle.desk_bodies.specs.Answers.{Gives, itself};
-ghost use Rattle.desk_program.specs.ReplayLines.{parted, parts_of, spelled_call, text_in};
+ghost use Rattle.desk_terms.specs.Itself.{itself};
+ghost use Rattle.desk_bodies.specs.Answers.{Says};
+ghost use Rattle.desk_program.specs.ReplayLines.{at_first_space, parts_of, spelled_call, text_in};
 ghost use Rattle.desk_program.specs.PartsView.{parts_view, text_view};
 
 use desk_bodies::{Ask, request_of};
@@ -24,7 +25,7 @@ pub struct Parts<'a> {
 
 /// What stands before the first space, and what stands after it.
 fn parted(text: &str) -> Option<(&str, &str)>
-    ensures { option_map (λ x. (x.0.now, x.1.now)) result ≡ parted text.now }
+    ensures { option_map (λ x. (x.0.now, x.1.now)) result ≡ at_first_space text.now }
 {
     text.split_once(' ')
 }
@@ -32,7 +33,7 @@ fn parted(text: &str) -> Option<(&str, &str)>
 /// The parts of a line, at its first four spaces.
 #[tactic(auto, unfolding(crate::specs::ReplayLines::parts_of))]
 fn parts_of(line: &str) -> Result<Parts<'_>, Ask>
-    ensures { Gives parts_view result (parts_of line.now) }
+    ensures { Says parts_view result (parts_of line.now) }
 {
     let (moment, rest) = parted(line).ok_or(UNREADABLE)?;
     let (caller, rest) = parted(rest).ok_or(UNREADABLE)?;
@@ -52,7 +53,7 @@ fn parts_of(line: &str) -> Result<Parts<'_>, Ask>
 
 /// The text that bytes are.
 fn text_of(bytes: &[u8]) -> Result<&str, Ask>
-    ensures { Gives text_view result (text_in bytes.now) }
+    ensures { Says text_view result (text_in bytes.now) }
 {
     match str::from_utf8(bytes) {
         Ok(text) => Ok(text),
@@ -66,7 +67,7 @@ fn text_of(bytes: &[u8]) -> Result<&str, Ask>
 /// party, and then as its request is. `Memory` is answered only where an allocation was refused.
 #[tactic(auto, unfolding(crate::specs::ReplayLines::spelled_call))]
 pub fn call_of(alloc: Global, line: &[u8]) -> Result<Call, Ask>
-    ensures { Gives itself result (spelled_call line.now) }
+    ensures { Says itself result (spelled_call line.now) }
 {
     let text = text_of(line)?;
     let parts = parts_of(text)?;

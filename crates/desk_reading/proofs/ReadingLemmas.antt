@@ -1,6 +1,7 @@
 -- One reading of the tables after another.
 use Rattle.std.proofs.Common.{◌≡◌, ◌≢◌, List, Bool, Option, Some, None, Ok, Err, Result, OnOk, refl, sym, ap, subst, ◌∙◌, arith, true≢false}
 use Rattle.std.proofs.lemmas.Result.{on_ok_weaker}
+use Rattle.desk_terms.specs.Options.{◌>>=◌}
 use Rattle.sqlite.specs.declared.error.Error.{Error}
 use Rattle.sqlite.specs.declared.error.Error.TheVariants.{SqliteFailure}
 use Rattle.sqlite.specs.declared.error.ErrorCode.TheVariants.{OutOfMemory}
@@ -10,7 +11,7 @@ use Rattle.sqlite.specs.State.{State, HasCleanDisk, IsUnchanged, KeepsCommit, Su
 use Rattle.sqlite.specs.Tree.{Trees}
 use Rattle.sqlite.proofs.StateLemmas.{survives_then}
 use Rattle.sqlite_trees.specs.declared.store.Store as store
-use Rattle.desk_rows.specs.Meanings.{◌>>=◌, IsFault, all_mean}
+use Rattle.desk_rows.specs.Meanings.{IsFault, all_mean}
 use Rattle.desk_rows.specs.declared.fault.RowFault.{RowFault}
 use Rattle.desk_rows.specs.declared.fault.RowFault.TheVariants as row
 use Rattle.sqlite.specs.Order.{Row}

@@ -2,9 +2,10 @@
 use Rattle.std.proofs.Common.{◌≡◌, ◌≢◌, ℕ, ◌==◌, false, List, map, Option, Some, None, inl, inr, refl, sym, ap, subst, ◌∙◌, IsTrue, arith}
 use Rattle.std.proofs.lemmas.Bool.{cases_Bool}
 use Rattle.std.proofs.lemmas.Bool.Decides.{nat_tests}
+use Rattle.desk_terms.specs.Options.{◌>>=◌}
 use Rattle.sqlite.specs.State.{State}
 use Rattle.sqlite.specs.Tree.{Trees}
-use Rattle.desk_rows.specs.Meanings.{◌>>=◌, all_mean}
+use Rattle.desk_rows.specs.Meanings.{all_mean}
 use Rattle.desk_schema.specs.Contents as table
 use Rattle.desk_schema.specs.Statements.{Changes, columns_of, has_table, layout_one, records_in}
 use Rattle.desk_records.specs.Office.{FlatLists, flat_in}

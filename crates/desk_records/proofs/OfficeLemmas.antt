@@ -13,7 +13,7 @@ use Rattle.desk_words.specs.declared.office.OfficeLists.{OfficeLists}
 use Rattle.desk_words.specs.declared.records.Resolution.{Resolution}
 use Rattle.desk_words.proofs.RowLemmas.{same_name-true}
 use Rattle.desk_rows.specs.declared.kept.MeetingRow.{MeetingRow}
-use Rattle.desk_rows.specs.Meanings.{◌>>=◌, only}
+use Rattle.desk_terms.specs.Options.{◌>>=◌, only}
 use Rattle.desk_records.specs.Office.{FlatLists, resolutions_of, lists_with, lists_of, lists_of_all, name_meetings, have_meetings, office_of_records}
 use Rattle.desk_records.proofs.FlatChanges.{some_is}
 use Rattle.desk_records.proofs.ListLemmas.{any-map, map-once}

@@ -24,7 +24,7 @@ use Rattle.desk_words.specs.declared.records.Resolution.{Resolution}
 use Rattle.desk_rows.specs.declared.kept.InMeeting.{InMeeting}
 use Rattle.desk_rows.specs.declared.kept.MeetingRow.{MeetingRow}
 use Rattle.desk_rows.specs.declared.kept.NumberedResolution.{NumberedResolution}
-use Rattle.desk_rows.specs.Meanings.{◌>>=◌, only}
+use Rattle.desk_terms.specs.Options.{◌>>=◌, only}
 use Rattle.desk_schema.specs.Contents.{keys, closed, meetings, resolutions, register, appointments, endings, authorities, presences, demands, polls, casts}
 use Rattle.desk_schema.specs.Statements.{records_in}
 

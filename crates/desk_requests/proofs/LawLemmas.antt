@@ -3,13 +3,13 @@ use Rattle.std.proofs.Common.{◌≡◌, ℕ, ◌⊎◌, inl, inr, true, List, O
 use Rattle.httparse.specs.Grammar.{EndsInTarget}
 use Rattle.desk_terms.specs.declared.refusal.Refusal.{Refusal}
 use Rattle.desk_words.specs.declared.request.Request.{Request}
-use Rattle.desk_heads.specs.Heads.{IsFront, asked_in, head_place}
+use Rattle.desk_heads.specs.Heads.{IsFront, asked_of_head, head_place}
 use Rattle.desk_heads.specs.Laws.{HasOneFront, HasOneHead}
 use Rattle.desk_heads.specs.declared.front.Front.{Front}
 use Rattle.desk_heads.specs.declared.front.Front.TheVariants as front
-use Rattle.desk_requests.specs.Asked.{key_in, request_in}
+use Rattle.desk_requests.specs.Asked.{key_of_head, request_in}
 use Rattle.desk_requests.specs.Laws.{SpellsOne, is_said, is_told}
-use Rattle.desk_requests.specs.Received.{Asks, Hears, IsWith, SpellsAt}
+use Rattle.desk_requests.specs.Received.{HeadAsks, Hears, IsWith, SpellsAt}
 use Rattle.desk_requests.specs.declared.received.Received.{Received}
 use Rattle.desk_requests.specs.declared.received.Received.TheVariants.{With}
 use Rattle.desk_requests.specs.declared.received.Unheard.{Unheard}
@@ -37,8 +37,8 @@ with-one (Some key) said a b (heard, is, hears) (other, is_other, hears_other) t
 same-front : HasOneHead → (input : List ℕ) (front : Front) (a b : Received) → SpellsAt front input a → SpellsAt front input b → is_told a ≡ true → is_told b ≡ true → a ≡ b
 same-front one_head input front.Whole a b (head, behind, has, few, asks) (other, rest, has_other, few_other, asks_other) told_a told_b =
     let one = one_head input head other behind rest has has_other in
-    let asks_here : Asks (asked_in other) rest a = subst (λ h. Asks (asked_in h) rest a) one.0 (subst (λ r. Asks (asked_in head) r a) one.1 asks) in
-    with-one (key_in (asked_in other)) (request_in (asked_in other) rest) a b asks_here asks_other told_a told_b
+    let asks_here : HeadAsks (asked_of_head other) rest a = subst (λ h. HeadAsks (asked_of_head h) rest a) one.0 (subst (λ r. HeadAsks (asked_of_head head) r a) one.1 asks) in
+    with-one (key_of_head (asked_of_head other)) (request_in (asked_of_head other) rest) a b asks_here asks_other told_a told_b
 same-front one_head input front.TooLarge a b (is, x) (is_other, y) told_a told_b = x ∙ sym y
 same-front one_head input front.Unreadable a b (is, x) (is_other, y) told_a told_b = x ∙ sym y
 

@@ -8,7 +8,7 @@ use Rattle.desk_terms.specs.declared.refusal.Refusal.{Refusal}
 use Rattle.desk_terms.specs.declared.refusal.Refusal.TheVariants as refusal
 use Rattle.desk_words.specs.declared.request.Request.{Request}
 use Rattle.desk_bodies.specs.Answers.{readable}
-use Rattle.desk_bodies.specs.Requests.{asked}
+use Rattle.desk_bodies.specs.Requests.{asked_on_route}
 use Rattle.desk_bodies.specs.declared.route.Route.{Route}
 use Rattle.desk_heads.specs.Heads.{Asked, Held, HoldsHead, Comes, Finds, FindsKnown}
 use Rattle.desk_heads.specs.declared.front.Front.TheVariants as front
@@ -16,7 +16,7 @@ use Rattle.desk_heads.specs.declared.front.TheConstants.{LONGEST_HEAD}
 use Rattle.desk_heads.specs.declared.length.TheConstants.{LONGEST_BODY}
 use Rattle.httparse.specs.Grammar.{print_request}
 use Rattle.desk_requests.specs.Asked.{request_by, request_in, way_in}
-use Rattle.desk_requests.specs.Received.{Asks, Came, Hears, IsBody, Spells}
+use Rattle.desk_requests.specs.Received.{HeadAsks, Came, Hears, IsBody, Spells}
 use Rattle.desk_requests.specs.declared.asked.Way.{Way}
 use Rattle.desk_requests.specs.declared.received.Received.{Received}
 use Rattle.desk_requests.specs.declared.received.Received.TheVariants.{Refused}
@@ -27,7 +27,7 @@ use Rattle.desk_requests.proofs.CameLemmas.{came-read}
 -- ---- what is asked
 
 -- with a whole body the request is what the body says
-pub asked-whole : (route : Route) (body behind : List ℕ) → IsBody true body behind → request_by route (length body) behind ≡ readable (asked route body)
+pub asked-whole : (route : Route) (body behind : List ℕ) → IsBody true body behind → request_by route (length body) behind ≡ readable (asked_on_route route body)
 unfolding request_by
 asked-whole route body behind is = rw is refl
 
@@ -51,9 +51,9 @@ asked-nowhere head why behind (Err e) is h = rw (h, is) refl
 
 -- ---- what is spelled
 
-head-more : {input left : List ℕ} {held : Held} (received : Received) → (holds : HoldsHead input left held) → Asks held.asked (held.rest ++ left) received → Spells input received
+head-more : {input left : List ℕ} {held : Held} (received : Received) → (holds : HoldsHead input left held) → HeadAsks held.asked (held.rest ++ left) received → Spells input received
 head-more {input} {left} {held} received holds asks =
-    let asks_head = subst (λ asked. Asks asked (held.rest ++ left) received) holds.asked asks in
+    let asks_head = subst (λ asked_on_route. HeadAsks asked_on_route (held.rest ++ left) received) holds.asked asks in
     (front.Whole, (holds.head, held.rest ++ left, holds.is_head, holds.few, asks_head))
 
 -- the same head stands in front of more bytes
@@ -72,7 +72,7 @@ held-more held more holds =
     }
 
 whole-known : (held : Held) (received : Received) (a b : Option (List ℕ)) → FindsKnown front.Whole [] a b held
-    → IfSome b (λ left. Asks held.asked (held.rest ++ left) received) → IfSome a (λ input. Spells input received)
+    → IfSome b (λ left. HeadAsks held.asked (held.rest ++ left) received) → IfSome a (λ input. Spells input received)
 whole-known held received None b found asks = tt
 whole-known held received (Some input) None found asks = absurd found
 whole-known held received (Some input) (Some left) found asks = head-more received found asks
@@ -80,7 +80,7 @@ whole-known held received (Some input) (Some left) found asks = head-more receiv
 -- what came with a whole head and behind it
 pub whole-spelled : (held : Held) (received : Received) (a b z : Option (List ℕ)) (p q r : ℕ) → Comes [] held.bytes a b p q → length held.bytes ≤ LONGEST_HEAD
     → Finds front.Whole held.bytes [] held → FindsKnown front.Whole [] a b held
-    → Came (λ bytes. Asks held.asked (held.rest ++ bytes) received) LONGEST_BODY b z q r
+    → Came (λ bytes. HeadAsks held.asked (held.rest ++ bytes) received) LONGEST_BODY b z q r
     → Came (λ input. Spells input received) (LONGEST_HEAD + LONGEST_BODY) a z p r
 whole-spelled held received a b z p q r comes bound found known came =
     let is : held.bytes ≡ comes.bytes = comes.behind in

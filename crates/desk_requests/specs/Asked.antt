@@ -1,14 +1,15 @@
 -- What a head and the bytes behind it ask: first the key, then the route, the method, the size of
 -- the body, and what the body says.
 use Rattle.std.specs.Prelude.{ℕ, List, length, take, nat_le, Option, Some, None, Result, Ok, Err, ok_or, codes, if◌then◌else◌}
+use Rattle.desk_terms.specs.Results.{◌>>=◌}
 use Rattle.desk_terms.specs.Names.{key_of}
 use Rattle.desk_terms.specs.declared.refusal.Refusal.{Refusal}
 use Rattle.desk_terms.specs.declared.refusal.Refusal.TheVariants as refusal
 use Rattle.desk_words.specs.declared.request.Request.{Request}
 use Rattle.desk_bodies.specs.declared.route.Route.{Route}
-use Rattle.desk_bodies.specs.Answers.{◌>>=◌, readable}
+use Rattle.desk_bodies.specs.Answers.{readable}
 use Rattle.desk_bodies.specs.Reads as reads
-use Rattle.desk_bodies.specs.Requests.{asked}
+use Rattle.desk_bodies.specs.Requests.{asked_on_route}
 use Rattle.desk_heads.specs.Fields.{only_value}
 use Rattle.desk_heads.specs.Heads.{Asked}
 use Rattle.desk_heads.specs.Length.{body_length}
@@ -23,8 +24,8 @@ abbrev pub key_name : List ℕ
 key_name = codes "desk-key"
 
 -- the key: the value of the one field `Desk-Key`, if it has the form of a key
-unfoldable pub key_in : Asked → Option (List ℕ)
-key_in head = reads.◌>>=◌ (only_value key_name head.fields) key_of
+unfoldable pub key_of_head : Asked → Option (List ℕ)
+key_of_head head = reads.◌>>=◌ (only_value key_name head.fields) key_of
 
 -- the route, if it has this method
 abbrev pub by_method : List ℕ → Route → Result Route Refusal
@@ -57,7 +58,7 @@ front_of size bytes = if nat_le size (length bytes) then Some (take size bytes) 
 unfoldable pub request_by : Route → ℕ → List ℕ → Result Request Refusal
 request_by route size behind = do
   body ← readable (front_of size behind)
-  readable (asked route body)
+  readable (asked_on_route route body)
 
 -- what a head asks, with the bytes behind it
 unfoldable pub request_in : Asked → List ℕ → Result Request Refusal

@@ -6,12 +6,12 @@ use Rattle.desk_terms.specs.declared.refusal.Refusal.TheVariants as refusal
 use Rattle.desk_words.specs.declared.request.Request.{Request}
 use Rattle.desk_bodies.specs.declared.ask.Ask.{Ask}
 use Rattle.desk_bodies.specs.declared.ask.Ask.TheVariants as ask
-use Rattle.desk_heads.specs.Heads.{Asked, HasHead, IsFront, asked_in}
+use Rattle.desk_heads.specs.Heads.{Asked, HasHead, IsFront, asked_of_head}
 use Rattle.desk_heads.specs.declared.front.Front.{Front}
 use Rattle.desk_heads.specs.declared.front.Front.TheVariants as front
 use Rattle.desk_heads.specs.declared.front.TheConstants.{MOST_FIELDS}
 use Rattle.httparse.specs.Grammar.{RequestHead}
-use Rattle.desk_requests.specs.Asked.{front_of, key_in, request_in}
+use Rattle.desk_requests.specs.Asked.{front_of, key_of_head, request_in}
 use Rattle.desk_requests.specs.declared.received.Received.{Received}
 use Rattle.desk_requests.specs.declared.received.Received.TheVariants.{Refused, With}
 use Rattle.desk_requests.specs.declared.received.Unheard.{Unheard}
@@ -40,14 +40,14 @@ IsWith (Some key) said received =
     (heard : Result Request Unheard) × (received ≡ With key heard) × Hears said heard
 
 -- what a head asks with the bytes behind it
-abbrev pub Asks : Asked → List ℕ → Received → Type 0
-Asks head behind received = IsWith (key_in head) (request_in head behind) received
+abbrev pub HeadAsks : Asked → List ℕ → Received → Type 0
+HeadAsks head behind received = IsWith (key_of_head head) (request_in head behind) received
 
 -- what is asked where an input has that front
 abbrev pub SpellsAt : Front → List ℕ → Received → Type 0
 SpellsAt front.Whole input received =
     (head : RequestHead) × (behind : List ℕ) × HasHead input head behind
-    × (length head.fields ≤ MOST_FIELDS) × Asks (asked_in head) behind received
+    × (length head.fields ≤ MOST_FIELDS) × HeadAsks (asked_of_head head) behind received
 SpellsAt front.TooLarge input received =
     IsFront front.TooLarge input × (received ≡ Refused refusal.TooLarge)
 SpellsAt front.Unreadable input received =

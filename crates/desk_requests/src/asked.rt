@@ -2,7 +2,7 @@
 ghost use Rattle.std.specs.Prelude.{◌≡◌, ◌≤◌, IfOk};
 ghost use Rattle.desk_heads.specs.Length.{body_length};
 ghost use Rattle.desk_heads.specs.declared.length.TheConstants.{LONGEST_BODY};
-ghost use Rattle.desk_requests.specs.Asked.{by_method, key_in, route_in, size_of, way_in};
+ghost use Rattle.desk_requests.specs.Asked.{by_method, key_of_head, route_in, size_of, way_in};
 
 use desk_bodies::Route;
 use desk_heads::{BodyLength, HeadReader};
@@ -17,9 +17,9 @@ pub(crate) struct Way {
 }
 
 /// The key, where the head has one field of its name, and the value has the form of a key.
-#[tactic(auto, unfolding(crate::specs::Asked::key_in))]
+#[tactic(auto, unfolding(crate::specs::Asked::key_of_head))]
 pub(crate) fn key_in(head: &HeadReader) -> Option<SecretKey>
-    ensures { result ≡ key_in head.now.asked }
+    ensures { result ≡ key_of_head head.now.asked }
 {
     let value = head.value_of(b"desk-key")?;
     read_key(value)

@@ -1,12 +1,12 @@
 //! A request, read from a source.
 ghost use Rattle.std.specs.Prelude.{◌≡◌, ◌++◌, ◌+◌, ◌≤◌, ℕ, List, true, false, length, IfOk, OnErr};
 ghost use Rattle.desk_bodies.specs.Answers.{readable};
-ghost use Rattle.desk_bodies.specs.Requests.{asked};
+ghost use Rattle.desk_bodies.specs.Requests.{asked_on_route};
 ghost use Rattle.desk_devices.specs.Counts.{one_more};
 ghost use Rattle.desk_heads.specs.declared.front.TheConstants.{LONGEST_HEAD};
 ghost use Rattle.desk_heads.specs.declared.length.TheConstants.{LONGEST_BODY};
 ghost use Rattle.desk_requests.specs.Asked.{request_by, request_in};
-ghost use Rattle.desk_requests.specs.Received.{Asks, Came, Hears, IsBody, Spells, is_cut_off, is_unheard};
+ghost use Rattle.desk_requests.specs.Received.{HeadAsks, Came, Hears, IsBody, Spells, is_cut_off, is_unheard};
 
 use crate::asked::{Way, key_in, way_in};
 use crate::body::read_body;
@@ -19,7 +19,7 @@ use std::alloc::Global;
 
 /// What is asked on a route by a whole body.
 fn asked(alloc: Global, route: Route, body: &[u8]) -> Result<Request, Unheard>
-    ensures asked { Hears (readable (asked route body.now)) result }
+    ensures asked { Hears (readable (asked_on_route route body.now)) result }
     ensures heard { is_unheard result ≡ false }
 {
     Ok(route.request(alloc, body)?)
@@ -85,7 +85,7 @@ fn request_in<S: Source>(
 /// What a head asks, with the bytes behind it.
 fn received<S: Source>(alloc: Global, head: &HeadReader, source: &mut S) -> Received
     ensures came { Came
-        (λ bytes. Asks head.now.asked (head.now.rest ++ bytes) result)
+        (λ bytes. HeadAsks head.now.asked (head.now.rest ++ bytes) result)
         LONGEST_BODY
         (S.remaining source.old) (S.remaining source.new)
         (S.passed source.old) (S.passed source.new) }

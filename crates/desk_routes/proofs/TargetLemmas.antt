@@ -11,7 +11,7 @@ use Rattle.std.proofs.lemmas.Slice.Eq.{bytes_eq-Decides}
 use Rattle.std.specs.List.{list_all, position_or_len, starts_with}
 use Rattle.std.specs.Prelude.{nat_eq, nat_le, nat_lt, option_map, ◌&&◌}
 use Rattle.desk_terms.specs.Names.{in_places, is_name, is_name_letter, name_if}
-use Rattle.desk_bodies.specs.Reads.{◌>>=◌}
+use Rattle.desk_terms.specs.Options.{◌>>=◌}
 use Rattle.desk_bodies.specs.Routes.{route_by, route_of, unnamed}
 use Rattle.desk_bodies.specs.Verbs.{verb_of}
 use Rattle.desk_bodies.specs.declared.route.Route.{Route}
@@ -20,7 +20,7 @@ use Rattle.desk_bodies.specs.declared.verb.OfficeVerb.TheVariants.{Register}
 use Rattle.desk_bodies.specs.declared.verb.Verb.{Verb}
 use Rattle.desk_bodies.specs.declared.verb.Verb.TheVariants.{Call, Closed, Keys, Office, Party}
 use Rattle.desk_routes.specs.Laws.{target_of}
-use Rattle.desk_routes.specs.Targets.{behind_root, is_slash, parted, served, target_route}
+use Rattle.desk_routes.specs.Targets.{behind_root, is_slash, at_first_slash, served, target_route}
 
 -- ---- what names a route is spelled so
 
@@ -38,7 +38,7 @@ root_stands target rest e = by (starts_with nat_eq target (codes "/m/")) refl e
         sym (take-append-drop 3 target) ∙ ap (λ t. t ++ drop 3 target) (sym front) ∙ ap (λ r. codes "/m/" ++ r) same
     by false is e = cc
 
-slash_stands : (bytes : List ℕ) (parts : List ℕ × List ℕ) → parted bytes ≡ Some parts → bytes ≡ parts.0 ++ (codes "/" ++ parts.1)
+slash_stands : (bytes : List ℕ) (parts : List ℕ × List ℕ) → at_first_slash bytes ≡ Some parts → bytes ≡ parts.0 ++ (codes "/" ++ parts.1)
 slash_stands bytes parts e = by (nat_lt (position_or_len is_slash bytes) (length bytes)) refl e
   where
     by : (b : Bool) → nat_lt (position_or_len is_slash bytes) (length bytes) ≡ b
@@ -65,7 +65,7 @@ pub no_other : (target : List ℕ) (way : Route) → target_route target ≡ Som
 unfolding target_route
 no_other target way e =
     let root = step_of (behind_root target) _ way e in
-    let parts = step_of (parted root.0) _ way root.2 in
+    let parts = step_of (at_first_slash root.0) _ way root.2 in
     let routed = step_of (route_of parts.0.0 parts.0.1) _ way parts.2 in
     let same : routed.0 ≡ way = served_same routed.0 way routed.2 in (
       parts.0.0,
@@ -94,7 +94,7 @@ no_slash name named k within = by (is_slash (get_or name k 0)) refl
         let all : list_all is_name_letter name ≡ true = letters_all (nat_le 1 (length name)) (nat_le (length name) 16) _ named in
         absurd (cc)
 
-parted_at : (name verb : List ℕ) → is_name name ≡ true → parted (name ++ (codes "/" ++ verb)) ≡ Some (name, verb)
+parted_at : (name verb : List ℕ) → is_name name ≡ true → at_first_slash (name ++ (codes "/" ++ verb)) ≡ Some (name, verb)
 parted_at name verb named =
     let bytes = name ++ (codes "/" ++ verb) in
     let long : length bytes ≡ length name + length (codes "/" ++ verb) = length-append name (codes "/" ++ verb) in

@@ -14,8 +14,8 @@ abbrev pub RulesConflict : Type 0
 RulesConflict = (refusal : Refusal) → 8 ≤ number_of refusal → refusal_status refusal ≡ 409
 
 -- what is accepted with a body of 133 bytes, letter for letter
-abbrev pub RepliesAreSpelled : Type 0
-RepliesAreSpelled =
+abbrev pub ResponseIsSpelled : Type 0
+ResponseIsSpelled =
     (body : List ℕ)
     → length body ≡ 133
     → reply_text 200 body

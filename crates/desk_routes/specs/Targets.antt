@@ -4,7 +4,7 @@ use Rattle.std.specs.List.{starts_with}
 use Rattle.desk_bodies.specs.declared.route.Route.{Route}
 use Rattle.desk_bodies.specs.declared.route.Route.TheVariants.{Closed, Keys, Office}
 use Rattle.desk_bodies.specs.declared.verb.OfficeVerb.TheVariants.{Register}
-use Rattle.desk_bodies.specs.Reads.{◌>>=◌}
+use Rattle.desk_terms.specs.Options.{◌>>=◌}
 use Rattle.desk_bodies.specs.Routes.{route_of}
 
 -- what stands behind `/m/`, if the target begins so
@@ -16,8 +16,8 @@ abbrev pub is_slash : ℕ → Bool
 is_slash byte = byte == 47
 
 -- what stands before the first slash, and what stands behind it
-abbrev pub parted : List ℕ → Option (List ℕ × List ℕ)
-parted bytes =
+abbrev pub at_first_slash : List ℕ → Option (List ℕ × List ℕ)
+at_first_slash bytes =
     option_map (λ place. (take place bytes, drop (place + 1) bytes)) (position is_slash bytes)
 
 -- the route, if it is one over HTTP; registers, closed days and keys are not loaded there
@@ -31,6 +31,6 @@ served other = Some other
 unfoldable pub target_route : List ℕ → Option Route
 target_route target = do
   rest ← behind_root target
-  parts ← parted rest
+  parts ← at_first_slash rest
   route ← route_of parts.0 parts.1
   served route

@@ -1,5 +1,5 @@
 //! Laws of what is asked and answered over HTTP.
-ghost use Rattle.desk_routes.specs.Laws.{RulesConflict, RepliesAreSpelled, TargetsAreSpelled, TargetsAreToldApart};
+ghost use Rattle.desk_routes.specs.Laws.{RulesConflict, ResponseIsSpelled, TargetsAreSpelled, TargetsAreToldApart};
 
 /// What a rule of the office refuses is a conflict.
 pub fn rules_conflict()
@@ -8,7 +8,7 @@ pub fn rules_conflict()
 
 /// The text of a reply, letter for letter.
 pub fn replies_are_spelled()
-    ensures { RepliesAreSpelled }
+    ensures { ResponseIsSpelled }
 {}
 
 /// A target names a route where it is `/m/`, a meeting, a slash and a verb, and there alone.

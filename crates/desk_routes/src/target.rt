@@ -1,6 +1,6 @@
 //! Targets of requests, and the routes that they name.
 ghost use Rattle.std.specs.Prelude.{◌≡◌, ◌<◌, length, position, option_map, IfSome};
-ghost use Rattle.desk_routes.specs.Targets.{behind_root, is_slash, parted, served, target_route};
+ghost use Rattle.desk_routes.specs.Targets.{behind_root, is_slash, at_first_slash, served, target_route};
 
 use desk_bodies::{OfficeVerb, Route, route_of};
 
@@ -21,7 +21,7 @@ fn first_slash(bytes: &[u8]) -> Option<usize>
 
 /// What stands before the first slash, and what stands behind it.
 fn parted(bytes: &[u8]) -> Option<(&[u8], &[u8])>
-    ensures { option_map (λ parts. (parts.0.now, parts.1.now)) result ≡ parted bytes.now }
+    ensures { option_map (λ parts. (parts.0.now, parts.1.now)) result ≡ at_first_slash bytes.now }
 {
     let slash = first_slash(bytes)?;
     Some((&bytes[..slash], &bytes[slash + 1..]))

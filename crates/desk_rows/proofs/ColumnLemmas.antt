@@ -23,7 +23,7 @@ use Rattle.desk_terms.specs.declared.kinds.Way.TheVariants as way
 use Rattle.sqlite.specs.declared.types.Value.TheVariants.{Null, Text}
 use Rattle.desk_words.specs.declared.records.CastKind.TheVariants.{AsInstructed}
 use Rattle.desk_rows.specs.Marks.{cast_kind_of, instructed_word}
-use Rattle.desk_rows.specs.Columns.{string_of, natural_of, unix_day, moment_of, plain_text_of, read_word}
+use Rattle.desk_rows.specs.Columns.{string_of, natural_of, unix_day, moment_of_number, plain_text_of, read_word}
 
 -- a text is itself
 pub string_is : (bytes : List ℕ) → IsUtf8 bytes → string_of bytes ≡ Some bytes
@@ -45,7 +45,7 @@ back n k = omega (arith, ints)
 pub day_kept : (n : ℕ) → n ≤ 401766 → unix_day (pos n -ℤ pos 25567) ≡ Some n
 day_kept n h = rw (back n 25567, shifted n 0 401766 h) refl
 
-pub moment_kept : (n : ℕ) → n ≤ 34712668799 → moment_of (pos n -ℤ pos 2208988800) ≡ Some n
+pub moment_kept : (n : ℕ) → n ≤ 34712668799 → moment_of_number (pos n -ℤ pos 2208988800) ≡ Some n
 moment_kept n h = rw (back n 2208988800, shifted n 0 34712668799 h) refl
 
 pub number_kept : (n : ℕ) (z : ℤ) → z ≡ pos n → natural_of z ≡ Some n

@@ -2,9 +2,9 @@
 use Rattle.std.proofs.Common.{◌≡◌, List, [], ◌∷◌, map, Some, refl}
 use Rattle.desk_terms.specs.declared.kinds.Instr.{Instr}
 use Rattle.desk_terms.specs.declared.kinds.Instr.TheVariants.{For, Against, Withheld, Free}
-use Rattle.desk_rows.specs.Instructions.{instruction_letter, instruction_of, instructions_of}
+use Rattle.desk_rows.specs.Instructions.{instruction_letter, instruction_of_letter, instructions_of}
 
-letter_read : (x : Instr) → instruction_of (instruction_letter x) ≡ Some x
+letter_read : (x : Instr) → instruction_of_letter (instruction_letter x) ≡ Some x
 letter_read For = refl
 letter_read Against = refl
 letter_read Withheld = refl

@@ -1,6 +1,6 @@
 -- What is read of parts.
 use Rattle.std.proofs.Common.{◌≡◌, Option, Some, None, refl, ap}
-use Rattle.desk_rows.specs.Meanings.{◌>>=◌}
+use Rattle.desk_terms.specs.Options.{◌>>=◌}
 
 -- a reading that gives something is made of two that do
 pub bound : {A B : Type 0} (o : Option A) (next : A → Option B) (x : B) → (o >>= next) ≡ Some x → (a : A) × (o ≡ Some a) × (next a ≡ Some x)

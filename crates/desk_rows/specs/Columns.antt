@@ -5,7 +5,7 @@ use Rattle.sqlite.specs.declared.types.Value.{Value}
 use Rattle.sqlite.specs.declared.types.Value.TheVariants.{Null, Int, Real, Text, Blob}
 use Rattle.sqlite.specs.Order.{Row, column}
 use Rattle.desk_terms.specs.Texts.{is_plain_text}
-use Rattle.desk_rows.specs.Meanings.{◌>>=◌}
+use Rattle.desk_terms.specs.Options.{◌>>=◌}
 
 -- the bytes of a text
 abbrev pub bytes_of : Value → Option (List ℕ)
@@ -82,8 +82,8 @@ unix_day n = natural_of (n +ℤ pos 25567) >>= up_to 401766
 
 -- the moment of a number of seconds since 1970-01-01T00:00:00, which is 2208988800 seconds after
 -- 1900-01-01T00:00:00
-abbrev pub moment_of : ℤ → Option ℕ
-moment_of n = natural_of (n +ℤ pos 2208988800) >>= up_to 34712668799
+abbrev pub moment_of_number : ℤ → Option ℕ
+moment_of_number n = natural_of (n +ℤ pos 2208988800) >>= up_to 34712668799
 
 -- the day in a column
 unfoldable pub day_in : Row → ℕ → Option ℕ
@@ -91,12 +91,12 @@ day_in row at = integer_of (column row at) >>= unix_day
 
 -- the moment in a column
 unfoldable pub moment_in : Row → ℕ → Option ℕ
-moment_in row at = integer_of (column row at) >>= moment_of
+moment_in row at = integer_of (column row at) >>= moment_of_number
 
 -- the moment in a column, or none where it is NULL
 abbrev pub some_moment_of : Value → Option (Option ℕ)
 some_moment_of Null = Some None
-some_moment_of (Int n) = moment_of n >>= λ moment. Some (Some moment)
+some_moment_of (Int n) = moment_of_number n >>= λ moment. Some (Some moment)
 some_moment_of (Real x) = None
 some_moment_of (Text bytes) = None
 some_moment_of (Blob bytes) = None

@@ -2,7 +2,7 @@
 use Rattle.std.specs.Prelude.{ℕ, ◌==◌, List, [], ◌∷◌, Option, Some, None, if◌then◌else◌}
 use Rattle.desk_terms.specs.declared.kinds.Instr.{Instr}
 use Rattle.desk_terms.specs.declared.kinds.Instr.TheVariants.{For, Against, Withheld, Free}
-use Rattle.desk_rows.specs.Meanings.{◌>>=◌}
+use Rattle.desk_terms.specs.Options.{◌>>=◌}
 
 -- the letter of an instruction: F, A, W, or - where it is free
 abbrev pub instruction_letter : Instr → ℕ
@@ -12,8 +12,8 @@ instruction_letter Withheld = 87
 instruction_letter Free = 45
 
 -- the instruction of a letter
-abbrev pub instruction_of : ℕ → Option Instr
-instruction_of letter =
+abbrev pub instruction_of_letter : ℕ → Option Instr
+instruction_of_letter letter =
     if letter == 70 then Some For
     else if letter == 65 then Some Against
     else if letter == 87 then Some Withheld
@@ -24,6 +24,6 @@ instruction_of letter =
 abbrev pub instructions_of : List ℕ → Option (List Instr)
 instructions_of [] = Some []
 instructions_of (letter ∷ letters) = do
-  first ← instruction_of letter
+  first ← instruction_of_letter letter
   rest ← instructions_of letters
   Some (first ∷ rest)

@@ -14,7 +14,7 @@ use Rattle.desk_words.specs.declared.records.CastKind.{CastKind}
 use Rattle.desk_words.specs.declared.records.CastKind.TheVariants as kind
 use Rattle.desk_words.specs.declared.records.CastMark.{CastMark}
 use Rattle.desk_rows.specs.declared.kept.InMeeting.{InMeeting}
-use Rattle.desk_rows.specs.Meanings.{◌>>=◌}
+use Rattle.desk_terms.specs.Options.{◌>>=◌}
 use Rattle.desk_rows.specs.Columns.{spelled, spelled_of, worded_of, number_in, natural_value, flag_in, moment_in, some_moment_in, is_null}
 
 -- a party that is present at a meeting: meeting, party, moment (section 318)
@@ -39,8 +39,8 @@ demand_mark_in cells = do
       })
 
 -- the count in four columns, of which none is NULL
-abbrev pub tally_of : Value → Value → Value → Value → Option Tally
-tally_of a b c d = do
+abbrev pub tally_from : Value → Value → Value → Value → Option Tally
+tally_from a b c d = do
   votes_for ← natural_value a
   votes_against ← natural_value b
   withheld ← natural_value c
@@ -64,7 +64,7 @@ abbrev pub declared_of : Value → Value → Value → Value → Option (Option 
 declared_of a b c d =
     if is_null a && is_null b && is_null c && is_null d
     then Some None
-    else tally_of a b c d >>= λ tally. Some (Some tally)
+    else tally_from a b c d >>= λ tally. Some (Some tally)
 
 -- the count that is declared, in the four columns from a place on
 unfoldable pub declared_in : Row → ℕ → Option (Option Tally)

@@ -1,5 +1,6 @@
 -- What rows mean: a thing, or nothing.
 use Rattle.std.specs.Prelude.{◌≡◌, List, [], ◌∷◌, Option, Some, None, Result, Ok, Err, Bool, true, false}
+use Rattle.desk_terms.specs.Options.{◌>>=◌}
 use Rattle.sqlite.specs.Order.{Row}
 use Rattle.desk_rows.specs.declared.fault.RowFault.{RowFault}
 use Rattle.desk_rows.specs.declared.fault.RowFault.TheVariants.{Unreadable, Memory}
@@ -19,21 +20,6 @@ Gives seen (Err fault) meaning = IsFault fault meaning
 abbrev pub Reads : {X Y : Type 0} → (X → Y) → Result X RowFault → Option Y → Type 0
 Reads seen (Ok x) meaning = meaning ≡ Some (seen x)
 Reads seen (Err fault) meaning = (fault ≡ Unreadable) × (meaning ≡ None)
-
--- as it is
-abbrev pub itself : {X : Type 0} → X → X
-itself x = x
-
--- one reading after another, up to the first that gives nothing
-infixl 10 ◌>>=◌
-abbrev pub ◌>>=◌ : {A B : Type 0} → Option A → (A → Option B) → Option B
-(Some x) >>= next = next x
-None >>= next = None
-
--- nothing where the test fails
-abbrev pub only : Bool → Option (Unit {0})
-only true = Some tt
-only false = None
 
 -- what each row means, or nothing where one of them means nothing
 abbrev pub all_mean : {A : Type 0} → (Row → Option A) → List Row → Option (List A)

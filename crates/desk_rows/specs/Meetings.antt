@@ -7,7 +7,7 @@ use Rattle.desk_words.specs.declared.records.RegisterRow.{RegisterRow}
 use Rattle.desk_rows.specs.declared.kept.InMeeting.{InMeeting}
 use Rattle.desk_rows.specs.declared.kept.MeetingRow.{MeetingRow}
 use Rattle.desk_rows.specs.declared.kept.NumberedResolution.{NumberedResolution}
-use Rattle.desk_rows.specs.Meanings.{◌>>=◌}
+use Rattle.desk_terms.specs.Options.{◌>>=◌}
 use Rattle.desk_rows.specs.Columns.{spelled, worded, number_in, flag_in, day_in, moment_in, some_moment_in, plain_text_of}
 
 -- a meeting: its name, company, kind, the day of the notice, the appointed time, the moment as of

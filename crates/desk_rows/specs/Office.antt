@@ -5,7 +5,7 @@ use Rattle.desk_terms.specs.Names.{key_of}
 use Rattle.desk_words.specs.Callers.{caller_of}
 use Rattle.desk_words.specs.declared.caller.KeyRow.{KeyRow}
 use Rattle.desk_rows.specs.declared.kept.Version.{Version}
-use Rattle.desk_rows.specs.Meanings.{◌>>=◌, only}
+use Rattle.desk_terms.specs.Options.{◌>>=◌, only}
 use Rattle.desk_rows.specs.Columns.{spelled, number_in, day_in}
 
 -- the version of the tables, in the one row of its table

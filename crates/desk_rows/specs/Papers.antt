@@ -7,7 +7,7 @@ use Rattle.desk_words.specs.declared.records.Appointment.{Appointment}
 use Rattle.desk_words.specs.declared.records.Ending.{Ending}
 use Rattle.desk_words.specs.declared.records.Authority.{Authority}
 use Rattle.desk_rows.specs.declared.kept.InMeeting.{InMeeting}
-use Rattle.desk_rows.specs.Meanings.{◌>>=◌}
+use Rattle.desk_terms.specs.Options.{◌>>=◌}
 use Rattle.desk_rows.specs.Columns.{spelled, number_in, moment_in}
 use Rattle.desk_rows.specs.Instructions.{instructions_of}
 

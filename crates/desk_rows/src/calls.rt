@@ -1,8 +1,9 @@
 //! Rows of meetings, of their resolutions and of their registers.
 ghost use Rattle.std.specs.Prelude.{◌≡◌, Err, IsSome};
+ghost use Rattle.desk_terms.specs.Itself.{itself};
 ghost use Rattle.desk_rows.specs.Columns.{plain_text_of, worded};
 ghost use Rattle.desk_rows.specs.declared.fault.RowFault.TheVariants.{Memory};
-ghost use Rattle.desk_rows.specs.Meanings.{Gives, Reads, itself};
+ghost use Rattle.desk_rows.specs.Meanings.{Gives, Reads};
 ghost use Rattle.desk_rows.specs.Meetings.{meeting_in, resolution_in, holding_in};
 
 use crate::column::{

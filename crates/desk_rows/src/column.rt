@@ -1,13 +1,14 @@
 //! What stands in a column of a row.
 ghost use Rattle.std.specs.Prelude.{◌≡◌, ℤ, Option, Some, IfSome, IsSome, Err, ◌+ℤ◌, pos};
+ghost use Rattle.desk_terms.specs.Itself.{itself};
 ghost use Rattle.sqlite.specs.Order.{column};
 ghost use Rattle.sqlite.specs.Value.{owned};
 ghost use Rattle.desk_terms.specs.Kinds.{company_of, meeting_kind_of, resolution_kind_of, holder_kind_of, capacity_of, way_of};
 ghost use Rattle.desk_terms.specs.Names.{party_of, meeting_of, key_of};
 ghost use Rattle.desk_words.specs.Callers.{caller_of};
 ghost use Rattle.desk_rows.specs.declared.fault.RowFault.TheVariants.{Memory};
-ghost use Rattle.desk_rows.specs.Meanings.{Gives, Reads, itself};
-ghost use Rattle.desk_rows.specs.Columns.{bytes_of, integer_of, natural_of, string_of, flag_of, word_of, plain_text_of, unix_day, moment_of, some_moment_of, is_null, spelled, worded, number_in, flag_in, day_in, moment_in, some_moment_in};
+ghost use Rattle.desk_rows.specs.Meanings.{Gives, Reads};
+ghost use Rattle.desk_rows.specs.Columns.{bytes_of, integer_of, natural_of, string_of, flag_of, word_of, plain_text_of, unix_day, moment_of_number, some_moment_of, is_null, spelled, worded, number_in, flag_in, day_in, moment_in, some_moment_in};
 
 use crate::fault::RowFault;
 use desk_words::{
@@ -109,7 +110,7 @@ fn day_of(days: i64) -> Result<Day, RowFault>
 }
 
 fn moment_of(seconds: i64) -> Result<Moment, RowFault>
-    ensures { Reads itself result (moment_of seconds) }
+    ensures { Reads itself result (moment_of_number seconds) }
 {
     let since_1900 = seconds
         .checked_add(UNIX_SECOND)

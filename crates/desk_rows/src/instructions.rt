@@ -1,7 +1,8 @@
 //! Instructions as letters, one for each resolution (section 324A).
 ghost use Rattle.std.specs.Prelude.{◌≡◌, IfOk, Some, map, string_bytes};
-ghost use Rattle.desk_rows.specs.Meanings.{Gives, Reads, itself};
-ghost use Rattle.desk_rows.specs.Instructions.{instruction_letter, instruction_of, instructions_of};
+ghost use Rattle.desk_terms.specs.Itself.{itself};
+ghost use Rattle.desk_rows.specs.Meanings.{Gives, Reads};
+ghost use Rattle.desk_rows.specs.Instructions.{instruction_letter, instruction_of_letter, instructions_of};
 
 use crate::fault::RowFault;
 use desk_words::{Instr, Listing};
@@ -33,7 +34,7 @@ pub fn letters_of(alloc: Global, instructions: &[Instr]) -> Result<String, Alloc
 }
 
 fn instruction(letter: u8) -> Result<Instr, RowFault>
-    ensures { Reads itself result (instruction_of letter) }
+    ensures { Reads itself result (instruction_of_letter letter) }
 {
     match letter {
         b'F' => Ok(Instr::For),

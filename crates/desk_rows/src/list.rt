@@ -1,7 +1,8 @@
 //! What the rows of a table mean, row by row.
 ghost use Rattle.std.specs.Prelude.{◌≡◌, Option};
+ghost use Rattle.desk_terms.specs.Itself.{itself};
 ghost use Rattle.sqlite.specs.Order.{Row as Values};
-ghost use Rattle.desk_rows.specs.Meanings.{Gives, itself, all_mean};
+ghost use Rattle.desk_rows.specs.Meanings.{Gives, all_mean};
 
 use crate::fault::RowFault;
 use sqlite::Row;

@@ -1,8 +1,9 @@
 //! Rows of presences, demands, polls and casts.
 ghost use Rattle.std.specs.Prelude.{◌≡◌};
+ghost use Rattle.desk_terms.specs.Itself.{itself};
 ghost use Rattle.sqlite.specs.Order.{column};
-ghost use Rattle.desk_rows.specs.Meanings.{Reads, itself};
-ghost use Rattle.desk_rows.specs.Marks.{presence_in, demand_mark_in, tally_of, declared_in, poll_in, block_from, is_instructed, cast_kind_in, cast_in};
+ghost use Rattle.desk_rows.specs.Meanings.{Reads};
+ghost use Rattle.desk_rows.specs.Marks.{presence_in, demand_mark_in, tally_from, declared_in, poll_in, block_from, is_instructed, cast_kind_in, cast_in};
 
 use crate::column::{
     capacity_in, flag_in, is_null, meeting_in, moment_in, number_in, party_in, some_moment_in,
@@ -58,7 +59,7 @@ impl FromRow for InMeeting<DemandMark> {
 #[tactic(auto, unfolding(crate::specs::Columns::number_in))]
 fn tally_in(row: &Row) -> Result<Tally, RowFault>
     ensures { Reads itself result
-        (tally_of (column row.now 7) (column row.now 8) (column row.now 9) (column row.now 10)) }
+        (tally_from (column row.now 7) (column row.now 8) (column row.now 9) (column row.now 10)) }
 {
     let votes_for = number_in(row, 7)?;
     let votes_against = number_in(row, 8)?;

@@ -1,6 +1,7 @@
 //! Rows of the desk's version, the keys and the closed days.
 ghost use Rattle.std.specs.Prelude.{◌≡◌};
-ghost use Rattle.desk_rows.specs.Meanings.{Reads, itself};
+ghost use Rattle.desk_terms.specs.Itself.{itself};
+ghost use Rattle.desk_rows.specs.Meanings.{Reads};
 ghost use Rattle.desk_rows.specs.Office.{version_in, key_row_in, closed_in};
 
 use crate::column::{caller_in, day_in, key_in, number_in};

@@ -1,7 +1,8 @@
 //! Rows of appointments, endings and authorities.
 ghost use Rattle.std.specs.Prelude.{◌≡◌};
+ghost use Rattle.desk_terms.specs.Itself.{itself};
 ghost use Rattle.desk_terms.specs.Places.{range_of};
-ghost use Rattle.desk_rows.specs.Meanings.{Gives, Reads, itself};
+ghost use Rattle.desk_rows.specs.Meanings.{Gives, Reads};
 ghost use Rattle.desk_rows.specs.Columns.{spelled};
 ghost use Rattle.desk_rows.specs.Instructions.{instructions_of};
 ghost use Rattle.desk_rows.specs.Papers.{appointment_in, ending_in, authority_in};

@@ -6,7 +6,7 @@ ghost use Rattle.desk_terms.specs.Kinds.{company_of, meeting_kind_of, resolution
 ghost use Rattle.desk_terms.specs.Names.{party_of, meeting_of, key_of};
 ghost use Rattle.desk_terms.specs.Places.{range_of};
 ghost use Rattle.desk_words.specs.Callers.{caller_of};
-ghost use Rattle.desk_rows.specs.Columns.{unix_day, moment_of, some_moment_of, natural_of, plain_text_of, read_word};
+ghost use Rattle.desk_rows.specs.Columns.{unix_day, moment_of_number, some_moment_of, natural_of, plain_text_of, read_word};
 ghost use Rattle.desk_rows.specs.Marks.{HasTooHighFigure, declared_of, cast_kind_of};
 
 use desk_words::{
@@ -27,7 +27,7 @@ pub fn day_number(day: Day) -> i64
 /// The seconds since 1970-01-01T00:00:00.
 #[tactic(auto, using(crate::proofs::ColumnLemmas::moment_kept))]
 pub fn moment_number(moment: Moment) -> i64
-    ensures { moment_of result ≡ Some moment }
+    ensures { moment_of_number result ≡ Some moment }
 {
     // What a moment keeps is known once it is asked.
     let _ = moment.seconds();

@@ -105,20 +105,20 @@ abbrev pub opened_at : List ℕ → ℕ → MeetingRow → MeetingRow
 opened_at id moment m = if same_name m.id id then record m { opened = Some moment } else m
 
 -- the poll of a name: that on a resolution of a meeting
-abbrev pub is_named : PollName → InMeeting Poll → Bool
-is_named name p = same_name p.meeting name.meeting && (p.item.resolution == name.resolution)
+abbrev pub is_poll_named : PollName → InMeeting Poll → Bool
+is_poll_named name p = same_name p.meeting name.meeting && (p.item.resolution == name.resolution)
 
 -- the poll of a name started at a moment, and the others as they are
 abbrev pub started_at : PollName → ℕ → InMeeting Poll → InMeeting Poll
 started_at name moment p =
-    if is_named name p then record p { item = record p.item { started = Some moment } } else p
+    if is_poll_named name p then record p { item = record p.item { started = Some moment } } else p
 
 -- the poll of a name closed at a moment, and the others as they are
 abbrev pub closed_at : PollName → ℕ → InMeeting Poll → InMeeting Poll
 closed_at name moment p =
-    if is_named name p then record p { item = record p.item { closed = Some moment } } else p
+    if is_poll_named name p then record p { item = record p.item { closed = Some moment } } else p
 
 -- the poll of a name with a count declared, and the others as they are
 abbrev pub declared_as : PollName → Tally → InMeeting Poll → InMeeting Poll
 declared_as name tally p =
-    if is_named name p then record p { item = record p.item { declared = Some tally } } else p
+    if is_poll_named name p then record p { item = record p.item { declared = Some tally } } else p

@@ -3,11 +3,11 @@ use Rattle.std.proofs.Common.{◌≡◌, ◌⊎◌, inl, inr, ℕ, ◌+◌, ◌�
 use Rattle.sqlite.specs.State.{State, HasCleanDisk}
 use Rattle.desk_clocks.specs.Gives.{GaveInTurn}
 use Rattle.desk_records.specs.Standing.{Stands}
-use Rattle.desk_http.specs.Answers.{Makes, call_in, call_of}
+use Rattle.desk_http.specs.Answers.{MakesCall, call_received, call_of}
 use Rattle.desk_requests.specs.declared.received.Received.{Received}
 use Rattle.desk_requests.specs.declared.received.Received.TheVariants.{Refused, With}
 use Rattle.desk_requests.specs.declared.received.Unheard.{Unheard}
-use Rattle.desk_store.specs.Joins.{after_call}
+use Rattle.desk_store.specs.Joins.{office_after}
 use Rattle.desk_store.specs.Reads.{caller_with}
 use Rattle.desk_store.specs.Runs.{calls_in}
 use Rattle.desk_words.specs.Seen.{Moment}
@@ -84,7 +84,7 @@ heard-at now None heard = tt
 heard-at now (Some who) (Ok request) = refl
 heard-at now (Some who) (Err why) = tt
 
-received-at : (office : OfficeLists) (now : Moment) (received : Received) → IsMadeAt (call_in office now received) now
+received-at : (office : OfficeLists) (now : Moment) (received : Received) → IsMadeAt (call_received office now received) now
 received-at office now (Refused refusal) = tt
 received-at office now (With key heard) = heard-at now (caller_with office.keys key) heard
 
@@ -93,19 +93,19 @@ made-at now made call at (inl none) = subst (λ (c : Option Call). IsMadeAt c no
 made-at now made call at (inr same) = subst (λ (c : Option Call). IsMadeAt c now) (sym same) at
 
 -- a run of one call, or of none
-run-one : (office : OfficeLists) (made : Option Call) → after_call office made ≡ (run_of office (calls_in (made ∷ []))).office
+run-one : (office : OfficeLists) (made : Option Call) → office_after office made ≡ (run_of office (calls_in (made ∷ []))).office
 run-one office None = refl
 run-one office (Some call) = refl
 
 -- what is left of one request is left of a run at one moment
-pub ran-made : (now : Moment) (received : Received) (a b : State) → Makes (λ office. call_in office now received) a b → Ran (now ∷ []) a b
+pub ran-made : (now : Moment) (received : Received) (a b : State) → MakesCall (λ office. call_received office now received) a b → Ran (now ∷ []) a b
 ran-made now received a b makes = record {
   was_clean = makes.leaves.was_clean;
   was_open = makes.leaves.was_open;
   ended = makes.leaves.ended;
   stands = λ clean is_open office stands. (
     makes.made ∷ [],
-    (made-at now makes.made (call_in office now received) (received-at office now received) (makes.by clean office stands), tt),
+    (made-at now makes.made (call_received office now received) (received-at office now received) (makes.by clean office stands), tt),
     subst (λ (o : OfficeLists). Stands b o) (run-one office makes.made) (makes.leaves.stands clean is_open office stands),
   );
 }

@@ -5,6 +5,7 @@ use Rattle.std.specs.Cmp.{int_cmp_is}
 use Rattle.std.proofs.lemmas.Bool.{and_parts}
 use Rattle.std.proofs.lemmas.Bool.Decides.{nat_tests}
 use Rattle.std.proofs.lemmas.Int.{ints}
+use Rattle.desk_terms.specs.Options.{◌>>=◌}
 use Rattle.sqlite.specs.declared.types.Value.TheVariants.{Int}
 use Rattle.sqlite.specs.Order.{Row, value_cmp}
 use Rattle.sqlite.specs.Tree.{rowid}
@@ -12,7 +13,7 @@ use Rattle.sqlite.specs.Edit.{id_in}
 use Rattle.sqlite_value.proofs.OrderLemmas.{value_cmp-Int}
 use Rattle.sqlite_trees.specs.View.{is_int}
 use Rattle.desk_rows.specs.Columns.{integer_of, unix_day, up_to, natural_of, day_in}
-use Rattle.desk_rows.specs.Meanings.{all_mean, ◌>>=◌}
+use Rattle.desk_rows.specs.Meanings.{all_mean}
 use Rattle.desk_rows.specs.Office.{closed_in}
 use Rattle.desk_schema.specs.Statements.{TableOf, columns_of, IsRising}
 use Rattle.desk_schema.specs.Contents.{closed}

@@ -1,8 +1,9 @@
 -- What rows mean, where one is added.
 use Rattle.std.proofs.Common.{◌≡◌, List, [], ◌∷◌, ◌++◌, map, Option, Some, None, refl}
 use Rattle.std.proofs.lemmas.List.{map-append}
+use Rattle.desk_terms.specs.Options.{◌>>=◌}
 use Rattle.sqlite.specs.Order.{Row}
-use Rattle.desk_rows.specs.Meanings.{all_mean, ◌>>=◌}
+use Rattle.desk_rows.specs.Meanings.{all_mean}
 use Rattle.desk_schema.specs.Statements.{TableOf, columns_of}
 
 module _ {A : Type 0} (means : Row → Option A) where

@@ -18,7 +18,7 @@ use Rattle.desk_words.specs.declared.records.CastMark.{CastMark}
 use Rattle.desk_words.specs.Registers.{all_shares, is_holding, is_register, keep_limits, member_before}
 use Rattle.desk_words.specs.Office.{are_numbered_after, are_polls, implies, is_appointment, is_cast_on, is_declared_right, is_ending_of, is_poll, is_resolution, is_tally, no_rows, poll_before, same_demand, same_ending}
 use Rattle.desk_words.proofs.OfficeFacts.{meeting_facts}
-use Rattle.desk_statements.specs.Numbers.{OfficesAreKept, is_kept, is_tally_kept}
+use Rattle.desk_statements.specs.Numbers.{OfficesAreKept, fits_row, is_tally_kept}
 
 both_true : (a b : Bool) → a ≡ true → b ≡ true → (a && b) ≡ true
 both_true a b h k = rw (h, k) refl
@@ -36,11 +36,11 @@ from_any p q r (x ∷ xs) next some all = elim (cases_Bool (p x)) [
   | inr fails ↦ from_any p q r xs next (subst (λ b. (b || list_any p xs) ≡ true) fails some) (second_so (q x) (list_all q xs) all)
 ]
 
-kept_below : (n k : ℕ) → nat_le n k ≡ true → k < 2 ^ 63 → is_kept n ≡ true
+kept_below : (n k : ℕ) → nat_le n k ≡ true → k < 2 ^ 63 → fits_row n ≡ true
 kept_below n k h small = grind (arith, nat_tests)
 
-same_number : (m n : ℕ) → (m == n) ≡ true → is_kept m ≡ true → is_kept n ≡ true
-same_number m n h k = let same : m ≡ n = grind (arith, nat_tests) in subst (λ l. is_kept l ≡ true) same k
+same_number : (m n : ℕ) → (m == n) ≡ true → fits_row m ≡ true → fits_row n ≡ true
+same_number m n h k = let same : m ≡ n = grind (arith, nat_tests) in subst (λ l. fits_row l ≡ true) same k
 
 few_places : MOST_PLACES < 2 ^ 63
 few_places = omega arith
@@ -54,21 +54,21 @@ few_resolutions = omega arith
 few_appointments : MOST_APPOINTMENTS < 2 ^ 63
 few_appointments = omega arith
 
-holding : (row : RegisterRow) → is_holding row ≡ true → (is_kept row.shares && is_kept row.paid) ≡ true
+holding : (row : RegisterRow) → is_holding row ≡ true → (fits_row row.shares && fits_row row.paid) ≡ true
 holding row h =
     let shares = first_so (nat_le 1 row.shares && nat_le row.shares MOST_PLACES) (nat_le row.paid MOST_PENCE) h in
-    both_true (is_kept row.shares) (is_kept row.paid) (kept_below row.shares MOST_PLACES (second_so (nat_le 1 row.shares) (nat_le row.shares MOST_PLACES) shares) few_places)
+    both_true (fits_row row.shares) (fits_row row.paid) (kept_below row.shares MOST_PLACES (second_so (nat_le 1 row.shares) (nat_le row.shares MOST_PLACES) shares) few_places)
     (kept_below row.paid MOST_PENCE (second_so (nat_le 1 row.shares && nat_le row.shares MOST_PLACES) (nat_le row.paid MOST_PENCE) h) few_pence)
 
-rows_of : (loaded : Bool) (rows : List RegisterRow) → cond loaded (is_register rows) (no_rows rows) ≡ true → list_all (λ (row : RegisterRow). is_kept row.shares && is_kept row.paid) rows ≡ true
+rows_of : (loaded : Bool) (rows : List RegisterRow) → cond loaded (is_register rows) (no_rows rows) ≡ true → list_all (λ (row : RegisterRow). fits_row row.shares && fits_row row.paid) rows ≡ true
 rows_of true rows h =
     let limits = first_so (keep_limits rows) (ascends_by member_before rows) h in
     let each = first_so (nat_le 1 (length rows) && nat_le (length rows) MOST_ROWS && list_all is_holding rows) (nat_le (all_shares rows) MOST_SHARES) limits in
-    all_so is_holding (λ (row : RegisterRow). is_kept row.shares && is_kept row.paid) rows holding (second_so (nat_le 1 (length rows) && nat_le (length rows) MOST_ROWS) (list_all is_holding rows) each)
+    all_so is_holding (λ (row : RegisterRow). fits_row row.shares && fits_row row.paid) rows holding (second_so (nat_le 1 (length rows) && nat_le (length rows) MOST_ROWS) (list_all is_holding rows) each)
 rows_of false [] h = refl
 rows_of false (row ∷ rows) h = absurd (true≢false (sym h))
 
-resolution : (resolutions n : ℕ) → nat_le resolutions MOST_RESOLUTIONS ≡ true → is_resolution resolutions n ≡ true → is_kept n ≡ true
+resolution : (resolutions n : ℕ) → nat_le resolutions MOST_RESOLUTIONS ≡ true → is_resolution resolutions n ≡ true → fits_row n ≡ true
 resolution resolutions n few h =
     let up : nat_le n resolutions ≡ true = second_so (nat_le 1 n) (nat_le n resolutions) h in
     let both : nat_le n MOST_RESOLUTIONS ≡ true = grind (arith, nat_tests) in
@@ -91,27 +91,27 @@ declared : (t : Option Tally) → is_declared_right t ≡ true → is_tally_kept
 declared None h = refl
 declared (Some t) h = figures t h
 
-poll : (resolutions : ℕ) → nat_le resolutions MOST_RESOLUTIONS ≡ true → (p : Poll) → is_poll resolutions p ≡ true → (is_kept p.resolution && is_tally_kept p.declared) ≡ true
+poll : (resolutions : ℕ) → nat_le resolutions MOST_RESOLUTIONS ≡ true → (p : Poll) → is_poll resolutions p ≡ true → (fits_row p.resolution && is_tally_kept p.declared) ≡ true
 poll resolutions few p h =
     let a = is_resolution resolutions p.resolution in
     let b = implies (is_some p.closed) (is_some p.started) in
     let c = implies (is_some p.declared) (is_some p.closed) in
     let d = is_declared_right p.declared in
     let on : a ≡ true = first_so a b (first_so (a && b) c (first_so (a && b && c) d h)) in
-    both_true (is_kept p.resolution) (is_tally_kept p.declared) (resolution resolutions p.resolution few on) (declared p.declared (second_so (a && b && c) d h))
+    both_true (fits_row p.resolution) (is_tally_kept p.declared) (resolution resolutions p.resolution few on) (declared p.declared (second_so (a && b && c) d h))
 
-polls_are : (opened : Bool) (resolutions : ℕ) (ps : List Poll) → nat_le resolutions MOST_RESOLUTIONS ≡ true → are_polls opened resolutions ps ≡ true → list_all (λ (p : Poll). is_kept p.resolution && is_tally_kept p.declared) ps ≡ true
+polls_are : (opened : Bool) (resolutions : ℕ) (ps : List Poll) → nat_le resolutions MOST_RESOLUTIONS ≡ true → are_polls opened resolutions ps ≡ true → list_all (λ (p : Poll). fits_row p.resolution && is_tally_kept p.declared) ps ≡ true
 polls_are opened resolutions [] few h = refl
 polls_are opened resolutions (p ∷ ps) few h =
     let each = first_so (opened && list_all (is_poll resolutions) (p ∷ ps)) (ascends_by poll_before (p ∷ ps)) h in
-    all_so (is_poll resolutions) (λ (p : Poll). is_kept p.resolution && is_tally_kept p.declared) (p ∷ ps) (poll resolutions few) (second_so opened (list_all (is_poll resolutions) (p ∷ ps)) each)
+    all_so (is_poll resolutions) (λ (p : Poll). fits_row p.resolution && is_tally_kept p.declared) (p ∷ ps) (poll resolutions few) (second_so opened (list_all (is_poll resolutions) (p ∷ ps)) each)
 
 pub offices_are_kept : OfficesAreKept
 offices_are_kept m h =
     let f = meeting_facts m h in
     let n = length m.meeting.resolutions in
     let few : nat_le n MOST_RESOLUTIONS ≡ true = second_so (nat_le 1 n) (nat_le n MOST_RESOLUTIONS) f.resolutions in
-    let given = all_so (is_appointment n) (λ (a : Appointment). is_kept a.number) m.appointments (λ a is. kept_below a.number MOST_APPOINTMENTS (first_so (nat_le a.number MOST_APPOINTMENTS) (length a.instructions == n) is) few_appointments)
+    let given = all_so (is_appointment n) (λ (a : Appointment). fits_row a.number) m.appointments (λ a is. kept_below a.number MOST_APPOINTMENTS (first_so (nat_le a.number MOST_APPOINTMENTS) (length a.instructions == n) is) few_appointments)
     (second_so (are_numbered_after [] m.appointments) (list_all (is_appointment n) m.appointments) f.appointments) in
     let held = polls_are (is_some m.meeting.opened) n m.polls few f.polls in
     let ended = first_so (list_all (λ e. list_any (is_ending_of e) m.appointments) m.endings) (differ_by same_ending m.endings) f.endings in
@@ -120,14 +120,14 @@ offices_are_kept m h =
       resolutions = kept_below n MOST_RESOLUTIONS few few_resolutions;
       register = rows_of m.meeting.loaded m.register (first_so (cond m.meeting.loaded (is_register m.register) (no_rows m.register)) (implies (is_some m.meeting.opened) m.meeting.loaded) f.loaded);
       appointments = given;
-      endings = all_so (λ e. list_any (is_ending_of e) m.appointments) (λ (e : Ending). is_kept e.number) m.endings
-          (λ e some. from_any (is_ending_of e) (λ (a : Appointment). is_kept a.number) (is_kept e.number) m.appointments (λ a is kept. same_number a.number e.number (second_so (same_name a.member e.member) (a.number == e.number) is) kept) some given)
+      endings = all_so (λ e. list_any (is_ending_of e) m.appointments) (λ (e : Ending). fits_row e.number) m.endings
+          (λ e some. from_any (is_ending_of e) (λ (a : Appointment). fits_row a.number) (fits_row e.number) m.appointments (λ a is kept. same_number a.number e.number (second_so (same_name a.member e.member) (a.number == e.number) is) kept) some given)
           ended;
-      demands = all_so (λ (d : DemandMark). is_resolution n d.resolution) (λ (d : DemandMark). is_kept d.resolution) m.demands (λ d on. resolution n d.resolution few on)
+      demands = all_so (λ (d : DemandMark). is_resolution n d.resolution) (λ (d : DemandMark). fits_row d.resolution) m.demands (λ d on. resolution n d.resolution few on)
           (first_so (list_all (λ (d : DemandMark). is_resolution n d.resolution) m.demands) (differ_by same_demand m.demands) f.demands);
       polls = held;
-      casts = all_so (λ c. list_any (is_cast_on c) m.polls) (λ (c : CastMark). is_kept c.resolution) m.casts
-          (λ c some. from_any (is_cast_on c) (λ (p : Poll). is_kept p.resolution && is_tally_kept p.declared) (is_kept c.resolution) m.polls
-          (λ p is kept. same_number p.resolution c.resolution (first_so (p.resolution == c.resolution) (is_some p.started) is) (first_so (is_kept p.resolution) (is_tally_kept p.declared) kept)) some held)
+      casts = all_so (λ c. list_any (is_cast_on c) m.polls) (λ (c : CastMark). fits_row c.resolution) m.casts
+          (λ c some. from_any (is_cast_on c) (λ (p : Poll). fits_row p.resolution && is_tally_kept p.declared) (fits_row c.resolution) m.polls
+          (λ p is kept. same_number p.resolution c.resolution (first_so (p.resolution == c.resolution) (is_some p.started) is) (first_so (fits_row p.resolution) (is_tally_kept p.declared) kept)) some held)
           cast_each;
     }

@@ -22,9 +22,9 @@ use Rattle.desk_terms.specs.Names.{same_name, name_if, meeting_of, key_of, lette
 use Rattle.desk_terms.proofs.NameLemmas.{letters_of-in_places, letters_of_name, letters_of_key}
 use Rattle.desk_words.proofs.RowLemmas.{same_name-true, same_name-refl}
 use Rattle.desk_rows.specs.Columns.{spelled_of, worded_of, integer_of, natural_value, natural_of, some_moment_of, is_null}
-use Rattle.desk_rows.specs.Marks.{tally_of, declared_of}
+use Rattle.desk_rows.specs.Marks.{tally_from, declared_of}
 use Rattle.desk_words.specs.declared.records.Tally.{Tally}
-use Rattle.desk_rows.specs.Meanings.{◌>>=◌}
+use Rattle.desk_terms.specs.Options.{◌>>=◌}
 use Rattle.desk_rows.proofs.MeaningLemmas.{bound}
 use Rattle.desk_statements.proofs.Values.{cast_int, cast_null}
 
@@ -157,7 +157,7 @@ number_stays (Blob b) n h = absurd cc
 pub declared_stays : (a b c d : Value) (x : Option Tally) → declared_of a b c d ≡ Some x → (cast Integer a ≡ a) × (cast Integer b ≡ b) × (cast Integer c ≡ c) × (cast Integer d ≡ d)
 declared_stays a b c d x h = go (is_null a && is_null b && is_null c && is_null d) refl h
   where
-    go : (all : Bool) → (is_null a && is_null b && is_null c && is_null d) ≡ all → ◌≡◌ {A = Option (Option Tally)} (if all then Some None else tally_of a b c d >>= λ tally. Some (Some tally)) (Some x)
+    go : (all : Bool) → (is_null a && is_null b && is_null c && is_null d) ≡ all → ◌≡◌ {A = Option (Option Tally)} (if all then Some None else tally_from a b c d >>= λ tally. Some (Some tally)) (Some x)
         → (cast Integer a ≡ a) × (cast Integer b ≡ b) × (cast Integer c ≡ c) × (cast Integer d ≡ d)
     go true e t =
         let three = and_parts (is_null a && is_null b && is_null c) (is_null d) e in
@@ -165,7 +165,7 @@ declared_stays a b c d x h = go (is_null a && is_null b && is_null c && is_null 
         let one = and_parts (is_null a) (is_null b) two.0 in
         (null_stays a one.0, null_stays b one.1, null_stays c two.1, null_stays d three.1)
     go false e t =
-        let tally = bound (tally_of a b c d) (λ tally. Some (Some tally)) x t in
+        let tally = bound (tally_from a b c d) (λ tally. Some (Some tally)) x t in
         let first = bound (natural_value a) _ tally.0 tally.1 in
         let second = bound (natural_value b) _ tally.0 first.2 in
         let third = bound (natural_value c) _ tally.0 second.2 in

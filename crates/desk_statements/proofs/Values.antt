@@ -7,7 +7,7 @@ use Rattle.sqlite.specs.Kind.TheVariants.{Integer, Text}
 use Rattle.sqlite.specs.Cast.{cast}
 use Rattle.sqlite.specs.Ops.{unary}
 use Rattle.desk_rows.specs.Columns.{natural_value, flag_of}
-use Rattle.desk_rows.specs.Meanings.{◌>>=◌}
+use Rattle.desk_terms.specs.Options.{◌>>=◌}
 use Rattle.desk_statements.proofs.Writing.{either}
 
 pub cast_null : cast Integer Null ≡ Null

@@ -12,26 +12,26 @@ use Rattle.desk_words.specs.declared.records.CastMark.{CastMark}
 use Rattle.desk_words.specs.Office.{is_meeting}
 
 -- the number is at most 2^63 - 1, the highest that is kept
-abbrev pub is_kept : ℕ → Bool
-is_kept n = nat_lt n (2 ^ 63)
+abbrev pub fits_row : ℕ → Bool
+fits_row n = nat_lt n (2 ^ 63)
 
 -- each figure of what is declared is kept
 abbrev pub is_tally_kept : Option Tally → Bool
 is_tally_kept None = true
 is_tally_kept (Some t) =
-    is_kept t.votes_for && is_kept t.votes_against && is_kept t.withheld && is_kept t.eligible
+    fits_row t.votes_for && fits_row t.votes_against && fits_row t.withheld && fits_row t.eligible
 
 -- each number of the records of a meeting is kept
 pub record NumbersAreKept (m : MeetingLists) : Type 0 where
-  pub resolutions : IsTrue (is_kept (length m.meeting.resolutions))
+  pub resolutions : IsTrue (fits_row (length m.meeting.resolutions))
   pub register : IsTrue
-      (list_all (λ (row : RegisterRow). is_kept row.shares && is_kept row.paid) m.register)
-  pub appointments : IsTrue (list_all (λ (a : Appointment). is_kept a.number) m.appointments)
-  pub endings : IsTrue (list_all (λ (e : Ending). is_kept e.number) m.endings)
-  pub demands : IsTrue (list_all (λ (d : DemandMark). is_kept d.resolution) m.demands)
+      (list_all (λ (row : RegisterRow). fits_row row.shares && fits_row row.paid) m.register)
+  pub appointments : IsTrue (list_all (λ (a : Appointment). fits_row a.number) m.appointments)
+  pub endings : IsTrue (list_all (λ (e : Ending). fits_row e.number) m.endings)
+  pub demands : IsTrue (list_all (λ (d : DemandMark). fits_row d.resolution) m.demands)
   pub polls : IsTrue
-      (list_all (λ (p : Poll). is_kept p.resolution && is_tally_kept p.declared) m.polls)
-  pub casts : IsTrue (list_all (λ (c : CastMark). is_kept c.resolution) m.casts)
+      (list_all (λ (p : Poll). fits_row p.resolution && is_tally_kept p.declared) m.polls)
+  pub casts : IsTrue (list_all (λ (c : CastMark). fits_row c.resolution) m.casts)
 
 -- each number of the records of an office is kept
 abbrev pub OfficesAreKept : Type 0

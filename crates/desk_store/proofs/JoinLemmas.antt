@@ -18,7 +18,7 @@ use Rattle.desk_opening.proofs.CrashLemmas.{leaves_itself}
 use Rattle.desk_opening.proofs.OpeningLemmas.{desk_same}
 use Rattle.meeting_core.specs.Step.{stepped}
 use Rattle.office_lists.specs.declared.fault.ReadFault.{ReadFault}
-use Rattle.desk_store.specs.Joins.{AreAfter, IsAsItWas, Leaves, after_call, made_by}
+use Rattle.desk_store.specs.Joins.{AreAfter, IsAsItWas, Leaves, office_after, made_by}
 use Rattle.desk_store.specs.Reads.{IsTold}
 use Rattle.desk_store.proofs.KeepingLemmas.{stands_same}
 
@@ -68,12 +68,12 @@ module _ {S : Type 0} (g : store.Ghosts S) (a first b new : Held S) (begun : fir
   stands_begun office stands = stands_same (state g a) (state g first) office (ap (λ (it : Held S). (state g it).now) begun) stands
 
   pub committed : (made : Option Call) → (HasCleanDisk (state g new) → Shows (state g b) (state g new) (state g b).now (state g b).now false)
-      → (HasCleanDisk (state g b) → (office : OfficeLists) → Stands (state g first) office → Stands (state g b) (after_call office made)) → Leaves made (state g a) (state g new)
+      → (HasCleanDisk (state g b) → (office : OfficeLists) → Stands (state g first) office → Stands (state g b) (office_after office made)) → Leaves made (state g a) (state g new)
   committed made shows there = record {
     was_clean = desk_clean;
     was_open = λ clean is_open. desk_open (within.was_open (mid_clean clean) (shows clean).was_open);
     ended = ended;
-    stands = λ clean is_open office stands. stands_same (state g b) (state g new) (after_call office made) (shows clean).now_is (there (mid_clean clean) office (stands_begun office stands));
+    stands = λ clean is_open office stands. stands_same (state g b) (state g new) (office_after office made) (shows clean).now_is (there (mid_clean clean) office (stands_begun office stands));
   }
 
   -- the commit fails, of a transaction that has not ended

@@ -6,7 +6,7 @@ use Rattle.sqlite_trees.specs.declared.store.Store as store
 use Rattle.desk_words.specs.declared.office.OfficeLists.{OfficeLists}
 use Rattle.desk_words.specs.declared.request.Call.{Call}
 use Rattle.desk_records.specs.Standing.{Stands}
-use Rattle.desk_store.specs.Joins.{after_call}
+use Rattle.desk_store.specs.Joins.{office_after}
 use Rattle.desk_store.specs.Runs.{CallsAreARun, Leads, calls_in}
 use Rattle.meeting_core.specs.Step.{run_of}
 
@@ -21,7 +21,7 @@ module _ {S : Type 0} (g : store.Ghosts S) where
       leads.1.was_open (was_clean leads.0 new later leads.2 clean) (was_open leads.0 new later leads.2 clean is_open)
 
   -- the run goes on from what was left first
-  left_first : (office : OfficeLists) (made : Option Call) (later : List (Option Call)) → (run_of (after_call office made) (calls_in later)).office ≡ (run_of office (calls_in (made ∷ later))).office
+  left_first : (office : OfficeLists) (made : Option Call) (later : List (Option Call)) → (run_of (office_after office made) (calls_in later)).office ≡ (run_of office (calls_in (made ∷ later))).office
   left_first office None later = refl
   left_first office (Some call) later = refl
 
@@ -30,5 +30,5 @@ module _ {S : Type 0} (g : store.Ghosts S) where
   calls_run old new (made ∷ later) leads clean is_open office stands =
       let mid_clean = was_clean leads.0 new later leads.2 clean in
       let mid_open = was_open leads.0 new later leads.2 clean is_open in
-      let next = calls_run leads.0 new later leads.2 clean is_open (after_call office made) (leads.1.stands mid_clean mid_open office stands) in
+      let next = calls_run leads.0 new later leads.2 clean is_open (office_after office made) (leads.1.stands mid_clean mid_open office stands) in
       subst (λ (o : OfficeLists). Stands (state g new) o) (left_first office made later) next

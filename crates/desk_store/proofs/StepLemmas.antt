@@ -14,7 +14,7 @@ use Rattle.desk_reading.proofs.ReadingLemmas.{keeps_then}
 use Rattle.desk_words.specs.Changes.{after_some}
 use Rattle.meeting_core.specs.Decisions.{DecidedChangesCanBeMade}
 use Rattle.meeting_core.specs.Step.{decided, stepped}
-use Rattle.desk_changes.specs.Writes.{Holds}
+use Rattle.desk_changes.specs.Writes.{StandsIn}
 use Rattle.desk_schema.specs.Statements.{WasOpen}
 use Rattle.desk_store.specs.Reads.{IsDecided, IsTold, WritesIfAny, can_make_if_any}
 use Rattle.desk_records.specs.Standing.{Stands}
@@ -32,7 +32,7 @@ failed_told g a b IsSo IsThat old (Err e) bad read = record { told = λ clean of
 
 module _ {S : Type 0} (g : store.Ghosts S) (a b c : Held S) (call : Call) (answer : Answer Change) (told : IsTold g a b (Ok answer) (IsDecided call)) where
   -- while a call is decided, the tables stay the office that they are
-  holds : HasCleanDisk (state g b) → IsTrue (state g a).in_transaction → (office : OfficeLists) → Stands (state g a) office → Holds office (state g b)
+  holds : HasCleanDisk (state g b) → IsTrue (state g a).in_transaction → (office : OfficeLists) → Stands (state g a) office → StandsIn office (state g b)
   holds clean inside office stands =
       let same = told.same (clean, stands.desk) in
       let there = stands_same (state g a) (state g b) office same.0.now_is stands in

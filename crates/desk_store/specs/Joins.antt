@@ -10,9 +10,9 @@ use Rattle.desk_schema.specs.Statements.{WasOpen}
 use Rattle.meeting_core.specs.Step.{stepped}
 
 -- the office after the step of a call, or, where no call was made, as it was
-abbrev pub after_call : OfficeLists → Option Call → OfficeLists
-after_call office None = office
-after_call office (Some call) = stepped office call
+abbrev pub office_after : OfficeLists → Option Call → OfficeLists
+office_after office None = office
+office_after office (Some call) = stepped office call
 
 -- a call that is answered was made, and one that failed was not
 abbrev pub made_by : {T E : Type 0} → Result T E → Call → Option Call
@@ -27,7 +27,7 @@ pub record Leaves (made : Option Call) (old new : State) : Type 0 where
   pub was_open : WasOpen old new
   pub ended : new.in_transaction ≡ false
   pub stands : HasCleanDisk new → IsTrue new.is_open → (office : OfficeLists) → Stands old office
-      → Stands new (after_call office made)
+      → Stands new (office_after office made)
 
 -- the tables are the same, and so is the last commit; no row was counted as written
 abbrev pub IsAsItWas : State → State → Type 0

@@ -22,7 +22,7 @@ use Rattle.office_lists.specs.declared.fault.ReadFault.{ReadFault}
 use Rattle.desk_words.specs.Changes.{after_some, can_make}
 use Rattle.meeting_core.specs.Decisions.{desk_call}
 use Rattle.meeting_core.specs.Step.{decided}
-use Rattle.desk_changes.specs.Writes.{Holds}
+use Rattle.desk_changes.specs.Writes.{StandsIn}
 use Rattle.desk_records.specs.Standing.{Stands}
 
 -- what is told is so of the office for which the tables stand, and nothing is changed
@@ -72,9 +72,9 @@ can_make_if_any office (Some change) = can_make office change
 -- what writing a change, or nothing, ensures of tables that are an office
 pub record WritesIfAny {S T : Type 0} (g : store.Ghosts S) (old new : Held S)
     (result : Result T Error) (change : Option Change) : Type 0 where
-  pub written : HasCleanDisk (state g new) → (office : OfficeLists) → Holds office (state g old)
+  pub written : HasCleanDisk (state g new) → (office : OfficeLists) → StandsIn office (state g old)
       → IsTrue (can_make_if_any office change)
-      → OnOk result (Holds (after_some office change) (state g new))
+      → OnOk result (StandsIn (after_some office change) (state g new))
   pub still : change ≡ None → new ≡ old
   pub kept : HasCleanDisk (state g new) → KeepsCommit (state g old) (state g new)
   pub crash : Survives (state g old) (state g new) (λ _. ⊥)

@@ -2,7 +2,7 @@
 ghost use Rattle.std.specs.Prelude.{◌≡◌, ◌≢◌, ◌⊎◌, false, Err, IfErr, IfOk, IsErrAnd, IsTrue};
 ghost use Rattle.desk_opening.specs.Crashes.{LeavesItself, LeavesNoMore};
 ghost use Rattle.desk_opening.specs.Making.{AreMade};
-ghost use Rattle.desk_opening.specs.Opening.{HandsBack, IsCause, IsCleanBack, IsInNone};
+ghost use Rattle.desk_opening.specs.Opening.{HandsBack, IsOpenCause, IsCleanBack, IsInNone};
 ghost use Rattle.desk_opening.specs.Rising.{RowsRise};
 ghost use Rattle.desk_opening.specs.declared.fault.CreateFault.TheVariants.{NotEmpty};
 ghost use Rattle.desk_opening.specs.declared.fault.CreateFault.TheVariants as creating;
@@ -85,7 +85,7 @@ impl<S: Alter + Drop> Desk<S> {
             → HasColumns (state S.Store conn).now.schema) }
         ensures cause { IfErr result (λ e. IsCleanBack S.Store e.1
             → NotesVersion (state S.Store conn).now.schema
-            → IsCause e.0 (state S.Store conn)) }
+            → IsOpenCause e.0 (state S.Store conn)) }
         ensures kept { IfErr result (λ e. HandsBack S.Store (state S.Store conn).now.trees e.1) }
         ensures ended { IfErr result (λ e. conn.in_transaction ≡ false → IsInNone e.1) }
         ensures settled { IfOk result (λ desk. HasCleanDisk (state S.Store desk)
@@ -123,7 +123,7 @@ impl<S: Alter + Drop> Desk<S> {
             → HasColumns (state S.Store conn).now.schema) }
         ensures cause { IfErr result (λ e. HasCleanDisk (state S.Store e.1)
             → NotesVersion (state S.Store conn).now.schema
-            → IsCause e.0 (state S.Store conn)) }
+            → IsOpenCause e.0 (state S.Store conn)) }
         ensures kept { IfErr result (λ e. HasCleanDisk (state S.Store e.1)
             → IsTrue (state S.Store e.1).is_open
             → (state S.Store e.1).now.trees ≡ (state S.Store conn).now.trees) }

@@ -19,7 +19,7 @@ use Rattle.sqlite.specs.Listing.{understood}
 use Rattle.sqlite.specs.State.{State, ExecutesInside}
 use Rattle.sqlite.proofs.Callers.{IsPlain, command_of, statement_of}
 use Rattle.desk_words.specs.declared.records.Meeting.{Meeting}
-use Rattle.desk_rows.specs.Columns.{day_in, unix_day, flag_in, flag_of, integer_of, moment_in, moment_of, natural_of, number_in, natural_value, read_word, some_moment_in, some_moment_of, spelled, spelled_of, worded, worded_of}
+use Rattle.desk_rows.specs.Columns.{day_in, unix_day, flag_in, flag_of, integer_of, moment_in, moment_of_number, natural_of, number_in, natural_value, read_word, some_moment_in, some_moment_of, spelled, spelled_of, worded, worded_of}
 use Rattle.desk_rows.specs.Meetings.{meeting_in}
 use Rattle.desk_terms.specs.Kinds.{company_of, meeting_kind_of}
 use Rattle.desk_terms.specs.Names.{meeting_of, same_name}
@@ -36,7 +36,7 @@ use Rattle.sqlite.specs.Tree.{rowid}
 use Rattle.sqlite.specs.Edit.{id_in}
 use Rattle.sqlite_trees.specs.View.{is_int}
 use Rattle.desk_rows.specs.declared.kept.MeetingRow.{MeetingRow}
-use Rattle.desk_rows.specs.Meanings.{◌>>=◌}
+use Rattle.desk_terms.specs.Options.{◌>>=◌}
 use Rattle.desk_statements.proofs.Seq.{is_its_id}
 use Rattle.desk_rows.proofs.MeaningLemmas.{bound, option_ap}
 use Rattle.desk_statements.proofs.Tests.{names_tell, kept_spelled, kept_worded, kept_integer, kept_some_moment}
@@ -82,11 +82,11 @@ module _ (m : Meeting) (meeting : List ℕ) (company : List ℕ) (kind : List �
   abbrev pub values : Row
   values = Text meeting ∷ Text company ∷ Text kind ∷ Int given ∷ Int appointed ∷ Int recorded ∷ flag m.loaded ∷ or_null Int opened ∷ []
 
-  means : meeting_of meeting ≡ Some m.id → read_word company_of company ≡ Some m.company → read_word meeting_kind_of kind ≡ Some m.kind → unix_day given ≡ Some m.given → moment_of appointed ≡ Some m.appointed → moment_of recorded ≡ Some m.record_moment → some_moment_of (or_null Int opened) ≡ Some m.opened → meeting_in values ≡ Some (without_resolutions m)
+  means : meeting_of meeting ≡ Some m.id → read_word company_of company ≡ Some m.company → read_word meeting_kind_of kind ≡ Some m.kind → unix_day given ≡ Some m.given → moment_of_number appointed ≡ Some m.appointed → moment_of_number recorded ≡ Some m.record_moment → some_moment_of (or_null Int opened) ≡ Some m.opened → meeting_in values ≡ Some (without_resolutions m)
   unfolding meeting_in day_in flag_in moment_in number_in some_moment_in spelled worded
   means meeting_is company_is kind_is given_is appointed_is recorded_is opened_is = rw (meeting_is, company_is, kind_is, given_is, appointed_is, recorded_is, opened_is, flag_kept m.loaded) refl
 
-  pub adds_meeting : meeting_of meeting ≡ Some m.id → read_word company_of company ≡ Some m.company → read_word meeting_kind_of kind ≡ Some m.kind → unix_day given ≡ Some m.given → moment_of appointed ≡ Some m.appointed → moment_of recorded ≡ Some m.record_moment → some_moment_of (or_null Int opened) ≡ Some m.opened
+  pub adds_meeting : meeting_of meeting ≡ Some m.id → read_word company_of company ≡ Some m.company → read_word meeting_kind_of kind ≡ Some m.kind → unix_day given ≡ Some m.given → moment_of_number appointed ≡ Some m.appointed → moment_of_number recorded ≡ Some m.record_moment → some_moment_of (or_null Int opened) ≡ Some m.opened
       → (old new : State) (r : Result ℕ Error) → IsDesk old → IsTrue old.in_transaction → ExecutesInside 0 add_text values old new r → OnOk r (Adds meetings (without_resolutions m) old new)
   adds_meeting meeting_is company_is kind_is given_is appointed_is recorded_is opened_is old new r was inside h =
       let cells = Null ∷ values in
@@ -185,8 +185,8 @@ record IsKeptRow (cells : Row) (x : MeetingRow) : Type 0 where
   company : worded_of company_of (cast Texts (column cells 3)) ≡ Some x.company
   kind : worded_of meeting_kind_of (cast Texts (column cells 4)) ≡ Some x.kind
   given : (integer_of (cast Integer (column cells 5)) >>= unix_day) ≡ Some x.given
-  appointed : (integer_of (cast Integer (column cells 6)) >>= moment_of) ≡ Some x.appointed
-  recorded : (integer_of (cast Integer (column cells 7)) >>= moment_of) ≡ Some x.record_moment
+  appointed : (integer_of (cast Integer (column cells 6)) >>= moment_of_number) ≡ Some x.appointed
+  recorded : (integer_of (cast Integer (column cells 7)) >>= moment_of_number) ≡ Some x.record_moment
   loaded : (natural_value (cast Integer (column cells 8)) >>= flag_of) ≡ Some x.loaded
   opened : some_moment_of (cast Integer (column cells 9)) ≡ Some x.opened
 
@@ -200,8 +200,8 @@ kept_row cells x h =
       company = kept_worded company_of (column cells 3) x.company p.company;
       kind = kept_worded meeting_kind_of (column cells 4) x.kind p.kind;
       given = kept_integer unix_day (column cells 5) x.given p.given;
-      appointed = kept_integer moment_of (column cells 6) x.appointed p.appointed;
-      recorded = kept_integer moment_of (column cells 7) x.record_moment p.recorded;
+      appointed = kept_integer moment_of_number (column cells 6) x.appointed p.appointed;
+      recorded = kept_integer moment_of_number (column cells 7) x.record_moment p.recorded;
       loaded = rw (kept_integer natural_of (column cells 8) flag_part.0 flag_part.1) flag_part.2;
       opened = kept_some_moment (column cells 9) x.opened p.opened;
     }
@@ -243,7 +243,7 @@ load_sets m meeting is cells x h = go (passes named (Text meeting ∷ []) cells)
     go false true e = absurd cc
     go false false e = h
 
-open_sets : (m meeting : List ℕ) (n : ℤ) (moment : ℕ) → meeting_of meeting ≡ Some m → moment_of n ≡ Some moment → (cells : Row) (x : MeetingRow) → meetings.means (columns_of meetings cells) ≡ Some x
+open_sets : (m meeting : List ℕ) (n : ℤ) (moment : ℕ) → meeting_of meeting ≡ Some m → moment_of_number n ≡ Some moment → (cells : Row) (x : MeetingRow) → meetings.means (columns_of meetings cells) ≡ Some x
     → meetings.means (columns_of meetings (if passes named (Text meeting ∷ Int n ∷ []) cells then new_row (record table { tree = 5 }) open_terms (Text meeting ∷ Int n ∷ []) cells else cells)) ≡ Some (opened_at m moment x)
 open_sets m meeting n moment is at cells x h = go (passes named (Text meeting ∷ Int n ∷ []) cells) (same_name x.id m) (chosen_so m meeting (Int n ∷ []) is cells x h)
   where
@@ -262,7 +262,7 @@ loads m meeting is old new r was inside h =
     sets meetings (λ cells. if passes named (Text meeting ∷ []) cells then new_row (record table { tree = 5 }) load_terms (Text meeting ∷ []) cells else cells) (loaded_at m) (load_sets m meeting is) layout_one old new r
     (changes_rows ones_apart 3 (record table { tree = 5 }) named load_terms load_text (Text meeting ∷ []) load_is load_plain refl refl refl (keeps_number load_terms (Text meeting ∷ [])) old new r was inside h)
 
-pub opens : (m meeting : List ℕ) (n : ℤ) (moment : ℕ) → meeting_of meeting ≡ Some m → moment_of n ≡ Some moment → (old new : State) (r : Result ℕ Error) → IsDesk old → IsTrue old.in_transaction
+pub opens : (m meeting : List ℕ) (n : ℤ) (moment : ℕ) → meeting_of meeting ≡ Some m → moment_of_number n ≡ Some moment → (old new : State) (r : Result ℕ Error) → IsDesk old → IsTrue old.in_transaction
     → ExecutesInside 0 open_text (Text meeting ∷ Int n ∷ []) old new r → OnOk r (Sets meetings (opened_at m moment) old new)
 opens m meeting n moment is at old new r was inside h =
     sets meetings (λ cells. if passes named (Text meeting ∷ Int n ∷ []) cells then new_row (record table { tree = 5 }) open_terms (Text meeting ∷ Int n ∷ []) cells else cells) (opened_at m moment) (open_sets m meeting n moment is at) layout_one old new r

@@ -1,17 +1,18 @@
 -- From what was read and what followed of it to how the command ends.
 use Rattle.std.proofs.Common.{◌≡◌, ℕ, List, Result, Ok, Err, IfErr, inl, inr, sym, subst}
+use Rattle.desk_terms.specs.Itself.{itself}
 use Rattle.sqlite.specs.State.{State}
 use Rattle.desk_words.specs.Seen.{Moment}
 use Rattle.desk_words.specs.declared.office.OfficeLists.{OfficeLists}
 use Rattle.desk_words.specs.declared.request.Request.{Request}
-use Rattle.desk_files.specs.Faults.{Gives, IfJudged, itself}
-use Rattle.desk_files.specs.Whole.{HasCause, HaveCome, IsReadWhole}
+use Rattle.desk_files.specs.Faults.{Returns, IfJudged}
+use Rattle.desk_files.specs.Whole.{IsWhyUnread, HaveCome, IsReadWhole}
 use Rattle.desk_files.specs.declared.fault.FileFault.{FileFault}
 use Rattle.desk_files.specs.declared.fault.FileFault.TheVariants as file
 use Rattle.desk_endings.specs.Endings.{Ending}
 use Rattle.desk_records.specs.Standing.{Stands}
 use Rattle.desk_tasks.specs.Loading.{Follows, Loads}
-use Rattle.desk_tasks.specs.Reading.{Reader, asked_by}
+use Rattle.desk_tasks.specs.Reading.{Reader, load_asked}
 
 module _ {X : Type 0} (spelled_by : List ℕ → Result X FileFault) (asking : X → Request) (limit : ℕ)
     (before after : Reader) (office : OfficeLists) (now : Moment) (end : Ending) (tables : State) where
@@ -19,7 +20,7 @@ module _ {X : Type 0} (spelled_by : List ℕ → Result X FileFault) (asking : X
   abbrev pub IsSpelled : Result X FileFault → Type 0
   IsSpelled read =
       (bytes : List ℕ) × HaveCome bytes before.rest before.passed after.passed
-      × Gives itself read (spelled_by bytes)
+      × Returns itself read (spelled_by bytes)
 
   abbrev pub IsWhole : Type 0
   IsWhole =
@@ -28,20 +29,20 @@ module _ {X : Type 0} (spelled_by : List ℕ → Result X FileFault) (asking : X
 
   asked : (read : Result X FileFault) (bytes : List ℕ)
       → HaveCome bytes before.rest before.passed after.passed → spelled_by bytes ≡ read → IsWhole
-      → Follows office now (asked_by asking read) end tables
+      → Follows office now (load_asked asking read) end tables
       → Loads spelled_by asking limit before after office now end tables
   asked read bytes came spelled whole after_it =
       inl (record {
         bytes = bytes;
         came = came;
         whole = whole;
-        follows = subst (λ r. Follows office now (asked_by asking r) end tables) (sym spelled) after_it;
+        follows = subst (λ r. Follows office now (load_asked asking r) end tables) (sym spelled) after_it;
       })
 
   follows : (read : Result X FileFault) → IfJudged read (IsSpelled read) → IfJudged read IsWhole
       → IfErr read
-      (λ f. HasCause f limit before.passed after.passed before.failures after.failures)
-      → Follows office now (asked_by asking read) end tables
+      (λ f. IsWhyUnread f limit before.passed after.passed before.failures after.failures)
+      → Follows office now (load_asked asking read) end tables
       → Loads spelled_by asking limit before after office now end tables
   follows (Ok rows) spelled whole cause after_it =
       asked (Ok rows) spelled.0 spelled.1 spelled.2 whole after_it
@@ -58,8 +59,8 @@ module _ {X : Type 0} (spelled_by : List ℕ → Result X FileFault) (asking : X
   pub loads : (read : Result X FileFault) (file : Result Request FileFault)
       → IfJudged read (IsSpelled read) → IfJudged read IsWhole
       → IfErr read
-      (λ f. HasCause f limit before.passed after.passed before.failures after.failures)
-      → file ≡ asked_by asking read → Follows office now file end tables
+      (λ f. IsWhyUnread f limit before.passed after.passed before.failures after.failures)
+      → file ≡ load_asked asking read → Follows office now file end tables
       → Loads spelled_by asking limit before after office now end tables
   loads read file spelled whole cause made after_it =
       follows read spelled whole cause

@@ -12,7 +12,7 @@ use Rattle.desk_endings.specs.Endings.{Ending, ending, ended_by}
 use Rattle.desk_endings.specs.declared.ended.Fault.{Fault}
 use Rattle.desk_endings.specs.declared.ended.Fault.TheVariants as fault
 use Rattle.desk_records.specs.Standing.{Stands}
-use Rattle.desk_opening.specs.Opening.{IsCause}
+use Rattle.desk_opening.specs.Opening.{IsOpenCause}
 use Rattle.desk_opening.specs.declared.fault.CreateFault.{CreateFault}
 use Rattle.desk_opening.specs.declared.fault.CreateFault.TheVariants as creating
 use Rattle.desk_opening.specs.declared.fault.OpenFault.{OpenFault}
@@ -52,7 +52,7 @@ abbrev pub IsUnopened : {S : Type 0} → store.Ghosts S → Held S → Ending �
 IsUnopened g conn end back =
     (why : OpenFault) × (end ≡ ended_by (open_fault why))
     × (HasCleanDisk (state g back) → NotesVersion (state g conn).now.schema
-    → IsCause why (state g conn))
+    → IsOpenCause why (state g conn))
 
 -- the fault for which a file was not opened as a database
 abbrev pub file_fault : Error → Fault

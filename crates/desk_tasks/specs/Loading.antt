@@ -11,12 +11,12 @@ use Rattle.desk_words.specs.declared.reply.Reply.TheVariants as reply
 use Rattle.desk_words.specs.declared.request.Call.{Call}
 use Rattle.desk_words.specs.declared.request.Request.{Request}
 use Rattle.meeting_core.specs.Step.{decided, stepped}
-use Rattle.desk_files.specs.Whole.{HaveCome, IsReadWhole, HasCause, IsOfReading}
+use Rattle.desk_files.specs.Whole.{HaveCome, IsReadWhole, IsWhyUnread, IsOfReading}
 use Rattle.desk_files.specs.declared.fault.FileFault.{FileFault}
 use Rattle.desk_endings.specs.Endings.{Ending, done, ending, ended_by, ended_by_refusal, ended_by_file}
 use Rattle.desk_endings.specs.declared.ended.Fault.TheVariants as fault
 use Rattle.desk_records.specs.Standing.{Stands}
-use Rattle.desk_tasks.specs.Reading.{Reader, asked_by}
+use Rattle.desk_tasks.specs.Reading.{Reader, load_asked}
 
 -- the office asks at a moment
 abbrev pub by_office : Moment → Request → Call
@@ -56,7 +56,7 @@ pub record HasAsked {X : Type 0} (spelled_by : List ℕ → Result X FileFault) 
   pub came : HaveCome bytes before.rest before.passed after.passed
   pub whole : IsReadWhole limit before.rest after.rest before.passed after.passed
       before.failures after.failures
-  pub follows : Follows held now (asked_by asking (spelled_by bytes)) end tables
+  pub follows : Follows held now (load_asked asking (spelled_by bytes)) end tables
 
 -- what the file spells was not found out: a read failed, or it had more bytes than the limit, or
 -- memory ran out; nothing was asked, and the tables are the office as it was
@@ -64,7 +64,7 @@ pub record HasNotRead (limit : ℕ) (before after : Reader) (held : OfficeLists)
     (tables : State) : Type 0 where
   pub why : FileFault
   pub of_reading : IsOfReading why
-  pub cause : HasCause why limit before.passed after.passed before.failures after.failures
+  pub cause : IsWhyUnread why limit before.passed after.passed before.failures after.failures
   pub ended : end ≡ ended_by_file why
   pub stands : Stands tables held
 

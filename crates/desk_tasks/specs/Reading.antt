@@ -24,9 +24,9 @@ with_register meeting record_moment rows =
     (office.LoadRegister (record { record_moment = record_moment; rows = rows }))
 
 -- what a file asks: the loading of what was read of it, or its fault
-abbrev pub asked_by : {X : Type 0} → (X → Request) → Result X FileFault → Result Request FileFault
-asked_by asking (Ok rows) = Ok (asking rows)
-asked_by asking (Err fault) = Err fault
+abbrev pub load_asked : {X : Type 0} → (X → Request) → Result X FileFault → Result Request FileFault
+load_asked asking (Ok rows) = Ok (asking rows)
+load_asked asking (Err fault) = Err fault
 
 -- how a reader stands: the bytes that it has left, where they are known, how many it gave, and how
 -- many of its reads failed

@@ -7,7 +7,7 @@ ghost use Rattle.desk_files.specs.Registers.{register_file};
 ghost use Rattle.desk_files.specs.declared.whole.TheConstants.{DAY_FILE_LIMIT, FILE_LIMIT};
 ghost use Rattle.desk_records.specs.Standing.{Stands};
 ghost use Rattle.desk_tasks.specs.Loading.{Follows, Loads};
-ghost use Rattle.desk_tasks.specs.Reading.{asked_by, reader_at, with_days, with_keys, with_register};
+ghost use Rattle.desk_tasks.specs.Reading.{load_asked, reader_at, with_days, with_keys, with_register};
 ghost use Rattle.desk_words.specs.declared.office.OfficeLists.{OfficeLists};
 ghost use Rattle.sqlite.specs.Held.{state};
 ghost use Rattle.sqlite.specs.State.{HasCleanDisk};
@@ -25,7 +25,7 @@ use std::alloc::Global;
 
 /// What a key file asks.
 fn keys_asked(file: Result<KeyRows, FileFault>) -> Result<Request, FileFault>
-    ensures { result ≡ asked_by with_keys file }
+    ensures { result ≡ load_asked with_keys file }
 {
     match file {
         Ok(rows) => Ok(Request::Desk(DeskRequest::Keys(rows))),
@@ -35,7 +35,7 @@ fn keys_asked(file: Result<KeyRows, FileFault>) -> Result<Request, FileFault>
 
 /// What a file of closed days asks.
 fn days_asked(file: Result<DayList, FileFault>) -> Result<Request, FileFault>
-    ensures { result ≡ asked_by with_days file }
+    ensures { result ≡ load_asked with_days file }
 {
     match file {
         Ok(days) => Ok(Request::Desk(DeskRequest::ClosedDays(days))),
@@ -49,7 +49,7 @@ fn register_asked(
     record_moment: Moment,
     file: Result<Register, FileFault>,
 ) -> Result<Request, FileFault>
-    ensures { result ≡ asked_by (with_register meeting record_moment) file }
+    ensures { result ≡ load_asked (with_register meeting record_moment) file }
 {
     match file {
         Ok(rows) => Ok(Request::Office {

@@ -1,5 +1,5 @@
 -- What makes lists an office.
-use Rattle.std.specs.Prelude.{ℕ, suc, ◌+◌, Bool, true, false, ◌&&◌, ◌==◌, nat_le, nat_lt, List, [], ◌∷◌, ◌++◌, length, count_by, Option, Some, None, is_some, if◌then◌else◌}
+use Rattle.std.specs.Prelude.{ℕ, suc, ◌+◌, Bool, true, false, ◌&&◌, ◌||◌, ◌==◌, nat_le, nat_lt, List, [], ◌∷◌, ◌++◌, length, count_by, Option, Some, None, is_some, if◌then◌else◌}
 use Rattle.std.specs.List.{list_all, list_any}
 use Rattle.desk_terms.specs.Names.{same_name}
 use Rattle.desk_lists.specs.Ordered.{differ_by, ascends_by}
@@ -32,6 +32,10 @@ is_resolution resolutions number = nat_le 1 number && nat_le number resolutions
 abbrev pub no_rows : List RegisterRow → Bool
 no_rows [] = true
 no_rows (row ∷ rows) = false
+
+-- there are no rows, or they are a register's (section 113)
+abbrev pub are_rows : List RegisterRow → Bool
+are_rows rows = no_rows rows || is_register rows
 
 -- rows stand exactly where a register is loaded, and an opened meeting is loaded
 abbrev pub is_loaded_right : MeetingLists → Bool

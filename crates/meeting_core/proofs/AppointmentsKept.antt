@@ -20,7 +20,7 @@ use Rattle.desk_words.specs.declared.change.Entry.TheVariants as entry
 use Rattle.desk_words.specs.declared.office.MeetingLists.{MeetingLists}
 use Rattle.desk_words.specs.declared.records.Appointment.{Appointment}
 use Rattle.desk_words.specs.declared.records.Ending.{Ending}
-use Rattle.caller_view.specs.Appointments.{given_numbered, is_ended}
+use Rattle.caller_view.specs.Appointments.{given_numbered, is_given_ended}
 use Rattle.caller_view.specs.Own.{ended_at, given_in}
 use Rattle.proxy_rules.specs.Holdings.{is_ended_of}
 use Rattle.desk_words.proofs.OfficeFacts.{meeting_facts, meeting_from_facts}
@@ -130,18 +130,18 @@ is_ending party number e = is_ended_of party e && ends_number number e
 -- where a party's appointment is not ended, no ending names it
 pub unended_none : (endings : List Ending) (party : List ℕ) (number : ℕ) (given : List Appointment)
     → is_none (given_numbered (map (given_in (filter (is_ended_of party) endings)) (filter (is_of party) given)) number) ≡ false
-    → is_ended (given_numbered (map (given_in (filter (is_ended_of party) endings)) (filter (is_of party) given)) number) ≡ false
+    → is_given_ended (given_numbered (map (given_in (filter (is_ended_of party) endings)) (filter (is_of party) given)) number) ≡ false
     → list_any (is_ending party number) endings ≡ false
 unended_none endings party number [] = λ h. absurd (cc)
 unended_none endings party number (a ∷ rest) =
     let own = filter (is_ended_of party) endings in
     elim (is_of party a) as (λ b.
     is_none (given_numbered (map (given_in own) (cond b (a ∷ filter (is_of party) rest) (filter (is_of party) rest))) number) ≡ false
-    → is_ended (given_numbered (map (given_in own) (cond b (a ∷ filter (is_of party) rest) (filter (is_of party) rest))) number) ≡ false
+    → is_given_ended (given_numbered (map (given_in own) (cond b (a ∷ filter (is_of party) rest) (filter (is_of party) rest))) number) ≡ false
     → list_any (is_ending party number) endings ≡ false) [
       | true ↦ (elim (a.number == number) as (λ c. (a.number == number) ≡ c
           → is_none (cond c (Some (given_in own a)) (given_numbered (map (given_in own) (filter (is_of party) rest)) number)) ≡ false
-          → is_ended (cond c (Some (given_in own a)) (given_numbered (map (given_in own) (filter (is_of party) rest)) number)) ≡ false
+          → is_given_ended (cond c (Some (given_in own a)) (given_numbered (map (given_in own) (filter (is_of party) rest)) number)) ≡ false
           → list_any (is_ending party number) endings ≡ false) [
             | true ↦ λ same _ live.
                 let none : find (ends_number number) (reverse own) ≡ None =

@@ -40,15 +40,15 @@ use Rattle.desk_words.specs.declared.request.PartyRequest.TheVariants as party
 use Rattle.desk_words.specs.declared.request.Request.{Request}
 use Rattle.desk_words.specs.declared.request.Request.TheVariants as asked
 use Rattle.desk_terms.specs.declared.refusal.Refusal.TheVariants.{Exists, TooMany, NoRegister, NotOpened, PollOrdered, NoPoll, NoResolution, PollNotOpen, NotClosed, BadInstructions, NoSuchNumber, AlreadyEnded}
-use Rattle.caller_view.specs.Answers.{party_ruling, ruling_in as party_in}
+use Rattle.caller_view.specs.Answers.{party_ruling, ruling_for as party_in}
 use Rattle.caller_view.specs.Appointments.{appoint_cases, appointment_of, end_cases, ending_of}
-use Rattle.caller_view.specs.Attendance.{authorise_cases, authority_of, demand_cases, demand_of, gave_authority, has_demanded, presence_of}
+use Rattle.caller_view.specs.Attendance.{authorise_cases, authority_of, demand_cases, demand_mark, gave_authority, own_demanded, presence_of}
 use Rattle.caller_view.specs.Casts.{block_of, cast_cases, cast_of, instructed_cases}
 use Rattle.caller_view.specs.Views.{meeting_at, own_in, own_in_some, public_in}
 use Rattle.proxy_rules.specs.Holdings.{is_ended_of}
-use Rattle.office_answers.specs.Answers.{desk_ruling, ruling_in as office_in}
+use Rattle.office_answers.specs.Answers.{desk_ruling, ruling_on as office_in}
 use Rattle.office_answers.specs.Attendance.{is_marked}
-use Rattle.office_answers.specs.Calls.{call_cases, call_ruling, meeting_of}
+use Rattle.office_answers.specs.Calls.{call_cases, call_ruling, new_meeting_of}
 use Rattle.office_answers.specs.Limits.{if_any, is_within_limits, keeps_limits}
 use Rattle.office_answers.specs.Lists.{same_days}
 use Rattle.office_answers.specs.Polls.{open_cases, order_cases, poll_of, start_cases, close_cases, declare_cases, declaration_of}
@@ -84,8 +84,8 @@ abbrev pub Kept : OfficeLists → Option Change → Type 0
 Kept o change = if_any keeps_limits change ≡ true → is_office (after_some o change) ≡ true
 
 -- a meeting without lists
-new_meeting_kept : (new : NewMeeting) → are_resolutions new.resolutions ≡ true → is_meeting (new_lists (meeting_of new)) ≡ true
-new_meeting_kept new h = meeting_from_facts (new_lists (meeting_of new)) (assumption h)
+new_meeting_kept : (new : NewMeeting) → are_resolutions new.resolutions ≡ true → is_meeting (new_lists (new_meeting_of new)) ≡ true
+new_meeting_kept new h = meeting_from_facts (new_lists (new_meeting_of new)) (assumption h)
 
 -- a meeting of a new name may be added
 added_kept : (o : OfficeLists) (m : MeetingLists) → OfficeFacts o → meeting_named o.meetings m.meeting.id ≡ None → nat_le 100 (length o.meetings) ≡ false → is_meeting m ≡ true
@@ -103,7 +103,7 @@ added_kept o m f fresh room good =
 call_kept : (o : OfficeLists) (new : NewMeeting) → is_office o ≡ true → Kept o (settled (call_ruling o.meetings new)).change
 call_kept o new h = change_of (Kept o) (call_ruling o.meetings new) (λ _. h) (λ none limits.
     let cases = call_cases o.meetings new in
-    added_kept o (new_lists (meeting_of new)) (office_facts o h) (not_some (meeting_named o.meetings new.meeting) (fails Exists cases none)) (fails TooMany cases none)
+    added_kept o (new_lists (new_meeting_of new)) (office_facts o h) (not_some (meeting_named o.meetings new.meeting) (fails Exists cases none)) (fails TooMany cases none)
     (new_meeting_kept new limits))
 
 days_kept : (o : OfficeLists) (same : Bool) (days : List ℕ) → is_office o ≡ true → Kept o (loaded same (SetClosedDays days)).change
@@ -209,8 +209,8 @@ party_stays m closed who now party.Attend good none =
 party_stays m closed who now (party.Demand resolution) good none =
     let own = own_in m closed who now in
     let cases = demand_cases (public_in (Some m) closed) m.meeting own resolution in
-    noted_entry m (has_demanded own resolution) (entry.Demand (demand_of own now resolution)) (λ fresh.
-    demand_kept (demand_of own now resolution) m good (not-false (is_resolution (length m.meeting.resolutions) resolution) (fails NoResolution cases none))
+    noted_entry m (own_demanded own resolution) (entry.Demand (demand_mark own now resolution)) (λ fresh.
+    demand_kept (demand_mark own now resolution) m good (not-false (is_resolution (length m.meeting.resolutions) resolution) (fails NoResolution cases none))
     (not_demanded who resolution m.demands fresh))
 party_stays m closed who now (party.Cast new) good none =
     let own = own_in m closed who now in

@@ -18,9 +18,9 @@ use Rattle.desk_words.specs.declared.request.DeskRequest.{DeskRequest}
 use Rattle.desk_words.specs.declared.request.DeskRequest.TheVariants.{CallMeeting, ClosedDays, Keys}
 use Rattle.desk_words.specs.declared.request.Request.{Request}
 use Rattle.desk_words.specs.declared.request.Request.TheVariants as asked
-use Rattle.caller_view.specs.Answers.{ruling_in as party_in}
+use Rattle.caller_view.specs.Answers.{ruling_for as party_in}
 use Rattle.caller_view.specs.Views.{meeting_at, own_of, public_of}
-use Rattle.office_answers.specs.Answers.{desk_ruling, ruling_in as office_in}
+use Rattle.office_answers.specs.Answers.{desk_ruling, ruling_on as office_in}
 use Rattle.office_answers.specs.Lists.{same_days}
 use Rattle.desk_words.specs.Changes.{is_placed}
 use Rattle.meeting_core.specs.Decisions.{DecidedChangesCanBeMade}

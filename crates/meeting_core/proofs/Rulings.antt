@@ -20,11 +20,11 @@ use Rattle.desk_words.specs.declared.request.PartyRequest.{PartyRequest}
 use Rattle.desk_words.specs.declared.request.PartyRequest.TheVariants.{Notice}
 use Rattle.desk_words.specs.declared.request.Request.{Request}
 use Rattle.desk_words.specs.declared.request.Request.TheVariants as asked
-use Rattle.caller_view.specs.Answers.{party_ruling, ruling_in as party_in}
+use Rattle.caller_view.specs.Answers.{party_ruling, ruling_for as party_in}
 use Rattle.caller_view.specs.Views.{meeting_at, own_of, public_of}
 use Rattle.caller_view.specs.declared.views.OwnView.{OwnView}
 use Rattle.caller_view.specs.Public.{PublicRecord}
-use Rattle.office_answers.specs.Answers.{desk_ruling, office_ruling, ruling_in as office_in}
+use Rattle.office_answers.specs.Answers.{desk_ruling, office_ruling, ruling_on as office_in}
 use Rattle.office_answers.specs.Lists.{same_days}
 use Rattle.meeting_core.specs.Step.{ruling}
 use Rattle.meeting_core.proofs.RulingLemmas.{IsSound, loaded_accepted, sound_in_found, sound_within}

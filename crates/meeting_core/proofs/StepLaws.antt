@@ -19,7 +19,7 @@ use Rattle.desk_words.specs.declared.request.Request.{Request}
 use Rattle.desk_words.specs.declared.request.Request.TheVariants as asked
 use Rattle.desk_terms.specs.declared.refusal.Refusal.{Refusal}
 use Rattle.caller_view.specs.Views.{meeting_at}
-use Rattle.office_answers.specs.Answers.{is_some_at_once, ruling_in as office_in}
+use Rattle.office_answers.specs.Answers.{is_some_at_once, ruling_on as office_in}
 use Rattle.office_answers.specs.Limits.{if_any, keeps_limits}
 use Rattle.desk_words.specs.Changes.{after_some, sets_fields}
 use Rattle.meeting_core.specs.Step.{decided, is_at_once_to, needs_no_memory, ruling, stepped}

@@ -24,9 +24,9 @@ use Rattle.office_answers.specs.Answers.{desk_ruling, is_refused_at_once, office
 use Rattle.desk_words.specs.Changes.{after_some}
 
 -- a party calls
-abbrev pub is_party : Caller → Bool
-is_party caller.Office = false
-is_party (caller.Party party) = true
+abbrev pub is_a_party : Caller → Bool
+is_a_party caller.Office = false
+is_a_party (caller.Party party) = true
 
 -- only the office may ask it
 abbrev pub is_for_office : Request → Bool
@@ -36,8 +36,8 @@ is_for_office other = true
 -- a party asks what only the office may; the office asks what only a party may
 abbrev pub side_cases : Caller → Request → List Case
 side_cases who request =
-    record { refusal = OfficeOnly; holds = is_party who && is_for_office request }
-    ∷ record { refusal = PartyOnly; holds = not (is_party who) && not (is_for_office request) }
+    record { refusal = OfficeOnly; holds = is_a_party who && is_for_office request }
+    ∷ record { refusal = PartyOnly; holds = not (is_a_party who) && not (is_for_office request) }
     ∷ []
 
 -- of the wrong side nothing more is asked

@@ -14,7 +14,7 @@ use Rattle.desk_terms.specs.declared.kinds.Capacity.TheVariants.{Member, Rep, Pr
 use Rattle.desk_terms.specs.declared.kinds.HolderKind.{HolderKind}
 use Rattle.desk_terms.specs.declared.kinds.HolderKind.TheVariants.{Individual, Corporation, Treasury}
 use Rattle.desk_words.specs.Lists.{are_resolutions}
-use Rattle.desk_words.specs.Office.{are_numbered_after, implies, is_appointment, is_loaded_right, is_meeting, no_rows}
+use Rattle.desk_words.specs.Office.{are_numbered_after, implies, is_appointment, is_loaded_right, is_meeting, no_rows, are_rows}
 use Rattle.desk_words.specs.Registers.{is_holding, is_register}
 use Rattle.desk_words.specs.declared.office.MeetingLists.{MeetingLists}
 use Rattle.desk_words.specs.declared.records.Appointment.{Appointment}
@@ -25,7 +25,7 @@ use Rattle.desk_words.specs.declared.own.Received.{Received}
 use Rattle.proxy_rules.specs.Cutoffs.{cutoffs_of}
 use Rattle.proxy_rules.specs.Governing.{governed_in, governing_in, governs}
 use Rattle.proxy_rules.specs.Holdings.{are_tags, holding_by, holding_of, holding_with, is_kept}
-use Rattle.proxy_rules.specs.Shares.{are_rows, is_corporation, is_individual, row_of, shares_of, shares_by}
+use Rattle.proxy_rules.specs.Shares.{is_corporation, is_individual, row_of, shares_of, shares_by}
 use Rattle.proxy_rules.specs.Parties.{authorises, names}
 use Rattle.proxy_rules.specs.declared.papers.Cutoffs.{Cutoffs}
 use Rattle.proxy_rules.proofs.KeptLemmas.{kept_of}
@@ -38,8 +38,8 @@ use Rattle.poll_rules.specs.declared.roles.Role.{Role}
 use Rattle.poll_rules.proofs.GatherLemmas.{list_any-map}
 use Rattle.caller_view.specs.Attendance.{governs_any, may_demand}
 use Rattle.caller_view.specs.Rights.{holds_as_individual, no_runs}
-use Rattle.caller_view.specs.Own.{authorised_by, governed_by, received_by, shares_if, shares_in}
-use Rattle.caller_view.specs.Rows.{authority_in, givers, member_in}
+use Rattle.caller_view.specs.Own.{authorised_in_rows, governed_by, received_by, shares_of_kind, shares_in}
+use Rattle.caller_view.specs.Rows.{authority_rows_in, givers, member_in}
 use Rattle.caller_view.specs.Views.{own_in}
 use Rattle.caller_view.specs.declared.rows.AuthorityRows.{AuthorityRows}
 use Rattle.meeting_laws.proofs.AnyLemmas.{any-alike, any-and, any-either, any-turned}
@@ -101,12 +101,12 @@ as_member rows party h =
 -- ---- as a representative
 
 -- a row, if there is one, has a corporation's shares
-corporation-if : (o : Option RegisterRow) → nat_lt 0 (shares_in o) ≡ option_map_or (λ row. nat_lt 0 (shares_if row.kind row.shares)) o false
+corporation-if : (o : Option RegisterRow) → nat_lt 0 (shares_in o) ≡ option_map_or (λ row. nat_lt 0 (shares_of_kind row.kind row.shares)) o false
 corporation-if None = refl
 corporation-if (Some row) = refl
 
 -- a holding is of at least one share
-some_shares : (kind : HolderKind) (shares : ℕ) → nat_le 1 shares ≡ true → nat_lt 0 (shares_if kind shares) ≡ is_corporation kind
+some_shares : (kind : HolderKind) (shares : ℕ) → nat_le 1 shares ≡ true → nat_lt 0 (shares_of_kind kind shares) ≡ is_corporation kind
 some_shares Corporation shares some = lt-ltb 0 shares (leb-true 1 shares some)
 some_shares Individual shares some = refl
 some_shares Treasury shares some = refl
@@ -126,9 +126,9 @@ in_register : (rows : List RegisterRow) (corporation : List ℕ) → are_rows ro
     → nat_lt 0 (shares_in (row_of rows corporation)) ≡ list_any (is_row_of corporation) rows
 in_register rows corporation h =
     corporation-if (row_of rows corporation)
-    ∙ row_of-any (λ row. nat_lt 0 (shares_if row.kind row.shares)) rows corporation (rows_differ rows h)
+    ∙ row_of-any (λ row. nat_lt 0 (shares_of_kind row.kind row.shares)) rows corporation (rows_differ rows h)
     ∙ any-alike is_holding
-    (λ row. same_name row.member corporation && nat_lt 0 (shares_if row.kind row.shares))
+    (λ row. same_name row.member corporation && nat_lt 0 (shares_of_kind row.kind row.shares))
     (is_row_of corporation) rows (rows_held rows h)
     (λ row held. ap (λ b. same_name row.member corporation && b) (some_shares row.kind row.shares (holding_some row held)))
 
@@ -151,13 +151,13 @@ acts-any authorities person row =
 
 -- a party has an authority of a corporation in the register exactly where some row makes it a representative
 as_representative : (m : MeetingLists) (party : List ℕ) → are_rows m.register ≡ true
-    → list_any (λ (a : Authorised). nat_lt 0 a.shares) (map authorised_by (map (authority_in m) (filter (authorises party) m.authorities)))
+    → list_any (λ (a : Authorised). nat_lt 0 a.shares) (map authorised_in_rows (map (authority_rows_in m) (filter (authorises party) m.authorities)))
     ≡ list_any (acts_for_row m.authorities party) m.register
 as_representative m party h =
     let rows = m.register in
     let authorities = m.authorities in
-    list_any-map (λ (a : Authorised). nat_lt 0 a.shares) authorised_by (map (authority_in m) (filter (authorises party) authorities))
-    ∙ list_any-map (λ (a : AuthorityRows). nat_lt 0 (shares_in a.row)) (authority_in m) (filter (authorises party) authorities)
+    list_any-map (λ (a : Authorised). nat_lt 0 a.shares) authorised_in_rows (map (authority_rows_in m) (filter (authorises party) authorities))
+    ∙ list_any-map (λ (a : AuthorityRows). nat_lt 0 (shares_in a.row)) (authority_rows_in m) (filter (authorises party) authorities)
     ∙ any-filter (λ (a : Authority). nat_lt 0 (shares_in (row_of rows a.corporation))) (authorises party) authorities
     ∙ ap (λ test. list_any test authorities)
     (λ i (a : Authority).

@@ -19,7 +19,7 @@ use Rattle.proxy_rules.specs.Holdings.{IsKept, holding_of, is_given_by, is_kept}
 use Rattle.proxy_rules.specs.declared.holdings.Holding.{Holding}
 use Rattle.proxy_rules.specs.declared.papers.Cutoffs.{Cutoffs}
 use Rattle.caller_view.specs.Own.{governed_by, governed_kept, rows_by}
-use Rattle.caller_view.specs.Rows.{each_once, givers, member_in}
+use Rattle.caller_view.specs.Rows.{parties_once, givers, member_in}
 use Rattle.caller_view.specs.declared.rows.MemberRows.{MemberRows}
 
 -- what an office keeps passes the test of it
@@ -73,15 +73,15 @@ rows-found m (name ∷ names) member =
     turned false false = refl
 
 -- each once they are the same parties
-pub any-each_once : (member : List ℕ) (names : List (List ℕ)) → list_any (of member) (each_once names) ≡ list_any (of member) names
+pub any-each_once : (member : List ℕ) (names : List (List ℕ)) → list_any (of member) (parties_once names) ≡ list_any (of member) names
 any-each_once member [] = refl
 any-each_once member (name ∷ names) =
     (elim (of member name) as (λ b. of member name ≡ b
-    → (b || list_any (of member) (filter (λ other. not (same_name other name)) (each_once names))) ≡ (b || list_any (of member) names)) [
+    → (b || list_any (of member) (filter (λ other. not (same_name other name)) (parties_once names))) ≡ (b || list_any (of member) names)) [
       | true ↦ λ _. refl
       | false ↦ λ unlike.
-          any-filter (of member) (λ other. not (same_name other name)) (each_once names)
-          ∙ ap (λ test. list_any test (each_once names)) (λ i other. apart name unlike other i)
+          any-filter (of member) (λ other. not (same_name other name)) (parties_once names)
+          ∙ ap (λ test. list_any test (parties_once names)) (λ i other. apart name unlike other i)
           ∙ any-each_once member names
     ]) refl
   where

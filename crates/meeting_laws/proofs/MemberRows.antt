@@ -5,6 +5,7 @@ use Rattle.std.specs.Cmp.Lexicographic.{texts_ties}
 use Rattle.std.specs.List.{list_all, list_any}
 use Rattle.std.specs.Option.{option_map_or}
 use Rattle.std.proofs.lemmas.Cmp.{nat_list_cmp_total}
+use Rattle.desk_words.specs.Office.{are_rows}
 use Rattle.desk_lists.proofs.Kept.{none-narrower}
 use Rattle.std.proofs.Math.Bool.{or-false}
 use Rattle.std.proofs.lemmas.Bool.{not-true}
@@ -16,7 +17,7 @@ use Rattle.desk_words.proofs.RowLemmas.{same_name-true, same_name-refl}
 use Rattle.desk_words.specs.Registers.{all_shares, is_holding, keep_limits, member_before, same_member}
 use Rattle.desk_words.specs.declared.records.RegisterRow.{RegisterRow}
 use Rattle.desk_words.specs.declared.limits.TheConstants.{MOST_SHARES}
-use Rattle.proxy_rules.specs.Shares.{are_rows, row_of}
+use Rattle.proxy_rules.specs.Shares.{row_of}
 
 -- the rows of a meeting are in the order of members
 rows_ascend : (rows : List RegisterRow) → are_rows rows ≡ true → ascends_by member_before rows ≡ true

@@ -20,7 +20,7 @@ use Rattle.office_answers.specs.Reads.{RulingsReadNoMore, lists_read}
 use Rattle.meeting_core.specs.Step.{side_cases}
 use Rattle.meeting_laws.specs.OfficeReads.{AgreeOn, DeskReadIsEnough, ListsReadAreEnough}
 use Rattle.meeting_laws.specs.WrongAnswers.{a_meeting, another}
-use Rattle.meeting_laws.specs.WrongOfficeReads.{ReadsTooFew, office_of, reads_no_presence}
+use Rattle.meeting_laws.specs.WrongOfficeReads.{ReadsTooFew, lone_office, reads_no_presence}
 use Rattle.meeting_laws.specs.WrongOwnThings.{meeting_with_presence, quiet_meeting}
 
 -- what is decided of the office's request, by what is ruled on it
@@ -42,7 +42,7 @@ desk_enough one other now (Keys rows) agree =
 
 -- ---- a wrong reading
 
-pub presence_unread : ReadsTooFew reads_no_presence (office_of quiet_meeting) (office_of meeting_with_presence) a_meeting (Presence another)
+pub presence_unread : ReadsTooFew reads_no_presence (lone_office quiet_meeting) (lone_office meeting_with_presence) a_meeting (Presence another)
 presence_unread = record {
   first = refl;
   second = refl;
@@ -52,4 +52,4 @@ presence_unread = record {
 
 pub presence_unread_caught : ListsReadAreEnough reads_no_presence → ⊥
 presence_unread_caught law =
-    presence_unread.apart (law (office_of quiet_meeting) (office_of meeting_with_presence) a_meeting 0 (Presence another) presence_unread.agree)
+    presence_unread.apart (law (lone_office quiet_meeting) (lone_office meeting_with_presence) a_meeting 0 (Presence another) presence_unread.agree)

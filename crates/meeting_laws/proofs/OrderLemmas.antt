@@ -17,11 +17,11 @@ use Rattle.desk_words.specs.declared.request.PartyRequest.{PartyRequest}
 use Rattle.desk_words.specs.declared.request.PartyRequest.TheVariants.{Notice}
 use Rattle.desk_words.specs.declared.request.Request.{Request}
 use Rattle.desk_words.specs.declared.request.Request.TheVariants as asked
-use Rattle.caller_view.specs.Answers.{ruling_in as party_in}
+use Rattle.caller_view.specs.Answers.{ruling_for as party_in}
 use Rattle.caller_view.specs.Views.{meeting_at, own_of, public_of}
 use Rattle.caller_view.specs.declared.views.OwnView.{OwnView}
 use Rattle.caller_view.specs.Public.{PublicRecord}
-use Rattle.office_answers.specs.Answers.{desk_ruling, ruling_in as office_in}
+use Rattle.office_answers.specs.Answers.{desk_ruling, ruling_on as office_in}
 use Rattle.meeting_core.specs.Step.{ruling}
 use Rattle.desk_words.specs.declared.answer.Answer.{Answer}
 use Rattle.desk_terms.specs.declared.refusal.Refusal.{Refusal}

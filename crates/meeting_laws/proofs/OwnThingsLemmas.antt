@@ -20,7 +20,7 @@ use Rattle.proxy_rules.specs.Parties.{authorises, is_authority_of, is_cast_by, i
 use Rattle.proxy_rules.specs.Shares.{row_of, shares_of}
 use Rattle.proxy_rules.specs.declared.papers.Cutoffs.{Cutoffs}
 use Rattle.caller_view.specs.Own.{governed_by, known_to_proxy, nothing_of, own_from, received_by}
-use Rattle.caller_view.specs.Rows.{authority_in, givers, member_in, rows_in, rows_of}
+use Rattle.caller_view.specs.Rows.{authority_rows_in, givers, member_in, rows_in, rows_of}
 use Rattle.caller_view.specs.Views.{meeting_at, own_in, public_in}
 use Rattle.meeting_laws.specs.Laws.{OwnThingsTellWhatGoverns, known_in, shares_governed}
 use Rattle.meeting_laws.specs.OwnThings.{OwnThingsAreOfTheMeeting, TellsOwnAlone, appointment_concerns, authority_concerns, ending_concerns, has_authorised, has_named, row_concerns, what_concerns}
@@ -123,7 +123,7 @@ member-alike m party member named =
     }
 
 -- an authority that is the party's, with its corporation's row
-authority-alike : (m : MeetingLists) (party : List ℕ) (a : Authority) → has_authorised m party a.corporation ≡ true → authority_in (what_concerns party m) a ≡ authority_in m a
+authority-alike : (m : MeetingLists) (party : List ℕ) (a : Authority) → has_authorised m party a.corporation ≡ true → authority_rows_in (what_concerns party m) a ≡ authority_rows_in m a
 authority-alike m party a given =
     let row = row-alike m party a.corporation
     (λ row same. third-of (same_name row.member party) (has_named m party row.member) (has_authorised m party row.member)
@@ -147,8 +147,8 @@ rows-alike m party =
     (λ member here. member-alike m party member (givers-named m party member here)) in
     let mine = filter-within (authorises party) (authority_concerns party) m.authorities
     (λ a is. or_right (is_authority_of party a) (authorises party a) is) in
-    let authorised = ap (λ found. map (authority_in about) found) mine
-    ∙ map-alike (authority_in about) (authority_in m) (filter (authorises party) m.authorities)
+    let authorised = ap (λ found. map (authority_rows_in about) found) mine
+    ∙ map-alike (authority_rows_in about) (authority_rows_in m) (filter (authorises party) m.authorities)
     (λ a here. authority-alike m party a (authorities-given m party a here)) in
     let present = any-kept (is_presence_of party) m.presences in
     let demands = filter-within (is_demanded_by party) (is_demanded_by party) m.demands (λ d is. is) in

@@ -3,10 +3,10 @@ use Rattle.std.proofs.Common.{◌≡◌, true, false, [], ◌∷◌, length, ref
 use Rattle.desk_words.specs.declared.office.MeetingLists.{MeetingLists}
 use Rattle.caller_view.specs.declared.views.OwnView.{OwnView}
 use Rattle.meeting_laws.specs.OwnThings.{Telling, TellsOwnAlone}
-use Rattle.meeting_laws.specs.WrongAnswers.{a_member, meeting_with, vote_of_another}
+use Rattle.meeting_laws.specs.WrongAnswers.{a_member, meeting_with_casts, vote_of_another}
 use Rattle.meeting_laws.specs.WrongOwnThings.{TellsMore, demands_of_all, meeting_with_demand, meeting_with_presence, presence_of_any, quiet_meeting, votes_of_all}
 
-pub votes_more : TellsMore votes_of_all quiet_meeting (meeting_with (vote_of_another ∷ [])) a_member
+pub votes_more : TellsMore votes_of_all quiet_meeting (meeting_with_casts (vote_of_another ∷ [])) a_member
 votes_more = record {
   first = refl;
   second = refl;

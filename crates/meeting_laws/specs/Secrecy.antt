@@ -5,7 +5,7 @@ use Rattle.desk_words.specs.declared.office.MeetingLists.{MeetingLists}
 use Rattle.desk_words.specs.declared.records.CastMark.{CastMark}
 use Rattle.desk_words.specs.declared.request.OfficeRequest.{OfficeRequest}
 use Rattle.desk_words.specs.declared.request.OfficeRequest.TheVariants.{Declare}
-use Rattle.office_answers.specs.Answers.{ruling_in}
+use Rattle.office_answers.specs.Answers.{ruling_on}
 use Rattle.caller_view.specs.Views.{public_in}
 
 -- the votes on other resolutions
@@ -29,7 +29,7 @@ TheOfficeIsToldOfNoVotes =
     (now : Moment) (asked : OfficeRequest)
     → casts_off resolution casts ≡ casts_off resolution m.casts
     → declares resolution asked ≡ false
-    → ruling_in closed now asked (with_casts casts m) ≡ ruling_in closed now asked m
+    → ruling_on closed now asked (with_casts casts m) ≡ ruling_on closed now asked m
 
 -- and votes stand in no public record
 abbrev pub VotesAreNotPublic : Type 0

@@ -88,8 +88,8 @@ started_poll = record {
 }
 
 -- that meeting, of the two members, with that poll and these votes
-abbrev pub meeting_with : List CastMark → MeetingLists
-meeting_with votes = record {
+abbrev pub meeting_with_casts : List CastMark → MeetingLists
+meeting_with_casts votes = record {
   meeting = opened_meeting;
   register = one_share a_member ∷ one_share another ∷ [];
   appointments = [];
@@ -103,11 +103,11 @@ meeting_with votes = record {
 
 -- an office of one such meeting
 abbrev pub office_with : List CastMark → OfficeLists
-office_with votes = record { keys = []; closed = []; meetings = meeting_with votes ∷ [] }
+office_with votes = record { keys = []; closed = []; meetings = meeting_with_casts votes ∷ [] }
 
 -- a member's vote for the resolution on its one share
-abbrev pub block_of : Party → CastKind
-block_of member =
+abbrev pub whole_block : Party → CastKind
+whole_block member =
     Block
     (record {
       capacity = Member;
@@ -121,7 +121,7 @@ abbrev pub vote_of_another : CastMark
 vote_of_another = record {
   resolution = 1;
   voter = another;
-  what = block_of another;
+  what = whole_block another;
   moment = 0;
 }
 

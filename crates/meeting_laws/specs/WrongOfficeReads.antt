@@ -15,8 +15,8 @@ abbrev pub reads_no_presence : ListsReading
 reads_no_presence what m = record (lists_read what m) { presences = [] }
 
 -- an office of one meeting
-abbrev pub office_of : MeetingLists → OfficeLists
-office_of m = record { keys = []; closed = []; meetings = m ∷ [] }
+abbrev pub lone_office : MeetingLists → OfficeLists
+lone_office m = record { keys = []; closed = []; meetings = m ∷ [] }
 
 -- two offices that agree on what is read decide a request of the office otherwise
 pub record ReadsTooFew (reading : ListsReading) (one other : OfficeLists) (meeting : MeetingName)

@@ -7,7 +7,7 @@ use Rattle.desk_words.specs.declared.office.MeetingLists.{MeetingLists}
 use Rattle.desk_words.specs.declared.records.DemandMark.{DemandMark}
 use Rattle.caller_view.specs.Views.{own_in}
 use Rattle.meeting_laws.specs.OwnThings.{Telling, what_concerns}
-use Rattle.meeting_laws.specs.WrongAnswers.{another, meeting_with}
+use Rattle.meeting_laws.specs.WrongAnswers.{another, meeting_with_casts}
 
 -- everybody's votes are told as the party's
 abbrev pub votes_of_all : Telling
@@ -32,7 +32,7 @@ demands_of_all m closed party now = record (own_in m closed party now) {
 
 -- the meeting of two members, in which nothing is received
 abbrev pub quiet_meeting : MeetingLists
-quiet_meeting = meeting_with []
+quiet_meeting = meeting_with_casts []
 
 -- the same meeting, where the other member is present
 abbrev pub meeting_with_presence : MeetingLists

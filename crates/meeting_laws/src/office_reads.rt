@@ -2,7 +2,7 @@
 ghost use Rattle.desk_words.specs.declared.request.OfficeRequest.TheVariants.{Presence};
 ghost use Rattle.meeting_laws.specs.OfficeReads.{DeskReadIsEnough, ListsReadAreEnough};
 ghost use Rattle.meeting_laws.specs.WrongAnswers.{a_meeting, another};
-ghost use Rattle.meeting_laws.specs.WrongOfficeReads.{ReadsTooFew, office_of, reads_no_presence};
+ghost use Rattle.meeting_laws.specs.WrongOfficeReads.{ReadsTooFew, lone_office, reads_no_presence};
 ghost use Rattle.meeting_laws.specs.WrongOwnThings.{meeting_with_presence, quiet_meeting};
 ghost use Rattle.office_answers.specs.Reads.{lists_read};
 
@@ -22,7 +22,7 @@ pub fn what_the_office_reads_is_enough()
 /// That law can fail: where it is not read who is present, a presence that stands already is
 /// written again.
 pub fn unread_presence_is_caught()
-    ensures presence { ReadsTooFew reads_no_presence (office_of quiet_meeting)
-        (office_of meeting_with_presence) a_meeting (Presence another) }
+    ensures presence { ReadsTooFew reads_no_presence (lone_office quiet_meeting)
+        (lone_office meeting_with_presence) a_meeting (Presence another) }
     ensures caught { ListsReadAreEnough reads_no_presence → ⊥ }
 {}

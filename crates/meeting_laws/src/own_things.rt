@@ -3,7 +3,7 @@ ghost use Rattle.std.specs.Prelude.{[], ◌∷◌};
 ghost use Rattle.caller_view.specs.Views.{own_in};
 ghost use Rattle.meeting_laws.specs.Laws.{OwnThingsTellWhatGoverns};
 ghost use Rattle.meeting_laws.specs.OwnThings.{OwnThingsAreOfTheMeeting, TellsOwnAlone};
-ghost use Rattle.meeting_laws.specs.WrongAnswers.{a_member, meeting_with, vote_of_another};
+ghost use Rattle.meeting_laws.specs.WrongAnswers.{a_member, meeting_with_casts, vote_of_another};
 ghost use Rattle.meeting_laws.specs.WrongOwnThings.{TellsMore, demands_of_all, meeting_with_demand, meeting_with_presence, presence_of_any, quiet_meeting, votes_of_all};
 
 /// What a party is told of a meeting as its own is read from the notice, the polls, and the records
@@ -19,7 +19,7 @@ pub fn own_things_are_ones_own()
 /// told to a member as its own, each tell apart two meetings that differ in a record of another
 /// member alone.
 pub fn others_things_are_caught()
-    ensures votes { TellsMore votes_of_all quiet_meeting (meeting_with (vote_of_another ∷ []))
+    ensures votes { TellsMore votes_of_all quiet_meeting (meeting_with_casts (vote_of_another ∷ []))
         a_member }
     ensures presence { TellsMore presence_of_any quiet_meeting meeting_with_presence a_member }
     ensures demands { TellsMore demands_of_all quiet_meeting meeting_with_demand a_member }

@@ -3,13 +3,12 @@ use Rattle.std.proofs.Common.{◌≡◌, ℕ, Bool, true, false, ◌||◌, cond,
 use Rattle.std.specs.Cmp.{first_so}
 use Rattle.std.specs.Prelude.{is_some, option_map}
 use Rattle.desk_words.specs.Finding.{meeting_named}
-use Rattle.desk_words.specs.Office.{implies, is_office, no_rows}
+use Rattle.desk_words.specs.Office.{implies, is_office, no_rows, are_rows}
 use Rattle.desk_words.specs.Registers.{is_register}
 use Rattle.desk_words.specs.declared.office.MeetingLists.{MeetingLists}
 use Rattle.desk_words.specs.declared.office.OfficeLists.{OfficeLists}
 use Rattle.desk_words.specs.declared.records.RegisterRow.{RegisterRow}
 use Rattle.desk_words.proofs.OfficeFacts.{found_facts}
-use Rattle.office_lists.specs.Own.{are_rows}
 use Rattle.party_reading.specs.Lists.{register_in}
 use Rattle.party_reading.proofs.MeetingLemmas.{the_same}
 

@@ -34,8 +34,8 @@ presence_alone party m = record (polls_alone m) {
 }
 
 -- the lists by which the shares of a meeting that is found are counted; where none is, nothing
-abbrev pub shares_in : Option MeetingLists → ShareLists
-shares_in found = record {
+abbrev pub share_lists_in : Option MeetingLists → ShareLists
+share_lists_in found = record {
   register = register_in found;
   appointments = appointments_in found;
   endings = endings_in found;

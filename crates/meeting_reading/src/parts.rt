@@ -5,7 +5,7 @@ ghost use Rattle.office_answers.specs.Reads.{polls_alone};
 ghost use Rattle.party_reading.specs.Lists.{register_in};
 ghost use Rattle.party_reading.specs.Telling.{IsToldOf};
 ghost use Rattle.proxy_rules.specs.Parties.{is_presence_of};
-ghost use Rattle.meeting_reading.specs.Parts.{meeting_with, shares_alone, shares_in, with_shares};
+ghost use Rattle.meeting_reading.specs.Parts.{meeting_with, shares_alone, share_lists_in, with_shares};
 ghost use Rattle.meeting_reading.specs.Parts.{register_alone, presence_alone};
 ghost use Rattle.meeting_reading.specs.Parts.{shares_and_presences, shares_and_demands, shares_and_casts};
 
@@ -55,7 +55,7 @@ fn shares_of<S: Alter>(
 ) -> Result<ShareLists, ReadFault>
     ensures same_reference { tx.new.conn.ghost_name ≡ tx.old.conn.ghost_name }
     ensures told { IsToldOf S.Store tx.old.conn.now tx.new.conn.now result
-        (λ office shares. shares ≡ shares_in (meeting_at office meeting)) }
+        (λ office shares. shares ≡ share_lists_in (meeting_at office meeting)) }
 {
     let register = register_of(tx, alloc, meeting)?;
     let appointments = appointments_of(tx, alloc, meeting)?;

@@ -11,7 +11,7 @@ use Rattle.sqlite.specs.Listing.{understood}
 use Rattle.sqlite.specs.State.{State, ExecutesInside}
 use Rattle.sqlite.proofs.Callers.{IsPlain, command_of}
 use Rattle.desk_words.specs.declared.records.Appointment.{Appointment}
-use Rattle.desk_rows.specs.Columns.{moment_in, moment_of, natural_of, number_in, spelled}
+use Rattle.desk_rows.specs.Columns.{moment_in, moment_of_number, natural_of, number_in, spelled}
 use Rattle.desk_rows.specs.Instructions.{instructions_of}
 use Rattle.desk_rows.specs.Papers.{appointment_in}
 use Rattle.desk_terms.specs.Names.{meeting_of, party_of}
@@ -50,11 +50,11 @@ module _ (m : List ℕ) (a : Appointment) (meeting : List ℕ) (member : List �
   abbrev pub values : Row
   values = Text meeting ∷ Text member ∷ Int number ∷ Text proxy ∷ Int first ∷ Int last ∷ Text letters ∷ Int moment ∷ []
 
-  means : meeting_of meeting ≡ Some m → party_of member ≡ Some a.member → natural_of number ≡ Some a.number → party_of proxy ≡ Some a.proxy → natural_of first ≡ Some a.range.from → natural_of last ≡ Some a.range.to → range_of a.range.from a.range.to ≡ Some a.range → instructions_of letters ≡ Some a.instructions → moment_of moment ≡ Some a.moment → appointment_in values ≡ Some (record { meeting = m; item = a })
+  means : meeting_of meeting ≡ Some m → party_of member ≡ Some a.member → natural_of number ≡ Some a.number → party_of proxy ≡ Some a.proxy → natural_of first ≡ Some a.range.from → natural_of last ≡ Some a.range.to → range_of a.range.from a.range.to ≡ Some a.range → instructions_of letters ≡ Some a.instructions → moment_of_number moment ≡ Some a.moment → appointment_in values ≡ Some (record { meeting = m; item = a })
   unfolding appointment_in moment_in number_in spelled
   means meeting_is member_is number_is proxy_is first_is last_is range_is letters_is moment_is = rw (meeting_is, member_is, number_is, proxy_is, first_is, last_is, range_is, letters_is, moment_is) refl
 
-  pub adds_appointment : meeting_of meeting ≡ Some m → party_of member ≡ Some a.member → natural_of number ≡ Some a.number → party_of proxy ≡ Some a.proxy → natural_of first ≡ Some a.range.from → natural_of last ≡ Some a.range.to → range_of a.range.from a.range.to ≡ Some a.range → instructions_of letters ≡ Some a.instructions → moment_of moment ≡ Some a.moment
+  pub adds_appointment : meeting_of meeting ≡ Some m → party_of member ≡ Some a.member → natural_of number ≡ Some a.number → party_of proxy ≡ Some a.proxy → natural_of first ≡ Some a.range.from → natural_of last ≡ Some a.range.to → range_of a.range.from a.range.to ≡ Some a.range → instructions_of letters ≡ Some a.instructions → moment_of_number moment ≡ Some a.moment
       → (old new : State) (r : Result ℕ Error) → IsDesk old → IsTrue old.in_transaction → ExecutesInside 0 add_text values old new r → OnOk r (Adds appointments (record { meeting = m; item = a }) old new)
   adds_appointment meeting_is member_is number_is proxy_is first_is last_is range_is letters_is moment_is old new r was inside h =
       let cells = Null ∷ values in

@@ -11,7 +11,7 @@ use Rattle.sqlite.specs.Listing.{understood}
 use Rattle.sqlite.specs.State.{State, ExecutesInside}
 use Rattle.sqlite.proofs.Callers.{IsPlain, command_of}
 use Rattle.desk_words.specs.declared.records.Authority.{Authority}
-use Rattle.desk_rows.specs.Columns.{moment_in, moment_of, spelled}
+use Rattle.desk_rows.specs.Columns.{moment_in, moment_of_number, spelled}
 use Rattle.desk_rows.specs.Papers.{authority_in}
 use Rattle.desk_terms.specs.Names.{meeting_of, party_of}
 use Rattle.desk_schema.specs.Tables.{desk_schema, up_to_endings, authorities_table as table}
@@ -48,11 +48,11 @@ module _ (m : List ℕ) (x : Authority) (meeting : List ℕ) (corporation : List
   abbrev pub values : Row
   values = Text meeting ∷ Text corporation ∷ Text person ∷ Int moment ∷ []
 
-  means : meeting_of meeting ≡ Some m → party_of corporation ≡ Some x.corporation → party_of person ≡ Some x.person → moment_of moment ≡ Some x.moment → authority_in values ≡ Some (record { meeting = m; item = x })
+  means : meeting_of meeting ≡ Some m → party_of corporation ≡ Some x.corporation → party_of person ≡ Some x.person → moment_of_number moment ≡ Some x.moment → authority_in values ≡ Some (record { meeting = m; item = x })
   unfolding authority_in moment_in spelled
   means meeting_is corporation_is person_is moment_is = rw (meeting_is, corporation_is, person_is, moment_is) refl
 
-  pub adds_authority : meeting_of meeting ≡ Some m → party_of corporation ≡ Some x.corporation → party_of person ≡ Some x.person → moment_of moment ≡ Some x.moment
+  pub adds_authority : meeting_of meeting ≡ Some m → party_of corporation ≡ Some x.corporation → party_of person ≡ Some x.person → moment_of_number moment ≡ Some x.moment
       → (old new : State) (r : Result ℕ Error) → IsDesk old → IsTrue old.in_transaction → ExecutesInside 0 add_text values old new r → OnOk r (Adds authorities (record { meeting = m; item = x }) old new)
   adds_authority meeting_is corporation_is person_is moment_is old new r was inside h =
       let cells = Null ∷ values in

@@ -12,7 +12,7 @@ use Rattle.sqlite.specs.Listing.{understood}
 use Rattle.sqlite.specs.State.{State, ExecutesInside}
 use Rattle.sqlite.proofs.Callers.{IsPlain, command_of}
 use Rattle.desk_words.specs.declared.records.CastMark.{CastMark}
-use Rattle.desk_rows.specs.Columns.{moment_in, moment_of, natural_of, number_in, spelled}
+use Rattle.desk_rows.specs.Columns.{moment_in, moment_of_number, natural_of, number_in, spelled}
 use Rattle.desk_rows.specs.Marks.{cast_in, cast_kind_in, cast_kind_of}
 use Rattle.desk_terms.specs.Names.{meeting_of, party_of}
 use Rattle.desk_schema.specs.Tables.{desk_schema, up_to_polls, casts_table as table}
@@ -49,11 +49,11 @@ module _ (m : List ℕ) (x : CastMark) (meeting : List ℕ) (resolution : ℤ) (
   abbrev pub values : Row
   values = Text meeting ∷ Int resolution ∷ Text voter ∷ Text capacity ∷ some_text member ∷ or_null Int first ∷ or_null Int last ∷ some_text way ∷ Int moment ∷ []
 
-  means : meeting_of meeting ≡ Some m → natural_of resolution ≡ Some x.resolution → party_of voter ≡ Some x.voter → cast_kind_of (Text capacity) (some_text member) (or_null Int first) (or_null Int last) (some_text way) ≡ Some x.what → moment_of moment ≡ Some x.moment → cast_in values ≡ Some (record { meeting = m; item = x })
+  means : meeting_of meeting ≡ Some m → natural_of resolution ≡ Some x.resolution → party_of voter ≡ Some x.voter → cast_kind_of (Text capacity) (some_text member) (or_null Int first) (or_null Int last) (some_text way) ≡ Some x.what → moment_of_number moment ≡ Some x.moment → cast_in values ≡ Some (record { meeting = m; item = x })
   unfolding cast_in cast_kind_in moment_in number_in spelled
   means meeting_is resolution_is voter_is what_is moment_is = rw (meeting_is, resolution_is, voter_is, what_is, moment_is) refl
 
-  pub adds_cast : meeting_of meeting ≡ Some m → natural_of resolution ≡ Some x.resolution → party_of voter ≡ Some x.voter → cast_kind_of (Text capacity) (some_text member) (or_null Int first) (or_null Int last) (some_text way) ≡ Some x.what → moment_of moment ≡ Some x.moment
+  pub adds_cast : meeting_of meeting ≡ Some m → natural_of resolution ≡ Some x.resolution → party_of voter ≡ Some x.voter → cast_kind_of (Text capacity) (some_text member) (or_null Int first) (or_null Int last) (some_text way) ≡ Some x.what → moment_of_number moment ≡ Some x.moment
       → (old new : State) (r : Result ℕ Error) → IsDesk old → IsTrue old.in_transaction → ExecutesInside 0 add_text values old new r → OnOk r (Adds casts (record { meeting = m; item = x }) old new)
   adds_cast meeting_is resolution_is voter_is what_is moment_is old new r was inside h =
       let cells = Null ∷ values in

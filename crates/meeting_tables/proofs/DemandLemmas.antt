@@ -11,7 +11,7 @@ use Rattle.sqlite.specs.Listing.{understood}
 use Rattle.sqlite.specs.State.{State, ExecutesInside}
 use Rattle.sqlite.proofs.Callers.{IsPlain, command_of}
 use Rattle.desk_words.specs.declared.records.DemandMark.{DemandMark}
-use Rattle.desk_rows.specs.Columns.{moment_in, moment_of, natural_of, number_in, spelled}
+use Rattle.desk_rows.specs.Columns.{moment_in, moment_of_number, natural_of, number_in, spelled}
 use Rattle.desk_rows.specs.Marks.{demand_mark_in}
 use Rattle.desk_terms.specs.Names.{meeting_of, party_of}
 use Rattle.desk_schema.specs.Tables.{desk_schema, up_to_presences, demands_table as table}
@@ -48,11 +48,11 @@ module _ (m : List ℕ) (x : DemandMark) (meeting : List ℕ) (resolution : ℤ)
   abbrev pub values : Row
   values = Text meeting ∷ Int resolution ∷ Text party ∷ Int moment ∷ []
 
-  means : meeting_of meeting ≡ Some m → natural_of resolution ≡ Some x.resolution → party_of party ≡ Some x.party → moment_of moment ≡ Some x.moment → demand_mark_in values ≡ Some (record { meeting = m; item = x })
+  means : meeting_of meeting ≡ Some m → natural_of resolution ≡ Some x.resolution → party_of party ≡ Some x.party → moment_of_number moment ≡ Some x.moment → demand_mark_in values ≡ Some (record { meeting = m; item = x })
   unfolding demand_mark_in moment_in number_in spelled
   means meeting_is resolution_is party_is moment_is = rw (meeting_is, resolution_is, party_is, moment_is) refl
 
-  pub adds_demand : meeting_of meeting ≡ Some m → natural_of resolution ≡ Some x.resolution → party_of party ≡ Some x.party → moment_of moment ≡ Some x.moment
+  pub adds_demand : meeting_of meeting ≡ Some m → natural_of resolution ≡ Some x.resolution → party_of party ≡ Some x.party → moment_of_number moment ≡ Some x.moment
       → (old new : State) (r : Result ℕ Error) → IsDesk old → IsTrue old.in_transaction → ExecutesInside 0 add_text values old new r → OnOk r (Adds demands (record { meeting = m; item = x }) old new)
   adds_demand meeting_is resolution_is party_is moment_is old new r was inside h =
       let cells = Null ∷ values in

@@ -16,11 +16,11 @@ use Rattle.sqlite.specs.Listing.{understood}
 use Rattle.sqlite.specs.State.{State, ExecutesInside}
 use Rattle.sqlite.proofs.Callers.{IsPlain, command_of}
 use Rattle.desk_words.specs.declared.records.Poll.{Poll}
-use Rattle.desk_rows.specs.Columns.{flag_in, flag_of, integer_of, moment_in, moment_of, natural_of, number_in, natural_value, some_moment_in, some_moment_of, spelled, spelled_of}
+use Rattle.desk_rows.specs.Columns.{flag_in, flag_of, integer_of, moment_in, moment_of_number, natural_of, number_in, natural_value, some_moment_in, some_moment_of, spelled, spelled_of}
 use Rattle.desk_rows.specs.Marks.{declared_in, declared_of, poll_in}
 use Rattle.desk_terms.specs.Names.{meeting_of}
 use Rattle.desk_schema.specs.Tables.{desk_schema, up_to_demands, polls_table as table}
-use Rattle.desk_schema.specs.Contents.{polls, is_named, started_at, closed_at, declared_as}
+use Rattle.desk_schema.specs.Contents.{polls, is_poll_named, started_at, closed_at, declared_as}
 use Rattle.desk_schema.specs.Statements.{IsDesk, Adds, Sets, columns_of, layout_one}
 use Rattle.desk_statements.proofs.Adding.{adds_row, adds}
 use Rattle.desk_statements.proofs.Deleting.{picked, passes}
@@ -34,7 +34,7 @@ use Rattle.sqlite_trees.specs.View.{is_int}
 use Rattle.desk_words.specs.declared.records.Tally.{Tally}
 use Rattle.desk_schema.specs.declared.poll_name.PollName.{PollName}
 use Rattle.desk_rows.specs.declared.kept.InMeeting.{InMeeting}
-use Rattle.desk_rows.specs.Meanings.{◌>>=◌}
+use Rattle.desk_terms.specs.Options.{◌>>=◌}
 use Rattle.desk_statements.proofs.Seq.{is_its_id}
 use Rattle.desk_rows.proofs.MeaningLemmas.{bound, option_ap}
 use Rattle.desk_statements.proofs.Tests.{names_tell, numbers_tell, kept_spelled, kept_integer, kept_some_moment, declared_stays}
@@ -68,11 +68,11 @@ module _ (m : List ℕ) (x : Poll) (meeting : List ℕ) (resolution : ℤ) (orde
   abbrev pub values : Row
   values = Text meeting ∷ Int resolution ∷ Int ordered ∷ Int take ∷ flag x.chair ∷ or_null Int started ∷ or_null Int closed ∷ or_null Int votes_for ∷ or_null Int votes_against ∷ or_null Int withheld ∷ or_null Int eligible ∷ []
 
-  means : meeting_of meeting ≡ Some m → natural_of resolution ≡ Some x.resolution → moment_of ordered ≡ Some x.ordered → moment_of take ≡ Some x.take → some_moment_of (or_null Int started) ≡ Some x.started → some_moment_of (or_null Int closed) ≡ Some x.closed → declared_of (or_null Int votes_for) (or_null Int votes_against) (or_null Int withheld) (or_null Int eligible) ≡ Some x.declared → poll_in values ≡ Some (record { meeting = m; item = x })
+  means : meeting_of meeting ≡ Some m → natural_of resolution ≡ Some x.resolution → moment_of_number ordered ≡ Some x.ordered → moment_of_number take ≡ Some x.take → some_moment_of (or_null Int started) ≡ Some x.started → some_moment_of (or_null Int closed) ≡ Some x.closed → declared_of (or_null Int votes_for) (or_null Int votes_against) (or_null Int withheld) (or_null Int eligible) ≡ Some x.declared → poll_in values ≡ Some (record { meeting = m; item = x })
   unfolding poll_in declared_in flag_in moment_in number_in some_moment_in spelled
   means meeting_is resolution_is ordered_is take_is started_is closed_is declared_is = rw (meeting_is, resolution_is, ordered_is, take_is, started_is, closed_is, declared_is, flag_kept x.chair) refl
 
-  pub adds_poll : meeting_of meeting ≡ Some m → natural_of resolution ≡ Some x.resolution → moment_of ordered ≡ Some x.ordered → moment_of take ≡ Some x.take → some_moment_of (or_null Int started) ≡ Some x.started → some_moment_of (or_null Int closed) ≡ Some x.closed → declared_of (or_null Int votes_for) (or_null Int votes_against) (or_null Int withheld) (or_null Int eligible) ≡ Some x.declared
+  pub adds_poll : meeting_of meeting ≡ Some m → natural_of resolution ≡ Some x.resolution → moment_of_number ordered ≡ Some x.ordered → moment_of_number take ≡ Some x.take → some_moment_of (or_null Int started) ≡ Some x.started → some_moment_of (or_null Int closed) ≡ Some x.closed → declared_of (or_null Int votes_for) (or_null Int votes_against) (or_null Int withheld) (or_null Int eligible) ≡ Some x.declared
       → (old new : State) (r : Result ℕ Error) → IsDesk old → IsTrue old.in_transaction → ExecutesInside 0 add_text values old new r → OnOk r (Adds polls (record { meeting = m; item = x }) old new)
   adds_poll meeting_is resolution_is ordered_is take_is started_is closed_is declared_is old new r was inside h =
       let cells = values in
@@ -183,8 +183,8 @@ whole_row cells x p = rw (p.meeting, p.resolution, p.ordered, p.taken, p.chair, 
 record IsKeptRow (cells : Row) (x : InMeeting Poll) : Type 0 where
   meeting : spelled_of meeting_of (cast Texts (column cells 1)) ≡ Some x.meeting
   resolution : natural_value (cast Integer (column cells 2)) ≡ Some x.item.resolution
-  ordered : (integer_of (cast Integer (column cells 3)) >>= moment_of) ≡ Some x.item.ordered
-  taken : (integer_of (cast Integer (column cells 4)) >>= moment_of) ≡ Some x.item.take
+  ordered : (integer_of (cast Integer (column cells 3)) >>= moment_of_number) ≡ Some x.item.ordered
+  taken : (integer_of (cast Integer (column cells 4)) >>= moment_of_number) ≡ Some x.item.take
   chair : (natural_value (cast Integer (column cells 5)) >>= flag_of) ≡ Some x.item.chair
   started : some_moment_of (cast Integer (column cells 6)) ≡ Some x.item.started
   closed : some_moment_of (cast Integer (column cells 7)) ≡ Some x.item.closed
@@ -199,8 +199,8 @@ kept_row cells x h =
     record {
       meeting = kept_spelled meeting_of (column cells 1) x.meeting p.meeting;
       resolution = kept_integer natural_of (column cells 2) x.item.resolution p.resolution;
-      ordered = kept_integer moment_of (column cells 3) x.item.ordered p.ordered;
-      taken = kept_integer moment_of (column cells 4) x.item.take p.taken;
+      ordered = kept_integer moment_of_number (column cells 3) x.item.ordered p.ordered;
+      taken = kept_integer moment_of_number (column cells 4) x.item.take p.taken;
       chair = rw (kept_integer natural_of (column cells 5) flag_part.0 flag_part.1) flag_part.2;
       started = kept_some_moment (column cells 6) x.item.started p.started;
       closed = kept_some_moment (column cells 7) x.item.closed p.closed;
@@ -208,7 +208,7 @@ kept_row cells x h =
     }
 
 chosen_so : (name : PollName) (meeting : List ℕ) (n : ℤ) (rest : Row) → meeting_of meeting ≡ Some name.meeting → natural_of n ≡ Some name.resolution → (cells : Row) (x : InMeeting Poll)
-    → polls.means (columns_of polls cells) ≡ Some x → passes named (Text meeting ∷ Int n ∷ rest) cells ≡ is_named name x
+    → polls.means (columns_of polls cells) ≡ Some x → passes named (Text meeting ∷ Int n ∷ rest) cells ≡ is_poll_named name x
 unfolding spelled number_in
 chosen_so name meeting n rest is number cells x h =
     let p = parts (columns_of polls cells) x h in
@@ -235,9 +235,9 @@ again cells x k started closed a b c d set same e f g =
     })
 
 module _ (name : PollName) (meeting : List ℕ) (n : ℤ) (is : meeting_of meeting ≡ Some name.meeting) (number : natural_of n ≡ Some name.resolution) where
-  start_sets : (z : ℤ) (moment : ℕ) → moment_of z ≡ Some moment → (cells : Row) (x : InMeeting Poll) → polls.means (columns_of polls cells) ≡ Some x
+  start_sets : (z : ℤ) (moment : ℕ) → moment_of_number z ≡ Some moment → (cells : Row) (x : InMeeting Poll) → polls.means (columns_of polls cells) ≡ Some x
       → polls.means (columns_of polls (if passes named (Text meeting ∷ Int n ∷ Int z ∷ []) cells then new_row (record table { tree = 22 }) start_terms (Text meeting ∷ Int n ∷ Int z ∷ []) cells else cells)) ≡ Some (started_at name moment x)
-  start_sets z moment at cells x h = go (passes named (Text meeting ∷ Int n ∷ Int z ∷ []) cells) (is_named name x) (chosen_so name meeting n (Int z ∷ []) is number cells x h)
+  start_sets z moment at cells x h = go (passes named (Text meeting ∷ Int n ∷ Int z ∷ []) cells) (is_poll_named name x) (chosen_so name meeting n (Int z ∷ []) is number cells x h)
     where
       set_now : some_moment_of (cast Integer (Int z)) ≡ Some (Some moment)
       set_now = rw (cast_int z, at) refl
@@ -251,15 +251,15 @@ module _ (name : PollName) (meeting : List ℕ) (n : ℤ) (is : meeting_of meeti
       go false true e = absurd cc
       go false false e = h
 
-  pub starts : (z : ℤ) (moment : ℕ) → moment_of z ≡ Some moment → (old new : State) (r : Result ℕ Error) → IsDesk old → IsTrue old.in_transaction
+  pub starts : (z : ℤ) (moment : ℕ) → moment_of_number z ≡ Some moment → (old new : State) (r : Result ℕ Error) → IsDesk old → IsTrue old.in_transaction
       → ExecutesInside 0 start_text (Text meeting ∷ Int n ∷ Int z ∷ []) old new r → OnOk r (Sets polls (started_at name moment) old new)
   starts z moment at old new r was inside h =
       sets polls (λ cells. if passes named (Text meeting ∷ Int n ∷ Int z ∷ []) cells then new_row (record table { tree = 22 }) start_terms (Text meeting ∷ Int n ∷ Int z ∷ []) cells else cells) (started_at name moment) (start_sets z moment at) layout_one old new r
       (changes_rows ones_apart 12 (record table { tree = 22 }) named start_terms start_text (Text meeting ∷ Int n ∷ Int z ∷ []) start_is start_plain refl refl refl (keeps_number start_terms (Text meeting ∷ Int n ∷ Int z ∷ [])) old new r was inside h)
 
-  close_sets : (z : ℤ) (moment : ℕ) → moment_of z ≡ Some moment → (cells : Row) (x : InMeeting Poll) → polls.means (columns_of polls cells) ≡ Some x
+  close_sets : (z : ℤ) (moment : ℕ) → moment_of_number z ≡ Some moment → (cells : Row) (x : InMeeting Poll) → polls.means (columns_of polls cells) ≡ Some x
       → polls.means (columns_of polls (if passes named (Text meeting ∷ Int n ∷ Int z ∷ []) cells then new_row (record table { tree = 22 }) close_terms (Text meeting ∷ Int n ∷ Int z ∷ []) cells else cells)) ≡ Some (closed_at name moment x)
-  close_sets z moment at cells x h = go (passes named (Text meeting ∷ Int n ∷ Int z ∷ []) cells) (is_named name x) (chosen_so name meeting n (Int z ∷ []) is number cells x h)
+  close_sets z moment at cells x h = go (passes named (Text meeting ∷ Int n ∷ Int z ∷ []) cells) (is_poll_named name x) (chosen_so name meeting n (Int z ∷ []) is number cells x h)
     where
       set_now : some_moment_of (cast Integer (Int z)) ≡ Some (Some moment)
       set_now = rw (cast_int z, at) refl
@@ -273,7 +273,7 @@ module _ (name : PollName) (meeting : List ℕ) (n : ℤ) (is : meeting_of meeti
       go false true e = absurd cc
       go false false e = h
 
-  pub closes : (z : ℤ) (moment : ℕ) → moment_of z ≡ Some moment → (old new : State) (r : Result ℕ Error) → IsDesk old → IsTrue old.in_transaction
+  pub closes : (z : ℤ) (moment : ℕ) → moment_of_number z ≡ Some moment → (old new : State) (r : Result ℕ Error) → IsDesk old → IsTrue old.in_transaction
       → ExecutesInside 0 close_text (Text meeting ∷ Int n ∷ Int z ∷ []) old new r → OnOk r (Sets polls (closed_at name moment) old new)
   closes z moment at old new r was inside h =
       sets polls (λ cells. if passes named (Text meeting ∷ Int n ∷ Int z ∷ []) cells then new_row (record table { tree = 22 }) close_terms (Text meeting ∷ Int n ∷ Int z ∷ []) cells else cells) (closed_at name moment) (close_sets z moment at) layout_one old new r
@@ -284,7 +284,7 @@ module _ (name : PollName) (meeting : List ℕ) (n : ℤ) (is : meeting_of meeti
 
   declare_sets : (a b c d : ℤ) (tally : Tally) → declared_of (Int a) (Int b) (Int c) (Int d) ≡ Some (Some tally) → (cells : Row) (x : InMeeting Poll) → polls.means (columns_of polls cells) ≡ Some x
       → polls.means (columns_of polls (if passes named (figures a b c d) cells then new_row (record table { tree = 22 }) declare_terms (figures a b c d) cells else cells)) ≡ Some (declared_as name tally x)
-  declare_sets a b c d tally at cells x h = go (passes named (figures a b c d) cells) (is_named name x) (chosen_so name meeting n (Int a ∷ Int b ∷ Int c ∷ Int d ∷ []) is number cells x h)
+  declare_sets a b c d tally at cells x h = go (passes named (figures a b c d) cells) (is_poll_named name x) (chosen_so name meeting n (Int a ∷ Int b ∷ Int c ∷ Int d ∷ []) is number cells x h)
     where
       set_now : declared_of (cast Integer (Int a)) (cast Integer (Int b)) (cast Integer (Int c)) (cast Integer (Int d)) ≡ Some (Some tally)
       set_now = rw (cast_int a, cast_int b, cast_int c, cast_int d) at

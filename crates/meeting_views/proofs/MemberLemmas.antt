@@ -14,7 +14,7 @@ use Rattle.desk_words.specs.declared.office.MeetingLists.{MeetingLists}
 use Rattle.desk_words.specs.declared.records.Appointment.{Appointment}
 use Rattle.desk_words.specs.declared.request.NewCast.{NewCast}
 use Rattle.caller_view.specs.Reads.{appointments_read, members_read}
-use Rattle.caller_view.specs.Rows.{each_once, givers, member_in}
+use Rattle.caller_view.specs.Rows.{parties_once, givers, member_in}
 use Rattle.caller_view.specs.declared.rows.MemberRows.{MemberRows}
 use Rattle.caller_view.proofs.OwnLemmas.{filter-map, filter-swap}
 use Rattle.proxy_rules.proofs.NameLemmas.{same_name-sym}
@@ -27,11 +27,11 @@ differs name other = not (same_name other name)
 -- ---- one more
 
 -- the parties, each once, with one party more, behind them unless it stands already
-each_once-more : (names : List (List ℕ)) (name : List ℕ) → each_once (names ++ name ∷ []) ≡ cond (list_any (λ other. same_name other name) names) (each_once names) (each_once names ++ name ∷ [])
+each_once-more : (names : List (List ℕ)) (name : List ℕ) → parties_once (names ++ name ∷ []) ≡ cond (list_any (λ other. same_name other name) names) (parties_once names) (parties_once names ++ name ∷ [])
 each_once-more [] name = refl
 each_once-more (first ∷ names) name =
     let stands = list_any (λ other. same_name other name) names in
-    let once = each_once names in
+    let once = parties_once names in
     ap (λ l. first ∷ filter (differs first) l) (each_once-more names name)
     ∙ (elim (same_name first name) as (λ b. same_name first name ≡ b
     → first ∷ filter (differs first) (cond stands once (once ++ name ∷ [])) ≡ cond (b || stands) (first ∷ filter (differs first) once) (first ∷ (filter (differs first) once ++ name ∷ []))) [
@@ -75,7 +75,7 @@ pub givers-more : (given : List Appointment) (i : ℕ) (a : Appointment) → i <
     → givers (take (i + 1) given) ≡ cond (list_any (is_given_by a.member) (take i given)) (givers (take i given)) (givers (take i given) ++ a.member ∷ [])
 givers-more given i a h is =
     ap givers (given-more given i a h is)
-    ∙ ap each_once (map-append member_of (take i given) (a ∷ []))
+    ∙ ap parties_once (map-append member_of (take i given) (a ∷ []))
     ∙ each_once-more (map member_of (take i given)) a.member
     ∙ ap (λ b. cond b (givers (take i given)) (givers (take i given) ++ a.member ∷ [])) (any-members a.member (take i given))
 
@@ -131,12 +131,12 @@ abbrev of : List ℕ → List ℕ → Bool
 of member name = same_name name member
 
 -- those of a member, each once
-each_once-of : (member : List ℕ) (names : List (List ℕ)) → each_once (filter (of member) names) ≡ filter (of member) (each_once names)
+each_once-of : (member : List ℕ) (names : List (List ℕ)) → parties_once (filter (of member) names) ≡ filter (of member) (parties_once names)
 each_once-of member [] = refl
 each_once-of member (name ∷ names) =
-    let once = each_once names in
+    let once = parties_once names in
     let rest = each_once-of member names in
-    (elim (of member name) as (λ b. of member name ≡ b → each_once (cond b (name ∷ filter (of member) names) (filter (of member) names))
+    (elim (of member name) as (λ b. of member name ≡ b → parties_once (cond b (name ∷ filter (of member) names) (filter (of member) names))
     ≡ cond b (name ∷ filter (of member) (filter (differs name) once)) (filter (of member) (filter (differs name) once))) [
       | true ↦ λ _. ap (λ l. name ∷ filter (differs name) l) rest ∙ ap (λ l. name ∷ l) (filter-swap (differs name) (of member) once)
       | false ↦ λ unlike. rest ∙ sym (filter-within (of member) (differs name) once (apart name unlike))
@@ -154,6 +154,6 @@ pub members-read : (m : MeetingLists) (new : NewCast) (capacity : Capacity) (rec
 members-read m new Member received = refl
 members-read m new Rep received = refl
 members-read m new Proxy received =
-    ap (λ names. map (member_in m) (each_once names)) (sym (filter-map (of new.member) member_of received))
+    ap (λ names. map (member_in m) (parties_once names)) (sym (filter-map (of new.member) member_of received))
     ∙ ap (map (member_in m)) (each_once-of new.member (map member_of received))
     ∙ sym (filter-map (λ (rows : MemberRows). same_name rows.member new.member) (member_in m) (givers received))

@@ -5,7 +5,7 @@ ghost use Rattle.std.specs.Option.{option_copied};
 ghost use Rattle.desk_words.specs.Ordered.{ascends_by};
 ghost use Rattle.desk_words.specs.Registers.{member_before};
 ghost use Rattle.caller_view.specs.Reads.{cast_on};
-ghost use Rattle.caller_view.specs.Rows.{authority_in};
+ghost use Rattle.caller_view.specs.Rows.{authority_rows_in};
 ghost use Rattle.proxy_rules.specs.Holdings.{is_ended_of};
 ghost use Rattle.proxy_rules.specs.Parties.{authorises, is_authority_of, is_cast_by, is_demanded_by, is_presence_of};
 ghost use Rattle.proxy_rules.specs.Shares.{row_of};
@@ -71,7 +71,7 @@ pub(crate) fn with_rows(
     given: &[Authority],
 ) -> Result<Listing<AuthorityRows>, AllocError>
     requires { ascends_by member_before lists.now.register ≡ true }
-    ensures { IfOk result (λ all. all ≡ map (authority_in lists.now) given.now) }
+    ensures { IfOk result (λ all. all ≡ map (authority_rows_in lists.now) given.now) }
 {
     let rows = lists.register.as_slice();
     let mut all = Listing::new(alloc);

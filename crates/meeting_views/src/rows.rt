@@ -5,7 +5,7 @@ ghost use Rattle.desk_words.specs.Ordered.{ascends_by};
 ghost use Rattle.desk_words.specs.Registers.{member_before};
 ghost use Rattle.desk_words.specs.declared.request.PartyRequest.TheVariants as asked;
 ghost use Rattle.caller_view.specs.Reads.{appointments_read, authorities_read, members_read, rows_read};
-ghost use Rattle.caller_view.specs.Rows.{authority_in, givers, member_in, no_rows_of, rows_of};
+ghost use Rattle.caller_view.specs.Rows.{authority_rows_in, givers, member_in, no_rows_of, rows_of};
 ghost use Rattle.proxy_rules.specs.Holdings.{is_ended_of, is_given_by};
 ghost use Rattle.proxy_rules.specs.Parties.{authorises, is_authority_of, is_presence_of, names};
 
@@ -47,7 +47,7 @@ fn authorised_of(
 ) -> Result<Listing<AuthorityRows>, AllocError>
     requires { ascends_by member_before lists.now.register ≡ true }
     ensures { IfOk result (λ all. all
-        ≡ map (authority_in lists.now) (filter (authorises party) lists.now.authorities)) }
+        ≡ map (authority_rows_in lists.now) (filter (authorises party) lists.now.authorities)) }
 {
     let given = trusting(alloc, &lists.authorities, party)?;
     with_rows(alloc, lists, given.as_slice())
@@ -193,7 +193,7 @@ fn authorities_read(
 ) -> Result<Listing<AuthorityRows>, AllocError>
     requires { ascends_by member_before lists.now.register ≡ true }
     ensures { IfOk result (λ all. all ≡ authorities_read new.now
-        (map (authority_in lists.now) (filter (authorises party) lists.now.authorities))
+        (map (authority_rows_in lists.now) (filter (authorises party) lists.now.authorities))
         new.now.capacity) }
 {
     match new.capacity {

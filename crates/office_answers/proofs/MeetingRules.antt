@@ -4,12 +4,11 @@ use Rattle.std.specs.Prelude.{is_some}
 use Rattle.std.specs.Cmp.{first_so}
 use Rattle.std.proofs.lemmas.Bool.{or_right}
 use Rattle.desk_words.specs.Registers.{is_register}
-use Rattle.desk_words.specs.Office.{implies, no_rows, is_meeting}
+use Rattle.desk_words.specs.Office.{implies, no_rows, is_meeting, are_rows}
 use Rattle.desk_words.specs.declared.office.MeetingLists.{MeetingLists}
 use Rattle.desk_words.specs.declared.records.RegisterRow.{RegisterRow}
 use Rattle.proxy_rules.proofs.TagLemmas.{are_tags-appointments}
 use Rattle.proxy_rules.specs.Holdings.{are_tags}
-use Rattle.proxy_rules.specs.Shares.{are_rows}
 use Rattle.desk_words.proofs.OfficeFacts.{meeting_facts}
 
 register_or_none : (loaded : Bool) (rows : List RegisterRow) → cond loaded (is_register rows) (no_rows rows) ≡ true → are_rows rows ≡ true

@@ -15,7 +15,7 @@ use Rattle.desk_words.specs.declared.request.OfficeRequest.{OfficeRequest}
 use Rattle.desk_words.specs.declared.request.OfficeRequest.TheVariants.{LoadRegister, Presence, OpenMeeting, Order, Start, Close, Declare}
 use Rattle.desk_terms.specs.declared.refusal.Refusal.TheVariants.{NoMeeting}
 use Rattle.desk_words.proofs.OfficeFacts.{meeting_facts, meeting_from_facts}
-use Rattle.office_answers.specs.Answers.{office_ruling, ruling_in}
+use Rattle.office_answers.specs.Answers.{office_ruling, ruling_on}
 use Rattle.office_answers.specs.Polls.{order_ruling}
 use Rattle.office_answers.specs.Reads.{days_read, lists_read, polls_alone, reads_register, RulingsReadNoMore, ReadMeetingsAreMeetings}
 
@@ -36,7 +36,7 @@ order_by true resolution take now closed m = refl
 order_by false resolution take now closed m = refl
 
 -- in a meeting
-ruled_so : (what : OfficeRequest) (now : ℕ) (closed : List ℕ) (m : MeetingLists) → ruling_in (days_read what closed) now what (lists_read what m) ≡ ruling_in closed now what m
+ruled_so : (what : OfficeRequest) (now : ℕ) (closed : List ℕ) (m : MeetingLists) → ruling_on (days_read what closed) now what (lists_read what m) ≡ ruling_on closed now what m
 ruled_so (LoadRegister new) now closed m = refl
 ruled_so (Presence party) now closed m =
     let ruled : Bool → Ruling MeetingChange = λ marked. record { cases = []; accepted = noted marked (Enter (entry.Presence (record { party = party; moment = now }))) } in

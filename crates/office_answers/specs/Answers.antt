@@ -29,19 +29,19 @@ desk_ruling keys closed meetings (desk.Keys rows) = keys_ruling keys rows
 
 -- what decides what the office asks in a meeting, from the closed days, the moment and the
 -- meeting's lists
-abbrev pub ruling_in : List Day → Moment → OfficeRequest → MeetingLists → Ruling MeetingChange
-ruling_in closed now (LoadRegister new) m = load_ruling m now new
-ruling_in closed now (Presence party) m = presence_ruling m now party
-ruling_in closed now OpenMeeting m = open_ruling m closed now
-ruling_in closed now (Order new) m = order_ruling m closed now new
-ruling_in closed now (Start resolution) m = start_ruling m now resolution
-ruling_in closed now (Close resolution) m = close_ruling m now resolution
-ruling_in closed now (Declare resolution) m = declare_ruling m closed now resolution
+abbrev pub ruling_on : List Day → Moment → OfficeRequest → MeetingLists → Ruling MeetingChange
+ruling_on closed now (LoadRegister new) m = load_ruling m now new
+ruling_on closed now (Presence party) m = presence_ruling m now party
+ruling_on closed now OpenMeeting m = open_ruling m closed now
+ruling_on closed now (Order new) m = order_ruling m closed now new
+ruling_on closed now (Start resolution) m = start_ruling m now resolution
+ruling_on closed now (Close resolution) m = close_ruling m now resolution
+ruling_on closed now (Declare resolution) m = declare_ruling m closed now resolution
 
 -- that there is no such meeting, and else what is ruled in it
 abbrev pub office_ruling : List Day → Option MeetingLists → Moment → OfficeRequest
     → Ruling MeetingChange
-office_ruling closed found now asked = in_found found (ruling_in closed now asked)
+office_ruling closed found now asked = in_found found (ruling_on closed now asked)
 
 -- what is asked and answered without memory: a presence, an order by the chair, a start and a close
 abbrev pub takes_no_memory : OfficeRequest → Bool

@@ -35,7 +35,7 @@ quorum_in m closed now =
     quorum_of cutoffs m.register m.appointments m.endings m.authorities m.presences
 
 -- the demand of a poll on a resolution, by the closed days as they stand (section 321)
-abbrev pub demand_in : MeetingLists → List Day → Moment → Number → Demand
-demand_in m closed now resolution =
+abbrev pub demand_noted : MeetingLists → List Day → Moment → Number → Demand
+demand_noted m closed now resolution =
     let cutoffs = cutoffs_of m.meeting None closed now in
     demand_of cutoffs m.register m.appointments m.endings m.authorities m.demands resolution

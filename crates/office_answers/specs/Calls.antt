@@ -19,8 +19,8 @@ use Rattle.desk_terms.specs.declared.refusal.Refusal.TheVariants.{Exists, ShortN
 use Rattle.office_days.specs.Notice.{is_enough_notice}
 
 -- the day of a moment
-abbrev pub day_of : Moment → Day
-day_of moment = moment / 86400
+abbrev pub day_of_moment : Moment → Day
+day_of_moment moment = moment / 86400
 
 -- when a meeting is not called: one has that name, the notice is too short (sections 307 and 360),
 -- or there are `MOST_MEETINGS`
@@ -29,7 +29,7 @@ cases_of_call is_named held new =
     record { refusal = Exists; holds = is_named }
     ∷ record {
       refusal = ShortNotice;
-      holds = not (is_enough_notice new.company new.kind new.given (day_of new.appointed));
+      holds = not (is_enough_notice new.company new.kind new.given (day_of_moment new.appointed));
     }
     ∷ record { refusal = TooMany; holds = nat_le MOST_MEETINGS held } ∷ []
 
@@ -39,8 +39,8 @@ call_cases meetings new =
     cases_of_call (is_some (meeting_named meetings new.meeting)) (length meetings) new
 
 -- the meeting that is called (sections 302 and 307)
-abbrev pub meeting_of : NewMeeting → Meeting
-meeting_of new = record {
+abbrev pub new_meeting_of : NewMeeting → Meeting
+new_meeting_of new = record {
   id = new.meeting;
   company = new.company;
   kind = new.kind;
@@ -56,7 +56,7 @@ meeting_of new = record {
 abbrev pub ruling_of_call : Bool → ℕ → NewMeeting → Ruling Change
 ruling_of_call is_named held new = record {
   cases = cases_of_call is_named held new;
-  accepted = record { reply = Called; change = Some (AddMeeting (meeting_of new)) };
+  accepted = record { reply = Called; change = Some (AddMeeting (new_meeting_of new)) };
 }
 
 -- it is called beside the meetings that are held

@@ -17,7 +17,7 @@ use Rattle.desk_words.specs.declared.records.Tally.{Tally}
 use Rattle.desk_words.specs.declared.reply.Declaration.{Declaration}
 use Rattle.desk_words.specs.declared.reply.Reply.TheVariants as reply
 use Rattle.desk_words.specs.declared.request.NewPoll.{NewPoll}
-use Rattle.office_answers.specs.Attendance.{demand_in, quorum_in}
+use Rattle.office_answers.specs.Attendance.{demand_noted, quorum_in}
 use Rattle.proxy_rules.specs.Cutoffs.{cutoffs_of}
 use Rattle.vote_rules.specs.Tallies.{tally_of}
 use Rattle.desk_words.specs.Majority.{result_of}
@@ -47,7 +47,7 @@ order_cases m closed now new =
     ∷ record { refusal = PollOrdered; holds = is_some (poll_on m.polls new.resolution) }
     ∷ record {
       refusal = DemandTooSmall;
-      holds = not new.chair && not (demand_in m closed now new.resolution).reached;
+      holds = not new.chair && not (demand_noted m closed now new.resolution).reached;
     }
     ∷ []
 

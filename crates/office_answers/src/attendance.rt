@@ -2,7 +2,7 @@
 ghost use Rattle.std.specs.Prelude.{◌≡◌, true, IfOk};
 ghost use Rattle.desk_words.specs.Office.{is_meeting};
 ghost use Rattle.desk_words.specs.Rulings.{settled};
-ghost use Rattle.office_answers.specs.Attendance.{demand_in, is_marked, presence_ruling, quorum_in};
+ghost use Rattle.office_answers.specs.Attendance.{demand_noted, is_marked, presence_ruling, quorum_in};
 ghost use Rattle.office_answers.specs.Limits.{if_any, is_within_limits};
 
 use desk_words::{
@@ -80,7 +80,7 @@ pub(crate) fn demand_in(
     resolution: u64,
 ) -> Result<Demand, AllocError>
     requires { is_meeting lists.now ≡ true }
-    ensures { IfOk result (λ demand. demand ≡ demand_in lists.now closed.now now resolution) }
+    ensures { IfOk result (λ demand. demand ≡ demand_noted lists.now closed.now now resolution) }
 {
     let cutoffs = cutoffs(&lists.meeting, None, closed, now);
     demand_reached(alloc, &cutoffs, &papers_of(lists), resolution)

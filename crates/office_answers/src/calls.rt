@@ -3,7 +3,7 @@ ghost use Rattle.std.specs.Prelude.{◌≡◌, true, IfOk, IsOk, IsTrue};
 ghost use Rattle.desk_words.specs.Refusals.{first_refusal};
 ghost use Rattle.desk_words.specs.Rulings.{refuses, settled};
 ghost use Rattle.desk_words.specs.Lists.{are_resolutions};
-ghost use Rattle.office_answers.specs.Calls.{cases_of_call, load_cases, load_ruling, meeting_of, ruling_of_call};
+ghost use Rattle.office_answers.specs.Calls.{cases_of_call, load_cases, load_ruling, new_meeting_of, ruling_of_call};
 ghost use Rattle.office_answers.specs.Limits.{if_any, is_within_limits, keeps_limits};
 
 use desk_words::limits::MOST_MEETINGS;
@@ -30,7 +30,7 @@ fn call_refusal(is_named: bool, held: usize, new: &NewMeeting) -> Option<Refusal
 }
 
 fn new_meeting(new: &NewMeeting) -> Result<Meeting, AllocError>
-    ensures value { IfOk result (λ m. m ≡ meeting_of new.now) }
+    ensures value { IfOk result (λ m. m ≡ new_meeting_of new.now) }
     ensures limits { IsTrue (are_resolutions new.now.resolutions) }
 {
     Ok(Meeting {

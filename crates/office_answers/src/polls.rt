@@ -7,7 +7,7 @@ ghost use Rattle.desk_words.specs.Polls.{there_is, is_started};
 ghost use Rattle.desk_words.specs.Refusals.{first_refusal};
 ghost use Rattle.desk_words.specs.Rulings.{refuses, settled};
 ghost use Rattle.office_answers.specs.Answers.{is_some_at_once, refuses_at_once};
-ghost use Rattle.office_answers.specs.Attendance.{demand_in, quorum_in};
+ghost use Rattle.office_answers.specs.Attendance.{demand_noted, quorum_in};
 ghost use Rattle.office_answers.specs.Limits.{if_any, is_within_limits};
 ghost use Rattle.office_answers.specs.Polls.{open_cases, open_ruling, order_cases, order_ruling, poll_of, start_cases, start_ruling, close_cases, close_ruling, declare_ruling, result_cases, result_on, declaration_of, tally_in};
 
@@ -82,7 +82,7 @@ fn is_unwanted(
 ) -> Result<bool, AllocError>
     requires { new.now.chair ≡ false → is_meeting lists.now ≡ true }
     ensures unwanted { IfOk result (λ b. b ≡ (not new.now.chair && not
-        (demand_in lists.now closed.now now new.now.resolution).reached)) }
+        (demand_noted lists.now closed.now now new.now.resolution).reached)) }
     ensures sure { new.now.chair ≡ true → IsOk result }
 {
     if new.chair {

@@ -4,18 +4,18 @@ use Rattle.std.specs.Prelude.{count_by}
 use Rattle.std.specs.List.{list_any}
 use Rattle.std.proofs.lemmas.List.{length-map}
 use Rattle.std.proofs.lemmas.List.Sums.{sum_by-cons}
-use Rattle.desk_filed.specs.Places.{places_that}
+use Rattle.desk_filed.specs.Places.{places_passing}
 use Rattle.desk_lists.specs.Ordered.{differ_by}
 
 pub count-cons : {X : Type 0} (p : X → Bool) (x : X) (xs : List X) → count_by p (x ∷ xs) ≡ cond (p x) 1 0 + count_by p xs
 count-cons p x xs = sum_by-cons (λ y. cond (p y) 1 0) x xs
 
 -- there are as many places as items that pass
-pub length-places_that : {X : Type 0} (test : X → Bool) (xs : List X) → length (places_that test xs) ≡ count_by test xs
+pub length-places_that : {X : Type 0} (test : X → Bool) (xs : List X) → length (places_passing test xs) ≡ count_by test xs
 length-places_that test [] = refl
 length-places_that test (x ∷ xs) =
-    let more = length-map (places_that test xs) suc ∙ length-places_that test xs in
-    (elim (test x) as (λ b. length (cond b (0 ∷ map suc (places_that test xs)) (map suc (places_that test xs))) ≡ cond b 1 0 + count_by test xs)
+    let more = length-map (places_passing test xs) suc ∙ length-places_that test xs in
+    (elim (test x) as (λ b. length (cond b (0 ∷ map suc (places_passing test xs)) (map suc (places_passing test xs))) ≡ cond b 1 0 + count_by test xs)
     [ true ↦ omega (arith, more) | false ↦ omega (arith, more) ])
     ∙ sym (count-cons test x xs)
 

@@ -10,7 +10,7 @@ use Rattle.std.proofs.lemmas.List.{map-append, take_more}
 use Rattle.std.proofs.lemmas.List.Sums.{sum_by-append}
 use Rattle.std.specs.Ordering.{is_eq}
 use Rattle.desk_lists.proofs.Differing.{count_snoc}
-use Rattle.desk_filed.specs.Places.{has_first, places_that}
+use Rattle.desk_filed.specs.Places.{has_first, places_passing}
 use Rattle.desk_terms.specs.Names.{same_name, name_cmp}
 use Rattle.desk_words.proofs.RowLemmas.{same_name-true}
 use Rattle.desk_words.specs.Office.{are_numbered_after, is_ending_of}
@@ -81,7 +81,7 @@ pub any-of_own : (e : Ending) (given : List Appointment) (own : ℕ) → are_num
 any-of_own e given own h many = any-numbered e [] given h ∙ ap (λ n. nat_lt 0 e.number && nat_le e.number n) (sym many)
 
 -- the member's own appointments are as many as their places
-pub own-places : (member : List ℕ) (given : List Appointment) (places : List ℕ) → places ≡ places_that (has_first name_cmp (λ (a : Appointment). a.member) member) given → length places ≡ count_by (is_of member) given
+pub own-places : (member : List ℕ) (given : List Appointment) (places : List ℕ) → places ≡ places_passing (has_first name_cmp (λ (a : Appointment). a.member) member) given → length places ≡ count_by (is_of member) given
 own-places member given places are =
     ap length are
     ∙ length-places_that (has_first name_cmp (λ (a : Appointment). a.member) member) given

@@ -14,7 +14,7 @@ use Rattle.desk_words.specs.Registers.{are_holdings, is_register, keep_limits, m
 use Rattle.desk_words.specs.declared.lists.ListFault.{ListFault}
 use Rattle.desk_words.specs.declared.lists.ListFault.TheVariants.{Limit, Memory}
 use Rattle.desk_words.specs.declared.records.RegisterRow.{RegisterRow}
-use Rattle.office_checks.specs.InOrder.{rows_of}
+use Rattle.office_checks.specs.InOrder.{rows_checked}
 
 limits-sorted : (rows : List RegisterRow) → keep_limits (sort_by member_before rows) ≡ keep_limits rows
 limits-sorted rows =
@@ -38,7 +38,7 @@ holdings-sorted rows =
     ∙ ap (λ b. keep_limits rows && b) (members-sorted rows)
 
 -- the rows of a loaded register are the register of the rows
-pub rows_of-loaded : (rows : List RegisterRow) → rows_of true rows ≡ register_of rows
+pub rows_of-loaded : (rows : List RegisterRow) → rows_checked true rows ≡ register_of rows
 rows_of-loaded rows = ap (λ b. cond b (Some (sort_by member_before rows)) None) (holdings-sorted rows)
 
 some_rows : (row : RegisterRow) (rows : List RegisterRow) → no_rows (insert_by member_before row rows) ≡ false
@@ -48,17 +48,17 @@ some_rows row (first ∷ rest) =
     [ true ↦ refl | false ↦ refl ]
 
 -- where no register is loaded there are no rows
-pub rows_of-none : (rows : List RegisterRow) → length rows ≡ 0 → rows_of false rows ≡ Some rows
+pub rows_of-none : (rows : List RegisterRow) → length rows ≡ 0 → rows_checked false rows ≡ Some rows
 rows_of-none [] none = refl
 rows_of-none (row ∷ rows) none = absurd (omega arith)
 
 -- and rows are too many
-pub rows_of-some : (rows : List RegisterRow) → (length rows == 0) ≡ false → rows_of false rows ≡ None
+pub rows_of-some : (rows : List RegisterRow) → (length rows == 0) ≡ false → rows_checked false rows ≡ None
 rows_of-some [] some = absurd (cc)
 rows_of-some (row ∷ rows) some = ap (λ b. cond b (Some (sort_by member_before (row ∷ rows))) None) (some_rows row (sort_by member_before rows))
 
 -- a fault other than its limits is none that a register has
 pub rows_of-fault : (rows : List RegisterRow) (fault : ListFault) → (◌≡◌ {A = Result (List RegisterRow) ListFault} (Err fault) (Err Limit) → register_of rows ≡ None)
-    → (◌≡◌ {A = Result (List RegisterRow) ListFault} (Err fault) (Err Memory) → ⊥) → rows_of true rows ≡ None
+    → (◌≡◌ {A = Result (List RegisterRow) ListFault} (Err fault) (Err Memory) → ⊥) → rows_checked true rows ≡ None
 rows_of-fault rows Limit limit memory = rows_of-loaded rows ∙ limit refl
 rows_of-fault rows Memory limit memory = absurd (memory refl)

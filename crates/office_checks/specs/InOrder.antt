@@ -10,8 +10,8 @@ use Rattle.desk_words.specs.declared.records.RegisterRow.{RegisterRow}
 
 -- the rows in the order of members (section 113), if they are a register where one is loaded, and
 -- none where none is
-abbrev pub rows_of : Bool → List RegisterRow → Option (List RegisterRow)
-rows_of loaded rows =
+abbrev pub rows_checked : Bool → List RegisterRow → Option (List RegisterRow)
+rows_checked loaded rows =
     let sorted = sort_by member_before rows in
     if (if loaded then is_register sorted else no_rows sorted) then Some sorted else None
 
@@ -24,12 +24,12 @@ abbrev pub loaded_of : MeetingLists → Option MeetingLists
 loaded_of m = if is_loaded_right (in_order m) then Some (in_order m) else None
 
 -- they, if they are the lists of a meeting
-abbrev pub meeting_of : MeetingLists → Option MeetingLists
-meeting_of m = if is_meeting (in_order m) then Some (in_order m) else None
+abbrev pub meeting_checked : MeetingLists → Option MeetingLists
+meeting_checked m = if is_meeting (in_order m) then Some (in_order m) else None
 
 -- the lists, each register in order, if each are those of a meeting
-abbrev pub each_of : List MeetingLists → Option (List MeetingLists)
-each_of ms = if list_all is_meeting (map in_order ms) then Some (map in_order ms) else None
+abbrev pub each_checked : List MeetingLists → Option (List MeetingLists)
+each_checked ms = if list_all is_meeting (map in_order ms) then Some (map in_order ms) else None
 
 -- the lists of meetings, each register in order, if they are those of the meetings of an office
 abbrev pub meetings_of : List MeetingLists → Option (List MeetingLists)
@@ -40,5 +40,5 @@ abbrev pub office_in_order : OfficeLists → OfficeLists
 office_in_order o = record o { meetings = map in_order o.meetings }
 
 -- the office of some lists, if they are the lists of an office once each register is in order
-abbrev pub office_of : OfficeLists → Option OfficeLists
-office_of o = if is_office (office_in_order o) then Some (office_in_order o) else None
+abbrev pub office_checked : OfficeLists → Option OfficeLists
+office_checked o = if is_office (office_in_order o) then Some (office_in_order o) else None

@@ -9,8 +9,8 @@ use Rattle.desk_words.specs.declared.records.Ending.{Ending}
 use Rattle.office_checks.specs.declared.keys.Mark.{Mark}
 
 -- the key of a mark
-abbrev pub key_of : {K : Type 0} → Mark K → K
-key_of mark = mark.key
+abbrev pub key_of_mark : {K : Type 0} → Mark K → K
+key_of_mark mark = mark.key
 
 -- how often the key stands among the keys
 abbrev pub key_times : {K : Type 0} → (K → K → Ordering) → K → List K → ℕ

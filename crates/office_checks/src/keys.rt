@@ -3,7 +3,7 @@ ghost use Rattle.std.specs.Prelude.{◌≡◌, None, IfOk, map, nat_le};
 ghost use Rattle.std.specs.List.{list_all};
 ghost use Rattle.std.specs.Ordering.{eq_by_cmp};
 ghost use Rattle.desk_lists.specs.Ordered.{differ_by};
-ghost use Rattle.office_checks.specs.Keys.{key_of, key_times};
+ghost use Rattle.office_checks.specs.Keys.{key_of_mark, key_times};
 
 use desk_filed::{Filed, FiledBy};
 use std::alloc::{AllocError, Global};
@@ -41,7 +41,7 @@ pub(crate) fn differ<K: Ord + Drop>(keys: Vec<K>) -> bool
 
 /// The keys, filed. The error is want of memory.
 fn filed<K: Ord + Copy>(alloc: Global, keys: &[K]) -> Result<Filed<Mark<K>>, AllocError>
-    ensures { IfOk result (λ marks. map key_of marks ≡ keys.now) }
+    ensures { IfOk result (λ marks. map key_of_mark marks ≡ keys.now) }
 {
     let mut marks = Filed::new(alloc);
     for key in keys {
@@ -52,7 +52,7 @@ fn filed<K: Ord + Copy>(alloc: Global, keys: &[K]) -> Result<Filed<Mark<K>>, All
 
 /// How often a key stands among others.
 pub(crate) fn times<K: Ord + Copy>(marks: &Filed<Mark<K>>, key: K) -> usize
-    ensures { result ≡ key_times K.cmp key (map key_of marks.now) }
+    ensures { result ≡ key_times K.cmp key (map key_of_mark marks.now) }
 {
     marks.places_by_first(key).len()
 }

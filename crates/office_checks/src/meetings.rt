@@ -6,7 +6,7 @@ ghost use Rattle.desk_words.specs.Office.{are_appointments, are_authorities};
 ghost use Rattle.desk_words.specs.Office.{are_demands, are_endings};
 ghost use Rattle.desk_words.specs.Office.{are_casts, are_polls, implies, is_loaded_right};
 ghost use Rattle.desk_words.specs.Office.{is_meeting, same_meeting, same_presence};
-ghost use Rattle.office_checks.specs.InOrder.{each_of, loaded_of, meeting_of, meetings_of, rows_of};
+ghost use Rattle.office_checks.specs.InOrder.{each_checked, loaded_of, meeting_checked, meetings_of, rows_checked};
 
 use crate::appointments::{are_appointments, are_endings};
 use crate::attendance::{are_authorities, are_demands, presences_differ};
@@ -20,7 +20,7 @@ use std::alloc::{AllocError, Global};
 /// The rows in the order of members, if they are a register where one is loaded, and none where
 /// none is.
 fn rows_of(loaded: bool, rows: Listing<RegisterRow>) -> Option<Listing<RegisterRow>>
-    ensures { result ≡ rows_of loaded rows }
+    ensures { result ≡ rows_checked loaded rows }
 {
     if !loaded {
         return if rows.is_empty() { Some(rows) } else { None };
@@ -107,7 +107,7 @@ fn is_meeting(alloc: Global, lists: &MeetingLists) -> Result<bool, AllocError>
 /// put in the order of members first, since it is a set of rows, which may come in any order. It
 /// costs about n log n comparisons. The error is want of memory.
 pub fn meeting_of(alloc: Global, lists: MeetingLists) -> Result<Option<MeetingLists>, AllocError>
-    ensures { IfOk result (λ found. found ≡ meeting_of lists) }
+    ensures { IfOk result (λ found. found ≡ meeting_checked lists) }
 {
     let Some(lists) = loaded_of(lists) else {
         return Ok(None);
@@ -123,7 +123,7 @@ fn each_of(
     alloc: Global,
     meetings: Listing<MeetingLists>,
 ) -> Result<Option<Listing<MeetingLists>>, AllocError>
-    ensures { IfOk result (λ found. found ≡ each_of meetings) }
+    ensures { IfOk result (λ found. found ≡ each_checked meetings) }
 {
     let mut found = Listing::new(alloc);
     for lists in meetings.into_vec() {

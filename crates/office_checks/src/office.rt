@@ -1,6 +1,6 @@
 //! The office of some lists.
 ghost use Rattle.std.specs.Prelude.{◌≡◌, IfOk};
-ghost use Rattle.office_checks.specs.InOrder.{office_of};
+ghost use Rattle.office_checks.specs.InOrder.{office_checked};
 
 use crate::meetings::meetings_of;
 use desk_words::OfficeLists;
@@ -10,7 +10,7 @@ use std::alloc::{AllocError, Global};
 /// put in the order of members first, since a register is a set of rows, which may come in any
 /// order. It costs about n log n comparisons. The error is want of memory.
 pub fn office_of(alloc: Global, lists: OfficeLists) -> Result<Option<OfficeLists>, AllocError>
-    ensures { IfOk result (λ office. office ≡ office_of lists) }
+    ensures { IfOk result (λ office. office ≡ office_checked lists) }
 {
     let OfficeLists {
         keys,

@@ -13,7 +13,7 @@ use Rattle.desk_lists.proofs.Ascending.{differs-from_ascends_by}
 use Rattle.desk_lists.proofs.Finding.{before-from_ascends}
 use Rattle.desk_lists.proofs.Numbers.{is_lt-nat_cmp, differ_by-numbers}
 use Rattle.desk_words.specs.Lists.{is_day_list}
-use Rattle.office_days.specs.Days.{numbers_that, is_closed}
+use Rattle.office_days.specs.Days.{numbers_that, is_closed_day}
 use Rattle.office_days.proofs.Counting.{numbers_that-none, numbers_that-none_between, numbers_that-suc, numbers_that-split}
 
 -- ---- the order
@@ -39,25 +39,25 @@ days_differ days is = sym (differ_by-numbers (λ day. day) days) ∙ differs-fro
 
 -- ---- whether a day is closed
 
-is_closed-at : (closed : List ℕ) (day i : ℕ) → i < length closed → get_or closed i 0 ≡ day → is_closed closed day ≡ true
+is_closed-at : (closed : List ℕ) (day i : ℕ) → i < length closed → get_or closed i 0 ≡ day → is_closed_day closed day ≡ true
 is_closed-at [] day i within is = absurd (omega arith)
-is_closed-at (x ∷ xs) day zero within is = ap (λ b. b || is_closed xs day) (eq-eqb day x (sym is))
+is_closed-at (x ∷ xs) day zero within is = ap (λ b. b || is_closed_day xs day) (eq-eqb day x (sym is))
 is_closed-at (x ∷ xs) day (suc i) within is = rw (is_closed-at xs day i (omega arith) is) (or_true (day == x))
   where
     or_true : (b : Bool) → (b || true) ≡ true
     or_true true = refl
     or_true false = refl
 
-is_closed-nowhere : (closed : List ℕ) (day : ℕ) → ((k : ℕ) → k < length closed → get_or closed k 0 ≢ day) → is_closed closed day ≡ false
+is_closed-nowhere : (closed : List ℕ) (day : ℕ) → ((k : ℕ) → k < length closed → get_or closed k 0 ≢ day) → is_closed_day closed day ≡ false
 is_closed-nowhere [] day not_at = refl
 is_closed-nowhere (x ∷ xs) day not_at =
-    ap (λ b. b || is_closed xs day) (ne_eqb day x (λ e. not_at 0 (omega arith) (sym e)))
+    ap (λ b. b || is_closed_day xs day) (ne_eqb day x (λ e. not_at 0 (omega arith) (sym e)))
     ∙ is_closed-nowhere xs day (λ k h. not_at (suc k) (omega arith))
 
 -- a search tells whether a day is closed
 pub is_closed-searched : (closed : List ℕ) (day : ℕ) (answer : Result ℕ ℕ)
     → MatchResult answer (λ i. (i < length closed) × (get_or closed i 0 ≡ day)) (λ i. (i ≤ length closed) × ((k : ℕ) → k < i → get_or closed k 0 < day) × ((k : ℕ) → i ≤ k → k < length closed → day < get_or closed k 0))
-    → is_closed closed day ≡ is_ok answer
+    → is_closed_day closed day ≡ is_ok answer
 is_closed-searched closed day (Ok i) is = is_closed-at closed day i is.0 is.1
 is_closed-searched closed day (Err i) is =
     is_closed-nowhere closed day
@@ -103,15 +103,15 @@ count_by-cons p x xs = sum_by-cons (λ y. cond (p y) 1 0) x xs
 
 -- of days that differ, those between two days that pass a test are as many as the days between that pass it and are among them
 pub numbers_that-closed : (p : ℕ → Bool) (closed : List ℕ) (from to : ℕ) → differ_by (λ a b. a == b) closed ≡ true
-    → numbers_that (λ day. p day && is_closed closed day) from to ≡ count_by (λ day. leb from day && ltb day to && p day) closed
+    → numbers_that (λ day. p day && is_closed_day closed day) from to ≡ count_by (λ day. leb from day && ltb day to && p day) closed
 numbers_that-closed p [] from to differ = numbers_that-none (λ day. p day && false) from to (λ n above below. and_right (p n) false refl)
 numbers_that-closed p (x ∷ xs) from to differ =
     let parts = and_parts _ _ differ in
-    let once : is_closed xs x ≡ false = not-true _ parts.0 in
-    let more : ℕ → Bool = λ day. p day && is_closed (x ∷ xs) day in
+    let once : is_closed_day xs x ≡ false = not-true _ parts.0 in
+    let more : ℕ → Bool = λ day. p day && is_closed_day (x ∷ xs) day in
     let itself : more x ≡ p x = rw (eq-eqb x x refl) (and-true (p x)) in
-    let one = numbers_that-one_more (λ day. p day && is_closed xs day) more x from to
-    (λ n other. ap (λ b. p n && (b || is_closed xs n)) (ne_eqb n x other))
+    let one = numbers_that-one_more (λ day. p day && is_closed_day xs day) more x from to
+    (λ n other. ap (λ b. p n && (b || is_closed_day xs n)) (ne_eqb n x other))
     (ap (λ b. p x && b) once ∙ and_right (p x) false refl) in
     omega (arith, one, ap {B = ℕ} (λ b. cond (leb from x && ltb x to && b) 1 0) itself, count_by-cons (λ day. leb from day && ltb day to && p day) x xs, numbers_that-closed p xs from to parts.1)
 

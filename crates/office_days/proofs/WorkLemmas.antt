@@ -1,14 +1,14 @@
 -- Working days by weekdays, working seconds by days, and the search for a second.
 use Rattle.std.proofs.Common.{◌≡◌, ℕ, ◌+◌, ◌*◌, ◌/◌, ◌%◌, ◌<◌, ◌≤◌, true, false, ◌&&◌, List, Some, None, ap, arith, inl, inr}
 use Rattle.std.proofs.lemmas.Bool.{cases_Bool, cases_lt, le-leb, lt-leb}
-use Rattle.office_days.specs.Days.{numbers_that, is_weekday, is_closed, is_working, working_days, work, leaves_hours, back, IsBack}
+use Rattle.office_days.specs.Days.{numbers_that, is_weekday, is_closed_day, is_working, working_days, work, leaves_hours, back, IsBack}
 use Rattle.office_days.proofs.Counting.{numbers_that-split, numbers_that-parts, numbers_that-bound, numbers_that-by_days, numbers_that-day_passes, numbers_that-day_fails, numbers_that-none_between, greatest_that-is, greatest_that-none}
 
 -- the weekdays up to a day are those before another, the working days from there on and the closed weekdays
 pub weekdays-parts : (closed : List ℕ) (from to : ℕ) → from ≤ to
-    → numbers_that is_weekday 0 from + (working_days closed from to + numbers_that (λ day. is_weekday day && is_closed closed day) from to) ≡ numbers_that is_weekday 0 to
+    → numbers_that is_weekday 0 from + (working_days closed from to + numbers_that (λ day. is_weekday day && is_closed_day closed day) from to) ≡ numbers_that is_weekday 0 to
 weekdays-parts closed from to h =
-    omega (arith, numbers_that-split is_weekday 0 from to (omega arith) h, numbers_that-parts is_weekday (is_closed closed) from to)
+    omega (arith, numbers_that-split is_weekday 0 from to (omega arith) h, numbers_that-parts is_weekday (is_closed_day closed) from to)
 
 -- the working seconds of a day before one of its seconds
 pub work-working_day : (closed : List ℕ) (second : ℕ) → is_working closed (second / 86400) ≡ true → work closed (86400 * (second / 86400)) second ≡ second % 86400

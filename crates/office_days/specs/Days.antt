@@ -21,12 +21,12 @@ abbrev pub is_weekday : Day → Bool
 is_weekday day = nat_lt (day % 7) 5
 
 -- the list of closed days has this day
-abbrev pub is_closed : List Day → Day → Bool
-is_closed closed day = list_any (λ other. day == other) closed
+abbrev pub is_closed_day : List Day → Day → Bool
+is_closed_day closed day = list_any (λ other. day == other) closed
 
 -- a working day is no Saturday, no Sunday and not closed (section 1173)
 abbrev pub is_working : List Day → Day → Bool
-is_working closed day = is_weekday day && not (is_closed closed day)
+is_working closed day = is_weekday day && not (is_closed_day closed day)
 
 -- a working second is a second whose day is a working day
 abbrev pub is_working_second : List Day → Moment → Bool

@@ -57,7 +57,7 @@ fn closed_weekdays(closed: &[Day], from: u64, to: u64) -> u64
     requires sorted { IsTrue (is_day_list closed.now) }
     requires ordered { from ≤ to }
     ensures { result
-        ≡ office.numbers_that (λ day. office.is_weekday day && office.is_closed closed.now day)
+        ≡ office.numbers_that (λ day. office.is_weekday day && office.is_closed_day closed.now day)
         from to }
 {
     let first = place_of(closed, from);

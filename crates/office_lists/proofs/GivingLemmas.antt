@@ -22,7 +22,7 @@ use Rattle.desk_rows.specs.declared.kept.InMeeting.{InMeeting}
 use Rattle.desk_records.specs.Office.{name_meetings, of_meeting}
 use Rattle.std.proofs.lemmas.Bool.{and_parts}
 use Rattle.office_lists.specs.declared.own.OwnRecords.{OwnRecords}
-use Rattle.office_lists.specs.Giving.{IsGivenOut, all_given_out, are_meeting_rows, given_out, is_named, meetings_own, own_of, same_own, same_row}
+use Rattle.office_lists.specs.Giving.{IsGivenOut, all_given_out, are_meeting_rows, given_out, is_named, meetings_own, own_records_of, same_own, same_meeting_row}
 use Rattle.office_lists.specs.Own.{nothing_own}
 use Rattle.office_lists.proofs.ListLemmas.{second_false}
 
@@ -123,17 +123,17 @@ module _ {A : Type 0} (put : List A → OwnRecords → OwnRecords) (keeps : (its
 
 -- ---- one list of records after another
 
-any_by : (m : MeetingRow) (all : List OwnRecords) → list_any (λ (own : OwnRecords). same_name m.id own.meeting.id) all ≡ list_any (same_row m) (meetings_own all)
+any_by : (m : MeetingRow) (all : List OwnRecords) → list_any (λ (own : OwnRecords). same_name m.id own.meeting.id) all ≡ list_any (same_meeting_row m) (meetings_own all)
 any_by m [] = refl
 any_by m (own ∷ all) = ap (λ b. same_name m.id own.meeting.id || b) (any_by m all)
 
 -- meetings differ as their rows do
-by_meetings : (all : List OwnRecords) → differ_by same_own all ≡ differ_by same_row (meetings_own all)
+by_meetings : (all : List OwnRecords) → differ_by same_own all ≡ differ_by same_meeting_row (meetings_own all)
 by_meetings [] = refl
-by_meetings (own ∷ all) = ap (λ b. not b && differ_by same_own all) (any_by own.meeting all) ∙ ap (λ b. not (list_any (same_row own.meeting) (meetings_own all)) && b) (by_meetings all)
+by_meetings (own ∷ all) = ap (λ b. not b && differ_by same_own all) (any_by own.meeting all) ∙ ap (λ b. not (list_any (same_meeting_row own.meeting) (meetings_own all)) && b) (by_meetings all)
 
 differ_stays : (old new : List OwnRecords) → meetings_own new ≡ meetings_own old → differ_by same_own new ≡ differ_by same_own old
-differ_stays old new same = by_meetings new ∙ ap (differ_by same_row) same ∙ sym (by_meetings old)
+differ_stays old new same = by_meetings new ∙ ap (differ_by same_meeting_row) same ∙ sym (by_meetings old)
 
 module _ {T U : Type 0} (a b c : List OwnRecords) (t : T) (r : Result U ReadFault) (first second : List OwnRecords → List OwnRecords) (named later : List MeetingRow → Bool) where
   pub then_given : IsGivenOut a b (Ok t) first named → IsGivenOut b c r second later → IsGivenOut a c r (λ all. second (first all)) (λ meetings. named meetings && later meetings)
@@ -159,9 +159,9 @@ stop_given {T} {U} a b e r first whole named all_named fails one leads = subst (
 })
 
 -- all records are given out to meetings without any
-pub all_own : (records : MeetingRecords) (meetings : List MeetingRow) → all_given_out records (map nothing_own meetings) ≡ map (own_of records) meetings
+pub all_own : (records : MeetingRecords) (meetings : List MeetingRow) → all_given_out records (map nothing_own meetings) ≡ map (own_records_of records) meetings
 all_own records [] = refl
-all_own records (m ∷ meetings) = ap (λ l. own_of records m ∷ l) (all_own records meetings)
+all_own records (m ∷ meetings) = ap (λ l. own_records_of records m ∷ l) (all_own records meetings)
 
 pub meetings_of_none : (meetings : List MeetingRow) → meetings_own (map nothing_own meetings) ≡ meetings
 meetings_of_none [] = refl
@@ -219,22 +219,22 @@ turn_given {A} put keeps more records added old before after stand stands now so
     )
 
 -- the first meetings differ, if all do
-pub named_twice : (rows : List MeetingRow) (i : ℕ) (m : MeetingRow) → i < length rows → m ≡ get_or rows i m → list_any (λ (n : MeetingRow). same_name n.id m.id) (take i rows) ≡ true → differ_by same_row rows ≡ false
+pub named_twice : (rows : List MeetingRow) (i : ℕ) (m : MeetingRow) → i < length rows → m ≡ get_or rows i m → list_any (λ (n : MeetingRow). same_name n.id m.id) (take i rows) ≡ true → differ_by same_meeting_row rows ≡ false
 named_twice [] i m less is some = absurd (omega arith)
 named_twice (n ∷ rows) zero m less is some = absurd (true≢false (sym some))
 named_twice (n ∷ rows) (suc i) m less is some =
-    let later : differ_by same_row rows ≡ false → differ_by same_row (n ∷ rows) ≡ false = second_false (not (list_any (same_row n) rows)) (differ_by same_row rows) in
+    let later : differ_by same_meeting_row rows ≡ false → differ_by same_meeting_row (n ∷ rows) ≡ false = second_false (not (list_any (same_meeting_row n) rows)) (differ_by same_meeting_row rows) in
     go (same_name n.id m.id) refl later (named_twice rows i m (omega arith) is) (found rows i m (omega arith) is) some
   where
-    found : (rows : List MeetingRow) (i : ℕ) (m : MeetingRow) → i < length rows → m ≡ get_or rows i m → same_name n.id m.id ≡ true → list_any (same_row n) rows ≡ true
+    found : (rows : List MeetingRow) (i : ℕ) (m : MeetingRow) → i < length rows → m ≡ get_or rows i m → same_name n.id m.id ≡ true → list_any (same_meeting_row n) rows ≡ true
     found [] i m less is same = absurd (omega arith)
-    found (k ∷ rows) zero m less is same = ap (λ (x : MeetingRow). same_name n.id x.id || list_any (same_row n) rows) (sym is) ∙ ap (λ b. b || list_any (same_row n) rows) same
-    found (k ∷ rows) (suc i) m less is same = or_right (same_name n.id k.id) (list_any (same_row n) rows) (found rows i m (omega arith) is same)
+    found (k ∷ rows) zero m less is same = ap (λ (x : MeetingRow). same_name n.id x.id || list_any (same_meeting_row n) rows) (sym is) ∙ ap (λ b. b || list_any (same_meeting_row n) rows) same
+    found (k ∷ rows) (suc i) m less is same = or_right (same_name n.id k.id) (list_any (same_meeting_row n) rows) (found rows i m (omega arith) is same)
 
-    go : (b : Bool) → same_name n.id m.id ≡ b → (differ_by same_row rows ≡ false → differ_by same_row (n ∷ rows) ≡ false)
-        → (list_any (λ (k : MeetingRow). same_name k.id m.id) (take i rows) ≡ true → differ_by same_row rows ≡ false) → (same_name n.id m.id ≡ true → list_any (same_row n) rows ≡ true)
-        → (b || list_any (λ (k : MeetingRow). same_name k.id m.id) (take i rows)) ≡ true → differ_by same_row (n ∷ rows) ≡ false
-    go true e later next there h = ap (λ b. not b && differ_by same_row rows) (there e)
+    go : (b : Bool) → same_name n.id m.id ≡ b → (differ_by same_meeting_row rows ≡ false → differ_by same_meeting_row (n ∷ rows) ≡ false)
+        → (list_any (λ (k : MeetingRow). same_name k.id m.id) (take i rows) ≡ true → differ_by same_meeting_row rows ≡ false) → (same_name n.id m.id ≡ true → list_any (same_meeting_row n) rows ≡ true)
+        → (b || list_any (λ (k : MeetingRow). same_name k.id m.id) (take i rows)) ≡ true → differ_by same_meeting_row (n ∷ rows) ≡ false
+    go true e later next there h = ap (λ b. not b && differ_by same_meeting_row rows) (there e)
     go false e later next there h = later (next h)
 
 -- ---- the meetings, one after another
@@ -248,7 +248,7 @@ module _ (rows : List MeetingRow) (i : ℕ) (m : MeetingRow) (all : List OwnReco
 
   pub twice : (found : Option ℕ) → found ≡ position_from (is_named m.id) 0 all → is_some found ≡ true → i < length rows → m ≡ get_or rows i m → are_meeting_rows rows ≡ false
   twice found is some less here =
-      second_false (nat_le (length rows) MOST_MEETINGS) (differ_by same_row rows) (named_twice rows i m less here (sym (earlier found is) ∙ some))
+      second_false (nat_le (length rows) MOST_MEETINGS) (differ_by same_meeting_row rows) (named_twice rows i m less here (sym (earlier found is) ∙ some))
 
   -- one meeting more
   pub made_more : i < length rows → m ≡ get_or rows i m → all ++ nothing_own m ∷ [] ≡ map nothing_own (take (i + 1) rows)
@@ -256,10 +256,10 @@ module _ (rows : List MeetingRow) (i : ℕ) (m : MeetingRow) (all : List OwnReco
       ap (λ l. l ++ nothing_own m ∷ []) made ∙ sym (map-append nothing_own (take i rows) (m ∷ []))
       ∙ sym (ap (map nothing_own) (take_more rows i m less ∙ ap (λ n. take i rows ++ n ∷ []) (sym here)))
 
-  pub differ_more : (found : Option ℕ) → found ≡ position_from (is_named m.id) 0 all → is_some found ≡ false → i < length rows → m ≡ get_or rows i m → differ_by same_row (take i rows) ≡ true
-      → differ_by same_row (take (i + 1) rows) ≡ true
+  pub differ_more : (found : Option ℕ) → found ≡ position_from (is_named m.id) 0 all → is_some found ≡ false → i < length rows → m ≡ get_or rows i m → differ_by same_meeting_row (take i rows) ≡ true
+      → differ_by same_meeting_row (take (i + 1) rows) ≡ true
   differ_more found is none less here differ =
-      ap (differ_by same_row) (take_more rows i m less ∙ ap (λ n. take i rows ++ n ∷ []) (sym here)) ∙ differ_snoc same_row (take i rows) m differ (sym (earlier found is) ∙ none)
+      ap (differ_by same_meeting_row) (take_more rows i m less ∙ ap (λ n. take i rows ++ n ∷ []) (sym here)) ∙ differ_snoc same_meeting_row (take i rows) m differ (sym (earlier found is) ∙ none)
 
-pub differ_all : (rows : List MeetingRow) (all : List OwnRecords) → all ≡ map nothing_own rows → differ_by same_row rows ≡ true → differ_by same_own all ≡ true
-differ_all rows all made differ = by_meetings all ∙ ap (differ_by same_row) (ap meetings_own made ∙ meetings_of_none rows) ∙ differ
+pub differ_all : (rows : List MeetingRow) (all : List OwnRecords) → all ≡ map nothing_own rows → differ_by same_meeting_row rows ≡ true → differ_by same_own all ≡ true
+differ_all rows all made differ = by_meetings all ∙ ap (differ_by same_meeting_row) (ap meetings_own made ∙ meetings_of_none rows) ∙ differ

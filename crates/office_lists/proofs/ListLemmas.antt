@@ -24,11 +24,11 @@ use Rattle.desk_words.specs.declared.records.Poll.{Poll}
 use Rattle.desk_words.specs.declared.records.RegisterRow.{RegisterRow}
 use Rattle.desk_words.specs.declared.records.Resolution.{Resolution}
 use Rattle.desk_words.specs.Lists.{are_keys, are_resolutions, caller_before, day_before, day_count, is_day_list, is_key_list, keep_keys, key_list_of, same_caller, same_secret}
-use Rattle.desk_words.specs.Office.{are_polls, implies, is_loaded_right, is_meeting, is_poll, no_rows, poll_before}
+use Rattle.desk_words.specs.Office.{are_polls, implies, is_loaded_right, is_meeting, is_poll, no_rows, poll_before, are_rows}
 use Rattle.desk_words.specs.Registers.{are_holdings, is_register, keep_limits, member_before, register_of, same_member}
 use Rattle.desk_words.proofs.OfficeFacts.{meeting_facts}
 use Rattle.desk_words.proofs.RegisterLimits.{keep_limits-permutation}
-use Rattle.desk_rows.specs.Meanings.{◌>>=◌, only}
+use Rattle.desk_terms.specs.Options.{◌>>=◌, only}
 use Rattle.desk_rows.specs.declared.kept.NumberedResolution.{NumberedResolution}
 use Rattle.desk_records.specs.Office.{number_before, numbered_from}
 use Rattle.desk_rows.proofs.MeaningLemmas.{bound}
@@ -38,7 +38,7 @@ use Rattle.office_lists.specs.declared.fault.ReadFault.TheVariants as fault
 use Rattle.office_lists.specs.declared.fault.ReadFault.TheVariants.{NoOffice}
 use Rattle.office_lists.specs.Yields.{IsCause}
 use Rattle.office_lists.specs.declared.own.OwnRecords.{OwnRecords}
-use Rattle.office_lists.specs.Own.{are_numbered_from, are_rows, lists_own, lists_own_with, resolution_of, resolutions_own}
+use Rattle.office_lists.specs.Own.{resolutions_number_from, lists_own, lists_own_with, resolution_of, resolutions_own}
 
 pub second_false : (a b : Bool) → b ≡ false → (a && b) ≡ false
 second_false true b h = h
@@ -113,9 +113,9 @@ register_refused rows some none =
 
 -- ---- resolutions
 
-numbered_is : (n : ℕ) (rows : List NumberedResolution) → numbered_from n rows ≡ (if are_numbered_from n rows then Some (map resolution_of rows) else None)
+numbered_is : (n : ℕ) (rows : List NumberedResolution) → numbered_from n rows ≡ (if resolutions_number_from n rows then Some (map resolution_of rows) else None)
 numbered_is n [] = refl
-numbered_is n (r ∷ rest) = go (r.number == n) (are_numbered_from (suc n) rest) (numbered_from (suc n) rest) (numbered_is (suc n) rest)
+numbered_is n (r ∷ rest) = go (r.number == n) (resolutions_number_from (suc n) rest) (numbered_from (suc n) rest) (numbered_is (suc n) rest)
   where
     go : (b c : Bool) (o : Option (List Resolution)) → o ≡ (if c then Some (map resolution_of rest) else None)
         → (only b >>= λ _. o >>= λ later. Some (r.resolution ∷ later)) ≡ (if b && c then Some (map resolution_of (r ∷ rest)) else None)
@@ -126,12 +126,12 @@ numbered_is n (r ∷ rest) = go (r.number == n) (are_numbered_from (suc n) rest)
 less_next : (a b n : ℕ) → (a == n) ≡ true → (b == suc n) ≡ true → nat_lt a b ≡ true
 less_next a b n h k = grind (arith, nat_tests)
 
-ascending : (n : ℕ) (rows : List NumberedResolution) → are_numbered_from n rows ≡ true → ascends_by number_before rows ≡ true
+ascending : (n : ℕ) (rows : List NumberedResolution) → resolutions_number_from n rows ≡ true → ascends_by number_before rows ≡ true
 ascending n [] h = refl
 ascending n (r ∷ []) h = refl
 ascending n (r ∷ s ∷ rest) h =
-    let first = and_parts (r.number == n) (are_numbered_from (suc n) (s ∷ rest)) h in
-    let next = and_parts (s.number == suc n) (are_numbered_from (suc (suc n)) rest) first.1 in
+    let first = and_parts (r.number == n) (resolutions_number_from (suc n) (s ∷ rest)) h in
+    let next = and_parts (s.number == suc n) (resolutions_number_from (suc (suc n)) rest) first.1 in
     both_true (less_next r.number s.number n first.0 next.0) (ascending (suc n) (s ∷ rest) first.1)
 
 some_so : {X : Type 0} (b : Bool) (x y : X) → ◌≡◌ {A = Option X} (if b then Some x else None) (Some y) → (b ≡ true) × (y ≡ x)
@@ -139,22 +139,22 @@ some_so true x y h = let same : x ≡ y = cc in (refl, sym same)
 some_so false x y h = absurd cc
 
 -- what is found of rows in order
-found_so : (rows : List NumberedResolution) (found : List Resolution) → resolutions_own rows ≡ Some found → (are_numbered_from 1 (sort_by number_before rows) ≡ true) × (found ≡ map resolution_of (sort_by number_before rows))
-found_so rows found h = some_so (are_numbered_from 1 (sort_by number_before rows)) (map resolution_of (sort_by number_before rows)) found (sym (numbered_is 1 (sort_by number_before rows)) ∙ h)
+found_so : (rows : List NumberedResolution) (found : List Resolution) → resolutions_own rows ≡ Some found → (resolutions_number_from 1 (sort_by number_before rows) ≡ true) × (found ≡ map resolution_of (sort_by number_before rows))
+found_so rows found h = some_so (resolutions_number_from 1 (sort_by number_before rows)) (map resolution_of (sort_by number_before rows)) found (sym (numbered_is 1 (sort_by number_before rows)) ∙ h)
 
 -- where a number stands twice, they are not numbered 1, 2, ..
 pub numbers_refused : (rows : List NumberedResolution) → ascends_by number_before (sort_by number_before rows) ≡ false → (found : List Resolution) → resolutions_own rows ≡ Some found → are_resolutions found ≡ false
 numbers_refused rows falls found h = absurd (true≢false (sym (ascending 1 (sort_by number_before rows) (found_so rows found h).0) ∙ falls))
 
-pub wrong_numbers : (rows sorted : List NumberedResolution) → sorted ≡ sort_by number_before rows → are_numbered_from 1 sorted ≡ false → (found : List Resolution) → resolutions_own rows ≡ Some found → are_resolutions found ≡ false
-wrong_numbers rows sorted is wrong found h = absurd (true≢false (sym (found_so rows found h).0 ∙ ap (are_numbered_from 1) (sym is) ∙ wrong))
+pub wrong_numbers : (rows sorted : List NumberedResolution) → sorted ≡ sort_by number_before rows → resolutions_number_from 1 sorted ≡ false → (found : List Resolution) → resolutions_own rows ≡ Some found → are_resolutions found ≡ false
+wrong_numbers rows sorted is wrong found h = absurd (true≢false (sym (found_so rows found h).0 ∙ ap (resolutions_number_from 1) (sym is) ∙ wrong))
 
 pub too_many : (rows sorted : List NumberedResolution) → sorted ≡ sort_by number_before rows → nat_le (length sorted) 50 ≡ false → (found : List Resolution) → resolutions_own rows ≡ Some found → are_resolutions found ≡ false
 too_many rows sorted is many found h =
     let count : length found ≡ length sorted = ap length (found_so rows found h).1 ∙ length-map (sort_by number_before rows) resolution_of ∙ ap length (sym is) in
     second_false (nat_le 1 (length found)) (nat_le (length found) 50) (ap (λ n. nat_le n 50) count ∙ many)
 
-pub resolutions_made : (rows sorted : List NumberedResolution) (made : List Resolution) → sorted ≡ sort_by number_before rows → are_numbered_from 1 sorted ≡ true → made ≡ map resolution_of sorted → resolutions_own rows ≡ Some made
+pub resolutions_made : (rows sorted : List NumberedResolution) (made : List Resolution) → sorted ≡ sort_by number_before rows → resolutions_number_from 1 sorted ≡ true → made ≡ map resolution_of sorted → resolutions_own rows ≡ Some made
 resolutions_made rows sorted made is numbered same =
     ap (numbered_from 1) (sym is) ∙ numbered_is 1 sorted ∙ ap (λ b. if b then Some (map resolution_of sorted) else None) numbered ∙ ap (λ l. Some l) (sym same)
 

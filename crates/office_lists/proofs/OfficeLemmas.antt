@@ -11,7 +11,7 @@ use Rattle.desk_words.specs.Office.{are_meetings, is_meeting, is_office, same_me
 use Rattle.desk_words.specs.declared.caller.KeyRow.{KeyRow}
 use Rattle.desk_words.specs.declared.office.MeetingLists.{MeetingLists}
 use Rattle.desk_words.specs.declared.office.OfficeLists.{OfficeLists}
-use Rattle.desk_rows.specs.Meanings.{◌>>=◌, only}
+use Rattle.desk_terms.specs.Options.{◌>>=◌, only}
 use Rattle.desk_rows.specs.declared.kept.MeetingRow.{MeetingRow}
 use Rattle.desk_records.specs.Office.{FlatLists, have_meetings, lists_of, lists_of_all, lists_with, office_of_records, resolutions_of}
 use Rattle.desk_rows.proofs.MeaningLemmas.{bound}
@@ -23,16 +23,16 @@ use Rattle.office_lists.specs.Yields.{IsCause}
 use Rattle.office_lists.specs.declared.own.OwnRecords.{OwnRecords}
 use Rattle.office_lists.specs.declared.flat.MeetingRecords.{MeetingRecords}
 use Rattle.office_lists.specs.Flat.{flat_with}
-use Rattle.office_lists.specs.Giving.{all_lists_own, are_meeting_rows, own_of, same_row}
+use Rattle.office_lists.specs.Giving.{all_lists_own, are_meeting_rows, own_records_of, same_meeting_row}
 use Rattle.office_lists.specs.Own.{lists_own}
 use Rattle.office_lists.proofs.ListLemmas.{second_false}
 
 -- the lists of all meetings are those of each one's own records
 pub lists_same : (keys : List KeyRow) (closed : List ℕ) (meetings : List MeetingRow) (records : MeetingRecords) (rows : List MeetingRow)
-    → all_lists_own (map (own_of records) rows) ≡ lists_of_all (flat_with keys closed meetings records) rows
+    → all_lists_own (map (own_records_of records) rows) ≡ lists_of_all (flat_with keys closed meetings records) rows
 lists_same keys closed meetings records [] = refl
 lists_same keys closed meetings records (m ∷ rows) =
-    ap (λ (o : Option (List MeetingLists)). lists_own (own_of records m) >>= λ first. o >>= λ later. Some (first ∷ later)) (lists_same keys closed meetings records rows)
+    ap (λ (o : Option (List MeetingLists)). lists_own (own_records_of records m) >>= λ first. o >>= λ later. Some (first ∷ later)) (lists_same keys closed meetings records rows)
 
 -- the lists of one meeting more
 pub all_more : (all : List OwnRecords) (lists : List MeetingLists) (own : OwnRecords) (m : MeetingLists) → all_lists_own all ≡ Some lists → lists_own own ≡ Some m → all_lists_own (all ++ own ∷ []) ≡ Some (lists ++ m ∷ [])
@@ -135,7 +135,7 @@ any_named flat id (m ∷ rows) lists h =
     ∙ ap (λ n. same_name id n || list_any (λ (x : MeetingLists). same_name id x.meeting.id) later.0) (named_so flat m first.0 first.1)
     ∙ ap (λ b. same_name id m.id || b) (any_named flat id rows later.0 later.1)
 
-pub differ_so : (flat : FlatLists) (rows : List MeetingRow) (lists : List MeetingLists) → lists_of_all flat rows ≡ Some lists → differ_by same_meeting lists ≡ differ_by same_row rows
+pub differ_so : (flat : FlatLists) (rows : List MeetingRow) (lists : List MeetingLists) → lists_of_all flat rows ≡ Some lists → differ_by same_meeting lists ≡ differ_by same_meeting_row rows
 differ_so flat [] lists h = let same : [] ≡ lists = cc in ap (differ_by same_meeting) (sym same)
 differ_so flat (m ∷ rows) lists h =
     let first = bound (lists_of flat m) (λ f. lists_of_all flat rows >>= λ later. Some (f ∷ later)) lists h in
@@ -144,7 +144,7 @@ differ_so flat (m ∷ rows) lists h =
     ap (differ_by same_meeting) (sym same)
     ∙ ap (λ n. not (list_any (λ (x : MeetingLists). same_name n x.meeting.id) later.0) && differ_by same_meeting later.0) (named_so flat m first.0 first.1)
     ∙ ap (λ b. not b && differ_by same_meeting later.0) (any_named flat m.id rows later.0 later.1)
-    ∙ ap (λ b. not (list_any (same_row m) rows) && b) (differ_so flat rows later.0 later.1)
+    ∙ ap (λ b. not (list_any (same_meeting_row m) rows) && b) (differ_so flat rows later.0 later.1)
 
 count_so : (flat : FlatLists) (rows : List MeetingRow) (lists : List MeetingLists) → lists_of_all flat rows ≡ Some lists → length lists ≡ length rows
 count_so flat [] lists h = let same : [] ≡ lists = cc in ap length (sym same)

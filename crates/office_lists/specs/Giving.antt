@@ -5,7 +5,7 @@ use Rattle.desk_lists.specs.Ordered.{differ_by}
 use Rattle.desk_terms.specs.Names.{same_name}
 use Rattle.desk_words.specs.declared.limits.TheConstants.{MOST_MEETINGS}
 use Rattle.desk_words.specs.declared.office.MeetingLists.{MeetingLists}
-use Rattle.desk_rows.specs.Meanings.{◌>>=◌}
+use Rattle.desk_terms.specs.Options.{◌>>=◌}
 use Rattle.desk_rows.specs.declared.kept.InMeeting.{InMeeting}
 use Rattle.desk_rows.specs.declared.kept.MeetingRow.{MeetingRow}
 use Rattle.desk_records.specs.Office.{have_meetings, of_meeting}
@@ -19,8 +19,8 @@ use Rattle.office_lists.specs.Own.{adding_demands, adding_endings, adding_polls,
 use Rattle.office_lists.specs.Own.{adding_register, adding_resolutions, lists_own}
 
 -- a meeting, and of the records its own
-abbrev pub own_of : MeetingRecords → MeetingRow → OwnRecords
-own_of records m = record {
+abbrev pub own_records_of : MeetingRecords → MeetingRow → OwnRecords
+own_records_of records m = record {
   meeting = m;
   resolutions = of_meeting m.id records.resolutions;
   register = of_meeting m.id records.register;
@@ -46,8 +46,8 @@ abbrev pub same_own : OwnRecords → OwnRecords → Bool
 same_own a b = same_name a.meeting.id b.meeting.id
 
 -- both meetings have one name
-abbrev pub same_row : MeetingRow → MeetingRow → Bool
-same_row a b = same_name a.id b.id
+abbrev pub same_meeting_row : MeetingRow → MeetingRow → Bool
+same_meeting_row a b = same_name a.id b.id
 
 -- it is the meeting of that name
 abbrev pub is_named : List ℕ → OwnRecords → Bool
@@ -55,7 +55,7 @@ is_named id own = same_name own.meeting.id id
 
 -- at most `MOST_MEETINGS` meetings, each with a name of its own
 abbrev pub are_meeting_rows : List MeetingRow → Bool
-are_meeting_rows rows = nat_le (length rows) MOST_MEETINGS && differ_by same_row rows
+are_meeting_rows rows = nat_le (length rows) MOST_MEETINGS && differ_by same_meeting_row rows
 
 -- the meetings whose records these are
 abbrev pub meetings_own : List OwnRecords → List MeetingRow

@@ -14,7 +14,7 @@ use Rattle.desk_words.specs.declared.records.Poll.{Poll}
 use Rattle.desk_words.specs.declared.records.PresenceMark.{PresenceMark}
 use Rattle.desk_words.specs.declared.records.RegisterRow.{RegisterRow}
 use Rattle.desk_words.specs.declared.records.Resolution.{Resolution}
-use Rattle.desk_rows.specs.Meanings.{◌>>=◌}
+use Rattle.desk_terms.specs.Options.{◌>>=◌}
 use Rattle.desk_rows.specs.declared.kept.MeetingRow.{MeetingRow}
 use Rattle.desk_rows.specs.declared.kept.NumberedResolution.{NumberedResolution}
 use Rattle.desk_records.specs.Office.{number_before, numbered_from, whole_meeting}
@@ -58,18 +58,14 @@ abbrev pub resolution_of : NumberedResolution → Resolution
 resolution_of r = r.resolution
 
 -- the numbers are those from a number on
-abbrev pub are_numbered_from : ℕ → List NumberedResolution → Bool
-are_numbered_from n [] = true
-are_numbered_from n (r ∷ rest) = (r.number == n) && are_numbered_from (suc n) rest
+abbrev pub resolutions_number_from : ℕ → List NumberedResolution → Bool
+resolutions_number_from n [] = true
+resolutions_number_from n (r ∷ rest) = (r.number == n) && resolutions_number_from (suc n) rest
 
 -- the lists of a meeting, or nothing where its resolutions are not numbered 1, 2, ..
 abbrev pub lists_own : OwnRecords → Option MeetingLists
 lists_own own =
     resolutions_own own.resolutions >>= λ resolutions. Some (lists_own_with own resolutions)
-
--- there are no rows, or they are a register's (section 113)
-abbrev pub are_rows : List RegisterRow → Bool
-are_rows rows = no_rows rows || is_register rows
 
 -- a meeting with these records behind its others
 abbrev pub adding_resolutions : List NumberedResolution → OwnRecords → OwnRecords

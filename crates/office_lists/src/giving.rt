@@ -7,7 +7,7 @@ ghost use Rattle.desk_lists.specs.Ordered.{differ_by};
 ghost use Rattle.desk_records.specs.Office.{name_meetings};
 ghost use Rattle.office_lists.specs.declared.fault.ReadFault.TheVariants.{NoOffice};
 ghost use Rattle.office_lists.specs.Giving.{IsGivenOut, are_meeting_rows, given_out, is_named};
-ghost use Rattle.office_lists.specs.Giving.{all_given_out, all_name_meetings, own_of, same_own};
+ghost use Rattle.office_lists.specs.Giving.{all_given_out, all_name_meetings, own_records_of, same_own};
 ghost use Rattle.office_lists.specs.Own.{nothing_own};
 
 use crate::fault::ReadFault;
@@ -106,7 +106,7 @@ pub(crate) fn meetings_with(
     meetings: &[MeetingRow],
     records: MeetingRecords,
 ) -> Result<Vec<OwnRecords>, ReadFault>
-    ensures made { IfOk result (λ all. all.items ≡ map (own_of records) meetings.now) }
+    ensures made { IfOk result (λ all. all.items ≡ map (own_records_of records) meetings.now) }
     ensures named { OnOk result (all_name_meetings records meetings.now ≡ true) }
     ensures none { result ≡ Err NoOffice
         → (are_meeting_rows meetings.now && all_name_meetings records meetings.now) ≡ false }

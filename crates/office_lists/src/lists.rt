@@ -4,11 +4,11 @@ ghost use Rattle.desk_lists.specs.Ordered.{ascends_by};
 ghost use Rattle.desk_lists.specs.Sorting.{sort_by};
 ghost use Rattle.desk_words.specs.Lists.{are_resolutions, caller_before, day_before, is_day_list};
 ghost use Rattle.desk_words.specs.Lists.{is_key_list};
-ghost use Rattle.desk_words.specs.Office.{is_meeting, poll_before};
+ghost use Rattle.desk_words.specs.Office.{is_meeting, poll_before, are_rows};
 ghost use Rattle.desk_words.specs.Registers.{member_before};
 ghost use Rattle.desk_words.specs.declared.limits.TheConstants.{MOST_RESOLUTIONS};
 ghost use Rattle.desk_records.specs.Office.{number_before};
-ghost use Rattle.office_lists.specs.Own.{are_numbered_from, are_rows, lists_own, resolution_of};
+ghost use Rattle.office_lists.specs.Own.{resolutions_number_from, lists_own, resolution_of};
 ghost use Rattle.office_lists.specs.Own.{resolutions_own};
 ghost use Rattle.office_lists.specs.Yields.{Yields};
 
@@ -103,7 +103,7 @@ fn numbers_in_order(rows: Vec<NumberedResolution>) -> Option<Vec<NumberedResolut
 /// Whether the numbers are 1, 2, ..
 fn are_numbered(rows: &[NumberedResolution]) -> bool
     requires { length rows.now ≤ MOST_RESOLUTIONS }
-    ensures { result ≡ are_numbered_from 1 rows.now }
+    ensures { result ≡ resolutions_number_from 1 rows.now }
 {
     let mut wanted = 1;
     for row in rows {

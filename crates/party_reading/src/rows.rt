@@ -46,7 +46,8 @@ pub(crate) fn given_by<S: Alter>(
 ) -> Result<Listing<Appointment>, ReadFault>
     ensures same_reference { tx.new.conn.ghost_name ≡ tx.old.conn.ghost_name }
     ensures told { IsToldOf S.Store tx.old.conn.now tx.new.conn.now result
-        (λ office given. given ≡ filter (is_given_by member) (appointments_in (meeting_at office meeting))) }
+        (λ office given. given
+        ≡ filter (is_given_by member) (appointments_in (meeting_at office meeting))) }
 {
     items(
         alloc,
@@ -63,7 +64,8 @@ pub(crate) fn naming<S: Alter>(
 ) -> Result<Listing<Appointment>, ReadFault>
     ensures same_reference { tx.new.conn.ghost_name ≡ tx.old.conn.ghost_name }
     ensures told { IsToldOf S.Store tx.old.conn.now tx.new.conn.now result
-        (λ office received. received ≡ filter (names party) (appointments_in (meeting_at office meeting))) }
+        (λ office received. received
+        ≡ filter (names party) (appointments_in (meeting_at office meeting))) }
 {
     items(
         alloc,
@@ -80,7 +82,8 @@ pub(crate) fn ended_by<S: Alter>(
 ) -> Result<Listing<Ending>, ReadFault>
     ensures same_reference { tx.new.conn.ghost_name ≡ tx.old.conn.ghost_name }
     ensures told { IsToldOf S.Store tx.old.conn.now tx.new.conn.now result
-        (λ office ended. ended ≡ filter (is_ended_of member) (endings_in (meeting_at office meeting))) }
+        (λ office ended. ended
+        ≡ filter (is_ended_of member) (endings_in (meeting_at office meeting))) }
 {
     items(alloc, found(alloc, endings::made_by(tx, meeting, member)))
 }
@@ -112,7 +115,8 @@ pub(crate) fn trusting<S: Alter>(
 ) -> Result<Listing<Authority>, ReadFault>
     ensures same_reference { tx.new.conn.ghost_name ≡ tx.old.conn.ghost_name }
     ensures told { IsToldOf S.Store tx.old.conn.now tx.new.conn.now result
-        (λ office given. given ≡ filter (authorises party) (authorities_in (meeting_at office meeting))) }
+        (λ office given. given
+        ≡ filter (authorises party) (authorities_in (meeting_at office meeting))) }
 {
     items(alloc, found(alloc, authorities::naming(tx, meeting, party)))
 }

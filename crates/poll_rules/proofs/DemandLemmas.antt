@@ -9,6 +9,7 @@ use Rattle.std.proofs.Math.Nat.{mul-le-mul_left}
 use Rattle.std.proofs.lemmas.List.Sums.{sum_by-cons, sum_by_more, sum_by_more_le, sum_by-take-le, sum_by-le-sum_by, count_by-le-length}
 use Rattle.std.proofs.Math.Bool.{or-false}
 use Rattle.std.proofs.lemmas.Bool.{leb-true}
+use Rattle.desk_words.specs.Office.{are_rows}
 use Rattle.desk_lists.specs.Ordered.{ascends_by}
 use Rattle.desk_terms.specs.Names.{same_name, name_cmp}
 use Rattle.desk_terms.specs.Places.{places_that}
@@ -18,7 +19,7 @@ use Rattle.desk_words.specs.declared.records.Authority.{Authority}
 use Rattle.desk_words.specs.declared.records.Ending.{Ending}
 use Rattle.desk_words.specs.declared.records.RegisterRow.{RegisterRow}
 use Rattle.desk_words.specs.declared.limits.TheConstants.{MOST_SHARES}
-use Rattle.proxy_rules.specs.Shares.{are_rows, shares_of}
+use Rattle.proxy_rules.specs.Shares.{shares_of}
 use Rattle.proxy_rules.specs.declared.papers.Cutoffs.{Cutoffs}
 use Rattle.proxy_rules.specs.declared.pieces.GovernedPiece.{GovernedPiece}
 use Rattle.proxy_rules.specs.Governing.{governing_in}
@@ -27,20 +28,20 @@ use Rattle.proxy_rules.specs.Tiles.{ArePieces, shares_if}
 use Rattle.proxy_rules.proofs.TileLemmas.{every_place, places_that-pieces, places_that_le}
 use Rattle.proxy_rules.proofs.ShareLemmas.{all_shares-le, shares_of-le}
 use Rattle.poll_rules.specs.DemandSums.{FitsRow, sums_by, with_row}
-use Rattle.poll_rules.specs.Demands.{by_a_representative, by_the_holder, names_one, paid_on, share_demands, shares_demanding}
+use Rattle.poll_rules.specs.Demands.{by_a_representative, holder_demanded, names_one, paid_on, share_demands, shares_demanding}
 
 -- ---- the shares of a row that demand
 
 -- where the holder demands it, all shares do
 pub all_demand : (demanded : List ℕ → Bool) (cutoffs : Cutoffs) (given : List Appointment) (ended : List Ending) (authorities : List Authority) (row : RegisterRow)
-    → (by_the_holder demanded row || by_a_representative demanded authorities row) ≡ true → shares_of row ≡ shares_demanding demanded cutoffs given ended authorities row
+    → (holder_demanded demanded row || by_a_representative demanded authorities row) ≡ true → shares_of row ≡ shares_demanding demanded cutoffs given ended authorities row
 all_demand demanded cutoffs given ended authorities row holder =
     sym (every_place (shares_of row))
     ∙ ap (λ b. places_that (λ place. b || names_one demanded (governing_in cutoffs (holding_by given ended row) place)) (shares_of row)) (sym holder)
 
 -- and else those of the pieces whose proxies do
 pub pieces_demand : (demanded : List ℕ → Bool) (cutoffs : Cutoffs) (given : List Appointment) (ended : List Ending) (authorities : List Authority) (row : RegisterRow) (pieces : List GovernedPiece)
-    → (by_the_holder demanded row || by_a_representative demanded authorities row) ≡ false → ArePieces cutoffs (holding_by given ended row) pieces
+    → (holder_demanded demanded row || by_a_representative demanded authorities row) ≡ false → ArePieces cutoffs (holding_by given ended row) pieces
     → sum_by (shares_if (names_one demanded) (holding_by given ended row)) pieces ≡ shares_demanding demanded cutoffs given ended authorities row
 pieces_demand demanded cutoffs given ended authorities row pieces holder are =
     places_that-pieces (names_one demanded) cutoffs (holding_by given ended row) pieces are

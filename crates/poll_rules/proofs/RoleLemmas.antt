@@ -23,7 +23,7 @@ use Rattle.desk_words.proofs.RowLemmas.{same_name-true}
 use Rattle.desk_words.specs.Registers.{all_shares}
 use Rattle.desk_words.specs.declared.records.Appointment.{Appointment}
 use Rattle.desk_words.specs.declared.records.RegisterRow.{RegisterRow}
-use Rattle.proxy_rules.specs.Tiles.{ArePieces, appointment_of, places_in, shares_if}
+use Rattle.proxy_rules.specs.Tiles.{ArePieces, governing_of, places_in, shares_if}
 use Rattle.proxy_rules.specs.declared.holdings.Holding.{Holding}
 use Rattle.proxy_rules.specs.declared.papers.Cutoffs.{Cutoffs}
 use Rattle.proxy_rules.specs.declared.pieces.GovernedPiece.{GovernedPiece}
@@ -98,7 +98,7 @@ one_counted person (Some a) others places rest some is = one_or (same_name a.pro
 pub proxies-pieces : (person : List ℕ) (holding : Holding) (pieces : List GovernedPiece) → are_in (filter_map (proxy_of holding) pieces) person ≡ nat_lt 0 (sum_by (shares_if (names person) holding) pieces)
 proxies-pieces person holding [] = refl
 proxies-pieces person holding (piece ∷ pieces) =
-    one_counted person (appointment_of holding piece) (filter_map (proxy_of holding) pieces) (places_in piece.range) (sum_by (shares_if (names person) holding) pieces)
+    one_counted person (governing_of holding piece) (filter_map (proxy_of holding) pieces) (places_in piece.range) (sum_by (shares_if (names person) holding) pieces)
     (omega arith) (proxies-pieces person holding pieces)
     ∙ ap (nat_lt 0) (sym (sum_by-cons (shares_if (names person) holding) piece pieces))
 

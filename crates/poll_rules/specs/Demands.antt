@@ -22,8 +22,8 @@ has_demanded demands resolution person =
     list_any (λ (d : DemandMark). d.resolution == resolution && same_name d.party person) demands
 
 -- the individual who holds the row demanded it
-abbrev pub by_the_holder : (Party → Bool) → RegisterRow → Bool
-by_the_holder demanded row = is_individual row.kind && demanded row.member
+abbrev pub holder_demanded : (Party → Bool) → RegisterRow → Bool
+holder_demanded demanded row = is_individual row.kind && demanded row.member
 
 -- a person with the authority of the corporation that holds the row demanded it (section 323)
 abbrev pub by_a_representative : (Party → Bool) → List Authority → RegisterRow → Bool
@@ -41,7 +41,7 @@ names_one demanded by = option_map_or (λ (a : Appointment). demanded a.proxy) b
 abbrev pub share_demands : (Party → Bool) → Cutoffs → List Appointment → List Ending
     → List Authority → RegisterRow → Place → Bool
 share_demands demanded cutoffs given ended authorities row place =
-    (by_the_holder demanded row || by_a_representative demanded authorities row)
+    (holder_demanded demanded row || by_a_representative demanded authorities row)
     || names_one demanded (governing_in cutoffs (holding_by given ended row) place)
 
 -- how many shares of the row demand it

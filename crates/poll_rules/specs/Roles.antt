@@ -18,7 +18,7 @@ use Rattle.proxy_rules.specs.Shares.{is_corporation, is_individual}
 use Rattle.proxy_rules.specs.declared.holdings.Holding.{Holding}
 use Rattle.proxy_rules.specs.declared.papers.Cutoffs.{Cutoffs}
 use Rattle.proxy_rules.specs.declared.pieces.GovernedPiece.{GovernedPiece}
-use Rattle.proxy_rules.specs.Tiles.{appointment_of}
+use Rattle.proxy_rules.specs.Tiles.{governing_of}
 use Rattle.poll_rules.specs.declared.roles.Role.{Role}
 
 -- the party gave the person its authority (section 323)
@@ -29,7 +29,7 @@ has_authority authorities corporation person =
 
 -- the proxy who governs a piece of a holding
 abbrev pub proxy_of : Holding → GovernedPiece → Option Party
-proxy_of holding piece = option_map (λ (a : Appointment). a.proxy) (appointment_of holding piece)
+proxy_of holding piece = option_map (λ (a : Appointment). a.proxy) (governing_of holding piece)
 
 -- the appointment that governs the share names the person (section 324)
 abbrev pub is_proxy_at : Cutoffs → Holding → Party → Place → Bool

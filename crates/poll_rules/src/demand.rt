@@ -2,12 +2,11 @@
 ghost use Rattle.std.specs.Prelude.{◌≡◌, ◌≤◌, ◌<◌, ◌*◌, ◌^◌, ◌||◌, ℕ, List, [], true, IfOk, sum_by};
 ghost use Rattle.std.specs.List.{list_any};
 ghost use Rattle.std.specs.Option.{option_copied};
-ghost use Rattle.desk_words.specs.Office.{are_numbered_after};
+ghost use Rattle.desk_words.specs.Office.{are_numbered_after, are_rows};
 ghost use Rattle.proxy_rules.specs.Holdings.{are_tags};
-ghost use Rattle.proxy_rules.specs.Shares.{are_rows};
 ghost use Rattle.proxy_rules.specs.Tiles.{shares_if};
 ghost use Rattle.poll_rules.specs.DemandSums.{FitsRow, demand_from, is_one_of, sums_by, with_row};
-ghost use Rattle.poll_rules.specs.Demands.{by_a_representative, by_the_holder, demand_of, has_demanded, is_enough, names_one, shares_demanding};
+ghost use Rattle.poll_rules.specs.Demands.{by_a_representative, holder_demanded, demand_of, has_demanded, is_enough, names_one, shares_demanding};
 
 use desk_words::{Appointment, Authority, DemandMark, Filed, HolderKind, Party, RegisterRow};
 use proxy_rules::{Cutoffs, GovernedPiece, Holding, Papers, authorised_by, shares};
@@ -83,7 +82,7 @@ fn holder_demands(
     authorities: &Filed<Authority>,
     row: &RegisterRow,
 ) -> Result<bool, AllocError>
-    ensures { IfOk result (λ demands. demands ≡ (by_the_holder (is_one_of demanders.now) row.now
+    ensures { IfOk result (λ demands. demands ≡ (holder_demanded (is_one_of demanders.now) row.now
         || by_a_representative (is_one_of demanders.now) authorities.now row.now)) }
 {
     match row.kind {

@@ -8,7 +8,7 @@ ghost use Rattle.desk_words.specs.declared.records.Appointment.{Appointment};
 ghost use Rattle.desk_words.specs.declared.records.Authority.{Authority};
 ghost use Rattle.proxy_rules.specs.Holdings.{IsKept, are_tags};
 ghost use Rattle.proxy_rules.specs.Shares.{is_corporation, is_individual};
-ghost use Rattle.proxy_rules.specs.Tiles.{appointment_of};
+ghost use Rattle.proxy_rules.specs.Tiles.{governing_of};
 ghost use Rattle.poll_rules.specs.Gathered.{are_in, items_at};
 ghost use Rattle.poll_rules.specs.Quorum.{same_role};
 ghost use Rattle.poll_rules.specs.Roles.{has_authority, is_proxy_in, proxy_of, role_if, roles_by};

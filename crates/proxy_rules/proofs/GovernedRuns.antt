@@ -19,7 +19,7 @@ use Rattle.proxy_rules.specs.Holdings.{holding_of, is_ended_of}
 use Rattle.proxy_rules.specs.Laws.{EarlierTakeNothing, EndingsReviveNothing, RunsHoldWhatGoverns, has_number}
 use Rattle.proxy_rules.specs.Runs.{joined, runs_that}
 use Rattle.proxy_rules.specs.Tagging.{with_piece}
-use Rattle.proxy_rules.specs.Tiles.{ArePieces, IsGoverned, appointment_of, are_tiled, ranges_of}
+use Rattle.proxy_rules.specs.Tiles.{ArePieces, IsGoverned, governing_of, are_tiled, governed_ranges}
 use Rattle.proxy_rules.proofs.RunLemmas.{are_in-runs_that, runs_that-stretch}
 use Rattle.proxy_rules.proofs.TileLemmas.{tiled}
 
@@ -43,7 +43,7 @@ module _ (cutoffs : Cutoffs) (holding : Holding) (number : ℕ) where
   one_piece : (n : ℕ) (piece : GovernedPiece) → piece.range.from ≡ n + 1 → n + 1 ≤ piece.range.to → IsGoverned cutoffs holding piece
       → with_piece holding number (runs_that test n) piece ≡ runs_that test piece.range.to
   one_piece n piece begins within governed =
-      let by = option_map_or (λ (a : Appointment). a.number == number) (appointment_of holding piece) false in
+      let by = option_map_or (λ (a : Appointment). a.number == number) (governing_of holding piece) false in
       let up : n < piece.range.to = omega arith in
       let from : piece.range.from ≡ suc n = omega arith in
       let stretch = runs_that-stretch test by n piece.range.to up
@@ -52,11 +52,11 @@ module _ (cutoffs : Cutoffs) (holding : Holding) (number : ℕ) where
       ap (λ first. cond by (joined (runs_that test n) (record { from = first; to = piece.range.to })) (runs_that test n)) from
       ∙ sym stretch
 
-  runs_from : (n : ℕ) (pieces : List GovernedPiece) (last : ℕ) → are_tiled (n + 1) (ranges_of pieces) last ≡ true → All (IsGoverned cutoffs holding) pieces
+  runs_from : (n : ℕ) (pieces : List GovernedPiece) (last : ℕ) → are_tiled (n + 1) (governed_ranges pieces) last ≡ true → All (IsGoverned cutoffs holding) pieces
       → fold (with_piece holding number) (runs_that test n) pieces ≡ runs_that test last
   runs_from n [] last all governed = let e : n + 1 ≡ last + 1 = eqb-true (n + 1) (last + 1) all in let same : n ≡ last = omega arith in ap (runs_that test) same
   runs_from n (piece ∷ pieces) last all governed =
-      let t = tiled (n + 1) piece.range (ranges_of pieces) last all in
+      let t = tiled (n + 1) piece.range (governed_ranges pieces) last all in
       ap (λ runs. fold (with_piece holding number) runs pieces) (one_piece n piece t.begins t.within (All-head (IsGoverned cutoffs holding) piece pieces governed))
       ∙ runs_from piece.range.to pieces last t.rest (All-tail (IsGoverned cutoffs holding) piece pieces governed)
 

@@ -18,7 +18,7 @@ use Rattle.proxy_rules.specs.declared.pieces.GovernedPiece.{GovernedPiece}
 use Rattle.proxy_rules.specs.Governing.{ends, governing_in, is_ended, is_over, last_over, unended}
 use Rattle.proxy_rules.specs.Holdings.{IsKept, are_numbered_from, are_tags}
 use Rattle.proxy_rules.specs.Tagging.{cover_by, covers_by, held_of, if_unended, piece_by, piece_over, tag_over}
-use Rattle.proxy_rules.specs.Tiles.{ArePieces, IsGoverned, are_tiled, ranges_of}
+use Rattle.proxy_rules.specs.Tiles.{ArePieces, IsGoverned, are_tiled, governed_ranges}
 use Rattle.proxy_rules.proofs.TileLemmas.{no_range, tiled-held, within_range}
 use Rattle.proxy_rules.proofs.TurnedLists.{filter_map-reverse}
 use Rattle.share_blocks.specs.Covers.{Cover, newest_of}
@@ -170,11 +170,11 @@ module _ (admitted has_ended : ℕ → Bool) (tags_pass : (tag : ℕ) → is_tag
             (one_governed range to (omega (arith, f.begins)) (min-le_left holding.shares range.to) (min-le_right holding.shares range.to) (All-head (AreAlike pieces) range ranges alike)) rest)
       ]
 
-  one_range : (held : Option Places) (tag : Option ℕ) (others : List GovernedPiece) (ranges : List Places) → ranges_of others ≡ ranges → ranges_of (cons_option (piece_by held tag) others) ≡ cons_option held ranges
+  one_range : (held : Option Places) (tag : Option ℕ) (others : List GovernedPiece) (ranges : List Places) → governed_ranges others ≡ ranges → governed_ranges (cons_option (piece_by held tag) others) ≡ cons_option held ranges
   one_range None tag others ranges same = same
   one_range (Some range) tag others ranges same = ap (λ l. range ∷ l) same
 
-  ranges_of-over : (ranges : List Places) → ranges_of (filter_map (piece_over admitted has_ended pieces holding.shares) ranges) ≡ filter_map (held_of holding.shares) ranges
+  ranges_of-over : (ranges : List Places) → governed_ranges (filter_map (piece_over admitted has_ended pieces holding.shares) ranges) ≡ filter_map (held_of holding.shares) ranges
   ranges_of-over [] = refl
   ranges_of-over (range ∷ ranges) =
       one_range (held_of holding.shares range) (tag_over admitted has_ended pieces range.from) (filter_map (piece_over admitted has_ended pieces holding.shares) ranges)

@@ -8,12 +8,12 @@ use Rattle.std.specs.Cmp.{first_so, second_so}
 use Rattle.desk_lists.proofs.Differing.{count_snoc}
 use Rattle.desk_terms.specs.Names.{same_name}
 use Rattle.desk_words.proofs.RowLemmas.{same_name-true}
-use Rattle.desk_words.specs.Office.{are_numbered_after}
+use Rattle.desk_words.specs.Office.{are_numbered_after, are_rows}
 use Rattle.desk_words.specs.declared.records.Appointment.{Appointment}
 use Rattle.desk_words.specs.declared.records.Ending.{Ending}
 use Rattle.desk_words.specs.declared.records.RegisterRow.{RegisterRow}
 use Rattle.proxy_rules.specs.Holdings.{IsKept, are_numbered_from, are_tags, holding_by, holding_of, holding_with, is_given_by}
-use Rattle.proxy_rules.specs.Shares.{are_rows, shares_of}
+use Rattle.proxy_rules.specs.Shares.{shares_of}
 use Rattle.proxy_rules.proofs.ShareLemmas.{shares_by-le, shares_of-le}
 use Rattle.share_blocks.specs.Tags.{is_tag}
 

@@ -6,6 +6,7 @@ use Rattle.std.specs.List.{list_all}
 use Rattle.std.specs.Option.{option_map_or}
 use Rattle.std.proofs.lemmas.Bool.Decides.{nat_tests}
 use Rattle.std.proofs.lemmas.List.Sums.{sum_by-cons}
+use Rattle.desk_words.specs.Office.{are_rows}
 use Rattle.desk_lists.specs.Ordered.{ascends_by}
 use Rattle.desk_terms.specs.Names.{same_name}
 use Rattle.desk_terms.specs.declared.kinds.HolderKind.{HolderKind}
@@ -13,7 +14,7 @@ use Rattle.desk_terms.specs.declared.kinds.HolderKind.TheVariants.{Individual, C
 use Rattle.desk_words.specs.declared.records.RegisterRow.{RegisterRow}
 use Rattle.desk_words.specs.declared.limits.TheConstants.{MOST_SHARES}
 use Rattle.desk_words.specs.Registers.{is_holding, all_shares, keep_limits, member_before}
-use Rattle.proxy_rules.specs.Shares.{are_rows, shares_held, shares_of, shares_by}
+use Rattle.proxy_rules.specs.Shares.{shares_held, shares_of, shares_by}
 
 shares_held-le : (kind : HolderKind) (n : ℕ) → shares_held kind n ≤ n
 shares_held-le Individual n = omega arith

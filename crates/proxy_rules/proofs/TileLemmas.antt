@@ -13,7 +13,7 @@ use Rattle.desk_terms.specs.Places.{Places, holds, places_that, range_of}
 use Rattle.desk_words.specs.declared.records.Appointment.{Appointment}
 use Rattle.proxy_rules.specs.Governing.{governing_in}
 use Rattle.proxy_rules.specs.Tagging.{held_of}
-use Rattle.proxy_rules.specs.Tiles.{ArePieces, IsAlike, IsGoverned, appointment_of, are_tiled, places_if, places_in, ranges_of, shares_if}
+use Rattle.proxy_rules.specs.Tiles.{ArePieces, IsAlike, IsGoverned, governing_of, are_tiled, places_if, places_in, governed_ranges, shares_if}
 use Rattle.proxy_rules.specs.declared.holdings.Holding.{Holding}
 use Rattle.proxy_rules.specs.declared.papers.Cutoffs.{Cutoffs}
 use Rattle.proxy_rules.specs.declared.pieces.GovernedPiece.{GovernedPiece}
@@ -123,21 +123,21 @@ module _ (passes : Option Appointment → Bool) (cutoffs : Cutoffs) (holding : H
   passes_at place = passes (governing_in cutoffs holding place)
 
   record Counted (pieces : List GovernedPiece) : Type 0 where
-    alike : All (IsAlike passes_at) (ranges_of pieces)
-    sums : sum_by (shares_if passes holding) pieces ≡ sum_by (places_if passes_at) (ranges_of pieces)
+    alike : All (IsAlike passes_at) (governed_ranges pieces)
+    sums : sum_by (shares_if passes holding) pieces ≡ sum_by (places_if passes_at) (governed_ranges pieces)
 
-  counted : (first : ℕ) (pieces : List GovernedPiece) (last : ℕ) → are_tiled first (ranges_of pieces) last ≡ true → All (IsGoverned cutoffs holding) pieces → Counted pieces
+  counted : (first : ℕ) (pieces : List GovernedPiece) (last : ℕ) → are_tiled first (governed_ranges pieces) last ≡ true → All (IsGoverned cutoffs holding) pieces → Counted pieces
   counted first [] last all governed = record { alike = All-nil (IsAlike passes_at); sums = refl }
   counted first (piece ∷ pieces) last all governed =
-      let t = tiled first piece.range (ranges_of pieces) last all in
+      let t = tiled first piece.range (governed_ranges pieces) last all in
       let one = All-head (IsGoverned cutoffs holding) piece pieces governed in
       let rest = counted (piece.range.to + 1) pieces last t.rest (All-tail (IsGoverned cutoffs holding) piece pieces governed) in
-      let here : governing_in cutoffs holding piece.range.from ≡ appointment_of holding piece = one piece.range.from (holds-first piece.range (omega (arith, t.begins, t.within))) in
+      let here : governing_in cutoffs holding piece.range.from ≡ governing_of holding piece = one piece.range.from (holds-first piece.range (omega (arith, t.begins, t.within))) in
       let same : shares_if passes holding piece ≡ places_if passes_at piece.range = ap (λ o. cond (passes o) (places_in piece.range) 0) (sym here) in
       let first_sum = sum_by-cons (shares_if passes holding) piece pieces in
-      let other_sum = sum_by-cons (places_if passes_at) piece.range (ranges_of pieces) in
+      let other_sum = sum_by-cons (places_if passes_at) piece.range (governed_ranges pieces) in
       record {
-        alike = All-cons (IsAlike passes_at) piece.range (ranges_of pieces) (λ place is. ap passes (one place is ∙ sym here)) rest.alike;
+        alike = All-cons (IsAlike passes_at) piece.range (governed_ranges pieces) (λ place is. ap passes (one place is ∙ sym here)) rest.alike;
         sums = omega (arith, first_sum, other_sum, same, rest.sums);
       }
 
@@ -145,7 +145,7 @@ module _ (passes : Option Appointment → Bool) (cutoffs : Cutoffs) (holding : H
   pub places_that-pieces : (pieces : List GovernedPiece) → ArePieces cutoffs holding pieces → sum_by (shares_if passes holding) pieces ≡ places_that passes_at holding.shares
   places_that-pieces pieces are =
       let c = counted 1 pieces holding.shares are.tiled are.governed in
-      c.sums ∙ places_that-tiles passes_at (ranges_of pieces) holding.shares are.tiled c.alike
+      c.sums ∙ places_that-tiles passes_at (governed_ranges pieces) holding.shares are.tiled c.alike
 
 -- ---- what a holding has of ranges that hold all places
 

@@ -6,13 +6,7 @@ use Rattle.desk_terms.specs.declared.kinds.HolderKind.{HolderKind}
 use Rattle.desk_terms.specs.declared.kinds.HolderKind.TheVariants.{Individual, Corporation, Treasury}
 use Rattle.desk_words.specs.Seen.{Party, Place}
 use Rattle.desk_words.specs.declared.records.RegisterRow.{RegisterRow}
-use Rattle.desk_words.specs.Office.{no_rows}
-use Rattle.desk_words.specs.Registers.{is_register}
 use Rattle.desk_words.specs.Seen.{Party, Place}
-
--- the rows of a meeting: a register, or none where no register is loaded
-abbrev pub are_rows : List RegisterRow → Bool
-are_rows rows = no_rows rows || is_register rows
 
 -- the shares of a holding, of which treasury shares are none in any rule of a poll (section 726)
 abbrev pub shares_held : HolderKind → ℕ → ℕ

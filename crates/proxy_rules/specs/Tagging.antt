@@ -11,7 +11,7 @@ use Rattle.proxy_rules.specs.declared.holdings.Holding.{Holding}
 use Rattle.proxy_rules.specs.declared.papers.Cutoffs.{Cutoffs}
 use Rattle.proxy_rules.specs.declared.pieces.GovernedPiece.{GovernedPiece}
 use Rattle.proxy_rules.specs.Runs.{joined}
-use Rattle.proxy_rules.specs.Tiles.{appointment_of}
+use Rattle.proxy_rules.specs.Tiles.{governing_of}
 use Rattle.share_blocks.specs.Covers.{Cover}
 use Rattle.share_blocks.specs.Pieces.{Piece, tags_at}
 use Rattle.share_blocks.specs.Tags.{Tag, tag_of}
@@ -65,4 +65,4 @@ with_range by range number runs =
 -- the runs of a number, with a piece behind them where its appointment governs that
 abbrev pub with_piece : Holding → ℕ → List Places → GovernedPiece → List Places
 with_piece holding number runs piece =
-    with_range (appointment_of holding piece) piece.range number runs
+    with_range (governing_of holding piece) piece.range number runs

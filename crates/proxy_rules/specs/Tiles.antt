@@ -28,25 +28,25 @@ abbrev pub places_if : (Place → Bool) → Places → ℕ
 places_if test range = if test range.from then places_in range else 0
 
 -- the ranges of the pieces
-abbrev pub ranges_of : List GovernedPiece → List Places
-ranges_of pieces = map (λ (piece : GovernedPiece). piece.range) pieces
+abbrev pub governed_ranges : List GovernedPiece → List Places
+governed_ranges pieces = map (λ (piece : GovernedPiece). piece.range) pieces
 
 -- the appointment that the piece says governs it
-abbrev pub appointment_of : Holding → GovernedPiece → Option Appointment
-appointment_of holding piece = option_and_then (slice_get holding.appointed) piece.by
+abbrev pub governing_of : Holding → GovernedPiece → Option Appointment
+governing_of holding piece = option_and_then (slice_get holding.appointed) piece.by
 
 -- each place of the piece is governed by that appointment
 abbrev pub IsGoverned : Cutoffs → Holding → GovernedPiece → Type 0
 IsGoverned cutoffs holding piece =
     (place : Place)
     → IsTrue (holds piece.range place)
-    → governing_in cutoffs holding place ≡ appointment_of holding piece
+    → governing_in cutoffs holding place ≡ governing_of holding piece
 
 -- the pieces part the shares of the holding in order, without gaps, and say of each what governs it
 -- (section 324)
 pub record ArePieces (cutoffs : Cutoffs) (holding : Holding) (pieces : List GovernedPiece)
     : Type 0 where
-  pub tiled : are_tiled 1 (ranges_of pieces) holding.shares ≡ true
+  pub tiled : are_tiled 1 (governed_ranges pieces) holding.shares ≡ true
   pub governed : All (IsGoverned cutoffs holding) pieces
 
 -- over ranges that hold the places 1 to n in order, on each of which a test answers alike, the
@@ -61,7 +61,7 @@ TilesCountPlaces =
 -- how many places of a piece are governed by an appointment that passes, where none may pass too
 abbrev pub shares_if : (Option Appointment → Bool) → Holding → GovernedPiece → ℕ
 shares_if passes holding piece =
-    if passes (appointment_of holding piece) then places_in piece.range else 0
+    if passes (governing_of holding piece) then places_in piece.range else 0
 
 -- the shares of a holding that are governed by what passes are those of the pieces that pass
 abbrev pub PiecesCountShares : Type 0

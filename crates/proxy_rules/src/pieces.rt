@@ -6,7 +6,7 @@ ghost use Rattle.std.specs.Option.{option_copied};
 ghost use Rattle.proxy_rules.specs.Governing.{ends};
 ghost use Rattle.proxy_rules.specs.Holdings.{IsKept};
 ghost use Rattle.proxy_rules.specs.Tagging.{cover_by, covers_by, held_of, piece_over, tag_ended, tag_over};
-ghost use Rattle.proxy_rules.specs.Tiles.{ArePieces, appointment_of};
+ghost use Rattle.proxy_rules.specs.Tiles.{ArePieces, governing_of};
 ghost use Rattle.share_blocks.specs.Pieces.{ranges_of};
 ghost use Rattle.share_blocks.specs.Tags.{is_tag};
 
@@ -166,7 +166,7 @@ impl Holding {
 
     /// The appointment that governs a piece. It takes no memory.
     pub fn appointment(&self, piece: &GovernedPiece) -> Option<&Appointment>
-        ensures { option_copied result ≡ appointment_of self.now piece.now }
+        ensures { option_copied result ≡ governing_of self.now piece.now }
     {
         self.appointed.as_slice().get(piece.by?)
     }

@@ -1,11 +1,10 @@
 //! The shares that appointments govern, in runs.
 ghost use Rattle.std.specs.Prelude.{◌≡◌, ◌==◌, [], ℕ, true, IsTrue, IfOk, OnOk, fold, if◌then◌else◌};
 ghost use Rattle.std.specs.Option.{option_copied};
-ghost use Rattle.desk_words.specs.Office.{are_numbered_after};
+ghost use Rattle.desk_words.specs.Office.{are_numbered_after, are_rows};
 ghost use Rattle.proxy_rules.specs.Governing.{governed_in};
 ghost use Rattle.proxy_rules.specs.Holdings.{IsKept, are_tags, holding_of};
 ghost use Rattle.proxy_rules.specs.Runs.{joined, runs_at};
-ghost use Rattle.proxy_rules.specs.Shares.{are_rows};
 ghost use Rattle.proxy_rules.specs.Tagging.{with_piece, with_range};
 
 use crate::holdings::Holding;

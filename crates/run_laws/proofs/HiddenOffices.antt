@@ -38,9 +38,9 @@ use Rattle.office_days.specs.Notice.{is_enough_notice}
 use Rattle.proxy_rules.specs.Cutoffs.{cutoffs_of}
 use Rattle.vote_rules.specs.Tallies.{tally_of}
 use Rattle.caller_view.specs.Views.{meeting_at, polls_in, public_in, public_of}
-use Rattle.office_answers.specs.Answers.{desk_ruling, office_ruling, ruling_in as office_in}
-use Rattle.office_answers.specs.Attendance.{demand_in}
-use Rattle.office_answers.specs.Calls.{call_ruling, day_of}
+use Rattle.office_answers.specs.Answers.{desk_ruling, office_ruling, ruling_on as office_in}
+use Rattle.office_answers.specs.Attendance.{demand_noted}
+use Rattle.office_answers.specs.Calls.{call_ruling, day_of_moment}
 use Rattle.office_answers.specs.Polls.{declare_cases, declaration_of, poll_of, result_cases, result_on}
 use Rattle.meeting_core.specs.Step.{decided}
 use Rattle.meeting_laws.specs.Secrecy.{TheOfficeIsToldOfNoVotes, casts_off, declares}
@@ -175,7 +175,7 @@ ruling-uncounted resolution m closed now (Order new) =
           ∷ record { refusal = NotOpened; holds = is_none m.meeting.opened }
           ∷ record { refusal = Early; holds = nat_lt new.take now }
           ∷ record { refusal = PollOrdered; holds = is_some found }
-          ∷ record { refusal = DemandTooSmall; holds = not new.chair && not (demand_in m closed now new.resolution).reached } ∷ [];
+          ∷ record { refusal = DemandTooSmall; holds = not new.chair && not (demand_noted m closed now new.resolution).reached } ∷ [];
       accepted = record { reply = reply.Ordered; change = Some (AddPoll (poll_of now new)) };
     }) resolution new.resolution m.polls (λ p a b. refl)
 ruling-uncounted resolution m closed now (Start number) =
@@ -257,7 +257,7 @@ desk-hidden secret o (desk.CallMeeting new) =
     let long : length (hidden secret o).meetings ≡ length o.meetings = length-change_first (λ (m : MeetingLists). same_name m.meeting.id secret.meeting) (hidden_in secret) o.meetings in
     λ i. settled (record {
       cases = record { refusal = Exists; holds = found i }
-          ∷ record { refusal = ShortNotice; holds = not (is_enough_notice new.company new.kind new.given (day_of new.appointed)) }
+          ∷ record { refusal = ShortNotice; holds = not (is_enough_notice new.company new.kind new.given (day_of_moment new.appointed)) }
           ∷ record { refusal = TooMany; holds = nat_le MOST_MEETINGS (long i) } ∷ [];
       accepted = (call_ruling o.meetings new).accepted;
     })

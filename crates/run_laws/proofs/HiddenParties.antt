@@ -33,8 +33,8 @@ use Rattle.desk_words.specs.declared.request.Request.TheVariants as asked
 use Rattle.proxy_rules.specs.Cutoffs.{cutoffs_of, is_late_poll}
 use Rattle.proxy_rules.specs.Parties.{is_cast_by}
 use Rattle.caller_view.proofs.OwnLemmas.{filter-swap}
-use Rattle.caller_view.specs.Answers.{ruling_in as party_in}
-use Rattle.caller_view.specs.Attendance.{demand_of, has_demanded, may_demand}
+use Rattle.caller_view.specs.Answers.{ruling_for as party_in}
+use Rattle.caller_view.specs.Attendance.{demand_mark, own_demanded, may_demand}
 use Rattle.caller_view.specs.Casts.{block_of, cast_of, has_cast_enough}
 use Rattle.caller_view.specs.Own.{governed_by, known_to_proxy, own_from, poll_governed}
 use Rattle.caller_view.specs.Reads.{cast_on, own_read}
@@ -46,7 +46,7 @@ use Rattle.caller_view.specs.declared.rows.OwnRows.{OwnRows}
 use Rattle.caller_view.specs.declared.views.OwnView.{OwnView}
 use Rattle.meeting_core.specs.Step.{decided}
 use Rattle.meeting_laws.specs.Reads.{ReadsEnough, answered}
-use Rattle.run_laws.specs.Votes.{Secret, hidden, hidden_in, is_declared_in, is_secret_cast, is_vote, is_vote_in, uncounted, without_count}
+use Rattle.run_laws.specs.Votes.{Secret, hidden, hidden_in, is_declared_in, is_secret_cast, is_vote_request, is_vote_in, uncounted, without_count}
 use Rattle.run_laws.proofs.HiddenChanges.{hidden_some}
 use Rattle.run_laws.proofs.HiddenOffices.{hidden-found, hidden-public, poll-seen, turned}
 use Rattle.run_laws.proofs.ListLemmas.{all-of, filter-among, implied}
@@ -100,7 +100,7 @@ ruling-uncounted resolution m closed own now (Demand number) h =
           ∷ record { refusal = NotPresent; holds = not own.present }
           ∷ record { refusal = NoRight; holds = not (may_demand own) }
           ∷ record { refusal = PollOrdered; holds = is_some found } ∷ [];
-      accepted = noted (has_demanded own number) (entry.Demand (demand_of own now number));
+      accepted = noted (own_demanded own number) (entry.Demand (demand_mark own now number));
     }) resolution number m.polls (λ p a b. refl)
 ruling-uncounted resolution m closed own now (Cast new) h =
     poll-seen (λ found. record {
@@ -187,7 +187,7 @@ own_with m closed party now casts = own_from (record (rows_of m party) { casts =
 
 -- what a request enters is the same where the votes are alike that it reads
 entered-with : ReadsEnough own_read → (m : MeetingLists) (closed party : List ℕ) (now : ℕ) (casts : List CastMark) (what : PartyRequest)
-    → ((number : ℕ) → is_vote number what ≡ true → cast_on number casts ≡ cast_on number (rows_of m party).casts)
+    → ((number : ℕ) → is_vote_request number what ≡ true → cast_on number casts ≡ cast_on number (rows_of m party).casts)
     → (answered (public_in (Some m) closed) (own_with m closed party now casts) now what).change ≡ (answered (public_in (Some m) closed) (own_from (rows_of m party) (public_in (Some m) closed) now) now what).change
 entered-with enough m closed party now casts (Cast new) h =
     let public = public_in (Some m) closed in
@@ -205,7 +205,7 @@ entered-with enough m closed party now casts (Instructed number) h =
 entered-with enough m closed party now casts what h = refl
 
 -- a vote on one of two numbers is none on the other
-vote-apart : (number resolution : ℕ) (what : PartyRequest) → is_vote number what ≡ true → is_vote resolution what ≡ false → (number == resolution) ≡ false
+vote-apart : (number resolution : ℕ) (what : PartyRequest) → is_vote_request number what ≡ true → is_vote_request resolution what ≡ false → (number == resolution) ≡ false
 vote-apart number resolution (Cast new) on off = differ new.resolution number resolution on off
   where
     differ : (a b c : ℕ) → (a == b) ≡ true → (a == c) ≡ false → (b == c) ≡ false
@@ -217,7 +217,7 @@ vote-apart number resolution (Instructed asked) on off = differ asked number res
 vote-apart number resolution other on off = absurd (true≢false (sym on))
 
 -- a call that is none of the secret votes enters the same without them
-entered-alike : ReadsEnough own_read → (secret : Secret) (m : MeetingLists) (closed party : List ℕ) (now : ℕ) (what : PartyRequest) → (secret.voters party && is_vote secret.resolution what) ≡ false
+entered-alike : ReadsEnough own_read → (secret : Secret) (m : MeetingLists) (closed party : List ℕ) (now : ℕ) (what : PartyRequest) → (secret.voters party && is_vote_request secret.resolution what) ≡ false
     → (answer_found (Some (hidden_in secret m)) closed party now what).change ≡ (answer_found (Some m) closed party now what).change
 entered-alike enough secret m closed party now what none =
     let casts = filter (is_cast_by party) (filter (λ (c : CastMark). not (is_secret_cast secret c)) m.casts) in
@@ -225,13 +225,13 @@ entered-alike enough secret m closed party now what none =
     ap (λ own. (answered (public_in (Some (uncounted_in secret.resolution m)) closed) own now what).change) (own-uncounted secret.resolution m closed rows now)
     ∙ entered-uncounted secret.resolution m closed (own_with m closed party now casts) now what
     ∙ entered-with enough m closed party now casts what (λ number on.
-    (elim (secret.voters party) as (λ b. secret.voters party ≡ b → (b && is_vote secret.resolution what) ≡ false → cast_on number casts ≡ cast_on number (rows_of m party).casts) [
+    (elim (secret.voters party) as (λ b. secret.voters party ≡ b → (b && is_vote_request secret.resolution what) ≡ false → cast_on number casts ≡ cast_on number (rows_of m party).casts) [
       | true ↦ λ _ off. casts-alike secret party number m.casts (vote-apart number secret.resolution what on off)
       | false ↦ λ other _. ap (cast_on number) (others-casts secret party m.casts other)
     ]) refl none)
 
 entered-same : ReadsEnough own_read → (secret : Secret) (o : OfficeLists) (party : List ℕ) (now : ℕ) (at : List ℕ) (what : PartyRequest)
-    → (secret.voters party && (same_name at secret.meeting && is_vote secret.resolution what)) ≡ false
+    → (secret.voters party && (same_name at secret.meeting && is_vote_request secret.resolution what)) ≡ false
     → (answer_to (hidden secret o) party now at what).change ≡ (answer_to o party now at what).change
 entered-same enough secret o party now at what none =
     ap (λ found. (answer_found found o.closed party now what).change) (hidden-found secret o at)
@@ -239,7 +239,7 @@ entered-same enough secret o party now at what none =
     → (answer_found (cond b (option_map (hidden_in secret) (meeting_at o at)) (meeting_at o at)) o.closed party now what).change ≡ (answer_found (meeting_at o at) o.closed party now what).change) [
       | true ↦ λ is. (elim (meeting_at o at) as (λ found. (answer_found (option_map (hidden_in secret) found) o.closed party now what).change ≡ (answer_found found o.closed party now what).change) [
         | None ↦ refl
-        | Some m ↦ entered-alike enough secret m o.closed party now what (ap (λ b. secret.voters party && (b && is_vote secret.resolution what)) (sym (turned at secret.meeting is)) ∙ none)
+        | Some m ↦ entered-alike enough secret m o.closed party now what (ap (λ b. secret.voters party && (b && is_vote_request secret.resolution what)) (sym (turned at secret.meeting is)) ∙ none)
       ])
       | false ↦ λ other. refl
     ]) refl
@@ -248,7 +248,7 @@ entered-same enough secret o party now at what none =
 
 -- what is entered by one of them is secret
 secret-entry : (secret : Secret) (at : List ℕ) (own : OwnView) (now : ℕ) (what : PartyRequest)
-    → secret.voters own.party ≡ true → same_name at secret.meeting ≡ true → is_vote secret.resolution what ≡ true
+    → secret.voters own.party ≡ true → same_name at secret.meeting ≡ true → is_vote_request secret.resolution what ≡ true
     → hidden_some secret (option_map (λ e. InMeeting at (Enter e)) (the_entry own now what)) ≡ None
 secret-entry secret at own now (Cast new) voter is on =
     (λ i. cond (is i) (option_map (InMeeting at) (cond (on i && voter i) None (Some (Enter (entry.Cast (cast_of own now new.resolution (block_of new))))))) (Some (InMeeting at (Enter (entry.Cast (cast_of own now new.resolution (block_of new)))))))
@@ -266,7 +266,7 @@ vote-hidden secret o now party (asked.Party at what) voter vote =
     ap (λ (a : Answer Change). hidden_some secret a.change) (by-party o party now at what)
     ∙ entry-of (λ e. hidden_some secret (option_map (λ e. InMeeting at (Enter e)) e) ≡ None) (public_of o at) (own_of o party at now) now what refl
     (secret-entry secret at (own_of o party at now) now what (ap secret.voters (own-party o party at now) ∙ voter)
-    (first_so (same_name at secret.meeting) (is_vote secret.resolution what) vote) (second_so (same_name at secret.meeting) (is_vote secret.resolution what) vote))
+    (first_so (same_name at secret.meeting) (is_vote_request secret.resolution what) vote) (second_so (same_name at secret.meeting) (is_vote_request secret.resolution what) vote))
 vote-hidden secret o now party other voter vote = absurd (true≢false (sym vote))
 
 -- so what is not secret of a party's change is the same without the secret votes

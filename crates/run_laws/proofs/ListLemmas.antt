@@ -9,7 +9,7 @@ use Rattle.std.proofs.lemmas.List.Folds.{list_all-append, list_any-append}
 use Rattle.desk_lists.proofs.Kept.{all-filter}
 use Rattle.desk_terms.specs.Names.{same_name}
 use Rattle.desk_words.specs.Office.{implies}
-use Rattle.caller_view.specs.Rows.{each_once}
+use Rattle.caller_view.specs.Rows.{parties_once}
 
 -- ---- one value more
 
@@ -80,8 +80,8 @@ map-among f h p (x ∷ xs) all same =
     let tail : map f xs ≡ map h xs = map-among f h p xs (second_so (p x) (list_all p xs) all) same in
     λ i. head i ∷ tail i
 
-pub all-each_once : (p : List ℕ → Bool) (xs : List (List ℕ)) → list_all p xs ≡ true → list_all p (each_once xs) ≡ true
+pub all-each_once : (p : List ℕ → Bool) (xs : List (List ℕ)) → list_all p xs ≡ true → list_all p (parties_once xs) ≡ true
 all-each_once p [] all = refl
 all-each_once p (x ∷ xs) all =
     both_true (first_so (p x) (list_all p xs) all)
-    (all-filter p (λ other. not (same_name other x)) (each_once xs) (all-each_once p xs (second_so (p x) (list_all p xs) all)))
+    (all-filter p (λ other. not (same_name other x)) (parties_once xs) (all-each_once p xs (second_so (p x) (list_all p xs) all)))

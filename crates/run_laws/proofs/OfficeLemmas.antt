@@ -32,9 +32,9 @@ use Rattle.desk_words.specs.declared.request.Request.{Request}
 use Rattle.desk_words.specs.declared.request.Request.TheVariants as asked
 use Rattle.proxy_rules.specs.Parties.{is_presence_of}
 use Rattle.caller_view.specs.Views.{meeting_at, public_of}
-use Rattle.office_answers.specs.Answers.{desk_ruling, ruling_in as office_in}
+use Rattle.office_answers.specs.Answers.{desk_ruling, ruling_on as office_in}
 use Rattle.office_answers.specs.Attendance.{is_marked}
-use Rattle.office_answers.specs.Calls.{call_ruling, load_cases, load_ruling, meeting_of}
+use Rattle.office_answers.specs.Calls.{call_ruling, load_cases, load_ruling, new_meeting_of}
 use Rattle.office_answers.specs.Lists.{same_days}
 use Rattle.office_answers.specs.Polls.{declaration_of, poll_of}
 use Rattle.meeting_core.specs.Step.{stepped}
@@ -61,7 +61,7 @@ desk-view : {Y : Type 0} (view : Option MeetingLists → Y) (o : OfficeLists) (w
     → view (meeting_at (after_some o (settled (desk_ruling o.keys o.closed o.meetings what)).change) id) ≡ view (meeting_at o id)
 desk-view view o (desk.CallMeeting new) id same =
     change_of (λ change. view (meeting_at (after_some o change) id) ≡ view (meeting_at o id)) (call_ruling o.meetings new) refl
-    (λ _. added-unseen view (λ (m : MeetingLists). same_name m.meeting.id id) (new_lists (meeting_of new)) o.meetings (same (meeting_of new)))
+    (λ _. added-unseen view (λ (m : MeetingLists). same_name m.meeting.id id) (new_lists (new_meeting_of new)) o.meetings (same (new_meeting_of new)))
 desk-view view o (desk.ClosedDays days) id same =
     loaded-either (λ change. view (meeting_at (after_some o change) id) ≡ view (meeting_at o id)) (same_days o.closed days) (SetClosedDays days) refl refl
 desk-view view o (desk.Keys rows) id same =

@@ -22,7 +22,7 @@ use Rattle.desk_words.specs.declared.records.RegisterRow.{RegisterRow}
 use Rattle.proxy_rules.specs.Holdings.{is_ended_of, is_given_by}
 use Rattle.proxy_rules.specs.Parties.{authorises, is_authority_of, is_cast_by, is_demanded_by, is_presence_of, names}
 use Rattle.proxy_rules.specs.Shares.{row_of, shares_of}
-use Rattle.caller_view.specs.Rows.{authority_in, givers, member_in, no_rows_of, rows_in, rows_of}
+use Rattle.caller_view.specs.Rows.{authority_rows_in, givers, member_in, no_rows_of, rows_in, rows_of}
 use Rattle.caller_view.specs.Views.{meeting_at, public_of}
 use Rattle.caller_view.specs.declared.rows.AuthorityRows.{AuthorityRows}
 use Rattle.caller_view.specs.declared.rows.MemberRows.{MemberRows}
@@ -101,7 +101,7 @@ member-alike viewer m member near =
     let ended = ended-near viewer m.endings member near in
     λ i. record { member = member; holding = record { shares = option_map_or shares_of (row i) 0; appointed = appointed i; ended = ended i } }
 
-authority-alike : (viewer : Viewer) (m : MeetingLists) (a : Authority) → is_near viewer a.corporation ≡ true → authority_near (near_in viewer (Some m)) a ≡ authority_in m a
+authority-alike : (viewer : Viewer) (m : MeetingLists) (a : Authority) → is_near viewer a.corporation ≡ true → authority_near (near_in viewer (Some m)) a ≡ authority_rows_in m a
 authority-alike viewer m a near =
     let row = row-near viewer m.register a.corporation near in λ i. record { authority = a; row = row i }
 
@@ -127,7 +127,7 @@ rows-of viewer m h =
     ∙ map-among (member_near near) (member_in m) (is_near viewer) (givers all) who (member-alike viewer m) in
     let mine = filter-among (authorises party) (λ (a : Authority). is_near viewer a.corporation) m.authorities by_authority in
     let authorised = ap (λ found. map (authority_near near) found) mine
-    ∙ map-among (authority_near near) (authority_in m) (λ (a : Authority). is_near viewer a.corporation) (filter (authorises party) m.authorities)
+    ∙ map-among (authority_near near) (authority_rows_in m) (λ (a : Authority). is_near viewer a.corporation) (filter (authorises party) m.authorities)
     (all-within (λ (a : Authority). is_near viewer a.corporation) (authorises party) m.authorities by_authority) (authority-alike viewer m) in
     λ i. record {
       party = party;

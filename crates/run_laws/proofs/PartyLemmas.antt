@@ -22,9 +22,9 @@ use Rattle.desk_words.specs.declared.request.PartyRequest.TheVariants.{Notice, M
 use Rattle.desk_words.specs.declared.request.Request.TheVariants as asked
 use Rattle.proxy_rules.specs.Holdings.{is_ended_of, is_given_by}
 use Rattle.proxy_rules.specs.Parties.{is_authority_of}
-use Rattle.caller_view.specs.Answers.{party_ruling, ruling_in as party_in}
+use Rattle.caller_view.specs.Answers.{party_ruling, ruling_for as party_in}
 use Rattle.caller_view.specs.Appointments.{appointment_of, ending_of}
-use Rattle.caller_view.specs.Attendance.{authority_of, demand_of, gave_authority, has_demanded, presence_of}
+use Rattle.caller_view.specs.Attendance.{authority_of, demand_mark, gave_authority, own_demanded, presence_of}
 use Rattle.caller_view.specs.Casts.{block_of, cast_of}
 use Rattle.caller_view.specs.Own.{nothing_of, own_by, own_from}
 use Rattle.caller_view.specs.Public.{PublicRecord}
@@ -63,7 +63,7 @@ the_entry own now (Appoint new) = Some (entry.Appointment (appointment_of own no
 the_entry own now (End number) = Some (entry.Ending (ending_of own now number))
 the_entry own now (Authorise person) = Some (entry.Authority (authority_of own now person))
 the_entry own now Attend = Some (entry.Presence (presence_of own now))
-the_entry own now (Demand resolution) = Some (entry.Demand (demand_of own now resolution))
+the_entry own now (Demand resolution) = Some (entry.Demand (demand_mark own now resolution))
 the_entry own now (Cast new) = Some (entry.Cast (cast_of own now new.resolution (block_of new)))
 the_entry own now (Instructed resolution) = Some (entry.Cast (cast_of own now resolution AsInstructed))
 
@@ -77,7 +77,7 @@ accepted-entry P public own now meeting Notice none some = none
 accepted-entry P public own now meeting Mine none some = none
 accepted-entry P public own now meeting (Authorise person) none some = noted-either P (gave_authority own person) (entry.Authority (authority_of own now person)) none some
 accepted-entry P public own now meeting Attend none some = noted-either P own.present (entry.Presence (presence_of own now)) none some
-accepted-entry P public own now meeting (Demand resolution) none some = noted-either P (has_demanded own resolution) (entry.Demand (demand_of own now resolution)) none some
+accepted-entry P public own now meeting (Demand resolution) none some = noted-either P (own_demanded own resolution) (entry.Demand (demand_mark own now resolution)) none some
 accepted-entry P public own now meeting what none some = some
 
 -- what holds of nothing, and of what is entered where the request is accepted, holds of what is entered
@@ -102,7 +102,7 @@ unseen-entry viewer own now at Attend n h =
     ap (λ b. record n { present = n.present || b }) other ∙ (λ i. record n { present = or-false n.present i })
 unseen-entry viewer own now at (Demand resolution) n h =
     let other = neither_first (same_name own.party viewer.party) false h in
-    ap (λ b. record n { demands = cond b (n.demands ++ demand_of own now resolution ∷ []) n.demands }) other
+    ap (λ b. record n { demands = cond b (n.demands ++ demand_mark own now resolution ∷ []) n.demands }) other
 unseen-entry viewer own now at (Cast new) n h =
     let other = neither_first (same_name own.party viewer.party) false h in
     ap (λ b. record n { casts = cond b (n.casts ++ cast_of own now new.resolution (block_of new) ∷ []) n.casts }) other

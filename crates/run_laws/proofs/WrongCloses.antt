@@ -8,7 +8,7 @@ use Rattle.meeting_laws.specs.Loads.{Deciding}
 use Rattle.meeting_laws.specs.WrongAnswers.{office_with}
 use Rattle.run_laws.specs.Secrecy.{KeepsSecretsInSteps, VotesAreSecret}
 use Rattle.run_laws.specs.WrongCounts.{TellsVotes, all_votes, calls_without_votes, closes_after_votes, declares_after_five, four_votes, meeting_of_two, tells_turnout, tells_turnout_of_others, vote_and_call, vote_and_close, vote_and_declare, vote_and_declare_another}
-use Rattle.run_laws.specs.WrongTellings.{office_of}
+use Rattle.meeting_laws.specs.WrongOfficeReads.{lone_office}
 use Rattle.run_laws.proofs.SecretRuns.{secrets_kept_in_runs, votes_left_out}
 
 -- the number that the first reply tells, and whether the last reply is a refusal
@@ -32,7 +32,7 @@ turnout_told = record {
   apart = λ h. (let told : 1 ≡ 0 = ap number_told h in absurd (omega arith));
 }
 
-pub others_told : TellsVotes tells_turnout_of_others (office_of meeting_of_two) vote_and_declare_another
+pub others_told : TellsVotes tells_turnout_of_others (lone_office meeting_of_two) vote_and_declare_another
 others_told = record {
   is_one = refl;
   apart = λ h. (let told : 1 ≡ 0 = ap number_told h in absurd (omega arith));

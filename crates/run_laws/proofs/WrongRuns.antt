@@ -3,6 +3,7 @@ use Rattle.std.proofs.Common.{◌∙◌, subst, ◌≡◌, ℕ, suc, Bool, true,
 use Rattle.std.specs.Prelude.{Some, None}
 use Rattle.std.specs.Option.{option_map_or}
 use Rattle.std.proofs.Math.Bool.{or-false}
+use Rattle.meeting_laws.specs.WrongOfficeReads.{lone_office}
 use Rattle.desk_terms.specs.Names.{same_name}
 use Rattle.desk_words.proofs.RowLemmas.{same_name-true}
 use Rattle.desk_words.specs.Changes.{changed}
@@ -18,20 +19,20 @@ use Rattle.proxy_rules.specs.Shares.{row_of}
 use Rattle.caller_view.specs.Views.{public_in, public_of}
 use Rattle.office_days.specs.Days.{greatest_that, numbers_that}
 use Rattle.meeting_laws.specs.Loads.{Deciding, after_call}
-use Rattle.meeting_laws.specs.WrongAnswers.{a_meeting, a_member, another, meeting_with, office_with, one_share}
+use Rattle.meeting_laws.specs.WrongAnswers.{a_meeting, a_member, another, meeting_with_casts, office_with, one_share}
 use Rattle.run_laws.specs.Isolation.{Alike, IsolatesRuns}
 use Rattle.run_laws.specs.Secrecy.{VotesAreSecret}
 use Rattle.run_laws.specs.Votes.{Secret, all_but}
 use Rattle.run_laws.specs.Parts.{IsSourced, Viewer, is_near, is_sourced_in, rows_near}
 use Rattle.run_laws.specs.WrongMoments.{another_meeting, appoints_elsewhere, asks_notice, both_appoint_apart, meeting_elsewhere, moves_the_record, office_of_both, tells_the_row}
-use Rattle.run_laws.specs.WrongTellings.{load_of, loaded_alone, loaded_both, meeting_unloaded, tells_the_place, the_other, both_authorise, both_demand, limits_all, meeting_of_unequals, meeting_with_authorities, meeting_with_proxy, member_asks, member_authorises, member_demands, office_of, proxy_votes_first, tells_voters_turnout, tells_votes_on_shares, tells_whether_enough}
+use Rattle.run_laws.specs.WrongTellings.{load_of, loaded_alone, loaded_both, meeting_unloaded, tells_the_place, the_other, both_authorise, both_demand, limits_all, meeting_of_unequals, meeting_with_authorities, meeting_with_proxy, member_asks, member_authorises, member_demands, proxy_votes_first, tells_voters_turnout, tells_votes_on_shares, tells_whether_enough}
 use Rattle.run_laws.specs.Traces.{Office, Register, Whole}
 use Rattle.run_laws.specs.WrongWays.{call_by, TellsRunsApart, both_appoint, both_vote, member_appoints, member_votes, tells_all_numbers, tells_the_count, the_member}
 
 -- nobody named or authorised the member in the office
 sourced : IsSourced the_member (office_with [])
 sourced id =
-    elim (same_name a_meeting id) as (λ b. is_sourced_in the_member (cond b (Some (meeting_with [])) None) ≡ true) [ true ↦ refl | false ↦ refl ]
+    elim (same_name a_meeting id) as (λ b. is_sourced_in the_member (cond b (Some (meeting_with_casts [])) None) ≡ true) [ true ↦ refl | false ↦ refl ]
 
 itself : Alike the_member (office_with []) (office_with [])
 itself = record { parts = λ id. refl; first = sourced; second = sourced }
@@ -91,11 +92,11 @@ turnout_secret law = differ 0 (ap number_told ((law votes_of_others (office_with
 -- ---- an office of one meeting
 
 -- nobody named or authorised the member there, where it is so in the meeting
-sourced_of : (m : MeetingLists) → is_sourced_in the_member (Some m) ≡ true → IsSourced the_member (office_of m)
+sourced_of : (m : MeetingLists) → is_sourced_in the_member (Some m) ≡ true → IsSourced the_member (lone_office m)
 sourced_of m h id =
     elim (same_name m.meeting.id id) as (λ b. is_sourced_in the_member (cond b (Some m) None) ≡ true) [ true ↦ h | false ↦ refl ]
 
-itself_of : (m : MeetingLists) → is_sourced_in the_member (Some m) ≡ true → Alike the_member (office_of m) (office_of m)
+itself_of : (m : MeetingLists) → is_sourced_in the_member (Some m) ≡ true → Alike the_member (lone_office m) (lone_office m)
 itself_of m h = record { parts = λ id. refl; first = sourced_of m h; second = sourced_of m h }
 
 -- whether the last reply is that it is the same, or a refusal
@@ -112,7 +113,7 @@ abbrev votes_told : List Reply → ℕ
 votes_told (reply.Mine mine ∷ replies) = length mine.casts
 votes_told other = 0
 
-pub enough_apart : TellsRunsApart tells_whether_enough the_member (office_of meeting_of_unequals) member_demands both_demand
+pub enough_apart : TellsRunsApart tells_whether_enough the_member (lone_office meeting_of_unequals) member_demands both_demand
 enough_apart = record {
   is_one = refl;
   alike = itself_of meeting_of_unequals refl;
@@ -122,7 +123,7 @@ enough_apart = record {
   apart = λ h. (let told : false ≡ true = ap is_same h in absurd (true≢false (sym told)));
 }
 
-pub shares_apart : TellsRunsApart tells_votes_on_shares the_member (office_of meeting_with_proxy) member_asks proxy_votes_first
+pub shares_apart : TellsRunsApart tells_votes_on_shares the_member (lone_office meeting_with_proxy) member_asks proxy_votes_first
 unfolding numbers_that greatest_that
 shares_apart = record {
   is_one = refl;
@@ -133,7 +134,7 @@ shares_apart = record {
   apart = λ h. (let told : 0 ≡ 1 = ap votes_told h in absurd (omega arith));
 }
 
-pub limits_apart : TellsRunsApart limits_all the_member (office_of meeting_with_authorities) member_authorises both_authorise
+pub limits_apart : TellsRunsApart limits_all the_member (lone_office meeting_with_authorities) member_authorises both_authorise
 limits_apart = record {
   is_one = refl;
   alike = itself_of meeting_with_authorities refl;
@@ -146,7 +147,7 @@ limits_apart = record {
 -- ---- a place in the register
 
 -- nobody named or authorised the other member in the meeting before its register is loaded
-sourced_other : IsSourced the_other (office_of meeting_unloaded)
+sourced_other : IsSourced the_other (lone_office meeting_unloaded)
 sourced_other id =
     elim (same_name a_meeting id) as (λ b. is_sourced_in the_other (cond b (Some meeting_unloaded) None) ≡ true) [ true ↦ refl | false ↦ refl ]
 
@@ -164,7 +165,7 @@ rows-same member =
 
 -- and so is what is public
 abbrev after_load : List RegisterRow → OfficeLists
-after_load rows = after_call tells_the_place (office_of meeting_unloaded) (load_of rows)
+after_load rows = after_call tells_the_place (lone_office meeting_unloaded) (load_of rows)
 
 public-same : (id : List ℕ) → public_of (after_load (one_share another ∷ [])) id ≡ public_of (after_load (one_share a_member ∷ one_share another ∷ [])) id
 public-same id =
@@ -177,7 +178,7 @@ abbrev place_told : List Reply → ℕ
 place_told (reply.Mine mine ∷ replies) = option_map_or (λ (row : RegisterRow). row.paid) mine.row 0
 place_told other = 0
 
-pub place_apart : TellsRunsApart tells_the_place the_other (office_of meeting_unloaded) loaded_alone loaded_both
+pub place_apart : TellsRunsApart tells_the_place the_other (lone_office meeting_unloaded) loaded_alone loaded_both
 place_apart = record {
   is_one = refl;
   alike = record { parts = λ id. refl; first = sourced_other; second = sourced_other };
@@ -192,7 +193,7 @@ place_apart = record {
 -- nobody named or authorised the member in either meeting
 sourced_both : IsSourced the_member office_of_both
 sourced_both id =
-    elim (same_name a_meeting id) as (λ b. is_sourced_in the_member (cond b (Some (meeting_with [])) (cond (same_name another_meeting id) (Some meeting_elsewhere) None)) ≡ true) [
+    elim (same_name a_meeting id) as (λ b. is_sourced_in the_member (cond b (Some (meeting_with_casts [])) (cond (same_name another_meeting id) (Some meeting_elsewhere) None)) ≡ true) [
       | true ↦ refl
       | false ↦ elim (same_name another_meeting id) as (λ b. is_sourced_in the_member (cond b (Some meeting_elsewhere) None) ≡ true) [ true ↦ refl | false ↦ refl ]
     ]

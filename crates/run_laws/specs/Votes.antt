@@ -82,15 +82,15 @@ is_declared_in secret office =
 -- ---- in calls and replies
 
 -- it is a vote on the resolution
-abbrev pub is_vote : Number → PartyRequest → Bool
-is_vote resolution (Cast new) = new.resolution == resolution
-is_vote resolution (Instructed other) = other == resolution
-is_vote resolution other = false
+abbrev pub is_vote_request : Number → PartyRequest → Bool
+is_vote_request resolution (Cast new) = new.resolution == resolution
+is_vote_request resolution (Instructed other) = other == resolution
+is_vote_request resolution other = false
 
 -- it is a vote on the resolution of the meeting
 abbrev pub is_vote_in : MeetingName → Number → Request → Bool
 is_vote_in meeting resolution (asked.Party at what) =
-    same_name at meeting && is_vote resolution what
+    same_name at meeting && is_vote_request resolution what
 is_vote_in meeting resolution other = false
 
 -- one of the voters calls

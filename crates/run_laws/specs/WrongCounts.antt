@@ -28,24 +28,24 @@ use Rattle.caller_view.specs.Views.{meeting_at}
 use Rattle.meeting_core.specs.Step.{decided}
 use Rattle.meeting_laws.specs.Loads.{Deciding}
 use Rattle.meeting_laws.specs.Secrecy.{casts_off}
-use Rattle.meeting_laws.specs.WrongAnswers.{a_meeting, another, meeting_with, opened_meeting, started_poll, vote_of_another}
+use Rattle.meeting_laws.specs.WrongAnswers.{a_meeting, another, meeting_with_casts, opened_meeting, started_poll, vote_of_another}
 use Rattle.run_laws.specs.Secrecy.{replies_to_office}
 use Rattle.run_laws.specs.Traces.{run_by}
 use Rattle.run_laws.specs.Votes.{Secret, everybody, is_secret_call, without}
 use Rattle.run_laws.specs.WrongWays.{another_vote, call_by}
 
 -- what is made of the right answer to a request of the office in a meeting, where it is found
-abbrev pub Telling : Type 0
-Telling = Option MeetingLists → OfficeRequest → Answer Change → Answer Change
+abbrev pub OfficeTelling : Type 0
+OfficeTelling = Option MeetingLists → OfficeRequest → Answer Change → Answer Change
 
 -- requests of the office in meetings are answered so
-abbrev pub answer_told : Telling → OfficeLists → Call → Request → Answer Change
+abbrev pub answer_told : OfficeTelling → OfficeLists → Call → Request → Answer Change
 answer_told telling office call (asked.Office meeting what) =
     telling (meeting_at office meeting) what (decided office call)
 answer_told telling office call request = decided office call
 
 -- and all other calls as by the desk
-abbrev pub deciding_told : Telling → Deciding
+abbrev pub deciding_told : OfficeTelling → Deciding
 deciding_told telling office call = answer_told telling office call call.request
 
 -- ---- the turnout
@@ -56,7 +56,7 @@ told_how_many m reply.VotingClosed = reply.Ended (length m.casts)
 told_how_many m other = other
 
 -- the close of a poll is answered so
-abbrev pub turnout_at_close : Telling
+abbrev pub turnout_at_close : OfficeTelling
 turnout_at_close (Some m) (Close resolution) right = record right {
   reply = told_how_many m right.reply;
 }
@@ -77,7 +77,7 @@ told_of_others m resolution (reply.Declared result) =
 told_of_others m resolution other = other
 
 -- the declaration of a resolution is answered so
-abbrev pub turnout_of_others : Telling
+abbrev pub turnout_of_others : OfficeTelling
 turnout_of_others (Some m) (Declare resolution) right = record right {
   reply = told_of_others m resolution right.reply;
 }
@@ -95,7 +95,7 @@ abbrev pub unless_votes : ℕ → MeetingLists → Answer Change → Answer Chan
 unless_votes least m right = if nat_le least (length m.casts) then right else refused NoQuorum
 
 -- the close of a poll is answered so, where there are none
-abbrev pub no_close_without_votes : Telling
+abbrev pub no_close_without_votes : OfficeTelling
 no_close_without_votes (Some m) (Close resolution) right = unless_votes 1 m right
 no_close_without_votes found what right = right
 
@@ -104,7 +104,7 @@ abbrev pub closes_after_votes : Deciding
 closes_after_votes = deciding_told no_close_without_votes
 
 -- the declaration of a resolution is answered so, where there are fewer than five
-abbrev pub no_result_of_few : Telling
+abbrev pub no_result_of_few : OfficeTelling
 no_result_of_few (Some m) (Declare resolution) right = unless_votes 5 m right
 no_result_of_few found what right = right
 
@@ -129,8 +129,8 @@ calls_without_votes office call = call_without_votes office call.request (decide
 -- ---- what tells them apart
 
 -- the office asks at the first moment
-abbrev pub office_asks : Request → Call
-office_asks request = record { moment = 0; caller = caller.Office; request = request }
+abbrev pub asked_by_office : Request → Call
+asked_by_office request = record { moment = 0; caller = caller.Office; request = request }
 
 -- the other member's vote on the first resolution
 abbrev pub a_vote : Call
@@ -138,11 +138,11 @@ a_vote = call_by another another_vote
 
 -- it votes, and then the office closes the poll
 abbrev pub vote_and_close : List Call
-vote_and_close = a_vote ∷ office_asks (asked.Office a_meeting (Close 1)) ∷ []
+vote_and_close = a_vote ∷ asked_by_office (asked.Office a_meeting (Close 1)) ∷ []
 
 -- the meeting with a poll on a second resolution, which is closed
 abbrev pub meeting_of_two : MeetingLists
-meeting_of_two = record (meeting_with []) {
+meeting_of_two = record (meeting_with_casts []) {
   meeting = record opened_meeting {
     resolutions = opened_meeting.resolutions ++ opened_meeting.resolutions;
   };
@@ -151,7 +151,7 @@ meeting_of_two = record (meeting_with []) {
 
 -- it votes, and then the office declares the second resolution
 abbrev pub vote_and_declare_another : List Call
-vote_and_declare_another = a_vote ∷ office_asks (asked.Office a_meeting (Declare 2)) ∷ []
+vote_and_declare_another = a_vote ∷ asked_by_office (asked.Office a_meeting (Declare 2)) ∷ []
 
 -- four votes of the other member
 abbrev pub four_votes : List CastMark
@@ -161,8 +161,8 @@ four_votes =
 -- it votes once more, and then the office closes the poll and declares the resolution
 abbrev pub vote_and_declare : List Call
 vote_and_declare = a_vote
-    ∷ office_asks (asked.Office a_meeting (Close 1))
-    ∷ office_asks (asked.Office a_meeting (Declare 1)) ∷ []
+    ∷ asked_by_office (asked.Office a_meeting (Close 1))
+    ∷ asked_by_office (asked.Office a_meeting (Declare 1)) ∷ []
 
 -- the meeting that is to be called twenty days after its notice
 abbrev pub new_meeting : NewMeeting
@@ -178,7 +178,7 @@ new_meeting = record {
 
 -- it votes, and then the office calls another meeting
 abbrev pub vote_and_call : List Call
-vote_and_call = a_vote ∷ office_asks (asked.Desk (CallMeeting new_meeting)) ∷ []
+vote_and_call = a_vote ∷ asked_by_office (asked.Desk (CallMeeting new_meeting)) ∷ []
 
 -- everybody's votes on the first resolution
 abbrev pub all_votes : Secret

@@ -12,7 +12,7 @@ use Rattle.desk_words.specs.declared.request.PartyRequest.TheVariants.{Appoint, 
 use Rattle.desk_words.specs.declared.request.Request.TheVariants as asked
 use Rattle.meeting_laws.specs.Loads.{Deciding}
 use Rattle.meeting_laws.specs.Worlds.{Answering, party_answer}
-use Rattle.meeting_laws.specs.WrongAnswers.{a_member, another, meeting_with, opened_meeting}
+use Rattle.meeting_laws.specs.WrongAnswers.{a_member, another, meeting_with_casts, opened_meeting}
 use Rattle.run_laws.specs.WrongWays.{an_appointment, call_by, deciding_by, member_appoints}
 
 -- how many appointments stand in the meetings of other names
@@ -45,7 +45,7 @@ abbrev pub another_meeting : MeetingName
 another_meeting = in_places 16 (codes "O")
 
 abbrev pub meeting_elsewhere : MeetingLists
-meeting_elsewhere = record (meeting_with []) {
+meeting_elsewhere = record (meeting_with_casts []) {
   meeting = record opened_meeting { id = another_meeting };
   polls = [];
 }
@@ -55,7 +55,7 @@ abbrev pub office_of_both : OfficeLists
 office_of_both = record {
   keys = [];
   closed = [];
-  meetings = meeting_with [] ∷ meeting_elsewhere ∷ [];
+  meetings = meeting_with_casts [] ∷ meeting_elsewhere ∷ [];
 }
 
 -- the member asks for the notice of the first meeting

@@ -27,23 +27,19 @@ use Rattle.desk_words.specs.declared.request.PartyRequest.{PartyRequest}
 use Rattle.desk_words.specs.declared.request.PartyRequest.TheVariants.{Authorise, Cast, Demand, Mine}
 use Rattle.desk_words.specs.declared.request.Request.TheVariants as asked
 use Rattle.caller_view.specs.Views.{meeting_at}
-use Rattle.office_answers.specs.Attendance.{demand_in}
+use Rattle.office_answers.specs.Attendance.{demand_noted}
 use Rattle.meeting_laws.specs.Loads.{Deciding}
 use Rattle.meeting_laws.specs.Worlds.{Answering, party_answer}
-use Rattle.meeting_laws.specs.WrongAnswers.{a_meeting, a_member, another, meeting_with, one_share, opened_meeting}
+use Rattle.meeting_laws.specs.WrongAnswers.{a_meeting, a_member, another, meeting_with_casts, one_share, opened_meeting}
 use Rattle.run_laws.specs.Parts.{Viewer}
 use Rattle.run_laws.specs.WrongWays.{call_by, deciding_by}
-
--- an office of one meeting
-abbrev pub office_of : MeetingLists → OfficeLists
-office_of m = record { keys = []; closed = []; meetings = m ∷ [] }
 
 -- ---- whether the demands are enough
 
 -- where a demand is noted, the reply tells whether those before it are enough (section 321)
 abbrev pub told_whether_enough : Option MeetingLists → List Day → Moment → Number → Reply → Reply
 told_whether_enough (Some m) closed now resolution reply.Noted =
-    if (demand_in m closed now resolution).reached then reply.Same else reply.Noted
+    if (demand_noted m closed now resolution).reached then reply.Same else reply.Noted
 told_whether_enough found closed now resolution other = other
 
 -- the answer with that reply
@@ -67,7 +63,7 @@ tells_whether_enough = deciding_by enough_demands
 -- a meeting of the member, who has one share of 101, and of the other member, where both are
 -- present and no poll is ordered
 abbrev pub meeting_of_unequals : MeetingLists
-meeting_of_unequals = record (meeting_with []) {
+meeting_of_unequals = record (meeting_with_casts []) {
   register = record (one_share a_member) { paid = 1 }
       ∷ record (one_share another) { shares = 100; paid = 1 } ∷ [];
   presences = record { party = a_member; moment = 0 } ∷ record { party = another; moment = 0 } ∷ [];
@@ -110,7 +106,7 @@ tells_votes_on_shares = deciding_by votes_on_shares
 
 -- the meeting where the member appointed the other member
 abbrev pub meeting_with_proxy : MeetingLists
-meeting_with_proxy = record (meeting_with []) {
+meeting_with_proxy = record (meeting_with_casts []) {
   appointments = record {
     member = a_member;
     number = 1;
@@ -162,7 +158,7 @@ authorities_to (suc n) =
 
 -- the meeting where the other member gave 63 authorities
 abbrev pub meeting_with_authorities : MeetingLists
-meeting_with_authorities = record (meeting_with []) { authorities = authorities_to 63 }
+meeting_with_authorities = record (meeting_with_casts []) { authorities = authorities_to 63 }
 
 -- a party authorises a third party
 abbrev pub authorises_third : PartyRequest

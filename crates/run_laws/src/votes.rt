@@ -4,7 +4,7 @@ ghost use Rattle.meeting_core.specs.Step.{decided};
 ghost use Rattle.meeting_laws.specs.WrongAnswers.{office_with};
 ghost use Rattle.run_laws.specs.Secrecy.{KeepsSecretsInRuns, KeepsSecretsInSteps, StepsKeepSecretsInRuns, VotesAreSecret};
 ghost use Rattle.run_laws.specs.WrongCounts.{TellsVotes, calls_without_votes, closes_after_votes, declares_after_five, four_votes, meeting_of_two, tells_turnout, tells_turnout_of_others, vote_and_call, vote_and_close, vote_and_declare, vote_and_declare_another};
-ghost use Rattle.run_laws.specs.WrongTellings.{office_of};
+ghost use Rattle.meeting_laws.specs.WrongOfficeReads.{lone_office};
 
 use meeting_laws::{votes_are_secret, what_is_read_is_enough};
 
@@ -44,7 +44,7 @@ pub fn told_turnout_is_caught()
 /// The law of the office can fail: a desk that tells it at the declaration of one resolution how
 /// many votes there are on another gives it another reply where a member voted on that.
 pub fn turnout_of_others_is_caught()
-    ensures apart { TellsVotes tells_turnout_of_others (office_of meeting_of_two)
+    ensures apart { TellsVotes tells_turnout_of_others (lone_office meeting_of_two)
         vote_and_declare_another }
     ensures caught { VotesAreSecret tells_turnout_of_others → ⊥ }
     ensures steps_caught { KeepsSecretsInSteps tells_turnout_of_others → ⊥ }

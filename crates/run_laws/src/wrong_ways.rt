@@ -1,11 +1,12 @@
 //! Wrong ways to decide calls, which the law of runs refuses: each gives a member another reply
 //! where another member did something before, of which nothing is shown to it.
 ghost use Rattle.std.specs.Prelude.{[]};
+ghost use Rattle.meeting_laws.specs.WrongOfficeReads.{lone_office};
 ghost use Rattle.meeting_laws.specs.WrongAnswers.{office_with};
 ghost use Rattle.run_laws.specs.Isolation.{IsolatesRuns, IsolatesSteps};
 ghost use Rattle.run_laws.specs.Secrecy.{VotesAreSecret};
 ghost use Rattle.run_laws.specs.WrongMoments.{appoints_elsewhere, asks_notice, both_appoint_apart, moves_the_record, office_of_both, tells_the_row};
-ghost use Rattle.run_laws.specs.WrongTellings.{loaded_alone, loaded_both, meeting_unloaded, tells_the_place, the_other, both_authorise, both_demand, limits_all, meeting_of_unequals, meeting_with_authorities, meeting_with_proxy, member_asks, member_authorises, member_demands, office_of, proxy_votes_first, tells_voters_turnout, tells_votes_on_shares, tells_whether_enough};
+ghost use Rattle.run_laws.specs.WrongTellings.{loaded_alone, loaded_both, meeting_unloaded, tells_the_place, the_other, both_authorise, both_demand, limits_all, meeting_of_unequals, meeting_with_authorities, meeting_with_proxy, member_asks, member_authorises, member_demands, proxy_votes_first, tells_voters_turnout, tells_votes_on_shares, tells_whether_enough};
 ghost use Rattle.run_laws.specs.WrongWays.{TellsRunsApart, both_appoint, both_vote, member_appoints, member_votes, tells_all_numbers, tells_the_count, the_member};
 
 /// A desk that tells a voter how the votes stood gives a member another reply where another member
@@ -49,7 +50,7 @@ pub fn turnout_for_a_vote_is_caught()
 /// A desk that tells a party which demands a poll whether others demanded enough gives a member
 /// another reply where another member demanded the poll before it.
 pub fn told_demands_are_caught()
-    ensures apart { TellsRunsApart tells_whether_enough the_member (office_of meeting_of_unequals)
+    ensures apart { TellsRunsApart tells_whether_enough the_member (lone_office meeting_of_unequals)
         member_demands both_demand }
     ensures caught { IsolatesRuns tells_whether_enough → ⊥ }
     ensures steps_caught { IsolatesSteps tells_whether_enough → ⊥ }
@@ -58,7 +59,7 @@ pub fn told_demands_are_caught()
 /// A desk that tells a member the votes on its shares, whoever cast them, gives it another reply
 /// where its proxy voted before.
 pub fn votes_on_shares_are_caught()
-    ensures apart { TellsRunsApart tells_votes_on_shares the_member (office_of meeting_with_proxy)
+    ensures apart { TellsRunsApart tells_votes_on_shares the_member (lone_office meeting_with_proxy)
         member_asks proxy_votes_first }
     ensures caught { IsolatesRuns tells_votes_on_shares → ⊥ }
     ensures steps_caught { IsolatesSteps tells_votes_on_shares → ⊥ }
@@ -67,7 +68,7 @@ pub fn votes_on_shares_are_caught()
 /// A desk that counts the authorities of all parties against the limit of each refuses a member
 /// where another member authorised a person before it.
 pub fn limits_over_all_are_caught()
-    ensures apart { TellsRunsApart limits_all the_member (office_of meeting_with_authorities)
+    ensures apart { TellsRunsApart limits_all the_member (lone_office meeting_with_authorities)
         member_authorises both_authorise }
     ensures caught { IsolatesRuns limits_all → ⊥ }
     ensures steps_caught { IsolatesSteps limits_all → ⊥ }
@@ -76,7 +77,7 @@ pub fn limits_over_all_are_caught()
 /// A desk that tells a member the place of its row in the register gives it another reply where the
 /// register that the office loaded has the row of another member before its own.
 pub fn places_in_the_register_are_caught()
-    ensures apart { TellsRunsApart tells_the_place the_other (office_of meeting_unloaded)
+    ensures apart { TellsRunsApart tells_the_place the_other (lone_office meeting_unloaded)
         loaded_alone loaded_both }
     ensures caught { IsolatesRuns tells_the_place → ⊥ }
     ensures steps_caught { IsolatesSteps tells_the_place → ⊥ }

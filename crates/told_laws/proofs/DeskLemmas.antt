@@ -18,13 +18,13 @@ use Rattle.desk_requests.specs.declared.received.Received.{Received}
 use Rattle.desk_requests.specs.declared.received.Received.TheVariants.{Refused, With}
 use Rattle.desk_requests.specs.declared.received.Unheard.{Unheard}
 use Rattle.desk_replies.specs.Replies.{failure_bytes, reply_bytes}
-use Rattle.desk_store.specs.Joins.{Leaves, after_call, made_by}
+use Rattle.desk_store.specs.Joins.{Leaves, office_after, made_by}
 use Rattle.desk_store.specs.Reads.{caller_with}
-use Rattle.desk_http.specs.Answers.{call_in, call_of, reply_in, reply_of}
-use Rattle.desk_http.specs.Served.{IsServed, text_of}
+use Rattle.desk_http.specs.Answers.{call_received, call_of, reply_in, reply_of}
+use Rattle.desk_http.specs.Served.{IsServed, replied_text}
 use Rattle.meeting_core.specs.Step.{decided, run_of, stepped}
 use Rattle.told_laws.specs.Connections.{ConnectionsAreTold, as_http, asked_on, asks_by}
-use Rattle.told_laws.specs.Desks.{AreTold, Asked, Asks, DesksAreIsolated, DesksKeepSecrets, DesksTellRuns, HasToldARun, IsFailed, IsOf, IsReplied, IsTold, IsToldIn, Makes, Nothing, Tells, Writing, as_json, asked_by, call_made, reply_to}
+use Rattle.told_laws.specs.Desks.{AreTold, AskedText, Asks, DesksAreIsolated, DesksKeepSecrets, DesksTellRuns, HasToldARun, HasFailure, IsOf, HasReply, IsToldOnDesk, IsToldIn, Makes, Nothing, Tells, Writing, as_json, asked_by_call, call_made, reply_to}
 use Rattle.told_laws.specs.Exchanges.{Exchange, TellTheRun, calls_made}
 use Rattle.told_laws.specs.Texts.{TextsAreIsolated, TextsKeepSecrets, TextsTellTheSame}
 use Rattle.run_laws.specs.Isolation.{Alike}
@@ -33,35 +33,35 @@ use Rattle.run_laws.specs.Votes.{AreSameBut}
 -- ---- one exchange more
 
 -- an exchange, in front of those that tell the run after its call
-tells-more : (text_of : Reply → List ℕ) (office : OfficeLists) (made : Option Call) (text : List ℕ) (later : List Exchange) → ((call : Call) → made ≡ Some call → text ≡ text_of (decided office call).reply)
-    → TellTheRun text_of (after_call office made) later → TellTheRun text_of office (record { made = made; text = text } ∷ later)
-tells-more text_of office None text later told tells = tells
-tells-more text_of office (Some call) text later told tells = let first = told call refl in λ i. first i ∷ tells i
+tells-more : (replied_text : Reply → List ℕ) (office : OfficeLists) (made : Option Call) (text : List ℕ) (later : List Exchange) → ((call : Call) → made ≡ Some call → text ≡ replied_text (decided office call).reply)
+    → TellTheRun replied_text (office_after office made) later → TellTheRun replied_text office (record { made = made; text = text } ∷ later)
+tells-more replied_text office None text later told tells = tells
+tells-more replied_text office (Some call) text later told tells = let first = told call refl in λ i. first i ∷ tells i
 
 stands-more : (office : OfficeLists) (made : Option Call) (text : List ℕ) (later : List Exchange) (new : State)
-    → Stands new (run_of (after_call office made) (calls_made later)).office → Stands new (run_of office (calls_made (record { made = made; text = text } ∷ later))).office
+    → Stands new (run_of (office_after office made) (calls_made later)).office → Stands new (run_of office (calls_made (record { made = made; text = text } ∷ later))).office
 stands-more office None text later new stands = stands
 stands-more office (Some call) text later new stands = stands
 
 -- the call that was made, of what is replied to
-replied-made : (text_of : Reply → List ℕ) (office : OfficeLists) (asks : Asks) (text : List ℕ) (call : Call) → option_map text_of (reply_to office asks) ≡ Some text → call_made asks ≡ Some call
-    → text ≡ text_of (decided office call).reply
-replied-made text_of office (Makes made) text call told is =
+replied-made : (replied_text : Reply → List ℕ) (office : OfficeLists) (asks : Asks) (text : List ℕ) (call : Call) → option_map replied_text (reply_to office asks) ≡ Some text → call_made asks ≡ Some call
+    → text ≡ replied_text (decided office call).reply
+replied-made replied_text office (Makes made) text call told is =
     let same : made ≡ call = cc in
-    let told_it : text_of (decided office made).reply ≡ text = cc in
-    sym told_it ∙ ap (λ (c : Call). text_of (decided office c).reply) same
-replied-made text_of office (Tells reply) text call told is = absurd (cc)
-replied-made text_of office Nothing text call told is = absurd (cc)
+    let told_it : replied_text (decided office made).reply ≡ text = cc in
+    sym told_it ∙ ap (λ (c : Call). replied_text (decided office c).reply) same
+replied-made replied_text office (Tells reply) text call told is = absurd (cc)
+replied-made replied_text office Nothing text call told is = absurd (cc)
 
-made-told : (writing : Writing) (office : OfficeLists) (a : Asked) (e : Exchange) → IsOf writing office a e → (call : Call) → e.made ≡ Some call → e.text ≡ writing.reply (decided office call).reply
+made-told : (writing : Writing) (office : OfficeLists) (a : AskedText) (e : Exchange) → IsOf writing office a e → (call : Call) → e.made ≡ Some call → e.text ≡ writing.reply (decided office call).reply
 made-told writing office a e of call is = by of.is
   where
-    by : IsReplied writing office a e ⊎ IsFailed writing e → e.text ≡ writing.reply (decided office call).reply
+    by : HasReply writing office a e ⊎ HasFailure writing e → e.text ≡ writing.reply (decided office call).reply
     by (inl replied) = replied-made writing.reply office (a.asks office) e.text call replied.text (sym replied.made ∙ is)
     by (inr failed) = let none : None ≡ Some call = sym failed.made ∙ is in absurd (cc)
 
-told-more : (writing : Writing) (office : OfficeLists) (a : Asked) (later : List Asked) (between new : State) → (first : IsToldIn writing a office between)
-    → HasToldARun writing (after_call office first.exchange.made) later new → HasToldARun writing office (a ∷ later) new
+told-more : (writing : Writing) (office : OfficeLists) (a : AskedText) (later : List AskedText) (between new : State) → (first : IsToldIn writing a office between)
+    → HasToldARun writing (office_after office first.exchange.made) later new → HasToldARun writing office (a ∷ later) new
 told-more writing office a later between new first rest =
     let e = first.exchange in record {
       run = record {
@@ -76,11 +76,11 @@ told-more writing office a later between new first rest =
     }
 
 module _ {S : Type 0} (g : store.Ghosts S) where
-  was_clean : (writing : Writing) (old new : Held S) (asked : List Asked) → AreTold g writing old asked new → HasCleanDisk (state g new) → HasCleanDisk (state g old)
+  was_clean : (writing : Writing) (old new : Held S) (asked : List AskedText) → AreTold g writing old asked new → HasCleanDisk (state g new) → HasCleanDisk (state g old)
   was_clean writing old new [] told clean = subst (λ (h : Held S). HasCleanDisk (state g h)) told clean
   was_clean writing old new (a ∷ later) told clean = told.1.was_clean (was_clean writing told.0 new later told.2 clean)
 
-  was_open : (writing : Writing) (old new : Held S) (asked : List Asked) → AreTold g writing old asked new → HasCleanDisk (state g new) → IsTrue (state g new).is_open → IsTrue (state g old).is_open
+  was_open : (writing : Writing) (old new : Held S) (asked : List AskedText) → AreTold g writing old asked new → HasCleanDisk (state g new) → IsTrue (state g new).is_open → IsTrue (state g old).is_open
   was_open writing old new [] told clean is_open = subst (λ (h : Held S). IsTrue (state g h).is_open) told is_open
   was_open writing old new (a ∷ later) told clean is_open =
       told.1.was_open (was_clean writing told.0 new later told.2 clean) (was_open writing told.0 new later told.2 clean is_open)
@@ -97,7 +97,7 @@ module _ {S : Type 0} (g : store.Ghosts S) where
       let mid_open = was_open writing told.0 new later told.2 clean is_open in
       let first = told.1.told mid_clean mid_open office stands in
       told-more writing office a later (state g told.0) (state g new) first
-      (desks_tell writing told.0 new later told.2 clean is_open (after_call office first.exchange.made) first.stands)
+      (desks_tell writing told.0 new later told.2 clean is_open (office_after office first.exchange.made) first.stands)
 
 -- ---- two desks
 
@@ -116,7 +116,7 @@ module _ {S : Type 0} (g : store.Ghosts S) where
 -- ---- over HTTP
 
 -- the reply to a call that is made of what was received is what is decided of it
-replied-call : (office : OfficeLists) (now : ℕ) (received : Received) (call : Call) (reply : Reply) → call_in office now received ≡ Some call → reply_in office now received ≡ Some reply
+replied-call : (office : OfficeLists) (now : ℕ) (received : Received) (call : Call) (reply : Reply) → call_received office now received ≡ Some call → reply_in office now received ≡ Some reply
     → reply ≡ (decided office call).reply
 replied-call office now (Refused refusal) call reply made is = absurd (cc)
 replied-call office now (With key heard) call reply made is = by (caller_with office.keys key) heard made is
@@ -142,14 +142,14 @@ replied-by office None reply same = refl
 served-told : (now : ℕ) (received : Received) (office : OfficeLists) (new : State) (text : List ℕ) → IsTrue new.is_open → IsServed office now received new text
     → IsToldIn as_http (asked_on now received text) office new
 served-told now received office new text is_open (inl replied) = record {
-  exchange = record { made = call_in office now received; text = text };
+  exchange = record { made = call_received office now received; text = text };
   of = record {
     same = refl;
     is = inl (record {
-      text = ap (λ reply. option_map text_of (reply_to office (asks_by (call_in office now received) reply))) replied.is
-          ∙ ap (option_map text_of) (replied-by office (call_in office now received) replied.reply (λ c made. replied-call office now received c replied.reply made replied.is))
+      text = ap (λ reply. option_map replied_text (reply_to office (asks_by (call_received office now received) reply))) replied.is
+          ∙ ap (option_map replied_text) (replied-by office (call_received office now received) replied.reply (λ c made. replied-call office now received c replied.reply made replied.is))
           ∙ ap (λ t. Some t) (sym replied.text_is);
-      made = sym (made-by (call_in office now received) (reply_in office now received));
+      made = sym (made-by (call_received office now received) (reply_in office now received));
     });
   };
   stands = replied.stands;
@@ -175,7 +175,7 @@ module _ {S : Type 0} (g : store.Ghosts S) where
 -- a call that was made and whose text is that of its reply, or that failed, is told so
 pub call_told : (call : Call) (result : Result (Vec ℕ Global) Failure) (old new : State)
     → (HasCleanDisk new → (office : OfficeLists) → Stands old office → IfOk result (λ (text : Vec ℕ Global). (text.items ≡ reply_bytes (decided office call).reply) × Stands new (stepped office call)))
-    → Leaves (made_by result call) old new → IsTold as_json (asked_by call result) old new
+    → Leaves (made_by result call) old new → IsToldOnDesk as_json (asked_by_call call result) old new
 call_told call (Ok text) old new done leaves = record {
   was_clean = leaves.was_clean;
   was_open = leaves.was_open;

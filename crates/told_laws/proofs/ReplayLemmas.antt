@@ -7,7 +7,7 @@ use Rattle.desk_words.specs.Changes.{empty_office}
 use Rattle.desk_words.specs.declared.office.OfficeLists.{OfficeLists}
 use Rattle.desk_words.specs.declared.request.Call.{Call}
 use Rattle.meeting_core.specs.Step.{decided}
-use Rattle.desk_program.specs.ReplayLines.{asked_by}
+use Rattle.desk_program.specs.ReplayLines.{asked_in_line}
 use Rattle.desk_program.specs.ReplayRuns.{call_before, call_unless, calls_of}
 use Rattle.desk_program.specs.Transcript.{Answered, LinesAreAnsweredInTurn, answered_call, transcript, unless_refused}
 use Rattle.run_laws.specs.Isolation.{IsolatesCalls, RunsAreTheDesks}
@@ -15,7 +15,7 @@ use Rattle.run_laws.specs.Traces.{behind, trace_of, viewer_of}
 use Rattle.run_laws.specs.Votes.{is_secret_call, without}
 use Rattle.told_laws.specs.Exchanges.{Exchange, TellTheRun, calls_made, is_call_by, texts_to}
 use Rattle.told_laws.specs.Replays.{ReplaysAreIsolated, ReplaysKeepSecrets, ReplaysMakeTheCalls, ReplaysTellTheRun, ReplaysWriteThem, call_asked, call_by_line, exchanges_of, reply_line}
-use Rattle.told_laws.specs.Texts.{TextsKeepSecrets, ToldRun, calls_in}
+use Rattle.told_laws.specs.Texts.{TextsKeepSecrets, ToldRun, calls_told}
 use Rattle.told_laws.proofs.TextLemmas.{to-party}
 
 -- what a line is answered, where it is empty or not
@@ -43,7 +43,7 @@ replays_write law office (line ∷ lines) (r ∷ refused) =
 asked-before : (r : Bool) (line : List ℕ) (calls : List Call) → behind (call_by_line r line) calls ≡ call_unless r line calls
 asked-before true line calls = refl
 asked-before false line calls =
-    elim (asked_by line) as (λ asked. behind (call_asked asked) calls ≡ call_before asked calls) [ Ok call ↦ refl | Err refusal ↦ refl ]
+    elim (asked_in_line line) as (λ asked. behind (call_asked asked) calls ≡ call_before asked calls) [ Ok call ↦ refl | Err refusal ↦ refl ]
 
 pub replays_make : ReplaysMakeTheCalls
 replays_make office [] refused = refl
@@ -73,7 +73,7 @@ replays_tell office (line ∷ lines) (r ∷ refused) =
     unless_told : (r : Bool) → TellTheRun reply_line (unless_refused r office line).office (exchanges_of (unless_refused r office line).office lines refused)
         → TellTheRun reply_line office (exchanges_if false r office line lines refused)
     unless_told true tells = tells
-    unless_told false tells = told-first office (asked_by line) lines refused tells
+    unless_told false tells = told-first office (asked_in_line line) lines refused tells
 
 -- ---- two replays
 
@@ -88,11 +88,11 @@ replays_isolated desk law party lines again refused others =
     subst (λ calls. (let viewer = viewer_of party calls (calls_of again others) in
     trace_of decided viewer empty_office calls ≡ trace_of decided viewer empty_office (calls_of again others)
     → texts_to (is_call_by party) (exchanges_of empty_office lines refused) ≡ texts_to (is_call_by party) (exchanges_of empty_office again others))) one
-    (subst (λ later. (let viewer = viewer_of party (calls_in (replayed lines refused)) later in
-    trace_of decided viewer empty_office (calls_in (replayed lines refused)) ≡ trace_of decided viewer empty_office later
+    (subst (λ later. (let viewer = viewer_of party (calls_told (replayed lines refused)) later in
+    trace_of decided viewer empty_office (calls_told (replayed lines refused)) ≡ trace_of decided viewer empty_office later
     → texts_to (is_call_by party) (exchanges_of empty_office lines refused) ≡ texts_to (is_call_by party) (exchanges_of empty_office again others))) other
     (λ same. to-party desk reply_line party (replayed lines refused)
-    ∙ ap (map reply_line) (law party (calls_in (replayed lines refused)) (calls_in (replayed again others)) same)
+    ∙ ap (map reply_line) (law party (calls_told (replayed lines refused)) (calls_told (replayed again others)) same)
     ∙ sym (to-party desk reply_line party (replayed again others))))
 
 pub replays_keep_secrets : TextsKeepSecrets → ReplaysKeepSecrets

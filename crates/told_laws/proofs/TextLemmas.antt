@@ -14,30 +14,30 @@ use Rattle.run_laws.specs.Traces.{replies_to, run_by}
 use Rattle.run_laws.specs.Votes.{Secret, is_secret_call, is_the_office, is_vote_in, is_voter, without, without_result}
 use Rattle.run_laws.proofs.ListLemmas.{all-of, filter-among, implied}
 use Rattle.told_laws.specs.Exchanges.{asks_declaration, is_call_by, is_open_call, texts_to}
-use Rattle.told_laws.specs.Texts.{AreSameButResult, TextsAreIsolated, TextsKeepSecrets, ToldRun, calls_in}
+use Rattle.told_laws.specs.Texts.{AreSameButResult, TextsAreIsolated, TextsKeepSecrets, ToldRun, calls_told}
 use Rattle.told_laws.proofs.PickLemmas.{calls_of_office, office-picked, party-picked, pick, pick-map, texts-picked, wanted_call}
 use Rattle.told_laws.proofs.ResultLemmas.{each-but-result}
 
 -- the replies in a run that is told
 abbrev replies_in : {text_of : Reply → List ℕ} → ToldRun text_of → List Reply
-replies_in run = (run_by decided run.office (calls_in run)).replies
+replies_in run = (run_by decided run.office (calls_told run)).replies
 
 -- the texts that reply to calls that pass a test
-told-picked : RunsAreTheDesks → (text_of : Reply → List ℕ) (test : Call → Bool) (run : ToldRun text_of) → texts_to test run.exchanges ≡ map text_of (pick test (calls_in run) (replies_in run))
+told-picked : RunsAreTheDesks → (text_of : Reply → List ℕ) (test : Call → Bool) (run : ToldRun text_of) → texts_to test run.exchanges ≡ map text_of (pick test (calls_told run) (replies_in run))
 told-picked desk text_of test run =
     texts-picked test run.exchanges
-    ∙ ap (pick test (calls_in run)) (run.tells ∙ ap (λ (r : Run). map text_of r.replies) (sym (desk run.office (calls_in run))))
-    ∙ pick-map text_of test (calls_in run) (replies_in run)
+    ∙ ap (pick test (calls_told run)) (run.tells ∙ ap (λ (r : Run). map text_of r.replies) (sym (desk run.office (calls_told run))))
+    ∙ pick-map text_of test (calls_told run) (replies_in run)
 
 -- to a party
 pub to-party : RunsAreTheDesks → (text_of : Reply → List ℕ) (party : List ℕ) (run : ToldRun text_of)
-    → texts_to (is_call_by party) run.exchanges ≡ map text_of (replies_to party (calls_in run) (replies_in run))
-to-party desk text_of party run = told-picked desk text_of (is_call_by party) run ∙ ap (map text_of) (party-picked party (calls_in run) (replies_in run))
+    → texts_to (is_call_by party) run.exchanges ≡ map text_of (replies_to party (calls_told run) (replies_in run))
+to-party desk text_of party run = told-picked desk text_of (is_call_by party) run ∙ ap (map text_of) (party-picked party (calls_told run) (replies_in run))
 
 pub texts_isolated : RunsAreTheDesks → IsolatesRuns decided → TextsAreIsolated
 texts_isolated desk law text_of viewer one other alike near near_again same =
     to-party desk text_of viewer.party one
-    ∙ ap (map text_of) (law viewer one.office other.office (calls_in one) (calls_in other) alike near near_again same).replies
+    ∙ ap (map text_of) (law viewer one.office other.office (calls_told one) (calls_told other) alike near near_again same).replies
     ∙ sym (to-party desk text_of viewer.party other)
 
 -- no secret vote is a call of the office
@@ -56,13 +56,13 @@ office-kept secret calls =
 
 -- the replies to the office that are wanted, seen so that no result is told where one is left out, are the same in two runs that tell the same
 wanted-same : {text_of : Reply → List ℕ} (secret : Secret) (wanted : Bool → Bool) (seen : Reply → Reply) → ((asks : Bool) (told : Reply) → wanted asks ≡ true → seen told ≡ cond asks (without_result told) told)
-    → (one other : ToldRun text_of) → calls_of_office (calls_in one) ≡ calls_of_office (calls_in other)
-    → replies_to_office secret (calls_in one) (replies_in one) ≡ replies_to_office secret (calls_in other) (replies_in other)
-    → map seen (pick (wanted_call secret wanted) (calls_in one) (replies_in one)) ≡ map seen (pick (wanted_call secret wanted) (calls_in other) (replies_in other))
+    → (one other : ToldRun text_of) → calls_of_office (calls_told one) ≡ calls_of_office (calls_told other)
+    → replies_to_office secret (calls_told one) (replies_in one) ≡ replies_to_office secret (calls_told other) (replies_in other)
+    → map seen (pick (wanted_call secret wanted) (calls_told one) (replies_in one)) ≡ map seen (pick (wanted_call secret wanted) (calls_told other) (replies_in other))
 wanted-same secret wanted seen as_told one other calls replies =
-    office-picked secret wanted seen as_told (calls_in one) (replies_in one)
+    office-picked secret wanted seen as_told (calls_told one) (replies_in one)
     ∙ (λ i. pick (wanted_call secret wanted) (calls i) (replies i))
-    ∙ sym (office-picked secret wanted seen as_told (calls_in other) (replies_in other))
+    ∙ sym (office-picked secret wanted seen as_told (calls_told other) (replies_in other))
 
 -- of what asks for no declaration all is seen, and of what does not the result
 open-seen : (asks : Bool) (told : Reply) → not asks ≡ true → told ≡ cond asks (without_result told) told
@@ -79,15 +79,15 @@ pairs-of text_of {a} {b} {c} {d} same again pairs = subst (λ y. AllZip (AreSame
 
 pub texts_keep_secrets : RunsAreTheDesks → KeepsSecretsInRuns decided → TextsKeepSecrets
 texts_keep_secrets desk law text_of secret one other same rest =
-    let ends = law secret one.office other.office (calls_in one) (calls_in other) same rest in
-    let calls = sym (office-kept secret (calls_in one)) ∙ ap calls_of_office rest ∙ office-kept secret (calls_in other) in
+    let ends = law secret one.office other.office (calls_told one) (calls_told other) same rest in
+    let calls = sym (office-kept secret (calls_told one)) ∙ ap calls_of_office rest ∙ office-kept secret (calls_told other) in
     let open_replies = wanted-same secret not (λ told. told) open-seen one other calls ends.office in
     let asked_replies = wanted-same secret (λ asks. asks) without_result asked-seen one other calls ends.office in record {
       office_told = told-picked desk text_of (is_open_call secret) one
-          ∙ ap (map text_of) (sym (map-id (pick (is_open_call secret) (calls_in one) (replies_in one))) ∙ open_replies ∙ map-id (pick (is_open_call secret) (calls_in other) (replies_in other)))
+          ∙ ap (map text_of) (sym (map-id (pick (is_open_call secret) (calls_told one) (replies_in one))) ∙ open_replies ∙ map-id (pick (is_open_call secret) (calls_told other) (replies_in other)))
           ∙ sym (told-picked desk text_of (is_open_call secret) other);
       declared = pairs-of text_of (told-picked desk text_of (asks_declaration secret) one) (told-picked desk text_of (asks_declaration secret) other)
-          (each-but-result text_of (pick (asks_declaration secret) (calls_in one) (replies_in one)) (pick (asks_declaration secret) (calls_in other) (replies_in other)) asked_replies);
+          (each-but-result text_of (pick (asks_declaration secret) (calls_told one) (replies_in one)) (pick (asks_declaration secret) (calls_told other) (replies_in other)) asked_replies);
       parties = λ before party open_party.
           to-party desk text_of party one ∙ ap (map text_of) (ends.parties before party open_party) ∙ sym (to-party desk text_of party other);
     }

@@ -9,13 +9,13 @@ use Rattle.desk_words.specs.Seen.{Moment}
 use Rattle.desk_words.specs.declared.reply.Reply.{Reply}
 use Rattle.desk_words.specs.declared.request.Call.{Call}
 use Rattle.desk_requests.specs.declared.received.Received.{Received}
-use Rattle.desk_http.specs.Answers.{call_in, reply_in}
-use Rattle.desk_http.specs.Served.{Serves, failure_text, text_of}
-use Rattle.told_laws.specs.Desks.{Asked, Asks, IsTold, Makes, Nothing, Tells, Writing}
+use Rattle.desk_http.specs.Answers.{call_received, reply_in}
+use Rattle.desk_http.specs.Served.{Serves, failure_text, replied_text}
+use Rattle.told_laws.specs.Desks.{AskedText, Asks, IsToldOnDesk, Makes, Nothing, Tells, Writing}
 
 -- replies and failures are written as texts of HTTP
 abbrev pub as_http : Writing
-as_http = record { reply = text_of; failure = failure_text }
+as_http = record { reply = replied_text; failure = failure_text }
 
 -- what comes to a call or else to a reply, or to neither
 abbrev pub asks_by : Option Call → Option Reply → Asks
@@ -25,9 +25,9 @@ asks_by None None = Nothing
 
 -- what was received on a connection at a moment asks the call of the caller whose key came, or is
 -- replied to without one; with the text that was written
-abbrev pub asked_on : Moment → Received → List ℕ → Asked
+abbrev pub asked_on : Moment → Received → List ℕ → AskedText
 asked_on now received text = record {
-  asks = λ office. asks_by (call_in office now received) (reply_in office now received);
+  asks = λ office. asks_by (call_received office now received) (reply_in office now received);
   text = text;
 }
 
@@ -41,4 +41,4 @@ ConnectionsAreTold {S} g =
     → WasOpen (state g old) (state g new)
     → Serves now received (state g old) (state g new)
     (Appends (Some before) (Some (before ++ text)))
-    → IsTold as_http (asked_on now received text) (state g old) (state g new)
+    → IsToldOnDesk as_http (asked_on now received text) (state g old) (state g new)

@@ -13,14 +13,14 @@ use Rattle.desk_words.specs.declared.reply.Reply.{Reply}
 use Rattle.desk_words.specs.declared.request.Call.{Call}
 use Rattle.desk_records.specs.Standing.{Stands}
 use Rattle.desk_replies.specs.Replies.{failure_bytes, reply_bytes}
-use Rattle.desk_store.specs.Joins.{after_call}
+use Rattle.desk_store.specs.Joins.{office_after}
 use Rattle.meeting_core.specs.Step.{decided, run_of}
 use Rattle.run_laws.specs.Isolation.{Alike}
 use Rattle.run_laws.specs.Parts.{Viewer}
 use Rattle.run_laws.specs.Traces.{is_near_call}
 use Rattle.run_laws.specs.Votes.{AreSameBut, Secret, is_secret_call, without}
 use Rattle.told_laws.specs.Exchanges.{Exchange, is_call_by, texts_to}
-use Rattle.told_laws.specs.Texts.{TextsTellTheSame, ToldRun, calls_in, shown_in}
+use Rattle.told_laws.specs.Texts.{TextsTellTheSame, ToldRun, calls_told, shown_in}
 
 -- how a desk writes a reply, and that a failure is the answer
 pub record Writing : Type 0 where
@@ -47,72 +47,72 @@ reply_to office (Tells reply) = Some reply
 reply_to office Nothing = None
 
 -- what was asked of a desk, by the office that it has, and the text that was written
-pub record Asked : Type 0 where
+pub record AskedText : Type 0 where
   pub asks : OfficeLists → Asks
   pub text : List ℕ
 
 -- the text is that of the reply in the office, and the call was made
-pub record IsReplied (writing : Writing) (office : OfficeLists) (asked : Asked) (e : Exchange)
+pub record HasReply (writing : Writing) (office : OfficeLists) (asked : AskedText) (e : Exchange)
     : Type 0 where
   pub text : option_map writing.reply (reply_to office (asked.asks office)) ≡ Some e.text
   pub made : e.made ≡ call_made (asked.asks office)
 
 -- the text tells of a failure, and no call was made
-pub record IsFailed (writing : Writing) (e : Exchange) : Type 0 where
+pub record HasFailure (writing : Writing) (e : Exchange) : Type 0 where
   pub failure : Failure
   pub text : e.text ≡ writing.failure failure
   pub made : e.made ≡ None
 
 -- the exchange is of what was asked in an office
-pub record IsOf (writing : Writing) (office : OfficeLists) (asked : Asked) (e : Exchange)
+pub record IsOf (writing : Writing) (office : OfficeLists) (asked : AskedText) (e : Exchange)
     : Type 0 where
   pub same : e.text ≡ asked.text
-  pub is : IsReplied writing office asked e ⊎ IsFailed writing e
+  pub is : HasReply writing office asked e ⊎ HasFailure writing e
 
 -- what was asked is told in an office, and the tables are the office after the call, if it was made
-pub record IsToldIn (writing : Writing) (asked : Asked) (office : OfficeLists) (new : State)
+pub record IsToldIn (writing : Writing) (asked : AskedText) (office : OfficeLists) (new : State)
     : Type 0 where
   pub exchange : Exchange
   pub of : IsOf writing office asked exchange
-  pub stands : Stands new (after_call office exchange.made)
+  pub stands : Stands new (office_after office exchange.made)
 
 -- what was asked is told on a desk: no failure is made good, so a clean disk was clean before, and
 -- an open store was open before; and it is told in the office for which the tables stood
-pub record IsTold (writing : Writing) (asked : Asked) (old new : State) : Type 0 where
+pub record IsToldOnDesk (writing : Writing) (asked : AskedText) (old new : State) : Type 0 where
   pub was_clean : HasCleanDisk new → HasCleanDisk old
   pub was_open : WasOpen old new
   pub told : HasCleanDisk new → IsTrue new.is_open → (office : OfficeLists) → Stands old office
       → IsToldIn writing asked office new
 
 -- one after another
-abbrev pub AreTold : {S : Type 0} → store.Ghosts S → Writing → Held S → List Asked → Held S
+abbrev pub AreTold : {S : Type 0} → store.Ghosts S → Writing → Held S → List AskedText → Held S
     → Type 0
 AreTold g writing old [] new = new ≡ old
 AreTold {S} g writing old (asked ∷ later) new =
-    (between : Held S) × IsTold writing asked (state g old) (state g between)
+    (between : Held S) × IsToldOnDesk writing asked (state g old) (state g between)
     × AreTold g writing between later new
 
 -- the exchanges are of what was asked, each in the office after those before it
-abbrev pub AreOf : Writing → OfficeLists → List Asked → List Exchange → Type 0
+abbrev pub AreOf : Writing → OfficeLists → List AskedText → List Exchange → Type 0
 AreOf writing office [] [] = ⊤
 AreOf writing office [] (e ∷ exchanges) = ⊥
 AreOf writing office (asked ∷ later) [] = ⊥
 AreOf writing office (asked ∷ later) (e ∷ exchanges) =
-    IsOf writing office asked e × AreOf writing (after_call office e.made) later exchanges
+    IsOf writing office asked e × AreOf writing (office_after office e.made) later exchanges
 
 -- what was asked is told as a run from an office, and the tables are the office after it
-pub record HasToldARun (writing : Writing) (office : OfficeLists) (asked : List Asked)
+pub record HasToldARun (writing : Writing) (office : OfficeLists) (asked : List AskedText)
     (new : State) : Type 0 where
   pub run : ToldRun writing.reply
   pub begins : run.office ≡ office
   pub of : AreOf writing office asked run.exchanges
-  pub stands : Stands new (run_of office (calls_in run)).office
+  pub stands : Stands new (run_of office (calls_told run)).office
 
 -- where a desk stood for an office, and what was asked was told one after another, up to a desk
 -- whose disk returned what was written and whose store is open, it is told as a run
 abbrev pub DesksTellRuns : {S : Type 0} → store.Ghosts S → Type 0
 DesksTellRuns {S} g =
-    (writing : Writing) (old new : Held S) (asked : List Asked)
+    (writing : Writing) (old new : Held S) (asked : List AskedText)
     → AreTold g writing old asked new
     → HasCleanDisk (state g new) → IsTrue (state g new).is_open → (office : OfficeLists)
     → Stands (state g old) office → HasToldARun writing office asked (state g new)
@@ -123,13 +123,13 @@ DesksTellRuns {S} g =
 -- show it the same, the texts of the replies to it are the same bytes, one for one
 abbrev pub DesksAreIsolated : {S : Type 0} → store.Ghosts S → Type 0
 DesksAreIsolated {S} g =
-    (writing : Writing) (viewer : Viewer) (one other : OfficeLists) (asked again : List Asked)
+    (writing : Writing) (viewer : Viewer) (one other : OfficeLists) (asked again : List AskedText)
     (left kept : Held S)
     → (told : HasToldARun writing one asked (state g left))
     → (later : HasToldARun writing other again (state g kept))
     → Alike viewer one other
-    → IsTrue (list_all (is_near_call viewer) (calls_in told.run))
-    → IsTrue (list_all (is_near_call viewer) (calls_in later.run))
+    → IsTrue (list_all (is_near_call viewer) (calls_told told.run))
+    → IsTrue (list_all (is_near_call viewer) (calls_told later.run))
     → shown_in viewer told.run ≡ shown_in viewer later.run
     → texts_to (is_call_by viewer.party) told.run.exchanges
     ≡ texts_to (is_call_by viewer.party) later.run.exchanges
@@ -138,13 +138,13 @@ DesksAreIsolated {S} g =
 -- there differ in such votes alone, they tell the same of them
 abbrev pub DesksKeepSecrets : {S : Type 0} → store.Ghosts S → Type 0
 DesksKeepSecrets {S} g =
-    (writing : Writing) (secret : Secret) (one other : OfficeLists) (asked again : List Asked)
+    (writing : Writing) (secret : Secret) (one other : OfficeLists) (asked again : List AskedText)
     (left kept : Held S)
     → (told : HasToldARun writing one asked (state g left))
     → (later : HasToldARun writing other again (state g kept))
     → AreSameBut secret one other
-    → without (is_secret_call secret) (calls_in told.run)
-    ≡ without (is_secret_call secret) (calls_in later.run)
+    → without (is_secret_call secret) (calls_told told.run)
+    ≡ without (is_secret_call secret) (calls_told later.run)
     → TextsTellTheSame writing.reply secret one told.run.exchanges later.run.exchanges
 
 -- ---- one call
@@ -154,10 +154,10 @@ abbrev pub as_json : Writing
 as_json = record { reply = reply_bytes; failure = failure_bytes }
 
 -- the text of a reply, or that of a failure
-abbrev pub shown : Result (Vec ℕ Global) Failure → List ℕ
-shown (Ok text) = text.items
-shown (Err failure) = failure_bytes failure
+abbrev pub text_shown : Result (Vec ℕ Global) Failure → List ℕ
+text_shown (Ok text) = text.items
+text_shown (Err failure) = failure_bytes failure
 
 -- a call that was asked, and what was shown of the answer
-abbrev pub asked_by : Call → Result (Vec ℕ Global) Failure → Asked
-asked_by call result = record { asks = λ office. Makes call; text = shown result }
+abbrev pub asked_by_call : Call → Result (Vec ℕ Global) Failure → AskedText
+asked_by_call call result = record { asks = λ office. Makes call; text = text_shown result }

@@ -8,9 +8,9 @@ use Rattle.desk_words.specs.declared.office.OfficeLists.{OfficeLists}
 use Rattle.desk_words.specs.declared.reply.Reply.{Reply}
 use Rattle.desk_words.specs.declared.request.Call.{Call}
 use Rattle.desk_replies.specs.Replies.{reply_bytes}
-use Rattle.desk_program.specs.ReplayLines.{asked_by}
+use Rattle.desk_program.specs.ReplayLines.{asked_in_line}
 use Rattle.desk_program.specs.ReplayRuns.{as_line, calls_of}
-use Rattle.desk_program.specs.Transcript.{answered, transcript}
+use Rattle.desk_program.specs.Transcript.{line_answered, transcript}
 use Rattle.meeting_core.specs.Step.{decided}
 use Rattle.run_laws.specs.Traces.{trace_of, viewer_of}
 use Rattle.run_laws.specs.Votes.{Secret, is_secret_call, without}
@@ -29,14 +29,14 @@ call_asked (Err refusal) = None
 -- the call that a line asks; a line that was refused memory is no call
 abbrev pub call_by_line : Bool → List ℕ → Option Call
 call_by_line true line = None
-call_by_line false line = call_asked (asked_by line)
+call_by_line false line = call_asked (asked_in_line line)
 
 -- what is written for each line in turn, but for empty ones, which are skipped
 abbrev pub exchanges_of : OfficeLists → List (List ℕ) → List Bool → List Exchange
 exchanges_of office [] refused = []
 exchanges_of office (line ∷ lines) [] = []
 exchanges_of office (line ∷ lines) (r ∷ refused) =
-    let answer = answered r office line in
+    let answer = line_answered r office line in
     let later = exchanges_of answer.office lines refused in
     if length line == 0
     then later

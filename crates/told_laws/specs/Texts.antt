@@ -22,12 +22,12 @@ pub record ToldRun (text_of : Reply → List ℕ) : Type 0 where
   pub tells : TellTheRun text_of office exchanges
 
 -- the calls of the run
-abbrev pub calls_in : {text_of : Reply → List ℕ} → ToldRun text_of → List Call
-calls_in run = calls_made run.exchanges
+abbrev pub calls_told : {text_of : Reply → List ℕ} → ToldRun text_of → List Call
+calls_told run = calls_made run.exchanges
 
 -- what a run shows to a viewer
 abbrev pub shown_in : {text_of : Reply → List ℕ} → Viewer → ToldRun text_of → List Shown
-shown_in viewer run = trace_of decided viewer run.office (calls_in run)
+shown_in viewer run = trace_of decided viewer run.office (calls_told run)
 
 -- isolation: where the offices of two runs are one to a party, and their calls show it the same,
 -- the texts of the replies to it are the same bytes, one for one
@@ -35,8 +35,8 @@ abbrev pub TextsAreIsolated : Type 0
 TextsAreIsolated =
     (text_of : Reply → List ℕ) (viewer : Viewer) (one other : ToldRun text_of)
     → Alike viewer one.office other.office
-    → IsTrue (list_all (is_near_call viewer) (calls_in one))
-    → IsTrue (list_all (is_near_call viewer) (calls_in other))
+    → IsTrue (list_all (is_near_call viewer) (calls_told one))
+    → IsTrue (list_all (is_near_call viewer) (calls_told other))
     → shown_in viewer one ≡ shown_in viewer other
     → texts_to (is_call_by viewer.party) one.exchanges
     ≡ texts_to (is_call_by viewer.party) other.exchanges
@@ -71,6 +71,6 @@ abbrev pub TextsKeepSecrets : Type 0
 TextsKeepSecrets =
     (text_of : Reply → List ℕ) (secret : Secret) (one other : ToldRun text_of)
     → AreSameBut secret one.office other.office
-    → without (is_secret_call secret) (calls_in one)
-    ≡ without (is_secret_call secret) (calls_in other)
+    → without (is_secret_call secret) (calls_told one)
+    ≡ without (is_secret_call secret) (calls_told other)
     → TextsTellTheSame text_of secret one.office one.exchanges other.exchanges

@@ -8,7 +8,7 @@ ghost use Rattle.meeting_core.specs.Step.{decided, stepped};
 ghost use Rattle.sqlite.specs.Held.{state};
 ghost use Rattle.sqlite.specs.State.{HasCleanDisk};
 ghost use Rattle.told_laws.specs.Connections.{ConnectionsAreTold};
-ghost use Rattle.told_laws.specs.Desks.{DesksAreIsolated, DesksKeepSecrets, DesksTellRuns, IsTold, as_json, asked_by};
+ghost use Rattle.told_laws.specs.Desks.{DesksAreIsolated, DesksKeepSecrets, DesksTellRuns, IsToldOnDesk, as_json, asked_by_call};
 
 use crate::texts::texts_tell_no_more;
 use desk_replies::reply_text;
@@ -61,7 +61,7 @@ fn performed<S: Alter>(alloc: Global, desk: &mut Desk<S>, call: Call) -> Result<
 /// Makes one call on a desk, as `perform` does, and gives the JSON text of its reply, which is told
 /// so. After a failure, want of memory for the text included, the tables are as they were.
 pub fn told<S: Alter>(alloc: Global, desk: &mut Desk<S>, call: Call) -> Result<Vec<u8>, Failure>
-    ensures { IsTold as_json (asked_by call result)
+    ensures { IsToldOnDesk as_json (asked_by_call call result)
         (state S.Store desk.old) (state S.Store desk.new) }
 {
     performed(alloc, desk, call)

@@ -19,7 +19,7 @@ use Rattle.share_blocks.specs.Pieces.{is_place}
 use Rattle.share_blocks.proofs.CoverLemmas.{tags_at-place}
 use Rattle.vote_rules.specs.Alike.{AllVote, is_own, way_of_newest, way_on_all}
 use Rattle.vote_rules.specs.Casts.{Share, find_map}
-use Rattle.vote_rules.specs.Covers.{cover_of, covers_by, pieces_by, vote_among, way_at, way_number, way_tagged}
+use Rattle.vote_rules.specs.Covers.{cover_of, vote_covers, vote_pieces, vote_among, way_at, way_number, way_tagged}
 use Rattle.vote_rules.specs.Sums.{tally_to, with_votes}
 use Rattle.vote_rules.specs.Tallies.{is_vote, votes_to}
 use Rattle.vote_rules.specs.Votes.{first_that_applies}
@@ -58,13 +58,13 @@ newest_way voter shares place way low high (c ∷ blocks) e =
 
 -- the voter's cast as the member, where it casts nothing as instructed
 way_by_newest : (casts : List BlockCast) (last : List ℕ → Option ℕ) (voter : List ℕ) (shares place : ℕ) (way : Way) → last voter ≡ None → is_place place ≡ true → place ≤ shares
-    → way_of_newest shares voter casts ≡ Some way → way_at None (pieces_by casts last Member voter) place ≡ Some way
+    → way_of_newest shares voter casts ≡ Some way → way_at None (vote_pieces casts last Member voter) place ≡ Some way
 way_by_newest casts last voter shares place way none is high e =
-    let covers = covers_by Member voter casts (last voter) in
+    let covers = vote_covers Member voter casts (last voter) in
     let low : 1 ≤ place = leb-true 1 place (first_so (nat_le 1 place) (nat_le place MOST_PLACES) is) in
     ap (find_map (way_tagged None)) (tags_at-place covers place is)
     ∙ way_of_covers None covers place
-    ∙ ap (λ o. find_map (cover_way None place) (reverse (covers_by Member voter casts o))) none
+    ∙ ap (λ o. find_map (cover_way None place) (reverse (vote_covers Member voter casts o))) none
     ∙ ap (find_map (cover_way None place)) (filter_map-reverse (cover_of Member voter) casts)
     ∙ find_map-filter_map (cover_way None place) (cover_of Member voter) (reverse casts)
     ∙ newest_way voter shares place way low high (reverse casts) e

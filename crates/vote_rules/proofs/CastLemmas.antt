@@ -21,7 +21,7 @@ use Rattle.share_blocks.specs.Pieces.{is_place}
 use Rattle.share_blocks.proofs.CoverLemmas.{tags_at-place}
 use Rattle.vote_rules.specs.Casts.{Share, find_map, instructed_way, last_cast, way_cast, way_over}
 use Rattle.proxy_rules.specs.Parties.{same_capacity}
-use Rattle.vote_rules.specs.Covers.{as_proxy, cast_among, cover_of, covers_by, everywhere, way_number, way_tagged}
+use Rattle.vote_rules.specs.Covers.{as_proxy, cast_among, cover_of, vote_covers, everywhere, way_number, way_tagged}
 use Rattle.vote_rules.specs.Received.{Entry, is_as_instructed, block_by, block_on, blocks_on, is_after, is_before, is_instructed_on, is_on_shares_of, last_instructed}
 use Rattle.vote_rules.specs.declared.received.BlockCast.{BlockCast}
 use Rattle.vote_rules.proofs.ListLemmas.{find_map-append, find_map-filter, find_map-filter_map}
@@ -165,7 +165,7 @@ module _ (resolution : ℕ) (share : Share) (capacity : Capacity) (voter : List 
   -- ---- all of the voter's covers
 
   covers_way : (casts : List CastMark) (last : Option ℕ) → is_place share.place ≡ true
-      → find_map (cover_way instructed share.place) (reverse (covers_by capacity voter (filter (is_on_shares_of share.member) (blocks_on resolution casts)) last))
+      → find_map (cover_way instructed share.place) (reverse (vote_covers capacity voter (filter (is_on_shares_of share.member) (blocks_on resolution casts)) last))
       ≡ parted (way_cast resolution share capacity voter) block_way as_told instructed splits apart last 0 casts
   covers_way casts None place = all_ways casts
   covers_way casts (Some order) place =
@@ -183,7 +183,7 @@ module _ (resolution : ℕ) (share : Share) (capacity : Capacity) (voter : List 
   pub cast_among-last_cast : (casts : List CastMark) → is_place share.place ≡ true
       → cast_among (filter (is_on_shares_of share.member) (blocks_on resolution casts)) (last_instructed resolution casts) resolution share capacity voter ≡ last_cast casts resolution share capacity voter
   cast_among-last_cast casts place =
-      let covers = covers_by capacity voter (filter (is_on_shares_of share.member) (blocks_on resolution casts)) (last_instructed resolution casts voter) in
+      let covers = vote_covers capacity voter (filter (is_on_shares_of share.member) (blocks_on resolution casts)) (last_instructed resolution casts voter) in
       ap (find_map (way_tagged instructed)) (tags_at-place covers share.place place)
       ∙ way_of_covers instructed covers share.place
       ∙ covers_way casts (last_instructed resolution casts voter) place

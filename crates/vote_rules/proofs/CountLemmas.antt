@@ -9,9 +9,9 @@ use Rattle.desk_terms.specs.Places.{Places, places_that}
 use Rattle.desk_terms.specs.declared.kinds.Way.{Way}
 use Rattle.desk_terms.specs.declared.kinds.Way.TheVariants.{For, Against, Withheld}
 use Rattle.desk_words.specs.declared.records.RegisterRow.{RegisterRow}
-use Rattle.desk_words.specs.Office.{is_tally}
+use Rattle.desk_words.specs.Office.{is_tally, are_rows}
 use Rattle.desk_words.specs.Registers.{all_shares}
-use Rattle.proxy_rules.specs.Shares.{are_rows, shares_of}
+use Rattle.proxy_rules.specs.Shares.{shares_of}
 use Rattle.vote_rules.specs.Sums.{FitsBoth, FitsMore, added, tally_over, tally_to, votes_over}
 use Rattle.vote_rules.specs.Tallies.{is_vote, votes_to, votes, tally_by}
 use Rattle.proxy_rules.specs.Tiles.{are_tiled, places_if, places_in}

@@ -7,7 +7,7 @@ use Rattle.desk_lists.specs.Ordered.{ascends_by}
 use Rattle.desk_terms.specs.Names.{name_cmp}
 use Rattle.desk_words.specs.Registers.{keep_limits, member_before}
 use Rattle.desk_words.specs.declared.records.RegisterRow.{RegisterRow}
-use Rattle.proxy_rules.specs.Shares.{are_rows}
+use Rattle.desk_words.specs.Office.{are_rows}
 use Rattle.proxy_rules.proofs.NameLemmas.{filter-named}
 use Rattle.vote_rules.specs.Received.{is_on_shares_of, is_past_member}
 use Rattle.vote_rules.specs.declared.received.BlockCast.{BlockCast}

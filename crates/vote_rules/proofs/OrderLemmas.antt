@@ -7,21 +7,21 @@ use Rattle.std.proofs.Math.Bool.{and-false}
 use Rattle.std.proofs.lemmas.Bool.{eqb-true, leb-true, le-leb, lt-leb, lt-ltb, ltb-false, ltb-true}
 use Rattle.desk_terms.specs.Places.{holds}
 use Rattle.proxy_rules.specs.declared.pieces.GovernedPiece.{GovernedPiece}
-use Rattle.proxy_rules.specs.Tiles.{are_tiled, ranges_of}
+use Rattle.proxy_rules.specs.Tiles.{are_tiled, governed_ranges}
 use Rattle.vote_rules.specs.Ballots.{AreInOrder, piece_at}
 
 record Next (first : ℕ) (p : GovernedPiece) (ps : List GovernedPiece) (last : ℕ) : Type 0 where
   begins : p.range.from ≡ first
   within : first ≤ p.range.to
-  rest : are_tiled (p.range.to + 1) (ranges_of ps) last ≡ true
+  rest : are_tiled (p.range.to + 1) (governed_ranges ps) last ≡ true
 
-next : (first : ℕ) (p : GovernedPiece) (ps : List GovernedPiece) (last : ℕ) → are_tiled first (ranges_of (p ∷ ps)) last ≡ true → Next first p ps last
+next : (first : ℕ) (p : GovernedPiece) (ps : List GovernedPiece) (last : ℕ) → are_tiled first (governed_ranges (p ∷ ps)) last ≡ true → Next first p ps last
 next first p ps last h =
-    let front = first_so ((p.range.from == first) && nat_le first p.range.to) (are_tiled (p.range.to + 1) (ranges_of ps) last) h in
+    let front = first_so ((p.range.from == first) && nat_le first p.range.to) (are_tiled (p.range.to + 1) (governed_ranges ps) last) h in
     record {
       begins = eqb-true p.range.from first (first_so (p.range.from == first) (nat_le first p.range.to) front);
       within = leb-true first p.range.to (second_so (p.range.from == first) (nat_le first p.range.to) front);
-      rest = second_so ((p.range.from == first) && nat_le first p.range.to) (are_tiled (p.range.to + 1) (ranges_of ps) last) h;
+      rest = second_so ((p.range.from == first) && nat_le first p.range.to) (are_tiled (p.range.to + 1) (governed_ranges ps) last) h;
     }
 
 -- whether a piece holds the place
@@ -32,7 +32,7 @@ has place p = holds p.range place
 abbrev pub if_has : ℕ → GovernedPiece → Option GovernedPiece
 if_has place p = cond (has place p) (Some p) None
 
-none_before : (first last : ℕ) (ps : List GovernedPiece) (place : ℕ) → are_tiled first (ranges_of ps) last ≡ true → place < first → find (has place) ps ≡ None
+none_before : (first last : ℕ) (ps : List GovernedPiece) (place : ℕ) → are_tiled first (governed_ranges ps) last ≡ true → place < first → find (has place) ps ≡ None
 none_before first last [] place all low = refl
 none_before first last (p ∷ ps) place all low =
     let n = next first p ps last all in
@@ -40,7 +40,7 @@ none_before first last (p ∷ ps) place all low =
     ∙ none_before (p.range.to + 1) last ps place n.rest (omega (arith, low, n.within))
 
 -- the piece that holds the place is the first one that reaches it, if that holds it
-find-reaching : (first last : ℕ) (ps : List GovernedPiece) (place i : ℕ) → are_tiled first (ranges_of ps) last ≡ true
+find-reaching : (first last : ℕ) (ps : List GovernedPiece) (place i : ℕ) → are_tiled first (governed_ranges ps) last ≡ true
     → ((k : ℕ) (d : GovernedPiece) → k < i → k < length ps → (get_or ps k d).range.to < place) → ((k : ℕ) (d : GovernedPiece) → i ≤ k → k < length ps → place ≤ (get_or ps k d).range.to)
     → find (has place) ps ≡ option_and_then (if_has place) (slice_get ps i)
 find-reaching first last [] place i all before after = refl
@@ -61,7 +61,7 @@ find-reaching first last (p ∷ ps) place (suc i) all before after =
     (λ k d high inside. after (suc k) d (omega (arith, high)) (omega (arith, inside)))
 
 -- the ends of the pieces rise
-ends_rise : (first last : ℕ) (ps : List GovernedPiece) → are_tiled first (ranges_of ps) last ≡ true → (k : ℕ) (d : GovernedPiece) → k < length ps → first ≤ (get_or ps k d).range.to
+ends_rise : (first last : ℕ) (ps : List GovernedPiece) → are_tiled first (governed_ranges ps) last ≡ true → (k : ℕ) (d : GovernedPiece) → k < length ps → first ≤ (get_or ps k d).range.to
 ends_rise first last [] all k d low = absurd (omega (arith, low))
 ends_rise first last (p ∷ ps) all zero d low = (next first p ps last all).within
 ends_rise first last (p ∷ ps) all (suc k) d low =
@@ -69,7 +69,7 @@ ends_rise first last (p ∷ ps) all (suc k) d low =
     omega (arith, n.within, ends_rise (p.range.to + 1) last ps n.rest k d (omega (arith, low)))
 
 -- those that end before the place come first
-pub reached_last : (first last : ℕ) (ps : List GovernedPiece) (place : ℕ) → are_tiled first (ranges_of ps) last ≡ true → IsPartitionedBy (λ (p : GovernedPiece). nat_lt p.range.to place) ps
+pub reached_last : (first last : ℕ) (ps : List GovernedPiece) (place : ℕ) → are_tiled first (governed_ranges ps) last ≡ true → IsPartitionedBy (λ (p : GovernedPiece). nat_lt p.range.to place) ps
 reached_last first last [] place all i j d order low later = absurd (omega (arith, low))
 reached_last first last (p ∷ ps) place all zero zero d order low later = later
 reached_last first last (p ∷ ps) place all zero (suc j) d order low later =

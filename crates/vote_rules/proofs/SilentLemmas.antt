@@ -13,7 +13,7 @@ use Rattle.desk_words.specs.declared.records.RegisterRow.{RegisterRow}
 use Rattle.proxy_rules.specs.Parties.{authorised_by}
 use Rattle.share_blocks.specs.Covers.{pieces_after}
 use Rattle.vote_rules.specs.Casts.{Share, find_map, instructed_way}
-use Rattle.vote_rules.specs.Covers.{as_proxy, cast_among, covers_by, vote_among, way_at, way_tagged}
+use Rattle.vote_rules.specs.Covers.{as_proxy, cast_among, vote_covers, vote_among, way_at, way_tagged}
 use Rattle.vote_rules.specs.Votes.{Casts, by_the_holder, by_the_proxy, by_the_representatives, common_way, first_that_applies, valid_vote}
 use Rattle.vote_rules.specs.declared.received.BlockCast.{BlockCast}
 
@@ -28,7 +28,7 @@ way_nowhere instructed place = ap (find_map (way_tagged instructed)) (same_twice
 nothing_among : (last : List ℕ → Option ℕ) → ((voter : List ℕ) → last voter ≡ None) → (resolution : ℕ) (share : Share) (capacity : Capacity) (voter : List ℕ) → cast_among [] last resolution share capacity voter ≡ None
 nothing_among last none resolution share capacity voter =
     let instructed = as_proxy capacity (instructed_way resolution share voter) in
-    ap (λ (order : Option ℕ). way_at instructed (pieces_after (covers_by capacity voter [] order)) share.place) (none voter)
+    ap (λ (order : Option ℕ). way_at instructed (pieces_after (vote_covers capacity voter [] order)) share.place) (none voter)
     ∙ way_nowhere instructed share.place
 
 -- ---- the rules, where nobody casts

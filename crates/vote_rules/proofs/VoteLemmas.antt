@@ -21,7 +21,7 @@ use Rattle.desk_words.specs.declared.records.Authority.{Authority}
 use Rattle.desk_words.specs.declared.records.RegisterRow.{RegisterRow}
 use Rattle.proxy_rules.specs.Governing.{governing_in}
 use Rattle.proxy_rules.specs.Shares.{is_corporation, is_individual}
-use Rattle.proxy_rules.specs.Tiles.{ArePieces, IsGoverned, are_tiled, ranges_of}
+use Rattle.proxy_rules.specs.Tiles.{ArePieces, IsGoverned, are_tiled, governed_ranges}
 use Rattle.proxy_rules.specs.declared.holdings.Holding.{Holding}
 use Rattle.proxy_rules.specs.declared.papers.Cutoffs.{Cutoffs}
 use Rattle.proxy_rules.specs.declared.pieces.GovernedPiece.{GovernedPiece}
@@ -33,7 +33,7 @@ use Rattle.vote_rules.specs.Ballots.{capacity_for, cuts_of, governing_at, piece_
 use Rattle.vote_rules.specs.Casts.{Share, find_map, instructed_way}
 use Rattle.proxy_rules.specs.Parties.{authorised_by, same_capacity}
 use Rattle.proxy_rules.specs.Instructions.{instructed_on, same_way}
-use Rattle.vote_rules.specs.Covers.{as_proxy, cast_among, cover_of, covers_by, everywhere, way_number, pieces_by, vote_among, way_at, way_tagged}
+use Rattle.vote_rules.specs.Covers.{as_proxy, cast_among, cover_of, vote_covers, everywhere, way_number, vote_pieces, vote_among, way_at, way_tagged}
 use Rattle.vote_rules.specs.Received.{is_after, is_before}
 use Rattle.vote_rules.specs.Tallies.{share_at}
 use Rattle.vote_rules.specs.Votes.{Casts, common_way, first_that_applies, valid_vote}
@@ -80,7 +80,7 @@ module _ (cutoffs : Cutoffs) (holding : Holding) (authorities : List Authority) 
   -- the vote that is asked of a place
   abbrev pub asked_vote : ℕ → Option Way
   asked_vote place =
-      vote_by (map (pieces_by casts last (capacity_for row.kind)) (voters_for authorities row.kind row.member)) (map (pieces_by casts last Proxy) (map (λ (a : Appointment). a.proxy) holding.appointed))
+      vote_by (map (vote_pieces casts last (capacity_for row.kind)) (voters_for authorities row.kind row.member)) (map (vote_pieces casts last Proxy) (map (λ (a : Appointment). a.proxy) holding.appointed))
       holding.appointed (governing_at governed place) resolution place
 
   -- the vote that is meant
@@ -92,11 +92,11 @@ module _ (cutoffs : Cutoffs) (holding : Holding) (authorities : List Authority) 
 
   -- ---- what governs a place
 
-  governed_from : (pieces : List GovernedPiece) (first place : ℕ) → are_tiled first (ranges_of pieces) holding.shares ≡ true → All (IsGoverned cutoffs holding) pieces → first ≤ place → place ≤ holding.shares
+  governed_from : (pieces : List GovernedPiece) (first place : ℕ) → are_tiled first (governed_ranges pieces) holding.shares ≡ true → All (IsGoverned cutoffs holding) pieces → first ≤ place → place ≤ holding.shares
       → option_and_then (slice_get holding.appointed) (governing_at pieces place) ≡ governing_in cutoffs holding place
   governed_from [] first place all each low high = let e : first ≡ holding.shares + 1 = eqb-true first (holding.shares + 1) all in absurd (omega arith)
   governed_from (piece ∷ pieces) first place all each low high =
-      let t = tiled first piece.range (ranges_of pieces) holding.shares all in
+      let t = tiled first piece.range (governed_ranges pieces) holding.shares all in
       (elim (nat_le place piece.range.to) as (λ b. nat_le place piece.range.to ≡ b → option_and_then (slice_get holding.appointed) (governing_at (piece ∷ pieces) place) ≡ governing_in cutoffs holding place) [
         | true ↦ λ e.
             let held : holds piece.range place ≡ true = and_from (nat_le piece.range.from place) (nat_le place piece.range.to) (le-leb piece.range.from place (omega (arith, t.begins))) e in
@@ -112,20 +112,20 @@ module _ (cutoffs : Cutoffs) (holding : Holding) (authorities : List Authority) 
   -- ---- the vote by the proxy
 
   found_pieces : (o : Option Appointment) (place : ℕ)
-      → option_and_then (λ (a : Appointment). option_and_then (vote_by_proxy resolution place a) (option_map (pieces_by casts last Proxy) (option_map (λ (b : Appointment). b.proxy) o))) o
+      → option_and_then (λ (a : Appointment). option_and_then (vote_by_proxy resolution place a) (option_map (vote_pieces casts last Proxy) (option_map (λ (b : Appointment). b.proxy) o))) o
       ≡ option_and_then (λ (a : Appointment). option_and_then (vote_if (instructed_on resolution a.instructions)) (cast_among casts last resolution (share_by o place) Proxy a.proxy)) o
   found_pieces None place = refl
   found_pieces (Some a) place =
-      ap (λ b. option_and_then (vote_if (instructed_on resolution a.instructions)) (way_at (cond b (instructed_on resolution a.instructions) None) (pieces_by casts last Proxy a.proxy) place)) (sym (same_name-refl a.proxy))
+      ap (λ b. option_and_then (vote_if (instructed_on resolution a.instructions)) (way_at (cond b (instructed_on resolution a.instructions) None) (vote_pieces casts last Proxy a.proxy) place)) (sym (same_name-refl a.proxy))
 
   by_place : (by : Option ℕ) (place : ℕ)
-      → vote_by_governing resolution place holding.appointed (map (pieces_by casts last Proxy) (map (λ (a : Appointment). a.proxy) holding.appointed)) by
+      → vote_by_governing resolution place holding.appointed (map (vote_pieces casts last Proxy) (map (λ (a : Appointment). a.proxy) holding.appointed)) by
       ≡ option_and_then (λ (a : Appointment). option_and_then (vote_if (instructed_on resolution a.instructions)) (cast_among casts last resolution (share_by (option_and_then (slice_get holding.appointed) by) place) Proxy a.proxy)) (option_and_then (slice_get holding.appointed) by)
   by_place None place = refl
   by_place (Some at) place =
       ap (λ o. option_and_then (λ (a : Appointment). option_and_then (vote_by_proxy resolution place a) o) (slice_get holding.appointed at))
-      (slice_get-map (pieces_by casts last Proxy) (map (λ (a : Appointment). a.proxy) holding.appointed) at
-      ∙ ap (option_map (pieces_by casts last Proxy)) (slice_get-map (λ (a : Appointment). a.proxy) holding.appointed at))
+      (slice_get-map (vote_pieces casts last Proxy) (map (λ (a : Appointment). a.proxy) holding.appointed) at
+      ∙ ap (option_map (vote_pieces casts last Proxy)) (slice_get-map (λ (a : Appointment). a.proxy) holding.appointed at))
       ∙ found_pieces (slice_get holding.appointed at) place
 
   flat : (o : Option Appointment) (place : ℕ) (share : Share)
@@ -149,9 +149,9 @@ module _ (cutoffs : Cutoffs) (holding : Holding) (authorities : List Authority) 
       let cast = cast_among casts last resolution share in
       let vote = option_and_then (λ (a : Appointment). option_and_then (vote_if (instructed_on resolution a.instructions)) (cast Proxy a.proxy)) governing in
       let capacity = capacity_for row.kind in
-      ap (λ ways. first_that_applies (common_way ways ∷ Some (vote_by_governing resolution place holding.appointed (map (pieces_by casts last Proxy) (map (λ (a : Appointment). a.proxy) holding.appointed)) by) ∷ []))
-      (filter_map_mapped (λ pieces. way_at None pieces place) (pieces_by casts last capacity) (voters_for authorities row.kind row.member)
-      ∙ ap (λ f. filter_map f (voters_for authorities row.kind row.member)) (λ i voter. way_at (not_proxy row.kind (instructed_way resolution share voter) i) (pieces_by casts last capacity voter) place))
+      ap (λ ways. first_that_applies (common_way ways ∷ Some (vote_by_governing resolution place holding.appointed (map (vote_pieces casts last Proxy) (map (λ (a : Appointment). a.proxy) holding.appointed)) by) ∷ []))
+      (filter_map_mapped (λ pieces. way_at None pieces place) (vote_pieces casts last capacity) (voters_for authorities row.kind row.member)
+      ∙ ap (λ f. filter_map f (voters_for authorities row.kind row.member)) (λ i voter. way_at (not_proxy row.kind (instructed_way resolution share voter) i) (vote_pieces casts last capacity voter) place))
       ∙ ap (λ v. first_that_applies (common_way (filter_map (cast capacity) (voters_for authorities row.kind row.member)) ∷ Some v ∷ [])) (by_place by place)
       ∙ sym (rules cast authorities row.kind row.member (option_and_then (λ (a : Appointment). option_map (vote_if (instructed_on resolution a.instructions)) (cast Proxy a.proxy)) governing) vote (flat governing place share))
       ∙ ap (λ o. valid_vote (cast_among casts last resolution (share_by o place)) authorities resolution row o) (governed_from governed 1 place are.tiled are.governed low high)
@@ -177,7 +177,7 @@ module _ (cutoffs : Cutoffs) (holding : Holding) (authorities : List Authority) 
       (All-head (HoldAlike place other) c blocks all) (blocks_alike place other capacity voter blocks (All-tail (HoldAlike place other) c blocks all))
 
   covers_alike : (place other : ℕ) (capacity : Capacity) (voter : List ℕ) (at : Option ℕ) → is_place place ≡ true → is_place other ≡ true → All (HoldAlike place other) casts
-      → All (AreAlike place other) (covers_by capacity voter casts at)
+      → All (AreAlike place other) (vote_covers capacity voter casts at)
   covers_alike place other capacity voter None one two all = blocks_alike place other capacity voter casts all
   covers_alike place other capacity voter (Some order) one two all =
       let earlier = filter_map (cover_of capacity voter) (filter (is_before order) casts) in
@@ -189,9 +189,9 @@ module _ (cutoffs : Cutoffs) (holding : Holding) (authorities : List Authority) 
       (blocks_alike place other capacity voter (filter (is_after order) casts) (All-filter (is_after order) (HoldAlike place other) casts all))
 
   way_alike : (instructed : Option Way) (capacity : Capacity) (voter : List ℕ) (place other : ℕ) → is_place place ≡ true → is_place other ≡ true → All (HoldAlike place other) casts
-      → way_at instructed (pieces_by casts last capacity voter) place ≡ way_at instructed (pieces_by casts last capacity voter) other
+      → way_at instructed (vote_pieces casts last capacity voter) place ≡ way_at instructed (vote_pieces casts last capacity voter) other
   way_alike instructed capacity voter place other one two all =
-      let covers = covers_by capacity voter casts (last voter) in
+      let covers = vote_covers capacity voter casts (last voter) in
       ap (find_map (way_tagged instructed)) (tags_at-place covers place one)
       ∙ way_of_covers instructed covers place
       ∙ find_map-agree (cover_way instructed place) (cover_way instructed other) (reverse covers)

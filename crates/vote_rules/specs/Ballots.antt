@@ -17,7 +17,7 @@ use Rattle.share_blocks.specs.Pieces.{Piece}
 use Rattle.proxy_rules.specs.Instructions.{allows, instructed_on}
 use Rattle.vote_rules.specs.Covers.{way_at}
 use Rattle.proxy_rules.specs.Parties.{authorised_by}
-use Rattle.proxy_rules.specs.Tiles.{are_tiled, ranges_of}
+use Rattle.proxy_rules.specs.Tiles.{are_tiled, governed_ranges}
 use Rattle.vote_rules.specs.Votes.{common_way, first_that_applies}
 use Rattle.vote_rules.specs.declared.received.BlockCast.{BlockCast}
 
@@ -71,7 +71,7 @@ vote_by holders proxies appointed by resolution place =
 
 -- pieces of the first places, one behind the other, without gaps
 abbrev pub AreInOrder : List GovernedPiece → Type 0
-AreInOrder governed = (last : Place) × IsTrue (are_tiled 1 (ranges_of governed) last)
+AreInOrder governed = (last : Place) × IsTrue (are_tiled 1 (governed_ranges governed) last)
 
 -- the piece that holds the place
 abbrev pub piece_at : List GovernedPiece → Place → Option GovernedPiece

@@ -48,15 +48,15 @@ everywhere = (record { from = 1; to = MOST_PLACES }, 4)
 
 -- the covers of a voter's casts in order of receipt: its blocks, and all places where it last cast
 -- as instructed, if it did
-abbrev pub covers_by : Capacity → Party → List BlockCast → Option ℕ → List Cover
-covers_by capacity voter casts None = filter_map (cover_of capacity voter) casts
-covers_by capacity voter casts (Some order) =
+abbrev pub vote_covers : Capacity → Party → List BlockCast → Option ℕ → List Cover
+vote_covers capacity voter casts None = filter_map (cover_of capacity voter) casts
+vote_covers capacity voter casts (Some order) =
     filter_map (cover_of capacity voter) (filter (is_before order) casts) ++ everywhere
     ∷ [] ++ filter_map (cover_of capacity voter) (filter (is_after order) casts)
 
 -- what a voter's casts leave of the places
-abbrev pub pieces_by : List BlockCast → (Party → Option ℕ) → Capacity → Party → List Piece
-pieces_by casts last capacity voter = pieces_after (covers_by capacity voter casts (last voter))
+abbrev pub vote_pieces : List BlockCast → (Party → Option ℕ) → Capacity → Party → List Piece
+vote_pieces casts last capacity voter = pieces_after (vote_covers capacity voter casts (last voter))
 
 -- the way of the newest tag of a place that has one
 abbrev pub way_at : Option Way → List Piece → Place → Option Way
@@ -72,7 +72,7 @@ abbrev pub cast_among : List BlockCast → (Party → Option ℕ) → Number →
     → Option Way
 cast_among casts last resolution share capacity voter =
     way_at (as_proxy capacity (instructed_way resolution share voter))
-    (pieces_by casts last capacity voter) share.place
+    (vote_pieces casts last capacity voter) share.place
 
 -- the valid vote of the share, by these blocks
 abbrev pub vote_among : List BlockCast → (Party → Option ℕ) → List Authority → Number → RegisterRow

@@ -1,13 +1,12 @@
 -- Laws of the count.
 use Rattle.std.specs.Prelude.{◌≡◌, true, ◌==◌, List, filter}
-use Rattle.desk_words.specs.Office.{is_tally}
+use Rattle.desk_words.specs.Office.{is_tally, are_rows}
 use Rattle.desk_words.specs.Seen.{Number}
 use Rattle.desk_words.specs.declared.records.Appointment.{Appointment}
 use Rattle.desk_words.specs.declared.records.Authority.{Authority}
 use Rattle.desk_words.specs.declared.records.CastMark.{CastMark}
 use Rattle.desk_words.specs.declared.records.Ending.{Ending}
 use Rattle.desk_words.specs.declared.records.RegisterRow.{RegisterRow}
-use Rattle.proxy_rules.specs.Shares.{are_rows}
 use Rattle.proxy_rules.specs.declared.papers.Cutoffs.{Cutoffs}
 use Rattle.vote_rules.specs.Tallies.{tally_of}
 

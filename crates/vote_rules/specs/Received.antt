@@ -41,8 +41,8 @@ abbrev pub is_past_member : Party → BlockCast → Bool
 is_past_member member cast = is_lt (name_cmp member cast.block.member)
 
 -- the blocks stand in the order of the members on whose shares they are cast
-abbrev pub AreByMember : List BlockCast → Type 0
-AreByMember blocks = IsSortedByKey (λ (cast : BlockCast). cast.block.member) name_cmp blocks
+abbrev pub AreInMemberOrder : List BlockCast → Type 0
+AreInMemberOrder blocks = IsSortedByKey (λ (cast : BlockCast). cast.block.member) name_cmp blocks
 
 -- as instructed
 abbrev pub is_as_instructed : CastKind → Bool

@@ -8,7 +8,7 @@ ghost use Rattle.desk_terms.specs.declared.kinds.Capacity.TheVariants.{Proxy};
 ghost use Rattle.desk_words.specs.declared.records.Appointment.{Appointment};
 ghost use Rattle.proxy_rules.specs.declared.pieces.GovernedPiece.{GovernedPiece};
 ghost use Rattle.vote_rules.specs.Ballots.{AreInOrder, capacity_for, governing_at, piece_at, vote_by, vote_by_governing, vote_by_proxy, vote_if, voters_for, ways_at};
-ghost use Rattle.vote_rules.specs.Covers.{pieces_by, way_at};
+ghost use Rattle.vote_rules.specs.Covers.{vote_pieces, way_at};
 ghost use Rattle.proxy_rules.specs.Instructions.{same_way};
 ghost use Rattle.vote_rules.specs.Votes.{common_way};
 
@@ -78,7 +78,7 @@ fn pieces_by_each<B: Blocks>(
 ) -> Result<Vec<B>, AllocError>
     ensures { IfOk result
         (λ each. map B.pieces each.items
-        ≡ map (pieces_by casts.now (get name_cmp instructed.now) capacity) voters.now) }
+        ≡ map (vote_pieces casts.now (get name_cmp instructed.now) capacity) voters.now) }
 {
     let mut each = Vec::new(alloc);
     for voter in voters {
@@ -102,11 +102,11 @@ impl<B: Blocks> Ballots<B> {
         ensures holders { IfOk result
             (λ ballots. map B.pieces ballots.holders.items
             ≡ map
-            (pieces_by casts.now (get name_cmp instructed.now) (capacity_for row.now.kind))
+            (vote_pieces casts.now (get name_cmp instructed.now) (capacity_for row.now.kind))
             (voters_for authorities.now row.now.kind row.now.member)) }
         ensures proxies { IfOk result
             (λ ballots. map B.pieces ballots.proxies.items
-            ≡ map (pieces_by casts.now (get name_cmp instructed.now) Proxy)
+            ≡ map (vote_pieces casts.now (get name_cmp instructed.now) Proxy)
             (map (λ (a : Appointment). a.proxy) appointed.now)) }
     {
         let voters = voters_for(alloc, authorities, row)?;

@@ -3,15 +3,15 @@
 ghost use Rattle.std.specs.Prelude.{◌≡◌, ◌≤◌, ◌<◌, ◌^◌, ℕ, List, [], true, IfOk, None, filter, map, sum_by};
 ghost use Rattle.std.specs.BTreeMap.{get};
 ghost use Rattle.desk_terms.specs.Names.{name_cmp};
-ghost use Rattle.desk_words.specs.Office.{are_numbered_after};
+ghost use Rattle.desk_words.specs.Office.{are_numbered_after, are_rows};
 ghost use Rattle.desk_words.specs.Registers.{all_shares};
 ghost use Rattle.desk_words.specs.declared.records.RegisterRow.{RegisterRow};
 ghost use Rattle.proxy_rules.specs.Holdings.{IsKept, are_tags, holding_by};
-ghost use Rattle.proxy_rules.specs.Shares.{are_rows, shares_of};
+ghost use Rattle.proxy_rules.specs.Shares.{shares_of};
 ghost use Rattle.proxy_rules.specs.Tiles.{places_in};
 ghost use Rattle.vote_rules.specs.Ballots.{AreInOrder, governing_at, vote_by};
 ghost use Rattle.vote_rules.specs.Covers.{vote_among};
-ghost use Rattle.vote_rules.specs.Received.{AreByMember, is_on_shares_of};
+ghost use Rattle.vote_rules.specs.Received.{AreInMemberOrder, is_on_shares_of};
 ghost use Rattle.vote_rules.specs.Sums.{FitsBoth, FitsMore, added, tally_over, tally_to, with_votes};
 ghost use Rattle.vote_rules.specs.Tallies.{share_at, tally_by, tally_of};
 
@@ -195,7 +195,7 @@ fn tally_rows(
     requires rows { are_rows papers.now.register.now ≡ true }
     requires tags { are_tags papers.now.appointments.now ≡ true }
     requires numbered { are_numbered_after [] papers.now.appointments.now ≡ true }
-    requires order { AreByMember casts.now.by_member.items }
+    requires order { AreInMemberOrder casts.now.by_member.items }
     ensures { IfOk result
         (λ tally. tally
         ≡ tally_by

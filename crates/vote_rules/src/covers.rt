@@ -5,7 +5,7 @@ ghost use Rattle.std.specs.FinSet as set;
 ghost use Rattle.std.specs.List.{filter_map};
 ghost use Rattle.desk_terms.specs.Names.{name_cmp};
 ghost use Rattle.share_blocks.specs.Tags.{is_tag};
-ghost use Rattle.vote_rules.specs.Covers.{cover_of, covers_by, everywhere, pieces_by, way_at, way_number, way_tagged};
+ghost use Rattle.vote_rules.specs.Covers.{cover_of, vote_covers, everywhere, vote_pieces, way_at, way_number, way_tagged};
 ghost use Rattle.vote_rules.specs.Received.{is_after, is_before};
 
 use crate::received::BlockCast;
@@ -144,7 +144,8 @@ fn covers_by(
     voter: Party,
     instructed: Option<usize>,
 ) -> Result<Vec<(Range, Tag)>, AllocError>
-    ensures { IfOk result (λ covers. covers.items ≡ covers_by capacity voter casts.now instructed) }
+    ensures { IfOk result (λ covers. covers.items
+        ≡ vote_covers capacity voter casts.now instructed) }
 {
     match instructed {
         None => covers_of(alloc, casts, capacity, voter),
@@ -169,7 +170,7 @@ pub(crate) fn pieces_by<B: Blocks>(
 ) -> Result<B, AllocError>
     ensures { IfOk result
         (λ blocks. B.pieces blocks
-        ≡ pieces_by casts.now (get name_cmp instructed.now) capacity voter) }
+        ≡ vote_pieces casts.now (get name_cmp instructed.now) capacity voter) }
 {
     let order = instructed.get(&voter).copied();
     let covers = covers_by(alloc, casts, capacity, voter, order)?;

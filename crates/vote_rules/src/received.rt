@@ -3,7 +3,7 @@ ghost use Rattle.std.specs.Prelude.{◌≡◌, ◌≤◌, ℕ, List, Some, None,
 ghost use Rattle.std.specs.BTreeMap.{get};
 ghost use Rattle.std.specs.List.{enumerate_from, position_from, position_or_len};
 ghost use Rattle.desk_terms.specs.Names.{name_cmp};
-ghost use Rattle.vote_rules.specs.Received.{AreByMember, block_on, blocks_on, is_from_member, is_instructed_on, is_on_shares_of, is_past_member, last_instructed};
+ghost use Rattle.vote_rules.specs.Received.{AreInMemberOrder, block_on, blocks_on, is_from_member, is_instructed_on, is_on_shares_of, is_past_member, last_instructed};
 
 use desk_words::{Block, CastKind, CastMark, Party};
 use std::alloc::{AllocError, Global};
@@ -77,7 +77,7 @@ fn blocks_by_member(
     casts: &[CastMark],
     resolution: u64,
 ) -> Result<Vec<BlockCast>, AllocError>
-    ensures order { IfOk result (λ blocks. AreByMember blocks.items) }
+    ensures order { IfOk result (λ blocks. AreInMemberOrder blocks.items) }
     ensures kept { IfOk result
         (λ blocks. (member : List ℕ)
         → filter (is_on_shares_of member) blocks.items
@@ -115,7 +115,7 @@ impl PollCasts {
         casts: &[CastMark],
         resolution: u64,
     ) -> Result<PollCasts, AllocError>
-        ensures order { IfOk result (λ on. AreByMember on.by_member.items) }
+        ensures order { IfOk result (λ on. AreInMemberOrder on.by_member.items) }
         ensures blocks { IfOk result
             (λ on. (member : List ℕ)
             → filter (is_on_shares_of member) on.by_member.items
@@ -174,7 +174,7 @@ fn count_to(blocks: &[BlockCast], member: Party) -> usize
 /// Of blocks in the order of the members on whose shares they are cast, those on the shares of
 /// this member, and those on the shares of members who come after it.
 pub(crate) fn parted_at(blocks: &[BlockCast], member: Party) -> (&[BlockCast], &[BlockCast])
-    requires { AreByMember blocks.now }
+    requires { AreInMemberOrder blocks.now }
     ensures own { result.0.now ≡ filter (is_on_shares_of member) blocks.now }
     ensures later { result.1.now ≡ filter (is_past_member member) blocks.now }
 {

@@ -1,6 +1,6 @@
 use Rattle.std.proofs.Common.{Some, subst, ap, sym, ◌∙◌}
 use Rattle.serde_json.specs.View.{view}
-use Rattle.desk_bodies.specs.Reads.{Reads}
+use Rattle.desk_bodies.specs.Reads.{ReadsData}
 use Rattle.desk_bodies.proofs.BodyLemmas.{body_of-bytes, body_of-nothing}
 use Rattle.desk_bodies.proofs.body.read_body.Goals as goal
 
@@ -10,4 +10,4 @@ returns-then-is_empty c =
 
 pub returns-else-is_empty : goal.returns-else-is_empty
 returns-else-is_empty c =
-    subst (Reads view c.read_value.result) (sym (body_of-bytes c.args.body.now (sym c.is_empty.ensures ∙ c.if-is_empty.false))) c.read_value.ensures
+    subst (ReadsData view c.read_value.result) (sym (body_of-bytes c.args.body.now (sym c.is_empty.ensures ∙ c.if-is_empty.false))) c.read_value.ensures

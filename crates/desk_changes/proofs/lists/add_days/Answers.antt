@@ -5,7 +5,7 @@ use Rattle.desk_lists.specs.Ordered.{ascends_by}
 use Rattle.desk_lists.proofs.Ascending.{ascends_by-take}
 use Rattle.desk_words.specs.Lists.{day_before}
 use Rattle.std.proofs.lemmas.Bool.{and_parts}
-use Rattle.desk_changes.specs.Writes.{Turns, no_days, days_added}
+use Rattle.desk_changes.specs.Writes.{Rewrites, no_days, days_added}
 use Rattle.desk_changes.proofs.TurnLemmas.{day_more, earlier}
 use Rattle.desk_changes.proofs.lists.add_days.Goals as goal
 
@@ -19,6 +19,6 @@ loop-day-preserved g c =
     let up : ascends_by day_before (take i all ++ it ∷ []) ≡ true = subst (λ l. ascends_by day_before l ≡ true) next (ascends_by-take nat_cmp_total (λ (day : ℕ). day) (i + 1) all asked.1) in
     record {
       same = c.in_ok-add.ensures.same_reference ∙ c.loop-day.invariant.same;
-      turns = subst (λ l. Turns {T = Unit {0}} g.S.Store c.args.tx.now.conn.now c.add.new.tx.conn.now (Ok tt) no_days (days_added l)) (sym next)
+      turns = subst (λ l. Rewrites {T = Unit {0}} g.S.Store c.args.tx.now.conn.now c.add.new.tx.conn.now (Ok tt) no_days (days_added l)) (sym next)
           (day_more g.S.Store c.args.tx.now.conn.now c.loop-day.tx.conn.now c.add.new.tx.conn.now c.in_ok-add.field-0 c.in_ok-add.ensures.commits (take i all) it (earlier (take i all) it up) c.loop-day.invariant.turns c.in_ok-add.ensures.added);
     }

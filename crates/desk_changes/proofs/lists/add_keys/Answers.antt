@@ -1,6 +1,6 @@
 use Rattle.std.proofs.Common.{◌++◌, ◌∷◌, [], Ok, take, sym, ap, subst, ◌∙◌}
 use Rattle.std.proofs.lemmas.List.{take_more}
-use Rattle.desk_changes.specs.Writes.{Turns, any_records, keys_added}
+use Rattle.desk_changes.specs.Writes.{Rewrites, any_records, keys_added}
 use Rattle.desk_changes.proofs.TurnLemmas.{key_more, turns_failed}
 use Rattle.desk_changes.proofs.lists.add_keys.Goals as goal
 
@@ -17,6 +17,6 @@ loop-key-preserved g c =
     let next = take_more all i it c.loop-key-test.true ∙ ap (λ z. take i all ++ z ∷ []) (sym c.key-item.is) in
     record {
       same = c.in_ok-add.ensures.same_reference ∙ c.loop-key.invariant.same;
-      turns = subst (λ l. Turns {T = Unit {0}} g.S.Store c.args.tx.now.conn.now c.add.new.tx.conn.now (Ok tt) any_records (keys_added l)) (sym next)
+      turns = subst (λ l. Rewrites {T = Unit {0}} g.S.Store c.args.tx.now.conn.now c.add.new.tx.conn.now (Ok tt) any_records (keys_added l)) (sym next)
           (key_more g.S.Store c.args.tx.now.conn.now c.loop-key.tx.conn.now c.add.new.tx.conn.now c.in_ok-add.field-0 c.in_ok-add.ensures.commits (take i all) it c.loop-key.invariant.turns c.in_ok-add.ensures.added);
     }

@@ -1,6 +1,6 @@
 use Rattle.std.proofs.Common.{◌≡◌, ◌+◌, ◌++◌, ◌∷◌, [], Ok, take, sym, ap, subst, ◌∙◌, arith, length}
 use Rattle.std.proofs.lemmas.List.{take_more, length-take-le}
-use Rattle.desk_changes.specs.Writes.{Turns, any_records, resolutions_added}
+use Rattle.desk_changes.specs.Writes.{Rewrites, any_records, resolutions_added}
 use Rattle.desk_changes.proofs.TurnLemmas.{resolution_more, turns_failed}
 use Rattle.desk_changes.proofs.meetings.add_resolutions.Goals as goal
 
@@ -19,7 +19,7 @@ loop-resolution-preserved g c =
     let numbered_so : c.loop-resolution.number + 1 ≡ 1 + length (take i all) = omega (arith, as_many, c.loop-resolution.invariant.counted) in
     record {
       same = c.in_ok-add.ensures.same_reference ∙ c.loop-resolution.invariant.same;
-      turns = subst (λ l. Turns {T = Unit {0}} g.S.Store c.args.tx.now.conn.now c.add.new.tx.conn.now (Ok tt) any_records (resolutions_added c.args.meeting l)) (sym next)
+      turns = subst (λ l. Rewrites {T = Unit {0}} g.S.Store c.args.tx.now.conn.now c.add.new.tx.conn.now (Ok tt) any_records (resolutions_added c.args.meeting l)) (sym next)
           (resolution_more g.S.Store c.args.tx.now.conn.now c.loop-resolution.tx.conn.now c.add.new.tx.conn.now c.in_ok-add.field-0 c.in_ok-add.ensures.commits c.args.meeting (take i all) it (c.loop-resolution.number + 1) numbered_so c.loop-resolution.invariant.turns c.in_ok-add.ensures.added);
       counted = omega (arith, c.loop-resolution.invariant.counted);
     }

@@ -1,6 +1,6 @@
 use Rattle.std.proofs.Common.{◌++◌, ◌∷◌, [], Ok, take, sym, ap, subst, ◌∙◌}
 use Rattle.std.proofs.lemmas.List.{take_more}
-use Rattle.desk_changes.specs.Writes.{Turns, any_records, rows_added}
+use Rattle.desk_changes.specs.Writes.{Rewrites, any_records, rows_added}
 use Rattle.desk_changes.proofs.TurnLemmas.{row_more, turns_failed}
 use Rattle.desk_changes.proofs.meetings.add_rows.Goals as goal
 
@@ -17,6 +17,6 @@ loop-row-preserved g c =
     let next = take_more all i it c.loop-row-test.true ∙ ap (λ z. take i all ++ z ∷ []) (sym c.row-item.is) in
     record {
       same = c.in_ok-add.ensures.same_reference ∙ c.loop-row.invariant.same;
-      turns = subst (λ l. Turns {T = Unit {0}} g.S.Store c.args.tx.now.conn.now c.add.new.tx.conn.now (Ok tt) any_records (rows_added c.args.meeting l)) (sym next)
+      turns = subst (λ l. Rewrites {T = Unit {0}} g.S.Store c.args.tx.now.conn.now c.add.new.tx.conn.now (Ok tt) any_records (rows_added c.args.meeting l)) (sym next)
           (row_more g.S.Store c.args.tx.now.conn.now c.loop-row.tx.conn.now c.add.new.tx.conn.now c.in_ok-add.field-0 c.in_ok-add.ensures.commits c.args.meeting (take i all) it c.loop-row.invariant.turns c.in_ok-add.ensures.added);
     }

@@ -1,7 +1,7 @@
 use Rattle.std.proofs.Common.{Ok, subst}
 use Rattle.desk_words.specs.declared.change.Change.TheVariants as change
 use Rattle.desk_words.specs.declared.change.MeetingChange.TheVariants as meeting_change
-use Rattle.desk_changes.specs.Writes.{Turns, any_records, rows_added}
+use Rattle.desk_changes.specs.Writes.{Rewrites, any_records, rows_added}
 use Rattle.desk_changes.proofs.SetLemmas.{register_written, rows_turned, rows_unloaded}
 use Rattle.desk_changes.proofs.TurnLemmas.{writes_failed}
 use Rattle.desk_changes.proofs.meetings.set_register.Goals as goal
@@ -25,6 +25,6 @@ pub returns-clause-writes : goal.returns-clause-writes
 returns-clause-writes g c =
     let old = c.args.tx.now.conn.now in
     let mid = c.add_rows.new.tx.conn.now in
-    let turns = subst (λ l. Turns {T = Unit {0}} g.S.Store c.empty.new.tx.conn.now mid (Ok tt) any_records (rows_added c.args.meeting l)) c.rows.ensures.value c.in_ok-add_rows.ensures.turns in
+    let turns = subst (λ l. Rewrites {T = Unit {0}} g.S.Store c.empty.new.tx.conn.now mid (Ok tt) any_records (rows_added c.args.meeting l)) c.rows.ensures.value c.in_ok-add_rows.ensures.turns in
     let turned = rows_turned g.S.Store old c.empty.new.tx.conn.now mid c.in_ok-empty.field-0 c.in_ok-empty.ensures.commits (Ok tt) c.args.meeting c.args.rows.now c.in_ok-empty.ensures.emptied turns in
     register_written g.S.Store old mid c.load.new.tx.conn.now c.in_ok-load.field-0 c.args.meeting c.args.rows.now c.rows.ensures.kept turned c.in_ok-load.ensures.set c.in_ok-load.ensures.commits

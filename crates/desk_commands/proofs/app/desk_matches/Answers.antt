@@ -8,7 +8,7 @@ use Rattle.clap.proofs.OnLiterals.{clap_on_literals}
 use Rattle.desk_commands.specs.App as spec
 use Rattle.desk_commands.proofs.app.desk_matches.Goals as goal
 
-simple : is_simple spec.desk ≡ true
+simple : is_simple spec.desk_app ≡ true
 unfolding clap_on_literals
 simple = refl
 
@@ -17,7 +17,7 @@ returns-clause-named c =
     let is = c.in_ok-command.ensures.0 in
     IfOk-weaker c.try_get_matches_from.result _ _ (λ m h. (h (ap is_simple is ∙ simple)).1 ∙ ap (λ (a : App). subcommand_of a (map string_bytes c.args.words.now)) is) c.try_get_matches_from.ensures.matches
 
-free : is_simple_and_free spec.desk ≡ true
+free : is_simple_and_free spec.desk_app ≡ true
 unfolding clap_on_literals
 free = refl
 

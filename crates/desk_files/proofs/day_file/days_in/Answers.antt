@@ -1,9 +1,10 @@
 use Rattle.std.proofs.Common.{◌≡◌, ◌+◌, ◌<◌, suc, length, ap, sym, ◌∙◌, arith}
 use Rattle.std.proofs.lemmas.Bool.Decides.{nat_tests}
 use Rattle.std.specs.BTreeSet.{keys}
+use Rattle.desk_terms.specs.Results.{◌>>=◌}
 use Rattle.desk_lines.specs.Lines.{lines_of, after_line}
 use Rattle.desk_files.specs.Days.{days_in, day_file, with_line}
-use Rattle.desk_files.specs.Faults.{itself, ◌>>=◌}
+use Rattle.desk_terms.specs.Itself.{itself}
 use Rattle.desk_files.proofs.DayLemmas.{strip-le, after_line-less, days_in-cons}
 use Rattle.desk_files.proofs.RowLemmas.{gives-fault}
 use Rattle.desk_files.proofs.day_file.days_in.Goals as goal

@@ -1,5 +1,6 @@
 use Rattle.std.proofs.Common.{ap}
-use Rattle.desk_files.specs.Faults.{itself, ◌>>=◌}
+use Rattle.desk_terms.specs.Results.{◌>>=◌}
+use Rattle.desk_terms.specs.Itself.{itself}
 use Rattle.desk_files.specs.Keys.{as_key_list, key_file}
 use Rattle.desk_files.proofs.RowLemmas.{gives-fault, gives-same}
 use Rattle.desk_files.proofs.key_file.keys_in.Goals as goal

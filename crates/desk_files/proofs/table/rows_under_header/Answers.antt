@@ -4,7 +4,7 @@ use Rattle.csv.specs.Reading.{Reached, default_config, strip_bom}
 use Rattle.csv.specs.Records.{fields_of}
 use Rattle.csv.specs.declared.parser.State.TheVariants as st
 use Rattle.csv.proofs.ReadFacts.{rows-end, rows-more}
-use Rattle.desk_files.specs.Faults.{◌>>=◌}
+use Rattle.desk_terms.specs.Results.{◌>>=◌}
 use Rattle.desk_files.specs.Tables.{left_of_slice, table_of, under_header}
 use Rattle.desk_files.proofs.RecordLemmas.{fewer-left}
 use Rattle.desk_files.proofs.RowLemmas.{rows_in-more, rows-whole, rows-faulty, gives-fault, gives-same}

@@ -1,5 +1,5 @@
 use Rattle.sqlite.specs.Held.{state}
-use Rattle.desk_http.specs.Answers.{call_in}
+use Rattle.desk_http.specs.Answers.{call_received}
 use Rattle.desk_http.proofs.AnswerLemmas.{always_err, makes_none, not_asked, refused_done}
 use Rattle.desk_http.proofs.answers.answer.Goals as goal
 
@@ -10,7 +10,7 @@ returns-in-Refused-clause-done g c = λ clean office stands.
 pub returns-in-Refused-clause-makes : goal.returns-in-Refused-clause-makes
 returns-in-Refused-clause-makes g c =
     let s = state g.S.Store c.args.desk.now in
-    makes_none (λ office. call_in office c.args.moment c.args.received) s s (not_asked s c.rests.ensures)
+    makes_none (λ office. call_received office c.args.moment c.args.received) s s (not_asked s c.rests.ensures)
 
 pub returns-in-Refused-clause-unmade : goal.returns-in-Refused-clause-unmade
 returns-in-Refused-clause-unmade g c = always_err c.refused.result (not_asked (state g.S.Store c.args.desk.now) c.rests.ensures)

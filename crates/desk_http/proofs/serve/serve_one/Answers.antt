@@ -2,7 +2,7 @@ use Rattle.std.proofs.Common.{refl}
 use Rattle.sqlite.specs.Held.{state}
 use Rattle.desk_terms.specs.declared.refusal.Refusal.TheVariants.{Key}
 use Rattle.desk_requests.specs.declared.received.Received.TheVariants.{Refused}
-use Rattle.desk_http.specs.Answers.{call_in}
+use Rattle.desk_http.specs.Answers.{call_received}
 use Rattle.desk_http.proofs.AnswerLemmas.{makes_none, not_asked}
 use Rattle.desk_http.proofs.serve.serve_one.Goals as goal
 
@@ -12,4 +12,4 @@ returns-in-Err-clause-unread g c = λ _. (not_asked (state g.S.Store c.args.desk
 pub returns-in-Err-clause-makes : goal.returns-in-Err-clause-makes
 returns-in-Err-clause-makes g c =
     let s = state g.S.Store c.args.desk.now in
-    (Refused Key, makes_none (λ office. call_in office c.args.moment (Refused Key)) s s (not_asked s c.rests.ensures))
+    (Refused Key, makes_none (λ office. call_received office c.args.moment (Refused Key)) s s (not_asked s c.rests.ensures))

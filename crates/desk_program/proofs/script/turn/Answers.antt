@@ -4,7 +4,7 @@ use Rattle.std.specs.declared.alloc.AllocError.{AllocError}
 use Rattle.std.specs.declared.alloc.Global.{Global}
 use Rattle.std.specs.declared.vec.Vec.{Vec}
 use Rattle.std.proofs.lemmas.Result.{err_from_is_err_and}
-use Rattle.desk_lines.specs.Reading.{Gives, unread}
+use Rattle.desk_lines.specs.Reading.{NextIs, unread}
 use Rattle.desk_lines.specs.declared.outcome.NextLine.{NextLine}
 use Rattle.desk_lines.proofs.Giving.{Keeps-same}
 use Rattle.desk_terms.specs.declared.refusal.Refusal.TheVariants.{TooLarge}
@@ -32,7 +32,7 @@ returns-in_err-write_answer-clause-stops g c =
     let line : List ℕ = c.next_line.new.self.line in
     let office = c.args.book.now in
     let text : Result (Vec ℕ Global) AllocError = c.match-branch-2.text in
-    let given = λ (next : NextLine) (is : c.in_ok-next_line.field-0 ≡ next). subst (λ (n : NextLine). Gives n before after line) is c.in_ok-next_line.ensures.given in
+    let given = λ (next : NextLine) (is : c.in_ok-next_line.field-0 ≡ next). subst (λ (n : NextLine). NextIs n before after line) is c.in_ok-next_line.ensures.given in
     rw (p.1, p.2) (elim c.match-branch-2.branch [
       | in-TooLong w ↦
           stops-too_long before after left line office text _ _ (given _ w.in-TooLong.is)

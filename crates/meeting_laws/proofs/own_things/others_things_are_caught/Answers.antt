@@ -1,5 +1,5 @@
 use Rattle.std.specs.Prelude.{[], ◌∷◌}
-use Rattle.meeting_laws.specs.WrongAnswers.{meeting_with, vote_of_another}
+use Rattle.meeting_laws.specs.WrongAnswers.{meeting_with_casts, vote_of_another}
 use Rattle.meeting_laws.specs.WrongOwnThings.{demands_of_all, meeting_with_demand, meeting_with_presence, presence_of_any, quiet_meeting, votes_of_all}
 use Rattle.meeting_laws.proofs.WrongTellings.{caught_by, demands_more, presence_more, votes_more}
 use Rattle.meeting_laws.proofs.own_things.others_things_are_caught.Goals as goal
@@ -14,7 +14,7 @@ pub returns-clause-demands : goal.returns-clause-demands
 returns-clause-demands c = demands_more
 
 pub returns-clause-votes_caught : goal.returns-clause-votes_caught
-returns-clause-votes_caught c = caught_by votes_of_all quiet_meeting (meeting_with (vote_of_another ∷ [])) votes_more
+returns-clause-votes_caught c = caught_by votes_of_all quiet_meeting (meeting_with_casts (vote_of_another ∷ [])) votes_more
 
 pub returns-clause-presence_caught : goal.returns-clause-presence_caught
 returns-clause-presence_caught c = caught_by presence_of_any quiet_meeting meeting_with_presence presence_more

@@ -6,7 +6,7 @@ use Rattle.desk_words.specs.declared.office.OfficeLists.{OfficeLists}
 use Rattle.desk_words.specs.declared.records.RegisterRow.{RegisterRow}
 use Rattle.desk_schema.specs.Contents as table
 use Rattle.desk_records.proofs.ListChanges.{the_register}
-use Rattle.office_lists.specs.Own.{are_rows}
+use Rattle.desk_words.specs.Office.{are_rows}
 use Rattle.party_reading.specs.Lists.{register_in}
 use Rattle.party_reading.proofs.FoundLemmas.{items_told, yields_tell}
 use Rattle.party_reading.proofs.MeetingLemmas.{list_is}

@@ -3,7 +3,7 @@ use Rattle.desk_words.specs.Finding.{meeting_named}
 use Rattle.desk_words.specs.declared.office.MeetingLists.{MeetingLists}
 use Rattle.office_answers.specs.Reads.{polls_alone}
 use Rattle.party_reading.proofs.TellingLemmas.{told_after, told_both, told_so, told_stop}
-use Rattle.meeting_reading.specs.Parts.{shares_alone, shares_in, with_shares}
+use Rattle.meeting_reading.specs.Parts.{shares_alone, share_lists_in, with_shares}
 use Rattle.meeting_reading.proofs.PartLemmas.{joined, none_so}
 use Rattle.meeting_reading.proofs.parts.shares_alone.Goals as goal
 
@@ -22,4 +22,4 @@ pub returns-clause-told : goal.returns-clause-told
 returns-clause-told g c =
     told_so g.S.Store _ _ _ _ c.in_ok-shares.shares _
     (told_both g.S.Store _ _ _ c.in_ok-lists.field-0 c.in_ok-shares.shares _ _ c.in_ok-lists.ensures.told c.in_ok-shares.ensures.told)
-    (λ office kept p. ap (λ (m : MeetingLists). Some m) c.with_shares.ensures ∙ joined polls_alone shares_alone shares_in with_shares (λ m. refl) (meeting_named office.meetings c.args.meeting) c.in-Some.lists c.in_ok-shares.shares (sym c.in-Some.is ∙ p.0) p.1)
+    (λ office kept p. ap (λ (m : MeetingLists). Some m) c.with_shares.ensures ∙ joined polls_alone shares_alone share_lists_in with_shares (λ m. refl) (meeting_named office.meetings c.args.meeting) c.in-Some.lists c.in_ok-shares.shares (sym c.in-Some.is ∙ p.0) p.1)

@@ -1,11 +1,10 @@
 use Rattle.std.proofs.Common.{◌≡◌, [], ap, ◌∙◌}
 use Rattle.std.proofs.lemmas.Result.{IfOk-weaker}
-use Rattle.desk_words.specs.Office.{are_numbered_after}
+use Rattle.desk_words.specs.Office.{are_numbered_after, are_rows}
 use Rattle.proxy_rules.specs.Holdings.{are_tags}
-use Rattle.proxy_rules.specs.Shares.{are_rows}
 use Rattle.poll_rules.specs.Demands.{demand_of}
 use Rattle.poll_rules.specs.declared.demand.Demand.{Demand}
-use Rattle.office_answers.specs.Attendance.{demand_in}
+use Rattle.office_answers.specs.Attendance.{demand_noted}
 use Rattle.desk_words.proofs.OfficeFacts.{meeting_numbered}
 use Rattle.office_answers.proofs.MeetingRules.{meeting_rows, meeting_tags}
 use Rattle.office_answers.proofs.attendance.demand_in.Goals as goal
@@ -26,6 +25,6 @@ returns c =
     let is = c.papers_of.ensures in
     let number = c.args.resolution in
     let read = demand_of c.cutoffs-cutoffs.result papers.register.now papers.appointments.now papers.endings.now papers.authorities.now papers.demands.now number in
-    let due = demand_in c.args.lists.now c.args.closed.now c.args.now number in
+    let due = demand_noted c.args.lists.now c.args.closed.now c.args.now number in
     let same : read ≡ due = λ i. demand_of (c.cutoffs-cutoffs.ensures i) (is.register i) (is.appointments i) (is.endings i) (is.authorities i) (is.demands i) number in
     IfOk-weaker c.demand_reached.result (λ (demand : Demand). demand ≡ read) (λ (demand : Demand). demand ≡ due) (λ demand e. e ∙ same) c.demand_reached.ensures

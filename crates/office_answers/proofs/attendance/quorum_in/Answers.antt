@@ -1,8 +1,7 @@
 use Rattle.std.proofs.Common.{[], ap, ◌∙◌}
 use Rattle.desk_lists.specs.Ordered.{differ_by}
-use Rattle.desk_words.specs.Office.{are_numbered_after, same_presence}
+use Rattle.desk_words.specs.Office.{are_numbered_after, same_presence, are_rows}
 use Rattle.proxy_rules.specs.Holdings.{are_tags}
-use Rattle.proxy_rules.specs.Shares.{are_rows}
 use Rattle.desk_words.proofs.OfficeFacts.{meeting_facts, meeting_numbered}
 use Rattle.office_answers.proofs.MeetingRules.{meeting_rows, meeting_tags}
 use Rattle.office_answers.proofs.attendance.quorum_in.Goals as goal

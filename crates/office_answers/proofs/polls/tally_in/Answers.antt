@@ -1,10 +1,9 @@
 use Rattle.std.proofs.Common.{◌≡◌, [], ap, sym, ◌∙◌}
 use Rattle.std.proofs.lemmas.Result.{IfOk-weaker}
-use Rattle.desk_words.specs.Office.{are_numbered_after}
+use Rattle.desk_words.specs.Office.{are_numbered_after, are_rows}
 use Rattle.desk_words.specs.declared.records.Tally.{Tally}
 use Rattle.proxy_rules.specs.Cutoffs.{cutoffs_of}
 use Rattle.proxy_rules.specs.Holdings.{are_tags}
-use Rattle.proxy_rules.specs.Shares.{are_rows}
 use Rattle.vote_rules.specs.Tallies.{tally_of}
 use Rattle.office_answers.specs.Polls.{tally_in}
 use Rattle.desk_words.proofs.OfficeFacts.{meeting_numbered}

@@ -1,7 +1,7 @@
 use Rattle.std.proofs.Common.{◌≡◌, None, subst, sym, ◌∙◌}
 use Rattle.desk_lists.specs.Sorting.{sort_by}
 use Rattle.desk_words.specs.Registers.{member_before, register_of}
-use Rattle.office_lists.specs.Own.{are_rows}
+use Rattle.desk_words.specs.Office.{are_rows}
 use Rattle.office_lists.proofs.ListLemmas.{limit_so, register_refused, wrong_for}
 use Rattle.office_lists.proofs.lists.register_rows.Goals as goal
 

@@ -4,7 +4,7 @@ use Rattle.std.proofs.lemmas.Bool.Decides.{nat_tests}
 use Rattle.desk_lists.specs.Ordered.{ascends_by}
 use Rattle.desk_lists.specs.Sorting.{sort_by}
 use Rattle.desk_records.specs.Office.{number_before}
-use Rattle.office_lists.specs.Own.{are_numbered_from}
+use Rattle.office_lists.specs.Own.{resolutions_number_from}
 use Rattle.office_lists.proofs.ListLemmas.{limit_so, numbers_refused, resolutions_made, resolutions_refused, too_many, wrong_numbers}
 use Rattle.office_lists.proofs.lists.resolution_list.Goals as goal
 
@@ -20,12 +20,12 @@ returns-then-len-gt-MOST_RESOLUTIONS c =
 pub returns-then-not-are_numbered : goal.returns-then-not-are_numbered
 returns-then-not-are_numbered c =
     wrong_numbers c.args.rows c.in-Some.rows.items (c.in-Some.ensures.some ∙ ap (sort_by number_before) c.into_vec.ensures)
-    (ap (are_numbered_from 1) (sym c.deref.ensures.value) ∙ sym c.are_numbered.ensures ∙ c.if-not-are_numbered.true)
+    (ap (resolutions_number_from 1) (sym c.deref.ensures.value) ∙ sym c.are_numbered.ensures ∙ c.if-not-are_numbered.true)
 
 pub returns-in-Ok : goal.returns-in-Ok
 returns-in-Ok c =
     resolutions_made c.args.rows c.in-Some.rows.items c.in-Ok.resolutions (c.in-Some.ensures.some ∙ ap (sort_by number_before) c.into_vec.ensures)
-    (ap (are_numbered_from 1) (sym c.deref.ensures.value) ∙ sym c.are_numbered.ensures ∙ c.if-not-are_numbered.false)
+    (ap (resolutions_number_from 1) (sym c.deref.ensures.value) ∙ sym c.are_numbered.ensures ∙ c.if-not-are_numbered.false)
     (c.in-Ok.ensures.value ∙ c.in_ok-resolutions.ensures)
 
 pub returns-in-Err : goal.returns-in-Err

@@ -6,7 +6,7 @@ use Rattle.desk_words.specs.Office.{is_meeting, is_office}
 use Rattle.desk_rows.specs.declared.kept.MeetingRow.{MeetingRow}
 use Rattle.desk_records.specs.Office.{lists_of_all, office_of_records}
 use Rattle.office_lists.specs.Flat.{flat_with}
-use Rattle.office_lists.specs.Giving.{all_lists_own, all_name_meetings, are_meeting_rows, own_of}
+use Rattle.office_lists.specs.Giving.{all_lists_own, all_name_meetings, are_meeting_rows, own_records_of}
 use Rattle.office_lists.specs.Yields.{Yields}
 use Rattle.office_lists.proofs.ListLemmas.{cause_by}
 use Rattle.office_lists.proofs.OfficeLemmas.{days_wrong, keys_wrong, lists_same, meetings_wrong, names_cause, office_made}
@@ -50,7 +50,7 @@ returns-in_err-lists_from c =
     let is : c.from_residual-in_err-lists_from.result ≡ Err c.in_err-lists_from.field-0.0 = search rules in
     let all = c.in_ok-meetings.meetings.items in
     let lists : all_lists_own all ≡ lists_of_all flat flat.meetings =
-    ap all_lists_own (c.in_ok-meetings.ensures.made ∙ ap (map (own_of i.records)) c.as_slice.ensures) ∙ lists_same i.keys i.closed i.meetings i.records i.meetings in
+    ap all_lists_own (c.in_ok-meetings.ensures.made ∙ ap (map (own_records_of i.records)) c.as_slice.ensures) ∙ lists_same i.keys i.closed i.meetings i.records i.meetings in
     subst (λ r. Yields is_office r (office_of_records c.args.flat)) (sym is) (subst (λ f. Yields is_office (Err c.in_err-lists_from.field-0.0) (office_of_records f)) same
     (cause_by (list_all is_meeting) is_office c.in_err-lists_from.field-0.0 (all_lists_own all) (office_of_records flat) (λ wrong. meetings_wrong flat (λ l h. wrong l (lists ∙ h))) c.in_err-lists_from.ensures))
 
@@ -61,7 +61,7 @@ returns c =
     let same : flat ≡ c.args.flat = c.flat.view_is in
     let all = c.in_ok-meetings.meetings.items in
     let lists : all_lists_own all ≡ lists_of_all flat flat.meetings =
-    ap all_lists_own (c.in_ok-meetings.ensures.made ∙ ap (map (own_of i.records)) c.as_slice.ensures) ∙ lists_same i.keys i.closed i.meetings i.records i.meetings in
+    ap all_lists_own (c.in_ok-meetings.ensures.made ∙ ap (map (own_records_of i.records)) c.as_slice.ensures) ∙ lists_same i.keys i.closed i.meetings i.records i.meetings in
     let known : all_name_meetings i.records i.meetings ≡ true = ap (all_name_meetings i.records) (sym c.as_slice.ensures) ∙ c.in_ok-meetings.ensures.named in
     ap office_of_records (sym same)
     ∙ office_made flat c.keys.inside.rows.items c.closed-2.inside.days.items c.in_ok-lists_from.field-0 known (c.in_ok-keys.ensures ∙ ap (λ l. Some l) (sym c.keys.view_is))

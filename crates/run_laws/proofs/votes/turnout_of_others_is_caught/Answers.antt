@@ -1,5 +1,5 @@
 use Rattle.run_laws.specs.WrongCounts.{meeting_of_two, tells_turnout_of_others, vote_and_declare_another}
-use Rattle.run_laws.specs.WrongTellings.{office_of}
+use Rattle.meeting_laws.specs.WrongOfficeReads.{lone_office}
 use Rattle.run_laws.proofs.WrongCloses.{others_told, told_caught, told_caught_in_steps}
 use Rattle.run_laws.proofs.votes.turnout_of_others_is_caught.Goals as goal
 
@@ -7,7 +7,7 @@ pub returns-clause-apart : goal.returns-clause-apart
 returns-clause-apart c = others_told
 
 pub returns-clause-caught : goal.returns-clause-caught
-returns-clause-caught c = told_caught tells_turnout_of_others (office_of meeting_of_two) vote_and_declare_another others_told
+returns-clause-caught c = told_caught tells_turnout_of_others (lone_office meeting_of_two) vote_and_declare_another others_told
 
 pub returns-clause-steps_caught : goal.returns-clause-steps_caught
-returns-clause-steps_caught c = told_caught_in_steps tells_turnout_of_others (office_of meeting_of_two) vote_and_declare_another others_told
+returns-clause-steps_caught c = told_caught_in_steps tells_turnout_of_others (lone_office meeting_of_two) vote_and_declare_another others_told

@@ -1,4 +1,5 @@
-use Rattle.run_laws.specs.WrongTellings.{both_authorise, limits_all, meeting_with_authorities, member_authorises, office_of}
+use Rattle.meeting_laws.specs.WrongOfficeReads.{lone_office}
+use Rattle.run_laws.specs.WrongTellings.{both_authorise, limits_all, meeting_with_authorities, member_authorises}
 use Rattle.run_laws.specs.WrongWays.{the_member}
 use Rattle.run_laws.proofs.RunLemmas.{runs_isolated}
 use Rattle.run_laws.proofs.WrongRuns.{caught_by, limits_apart}
@@ -8,7 +9,7 @@ pub returns-clause-apart : goal.returns-clause-apart
 returns-clause-apart c = limits_apart
 
 pub returns-clause-caught : goal.returns-clause-caught
-returns-clause-caught c = caught_by limits_all the_member (office_of meeting_with_authorities) member_authorises both_authorise limits_apart
+returns-clause-caught c = caught_by limits_all the_member (lone_office meeting_with_authorities) member_authorises both_authorise limits_apart
 
 pub returns-clause-steps_caught : goal.returns-clause-steps_caught
-returns-clause-steps_caught c = λ steps. caught_by limits_all the_member (office_of meeting_with_authorities) member_authorises both_authorise limits_apart (runs_isolated limits_all steps)
+returns-clause-steps_caught c = λ steps. caught_by limits_all the_member (lone_office meeting_with_authorities) member_authorises both_authorise limits_apart (runs_isolated limits_all steps)

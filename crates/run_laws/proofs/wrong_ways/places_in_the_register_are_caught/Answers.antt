@@ -1,4 +1,5 @@
-use Rattle.run_laws.specs.WrongTellings.{loaded_alone, loaded_both, meeting_unloaded, office_of, tells_the_place, the_other}
+use Rattle.meeting_laws.specs.WrongOfficeReads.{lone_office}
+use Rattle.run_laws.specs.WrongTellings.{loaded_alone, loaded_both, meeting_unloaded, tells_the_place, the_other}
 use Rattle.run_laws.proofs.RunLemmas.{runs_isolated}
 use Rattle.run_laws.proofs.WrongRuns.{caught_by, place_apart}
 use Rattle.run_laws.proofs.wrong_ways.places_in_the_register_are_caught.Goals as goal
@@ -7,7 +8,7 @@ pub returns-clause-apart : goal.returns-clause-apart
 returns-clause-apart c = place_apart
 
 pub returns-clause-caught : goal.returns-clause-caught
-returns-clause-caught c = caught_by tells_the_place the_other (office_of meeting_unloaded) loaded_alone loaded_both place_apart
+returns-clause-caught c = caught_by tells_the_place the_other (lone_office meeting_unloaded) loaded_alone loaded_both place_apart
 
 pub returns-clause-steps_caught : goal.returns-clause-steps_caught
-returns-clause-steps_caught c = λ steps. caught_by tells_the_place the_other (office_of meeting_unloaded) loaded_alone loaded_both place_apart (runs_isolated tells_the_place steps)
+returns-clause-steps_caught c = λ steps. caught_by tells_the_place the_other (lone_office meeting_unloaded) loaded_alone loaded_both place_apart (runs_isolated tells_the_place steps)

@@ -1,4 +1,5 @@
-use Rattle.run_laws.specs.WrongTellings.{meeting_with_proxy, member_asks, office_of, proxy_votes_first, tells_votes_on_shares}
+use Rattle.meeting_laws.specs.WrongOfficeReads.{lone_office}
+use Rattle.run_laws.specs.WrongTellings.{meeting_with_proxy, member_asks, proxy_votes_first, tells_votes_on_shares}
 use Rattle.run_laws.specs.WrongWays.{the_member}
 use Rattle.run_laws.proofs.RunLemmas.{runs_isolated}
 use Rattle.run_laws.proofs.WrongRuns.{caught_by, shares_apart}
@@ -8,7 +9,7 @@ pub returns-clause-apart : goal.returns-clause-apart
 returns-clause-apart c = shares_apart
 
 pub returns-clause-caught : goal.returns-clause-caught
-returns-clause-caught c = caught_by tells_votes_on_shares the_member (office_of meeting_with_proxy) member_asks proxy_votes_first shares_apart
+returns-clause-caught c = caught_by tells_votes_on_shares the_member (lone_office meeting_with_proxy) member_asks proxy_votes_first shares_apart
 
 pub returns-clause-steps_caught : goal.returns-clause-steps_caught
-returns-clause-steps_caught c = λ steps. caught_by tells_votes_on_shares the_member (office_of meeting_with_proxy) member_asks proxy_votes_first shares_apart (runs_isolated tells_votes_on_shares steps)
+returns-clause-steps_caught c = λ steps. caught_by tells_votes_on_shares the_member (lone_office meeting_with_proxy) member_asks proxy_votes_first shares_apart (runs_isolated tells_votes_on_shares steps)

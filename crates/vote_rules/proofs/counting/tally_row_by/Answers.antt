@@ -11,7 +11,7 @@ use Rattle.proxy_rules.specs.Shares.{shares_of}
 use Rattle.proxy_rules.specs.Tiles.{places_in}
 use Rattle.proxy_rules.specs.declared.holdings.Holding.{Holding}
 use Rattle.vote_rules.specs.Ballots.{AreInOrder, IsUncut, capacity_for, cuts_of, governing_at, vote_by, voters_for}
-use Rattle.vote_rules.specs.Covers.{pieces_by, vote_among}
+use Rattle.vote_rules.specs.Covers.{vote_pieces, vote_among}
 use Rattle.vote_rules.specs.Sums.{tally_over, tally_to}
 use Rattle.vote_rules.specs.Tallies.{share_at}
 use Rattle.vote_rules.proofs.CountLemmas.{places_in-tiles}
@@ -43,11 +43,11 @@ returns g c =
     let proxy_of : Appointment → List ℕ = λ a. a.proxy in
     let voters = voters_for authorities row.kind row.member in
     let capacity = capacity_for row.kind in
-    let holders : map g.B.Blocks.pieces c.in_ok-ballots.ballots.holders.items ≡ map (pieces_by casts last capacity) voters =
+    let holders : map g.B.Blocks.pieces c.in_ok-ballots.ballots.holders.items ≡ map (vote_pieces casts last capacity) voters =
     c.in_ok-ballots.ensures.holders in
-    let proxies : map g.B.Blocks.pieces c.in_ok-ballots.ballots.proxies.items ≡ map (pieces_by casts last Proxy) (map proxy_of holding.appointed) =
+    let proxies : map g.B.Blocks.pieces c.in_ok-ballots.ballots.proxies.items ≡ map (vote_pieces casts last Proxy) (map proxy_of holding.appointed) =
     c.in_ok-ballots.ensures.proxies
-    ∙ ap (λ l. map (pieces_by casts last Proxy) (map proxy_of l)) c.as_slice-appointed.ensures in
+    ∙ ap (λ l. map (vote_pieces casts last Proxy) (map proxy_of l)) c.as_slice-appointed.ensures in
     let uncut : All (IsUncut (cuts_of governed casts)) ranges =
     subst (λ cuts. All (IsUncut cuts) ranges) (λ i. cuts_of (c.as_slice.ensures.value i) casts) c.in_ok-ranges.ensures.uncut in
     IfOk-weaker c.tally_over.result

@@ -12,7 +12,7 @@ use Rattle.proxy_rules.proofs.ShareLemmas.{all_shares-le}
 use Rattle.proxy_rules.specs.Shares.{shares_of}
 use Rattle.vote_rules.specs.Casts.{Share}
 use Rattle.vote_rules.specs.Covers.{vote_among}
-use Rattle.vote_rules.specs.Received.{AreByMember, is_on_shares_of, is_past_member}
+use Rattle.vote_rules.specs.Received.{AreInMemberOrder, is_on_shares_of, is_past_member}
 use Rattle.vote_rules.specs.Sums.{FitsBoth, added, tally_to}
 use Rattle.vote_rules.specs.Tallies.{share_at, tally_by}
 use Rattle.vote_rules.specs.declared.received.BlockCast.{BlockCast}
@@ -31,7 +31,7 @@ tally_row-requires c =
 pub loop-row-init : goal.loop-row-init
 loop-row-init c =
     let whole = c.as_slice-left.ensures.value in (
-      subst AreByMember (sym whole) c.requires.order,
+      subst AreInMemberOrder (sym whole) c.requires.order,
       (λ k d le lt. ap (filter (is_on_shares_of (get_or c.args.papers.now.register.now k d).member)) whole),
       refl,
     )
@@ -68,7 +68,7 @@ loop-row-preserved c =
     let more : c.in_ok-more.more ≡ tally_to (vote row) (shares_of row) =
     c.in_ok-more.ensures ∙ ap (λ casts. tally_to (λ place. vote_among casts last papers.authorities.now c.args.resolution row (share row place)) (shares_of row)) on_row in
     let later = sym c.parted_at.ensures.later in (
-      subst AreByMember later (kept-sorted nat_list_cmp_total (λ (cast : BlockCast). cast.block.member) (is_past_member row.member) left c.loop-row.invariant.0),
+      subst AreInMemberOrder later (kept-sorted nat_list_cmp_total (λ (cast : BlockCast). cast.block.member) (is_past_member row.member) left c.loop-row.invariant.0),
       subst (HasRest rows blocks (i + 1)) later (rest_after rows blocks left i row c.requires.rows c.loop-row.invariant.1 c.loop-row-test.true c.row-item.is),
       c.add-tally.ensures
           ∙ ap (λ t. added t c.in_ok-more.more) c.loop-row.invariant.2
