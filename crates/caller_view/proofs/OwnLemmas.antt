@@ -15,13 +15,14 @@ use Rattle.desk_words.specs.declared.records.Meeting.{Meeting}
 use Rattle.desk_words.specs.declared.records.Poll.{Poll}
 use Rattle.desk_words.specs.declared.request.NewCast.{NewCast}
 use Rattle.desk_words.specs.declared.request.PartyRequest.{PartyRequest}
-use Rattle.desk_words.specs.declared.request.PartyRequest.TheVariants.{Notice, Mine, Appoint, End, Authorise, Attend, Demand, Cast, Instructed}
 use Rattle.proxy_rules.specs.Cutoffs.{cutoffs_of, is_late_poll, late_cutoffs}
 use Rattle.proxy_rules.specs.Holdings.{is_given_by}
 use Rattle.proxy_rules.specs.declared.papers.Cutoffs.{Cutoffs}
 use Rattle.proxy_rules.proofs.ListLemmas.{reverse-filter}
 use Rattle.caller_view.specs.Own.{authorised_in_rows, governed_by, governed_kept, known_to_proxy, own_by, poll_governed, received_by, rows_by}
-use Rattle.caller_view.specs.Reads.{appointments_read, authorised_read, authorities_read, cast_on, for_poll, members_read, own_read, polls_on, polls_read, received_read, rows_read}
+use Rattle.caller_view.specs.declared.reads.Reads.{Reads}
+use Rattle.caller_view.specs.declared.reads.Reads.TheVariants.{Vote, AsInstructed}
+use Rattle.caller_view.specs.Reads.{appointments_read, authorised_read, authorities_read, cast_on, for_poll, members_read, own_kept, own_read, polls_kept, polls_on, polls_read, reads_of, received_read, rows_kept, rows_read}
 use Rattle.caller_view.specs.declared.rows.AuthorityRows.{AuthorityRows}
 use Rattle.caller_view.specs.declared.rows.MemberRows.{MemberRows}
 use Rattle.caller_view.specs.declared.rows.OwnRows.{OwnRows}
@@ -120,17 +121,10 @@ authorised-read new Member authorised = refl
 authorised-read new Rep authorised = sym (filter-map (λ (a : Authorised). same_name a.corporation new.member) authorised_in_rows authorised)
 authorised-read new Proxy authorised = refl
 
--- the own things that an answer reads, from the rows that it reads
-pub own-read : (asked : PartyRequest) (all : OwnRows) (closed : List ℕ) (meeting : Meeting) (polls : List Poll) (now : ℕ)
-    → own_by (rows_read asked all) closed meeting (polls_read asked polls) now ≡ own_read asked (own_by all closed meeting polls now)
-own-read Notice all closed meeting polls now = refl
-own-read Mine all closed meeting polls now = refl
-own-read (Appoint new) all closed meeting polls now = refl
-own-read (End number) all closed meeting polls now = refl
-own-read (Authorise person) all closed meeting polls now = refl
-own-read Attend all closed meeting polls now = refl
-own-read (Demand resolution) all closed meeting polls now = refl
-own-read (Cast new) all closed meeting polls now =
+-- the own things that are read, from the rows that are read
+own-kept : (reads : Reads) (all : OwnRows) (closed : List ℕ) (meeting : Meeting) (polls : List Poll) (now : ℕ)
+    → own_by (rows_kept reads all) closed meeting (polls_kept reads polls) now ≡ own_kept reads (own_by all closed meeting polls now)
+own-kept (Vote new) all closed meeting polls now =
     let received = received-read all.members closed meeting polls now new new.capacity all.received in
     let authorised = authorised-read new new.capacity all.authorised in
     λ i. record {
@@ -144,6 +138,12 @@ own-read (Cast new) all closed meeting polls now =
       demands = [];
       casts = cast_on new.resolution all.casts;
     }
-own-read (Instructed resolution) all closed meeting polls now =
+own-kept (AsInstructed resolution) all closed meeting polls now =
     let received = all_for_poll all.members closed meeting polls now resolution all.received in
-    λ i. record (own_read (Instructed resolution) (own_by all closed meeting polls now)) { received = received i }
+    λ i. record (own_kept (AsInstructed resolution) (own_by all closed meeting polls now)) { received = received i }
+own-kept other all closed meeting polls now = refl
+
+-- the own things that an answer reads, from the rows that it reads
+pub own-read : (asked : PartyRequest) (all : OwnRows) (closed : List ℕ) (meeting : Meeting) (polls : List Poll) (now : ℕ)
+    → own_by (rows_read asked all) closed meeting (polls_read asked polls) now ≡ own_read asked (own_by all closed meeting polls now)
+own-read asked = own-kept (reads_of asked)

@@ -16,6 +16,8 @@ use Rattle.desk_words.specs.declared.request.PartyRequest.TheVariants.{Notice, M
 use Rattle.proxy_rules.specs.Holdings.{is_given_by}
 use Rattle.caller_view.specs.Own.{nothing_of}
 use Rattle.caller_view.specs.Rows.{no_rows_of}
+use Rattle.caller_view.specs.declared.reads.Reads.{Reads}
+use Rattle.caller_view.specs.declared.reads.Reads.TheVariants.{Nothing, Everything, Given, Persons, Presence, Standing, Vote, AsInstructed}
 use Rattle.caller_view.specs.declared.rows.AuthorityRows.{AuthorityRows}
 use Rattle.caller_view.specs.declared.rows.MemberRows.{MemberRows}
 use Rattle.caller_view.specs.declared.rows.OwnRows.{OwnRows}
@@ -50,25 +52,40 @@ received_read new received Proxy =
     (filter (λ (r : Received). same_name r.member new.member) received)
 received_read new received other = []
 
--- those of the own things that the answer to a request reads, and nothing in place of the others
-abbrev pub own_read : PartyRequest → OwnView → OwnView
-own_read Notice own = nothing_of own.party
-own_read Mine own = own
-own_read (Appoint new) own = record (nothing_of own.party) { given = own.given }
-own_read (End number) own = record (nothing_of own.party) { given = own.given }
-own_read (Authorise person) own = record (nothing_of own.party) { persons = own.persons }
-own_read Attend own = record (nothing_of own.party) { present = own.present }
-own_read (Demand resolution) own = record own { given = []; persons = []; casts = [] }
-own_read (Cast new) own = record (nothing_of own.party) {
+-- what of a party's own things the answer to a request reads
+abbrev pub reads_of : PartyRequest → Reads
+reads_of Notice = Nothing
+reads_of Mine = Everything
+reads_of (Appoint new) = Given
+reads_of (End number) = Given
+reads_of (Authorise person) = Persons
+reads_of Attend = Presence
+reads_of (Demand resolution) = Standing
+reads_of (Cast new) = Vote new
+reads_of (Instructed resolution) = AsInstructed resolution
+
+-- those of the own things that are read, and nothing in place of the others
+abbrev pub own_kept : Reads → OwnView → OwnView
+own_kept Nothing own = nothing_of own.party
+own_kept Everything own = own
+own_kept Given own = record (nothing_of own.party) { given = own.given }
+own_kept Persons own = record (nothing_of own.party) { persons = own.persons }
+own_kept Presence own = record (nothing_of own.party) { present = own.present }
+own_kept Standing own = record own { given = []; persons = []; casts = [] }
+own_kept (Vote new) own = record (nothing_of own.party) {
   row = own.row;
   received = received_read new own.received new.capacity;
   authorised = authorised_read new own.authorised new.capacity;
   casts = cast_on new.resolution own.casts;
 }
-own_read (Instructed resolution) own = record (nothing_of own.party) {
+own_kept (AsInstructed resolution) own = record (nothing_of own.party) {
   received = map (for_poll resolution) own.received;
   casts = cast_on resolution own.casts;
 }
+
+-- those of the own things that the answer to a request reads
+abbrev pub own_read : PartyRequest → OwnView → OwnView
+own_read asked own = own_kept (reads_of asked) own
 
 -- what a vote reads of the authorities that were given to the party: as a representative, that of
 -- the member
@@ -92,33 +109,38 @@ members_read new members other = []
 abbrev pub given_read : OwnRows → OwnRows
 given_read rows = record (no_rows_of rows.party) { given = rows.given; ended = rows.ended }
 
--- those of the rows from which what the answer to a request reads is made, and nothing in place of
--- the others
-abbrev pub rows_read : PartyRequest → OwnRows → OwnRows
-rows_read Notice rows = no_rows_of rows.party
-rows_read Mine rows = rows
-rows_read (Appoint new) rows = given_read rows
-rows_read (End number) rows = given_read rows
-rows_read (Authorise person) rows = record (no_rows_of rows.party) { persons = rows.persons }
-rows_read Attend rows = record (no_rows_of rows.party) { present = rows.present }
-rows_read (Demand resolution) rows =
-    record rows { given = []; ended = []; persons = []; casts = [] }
-rows_read (Cast new) rows = record (no_rows_of rows.party) {
+-- those of the rows from which what is read is made, and nothing in place of the others
+abbrev pub rows_kept : Reads → OwnRows → OwnRows
+rows_kept Nothing rows = no_rows_of rows.party
+rows_kept Everything rows = rows
+rows_kept Given rows = given_read rows
+rows_kept Persons rows = record (no_rows_of rows.party) { persons = rows.persons }
+rows_kept Presence rows = record (no_rows_of rows.party) { present = rows.present }
+rows_kept Standing rows = record rows { given = []; ended = []; persons = []; casts = [] }
+rows_kept (Vote new) rows = record (no_rows_of rows.party) {
   row = rows.row;
   received = appointments_read new rows.received new.capacity;
   members = members_read new rows.members new.capacity;
   authorised = authorities_read new rows.authorised new.capacity;
   casts = cast_on new.resolution rows.casts;
 }
-rows_read (Instructed resolution) rows = record (no_rows_of rows.party) {
+rows_kept (AsInstructed resolution) rows = record (no_rows_of rows.party) {
   received = rows.received;
   members = rows.members;
   casts = cast_on resolution rows.casts;
 }
 
--- the polls for which the answer to a request reads what appointments govern: of a vote that on its
--- resolution, and else all
+-- those of the rows from which what the answer to a request reads is made
+abbrev pub rows_read : PartyRequest → OwnRows → OwnRows
+rows_read asked rows = rows_kept (reads_of asked) rows
+
+-- the polls for which what appointments govern is read: of a vote that on its resolution, and else
+-- all
+abbrev pub polls_kept : Reads → List Poll → List Poll
+polls_kept (Vote new) polls = polls_on new.resolution polls
+polls_kept (AsInstructed resolution) polls = polls_on resolution polls
+polls_kept other polls = polls
+
+-- the polls for which the answer to a request reads what appointments govern
 abbrev pub polls_read : PartyRequest → List Poll → List Poll
-polls_read (Cast new) polls = polls_on new.resolution polls
-polls_read (Instructed resolution) polls = polls_on resolution polls
-polls_read asked polls = polls
+polls_read asked polls = polls_kept (reads_of asked) polls

@@ -9,6 +9,7 @@ ghost use Rattle.caller_view.specs.declared.rows.OwnRows.{OwnRows};
 
 use crate::given::{authorised_from, given_from};
 use crate::governed::received_from;
+use crate::reads::{Reads, reads_of};
 use crate::rows::OwnRows;
 use crate::views::{OwnView, PublicRecord};
 use desk_words::{Listing, Meeting, Moment, Party, PartyRequest, Poll};
@@ -138,9 +139,9 @@ fn own_asked(
         ≡ own_by rows public.now.closed meeting.now
         (polls_read asked.now public.now.polls) now) }
 {
-    match asked {
-        PartyRequest::Cast(new) => own_on(alloc, rows, public, meeting, now, new.resolution),
-        PartyRequest::Instructed(number) => own_on(alloc, rows, public, meeting, now, *number),
+    match reads_of(asked) {
+        Reads::Vote(new) => own_on(alloc, rows, public, meeting, now, new.resolution),
+        Reads::AsInstructed(number) => own_on(alloc, rows, public, meeting, now, number),
         _ => {
             let polls = public.polls;
             own_by(alloc, rows, public.closed, meeting, polls, now)

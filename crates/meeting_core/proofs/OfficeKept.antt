@@ -40,13 +40,13 @@ use Rattle.desk_words.specs.declared.request.PartyRequest.TheVariants as party
 use Rattle.desk_words.specs.declared.request.Request.{Request}
 use Rattle.desk_words.specs.declared.request.Request.TheVariants as asked
 use Rattle.desk_terms.specs.declared.refusal.Refusal.TheVariants.{Exists, TooMany, NoRegister, NotOpened, PollOrdered, NoPoll, NoResolution, PollNotOpen, NotClosed, BadInstructions, NoSuchNumber, AlreadyEnded}
-use Rattle.caller_view.specs.Answers.{party_ruling, ruling_for as party_in}
+use Rattle.caller_view.specs.Answers.{party_ruling, ruling_for}
 use Rattle.caller_view.specs.Appointments.{appoint_cases, appointment_of, end_cases, ending_of}
 use Rattle.caller_view.specs.Attendance.{authorise_cases, authority_of, demand_cases, demand_mark, gave_authority, own_demanded, presence_of}
 use Rattle.caller_view.specs.Casts.{block_of, cast_cases, cast_of, instructed_cases}
 use Rattle.caller_view.specs.Views.{meeting_at, own_in, own_in_some, public_in}
 use Rattle.proxy_rules.specs.Holdings.{is_ended_of}
-use Rattle.office_answers.specs.Answers.{desk_ruling, ruling_on as office_in}
+use Rattle.office_answers.specs.Answers.{desk_ruling, ruling_on}
 use Rattle.office_answers.specs.Attendance.{is_marked}
 use Rattle.office_answers.specs.Calls.{call_cases, call_ruling, new_meeting_of}
 use Rattle.office_answers.specs.Limits.{if_any, is_within_limits, keeps_limits}
@@ -140,7 +140,7 @@ noted_stays m false change h = h refl
 
 -- what is ruled on the office's requests in a meeting leaves the lists of a meeting
 office_stays : (m : MeetingLists) (closed : List ℕ) (now : ℕ) (what : OfficeRequest) → is_meeting m ≡ true
-    → first_refusal (office_in closed now what m).cases ≡ None → Stays m (office_in closed now what m).accepted.change
+    → first_refusal (ruling_on closed now what m).cases ≡ None → Stays m (ruling_on closed now what m).accepted.change
 office_stays m closed now (office.LoadRegister new) good none =
     loaded_stays m (same_rows m.register new.rows) (SetRegister new.rows) (λ limits. register_kept new.rows m limits good)
 office_stays m closed now (office.Presence who) good none =
@@ -181,8 +181,8 @@ noted_entry m false entry h = h refl
 
 -- what is ruled on a party's requests in a meeting leaves the lists of a meeting
 party_stays : (m : MeetingLists) (closed who : List ℕ) (now : ℕ) (what : PartyRequest) → is_meeting m ≡ true
-    → first_refusal (party_in (public_in (Some m) closed) (own_in m closed who now) now what m.meeting).cases ≡ None
-    → EntryStays m (party_in (public_in (Some m) closed) (own_in m closed who now) now what m.meeting).accepted.change
+    → first_refusal (ruling_for (public_in (Some m) closed) (own_in m closed who now) now what m.meeting).cases ≡ None
+    → EntryStays m (ruling_for (public_in (Some m) closed) (own_in m closed who now) now what m.meeting).accepted.change
 party_stays m closed who now party.Notice good none = tt
 party_stays m closed who now party.Mine good none = tt
 party_stays m closed who now (party.Appoint new) good none =
@@ -271,12 +271,12 @@ entry_kept o id m None h found stays = λ _. h
 entry_kept o id m (Some entry) h found stays = λ _. meeting_kept o id (changed (Enter entry)) m (changed_name (Enter entry)) h found stays
 
 office_kept : (o : OfficeLists) (now : ℕ) (id : List ℕ) (what : OfficeRequest) → is_office o ≡ true
-    → Kept o (settled (ruled_within (InMeeting id) (in_found (meeting_at o id) (office_in o.closed now what)))).change
+    → Kept o (settled (ruled_within (InMeeting id) (in_found (meeting_at o id) (ruling_on o.closed now what)))).change
 office_kept o now id what h =
-    (elim (meeting_at o id) as (λ found. meeting_at o id ≡ found → Kept o (settled (ruled_within (InMeeting id) (in_found found (office_in o.closed now what)))).change) [
+    (elim (meeting_at o id) as (λ found. meeting_at o id ≡ found → Kept o (settled (ruled_within (InMeeting id) (in_found found (ruling_on o.closed now what)))).change) [
       | None ↦ λ e _. h
-      | Some m ↦ λ found. change_of (Kept o) (ruled_within (InMeeting id) (in_found (Some m) (office_in o.closed now what))) (λ _. h) (λ none.
-          change_kept o id m (office_in o.closed now what m).accepted.change h found (office_stays m o.closed now what (good_meeting o id m h found) none))
+      | Some m ↦ λ found. change_of (Kept o) (ruled_within (InMeeting id) (in_found (Some m) (ruling_on o.closed now what))) (λ _. h) (λ none.
+          change_kept o id m (ruling_on o.closed now what m).accepted.change h found (office_stays m o.closed now what (good_meeting o id m h found) none))
     ]) refl
 
 -- what decides a party's request, where the meeting is found or not
@@ -290,7 +290,7 @@ party_kept o who now id what h =
     (elim (meeting_at o id) as (λ found. meeting_at o id ≡ found → Kept o (settled (party_found found o.closed who now id what)).change) [
       | None ↦ λ e _. h
       | Some m ↦ λ found. change_of (Kept o) (party_found (Some m) o.closed who now id what) (λ _. h) (λ none.
-          entry_kept o id m (party_in (public_in (Some m) o.closed) (own_in m o.closed who now) now what m.meeting).accepted.change h found
+          entry_kept o id m (ruling_for (public_in (Some m) o.closed) (own_in m o.closed who now) now what m.meeting).accepted.change h found
           (party_stays m o.closed who now what (good_meeting o id m h found) none))
     ]) refl
 

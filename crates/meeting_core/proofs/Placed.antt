@@ -18,9 +18,9 @@ use Rattle.desk_words.specs.declared.request.DeskRequest.{DeskRequest}
 use Rattle.desk_words.specs.declared.request.DeskRequest.TheVariants.{CallMeeting, ClosedDays, Keys}
 use Rattle.desk_words.specs.declared.request.Request.{Request}
 use Rattle.desk_words.specs.declared.request.Request.TheVariants as asked
-use Rattle.caller_view.specs.Answers.{ruling_for as party_in}
+use Rattle.caller_view.specs.Answers.{ruling_for}
 use Rattle.caller_view.specs.Views.{meeting_at, own_of, public_of}
-use Rattle.office_answers.specs.Answers.{desk_ruling, ruling_on as office_in}
+use Rattle.office_answers.specs.Answers.{desk_ruling, ruling_on}
 use Rattle.office_answers.specs.Lists.{same_days}
 use Rattle.desk_words.specs.Changes.{is_placed}
 use Rattle.meeting_core.specs.Decisions.{DecidedChangesCanBeMade}
@@ -58,12 +58,12 @@ same_found f (Some x) = refl
 
 accepted_placed : (office : OfficeLists) (now : ℕ) (who : Caller) (request : Request) → is_placed_if_any office (ruling office now who request).accepted.change ≡ true
 accepted_placed office now caller.Office (asked.Desk what) = desk_placed office office.keys office.closed office.meetings what
-accepted_placed office now caller.Office (asked.Office meeting what) = found_placed office meeting (λ c. c) (meeting_at office meeting) (office_in office.closed now what) refl
+accepted_placed office now caller.Office (asked.Office meeting what) = found_placed office meeting (λ c. c) (meeting_at office meeting) (ruling_on office.closed now what) refl
 accepted_placed office now caller.Office (asked.Party meeting what) = refl
 accepted_placed office now (caller.Party party) (asked.Party meeting what) =
     let public = public_of office meeting in
     let own = own_of office party meeting now in
-    found_placed office meeting Enter public.meeting (party_in public own now what) (same_found (λ (m : MeetingLists). m.meeting) (meeting_at office meeting))
+    found_placed office meeting Enter public.meeting (ruling_for public own now what) (same_found (λ (m : MeetingLists). m.meeting) (meeting_at office meeting))
 accepted_placed office now (caller.Party party) request = refl
 
 -- the change that is decided is made in a meeting that stands

@@ -20,21 +20,21 @@ use Rattle.desk_words.specs.declared.request.PartyRequest.{PartyRequest}
 use Rattle.desk_words.specs.declared.request.PartyRequest.TheVariants.{Notice}
 use Rattle.desk_words.specs.declared.request.Request.{Request}
 use Rattle.desk_words.specs.declared.request.Request.TheVariants as asked
-use Rattle.caller_view.specs.Answers.{party_ruling, ruling_for as party_in}
+use Rattle.caller_view.specs.Answers.{party_ruling, ruling_for}
 use Rattle.caller_view.specs.Views.{meeting_at, own_of, public_of}
 use Rattle.caller_view.specs.declared.views.OwnView.{OwnView}
 use Rattle.caller_view.specs.Public.{PublicRecord}
-use Rattle.office_answers.specs.Answers.{desk_ruling, office_ruling, ruling_on as office_in}
+use Rattle.office_answers.specs.Answers.{desk_ruling, office_ruling, ruling_on}
 use Rattle.office_answers.specs.Lists.{same_days}
 use Rattle.meeting_core.specs.Step.{ruling}
 use Rattle.meeting_core.proofs.RulingLemmas.{IsSound, loaded_accepted, sound_in_found, sound_within}
 
 party_accepts : (public : PublicRecord) (own : OwnView) (now : ℕ) (what : PartyRequest) (meeting : Meeting)
-    → refusal_in (party_in public own now what meeting).accepted.reply ≡ None
+    → refusal_in (ruling_for public own now what meeting).accepted.reply ≡ None
 party_accepts public own now Notice meeting = refl
 party_accepts public own now what meeting = refl
 
-office_accepts : (closed : List ℕ) (now : ℕ) (what : OfficeRequest) (m : MeetingLists) → refusal_in (office_in closed now what m).accepted.reply ≡ None
+office_accepts : (closed : List ℕ) (now : ℕ) (what : OfficeRequest) (m : MeetingLists) → refusal_in (ruling_on closed now what m).accepted.reply ≡ None
 office_accepts closed now (LoadRegister new) m = loaded_accepted (same_rows m.register new.rows) (SetRegister new.rows)
 office_accepts closed now what m = refl
 
@@ -48,13 +48,13 @@ pub sound_ruling : (o : OfficeLists) (now : ℕ) (who : Caller) (request : Reque
 sound_ruling o now caller.Office (asked.Desk what) = record { sound = λ _. desk_accepts o.keys o.closed o.meetings what }
 sound_ruling o now caller.Office (asked.Office meeting what) =
     let s = sound_within (InMeeting meeting) (office_ruling o.closed (meeting_at o meeting) now what)
-    (sound_in_found (meeting_at o meeting) (office_in o.closed now what) (office_accepts o.closed now what)) in
+    (sound_in_found (meeting_at o meeting) (ruling_on o.closed now what) (office_accepts o.closed now what)) in
     record { sound = s.sound }
 sound_ruling o now caller.Office (asked.Party meeting what) = record { sound = λ e. absurd (cc) }
 sound_ruling o now (caller.Party party) (asked.Party meeting what) =
     let public = public_of o meeting in
     let own = own_of o party meeting now in
     let s = sound_within (λ entry. InMeeting meeting (Enter entry)) (party_ruling public own now what)
-    (sound_in_found public.meeting (party_in public own now what) (party_accepts public own now what)) in
+    (sound_in_found public.meeting (ruling_for public own now what) (party_accepts public own now what)) in
     record { sound = s.sound }
 sound_ruling o now (caller.Party party) request = record { sound = λ e. absurd (cc) }

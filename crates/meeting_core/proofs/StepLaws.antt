@@ -19,7 +19,7 @@ use Rattle.desk_words.specs.declared.request.Request.{Request}
 use Rattle.desk_words.specs.declared.request.Request.TheVariants as asked
 use Rattle.desk_terms.specs.declared.refusal.Refusal.{Refusal}
 use Rattle.caller_view.specs.Views.{meeting_at}
-use Rattle.office_answers.specs.Answers.{is_some_at_once, ruling_on as office_in}
+use Rattle.office_answers.specs.Answers.{is_some_at_once, ruling_on}
 use Rattle.office_answers.specs.Limits.{if_any, keeps_limits}
 use Rattle.desk_words.specs.Changes.{after_some, sets_fields}
 use Rattle.meeting_core.specs.Step.{decided, is_at_once_to, needs_no_memory, ruling, stepped}
@@ -68,8 +68,8 @@ sets_found (Some m) id f h =
 -- what needs no memory sets fields alone
 pub sets_alone : (o : OfficeLists) (now : ℕ) (who : Caller) (request : Request) → needs_no_memory who request ≡ true
     → if_any sets_fields (settled (ruling o now who request)).change ≡ true
-sets_alone o now caller.Office (asked.Office id (Start resolution)) h = sets_found (meeting_at o id) id (office_in o.closed now (Start resolution)) (λ m. refl)
-sets_alone o now caller.Office (asked.Office id (Close resolution)) h = sets_found (meeting_at o id) id (office_in o.closed now (Close resolution)) (λ m. refl)
+sets_alone o now caller.Office (asked.Office id (Start resolution)) h = sets_found (meeting_at o id) id (ruling_on o.closed now (Start resolution)) (λ m. refl)
+sets_alone o now caller.Office (asked.Office id (Close resolution)) h = sets_found (meeting_at o id) id (ruling_on o.closed now (Close resolution)) (λ m. refl)
 sets_alone o now caller.Office (asked.Office id what) h = absurd (cc)
 sets_alone o now caller.Office (asked.Desk what) h = absurd (cc)
 sets_alone o now caller.Office (asked.Party id what) h = refl

@@ -11,7 +11,7 @@ mod OrderLemmas
 mod OwnThingsLemmas
 mod PlaceLemmas
 mod ProxyLemmas
-mod ReadLemmas
+pub mod ReadLemmas
 mod RunLemmas
 mod SecrecyLemmas
 mod WorldLemmas

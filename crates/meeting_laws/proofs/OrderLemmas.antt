@@ -17,11 +17,11 @@ use Rattle.desk_words.specs.declared.request.PartyRequest.{PartyRequest}
 use Rattle.desk_words.specs.declared.request.PartyRequest.TheVariants.{Notice}
 use Rattle.desk_words.specs.declared.request.Request.{Request}
 use Rattle.desk_words.specs.declared.request.Request.TheVariants as asked
-use Rattle.caller_view.specs.Answers.{ruling_for as party_in}
+use Rattle.caller_view.specs.Answers.{ruling_for}
 use Rattle.caller_view.specs.Views.{meeting_at, own_of, public_of}
 use Rattle.caller_view.specs.declared.views.OwnView.{OwnView}
 use Rattle.caller_view.specs.Public.{PublicRecord}
-use Rattle.office_answers.specs.Answers.{desk_ruling, ruling_on as office_in}
+use Rattle.office_answers.specs.Answers.{desk_ruling, ruling_on}
 use Rattle.meeting_core.specs.Step.{ruling}
 use Rattle.desk_words.specs.declared.answer.Answer.{Answer}
 use Rattle.desk_terms.specs.declared.refusal.Refusal.{Refusal}
@@ -45,11 +45,11 @@ order_in_found None f h = refl
 order_in_found (Some x) f h = h x
 
 party_order : (public : PublicRecord) (own : OwnView) (now : ℕ) (what : PartyRequest) (meeting : Meeting)
-    → ascend_from 8 (party_in public own now what meeting).cases ≡ true
+    → ascend_from 8 (ruling_for public own now what meeting).cases ≡ true
 party_order public own now Notice meeting = refl
 party_order public own now what meeting = refl
 
-office_order : (closed : List ℕ) (now : ℕ) (what : OfficeRequest) (m : MeetingLists) → ascend_from 8 (office_in closed now what m).cases ≡ true
+office_order : (closed : List ℕ) (now : ℕ) (what : OfficeRequest) (m : MeetingLists) → ascend_from 8 (ruling_on closed now what m).cases ≡ true
 office_order closed now (LoadRegister new) m = refl
 office_order closed now what m = refl
 
@@ -59,12 +59,12 @@ desk_order keys closed meetings what = refl
 
 ordered_ruling : (o : OfficeLists) (now : ℕ) (who : Caller) (request : Request) → are_in_order (ruling o now who request).cases ≡ true
 ordered_ruling o now caller.Office (asked.Desk what) = desk_order o.keys o.closed o.meetings what
-ordered_ruling o now caller.Office (asked.Office meeting what) = order_in_found (meeting_at o meeting) (office_in o.closed now what) (office_order o.closed now what)
+ordered_ruling o now caller.Office (asked.Office meeting what) = order_in_found (meeting_at o meeting) (ruling_on o.closed now what) (office_order o.closed now what)
 ordered_ruling o now caller.Office (asked.Party meeting what) = refl
 ordered_ruling o now (caller.Party party) (asked.Party meeting what) =
     let public = public_of o meeting in
     let own = own_of o party meeting now in
-    order_in_found public.meeting (party_in public own now what) (party_order public own now what)
+    order_in_found public.meeting (ruling_for public own now what) (party_order public own now what)
 ordered_ruling o now (caller.Party party) request = refl
 
 -- ---- of calls

@@ -3,9 +3,9 @@ ghost use Rattle.std.specs.Prelude.{◌≡◌, [], true, IfOk, filter, map};
 ghost use Rattle.std.specs.List.{list_any};
 ghost use Rattle.desk_words.specs.Ordered.{ascends_by};
 ghost use Rattle.desk_words.specs.Registers.{member_before};
-ghost use Rattle.desk_words.specs.declared.request.PartyRequest.TheVariants as asked;
-ghost use Rattle.caller_view.specs.Reads.{appointments_read, authorities_read, members_read, rows_read};
+ghost use Rattle.caller_view.specs.Reads.{appointments_read, authorities_read, members_read, rows_kept, rows_read};
 ghost use Rattle.caller_view.specs.Rows.{authority_rows_in, givers, member_in, no_rows_of, rows_of};
+ghost use Rattle.caller_view.specs.declared.reads.Reads.TheVariants as reads;
 ghost use Rattle.proxy_rules.specs.Holdings.{is_ended_of, is_given_by};
 ghost use Rattle.proxy_rules.specs.Parties.{authorises, is_authority_of, is_presence_of, names};
 
@@ -13,7 +13,7 @@ use crate::members::{members_of, naming, naming_by};
 use crate::own::{
     casts_of, casts_on, demands_of, ended_by, is_present, persons_of, row_of, trusting, with_rows,
 };
-use caller_view::{AuthorityRows, MemberRows, OwnRows};
+use caller_view::{AuthorityRows, MemberRows, OwnRows, Reads, reads_of};
 use desk_words::{
     Appointment, Authority, Capacity, Listing, MeetingLists, NewCast, Party, PartyRequest,
 };
@@ -215,7 +215,7 @@ fn for_cast(
 ) -> Result<OwnRows, AllocError>
     requires { ascends_by member_before lists.now.register ≡ true }
     ensures { IfOk result (λ rows. rows
-        ≡ rows_read (asked.Cast new.now) (rows_of lists.now party)) }
+        ≡ rows_kept (reads.Vote new.now) (rows_of lists.now party)) }
 {
     let (received, members) = named_read(alloc, lists, party, new)?;
     Ok(OwnRows {
@@ -237,7 +237,7 @@ fn for_instructed(
 ) -> Result<OwnRows, AllocError>
     requires { ascends_by member_before lists.now.register ≡ true }
     ensures { IfOk result (λ rows. rows
-        ≡ rows_read (asked.Instructed resolution) (rows_of lists.now party)) }
+        ≡ rows_kept (reads.AsInstructed resolution) (rows_of lists.now party)) }
 {
     let received = naming(alloc, &lists.appointments, party)?;
     let members = members_of(alloc, lists, received.as_slice())?;
@@ -260,14 +260,14 @@ pub fn rows_for(
     requires { ascends_by member_before lists.now.register ≡ true }
     ensures { IfOk result (λ rows. rows ≡ rows_read asked.now (rows_of lists.now party)) }
 {
-    match asked {
-        PartyRequest::Notice => Ok(no_rows_of(alloc, party)),
-        PartyRequest::Mine => rows_of(alloc, lists, party),
-        PartyRequest::Appoint(_) | PartyRequest::End(_) => given_alone(alloc, lists, party),
-        PartyRequest::Authorise(_) => persons_alone(alloc, lists, party),
-        PartyRequest::Attend => Ok(presence_alone(alloc, lists, party)),
-        PartyRequest::Demand(_) => for_demand(alloc, lists, party),
-        PartyRequest::Cast(new) => for_cast(alloc, lists, party, new),
-        PartyRequest::Instructed(resolution) => { for_instructed(alloc, lists, party, *resolution) }
+    match reads_of(asked) {
+        Reads::Nothing => Ok(no_rows_of(alloc, party)),
+        Reads::Everything => rows_of(alloc, lists, party),
+        Reads::Given => given_alone(alloc, lists, party),
+        Reads::Persons => persons_alone(alloc, lists, party),
+        Reads::Presence => Ok(presence_alone(alloc, lists, party)),
+        Reads::Standing => for_demand(alloc, lists, party),
+        Reads::Vote(new) => for_cast(alloc, lists, party, &new),
+        Reads::AsInstructed(resolution) => for_instructed(alloc, lists, party, resolution),
     }
 }

@@ -6,10 +6,10 @@ use Rattle.desk_words.specs.declared.office.MeetingLists.{MeetingLists}
 use Rattle.desk_words.specs.declared.records.Appointment.{Appointment}
 use Rattle.desk_words.specs.declared.records.Authority.{Authority}
 use Rattle.desk_words.specs.declared.records.Ending.{Ending}
-use Rattle.desk_words.specs.declared.request.PartyRequest.TheVariants.{Attend, Notice}
+use Rattle.caller_view.specs.declared.reads.Reads.TheVariants.{Nothing, Presence}
 use Rattle.proxy_rules.specs.Holdings.{is_ended_of, is_given_by}
 use Rattle.proxy_rules.specs.Parties.{is_authority_of, is_presence_of}
-use Rattle.caller_view.specs.Reads.{given_read, rows_read}
+use Rattle.caller_view.specs.Reads.{given_read, rows_kept}
 use Rattle.caller_view.specs.Rows.{no_rows_of, rows_in}
 use Rattle.caller_view.specs.declared.rows.OwnRows.{OwnRows}
 use Rattle.party_reading.specs.Lists.{appointments_in, authorities_in, endings_in, persons_read, presences_in}
@@ -29,11 +29,11 @@ module _ (party : Party) (none : OwnRows) (nothing : none ≡ no_rows_of party) 
 
   -- whether it is present
   pub presence_so : (found : Option MeetingLists) (present : Bool) → present ≡ list_any (is_presence_of party) (presences_in found)
-      → record none { present = present } ≡ rows_read Attend (rows_in found party)
+      → record none { present = present } ≡ rows_kept Presence (rows_in found party)
   presence_so None present is = λ i. record (nothing i) { present = is i }
   presence_so (Some m) present is = λ i. record (nothing i) { present = is i }
 
 -- none
-pub none_so : (party : Party) (none : OwnRows) → none ≡ no_rows_of party → (found : Option MeetingLists) → none ≡ rows_read Notice (rows_in found party)
+pub none_so : (party : Party) (none : OwnRows) → none ≡ no_rows_of party → (found : Option MeetingLists) → none ≡ rows_kept Nothing (rows_in found party)
 none_so party none nothing None = nothing
 none_so party none nothing (Some m) = nothing

@@ -2,10 +2,10 @@
 ghost use Rattle.std.specs.Prelude.{◌≡◌, ◌==◌, ℕ, filter};
 ghost use Rattle.desk_terms.specs.Names.{same_name};
 ghost use Rattle.proxy_rules.specs.Holdings.{is_given_by};
-ghost use Rattle.caller_view.specs.Reads.{appointments_read, authorities_read, cast_on, given_read, members_read, rows_read};
+ghost use Rattle.caller_view.specs.Reads.{appointments_read, authorities_read, cast_on, given_read, members_read, rows_kept, rows_read};
 ghost use Rattle.caller_view.specs.Rows.{no_rows_of, rows_in};
 ghost use Rattle.caller_view.specs.Views.{meeting_at};
-ghost use Rattle.desk_words.specs.declared.request.PartyRequest.TheVariants as asked;
+ghost use Rattle.caller_view.specs.declared.reads.Reads.TheVariants as reads;
 ghost use Rattle.caller_view.specs.declared.rows.AuthorityRows.{AuthorityRows};
 ghost use Rattle.caller_view.specs.declared.rows.MemberRows.{MemberRows};
 ghost use Rattle.party_reading.specs.Lists.{persons_read};
@@ -13,7 +13,7 @@ ghost use Rattle.party_reading.specs.Telling.{IsToldOf};
 
 use crate::own::{read_rows, standing_of};
 use crate::rows::{ended_by, given_by, is_present, persons_of};
-use caller_view::{AuthorityRows, MemberRows, OwnRows};
+use caller_view::{AuthorityRows, MemberRows, OwnRows, Reads, reads_of};
 use desk_words::{
     Appointment, Capacity, CastMark, Listing, MeetingId, NewCast, Party, PartyRequest,
 };
@@ -101,7 +101,7 @@ fn authorities_read(
 
 /// What a vote reads of a party's rows.
 fn for_cast(alloc: Global, rows: OwnRows, new: &NewCast) -> OwnRows
-    ensures { result ≡ rows_read (asked.Cast new.now) rows }
+    ensures { result ≡ rows_kept (reads.Vote new.now) rows }
 {
     OwnRows {
         row: rows.row,
@@ -115,7 +115,7 @@ fn for_cast(alloc: Global, rows: OwnRows, new: &NewCast) -> OwnRows
 
 /// What is read of a party's rows for what it casts as instructed.
 fn for_instructed(alloc: Global, rows: OwnRows, resolution: u64) -> OwnRows
-    ensures { result ≡ rows_read (asked.Instructed resolution) rows }
+    ensures { result ≡ rows_kept (reads.AsInstructed resolution) rows }
 {
     OwnRows {
         received: rows.received,
@@ -172,7 +172,7 @@ fn presence_alone<S: Alter>(
 ) -> Result<OwnRows, ReadFault>
     ensures same_reference { tx.new.conn.ghost_name ≡ tx.old.conn.ghost_name }
     ensures told { IsToldOf S.Store tx.old.conn.now tx.new.conn.now result
-        (λ office rows. rows ≡ rows_read asked.Attend (rows_in (meeting_at office meeting) party)) }
+        (λ office rows. rows ≡ rows_kept reads.Presence (rows_in (meeting_at office meeting) party)) }
 {
     let present = is_present(tx, alloc, meeting, party)?;
     Ok(OwnRows {
@@ -191,7 +191,7 @@ fn none_of_them<S: Alter>(
 ) -> Result<OwnRows, ReadFault>
     ensures same_reference { tx.new.conn.ghost_name ≡ tx.old.conn.ghost_name }
     ensures told { IsToldOf S.Store tx.old.conn.now tx.new.conn.now result
-        (λ office rows. rows ≡ rows_read asked.Notice (rows_in (meeting_at office meeting) party)) }
+        (λ office rows. rows ≡ rows_kept reads.Nothing (rows_in (meeting_at office meeting) party)) }
 {
     is_present(tx, alloc, meeting, party)?;
     Ok(no_rows_of(alloc, party))
@@ -208,7 +208,7 @@ fn read_for_cast<S: Alter>(
     ensures same_reference { tx.new.conn.ghost_name ≡ tx.old.conn.ghost_name }
     ensures told { IsToldOf S.Store tx.old.conn.now tx.new.conn.now result
         (λ office rows. rows
-        ≡ rows_read (asked.Cast new.now) (rows_in (meeting_at office meeting) party)) }
+        ≡ rows_kept (reads.Vote new.now) (rows_in (meeting_at office meeting) party)) }
 {
     let rows = read_rows(tx, alloc, meeting, party)?;
     Ok(for_cast(alloc, rows, new))
@@ -225,7 +225,7 @@ fn read_for_instructed<S: Alter>(
     ensures same_reference { tx.new.conn.ghost_name ≡ tx.old.conn.ghost_name }
     ensures told { IsToldOf S.Store tx.old.conn.now tx.new.conn.now result
         (λ office rows. rows
-        ≡ rows_read (asked.Instructed resolution) (rows_in (meeting_at office meeting) party)) }
+        ≡ rows_kept (reads.AsInstructed resolution) (rows_in (meeting_at office meeting) party)) }
 {
     let rows = read_rows(tx, alloc, meeting, party)?;
     Ok(for_instructed(alloc, rows, resolution))
@@ -246,16 +246,16 @@ pub fn read_asked<S: Alter>(
         (λ office rows. rows
         ≡ rows_read asked.now (rows_in (meeting_at office meeting) party)) }
 {
-    match asked {
-        PartyRequest::Notice => none_of_them(tx, alloc, meeting, party),
-        PartyRequest::Mine => read_rows(tx, alloc, meeting, party),
-        PartyRequest::Appoint(_) | PartyRequest::End(_) => given_alone(tx, alloc, meeting, party),
-        PartyRequest::Authorise(_) => persons_alone(tx, alloc, meeting, party),
-        PartyRequest::Attend => presence_alone(tx, alloc, meeting, party),
-        PartyRequest::Demand(_) => standing_of(tx, alloc, meeting, party),
-        PartyRequest::Cast(new) => read_for_cast(tx, alloc, meeting, party, new),
-        PartyRequest::Instructed(resolution) => {
-            read_for_instructed(tx, alloc, meeting, party, *resolution)
+    match reads_of(asked) {
+        Reads::Nothing => none_of_them(tx, alloc, meeting, party),
+        Reads::Everything => read_rows(tx, alloc, meeting, party),
+        Reads::Given => given_alone(tx, alloc, meeting, party),
+        Reads::Persons => persons_alone(tx, alloc, meeting, party),
+        Reads::Presence => presence_alone(tx, alloc, meeting, party),
+        Reads::Standing => standing_of(tx, alloc, meeting, party),
+        Reads::Vote(new) => read_for_cast(tx, alloc, meeting, party, &new),
+        Reads::AsInstructed(resolution) => {
+            read_for_instructed(tx, alloc, meeting, party, resolution)
         }
     }
 }

@@ -38,7 +38,7 @@ use Rattle.office_days.specs.Notice.{is_enough_notice}
 use Rattle.proxy_rules.specs.Cutoffs.{cutoffs_of}
 use Rattle.vote_rules.specs.Tallies.{tally_of}
 use Rattle.caller_view.specs.Views.{meeting_at, polls_in, public_in, public_of}
-use Rattle.office_answers.specs.Answers.{desk_ruling, office_ruling, ruling_on as office_in}
+use Rattle.office_answers.specs.Answers.{desk_ruling, office_ruling, ruling_on}
 use Rattle.office_answers.specs.Attendance.{demand_noted}
 use Rattle.office_answers.specs.Calls.{call_ruling, day_of_moment}
 use Rattle.office_answers.specs.Polls.{declare_cases, declaration_of, poll_of, result_cases, result_on}
@@ -165,7 +165,7 @@ tally-uncounted resolution m closed now number =
     poll-seen (λ found. result_on (slice_get m.meeting.resolutions (number - 1)) (tally_of (cutoffs_of m.meeting found closed now) m.register m.appointments m.endings m.authorities m.casts number))
     resolution number m.polls (λ p a b. refl)
 
-ruling-uncounted : (resolution : ℕ) (m : MeetingLists) (closed : List ℕ) (now : ℕ) (what : OfficeRequest) → office_in closed now what (uncounted_in resolution m) ≡ office_in closed now what m
+ruling-uncounted : (resolution : ℕ) (m : MeetingLists) (closed : List ℕ) (now : ℕ) (what : OfficeRequest) → ruling_on closed now what (uncounted_in resolution m) ≡ ruling_on closed now what m
 ruling-uncounted resolution m closed now (LoadRegister new) = refl
 ruling-uncounted resolution m closed now (Presence who) = refl
 ruling-uncounted resolution m closed now OpenMeeting = refl
@@ -217,7 +217,7 @@ casts-off secret casts =
     fails false b h = refl
 
 ruling-hidden : TheOfficeIsToldOfNoVotes → (secret : Secret) (m : MeetingLists) (closed : List ℕ) (now : ℕ) (what : OfficeRequest) → declares secret.resolution what ≡ false
-    → office_in closed now what (hidden_in secret m) ≡ office_in closed now what m
+    → ruling_on closed now what (hidden_in secret m) ≡ ruling_on closed now what m
 ruling-hidden law secret m closed now what other =
     law (uncounted_in secret.resolution m) (filter (λ (c : CastMark). not (is_secret_cast secret c)) m.casts) secret.resolution closed now what (casts-off secret m.casts) other
     ∙ ruling-uncounted secret.resolution m closed now what
@@ -266,7 +266,7 @@ desk-hidden secret o (desk.Keys rows) = refl
 
 -- the answer to the declaration of a resolution in a meeting that is found
 abbrev declare_found : Option MeetingLists → List ℕ → List ℕ → ℕ → ℕ → Answer Change
-declare_found found closed at now number = settled (ruled_within (InMeeting at) (in_found found (office_in closed now (Declare number))))
+declare_found found closed at now number = settled (ruled_within (InMeeting at) (in_found found (ruling_on closed now (Declare number))))
 
 -- what is declared, as the change of the meeting of a name
 abbrev declared_answer : List ℕ → ℕ → Declaration → Answer Change

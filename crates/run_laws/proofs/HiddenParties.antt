@@ -33,7 +33,7 @@ use Rattle.desk_words.specs.declared.request.Request.TheVariants as asked
 use Rattle.proxy_rules.specs.Cutoffs.{cutoffs_of, is_late_poll}
 use Rattle.proxy_rules.specs.Parties.{is_cast_by}
 use Rattle.caller_view.proofs.OwnLemmas.{filter-swap}
-use Rattle.caller_view.specs.Answers.{ruling_for as party_in}
+use Rattle.caller_view.specs.Answers.{ruling_for}
 use Rattle.caller_view.specs.Attendance.{demand_mark, own_demanded, may_demand}
 use Rattle.caller_view.specs.Casts.{block_of, cast_of, has_cast_enough}
 use Rattle.caller_view.specs.Own.{governed_by, known_to_proxy, own_from, poll_governed}
@@ -90,7 +90,7 @@ is_notice Notice = true
 is_notice other = false
 
 ruling-uncounted : (resolution : ℕ) (m : MeetingLists) (closed : List ℕ) (own : OwnView) (now : ℕ) (what : PartyRequest) → is_notice what ≡ false
-    → party_in (public_in (Some (uncounted_in resolution m)) closed) own now what m.meeting ≡ party_in (public_in (Some m) closed) own now what m.meeting
+    → ruling_for (public_in (Some (uncounted_in resolution m)) closed) own now what m.meeting ≡ ruling_for (public_in (Some m) closed) own now what m.meeting
 ruling-uncounted resolution m closed own now Notice h = absurd (true≢false h)
 ruling-uncounted resolution m closed own now (Demand number) h =
     poll-seen (λ found. record {

@@ -32,7 +32,7 @@ use Rattle.desk_words.specs.declared.request.Request.{Request}
 use Rattle.desk_words.specs.declared.request.Request.TheVariants as asked
 use Rattle.proxy_rules.specs.Parties.{is_presence_of}
 use Rattle.caller_view.specs.Views.{meeting_at, public_of}
-use Rattle.office_answers.specs.Answers.{desk_ruling, ruling_on as office_in}
+use Rattle.office_answers.specs.Answers.{desk_ruling, ruling_on}
 use Rattle.office_answers.specs.Attendance.{is_marked}
 use Rattle.office_answers.specs.Calls.{call_ruling, load_cases, load_ruling, new_meeting_of}
 use Rattle.office_answers.specs.Lists.{same_days}
@@ -89,26 +89,26 @@ unseen-change view o at id change same = view-changed view o (changed change) at
 sourced-office : (viewer : Viewer) (o : OfficeLists) (now : ℕ) (at id : List ℕ) (what : OfficeRequest)
     → is_sourced_in viewer (meeting_at (office_after o now (asked.Office at what)) id) ≡ is_sourced_in viewer (meeting_at o id)
 sourced-office viewer o now at id (LoadRegister new) =
-    office-change (Unseen (is_sourced_in viewer) o id) (meeting_at o at) at (office_in o.closed now (LoadRegister new)) refl
+    office-change (Unseen (is_sourced_in viewer) o id) (meeting_at o at) at (ruling_on o.closed now (LoadRegister new)) refl
     (λ m. loaded-either (λ change. Unseen (is_sourced_in viewer) o id (option_map (InMeeting at) change)) (same_rows m.register new.rows) (SetRegister new.rows) refl
     (unseen-change (is_sourced_in viewer) o at id (SetRegister new.rows) (λ x. refl)))
 sourced-office viewer o now at id (Presence who) =
-    office-change (Unseen (is_sourced_in viewer) o id) (meeting_at o at) at (office_in o.closed now (Presence who)) refl
+    office-change (Unseen (is_sourced_in viewer) o id) (meeting_at o at) at (ruling_on o.closed now (Presence who)) refl
     (λ m. noted-either (λ change. Unseen (is_sourced_in viewer) o id (option_map (InMeeting at) change)) (is_marked m.presences who) (Enter (entry.Presence (record { party = who; moment = now }))) refl
     (unseen-change (is_sourced_in viewer) o at id (Enter (entry.Presence (record { party = who; moment = now }))) (λ x. refl)))
 sourced-office viewer o now at id OpenMeeting =
-    office-change (Unseen (is_sourced_in viewer) o id) (meeting_at o at) at (office_in o.closed now OpenMeeting) refl (λ m. unseen-change (is_sourced_in viewer) o at id (SetOpened now) (λ x. refl))
+    office-change (Unseen (is_sourced_in viewer) o id) (meeting_at o at) at (ruling_on o.closed now OpenMeeting) refl (λ m. unseen-change (is_sourced_in viewer) o at id (SetOpened now) (λ x. refl))
 sourced-office viewer o now at id (Order new) =
-    office-change (Unseen (is_sourced_in viewer) o id) (meeting_at o at) at (office_in o.closed now (Order new)) refl
+    office-change (Unseen (is_sourced_in viewer) o id) (meeting_at o at) at (ruling_on o.closed now (Order new)) refl
     (λ m. unseen-change (is_sourced_in viewer) o at id (AddPoll (poll_of now new)) (λ x. refl))
 sourced-office viewer o now at id (Start resolution) =
-    office-change (Unseen (is_sourced_in viewer) o id) (meeting_at o at) at (office_in o.closed now (Start resolution)) refl
+    office-change (Unseen (is_sourced_in viewer) o id) (meeting_at o at) at (ruling_on o.closed now (Start resolution)) refl
     (λ m. unseen-change (is_sourced_in viewer) o at id (SetPoll resolution (poll.Started now)) (λ x. refl))
 sourced-office viewer o now at id (Close resolution) =
-    office-change (Unseen (is_sourced_in viewer) o id) (meeting_at o at) at (office_in o.closed now (Close resolution)) refl
+    office-change (Unseen (is_sourced_in viewer) o id) (meeting_at o at) at (ruling_on o.closed now (Close resolution)) refl
     (λ m. unseen-change (is_sourced_in viewer) o at id (SetPoll resolution (poll.Closed now)) (λ x. refl))
 sourced-office viewer o now at id (Declare resolution) =
-    office-change (Unseen (is_sourced_in viewer) o id) (meeting_at o at) at (office_in o.closed now (Declare resolution)) refl
+    office-change (Unseen (is_sourced_in viewer) o id) (meeting_at o at) at (ruling_on o.closed now (Declare resolution)) refl
     (λ m. unseen-change (is_sourced_in viewer) o at id (SetPoll resolution (poll.Declared (declaration_of m o.closed now resolution).tally)) (λ x. refl))
 
 -- whoever named or authorised the viewer stays near it, whatever the office asks
@@ -198,7 +198,7 @@ near-presence : (viewer : Viewer) (o : OfficeLists) (at : List ℕ) (now : ℕ) 
     ≡ near_if (public_of o at).meeting (near_marked viewer who) (near_in viewer (meeting_at o at))
 near-presence viewer o at now who =
     (elim (meeting_at o at) as (λ found. meeting_at o at ≡ found
-    → near_in viewer (meeting_at (after_some o (settled (ruled_within (InMeeting at) (in_found found (office_in o.closed now (Presence who))))).change) at)
+    → near_in viewer (meeting_at (after_some o (settled (ruled_within (InMeeting at) (in_found found (ruling_on o.closed now (Presence who))))).change) at)
     ≡ near_if (option_map (λ (m : MeetingLists). m.meeting) found) (near_marked viewer who) (near_in viewer found)) [
       | None ↦ λ found. ap (near_in viewer) found
       | Some m ↦ λ found. by_mark m found
@@ -259,20 +259,20 @@ near-office viewer o now (asked.Desk (desk.Keys rows)) id = desk-view (near_in v
 near-office viewer o now (asked.Office at (LoadRegister new)) id =
     by-name viewer o at id (λ m. load_ruling m now new) (λ meeting n. near_loaded meeting now new.record_moment (rows_near viewer new.rows) n) (near-register viewer o at now new)
 near-office viewer o now (asked.Office at (Presence who)) id =
-    by-name viewer o at id (office_in o.closed now (Presence who)) (λ meeting n. near_if meeting (near_marked viewer who) n) (near-presence viewer o at now who)
+    by-name viewer o at id (ruling_on o.closed now (Presence who)) (λ meeting n. near_if meeting (near_marked viewer who) n) (near-presence viewer o at now who)
     ∙ told-presence viewer at id (public_of o id).meeting who (near_in viewer (meeting_at o id))
 near-office viewer o now (asked.Office at OpenMeeting) id =
-    office-change (Unseen (near_in viewer) o id) (meeting_at o at) at (office_in o.closed now OpenMeeting) refl (λ m. unseen-change (near_in viewer) o at id (SetOpened now) (λ x. refl))
+    office-change (Unseen (near_in viewer) o id) (meeting_at o at) at (ruling_on o.closed now OpenMeeting) refl (λ m. unseen-change (near_in viewer) o at id (SetOpened now) (λ x. refl))
 near-office viewer o now (asked.Office at (Order new)) id =
-    office-change (Unseen (near_in viewer) o id) (meeting_at o at) at (office_in o.closed now (Order new)) refl (λ m. unseen-change (near_in viewer) o at id (AddPoll (poll_of now new)) (λ x. refl))
+    office-change (Unseen (near_in viewer) o id) (meeting_at o at) at (ruling_on o.closed now (Order new)) refl (λ m. unseen-change (near_in viewer) o at id (AddPoll (poll_of now new)) (λ x. refl))
 near-office viewer o now (asked.Office at (Start resolution)) id =
-    office-change (Unseen (near_in viewer) o id) (meeting_at o at) at (office_in o.closed now (Start resolution)) refl
+    office-change (Unseen (near_in viewer) o id) (meeting_at o at) at (ruling_on o.closed now (Start resolution)) refl
     (λ m. unseen-change (near_in viewer) o at id (SetPoll resolution (poll.Started now)) (λ x. refl))
 near-office viewer o now (asked.Office at (Close resolution)) id =
-    office-change (Unseen (near_in viewer) o id) (meeting_at o at) at (office_in o.closed now (Close resolution)) refl
+    office-change (Unseen (near_in viewer) o id) (meeting_at o at) at (ruling_on o.closed now (Close resolution)) refl
     (λ m. unseen-change (near_in viewer) o at id (SetPoll resolution (poll.Closed now)) (λ x. refl))
 near-office viewer o now (asked.Office at (Declare resolution)) id =
-    office-change (Unseen (near_in viewer) o id) (meeting_at o at) at (office_in o.closed now (Declare resolution)) refl
+    office-change (Unseen (near_in viewer) o id) (meeting_at o at) at (ruling_on o.closed now (Declare resolution)) refl
     (λ m. unseen-change (near_in viewer) o at id (SetPoll resolution (poll.Declared (declaration_of m o.closed now resolution).tally)) (λ x. refl))
 near-office viewer o now (asked.Party at what) id = refl
 
@@ -284,7 +284,7 @@ pub public-office : (viewer : Viewer) (o : OfficeLists) (now : ℕ) (request : R
 public-office viewer o now (asked.Desk (desk.Keys rows)) id h =
     loaded-either (λ change. public_of (after_some o change) id ≡ public_of o id) (same_keys o.keys rows) (SetKeys rows) refl refl
 public-office viewer o now (asked.Office at (Presence who)) id h =
-    office-change (λ change. public_of (after_some o change) id ≡ public_of o id) (meeting_at o at) at (office_in o.closed now (Presence who)) refl
+    office-change (λ change. public_of (after_some o change) id ≡ public_of o id) (meeting_at o at) at (ruling_on o.closed now (Presence who)) refl
     (λ m. noted-either (λ change. public_of (after_some o (option_map (InMeeting at) change)) id ≡ public_of o id) (is_marked m.presences who) (Enter (entry.Presence (record { party = who; moment = now }))) refl
     (public-entry o at (Some (entry.Presence (record { party = who; moment = now }))) id))
 public-office viewer o now (asked.Desk other) id h = absurd (cc)

@@ -1,12 +1,11 @@
 -- What a party's call enters, and of which calls it is the same in two offices.
 use Rattle.std.proofs.Common.{◌≡◌, ℕ, Bool, true, false, ◌||◌, cond, List, [], ◌∷◌, ◌++◌, filter, refl, ap, sym, ◌∙◌}
 use Rattle.std.specs.Prelude.{Option, Some, None}
-use Rattle.std.specs.Option.{option_map_or}
 use Rattle.std.proofs.Math.Bool.{or-false}
 use Rattle.desk_lists.proofs.Booleans.{neither_first}
 use Rattle.desk_terms.specs.Names.{same_name}
 use Rattle.desk_words.specs.Office.{implies}
-use Rattle.desk_words.specs.Rulings.{Ruling, in_found, noted, settled, within}
+use Rattle.desk_words.specs.Rulings.{in_found, noted, settled, within}
 use Rattle.desk_words.specs.declared.answer.Answer.{Answer}
 use Rattle.desk_words.specs.declared.caller.Caller.TheVariants as caller
 use Rattle.desk_words.specs.declared.change.Change.TheVariants.{InMeeting}
@@ -22,11 +21,11 @@ use Rattle.desk_words.specs.declared.request.PartyRequest.TheVariants.{Notice, M
 use Rattle.desk_words.specs.declared.request.Request.TheVariants as asked
 use Rattle.proxy_rules.specs.Holdings.{is_ended_of, is_given_by}
 use Rattle.proxy_rules.specs.Parties.{is_authority_of}
-use Rattle.caller_view.specs.Answers.{party_ruling, ruling_for as party_in}
+use Rattle.caller_view.specs.Answers.{party_ruling, ruling_for}
 use Rattle.caller_view.specs.Appointments.{appointment_of, ending_of}
 use Rattle.caller_view.specs.Attendance.{authority_of, demand_mark, gave_authority, own_demanded, presence_of}
 use Rattle.caller_view.specs.Casts.{block_of, cast_of}
-use Rattle.caller_view.specs.Own.{nothing_of, own_by, own_from}
+use Rattle.caller_view.specs.Own.{own_from}
 use Rattle.caller_view.specs.Public.{PublicRecord}
 use Rattle.caller_view.specs.Reads.{given_read, rows_read}
 use Rattle.caller_view.specs.Rows.{no_rows_of, rows_in}
@@ -35,6 +34,7 @@ use Rattle.caller_view.specs.declared.rows.OwnRows.{OwnRows}
 use Rattle.caller_view.specs.declared.views.OwnView.{OwnView}
 use Rattle.meeting_core.specs.Step.{decided}
 use Rattle.meeting_core.proofs.RulingLemmas.{change_of, settled_within}
+use Rattle.meeting_laws.proofs.ReadLemmas.{rows_enough}
 use Rattle.run_laws.specs.Isolation.{Alike}
 use Rattle.run_laws.specs.Parts.{Near, Part, Viewer, is_near, near_in}
 use Rattle.run_laws.specs.Traces.{is_giving, is_shown, names_party}
@@ -72,7 +72,7 @@ noted-either P true change none some = none
 noted-either P false change none some = some
 
 accepted-entry : (P : Option Entry → Type 0) (public : PublicRecord) (own : OwnView) (now : ℕ) (meeting : Meeting) (what : PartyRequest)
-    → P None → P (the_entry own now what) → P (party_in public own now what meeting).accepted.change
+    → P None → P (the_entry own now what) → P (ruling_for public own now what meeting).accepted.change
 accepted-entry P public own now meeting Notice none some = none
 accepted-entry P public own now meeting Mine none some = none
 accepted-entry P public own now meeting (Authorise person) none some = noted-either P (gave_authority own person) (entry.Authority (authority_of own now person)) none some
@@ -84,9 +84,9 @@ accepted-entry P public own now meeting what none some = some
 pub entry-of : (P : Option Entry → Type 0) (public : PublicRecord) (own : OwnView) (now : ℕ) (what : PartyRequest)
     → P None → P (the_entry own now what) → P (settled (party_ruling public own now what)).change
 entry-of P public own now what none some =
-    elim (public.meeting) as (λ found. P (settled (in_found found (party_in public own now what))).change) [
+    elim (public.meeting) as (λ found. P (settled (in_found found (ruling_for public own now what))).change) [
       | None ↦ none
-      | Some meeting ↦ change_of P (in_found (Some meeting) (party_in public own now what)) none (λ _. accepted-entry P public own now meeting what none some)
+      | Some meeting ↦ change_of P (in_found (Some meeting) (ruling_for public own now what)) none (λ _. accepted-entry P public own now meeting what none some)
     ]
 
 -- what is not shown to a viewer changes nothing near it
@@ -129,27 +129,6 @@ own-answer viewer one other now at what alike =
     sym (rows-near viewer (meeting_at one at) (alike.first at)) ∙ ap (rows_from viewer) near ∙ rows-near viewer (meeting_at other at) (alike.second at) in
     λ i. settled (party_ruling (public i) (own_from (rows i) (public i) now) now what)
 
--- what is ruled of what a party gives, in a meeting that is found, from its rows
-abbrev given_from : OwnRows → PublicRecord → ℕ → PartyRequest → Option Meeting → Ruling Entry
-given_from rows public now what found =
-    let own = option_map_or (λ meeting. own_by rows public.closed meeting public.polls now) found (nothing_of rows.party) in
-    in_found found (party_in public own now what)
-
-given-from : (rows : OwnRows) (public : PublicRecord) (now : ℕ) (what : PartyRequest) → is_giving what ≡ true → (found : Option Meeting)
-    → given_from (rows_read what rows) public now what found ≡ given_from rows public now what found
-given-from rows public now (Appoint new) h None = refl
-given-from rows public now (Appoint new) h (Some meeting) = refl
-given-from rows public now (End number) h None = refl
-given-from rows public now (End number) h (Some meeting) = refl
-given-from rows public now (Authorise person) h None = refl
-given-from rows public now (Authorise person) h (Some meeting) = refl
-given-from rows public now other h found = absurd (cc)
-
--- what a party gives is decided by what it gave
-enough : (rows : OwnRows) (public : PublicRecord) (now : ℕ) (what : PartyRequest) → is_giving what ≡ true
-    → party_ruling public (own_from (rows_read what rows) public now) now what ≡ party_ruling public (own_from rows public now) now what
-enough rows public now what h = given-from rows public now what h public.meeting
-
 -- the rows that are read are the party's
 party-in : (found : Option MeetingLists) (party : List ℕ) → (rows_in found party).party ≡ party
 party-in None party = refl
@@ -183,6 +162,6 @@ source-answer viewer one other party now at what alike close h =
     let public : public_of one at ≡ public_of other at = ap (λ (part : Part). part.public) (alike.parts at) in
     let near : near_in viewer (meeting_at one at) ≡ near_in viewer (meeting_at other at) = ap (λ (part : Part). part.near) (alike.parts at) in
     let rows = read-near viewer (meeting_at one at) (meeting_at other at) party what close h near in
-    ap settled (sym (enough (rows_in (meeting_at one at) party) (public_of one at) now what h))
+    sym (rows_enough (rows_in (meeting_at one at) party) (public_of one at) now what)
     ∙ (λ i. settled (party_ruling (public i) (own_from (rows i) (public i) now) now what))
-    ∙ ap settled (enough (rows_in (meeting_at other at) party) (public_of other at) now what h)
+    ∙ rows_enough (rows_in (meeting_at other at) party) (public_of other at) now what

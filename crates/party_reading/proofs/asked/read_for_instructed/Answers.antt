@@ -1,10 +1,10 @@
 use Rattle.std.proofs.Common.{◌∙◌, ap}
-use Rattle.desk_words.specs.declared.request.PartyRequest.TheVariants.{Instructed}
-use Rattle.caller_view.specs.Reads.{rows_read}
+use Rattle.caller_view.specs.declared.reads.Reads.TheVariants.{AsInstructed}
+use Rattle.caller_view.specs.Reads.{rows_kept}
 use Rattle.party_reading.proofs.TellingLemmas.{told_so}
 use Rattle.party_reading.proofs.asked.read_for_instructed.Goals as goal
 
 pub returns-clause-told : goal.returns-clause-told
 returns-clause-told g c =
     told_so g.S.Store _ _ _ _ c.in_ok-rows.rows _ c.in_ok-rows.ensures.told
-    (λ office kept is. c.for_instructed.ensures ∙ ap (rows_read (Instructed c.args.resolution)) is)
+    (λ office kept is. c.for_instructed.ensures ∙ ap (rows_kept (AsInstructed c.args.resolution)) is)
