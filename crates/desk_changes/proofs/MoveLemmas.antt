@@ -8,13 +8,13 @@ use Rattle.desk_lists.specs.Lists.{change_first}
 use Rattle.desk_lists.specs.Ordered.{ascends_by, differ_by}
 use Rattle.desk_lists.specs.Sorting.{insert_by}
 use Rattle.desk_terms.specs.Names.{same_name}
-use Rattle.desk_words.specs.Lists.{are_resolutions}
-use Rattle.desk_words.specs.Office.{are_appointments, are_authorities, are_casts, are_demands, are_endings, are_polls, is_loaded_right, is_meeting, poll_before, same_meeting, same_presence}
+use Rattle.desk_words.specs.Office.{is_meeting, poll_before, same_meeting}
 use Rattle.desk_words.specs.declared.change.Change.TheVariants.{InMeeting}
 use Rattle.desk_words.specs.declared.change.MeetingChange.TheVariants.{AddPoll, SetOpened, SetPoll}
 use Rattle.desk_words.specs.declared.change.PollChange.{PollChange}
 use Rattle.desk_words.specs.declared.change.PollChange.TheVariants.{Closed, Declared, Started}
 use Rattle.desk_words.specs.declared.office.MeetingLists.{MeetingLists}
+use Rattle.desk_words.proofs.OfficeFacts.{meeting_facts}
 use Rattle.desk_words.proofs.RowLemmas.{same_name-true}
 use Rattle.desk_words.specs.declared.records.Poll.{Poll}
 use Rattle.desk_words.specs.declared.records.Tally.{Tally}
@@ -39,12 +39,7 @@ use Rattle.desk_changes.proofs.Possible.{placed_in, written_by}
 -- ---- polls stand in order
 
 in_order : (x : MeetingLists) → is_meeting x ≡ true → ascends_by poll_before x.polls ≡ true
-in_order x h =
-    let n = length x.meeting.resolutions in
-    let opened = is_some x.meeting.opened in
-    let at_casts = and_parts (are_resolutions x.meeting.resolutions && is_loaded_right x && are_appointments n x.appointments && are_endings x.appointments x.endings && are_authorities x.authorities && differ_by same_presence x.presences && are_demands n x.demands && are_polls opened n x.polls) (are_casts x.polls x.casts) h in
-    let at_polls = and_parts (are_resolutions x.meeting.resolutions && is_loaded_right x && are_appointments n x.appointments && are_endings x.appointments x.endings && are_authorities x.authorities && differ_by same_presence x.presences && are_demands n x.demands) (are_polls opened n x.polls) at_casts.0 in
-    polls_ascend opened n x.polls at_polls.1
+in_order x h = polls_ascend (is_some x.meeting.opened) (length x.meeting.resolutions) x.polls (meeting_facts x h).polls
 
 all_in_order : (xs : List MeetingLists) → list_all is_meeting xs ≡ true → list_all (λ (x : MeetingLists). ascends_by poll_before x.polls) xs ≡ true
 all_in_order [] h = refl

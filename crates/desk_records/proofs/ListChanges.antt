@@ -7,20 +7,12 @@ use Rattle.desk_terms.specs.Names.{same_name}
 use Rattle.desk_words.specs.Office.{same_meeting}
 use Rattle.desk_words.specs.declared.office.MeetingLists.{MeetingLists}
 use Rattle.desk_words.specs.declared.office.OfficeLists.{OfficeLists}
-use Rattle.desk_words.specs.declared.records.Appointment.{Appointment}
-use Rattle.desk_words.specs.declared.records.Authority.{Authority}
-use Rattle.desk_words.specs.declared.records.CastMark.{CastMark}
-use Rattle.desk_words.specs.declared.records.DemandMark.{DemandMark}
-use Rattle.desk_words.specs.declared.records.Ending.{Ending}
-use Rattle.desk_words.specs.declared.records.Poll.{Poll}
-use Rattle.desk_words.specs.declared.records.PresenceMark.{PresenceMark}
-use Rattle.desk_words.specs.declared.records.RegisterRow.{RegisterRow}
 use Rattle.desk_words.specs.declared.records.Resolution.{Resolution}
 use Rattle.desk_rows.specs.declared.kept.InMeeting.{InMeeting}
 use Rattle.desk_rows.specs.declared.kept.MeetingRow.{MeetingRow}
 use Rattle.desk_records.specs.Office.{FlatLists, of_meeting, lists_with, name_meetings, have_meetings, office_of_records}
 use Rattle.desk_records.proofs.Names.{ItemOf, ListName, kept_list, owned}
-use Rattle.desk_records.proofs.Names.ListName.{Register, Appointments, Endings, Authorities, Presences, Demands, Polls, Casts}
+use Rattle.desk_records.proofs.Names.ListName.{Register}
 use Rattle.desk_records.proofs.OfficeLemmas.{AllStand, AreOf, ChangesOne, have_all, office_changed, stands_there, with_changed}
 use Rattle.desk_records.proofs.RecordLemmas.{in_meeting, of_meeting-last, of_meeting-same, stand-append, stand-own}
 
@@ -113,28 +105,3 @@ list_of n = record {
   stood = λ flat stand. stand.lists n;
   stand = λ l flat stand one. have_all ((kept_list n).with_all l flat) (stand_with n l flat stand one);
 }
-
--- the register stands in the order of members, the polls in that of resolutions, and the others as they came
-abbrev pub the_register : ListOf RegisterRow
-the_register = list_of Register
-
-abbrev pub the_appointments : ListOf Appointment
-the_appointments = list_of Appointments
-
-abbrev pub the_endings : ListOf Ending
-the_endings = list_of Endings
-
-abbrev pub the_authorities : ListOf Authority
-the_authorities = list_of Authorities
-
-abbrev pub the_presences : ListOf PresenceMark
-the_presences = list_of Presences
-
-abbrev pub the_demands : ListOf DemandMark
-the_demands = list_of Demands
-
-abbrev pub the_polls : ListOf Poll
-the_polls = list_of Polls
-
-abbrev pub the_casts : ListOf CastMark
-the_casts = list_of Casts

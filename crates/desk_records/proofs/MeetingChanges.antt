@@ -18,7 +18,7 @@ use Rattle.desk_words.proofs.RowLemmas.{same_name-true}
 use Rattle.desk_rows.specs.declared.kept.MeetingRow.{MeetingRow}
 use Rattle.desk_schema.specs.Contents.{loaded_at, opened_at}
 use Rattle.desk_records.specs.Office.{FlatLists, have_meetings, office_of_records, of_meeting}
-use Rattle.desk_records.proofs.ListChanges.{all_pass, list_changed, the_register}
+use Rattle.desk_records.proofs.ListChanges.{all_pass, list_changed, list_of}
 use Rattle.desk_records.proofs.Names.{kept_list}
 use Rattle.desk_records.proofs.Names.ListName.{Register}
 use Rattle.desk_records.proofs.OfficeLemmas.{AllStand, AreOf, are_of, have_all, office_changed, office_is, stands_there, with_changed}
@@ -89,7 +89,7 @@ module _ (flat : FlatLists) (id : List ℕ) (rows : List RegisterRow) (office : 
     (one : list_any (λ (x : MeetingLists). same_name x.meeting.id id) office.meetings ≡ true) (sorted : sort_by member_before rows ≡ rows) where
   rows_replaced : office_of_records (with_register flat id rows) ≡ Some (with_changed id (λ x. record x { register = rows }) office)
   rows_replaced =
-      list_changed the_register flat (filter (is_other id) flat.register ++ map (in_meeting id) rows) id (λ _. rows) (λ _. true)
+      list_changed (list_of Register) flat (filter (is_other id) flat.register ++ map (in_meeting id) rows) id (λ _. rows) (λ _. true)
       (λ m rs _ is. ap (sort_by member_before) (subst (λ n. of_meeting n (filter (is_other id) flat.register ++ map (in_meeting id) rows) ≡ rows) (sym (same_name-true m.id id is)) own) ∙ sorted)
       (λ name other.
       of_meeting-append name (filter (is_other id) flat.register) (map (in_meeting id) rows)

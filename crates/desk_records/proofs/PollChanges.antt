@@ -16,7 +16,7 @@ use Rattle.desk_words.specs.declared.office.MeetingLists.{MeetingLists}
 use Rattle.desk_words.specs.declared.office.OfficeLists.{OfficeLists}
 use Rattle.desk_words.specs.declared.records.Poll.{Poll}
 use Rattle.desk_records.specs.Office.{FlatLists, of_meeting, office_of_records}
-use Rattle.desk_records.proofs.ListChanges.{list_changed, the_polls}
+use Rattle.desk_records.proofs.ListChanges.{list_changed, list_of}
 use Rattle.desk_records.proofs.ListLemmas.{map-once, sort_by-last, sort_by-map}
 use Rattle.desk_records.proofs.Names.ListName.{Polls}
 use Rattle.desk_records.proofs.OfficeLemmas.{AreOf, stands_there, with_changed}
@@ -47,7 +47,7 @@ pub poll_added : (flat : FlatLists) (id : List ℕ) (added : Poll) (office : Off
     → list_any (λ (x : MeetingLists). same_name x.meeting.id id) office.meetings ≡ true → list_all (takes_poll id added) office.meetings ≡ true
     → office_of_records (record flat { polls = flat.polls ++ in_meeting id added ∷ [] }) ≡ Some (with_changed id (λ x. record x { polls = insert_by poll_before added x.polls }) office)
 poll_added flat id added office of differ one =
-    list_changed the_polls flat (flat.polls ++ in_meeting id added ∷ []) id (insert_by poll_before added) (takes_poll id added)
+    list_changed (list_of Polls) flat (flat.polls ++ in_meeting id added ∷ []) id (insert_by poll_before added) (takes_poll id added)
     (λ m rs good is. ap (sort_by poll_before) (of_meeting-last id m.id flat.polls added is) ∙ last_poll (of_meeting m.id flat.polls) added (rw is at good))
     (λ name other. of_meeting-same id name flat.polls added other)
     office of (stand-append flat.meetings flat.polls (in_meeting id added ∷ []) (of.stand.lists Polls) (stand-own flat.meetings id (added ∷ []) (sym (stands_there flat office id of) ∙ one))) differ
@@ -82,7 +82,7 @@ module _ (resolution : ℕ) (change : Poll → Poll) (same : (p : Poll) → (cha
       → list_all (λ (x : MeetingLists). ascends_by poll_before x.polls) office.meetings ≡ true
       → office_of_records (record flat { polls = map (change_in id is_on change) flat.polls }) ≡ Some (with_changed id (λ x. record x { polls = change_first is_on change x.polls }) office)
   poll_moved flat id office of =
-      list_changed the_polls flat (map (change_in id is_on change) flat.polls) id (change_first is_on change) (λ (x : MeetingLists). ascends_by poll_before x.polls)
+      list_changed (list_of Polls) flat (map (change_in id is_on change) flat.polls) id (change_first is_on change) (λ (x : MeetingLists). ascends_by poll_before x.polls)
       (λ m rs good is. ap (sort_by poll_before) (of_meeting-changed id is_on change m.id flat.polls is) ∙ changed_once (of_meeting m.id flat.polls) good)
       (λ name other. of_meeting-unchanged id is_on change name flat.polls other)
       office of (stand-map flat.meetings (change_in id is_on change) (λ r. keeps r.meeting r.item) flat.polls ∙ of.stand.lists Polls)

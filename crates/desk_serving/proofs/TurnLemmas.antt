@@ -1,6 +1,6 @@
 -- One turn after another.
-use Rattle.std.proofs.Common.{◌≡◌, ◌⊎◌, inl, inr, ℕ, ◌+◌, ◌≤◌, false, List, [], ◌∷◌, ◌++◌, length, Option, Some, None, Result, Ok, Err, IsTrue, refl, subst, sym, arith, length-append}
-use Rattle.sqlite.specs.State.{State, HasCleanDisk}
+use Rattle.std.proofs.Common.{◌≡◌, ◌⊎◌, inl, inr, ℕ, ◌+◌, ◌≤◌, false, List, [], ◌∷◌, ◌++◌, Option, Some, None, Result, Ok, Err, refl, subst, sym, arith, length-append}
+use Rattle.sqlite.specs.State.{State}
 use Rattle.desk_clocks.specs.Gives.{GaveInTurn}
 use Rattle.desk_records.specs.Standing.{Stands}
 use Rattle.desk_http.specs.Answers.{MakesCall, call_received, call_of}
@@ -16,7 +16,7 @@ use Rattle.desk_words.specs.declared.caller.Caller.{Caller}
 use Rattle.desk_words.specs.declared.request.Call.{Call}
 use Rattle.desk_words.specs.declared.request.Request.{Request}
 use Rattle.meeting_core.specs.Step.{run_of, stepped}
-use Rattle.desk_serving.specs.Turns.{AreMadeAt, HasRun, IsMadeAt, Ran, Turned}
+use Rattle.desk_serving.specs.Turns.{AreMadeAt, IsMadeAt, Ran, Turned}
 
 -- a run goes on from the office that another left
 run-then : (office : OfficeLists) (made later : List (Option Call)) → (run_of (run_of office (calls_in made)).office (calls_in later)).office ≡ (run_of office (calls_in (made ++ later))).office

@@ -10,7 +10,6 @@ use Rattle.desk_files.specs.Whole.{IsWhyUnread, HaveCome, IsReadWhole}
 use Rattle.desk_files.specs.declared.fault.FileFault.{FileFault}
 use Rattle.desk_files.specs.declared.fault.FileFault.TheVariants as file
 use Rattle.desk_endings.specs.Endings.{Ending}
-use Rattle.desk_records.specs.Standing.{Stands}
 use Rattle.desk_tasks.specs.Loading.{Follows, Loads}
 use Rattle.desk_tasks.specs.Reading.{Reader, load_asked}
 

@@ -1,14 +1,12 @@
 -- What the office's calls read decides them.
-use Rattle.std.proofs.Common.{◌≡◌, ℕ, Bool, true, false, refl, ap, true≢false}
-use Rattle.std.specs.Prelude.{◌++◌, is_some, length}
+use Rattle.std.proofs.Common.{◌≡◌, true, false, refl, ap, true≢false}
+use Rattle.std.specs.Prelude.{◌++◌, is_some}
 use Rattle.desk_words.specs.Rulings.{Ruling, ruled_within, settled}
 use Rattle.desk_words.specs.declared.answer.Answer.{Answer}
 use Rattle.desk_words.specs.declared.caller.Caller.TheVariants as caller
 use Rattle.desk_words.specs.declared.change.Change.{Change}
 use Rattle.desk_words.specs.declared.change.Change.TheVariants.{InMeeting}
 use Rattle.desk_words.specs.declared.change.MeetingChange.{MeetingChange}
-use Rattle.desk_words.specs.declared.office.OfficeLists.{OfficeLists}
-use Rattle.desk_words.specs.declared.request.DeskRequest.{DeskRequest}
 use Rattle.desk_words.specs.declared.request.DeskRequest.TheVariants.{CallMeeting, ClosedDays, Keys}
 use Rattle.desk_words.specs.declared.request.OfficeRequest.TheVariants.{Presence}
 use Rattle.desk_words.specs.declared.request.Request.{Request}
@@ -18,7 +16,7 @@ use Rattle.office_answers.specs.Calls.{ruling_of_call}
 use Rattle.office_answers.specs.Lists.{closed_ruling, keys_ruling}
 use Rattle.office_answers.specs.Reads.{RulingsReadNoMore, lists_read}
 use Rattle.meeting_core.specs.Step.{side_cases}
-use Rattle.meeting_laws.specs.OfficeReads.{AgreeOn, DeskReadIsEnough, ListsReadAreEnough}
+use Rattle.meeting_laws.specs.OfficeReads.{DeskReadIsEnough, ListsReadAreEnough}
 use Rattle.meeting_laws.specs.WrongAnswers.{a_meeting, another}
 use Rattle.meeting_laws.specs.WrongOfficeReads.{ReadsTooFew, lone_office, reads_no_presence}
 use Rattle.meeting_laws.specs.WrongOwnThings.{meeting_with_presence, quiet_meeting}

@@ -12,7 +12,7 @@ use Rattle.desk_tables.specs.Versions.{AreNoted, NotesVersion}
 use Rattle.desk_tables.proofs.DeskLemmas.{desk_notes}
 use Rattle.office_lists.specs.Yields.{fault_of_error}
 use Rattle.office_lists.specs.declared.fault.ReadFault.{ReadFault}
-use Rattle.party_reading.specs.Telling.{IsToldOf, TellsOnly}
+use Rattle.party_reading.specs.Telling.{IsToldOf}
 use Rattle.party_reading.proofs.FoundLemmas.{error_tells}
 
 module _ {S X : Type 0} (g : store.Ghosts S) (a b : Held S) (kept : HasCleanDisk (state g b) → NotesVersion (state g a).now.schema → KeepsCommit (state g a) (state g b))

@@ -1,5 +1,5 @@
 -- What is ruled in a meeting is ruled from what is read.
-use Rattle.std.proofs.Common.{◌≡◌, ℕ, Bool, true, false, not, cond, ◌||◌, ◌&&◌, List, [], ◌∷◌, filter, Option, Some, None, refl, sym, ap, subst, ◌∙◌}
+use Rattle.std.proofs.Common.{◌≡◌, ℕ, Bool, true, false, not, cond, ◌||◌, ◌&&◌, List, [], ◌∷◌, filter, Option, Some, None, refl, sym, ap, ◌∙◌}
 use Rattle.std.specs.Prelude.{option_map}
 use Rattle.std.specs.List.{list_any}
 use Rattle.desk_words.specs.Names.{same_name}
@@ -10,14 +10,13 @@ use Rattle.desk_words.specs.declared.change.MeetingChange.{MeetingChange}
 use Rattle.desk_words.specs.declared.change.MeetingChange.TheVariants.{Enter}
 use Rattle.desk_words.specs.declared.office.MeetingLists.{MeetingLists}
 use Rattle.desk_words.specs.declared.records.PresenceMark.{PresenceMark}
-use Rattle.desk_words.specs.declared.request.NewPoll.{NewPoll}
 use Rattle.desk_words.specs.declared.request.OfficeRequest.{OfficeRequest}
 use Rattle.desk_words.specs.declared.request.OfficeRequest.TheVariants.{LoadRegister, Presence, OpenMeeting, Order, Start, Close, Declare}
 use Rattle.desk_terms.specs.declared.refusal.Refusal.TheVariants.{NoMeeting}
 use Rattle.desk_words.proofs.OfficeFacts.{meeting_facts, meeting_from_facts}
 use Rattle.office_answers.specs.Answers.{office_ruling, ruling_on}
 use Rattle.office_answers.specs.Polls.{order_ruling}
-use Rattle.office_answers.specs.Reads.{days_read, lists_read, polls_alone, reads_register, RulingsReadNoMore, ReadMeetingsAreMeetings}
+use Rattle.office_answers.specs.Reads.{days_read, lists_read, polls_alone, RulingsReadNoMore, ReadMeetingsAreMeetings}
 
 -- whether one passes is told from those that pass
 any_passing : {X : Type 0} (test : X → Bool) (xs : List X) → list_any test (filter test xs) ≡ list_any test xs

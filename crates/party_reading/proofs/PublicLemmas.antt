@@ -19,7 +19,8 @@ use Rattle.desk_rows.specs.declared.kept.NumberedResolution.{NumberedResolution}
 use Rattle.desk_rows.proofs.MeaningLemmas.{bound}
 use Rattle.desk_schema.specs.Contents.{without_resolutions}
 use Rattle.desk_records.specs.Office.{FlatLists, flat_in, of_meeting, office_of_records, whole_meeting}
-use Rattle.desk_records.proofs.ListChanges.{the_polls}
+use Rattle.desk_records.proofs.ListChanges.{list_of}
+use Rattle.desk_records.proofs.Names.ListName.{Polls}
 use Rattle.desk_records.proofs.OfficeLemmas.{AreOf, are_of}
 use Rattle.desk_records.proofs.PollChanges.{polls_ascend}
 use Rattle.desk_reading.specs.Reading.{IsReading}
@@ -99,7 +100,7 @@ no_meeting office id = go (meeting_named office.meetings id)
 -- ---- the polls
 
 pub polls_so : (id : List ℕ) (flat : FlatLists) (office : OfficeLists) → AreOf flat office → sort_by poll_before (of_meeting id flat.polls) ≡ polls_in (meeting_named office.meetings id)
-polls_so id flat office of = list_is the_polls refl flat office id of ∙ same (meeting_named office.meetings id)
+polls_so id flat office of = list_is (list_of Polls) refl flat office id of ∙ same (meeting_named office.meetings id)
   where
     same : (found : Option MeetingLists) → option_map_or (λ (m : MeetingLists). m.polls) found [] ≡ polls_in found
     same None = refl

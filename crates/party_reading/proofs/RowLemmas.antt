@@ -24,7 +24,8 @@ use Rattle.desk_words.proofs.OfficeFacts.{found_facts, register_ascends}
 use Rattle.desk_words.proofs.RowLemmas.{same_name-true, same_name-refl}
 use Rattle.desk_rows.specs.declared.kept.InMeeting.{InMeeting}
 use Rattle.desk_records.specs.Office.{FlatLists, of_meeting}
-use Rattle.desk_records.proofs.ListChanges.{the_register}
+use Rattle.desk_records.proofs.ListChanges.{list_of}
+use Rattle.desk_records.proofs.Names.ListName.{Register}
 use Rattle.desk_records.proofs.OfficeLemmas.{AreOf}
 use Rattle.proxy_rules.specs.Holdings.{is_ended_of, is_given_by}
 use Rattle.proxy_rules.specs.Parties.{authorises, is_authority_of, is_cast_by, is_demanded_by, is_presence_of}
@@ -107,7 +108,7 @@ pub row_so : (id member : List ℕ) (flat : FlatLists) (office : OfficeLists) �
 row_so id member flat office of kept =
     let rows = of_meeting id flat.register in
     let sorted = sort_by member_before rows in
-    let are : sorted ≡ register_in (meeting_named office.meetings id) = list_is the_register refl flat office id of in
+    let are : sorted ≡ register_in (meeting_named office.meetings id) = list_is (list_of Register) refl flat office id of in
     let up : ascends_by member_before sorted ≡ true = subst (λ l. ascends_by member_before l ≡ true) (sym are) (register_rises office id kept) in
     let differ : differ_by same_member rows ≡ true =
     sym (differ_by_key-IsPermutation nat_list_cmp_total (λ (row : RegisterRow). row.member) rows sorted (IsPermutation-sort_by member_before rows)) ∙ differs-from_ascends_by nat_list_cmp_total (λ (row : RegisterRow). row.member) sorted up in

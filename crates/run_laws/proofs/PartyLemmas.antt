@@ -30,7 +30,6 @@ use Rattle.caller_view.specs.Public.{PublicRecord}
 use Rattle.caller_view.specs.Reads.{given_read, rows_read}
 use Rattle.caller_view.specs.Rows.{no_rows_of, rows_in}
 use Rattle.caller_view.specs.Views.{meeting_at, own_of, public_in, public_of}
-use Rattle.caller_view.specs.declared.rows.OwnRows.{OwnRows}
 use Rattle.caller_view.specs.declared.views.OwnView.{OwnView}
 use Rattle.meeting_core.specs.Step.{decided}
 use Rattle.meeting_core.proofs.RulingLemmas.{change_of, settled_within}

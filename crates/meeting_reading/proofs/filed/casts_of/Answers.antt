@@ -1,6 +1,7 @@
 use Rattle.std.proofs.Common.{refl}
 use Rattle.desk_schema.specs.Contents as table
-use Rattle.desk_records.proofs.ListChanges.{the_casts}
+use Rattle.desk_records.proofs.ListChanges.{list_of}
+use Rattle.desk_records.proofs.Names.ListName.{Casts}
 use Rattle.party_reading.proofs.FoundLemmas.{items_told}
 use Rattle.party_reading.proofs.MeetingLemmas.{list_is}
 use Rattle.meeting_reading.proofs.filed.casts_of.Goals as goal
@@ -8,4 +9,4 @@ use Rattle.meeting_reading.proofs.filed.casts_of.Goals as goal
 pub returns-clause-told : goal.returns-clause-told
 returns-clause-told g c =
     items_told g.S.Store c.args.tx.now.conn.now c.casts.new.tx.conn.now (λ v. v.items) table.casts (λ flat. flat.casts) (λ trees flat held. held.casts) _ c.casts.result c.casts.ensures.rows c.casts.ensures.changes
-    c.found.result c.found.ensures c.filed.result c.filed.ensures _ (λ flat office of kept. list_is the_casts refl flat office c.args.meeting of)
+    c.found.result c.found.ensures c.filed.result c.filed.ensures _ (λ flat office of kept. list_is (list_of Casts) refl flat office c.args.meeting of)

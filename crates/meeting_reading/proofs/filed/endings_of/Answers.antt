@@ -1,6 +1,7 @@
 use Rattle.std.proofs.Common.{refl}
 use Rattle.desk_schema.specs.Contents as table
-use Rattle.desk_records.proofs.ListChanges.{the_endings}
+use Rattle.desk_records.proofs.ListChanges.{list_of}
+use Rattle.desk_records.proofs.Names.ListName.{Endings}
 use Rattle.party_reading.proofs.FoundLemmas.{items_told}
 use Rattle.party_reading.proofs.MeetingLemmas.{list_is}
 use Rattle.meeting_reading.proofs.filed.endings_of.Goals as goal
@@ -8,4 +9,4 @@ use Rattle.meeting_reading.proofs.filed.endings_of.Goals as goal
 pub returns-clause-told : goal.returns-clause-told
 returns-clause-told g c =
     items_told g.S.Store c.args.tx.now.conn.now c.endings.new.tx.conn.now (λ v. v.items) table.endings (λ flat. flat.endings) (λ trees flat held. held.endings) _ c.endings.result c.endings.ensures.rows c.endings.ensures.changes
-    c.found.result c.found.ensures c.filed.result c.filed.ensures _ (λ flat office of kept. list_is the_endings refl flat office c.args.meeting of)
+    c.found.result c.found.ensures c.filed.result c.filed.ensures _ (λ flat office of kept. list_is (list_of Endings) refl flat office c.args.meeting of)

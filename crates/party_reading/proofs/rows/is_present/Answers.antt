@@ -3,7 +3,8 @@ use Rattle.desk_words.specs.Finding.{meeting_named}
 use Rattle.desk_words.specs.declared.office.OfficeLists.{OfficeLists}
 use Rattle.desk_words.specs.declared.records.PresenceMark.{PresenceMark}
 use Rattle.desk_schema.specs.Contents as table
-use Rattle.desk_records.proofs.ListChanges.{the_presences}
+use Rattle.desk_records.proofs.ListChanges.{list_of}
+use Rattle.desk_records.proofs.Names.ListName.{Presences}
 use Rattle.proxy_rules.specs.Parties.{is_presence_of}
 use Rattle.party_reading.specs.Lists.{presences_in}
 use Rattle.party_reading.proofs.FoundLemmas.{items_told, received_so}
@@ -20,11 +21,11 @@ returns-in_err-marks-clause-told g c =
     let is : c.from_residual.result ≡ Err c.in_err-marks.field-0.0 = search rules in
     told_stop g.S.Store _ _ (AreMarks c.args.meeting c.args.party) _ c.in_err-marks.field-0.0 c.from_residual.result is
     (items_told g.S.Store c.args.tx.now.conn.now c.of_party.new.tx.conn.now (λ v. v.items) table.presences (λ flat. flat.presences) (λ trees flat held. held.presences) _ c.of_party.result c.of_party.ensures.rows c.of_party.ensures.changes c.found.result c.found.ensures
-    (Err c.in_err-marks.field-0.0) c.in_err-marks.ensures (AreMarks c.args.meeting c.args.party) (λ flat office of kept. received_so the_presences (λ l. refl) c.args.meeting (is_presence_of c.args.party) flat office of))
+    (Err c.in_err-marks.field-0.0) c.in_err-marks.ensures (AreMarks c.args.meeting c.args.party) (λ flat office of kept. received_so (list_of Presences) (λ l. refl) c.args.meeting (is_presence_of c.args.party) flat office of))
 
 pub returns-clause-told : goal.returns-clause-told
 returns-clause-told g c =
     told_so g.S.Store _ _ (AreMarks c.args.meeting c.args.party) _ c.in_ok-marks.marks _
     (items_told g.S.Store c.args.tx.now.conn.now c.of_party.new.tx.conn.now (λ v. v.items) table.presences (λ flat. flat.presences) (λ trees flat held. held.presences) _ c.of_party.result c.of_party.ensures.rows c.of_party.ensures.changes c.found.result c.found.ensures
-    _ c.in_ok-marks.ensures (AreMarks c.args.meeting c.args.party) (λ flat office of kept. received_so the_presences (λ l. refl) c.args.meeting (is_presence_of c.args.party) flat office of))
+    _ c.in_ok-marks.ensures (AreMarks c.args.meeting c.args.party) (λ flat office of kept. received_so (list_of Presences) (λ l. refl) c.args.meeting (is_presence_of c.args.party) flat office of))
     (λ office kept marks. ap not c.is_empty.ensures ∙ ap (λ (l : List PresenceMark). not (length l == 0)) marks ∙ some_pass (is_presence_of c.args.party) (presences_in (meeting_named office.meetings c.args.meeting)))
