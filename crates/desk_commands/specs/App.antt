@@ -52,31 +52,31 @@ abbrev pub loading : Text → App → App
 loading id a = with_rule (with_rule a (wanted id)) zone
 
 abbrev pub init_app : App
-init_app = on_file (codes "init_app")
+init_app = on_file (codes "init")
 
 abbrev pub keys_app : App
-keys_app = loading (codes "CSV") (on_file (codes "keys_app"))
+keys_app = loading (codes "CSV") (on_file (codes "keys"))
 
 abbrev pub days_app : App
-days_app = loading (codes "TXT") (on_file (codes "days_app"))
+days_app = loading (codes "TXT") (on_file (codes "days"))
 
 abbrev pub register_app : App
 register_app =
-    loading (codes "CSV") (with_rule (on_meeting (codes "register_app")) (wanted (codes "RECORD")))
+    loading (codes "CSV") (with_rule (on_meeting (codes "register")) (wanted (codes "RECORD")))
 
 abbrev pub serve_app : App
-serve_app = with_rule (with_rule (with_rule (on_file (codes "serve_app")) port) requests) zone
+serve_app = with_rule (with_rule (with_rule (on_file (codes "serve")) port) requests) zone
 
 abbrev pub results_app : App
-results_app = on_meeting (codes "results_app")
+results_app = on_meeting (codes "results")
 
 abbrev pub replay_app : App
-replay_app = new_app (codes "replay_app")
+replay_app = new_app (codes "replay")
 
 abbrev pub top : App
 top =
-    record (new_app (codes "desk_app")) {
-      top = record (new_app (codes "desk_app")).top {
+    record (new_app (codes "desk")) {
+      top = record (new_app (codes "desk")).top {
         subcommand_required = true;
         arg_required_else_help = true;
         no_binary_name = true;
