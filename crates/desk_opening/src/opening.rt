@@ -24,7 +24,7 @@ use crate::version::judge_version;
 use desk_reading::read_office;
 use desk_tables::columns;
 use desk_words::OfficeLists;
-use office_checks::office_of;
+use office_checks::office_checked;
 use sqlite::{Alter, Connection, Error, ErrorCode, Transaction};
 use std::alloc::Global;
 
@@ -81,7 +81,7 @@ fn judge_lists(alloc: Global, lists: OfficeLists) -> Result<OfficeLists, OpenFau
     ensures wrong { result ≡ Err NotADesk → is_office (office_in_order lists) ≡ false }
     ensures other { result ≢ Err NewerVersion }
 {
-    match office_of(alloc, lists) {
+    match office_checked(alloc, lists) {
         Ok(Some(office)) => Ok(office),
         Ok(None) => Err(OpenFault::NotADesk),
         Err(_) => Err(OpenFault::Memory),

@@ -19,7 +19,7 @@ use desk_words::{
     Answer, Change, DayList, KeyRows, MeetingId, MeetingLists, Moment, NewMeeting, OfficeRequest,
 };
 use office_answers::{call_meeting, load_days, load_keys, office_answer};
-use office_checks::meeting_of;
+use office_checks::meeting_checked;
 use office_days::Closed;
 use std::alloc::{AllocError, Global};
 
@@ -48,7 +48,7 @@ fn checked(alloc: Global, lists: MeetingLists) -> Result<MeetingLists, BookFault
     ensures value { IfOk result (λ m. (is_meeting m ≡ true) × (m ≡ in_order lists)) }
     ensures no_office { result ≡ Err NoOffice → is_meeting (in_order lists) ≡ false }
 {
-    let found = meeting_of(alloc, lists)?;
+    let found = meeting_checked(alloc, lists)?;
     of_a_meeting(found)
 }
 

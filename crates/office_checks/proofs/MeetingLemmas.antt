@@ -52,16 +52,16 @@ is_meeting-unloaded m h = elim (cases_Bool (is_meeting m)) [
 ]
 
 -- lists whose register is not loaded as it should be are none of a meeting
-pub meeting_of-unloaded : (m : MeetingLists) → loaded_of m ≡ None → meeting_checked m ≡ None
-meeting_of-unloaded m none = ap (λ b. cond b (Some (in_order m)) None) (is_meeting-unloaded (in_order m) (given-none (is_loaded_right (in_order m)) (in_order m) none))
+pub meeting_checked-unloaded : (m : MeetingLists) → loaded_of m ≡ None → meeting_checked m ≡ None
+meeting_checked-unloaded m none = ap (λ b. cond b (Some (in_order m)) None) (is_meeting-unloaded (in_order m) (given-none (is_loaded_right (in_order m)) (in_order m) none))
 
 pub loaded_of-right : (m n : MeetingLists) → loaded_of m ≡ Some n → is_loaded_right n ≡ true
 loaded_of-right m n some =
     let both = given-some (is_loaded_right (in_order m)) (in_order m) n some in ap is_loaded_right (sym both.1) ∙ both.0
 
 -- the others are those of a meeting where the other tests hold
-pub meeting_of-loaded : (m n : MeetingLists) (b : Bool) → loaded_of m ≡ Some n → is_meeting n ≡ b → meeting_checked m ≡ cond b (Some n) None
-meeting_of-loaded m n b some is =
+pub meeting_checked-loaded : (m n : MeetingLists) (b : Bool) → loaded_of m ≡ Some n → is_meeting n ≡ b → meeting_checked m ≡ cond b (Some n) None
+meeting_checked-loaded m n b some is =
     let both = given-some (is_loaded_right (in_order m)) (in_order m) n some in
     ap (λ x. cond (is_meeting x) (Some x) None) both.1 ∙ ap (λ c. cond c (Some n) None) is
 
@@ -69,19 +69,19 @@ meeting_of-loaded m n b some is =
 abbrev pub are_each : List MeetingLists → Bool
 are_each ms = list_all (λ m. is_meeting (in_order m)) ms
 
-pub each_of-none : (ms : List MeetingLists) (i : ℕ) (m : MeetingLists) → (i < length ms) × (m ≡ get_or ms i m) → meeting_checked m ≡ None → each_checked ms ≡ None
-each_of-none ms i m turn none =
+pub each_checked-none : (ms : List MeetingLists) (i : ℕ) (m : MeetingLists) → (i < length ms) × (m ≡ get_or ms i m) → meeting_checked m ≡ None → each_checked ms ≡ None
+each_checked-none ms i m turn none =
     let wrong = given-none (is_meeting (in_order m)) (in_order m) none in
     ap (λ b. cond b (Some (map in_order ms)) None)
     (list_all-map is_meeting in_order ms ∙ list_all_at (λ x. is_meeting (in_order x)) ms i m turn.0 (ap (λ x. is_meeting (in_order x)) (sym turn.1) ∙ wrong))
 
-pub each_of-some : (ms found : List MeetingLists) → found ≡ map in_order ms → are_each ms ≡ true → each_checked ms ≡ Some found
-each_of-some ms found made all =
+pub each_checked-some : (ms found : List MeetingLists) → found ≡ map in_order ms → are_each ms ≡ true → each_checked ms ≡ Some found
+each_checked-some ms found made all =
     ap (λ b. cond b (Some (map in_order ms)) None) (list_all-map is_meeting in_order ms ∙ all) ∙ ap (λ l. Some l) (sym made)
 
-pub each_of-more : (ms found : List MeetingLists) (m n : MeetingLists) → found ≡ map in_order ms → are_each ms ≡ true → meeting_checked m ≡ Some n
+pub each_checked-more : (ms found : List MeetingLists) (m n : MeetingLists) → found ≡ map in_order ms → are_each ms ≡ true → meeting_checked m ≡ Some n
     → (found ++ n ∷ [] ≡ map in_order (ms ++ m ∷ [])) × (are_each (ms ++ m ∷ []) ≡ true)
-each_of-more ms found m n made all some =
+each_checked-more ms found m n made all some =
     let both = given-some (is_meeting (in_order m)) (in_order m) n some in (
       ap (λ l. l ++ n ∷ []) made ∙ ap (λ x. map in_order ms ++ x ∷ []) (sym both.1) ∙ sym (map-append in_order ms (m ∷ [])),
       list_all-append (λ x. is_meeting (in_order x)) ms (m ∷ []) ∙ both_true all (both_true both.0 refl),

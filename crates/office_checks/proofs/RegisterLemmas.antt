@@ -38,8 +38,8 @@ holdings-sorted rows =
     ∙ ap (λ b. keep_limits rows && b) (members-sorted rows)
 
 -- the rows of a loaded register are the register of the rows
-pub rows_of-loaded : (rows : List RegisterRow) → rows_checked true rows ≡ register_of rows
-rows_of-loaded rows = ap (λ b. cond b (Some (sort_by member_before rows)) None) (holdings-sorted rows)
+pub rows_checked-loaded : (rows : List RegisterRow) → rows_checked true rows ≡ register_of rows
+rows_checked-loaded rows = ap (λ b. cond b (Some (sort_by member_before rows)) None) (holdings-sorted rows)
 
 some_rows : (row : RegisterRow) (rows : List RegisterRow) → no_rows (insert_by member_before row rows) ≡ false
 some_rows row [] = refl
@@ -48,17 +48,17 @@ some_rows row (first ∷ rest) =
     [ true ↦ refl | false ↦ refl ]
 
 -- where no register is loaded there are no rows
-pub rows_of-none : (rows : List RegisterRow) → length rows ≡ 0 → rows_checked false rows ≡ Some rows
-rows_of-none [] none = refl
-rows_of-none (row ∷ rows) none = absurd (omega arith)
+pub rows_checked-none : (rows : List RegisterRow) → length rows ≡ 0 → rows_checked false rows ≡ Some rows
+rows_checked-none [] none = refl
+rows_checked-none (row ∷ rows) none = absurd (omega arith)
 
 -- and rows are too many
-pub rows_of-some : (rows : List RegisterRow) → (length rows == 0) ≡ false → rows_checked false rows ≡ None
-rows_of-some [] some = absurd (cc)
-rows_of-some (row ∷ rows) some = ap (λ b. cond b (Some (sort_by member_before (row ∷ rows))) None) (some_rows row (sort_by member_before rows))
+pub rows_checked-some : (rows : List RegisterRow) → (length rows == 0) ≡ false → rows_checked false rows ≡ None
+rows_checked-some [] some = absurd (cc)
+rows_checked-some (row ∷ rows) some = ap (λ b. cond b (Some (sort_by member_before (row ∷ rows))) None) (some_rows row (sort_by member_before rows))
 
 -- a fault other than its limits is none that a register has
-pub rows_of-fault : (rows : List RegisterRow) (fault : ListFault) → (◌≡◌ {A = Result (List RegisterRow) ListFault} (Err fault) (Err Limit) → register_of rows ≡ None)
+pub rows_checked-fault : (rows : List RegisterRow) (fault : ListFault) → (◌≡◌ {A = Result (List RegisterRow) ListFault} (Err fault) (Err Limit) → register_of rows ≡ None)
     → (◌≡◌ {A = Result (List RegisterRow) ListFault} (Err fault) (Err Memory) → ⊥) → rows_checked true rows ≡ None
-rows_of-fault rows Limit limit memory = rows_of-loaded rows ∙ limit refl
-rows_of-fault rows Memory limit memory = absurd (memory refl)
+rows_checked-fault rows Limit limit memory = rows_checked-loaded rows ∙ limit refl
+rows_checked-fault rows Memory limit memory = absurd (memory refl)

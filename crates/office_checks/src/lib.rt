@@ -8,5 +8,5 @@ mod meetings;
 mod office;
 mod polls;
 
-pub use meetings::meeting_of;
-pub use office::office_of;
+pub use meetings::meeting_checked;
+pub use office::office_checked;

@@ -19,7 +19,7 @@ use std::alloc::{AllocError, Global};
 
 /// The rows in the order of members, if they are a register where one is loaded, and none where
 /// none is.
-fn rows_of(loaded: bool, rows: Listing<RegisterRow>) -> Option<Listing<RegisterRow>>
+fn rows_checked(loaded: bool, rows: Listing<RegisterRow>) -> Option<Listing<RegisterRow>>
     ensures { result ≡ rows_checked loaded rows }
 {
     if !loaded {
@@ -44,7 +44,7 @@ fn loaded_of(lists: MeetingLists) -> Option<MeetingLists>
     if !is_loaded_once_opened(&lists.meeting) {
         return None;
     }
-    let register = rows_of(lists.meeting.loaded, lists.register)?;
+    let register = rows_checked(lists.meeting.loaded, lists.register)?;
     Some(MeetingLists { register, ..lists })
 }
 
@@ -106,7 +106,10 @@ fn is_meeting(alloc: Global, lists: &MeetingLists) -> Result<bool, AllocError>
 /// The lists of a meeting, or none where they are no meeting's: the lists themselves, the register
 /// put in the order of members first, since it is a set of rows, which may come in any order. It
 /// costs about n log n comparisons. The error is want of memory.
-pub fn meeting_of(alloc: Global, lists: MeetingLists) -> Result<Option<MeetingLists>, AllocError>
+pub fn meeting_checked(
+    alloc: Global,
+    lists: MeetingLists,
+) -> Result<Option<MeetingLists>, AllocError>
     ensures { IfOk result (λ found. found ≡ meeting_checked lists) }
 {
     let Some(lists) = loaded_of(lists) else {
@@ -119,7 +122,7 @@ pub fn meeting_of(alloc: Global, lists: MeetingLists) -> Result<Option<MeetingLi
 }
 
 /// The lists, each register in order, if each are those of a meeting.
-fn each_of(
+fn each_checked(
     alloc: Global,
     meetings: Listing<MeetingLists>,
 ) -> Result<Option<Listing<MeetingLists>>, AllocError>
@@ -127,7 +130,7 @@ fn each_of(
 {
     let mut found = Listing::new(alloc);
     for lists in meetings.into_vec() {
-        let Some(lists) = meeting_of(alloc, lists)? else {
+        let Some(lists) = meeting_checked(alloc, lists)? else {
             return Ok(None);
         };
         found.push(lists)?;
@@ -165,7 +168,7 @@ pub(crate) fn meetings_of(
     if meetings.len() > 100 {
         return Ok(None);
     }
-    let Some(found) = each_of(alloc, meetings)? else {
+    let Some(found) = each_checked(alloc, meetings)? else {
         return Ok(None);
     };
     if !names_differ(alloc, found.as_slice())? {

@@ -9,7 +9,7 @@ use std::alloc::{AllocError, Global};
 /// The office of some lists, or none where they are no office: the lists themselves, each register
 /// put in the order of members first, since a register is a set of rows, which may come in any
 /// order. It costs about n log n comparisons. The error is want of memory.
-pub fn office_of(alloc: Global, lists: OfficeLists) -> Result<Option<OfficeLists>, AllocError>
+pub fn office_checked(alloc: Global, lists: OfficeLists) -> Result<Option<OfficeLists>, AllocError>
     ensures { IfOk result (λ office. office ≡ office_checked lists) }
 {
     let OfficeLists {

@@ -6,7 +6,7 @@ ghost use Rattle.meeting_core.specs.declared.book.lists.BookFault.TheVariants.{M
 
 use crate::book::Book;
 use desk_words::OfficeLists;
-use office_checks::office_of;
+use office_checks::office_checked;
 use office_days::Closed;
 use std::alloc::{AllocError, Global};
 
@@ -58,7 +58,7 @@ impl Book {
         ensures kept { IfOk result (λ b. IsTrue (is_office b)) }
         ensures no_office { result ≡ Err NoOffice → is_office (office_in_order lists) ≡ false }
     {
-        let office = office_of(alloc, lists)?;
+        let office = office_checked(alloc, lists)?;
         book_of(alloc, office)
     }
 }

@@ -1,7 +1,7 @@
 use Rattle.std.proofs.Common.{◌≡◌, true, map}
 use Rattle.office_checks.specs.InOrder.{in_order}
 use Rattle.office_checks.proofs.MeetingLemmas.{are_each}
-use Rattle.office_checks.proofs.meetings.each_of.Given as goal
+use Rattle.office_checks.proofs.meetings.each_checked.Given as goal
 
 -- the first lists are those of meetings, and are found in order
 abbrev pub invariant-loop-lists : goal.invariant-loop-lists
