@@ -1,6 +1,12 @@
 -- What is written of a reply, and what is left of the desk.
 use Rattle.std.specs.Prelude.{◌≡◌, ◌⊎◌, ℕ, ◌+◌, List, Option, Some, None, IsTrue, Result, Ok, Err}
+use Rattle.std.specs.Prelude.{IfErr}
+use Rattle.std.specs.Io.KnownBytes.{Appends}
 use Rattle.sqlite.specs.State.{State, HasCleanDisk}
+use Rattle.desk_devices.specs.Counts.{one_more}
+use Rattle.desk_devices.specs.Written.{AppendsPrefix}
+use Rattle.desk_devices.specs.declared.sink.Sink as sink
+use Rattle.desk_devices.specs.declared.source.Source as source
 use Rattle.desk_heads.specs.declared.front.TheConstants.{LONGEST_HEAD}
 use Rattle.desk_heads.specs.declared.length.TheConstants.{LONGEST_BODY}
 use Rattle.desk_words.specs.Seen.{Moment}
@@ -57,6 +63,31 @@ Serves now received old new IsWritten =
 abbrev pub IsReceived : Option (List ℕ) → Option (List ℕ) → ℕ → ℕ → Received → Type 0
 IsReceived unread left passed passed' received =
     Came (λ input. Spells input received) (LONGEST_HEAD + LONGEST_BODY) unread left passed passed'
+
+-- the bytes came from this source
+abbrev pub Receives : {R : Type 0} → source.Ghosts R → R → R → Received → Type 0
+Receives g before after received =
+    IsReceived (g.remaining before) (g.remaining after) (g.passed before) (g.passed after) received
+
+-- this text was written to the sink
+abbrev pub WritesText : {W : Type 0} → sink.Ghosts W → W → W → List ℕ → Type 0
+WritesText g before after text = Appends (g.contents before) (g.contents after) text
+
+-- some bytes from the front of this text were written to the sink, and not all of them
+abbrev pub WritesPart : {W : Type 0} → sink.Ghosts W → W → W → List ℕ → Type 0
+WritesPart g before after text = AppendsPrefix (g.contents before) (g.contents after) text
+
+-- the source failed, once in the call
+abbrev pub FailsReading : {R : Type 0} → source.Ghosts R → R → R → Type 0
+FailsReading g before after = g.failures after ≡ one_more (g.failures before)
+
+-- the sink failed, once in the call
+abbrev pub FailsWriting : {W : Type 0} → sink.Ghosts W → W → W → Type 0
+FailsWriting g before after = g.failures after ≡ one_more (g.failures before)
+
+-- where a call ended for this fault, this holds
+abbrev pub OnFault : {T E : Type 0} → Result T E → E → Type 0 → Type 0
+OnFault result why Holds = IfErr result (λ fault. fault ≡ why → Holds)
 
 -- there is a failure, and this holds of the text that tells of it
 abbrev pub TellsFailure : Unanswered → (List ℕ → Type 0) → Type 0

@@ -1,12 +1,11 @@
 //! One request, served.
-ghost use Rattle.std.specs.Prelude.{◌≡◌, ◌+◌, ◌≤◌, IfErr, OnErr, OnOk, None, true};
-ghost use Rattle.std.specs.Io.KnownBytes.{Appends, Keeps};
-ghost use Rattle.desk_devices.specs.Counts.{one_more};
-ghost use Rattle.desk_devices.specs.Written.{AppendsPrefix};
+ghost use Rattle.std.specs.Prelude.{◌≡◌, ◌+◌, ◌≤◌, OnErr, OnOk, None, true};
 ghost use Rattle.desk_heads.specs.declared.front.TheConstants.{LONGEST_HEAD};
 ghost use Rattle.desk_heads.specs.declared.length.TheConstants.{LONGEST_BODY};
 ghost use Rattle.desk_http.specs.Answers.{MakesCall, call_received};
-ghost use Rattle.desk_http.specs.Served.{IsReceived, Serves, TellsFailure, as_write, failure_text};
+ghost use Rattle.desk_http.specs.Served.{FailsReading, FailsWriting, OnFault, Receives, Serves};
+ghost use Rattle.desk_http.specs.Served.{TellsFailure, WritesPart, WritesText};
+ghost use Rattle.desk_http.specs.Served.{as_write, failure_text};
 ghost use Rattle.desk_http.specs.declared.answers.Unanswered.TheVariants.{CutOff};
 ghost use Rattle.desk_http.specs.declared.serve.ServeFault.TheVariants.{Read, Write};
 ghost use Rattle.desk_requests.specs.Received.{is_cut_off};
@@ -36,11 +35,11 @@ pub enum ServeFault {
 
 /// Writes a reply.
 fn write_answered<W: Sink>(answered: &Answered, writer: &mut W) -> Result<(), DeviceFailed>
-    ensures written { OnOk result (Appends (W.contents writer.old) (W.contents writer.new)
+    ensures written { OnOk result (WritesText W.Sink writer.old writer.new
         (reply_text answered.now.status answered.now.body.items)) }
     ensures works { OnOk result (W.failures writer.new ≡ W.failures writer.old) }
-    ensures failed { OnErr result (W.failures writer.new ≡ one_more (W.failures writer.old)) }
-    ensures partly { OnErr result (AppendsPrefix (W.contents writer.old) (W.contents writer.new)
+    ensures failed { OnErr result (FailsWriting W.Sink writer.old writer.new) }
+    ensures partly { OnErr result (WritesPart W.Sink writer.old writer.new
         (reply_text answered.now.status answered.now.body.items)) }
 {
     write_reply(answered.status, &answered.body, writer)
@@ -48,12 +47,10 @@ fn write_answered<W: Sink>(answered: &Answered, writer: &mut W) -> Result<(), De
 
 /// Writes the fixed text that tells of a failure.
 fn write_failure<W: Sink>(failure: Failure, writer: &mut W) -> Result<(), DeviceFailed>
-    ensures written { OnOk result (Appends (W.contents writer.old) (W.contents writer.new)
-        (failure_text failure)) }
+    ensures written { OnOk result (WritesText W.Sink writer.old writer.new (failure_text failure)) }
     ensures works { OnOk result (W.failures writer.new ≡ W.failures writer.old) }
-    ensures failed { OnErr result (W.failures writer.new ≡ one_more (W.failures writer.old)) }
-    ensures partly { OnErr result (AppendsPrefix (W.contents writer.old) (W.contents writer.new)
-        (failure_text failure)) }
+    ensures failed { OnErr result (FailsWriting W.Sink writer.old writer.new) }
+    ensures partly { OnErr result (WritesPart W.Sink writer.old writer.new (failure_text failure)) }
 {
     write_all(writer, failure_reply(failure).as_bytes())
 }
@@ -67,15 +64,12 @@ fn sent(written: Result<(), DeviceFailed>) -> Result<(), ServeFault>
 
 /// Writes the fixed text of a failure; nothing where the request was cut off.
 fn write_unanswered<W: Sink>(why: Unanswered, writer: &mut W) -> Result<(), ServeFault>
-    ensures served { OnOk result (TellsFailure why
-        (Appends (W.contents writer.old) (W.contents writer.new))) }
-    ensures partly { IfErr result (λ fault. fault ≡ Write → TellsFailure why
-        (AppendsPrefix (W.contents writer.old) (W.contents writer.new))) }
-    ensures unread { IfErr result (λ fault. fault ≡ Read
-        → (why ≡ CutOff) × (writer.new ≡ writer.old)) }
+    ensures served { OnOk result (TellsFailure why (WritesText W.Sink writer.old writer.new)) }
+    ensures partly { OnFault result Write
+        (TellsFailure why (WritesPart W.Sink writer.old writer.new)) }
+    ensures unread { OnFault result Read ((why ≡ CutOff) × (writer.new ≡ writer.old)) }
     ensures works { OnOk result (W.failures writer.new ≡ W.failures writer.old) }
-    ensures failed { IfErr result (λ fault. fault ≡ Write
-        → W.failures writer.new ≡ one_more (W.failures writer.old)) }
+    ensures failed { OnFault result Write (FailsWriting W.Sink writer.old writer.new) }
 {
     match why {
         Unanswered::Failure(failure) => sent(write_failure(failure, writer)),
@@ -98,19 +92,17 @@ pub fn reply_to<S: Alter, W: Sink>(
 ) -> Result<(), ServeFault>
     ensures served { OnOk result
         (Serves moment received (state S.Store desk.old) (state S.Store desk.new)
-        (Appends (W.contents writer.old) (W.contents writer.new))) }
-    ensures partly { IfErr result (λ fault. fault ≡ Write
-        → Serves moment received (state S.Store desk.old) (state S.Store desk.new)
-        (AppendsPrefix (W.contents writer.old) (W.contents writer.new))) }
+        (WritesText W.Sink writer.old writer.new)) }
+    ensures partly { OnFault result Write
+        (Serves moment received (state S.Store desk.old) (state S.Store desk.new)
+        (WritesPart W.Sink writer.old writer.new)) }
     ensures makes { MakesCall (λ office. call_received office moment received)
         (state S.Store desk.old) (state S.Store desk.new) }
-    ensures unread { IfErr result (λ fault. fault ≡ Read
-        → (is_cut_off received ≡ true)
+    ensures unread { OnFault result Read ((is_cut_off received ≡ true)
         × Leaves None (state S.Store desk.old) (state S.Store desk.new)
         × (writer.new ≡ writer.old)) }
     ensures works { OnOk result (W.failures writer.new ≡ W.failures writer.old) }
-    ensures failed { IfErr result (λ fault. fault ≡ Write
-        → W.failures writer.new ≡ one_more (W.failures writer.old)) }
+    ensures failed { OnFault result Write (FailsWriting W.Sink writer.old writer.new) }
 {
     match answer(alloc, desk, moment, received) {
         Ok(answered) => sent(write_answered(&answered, writer)),
@@ -134,22 +126,18 @@ pub fn serve_one<S: Alter, R: Source, W: Sink>(
     writer: &mut W,
 ) -> Result<(), ServeFault>
     ensures served { OnOk result ((received : Received)
-        × IsReceived (R.remaining reader.old) (R.remaining reader.new)
-        (R.passed reader.old) (R.passed reader.new) received
+        × Receives R.Source reader.old reader.new received
         × Serves moment received (state S.Store desk.old) (state S.Store desk.new)
-        (Appends (W.contents writer.old) (W.contents writer.new))) }
-    ensures partly { IfErr result (λ fault. fault ≡ Write → (received : Received)
-        × IsReceived (R.remaining reader.old) (R.remaining reader.new)
-        (R.passed reader.old) (R.passed reader.new) received
+        (WritesText W.Sink writer.old writer.new)) }
+    ensures partly { OnFault result Write ((received : Received)
+        × Receives R.Source reader.old reader.new received
         × Serves moment received (state S.Store desk.old) (state S.Store desk.new)
-        (AppendsPrefix (W.contents writer.old) (W.contents writer.new))) }
-    ensures unread { IfErr result (λ fault. fault ≡ Read
-        → Leaves None (state S.Store desk.old) (state S.Store desk.new)
-        × (writer.new ≡ writer.old)
-        × (R.failures reader.new ≡ one_more (R.failures reader.old))) }
+        (WritesPart W.Sink writer.old writer.new)) }
+    ensures unread { OnFault result Read
+        (Leaves None (state S.Store desk.old) (state S.Store desk.new)
+        × (writer.new ≡ writer.old) × FailsReading R.Source reader.old reader.new) }
     ensures works { OnOk result (W.failures writer.new ≡ W.failures writer.old) }
-    ensures failed { IfErr result (λ fault. fault ≡ Write
-        → W.failures writer.new ≡ one_more (W.failures writer.old)) }
+    ensures failed { OnFault result Write (FailsWriting W.Sink writer.old writer.new) }
     ensures makes { (received : Received)
         × MakesCall (λ office. call_received office moment received)
         (state S.Store desk.old) (state S.Store desk.new) }

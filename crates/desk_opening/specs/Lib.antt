@@ -1,4 +1,5 @@
 pub mod Crashes
 pub mod Making
+pub mod Opened
 pub mod Opening
 pub mod Rising

@@ -13,7 +13,7 @@ use Rattle.desk_words.specs.declared.office.OfficeLists.{OfficeLists}
 use Rattle.desk_words.specs.Office.{is_office}
 use Rattle.desk_rows.specs.declared.kept.Version.{Version}
 use Rattle.desk_records.specs.Office.{office_in}
-use Rattle.desk_schema.specs.Statements.{ChangesNothing, IsRead, WasOpen}
+use Rattle.desk_schema.specs.Statements.{ChangesNothing, IsDesk, IsRead, WasOpen}
 use Rattle.desk_schema.specs.Tables.{desk_schema}
 use Rattle.desk_tables.specs.Columns.{HasColumns}
 use Rattle.desk_tables.specs.Versions.{AreNoted}
@@ -34,6 +34,12 @@ use Rattle.desk_opening.specs.declared.opening.HandedBack.TheVariants as back
 -- what the tables hold is this, and an office
 abbrev pub HoldsOffice : State → OfficeLists → Type 0
 HoldsOffice s office = (office_in s.now.trees ≡ Some office) × IsTrue (is_office office)
+
+-- the office that the tables of a desk held is told
+abbrev pub TellsOffice : {S : Type 0} → store.Ghosts S → Held S → Held S
+    → Result OfficeLists OpenFault → Type 0
+TellsOffice g old new result =
+    HasCleanDisk (state g new) → IsDesk (state g old) → IfOk result (HoldsOffice (state g old))
 
 -- tables that are no desk's are wrong in this way; of want of memory and of the store's own faults
 -- nothing is said

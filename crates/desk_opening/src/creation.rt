@@ -3,13 +3,14 @@ ghost use Rattle.std.specs.Prelude.{◌≡◌, ◌≢◌, ◌⊎◌, false, IfEr
 ghost use Rattle.std.specs.Prelude.{OnErr, OnOk};
 ghost use Rattle.desk_records.specs.Standing.{Stands};
 ghost use Rattle.desk_opening.specs.Crashes.{LeavesItself};
-ghost use Rattle.desk_opening.specs.Making.{AreMade};
+ghost use Rattle.desk_opening.specs.Opened.{HoldsNothing, IsSettled, KeepsOpenTables};
+ghost use Rattle.desk_opening.specs.Opened.{OnDone, SurvivesMaking};
 ghost use Rattle.desk_opening.specs.declared.fault.CreateFault.TheVariants.{NotEmpty};
 ghost use Rattle.desk_opening.specs.declared.fault.CreateFault.TheVariants as creating;
 ghost use Rattle.desk_schema.specs.Tables.{no_schema};
 ghost use Rattle.desk_words.specs.Changes.{empty_office};
 ghost use Rattle.sqlite.specs.Held.{state};
-ghost use Rattle.sqlite.specs.State.{HasCleanDisk, Survives};
+ghost use Rattle.sqlite.specs.State.{HasCleanDisk};
 
 use crate::fault::CreateFault;
 use crate::making::make_empty_desk;
@@ -43,10 +44,8 @@ fn make_desk<S: Alter>(conn: &mut Connection<S>) -> Result<(), Error>
     ensures same { HasCleanDisk (state S.Store conn.new) → IsTrue (state S.Store conn.new).is_open
         → (state S.Store conn.old).now.schema ≡ no_schema
         → OnErr result ((state S.Store conn.new).now ≡ (state S.Store conn.old).now) }
-    ensures is_open { HasCleanDisk (state S.Store conn.new)
-        → OnOk result (IsTrue (state S.Store conn.new).is_open) }
-    ensures crash { Survives (state S.Store conn.old) (state S.Store conn.new)
-        (AreMade (state S.Store conn.old)) }
+    ensures is_open { OnDone S.Store conn.new result (IsTrue (state S.Store conn.new).is_open) }
+    ensures crash { SurvivesMaking S.Store conn.old conn.new }
 {
     let _ = conn.is_autocommit();
     let mut tx = conn.transaction();
@@ -63,26 +62,20 @@ fn make_desk<S: Alter>(conn: &mut Connection<S>) -> Result<(), Error>
 pub fn create<S: Alter + Drop>(
     conn: Connection<S>,
 ) -> Result<Connection<S>, (CreateFault, Connection<S>)>
-    ensures made { IfOk result (λ made. HasCleanDisk (state S.Store made)
-        → Stands (state S.Store made) empty_office) }
+    ensures made { IfOk result (λ made. HoldsNothing S.Store made) }
     ensures empty { IfOk result (λ _. (state S.Store conn).now.schema ≡ no_schema) }
     ensures none { IfOk result (λ made. made.in_transaction ≡ false) }
     ensures not_empty { IfErr result (λ e. e.0 ≡ NotEmpty
         → (state S.Store conn).now.schema ≢ no_schema) }
     ensures cause { IfErr result (λ e. e.0 ≢ NotEmpty
         → (state S.Store conn).now.schema ≡ no_schema) }
-    ensures same { IfErr result (λ e. HasCleanDisk (state S.Store e.1)
-        → IsTrue (state S.Store e.1).is_open
-        → (state S.Store e.1).now ≡ (state S.Store conn).now) }
+    ensures same { IfErr result (λ e. KeepsOpenTables S.Store conn e.1) }
     ensures ended { IfErr result (λ e. conn.in_transaction ≡ false
         → e.1.in_transaction ≡ false) }
     ensures untouched { IfErr result (λ e. e.0 ≡ NotEmpty → e.1 ≡ conn) }
-    ensures settled { IfOk result (λ made. HasCleanDisk (state S.Store made)
-        → LeavesItself (state S.Store made)) }
-    ensures crash { IfOk result (λ made.
-        Survives (state S.Store conn) (state S.Store made) (AreMade (state S.Store conn))) }
-    ensures unmade { IfErr result (λ e.
-        Survives (state S.Store conn) (state S.Store e.1) (AreMade (state S.Store conn))) }
+    ensures settled { IfOk result (λ made. IsSettled S.Store made) }
+    ensures crash { IfOk result (λ made. SurvivesMaking S.Store conn made) }
+    ensures unmade { IfErr result (λ e. SurvivesMaking S.Store conn e.1) }
     ensures inside { IsTrue conn.in_transaction → IsErrAnd result (λ e.
         ((e.0 ≡ NotEmpty) ⊎ (e.0 ≡ creating.Store)) × (e.1 ≡ conn)) }
 {

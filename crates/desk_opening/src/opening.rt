@@ -1,17 +1,19 @@
 //! The tables of a desk that was kept.
 ghost use Rattle.std.specs.Prelude.{◌≡◌, ◌≢◌, ◌⊎◌, false, Err, IfErr, IfOk, IsTrue, OnOk};
 ghost use Rattle.desk_opening.specs.Crashes.{LeavesItself, LeavesNoMore};
-ghost use Rattle.desk_opening.specs.Opening.{HandsBack, HoldsOffice, IsOpenCause, IsCleanBack};
-ghost use Rattle.desk_opening.specs.Opening.{IsInNone, IsVerdict};
+ghost use Rattle.desk_opening.specs.Opened.{HadColumns, HadVersionOne, IfDeclared, IsSettled};
+ghost use Rattle.desk_opening.specs.Opened.{IsWhyUnopened, KeepsOpenRows, KeepsTables};
+ghost use Rattle.desk_opening.specs.Opened.{OnDone, StaysOpen};
+ghost use Rattle.desk_opening.specs.Opening.{HandsBack, IsInNone, IsOpenCause, IsVerdict};
+ghost use Rattle.desk_opening.specs.Opening.{TellsOffice};
 ghost use Rattle.desk_opening.specs.Rising.{RowsRise};
 ghost use Rattle.desk_records.specs.Standing.{HasNoOffice, IsVersionOne, Stands};
 ghost use Rattle.desk_opening.specs.declared.fault.OpenFault.TheVariants.{NotADesk, NewerVersion};
 ghost use Rattle.desk_opening.specs.declared.fault.OpenFault.TheVariants as opening;
 ghost use Rattle.desk_opening.specs.declared.opening.HandedBack.TheVariants as back;
 ghost use Rattle.desk_schema.specs.Statements.{IsDesk, WasOpen};
-ghost use Rattle.desk_schema.specs.Tables.{desk_schema};
 ghost use Rattle.desk_tables.specs.Columns.{HasColumns};
-ghost use Rattle.desk_tables.specs.Versions.{AreNoted, NotesVersion};
+ghost use Rattle.desk_tables.specs.Versions.{AreNoted};
 ghost use Rattle.desk_words.specs.declared.office.OfficeLists.{OfficeLists};
 ghost use Rattle.desk_words.specs.Office.{is_office};
 ghost use Rattle.office_checks.specs.InOrder.{office_in_order};
@@ -46,10 +48,8 @@ fn reopened<S: Alter + Drop>(
 ) -> Result<Connection<S>, (OpenFault, S)>
     requires { conn.in_transaction ≡ false }
     ensures ended { IfOk result (λ c. c.in_transaction ≡ false) }
-    ensures opened { IfOk result (λ c. HasCleanDisk (state S.Store c)
-        → IsTrue (state S.Store c).is_open) }
-    ensures same { IfOk result (λ c. HasCleanDisk (state S.Store c)
-        → (state S.Store c).now ≡ (state S.Store conn).now) }
+    ensures opened { IfOk result (λ c. StaysOpen S.Store c) }
+    ensures same { IfOk result (λ c. KeepsTables S.Store conn c) }
     ensures rising { IfOk result (λ c. HasCleanDisk (state S.Store c)
         → RowsRise (state S.Store c)) }
     ensures fault { IfErr result (λ e. (e.0 ≢ NotADesk) × (e.0 ≢ NewerVersion)) }
@@ -111,8 +111,7 @@ fn examine<S: Alter>(conn: &mut Connection<S>, alloc: Global) -> Result<OfficeLi
     ensures kept { HasCleanDisk (state S.Store conn.new) → IsTrue (state S.Store conn.old).is_open
         → IsTrue (state S.Store conn.new).is_open
         → (state S.Store conn.new).now.trees ≡ (state S.Store conn.old).now.trees }
-    ensures holds { HasCleanDisk (state S.Store conn.new) → IsDesk (state S.Store conn.old)
-        → IfOk result (HoldsOffice (state S.Store conn.old)) }
+    ensures holds { TellsOffice S.Store conn.old conn.new result }
     ensures office { IfOk result (λ office. IsTrue (is_office office)) }
     ensures none { HasCleanDisk (state S.Store conn.new) → IsDesk (state S.Store conn.old)
         → result ≡ Err NotADesk → HasNoOffice (state S.Store conn.old) }
@@ -134,8 +133,7 @@ fn judge_columns<S: Alter>(conn: &mut Connection<S>) -> Result<(), OpenFault>
     ensures same { HasCleanDisk (state S.Store conn.new) → IsTrue (state S.Store conn.new).is_open
         → IsTrue (state S.Store conn.old).is_open
         × ((state S.Store conn.new).now ≡ (state S.Store conn.old).now) }
-    ensures columns { HasCleanDisk (state S.Store conn.new)
-        → OnOk result (IsTrue (state S.Store conn.new).is_open
+    ensures columns { OnDone S.Store conn.new result (IsTrue (state S.Store conn.new).is_open
         × HasColumns (state S.Store conn.old).now.schema) }
     ensures missing { HasCleanDisk (state S.Store conn.new) → result ≡ Err NotADesk
         → IsTrue (state S.Store conn.old).is_open
@@ -153,13 +151,11 @@ fn ask_open<S: Alter>(conn: &mut Connection<S>) -> Result<(), OpenFault>
     requires { conn.old.in_transaction ≡ false }
     ensures ended { conn.new.in_transaction ≡ false }
     ensures crash { Survives (state S.Store conn.old) (state S.Store conn.new) (λ _. ⊥) }
-    ensures is_open { HasCleanDisk (state S.Store conn.new)
-        → OnOk result (IsTrue (state S.Store conn.new).is_open) }
+    ensures is_open { OnDone S.Store conn.new result (IsTrue (state S.Store conn.new).is_open) }
     ensures same { HasCleanDisk (state S.Store conn.new) → IsTrue (state S.Store conn.new).is_open
         → IsTrue (state S.Store conn.old).is_open
         × ((state S.Store conn.new).now ≡ (state S.Store conn.old).now) }
-    ensures settled { HasCleanDisk (state S.Store conn.new)
-        → OnOk result (LeavesItself (state S.Store conn.new)) }
+    ensures settled { OnDone S.Store conn.new result (LeavesItself (state S.Store conn.new)) }
     ensures fault { IfErr result (λ fault. (fault ≡ opening.Store) ⊎ (fault ≡ opening.Memory)) }
 {
     let _ = conn.is_autocommit();
@@ -174,24 +170,20 @@ fn kept_office<S: Alter>(conn: &mut Connection<S>, alloc: Global) -> Result<Offi
     requires { conn.old.in_transaction ≡ false }
     ensures ended { conn.new.in_transaction ≡ false }
     ensures crash { Survives (state S.Store conn.old) (state S.Store conn.new) (λ _. ⊥) }
-    ensures is_open { HasCleanDisk (state S.Store conn.new)
-        → OnOk result (IsTrue (state S.Store conn.new).is_open) }
-    ensures same { HasCleanDisk (state S.Store conn.new)
-        → OnOk result ((state S.Store conn.new).now ≡ (state S.Store conn.old).now) }
-    ensures kept { HasCleanDisk (state S.Store conn.new) → IsTrue (state S.Store conn.new).is_open
-        → (state S.Store conn.new).now.trees ≡ (state S.Store conn.old).now.trees }
-    ensures holds { HasCleanDisk (state S.Store conn.new) → IsDesk (state S.Store conn.old)
-        → IfOk result (HoldsOffice (state S.Store conn.old)) }
+    ensures is_open { OnDone S.Store conn.new result (IsTrue (state S.Store conn.new).is_open) }
+    ensures same { OnDone S.Store conn.new result
+        ((state S.Store conn.new).now ≡ (state S.Store conn.old).now) }
+    ensures kept { KeepsOpenRows S.Store conn.old conn.new }
+    ensures holds { TellsOffice S.Store conn.old conn.new result }
     ensures office { IfOk result (λ office. IsTrue (is_office office)) }
     ensures version { HasCleanDisk (state S.Store conn.new) → AreNoted (state S.Store conn.old)
         → OnOk result (IsVersionOne (state S.Store conn.old)) }
-    ensures columns { HasCleanDisk (state S.Store conn.new)
-        → OnOk result (HasColumns (state S.Store conn.old).now.schema) }
+    ensures columns { OnDone S.Store conn.new result
+        (HasColumns (state S.Store conn.old).now.schema) }
     ensures cause { HasCleanDisk (state S.Store conn.new) → AreNoted (state S.Store conn.old)
         → RowsRise (state S.Store conn.old)
         → IfErr result (λ fault. IsOpenCause fault (state S.Store conn.old)) }
-    ensures settled { HasCleanDisk (state S.Store conn.new)
-        → OnOk result (LeavesItself (state S.Store conn.new)) }
+    ensures settled { OnDone S.Store conn.new result (LeavesItself (state S.Store conn.new)) }
 {
     let _ = conn.schema();
     judge_version(conn, alloc)?;
@@ -216,26 +208,18 @@ pub fn open<S: Alter + Drop>(
     alloc: Global,
     conn: Connection<S>,
 ) -> Result<(Connection<S>, OfficeLists), (OpenFault, HandedBack<S>)>
-    ensures stands { IfOk result (λ opened. HasCleanDisk (state S.Store opened.0)
-        → (state S.Store conn).now.schema ≡ desk_schema
-        → Stands (state S.Store opened.0) opened.1) }
-    ensures same { IfOk result (λ opened. HasCleanDisk (state S.Store opened.0)
-        → (state S.Store opened.0).now ≡ (state S.Store conn).now) }
-    ensures is_open { IfOk result (λ opened. HasCleanDisk (state S.Store opened.0)
-        → IsTrue (state S.Store opened.0).is_open) }
-    ensures version { IfOk result (λ opened. HasCleanDisk (state S.Store opened.0)
-        → NotesVersion (state S.Store conn).now.schema → IsVersionOne (state S.Store conn)) }
-    ensures columns { IfOk result (λ opened. HasCleanDisk (state S.Store opened.0)
-        → HasColumns (state S.Store conn).now.schema) }
+    ensures stands { IfOk result (λ opened. IfDeclared S.Store conn opened.0
+        (Stands (state S.Store opened.0) opened.1)) }
+    ensures same { IfOk result (λ opened. KeepsTables S.Store conn opened.0) }
+    ensures is_open { IfOk result (λ opened. StaysOpen S.Store opened.0) }
+    ensures version { IfOk result (λ opened. HadVersionOne S.Store conn opened.0) }
+    ensures columns { IfOk result (λ opened. HadColumns S.Store conn opened.0) }
     ensures office { IfOk result (λ opened. IsTrue (is_office opened.1)) }
     ensures none { IfOk result (λ opened. opened.0.in_transaction ≡ false) }
-    ensures cause { IfErr result (λ e. IsCleanBack S.Store e.1
-        → NotesVersion (state S.Store conn).now.schema
-        → IsOpenCause e.0 (state S.Store conn)) }
+    ensures cause { IfErr result (λ e. IsWhyUnopened S.Store conn e.0 e.1) }
     ensures kept { IfErr result (λ e. HandsBack S.Store (state S.Store conn).now.trees e.1) }
     ensures ended { IfErr result (λ e. conn.in_transaction ≡ false → IsInNone e.1) }
-    ensures settled { IfOk result (λ opened. HasCleanDisk (state S.Store opened.0)
-        → LeavesItself (state S.Store opened.0)) }
+    ensures settled { IfOk result (λ opened. IsSettled S.Store opened.0) }
     ensures crash { IfErr result (λ e. LeavesNoMore S.Store (state S.Store conn) e.1) }
     ensures inside { IsTrue conn.in_transaction
         → result ≡ Err (opening.Store, back.Connection conn) }
@@ -263,28 +247,18 @@ pub fn open_risen<S: Alter + Drop>(
 ) -> Result<(Connection<S>, OfficeLists), (OpenFault, Connection<S>)>
     requires none { conn.in_transaction ≡ false }
     requires rising { HasCleanDisk (state S.Store conn) → RowsRise (state S.Store conn) }
-    ensures stands { IfOk result (λ opened. HasCleanDisk (state S.Store opened.0)
-        → (state S.Store conn).now.schema ≡ desk_schema
-        → Stands (state S.Store opened.0) opened.1) }
-    ensures same { IfOk result (λ opened. HasCleanDisk (state S.Store opened.0)
-        → (state S.Store opened.0).now ≡ (state S.Store conn).now) }
-    ensures is_open { IfOk result (λ opened. HasCleanDisk (state S.Store opened.0)
-        → IsTrue (state S.Store opened.0).is_open) }
-    ensures version { IfOk result (λ opened. HasCleanDisk (state S.Store opened.0)
-        → NotesVersion (state S.Store conn).now.schema → IsVersionOne (state S.Store conn)) }
-    ensures columns { IfOk result (λ opened. HasCleanDisk (state S.Store opened.0)
-        → HasColumns (state S.Store conn).now.schema) }
+    ensures stands { IfOk result (λ opened. IfDeclared S.Store conn opened.0
+        (Stands (state S.Store opened.0) opened.1)) }
+    ensures same { IfOk result (λ opened. KeepsTables S.Store conn opened.0) }
+    ensures is_open { IfOk result (λ opened. StaysOpen S.Store opened.0) }
+    ensures version { IfOk result (λ opened. HadVersionOne S.Store conn opened.0) }
+    ensures columns { IfOk result (λ opened. HadColumns S.Store conn opened.0) }
     ensures office { IfOk result (λ opened. IsTrue (is_office opened.1)) }
     ensures ended { IfOk result (λ opened. opened.0.in_transaction ≡ false) }
-    ensures cause { IfErr result (λ e. HasCleanDisk (state S.Store e.1)
-        → NotesVersion (state S.Store conn).now.schema
-        → IsOpenCause e.0 (state S.Store conn)) }
-    ensures kept { IfErr result (λ e. HasCleanDisk (state S.Store e.1)
-        → IsTrue (state S.Store e.1).is_open
-        → (state S.Store e.1).now.trees ≡ (state S.Store conn).now.trees) }
+    ensures cause { IfErr result (λ e. IsWhyUnopened S.Store conn e.0 (back.Connection e.1)) }
+    ensures kept { IfErr result (λ e. KeepsOpenRows S.Store conn e.1) }
     ensures back { IfErr result (λ e. e.1.in_transaction ≡ false) }
-    ensures settled { IfOk result (λ opened. HasCleanDisk (state S.Store opened.0)
-        → LeavesItself (state S.Store opened.0)) }
+    ensures settled { IfOk result (λ opened. IsSettled S.Store opened.0) }
     ensures crash { IfErr result (λ e.
         Survives (state S.Store conn) (state S.Store e.1) (λ _. ⊥)) }
 {

@@ -1,7 +1,10 @@
 -- What serving one connection after another leaves.
 use Rattle.std.specs.Prelude.{◌≡◌, ⊤, ℕ, ◌≤◌, false, List, [], ◌∷◌, length, Option, Some, None, IsTrue}
+use Rattle.sqlite.specs.Held.{Held, state}
 use Rattle.sqlite.specs.State.{State, HasCleanDisk}
+use Rattle.sqlite_trees.specs.declared.store.Store as store
 use Rattle.desk_clocks.specs.Gives.{GaveInTurn}
+use Rattle.desk_clocks.specs.declared.clock.Clock as clock
 use Rattle.desk_records.specs.Standing.{Stands}
 use Rattle.desk_schema.specs.Statements.{WasOpen}
 use Rattle.desk_store.specs.Runs.{calls_in}
@@ -38,6 +41,10 @@ pub record Ran (moments : List Moment) (old new : State) : Type 0 where
   pub stands : HasCleanDisk new → IsTrue new.is_open → (office : OfficeLists) → Stands old office
       → HasRun office moments new
 
+-- such a run was made on this desk
+abbrev pub RanOn : {S : Type 0} → store.Ghosts S → List Moment → Held S → Held S → Type 0
+RanOn g moments old new = Ran moments (state g old) (state g new)
+
 -- a clock gave some moments, at most so many, and such a run was made at these
 pub record Turned {C : Type 0} (gives : C → Moment → C → Type 0) (most : ℕ) (clock clock' : C)
     (old new : State) : Type 0 where
@@ -45,3 +52,8 @@ pub record Turned {C : Type 0} (gives : C → Moment → C → Type 0) (most : �
   pub gave : GaveInTurn gives clock moments clock'
   pub bound : length moments ≤ most
   pub ran : Ran moments old new
+
+-- this clock gave them, and the run was of this desk
+abbrev pub RanAt : {C S : Type 0} → clock.Ghosts C → store.Ghosts S → ℕ → C → C → Held S → Held S
+    → Type 0
+RanAt g h most before after old new = Turned g.gives most before after (state h old) (state h new)

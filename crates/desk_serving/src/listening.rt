@@ -1,8 +1,7 @@
 //! One connection after another.
 ghost use Rattle.std.specs.Prelude.{◌≡◌, IfErr, OnErr, OnOk};
-ghost use Rattle.desk_serving.specs.Turns.{Turned};
+ghost use Rattle.desk_serving.specs.Turns.{RanAt};
 ghost use Rattle.desk_serving.specs.declared.listening.LoopFault.TheVariants.{Clock, Socket};
-ghost use Rattle.sqlite.specs.Held.{state};
 
 use crate::now::{NowFault, serve_now};
 use desk_clocks::{Clock, ClockFailed};
@@ -46,8 +45,7 @@ fn serve_connection<S: Alter + Drop, C: Clock>(
     clock: &mut C,
     stream: TcpStream,
 ) -> Result<(), ClockFailed>
-    ensures turned { OnOk result
-        (Turned C.gives 1 clock.old clock.new (state S.Store desk.old) (state S.Store desk.new)) }
+    ensures turned { OnOk result (RanAt C.Clock S.Store 1 clock.old clock.new desk.old desk.new) }
     ensures failed { OnErr result (C.fails clock.old clock.new) }
     ensures untouched { OnErr result (desk.new ≡ desk.old) }
 {
@@ -68,8 +66,7 @@ fn serve_next<S: Alter + Drop, C: Clock>(
     desk: &mut Desk<S>,
     clock: &mut C,
 ) -> Result<(), LoopFault>
-    ensures turned { OnOk result
-        (Turned C.gives 1 clock.old clock.new (state S.Store desk.old) (state S.Store desk.new)) }
+    ensures turned { OnOk result (RanAt C.Clock S.Store 1 clock.old clock.new desk.old desk.new) }
     ensures failed { IfErr result (λ fault. fault ≡ Clock → C.fails clock.old clock.new) }
     ensures unasked { IfErr result (λ fault. fault ≡ Socket → clock.new ≡ clock.old) }
     ensures untouched { OnErr result (desk.new ≡ desk.old) }
@@ -97,14 +94,12 @@ pub fn serve_loop<S: Alter + Drop, C: Clock>(
     clock: &mut C,
     count: u32,
 ) -> Result<(), LoopFault>
-    ensures served { OnOk result (Turned C.gives count clock.old clock.new
-        (state S.Store desk.old) (state S.Store desk.new)) }
+    ensures served { OnOk result
+        (RanAt C.Clock S.Store count clock.old clock.new desk.old desk.new) }
     ensures no_listener { IfErr result (λ fault. fault ≡ Socket
-        → Turned C.gives count clock.old clock.new
-        (state S.Store desk.old) (state S.Store desk.new)) }
+        → RanAt C.Clock S.Store count clock.old clock.new desk.old desk.new) }
     ensures no_moment { IfErr result (λ fault. fault ≡ Clock
-        → (between : C) × Turned C.gives count clock.old between
-        (state S.Store desk.old) (state S.Store desk.new)
+        → (between : C) × RanAt C.Clock S.Store count clock.old between desk.old desk.new
         × C.fails between clock.new) }
 {
     desk.rests();

@@ -1,17 +1,14 @@
 //! One request, served at the moment that a clock gives.
 ghost use Rattle.std.specs.Prelude.{◌≡◌, ◌≢◌, ◌+◌, ◌≤◌, ◌⊎◌, [], IfErr, OnOk, true};
-ghost use Rattle.std.specs.Io.KnownBytes.{Appends};
-ghost use Rattle.desk_devices.specs.Counts.{one_more};
-ghost use Rattle.desk_devices.specs.Written.{AppendsPrefix};
 ghost use Rattle.desk_heads.specs.declared.front.TheConstants.{LONGEST_HEAD};
 ghost use Rattle.desk_heads.specs.declared.length.TheConstants.{LONGEST_BODY};
-ghost use Rattle.desk_http.specs.Served.{IsReceived, Serves};
+ghost use Rattle.desk_http.specs.Served.{FailsReading, FailsWriting, OnFault, Receives};
+ghost use Rattle.desk_http.specs.Served.{WritesPart, WritesText};
 ghost use Rattle.desk_http.specs.declared.serve.ServeFault.TheVariants.{Read, Write};
 ghost use Rattle.desk_requests.specs.Received.{is_cut_off};
-ghost use Rattle.desk_serving.specs.Now.{ReadThenGiven, ReadThenStopped};
-ghost use Rattle.desk_serving.specs.Turns.{Ran, Turned};
+ghost use Rattle.desk_serving.specs.Now.{ReadAt, ReadThenStopped, ServesOn};
+ghost use Rattle.desk_serving.specs.Turns.{RanOn, RanAt};
 ghost use Rattle.desk_serving.specs.declared.now.NowFault.TheVariants.{Clock, Serve};
-ghost use Rattle.sqlite.specs.Held.{state};
 
 use desk_clocks::Clock;
 use desk_devices::{Sink, Source};
@@ -44,43 +41,24 @@ pub fn serve_now<S: Alter + Drop, C: Clock, R: Source, W: Sink>(
     reader: &mut R,
     writer: &mut W,
 ) -> Result<(), NowFault>
-    ensures served { OnOk result (ReadThenGiven
-        (IsReceived (R.remaining reader.old) (R.remaining reader.new)
-        (R.passed reader.old) (R.passed reader.new))
-        (λ moment. C.gives clock.old moment clock.new)
-        (λ moment received. Serves moment received (state S.Store desk.old) (state S.Store desk.new)
-        (Appends (W.contents writer.old) (W.contents writer.new)))) }
-    ensures partly { IfErr result (λ fault. fault ≡ Serve Write → ReadThenGiven
-        (IsReceived (R.remaining reader.old) (R.remaining reader.new)
-        (R.passed reader.old) (R.passed reader.new))
-        (λ moment. C.gives clock.old moment clock.new)
-        (λ moment received. Serves moment received (state S.Store desk.old) (state S.Store desk.new)
-        (AppendsPrefix (W.contents writer.old) (W.contents writer.new)))) }
-    ensures unread { IfErr result (λ fault. fault ≡ Serve Read
-        → Ran [] (state S.Store desk.old) (state S.Store desk.new)
-        × (writer.new ≡ writer.old)
-        × (R.failures reader.new ≡ one_more (R.failures reader.old))) }
-    ensures unasked { IfErr result (λ fault. fault ≡ Serve Read
-        → (clock.new ≡ clock.old)
-        ⊎
-        ReadThenGiven
-        (IsReceived (R.remaining reader.old) (R.remaining reader.new)
-        (R.passed reader.old) (R.passed reader.new))
-        (λ moment. C.gives clock.old moment clock.new)
+    ensures served { OnOk result (ReadAt R.Source C.Clock reader.old reader.new clock.old clock.new
+        (ServesOn S.Store desk.old desk.new (WritesText W.Sink writer.old writer.new))) }
+    ensures partly { OnFault result (Serve Write)
+        (ReadAt R.Source C.Clock reader.old reader.new clock.old clock.new
+        (ServesOn S.Store desk.old desk.new (WritesPart W.Sink writer.old writer.new))) }
+    ensures unread { OnFault result (Serve Read) (RanOn S.Store [] desk.old desk.new
+        × (writer.new ≡ writer.old) × FailsReading R.Source reader.old reader.new) }
+    ensures unasked { OnFault result (Serve Read) ((clock.new ≡ clock.old)
+        ⊎ ReadAt R.Source C.Clock reader.old reader.new clock.old clock.new
         (λ _ received. is_cut_off received ≡ true)) }
-    ensures stopped { IfErr result (λ fault. fault ≡ Clock → ReadThenStopped
-        (IsReceived (R.remaining reader.old) (R.remaining reader.new)
-        (R.passed reader.old) (R.passed reader.new))
-        (C.fails clock.old clock.new)) }
-    ensures untouched { IfErr result (λ fault. fault ≡ Clock
-        → (desk.new ≡ desk.old) × (writer.new ≡ writer.old)) }
-    ensures turned { OnOk result
-        (Turned C.gives 1 clock.old clock.new (state S.Store desk.old) (state S.Store desk.new)) }
+    ensures stopped { OnFault result Clock (ReadThenStopped
+        (Receives R.Source reader.old reader.new) (C.fails clock.old clock.new)) }
+    ensures untouched { OnFault result Clock ((desk.new ≡ desk.old) × (writer.new ≡ writer.old)) }
+    ensures turned { OnOk result (RanAt C.Clock S.Store 1 clock.old clock.new desk.old desk.new) }
     ensures turned_by_fault { IfErr result (λ fault. fault ≢ Clock
-        → Turned C.gives 1 clock.old clock.new (state S.Store desk.old) (state S.Store desk.new)) }
+        → RanAt C.Clock S.Store 1 clock.old clock.new desk.old desk.new) }
     ensures works { OnOk result (W.failures writer.new ≡ W.failures writer.old) }
-    ensures failed { IfErr result (λ fault. fault ≡ Serve Write
-        → W.failures writer.new ≡ one_more (W.failures writer.old)) }
+    ensures failed { OnFault result (Serve Write) (FailsWriting W.Sink writer.old writer.new) }
     ensures bound { R.passed reader.new ≤ R.passed reader.old + (LONGEST_HEAD + LONGEST_BODY) }
 {
     desk.rests();

@@ -25,6 +25,20 @@ use Rattle.meeting_core.specs.Step.{decided}
 use Rattle.desk_changes.specs.Writes.{StandsIn}
 use Rattle.desk_records.specs.Standing.{Stands}
 
+-- this holds of the office for which the tables stood, where the disk returned what was written
+abbrev pub OfOffice : {S : Type 0} → store.Ghosts S → Held S → Held S → (OfficeLists → Type 0)
+    → Type 0
+OfOffice g old new Holds =
+    HasCleanDisk (state g new) → (office : OfficeLists) → Stands (state g old) office
+    → Holds office
+
+-- so it does where a transaction had begun
+abbrev pub OfOfficeInside : {S : Type 0} → store.Ghosts S → Held S → Held S
+    → (OfficeLists → Type 0) → Type 0
+OfOfficeInside g old new Holds =
+    HasCleanDisk (state g new) → IsTrue (state g old).in_transaction → (office : OfficeLists)
+    → Stands (state g old) office → Holds office
+
 -- what is told is so of the office for which the tables stand, and nothing is changed
 pub record IsTold {S X : Type 0} (g : store.Ghosts S) (old new : Held S)
     (result : Result X ReadFault) (IsSo : OfficeLists → X → Type 0) : Type 0 where

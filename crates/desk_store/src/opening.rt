@@ -1,18 +1,18 @@
 //! A new desk, and one that was kept.
 ghost use Rattle.std.specs.Prelude.{◌≡◌, ◌≢◌, ◌⊎◌, false, Err, IfErr, IfOk, IsErrAnd, IsTrue};
-ghost use Rattle.desk_opening.specs.Crashes.{LeavesItself, LeavesNoMore};
-ghost use Rattle.desk_opening.specs.Making.{AreMade};
-ghost use Rattle.desk_opening.specs.Opening.{HandsBack, IsOpenCause, IsCleanBack, IsInNone};
+ghost use Rattle.desk_opening.specs.Crashes.{LeavesNoMore};
+ghost use Rattle.desk_opening.specs.Opened.{HadColumns, HadVersionOne, HoldsNothing, IfDeclared};
+ghost use Rattle.desk_opening.specs.Opened.{IsSettled, IsWhyUnopened, KeepsOpenRows};
+ghost use Rattle.desk_opening.specs.Opened.{KeepsOpenTables, KeepsTables, StaysOpen};
+ghost use Rattle.desk_opening.specs.Opened.{SurvivesMaking};
+ghost use Rattle.desk_opening.specs.Opening.{HandsBack, IsInNone};
 ghost use Rattle.desk_opening.specs.Rising.{RowsRise};
 ghost use Rattle.desk_opening.specs.declared.fault.CreateFault.TheVariants.{NotEmpty};
 ghost use Rattle.desk_opening.specs.declared.fault.CreateFault.TheVariants as creating;
 ghost use Rattle.desk_opening.specs.declared.fault.OpenFault.TheVariants as opening;
 ghost use Rattle.desk_opening.specs.declared.opening.HandedBack.TheVariants as back;
-ghost use Rattle.desk_records.specs.Standing.{IsVersionOne, Stands};
-ghost use Rattle.desk_schema.specs.Tables.{desk_schema, no_schema};
-ghost use Rattle.desk_tables.specs.Columns.{HasColumns};
-ghost use Rattle.desk_tables.specs.Versions.{NotesVersion};
-ghost use Rattle.desk_words.specs.Changes.{empty_office};
+ghost use Rattle.desk_records.specs.Standing.{Stands};
+ghost use Rattle.desk_schema.specs.Tables.{no_schema};
 ghost use Rattle.desk_words.specs.declared.office.OfficeLists.{OfficeLists};
 ghost use Rattle.sqlite.specs.Held.{state};
 ghost use Rattle.sqlite.specs.State.{HasCleanDisk, Survives};
@@ -33,25 +33,19 @@ impl<S: Alter + Drop> Desk<S> {
         alloc: Global,
         conn: Connection<S>,
     ) -> Result<Desk<S>, (CreateFault, Connection<S>)>
-        ensures made { IfOk result (λ desk. HasCleanDisk (state S.Store desk)
-            → Stands (state S.Store desk) empty_office) }
+        ensures made { IfOk result (λ desk. HoldsNothing S.Store desk) }
         ensures empty { IfOk result (λ _. (state S.Store conn).now.schema ≡ no_schema) }
         ensures not_empty { IfErr result (λ e. e.0 ≡ NotEmpty
             → (state S.Store conn).now.schema ≢ no_schema) }
         ensures cause { IfErr result (λ e. e.0 ≢ NotEmpty
             → (state S.Store conn).now.schema ≡ no_schema) }
-        ensures same { IfErr result (λ e. HasCleanDisk (state S.Store e.1)
-            → IsTrue (state S.Store e.1).is_open
-            → (state S.Store e.1).now ≡ (state S.Store conn).now) }
+        ensures same { IfErr result (λ e. KeepsOpenTables S.Store conn e.1) }
         ensures ended { IfErr result (λ e. conn.in_transaction ≡ false
             → e.1.in_transaction ≡ false) }
         ensures untouched { IfErr result (λ e. e.0 ≡ NotEmpty → e.1 ≡ conn) }
-        ensures settled { IfOk result (λ desk. HasCleanDisk (state S.Store desk)
-            → LeavesItself (state S.Store desk)) }
-        ensures crash { IfOk result (λ desk.
-            Survives (state S.Store conn) (state S.Store desk) (AreMade (state S.Store conn))) }
-        ensures unmade { IfErr result (λ e.
-            Survives (state S.Store conn) (state S.Store e.1) (AreMade (state S.Store conn))) }
+        ensures settled { IfOk result (λ desk. IsSettled S.Store desk) }
+        ensures crash { IfOk result (λ desk. SurvivesMaking S.Store conn desk) }
+        ensures unmade { IfErr result (λ e. SurvivesMaking S.Store conn e.1) }
         ensures inside { IsTrue conn.in_transaction → IsErrAnd result (λ e.
             ((e.0 ≡ NotEmpty) ⊎ (e.0 ≡ creating.Store)) × (e.1 ≡ conn)) }
     {
@@ -72,24 +66,16 @@ impl<S: Alter + Drop> Desk<S> {
     /// leaves the tables that are read, and nothing else; after a refusal it leaves nothing that it
     /// did not leave before.
     pub fn open(alloc: Global, conn: Connection<S>) -> Result<Desk<S>, (OpenFault, HandedBack<S>)>
-        ensures stands { IfOk result (λ desk. HasCleanDisk (state S.Store desk)
-            → (state S.Store conn).now.schema ≡ desk_schema
-            → (office : OfficeLists) × Stands (state S.Store desk) office) }
-        ensures same { IfOk result (λ desk. HasCleanDisk (state S.Store desk)
-            → (state S.Store desk).now ≡ (state S.Store conn).now) }
-        ensures is_open { IfOk result (λ desk. HasCleanDisk (state S.Store desk)
-            → IsTrue (state S.Store desk).is_open) }
-        ensures version { IfOk result (λ desk. HasCleanDisk (state S.Store desk)
-            → NotesVersion (state S.Store conn).now.schema → IsVersionOne (state S.Store conn)) }
-        ensures columns { IfOk result (λ desk. HasCleanDisk (state S.Store desk)
-            → HasColumns (state S.Store conn).now.schema) }
-        ensures cause { IfErr result (λ e. IsCleanBack S.Store e.1
-            → NotesVersion (state S.Store conn).now.schema
-            → IsOpenCause e.0 (state S.Store conn)) }
+        ensures stands { IfOk result (λ desk. IfDeclared S.Store conn desk
+            ((office : OfficeLists) × Stands (state S.Store desk) office)) }
+        ensures same { IfOk result (λ desk. KeepsTables S.Store conn desk) }
+        ensures is_open { IfOk result (λ desk. StaysOpen S.Store desk) }
+        ensures version { IfOk result (λ desk. HadVersionOne S.Store conn desk) }
+        ensures columns { IfOk result (λ desk. HadColumns S.Store conn desk) }
+        ensures cause { IfErr result (λ e. IsWhyUnopened S.Store conn e.0 e.1) }
         ensures kept { IfErr result (λ e. HandsBack S.Store (state S.Store conn).now.trees e.1) }
         ensures ended { IfErr result (λ e. conn.in_transaction ≡ false → IsInNone e.1) }
-        ensures settled { IfOk result (λ desk. HasCleanDisk (state S.Store desk)
-            → LeavesItself (state S.Store desk)) }
+        ensures settled { IfOk result (λ desk. IsSettled S.Store desk) }
         ensures crash { IfErr result (λ e. LeavesNoMore S.Store (state S.Store conn) e.1) }
         ensures inside { IsTrue conn.in_transaction
             → result ≡ Err (opening.Store, back.Connection conn) }
@@ -110,26 +96,16 @@ impl<S: Alter + Drop> Desk<S> {
     ) -> Result<Desk<S>, (OpenFault, Connection<S>)>
         requires none { conn.in_transaction ≡ false }
         requires rising { HasCleanDisk (state S.Store conn) → RowsRise (state S.Store conn) }
-        ensures stands { IfOk result (λ desk. HasCleanDisk (state S.Store desk)
-            → (state S.Store conn).now.schema ≡ desk_schema
-            → (office : OfficeLists) × Stands (state S.Store desk) office) }
-        ensures same { IfOk result (λ desk. HasCleanDisk (state S.Store desk)
-            → (state S.Store desk).now ≡ (state S.Store conn).now) }
-        ensures is_open { IfOk result (λ desk. HasCleanDisk (state S.Store desk)
-            → IsTrue (state S.Store desk).is_open) }
-        ensures version { IfOk result (λ desk. HasCleanDisk (state S.Store desk)
-            → NotesVersion (state S.Store conn).now.schema → IsVersionOne (state S.Store conn)) }
-        ensures columns { IfOk result (λ desk. HasCleanDisk (state S.Store desk)
-            → HasColumns (state S.Store conn).now.schema) }
-        ensures cause { IfErr result (λ e. HasCleanDisk (state S.Store e.1)
-            → NotesVersion (state S.Store conn).now.schema
-            → IsOpenCause e.0 (state S.Store conn)) }
-        ensures kept { IfErr result (λ e. HasCleanDisk (state S.Store e.1)
-            → IsTrue (state S.Store e.1).is_open
-            → (state S.Store e.1).now.trees ≡ (state S.Store conn).now.trees) }
+        ensures stands { IfOk result (λ desk. IfDeclared S.Store conn desk
+            ((office : OfficeLists) × Stands (state S.Store desk) office)) }
+        ensures same { IfOk result (λ desk. KeepsTables S.Store conn desk) }
+        ensures is_open { IfOk result (λ desk. StaysOpen S.Store desk) }
+        ensures version { IfOk result (λ desk. HadVersionOne S.Store conn desk) }
+        ensures columns { IfOk result (λ desk. HadColumns S.Store conn desk) }
+        ensures cause { IfErr result (λ e. IsWhyUnopened S.Store conn e.0 (back.Connection e.1)) }
+        ensures kept { IfErr result (λ e. KeepsOpenRows S.Store conn e.1) }
         ensures back { IfErr result (λ e. e.1.in_transaction ≡ false) }
-        ensures settled { IfOk result (λ desk. HasCleanDisk (state S.Store desk)
-            → LeavesItself (state S.Store desk)) }
+        ensures settled { IfOk result (λ desk. IsSettled S.Store desk) }
         ensures crash { IfErr result (λ e.
             Survives (state S.Store conn) (state S.Store e.1) (λ _. ⊥)) }
     {

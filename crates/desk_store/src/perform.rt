@@ -2,14 +2,14 @@
 ghost use Rattle.std.specs.Prelude.{◌≡◌, IfOk, IsTrue, None, Ok, OnOk};
 ghost use Rattle.std.specs.Fn.{FnOnceReturnsAt};
 ghost use Rattle.desk_opening.specs.Crashes.{LeavesItself};
+ghost use Rattle.desk_opening.specs.Opened.{OnDone};
 ghost use Rattle.desk_schema.specs.Statements.{WasOpen};
 ghost use Rattle.desk_store.specs.Joins.{AreAfter, IsAsItWas, Leaves, made_by};
-ghost use Rattle.desk_store.specs.Reads.{WritesIfAny};
+ghost use Rattle.desk_store.specs.Reads.{OfOffice, OfOfficeInside, WritesIfAny};
 ghost use Rattle.desk_records.specs.Standing.{Stands};
-ghost use Rattle.desk_words.specs.declared.office.OfficeLists.{OfficeLists};
 ghost use Rattle.meeting_core.specs.Step.{decided, stepped};
 ghost use Rattle.sqlite.specs.Held.{state};
-ghost use Rattle.sqlite.specs.State.{HasCleanDisk, IsUnchanged, KeepsCommit, Survives};
+ghost use Rattle.sqlite.specs.State.{IsUnchanged, KeepsCommit, Survives};
 
 use crate::deciding::decide;
 use crate::desk::Desk;
@@ -45,23 +45,17 @@ fn step<S: Alter, T: Drop, F: FnOnce(&Reply) -> Result<T, AllocError>>(
 ) -> Result<T, ReadFault>
     requires callable { F.IsAlwaysCallable show }
     ensures same_reference { tx.new.conn.ghost_name ≡ tx.old.conn.ghost_name }
-    ensures shown { HasCleanDisk (state S.Store tx.new.conn.now)
-        → IsTrue (state S.Store tx.old.conn.now).in_transaction → (office : OfficeLists)
-        → Stands (state S.Store tx.old.conn.now) office
-        → IfOk result (λ t. FnOnceReturnsAt F.FnOnce show (decided office call.now).reply (Ok t)
-        × Stands (state S.Store tx.new.conn.now) (stepped office call.now)) }
-    ensures inside { HasCleanDisk (state S.Store tx.new.conn.now)
-        → IsTrue (state S.Store tx.old.conn.now).in_transaction → (office : OfficeLists)
-        → Stands (state S.Store tx.old.conn.now) office
-        → OnOk result (IsTrue (state S.Store tx.new.conn.now).in_transaction) }
-    ensures kept { HasCleanDisk (state S.Store tx.new.conn.now) → (office : OfficeLists)
-        → Stands (state S.Store tx.old.conn.now) office
-        → KeepsCommit (state S.Store tx.old.conn.now) (state S.Store tx.new.conn.now) }
+    ensures shown { OfOfficeInside S.Store tx.old.conn.now tx.new.conn.now (λ office. IfOk result
+        (λ t. FnOnceReturnsAt F.FnOnce show (decided office call.now).reply (Ok t)
+        × Stands (state S.Store tx.new.conn.now) (stepped office call.now))) }
+    ensures inside { OfOfficeInside S.Store tx.old.conn.now tx.new.conn.now
+        (λ _. OnOk result (IsTrue (state S.Store tx.new.conn.now).in_transaction)) }
+    ensures kept { OfOffice S.Store tx.old.conn.now tx.new.conn.now
+        (λ _. KeepsCommit (state S.Store tx.old.conn.now) (state S.Store tx.new.conn.now)) }
     ensures was_open { WasOpen (state S.Store tx.old.conn.now) (state S.Store tx.new.conn.now) }
-    ensures still { HasCleanDisk (state S.Store tx.new.conn.now) → (office : OfficeLists)
-        → Stands (state S.Store tx.old.conn.now) office → (decided office call.now).change ≡ None
-        → OnOk result (IsUnchanged (state S.Store tx.old.conn.now)
-        (state S.Store tx.new.conn.now)) }
+    ensures still { OfOffice S.Store tx.old.conn.now tx.new.conn.now (λ office.
+        (decided office call.now).change ≡ None → OnOk result
+        (IsUnchanged (state S.Store tx.old.conn.now) (state S.Store tx.new.conn.now))) }
     ensures crash { Survives (state S.Store tx.old.conn.now) (state S.Store tx.new.conn.now)
         (λ _. ⊥) }
 {
@@ -83,19 +77,17 @@ impl<S: Alter> Desk<S> {
         show: F,
     ) -> Result<T, Failure>
         requires callable { F.IsAlwaysCallable show }
-        ensures done { HasCleanDisk (state S.Store self.new) → (office : OfficeLists)
-            → Stands (state S.Store self.old) office
-            → IfOk result (λ t. FnOnceReturnsAt F.FnOnce show (decided office call).reply (Ok t)
-            × Stands (state S.Store self.new) (stepped office call)) }
+        ensures done { OfOffice S.Store self.old self.new (λ office. IfOk result
+            (λ t. FnOnceReturnsAt F.FnOnce show (decided office call).reply (Ok t)
+            × Stands (state S.Store self.new) (stepped office call))) }
         ensures leaves { Leaves (made_by result call) (state S.Store self.old)
             (state S.Store self.new) }
-        ensures stays_open { HasCleanDisk (state S.Store self.new)
-            → OnOk result (IsTrue (state S.Store self.new).is_open) }
-        ensures settled { HasCleanDisk (state S.Store self.new)
-            → OnOk result (LeavesItself (state S.Store self.new)) }
-        ensures still { HasCleanDisk (state S.Store self.new) → (office : OfficeLists)
-            → Stands (state S.Store self.old) office → (decided office call).change ≡ None
-            → OnOk result (IsAsItWas (state S.Store self.old) (state S.Store self.new)) }
+        ensures stays_open { OnDone S.Store self.new result
+            (IsTrue (state S.Store self.new).is_open) }
+        ensures settled { OnDone S.Store self.new result (LeavesItself (state S.Store self.new)) }
+        ensures still { OfOffice S.Store self.old self.new (λ office.
+            (decided office call).change ≡ None → OnOk result
+            (IsAsItWas (state S.Store self.old) (state S.Store self.new))) }
         ensures crash { Survives (state S.Store self.old) (state S.Store self.new)
             (AreAfter (state S.Store self.old) call) }
     {

@@ -1,13 +1,11 @@
 //! The command that answers a script.
-ghost use Rattle.std.specs.Prelude.{◌≡◌, ◌≤◌, ◌+◌, ◌-◌, OnOk, IfErr, IfSome, Result};
+ghost use Rattle.std.specs.Prelude.{◌≡◌, ◌≤◌, ◌+◌, ◌-◌, OnOk, IfErr, Result};
 ghost use Rattle.std.specs.Io.KnownBytes.{IsAtEnd};
 ghost use Rattle.desk_endings.specs.Endings.{ended_view};
-ghost use Rattle.desk_lines.specs.Lines.{lines_of};
 ghost use Rattle.desk_lines.specs.Reading.{longest_input};
 ghost use Rattle.desk_program.specs.ReplaySteps.{HasEndedFor};
-ghost use Rattle.desk_program.specs.Transcript.{AreAnswered, IsReplayedUntil};
 ghost use Rattle.desk_program.specs.declared.script.ReplayFault.{ReplayFault as Fault};
-ghost use Rattle.desk_tasks.specs.Replays.{ended_replaying};
+ghost use Rattle.desk_tasks.specs.Replays.{AllIfKnown, UntilIfKnown, ended_replaying, failures_of};
 
 use desk_devices::{Sink, Source};
 use desk_endings::{Ended, Fault as Cause};
@@ -32,23 +30,18 @@ pub fn replay<R: Source, W: Sink>(alloc: Global, reader: &mut R, writer: &mut W)
     ensures { (outcome : Result (Unit {0}) Fault)
         × (ended_view result ≡ ended_replaying outcome)
         × OnOk outcome
-        (IfSome (R.remaining reader.old)
-        (λ input. AreAnswered (lines_of input) (W.contents writer.old)
-        (W.contents writer.new)))
+        (AllIfKnown (R.remaining reader.old) (W.contents writer.old) (W.contents writer.new))
         × IfErr outcome
-        (λ fault. IfSome (R.remaining reader.old)
-        (λ input. IsReplayedUntil fault input
+        (λ fault. UntilIfKnown fault (R.remaining reader.old)
         (R.passed reader.new - R.passed reader.old) (W.contents writer.old)
-        (W.contents writer.new)))
+        (W.contents writer.new))
         × OnOk outcome
         ((R.failures reader.new ≡ R.failures reader.old)
         × (W.failures writer.new ≡ W.failures writer.old))
         × IfErr outcome
         (λ fault. HasEndedFor fault (R.passed reader.new - R.passed reader.old)
-        (record
-        { of_reader = R.failures reader.old; of_writer = W.failures writer.old })
-        (record
-        { of_reader = R.failures reader.new; of_writer = W.failures writer.new }))
+        (failures_of R.Source W.Sink reader.old writer.old)
+        (failures_of R.Source W.Sink reader.new writer.new))
         × OnOk outcome (IsAtEnd (R.remaining reader.new))
         × OnOk outcome (R.passed reader.new - R.passed reader.old ≤ longest_input)
         × (R.passed reader.new - R.passed reader.old ≤ longest_input + 1) }
