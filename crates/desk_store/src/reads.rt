@@ -1,15 +1,14 @@
 //! What the tables say, without a change. Of a desk that is read a crash leaves what it left
 //! before, and after an answer the tables that are read, and nothing else.
-ghost use Rattle.std.specs.Prelude.{◌≡◌, IfOk, IsTrue, None, OnOk};
+ghost use Rattle.std.specs.Prelude.{◌≡◌, IfOk, IsTrue, None};
 ghost use Rattle.desk_opening.specs.Crashes.{LeavesItself};
+ghost use Rattle.desk_opening.specs.Opened.{OnDone};
 ghost use Rattle.desk_schema.specs.Statements.{IsDesk};
 ghost use Rattle.desk_store.specs.Joins.{Leaves};
 ghost use Rattle.caller_view.specs.Views.{own_of, public_of};
-ghost use Rattle.desk_store.specs.Reads.{caller_with};
-ghost use Rattle.desk_records.specs.Standing.{Stands};
-ghost use Rattle.desk_words.specs.declared.office.OfficeLists.{OfficeLists};
+ghost use Rattle.desk_store.specs.Reads.{OfOffice, caller_with};
 ghost use Rattle.sqlite.specs.Held.{state};
-ghost use Rattle.sqlite.specs.State.{HasCleanDisk, Survives};
+ghost use Rattle.sqlite.specs.State.{Survives};
 
 use crate::desk::Desk;
 use crate::reading::{failure_of, read_book, read_caller, read_record, read_things};
@@ -22,14 +21,12 @@ use sqlite::Alter;
 impl<S: Alter> Desk<S> {
     /// The caller whose key this is; none exactly where no key equals it.
     pub fn caller_of(&mut self, key: &SecretKey) -> Result<Option<Caller>, Failure>
-        ensures found { HasCleanDisk (state S.Store self.new) → (office : OfficeLists)
-            → Stands (state S.Store self.old) office
-            → IfOk result (λ caller. caller ≡ caller_with office.keys key.now) }
+        ensures found { OfOffice S.Store self.old self.new
+            (λ office. IfOk result (λ caller. caller ≡ caller_with office.keys key.now)) }
         ensures leaves { Leaves None (state S.Store self.old) (state S.Store self.new) }
-        ensures stays_open { HasCleanDisk (state S.Store self.new)
-            → OnOk result (IsTrue (state S.Store self.new).is_open) }
-        ensures settled { HasCleanDisk (state S.Store self.new)
-            → OnOk result (LeavesItself (state S.Store self.new)) }
+        ensures stays_open { OnDone S.Store self.new result
+            (IsTrue (state S.Store self.new).is_open) }
+        ensures settled { OnDone S.Store self.new result (LeavesItself (state S.Store self.new)) }
         ensures crash { IsDesk (state S.Store self.old)
             → Survives (state S.Store self.old) (state S.Store self.new) (λ _. ⊥) }
     {
@@ -42,13 +39,12 @@ impl<S: Alter> Desk<S> {
 
     /// The office that the tables hold, in memory.
     pub fn book(&mut self) -> Result<Book, Failure>
-        ensures held { HasCleanDisk (state S.Store self.new) → (office : OfficeLists)
-            → Stands (state S.Store self.old) office → IfOk result (λ book. book ≡ office) }
+        ensures held { OfOffice S.Store self.old self.new
+            (λ office. IfOk result (λ book. book ≡ office)) }
         ensures leaves { Leaves None (state S.Store self.old) (state S.Store self.new) }
-        ensures stays_open { HasCleanDisk (state S.Store self.new)
-            → OnOk result (IsTrue (state S.Store self.new).is_open) }
-        ensures settled { HasCleanDisk (state S.Store self.new)
-            → OnOk result (LeavesItself (state S.Store self.new)) }
+        ensures stays_open { OnDone S.Store self.new result
+            (IsTrue (state S.Store self.new).is_open) }
+        ensures settled { OnDone S.Store self.new result (LeavesItself (state S.Store self.new)) }
         ensures crash { IsDesk (state S.Store self.old)
             → Survives (state S.Store self.old) (state S.Store self.new) (λ _. ⊥) }
     {
@@ -62,14 +58,12 @@ impl<S: Alter> Desk<S> {
     /// The public record of a meeting; where there is none of that name, the closed days alone. No
     /// other meeting is read.
     pub fn read_public(&mut self, meeting: MeetingId) -> Result<KeptRecord, Failure>
-        ensures held { HasCleanDisk (state S.Store self.new) → (office : OfficeLists)
-            → Stands (state S.Store self.old) office
-            → IfOk result (λ kept. kept ≡ public_of office meeting) }
+        ensures held { OfOffice S.Store self.old self.new
+            (λ office. IfOk result (λ kept. kept ≡ public_of office meeting)) }
         ensures leaves { Leaves None (state S.Store self.old) (state S.Store self.new) }
-        ensures stays_open { HasCleanDisk (state S.Store self.new)
-            → OnOk result (IsTrue (state S.Store self.new).is_open) }
-        ensures settled { HasCleanDisk (state S.Store self.new)
-            → OnOk result (LeavesItself (state S.Store self.new)) }
+        ensures stays_open { OnDone S.Store self.new result
+            (IsTrue (state S.Store self.new).is_open) }
+        ensures settled { OnDone S.Store self.new result (LeavesItself (state S.Store self.new)) }
         ensures crash { IsDesk (state S.Store self.old)
             → Survives (state S.Store self.old) (state S.Store self.new) (λ _. ⊥) }
     {
@@ -89,14 +83,12 @@ impl<S: Alter> Desk<S> {
         meeting: MeetingId,
         now: Moment,
     ) -> Result<OwnView, Failure>
-        ensures held { HasCleanDisk (state S.Store self.new) → (office : OfficeLists)
-            → Stands (state S.Store self.old) office
-            → IfOk result (λ own. own ≡ own_of office party meeting now) }
+        ensures held { OfOffice S.Store self.old self.new
+            (λ office. IfOk result (λ own. own ≡ own_of office party meeting now)) }
         ensures leaves { Leaves None (state S.Store self.old) (state S.Store self.new) }
-        ensures stays_open { HasCleanDisk (state S.Store self.new)
-            → OnOk result (IsTrue (state S.Store self.new).is_open) }
-        ensures settled { HasCleanDisk (state S.Store self.new)
-            → OnOk result (LeavesItself (state S.Store self.new)) }
+        ensures stays_open { OnDone S.Store self.new result
+            (IsTrue (state S.Store self.new).is_open) }
+        ensures settled { OnDone S.Store self.new result (LeavesItself (state S.Store self.new)) }
         ensures crash { IsDesk (state S.Store self.old)
             → Survives (state S.Store self.old) (state S.Store self.new) (λ _. ⊥) }
     {

@@ -1,11 +1,11 @@
 //! The making and the opening of a desk.
 ghost use Rattle.std.specs.Prelude.{◌≡◌, ◌≢◌, false, IfErr, IfOk, IsTrue};
 ghost use Rattle.desk_endings.specs.Endings.{ended_by, ended_view};
+ghost use Rattle.desk_opening.specs.Opened.{HadColumns, HadVersionOne, KeepsOpenRows};
+ghost use Rattle.desk_opening.specs.Opened.{KeepsTables, StaysOpen};
 ghost use Rattle.desk_opening.specs.Rising.{RowsRise};
-ghost use Rattle.desk_records.specs.Standing.{IsVersionOne, Stands};
+ghost use Rattle.desk_records.specs.Standing.{Stands};
 ghost use Rattle.desk_schema.specs.Tables.{desk_schema};
-ghost use Rattle.desk_tables.specs.Columns.{HasColumns};
-ghost use Rattle.desk_tables.specs.Versions.{NotesVersion};
 ghost use Rattle.desk_tasks.specs.Desks.{Creates, IsUnopened, create_fault, file_fault, open_fault};
 ghost use Rattle.desk_words.specs.declared.office.OfficeLists.{OfficeLists};
 ghost use Rattle.sqlite.specs.Held.{state};
@@ -68,18 +68,12 @@ pub fn open<S: Alter + Drop>(
     ensures stands { IfOk result (λ desk. HasCleanDisk (state S.Store desk)
         → (state S.Store desk).now.schema ≡ desk_schema
         → (office : OfficeLists) × Stands (state S.Store desk) office) }
-    ensures same { IfOk result (λ desk. HasCleanDisk (state S.Store desk)
-        → (state S.Store desk).now ≡ (state S.Store conn).now) }
-    ensures is_open { IfOk result (λ desk. HasCleanDisk (state S.Store desk)
-        → IsTrue (state S.Store desk).is_open) }
-    ensures version { IfOk result (λ desk. HasCleanDisk (state S.Store desk)
-        → NotesVersion (state S.Store conn).now.schema → IsVersionOne (state S.Store conn)) }
-    ensures columns { IfOk result (λ desk. HasCleanDisk (state S.Store desk)
-        → HasColumns (state S.Store conn).now.schema) }
+    ensures same { IfOk result (λ desk. KeepsTables S.Store conn desk) }
+    ensures is_open { IfOk result (λ desk. StaysOpen S.Store desk) }
+    ensures version { IfOk result (λ desk. HadVersionOne S.Store conn desk) }
+    ensures columns { IfOk result (λ desk. HadColumns S.Store conn desk) }
     ensures fault { IfErr result (λ e. IsUnopened S.Store conn (ended_view e.0) e.1) }
-    ensures kept { IfErr result (λ e. HasCleanDisk (state S.Store e.1)
-        → IsTrue (state S.Store e.1).is_open
-        → (state S.Store e.1).now.trees ≡ (state S.Store conn).now.trees) }
+    ensures kept { IfErr result (λ e. KeepsOpenRows S.Store conn e.1) }
     ensures ended { IfErr result (λ e. e.1.in_transaction ≡ false) }
 {
     match Desk::open_risen(alloc, conn) {
