@@ -7,6 +7,7 @@ ghost use Rattle.desk_words.specs.Office.{are_endings, is_ending_of, same_ending
 ghost use Rattle.office_checks.specs.Keys.{ended_in};
 
 use crate::keys::{Mark, differ, times};
+use desk_words::limits::MOST_APPOINTMENTS;
 use desk_words::{Appointment, Ending, Filed, Party};
 use std::alloc::{AllocError, Global};
 
@@ -28,7 +29,7 @@ fn are_numbered(alloc: Global, given: &[Appointment]) -> Result<bool, AllocError
 fn is_appointment(resolutions: usize, appointment: &Appointment) -> bool
     ensures { result ≡ is_appointment resolutions appointment.now }
 {
-    appointment.number <= 256 && appointment.instructions.len() == resolutions
+    appointment.number <= MOST_APPOINTMENTS as u64 && appointment.instructions.len() == resolutions
 }
 
 fn are_each_right(resolutions: usize, given: &[Appointment]) -> bool

@@ -6,25 +6,27 @@ ghost use Rattle.desk_terms.specs.Names.{same_name};
 ghost use Rattle.desk_words.specs.declared.records.Authority.{Authority};
 ghost use Rattle.desk_words.specs.declared.records.DemandMark.{DemandMark};
 ghost use Rattle.desk_words.specs.declared.records.PresenceMark.{PresenceMark};
+ghost use Rattle.desk_words.specs.declared.limits.TheConstants.{MOST_AUTHORITIES};
 ghost use Rattle.desk_words.specs.Office.{are_authorities, same_authority, same_presence};
 ghost use Rattle.desk_words.specs.Office.{are_demands, is_resolution, same_demand};
 ghost use Rattle.office_checks.specs.Keys.{demanded_in, named_in};
 
 use crate::keys::differ;
+use desk_words::limits::MOST_AUTHORITIES;
 use desk_words::{Authority, DemandMark, Filed, Meeting, Party, PresenceMark};
 use std::alloc::{AllocError, Global};
 
-/// Whether the party that gave an authority gave 64 at most.
+/// Whether the party that gave an authority gave `MOST_AUTHORITIES` at most.
 fn gave_few(given: &Filed<Authority>, authority: &Authority) -> bool
     ensures { result ≡ nat_le (count_by (λ (b : Authority).
-        same_name b.corporation authority.now.corporation) given.now) 64 }
+        same_name b.corporation authority.now.corporation) given.now) MOST_AUTHORITIES }
 {
-    given.places_by_first(authority.corporation).len() <= 64
+    given.places_by_first(authority.corporation).len() <= MOST_AUTHORITIES
 }
 
 fn all_gave_few(given: &Filed<Authority>) -> bool
     ensures { result ≡ list_all (λ (a : Authority). nat_le (count_by (λ (b : Authority).
-        same_name b.corporation a.corporation) given.now) 64) given.now }
+        same_name b.corporation a.corporation) given.now) MOST_AUTHORITIES) given.now }
 {
     given
         .as_slice()

@@ -12,6 +12,7 @@ use crate::appointments::{are_appointments, are_endings};
 use crate::attendance::{are_authorities, are_demands, presences_differ};
 use crate::keys::differ;
 use crate::polls::{are_casts, are_polls};
+use desk_words::limits::MOST_MEETINGS;
 use desk_words::{
     Appointment, Ending, Filed, Listing, Meeting, MeetingId, MeetingLists, Register, RegisterRow,
 };
@@ -157,15 +158,15 @@ fn names_differ(alloc: Global, meetings: &[MeetingLists]) -> Result<bool, AllocE
     Ok(differ(names(alloc, meetings)?))
 }
 
-/// The lists, each register in order, if they are those of the meetings of an office: 100 at most,
-/// each with a name of its own. The error is want of memory.
+/// The lists, each register in order, if they are those of the meetings of an office:
+/// `MOST_MEETINGS` at most, each with a name of its own. The error is want of memory.
 pub(crate) fn meetings_of(
     alloc: Global,
     meetings: Listing<MeetingLists>,
 ) -> Result<Option<Listing<MeetingLists>>, AllocError>
     ensures { IfOk result (λ found. found ≡ meetings_of meetings) }
 {
-    if meetings.len() > 100 {
+    if meetings.len() > MOST_MEETINGS {
         return Ok(None);
     }
     let Some(found) = each_checked(alloc, meetings)? else {

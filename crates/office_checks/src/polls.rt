@@ -4,6 +4,7 @@ ghost use Rattle.std.specs.List.{list_all, list_any};
 ghost use Rattle.std.specs.Option.{option_copied};
 ghost use Rattle.desk_lists.specs.Ordered.{ascends_by};
 ghost use Rattle.desk_words.specs.declared.records.CastMark.{CastMark};
+ghost use Rattle.desk_words.specs.declared.limits.TheConstants.{MOST_CASTS};
 ghost use Rattle.desk_words.specs.Office.{are_casts, is_cast_on, same_ballot};
 ghost use Rattle.desk_words.specs.Office.{are_polls, is_declared_right, is_poll, is_tally};
 ghost use Rattle.desk_words.specs.Office.{poll_before};
@@ -11,14 +12,15 @@ ghost use Rattle.office_checks.specs.Keys.{ballot_of};
 
 use crate::keys::stand_at_most;
 use desk_lists::ascend;
+use desk_words::limits::{MOST_CASTS, MOST_SHARES};
 use desk_words::{CastMark, Meeting, Party, Poll, Tally};
 use std::alloc::{AllocError, Global};
 
-/// Whether the votes are those of some shares, and the shares 10^12 at most (section 284).
+/// Whether the votes are those of some shares, and the shares `MOST_SHARES` at most (section 284).
 fn is_tally(tally: &Tally) -> bool
     ensures { result ≡ is_tally tally.now }
 {
-    tally.eligible <= 1_000_000_000_000
+    tally.eligible <= MOST_SHARES
         && tally.votes_for <= tally.eligible
         && tally.votes_against <= tally.eligible - tally.votes_for
         && tally.withheld <= tally.eligible - tally.votes_for - tally.votes_against
@@ -94,17 +96,18 @@ fn ballots(alloc: Global, casts: &[CastMark]) -> Result<Vec<(u64, Party)>, Alloc
         .collect(alloc)
 }
 
-/// Whether each voter cast 1,024 votes at most on a resolution.
+/// Whether each voter cast `MOST_CASTS` votes at most on a resolution.
 fn cast_few(alloc: Global, casts: &[CastMark]) -> Result<bool, AllocError>
     ensures { IfOk result (λ few. few
-        ≡ list_all (λ c. nat_le (count_by (λ d. same_ballot d c) casts.now) 1024) casts.now) }
+        ≡ list_all (λ c. nat_le (count_by (λ d. same_ballot d c) casts.now) MOST_CASTS)
+        casts.now) }
 {
     let ballots = ballots(alloc, casts)?;
-    stand_at_most(alloc, ballots.as_slice(), 1_024)
+    stand_at_most(alloc, ballots.as_slice(), MOST_CASTS)
 }
 
-/// Whether they are casts on these polls, of which a meeting has 50 at most (sections 284 and
-/// 322). The error is want of memory.
+/// Whether they are casts on these polls, of which a meeting has `MOST_RESOLUTIONS` at most
+/// (sections 284 and 322). The error is want of memory.
 pub(crate) fn are_casts(
     alloc: Global,
     polls: &[Poll],

@@ -2,6 +2,7 @@ use Rattle.std.proofs.Common.{length, ap, ◌∙◌}
 use Rattle.std.specs.Prelude.{count_by, nat_le}
 use Rattle.desk_filed.specs.Places.{has_first}
 use Rattle.desk_terms.specs.Names.{name_cmp}
+use Rattle.desk_words.specs.declared.limits.TheConstants.{MOST_AUTHORITIES}
 use Rattle.desk_words.specs.declared.records.Authority.{Authority}
 use Rattle.office_checks.proofs.KeyLemmas.{length-places_that}
 use Rattle.office_checks.proofs.TieLemmas.{name-ties}
@@ -10,7 +11,7 @@ use Rattle.office_checks.proofs.attendance.gave_few.Goals as goal
 pub returns : goal.returns
 returns c =
     let corporation = c.args.authority.now.corporation in
-    ap (λ n. nat_le n 64)
+    ap (λ n. nat_le n MOST_AUTHORITIES)
     (ap length c.places_by_first.ensures.places
     ∙ length-places_that (has_first name_cmp (λ (a : Authority). a.corporation) corporation) c.args.given.now
     ∙ ap (λ test. count_by test c.args.given.now) (λ i a. name-ties a.corporation corporation i))

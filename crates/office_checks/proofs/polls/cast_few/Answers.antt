@@ -6,6 +6,7 @@ use Rattle.std.specs.declared.cmp.Ordering.{Ordering}
 use Rattle.std.proofs.lemmas.List.Folds.{list_all-map}
 use Rattle.std.proofs.lemmas.Result.{IfOk-weaker}
 use Rattle.desk_terms.specs.Names.{name_cmp}
+use Rattle.desk_words.specs.declared.limits.TheConstants.{MOST_CASTS}
 use Rattle.desk_words.specs.declared.records.CastMark.{CastMark}
 use Rattle.desk_words.specs.Office.{same_ballot}
 use Rattle.office_checks.specs.Keys.{ballot_of, key_times}
@@ -22,11 +23,11 @@ times casts c =
     ∙ ap (λ test. count_by test casts) (λ i d. ballot-ties d c i)
 
 few : (casts : List CastMark) (ballots : List (ℕ × List ℕ)) → ballots ≡ map ballot_of casts
-    → list_all (λ key. nat_le (key_times order key ballots) 1024) ballots ≡ list_all (λ c. nat_le (count_by (λ d. same_ballot d c) casts) 1024) casts
+    → list_all (λ key. nat_le (key_times order key ballots) MOST_CASTS) ballots ≡ list_all (λ c. nat_le (count_by (λ d. same_ballot d c) casts) MOST_CASTS) casts
 few casts ballots named =
-    ap (λ keys. list_all (λ key. nat_le (key_times order key keys) 1024) keys) named
-    ∙ list_all-map (λ key. nat_le (key_times order key (map ballot_of casts)) 1024) ballot_of casts
-    ∙ ap (λ test. list_all test casts) (λ i c. nat_le (times casts c i) 1024)
+    ap (λ keys. list_all (λ key. nat_le (key_times order key keys) MOST_CASTS) keys) named
+    ∙ list_all-map (λ key. nat_le (key_times order key (map ballot_of casts)) MOST_CASTS) ballot_of casts
+    ∙ ap (λ test. list_all test casts) (λ i c. nat_le (times casts c i) MOST_CASTS)
 
 pub returns : goal.returns
 returns c =
