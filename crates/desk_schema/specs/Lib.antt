@@ -1,3 +1,4 @@
 pub mod Contents
 pub mod Statements
 pub mod Tables
+pub mod Texts

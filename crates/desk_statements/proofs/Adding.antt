@@ -1,8 +1,8 @@
 -- What INSERT of one row does to the tables of a desk.
-use Rattle.std.proofs.Common.{◌≡◌, ℕ, ℤ, List, [], ◌∷◌, ◌++◌, map, drop, slice_get, Bool, true, false, Some, Ok, Err, Result, OnOk, IsTrue, refl, sym, ap, subst, ◌∙◌}
+use Rattle.std.proofs.Common.{◌≡◌, ℕ, suc, ℤ, List, [], ◌∷◌, ◌++◌, map, length, drop, slice_get, if◌then◌else◌, Bool, true, false, Some, Ok, Err, Result, OnOk, IsTrue, refl, sym, ap, subst, ◌∙◌}
 use Rattle.sqlite.specs.declared.types.Value.TheVariants.{Null, Int}
 use Rattle.sqlite.specs.Order.{Row}
-use Rattle.sqlite.specs.Term.{Term}
+use Rattle.sqlite.specs.Term.{Term, lit, col}
 use Rattle.sqlite.specs.Table.{Table}
 use Rattle.sqlite.specs.Source.TheVariants.{Values}
 use Rattle.sqlite.specs.Command.TheVariants.{Insert}
@@ -15,7 +15,8 @@ use Rattle.sqlite.specs.State.{State, ExecutesInside}
 use Rattle.sqlite.proofs.Callers.{IsPlain, command_of, statement_of, runs_as}
 use Rattle.sqlite_trees.proofs.TreeLemmas.{IsShaped-put_row}
 use Rattle.desk_schema.specs.Statements.{Layout, TableOf, columns_of, has_table, IsDeskOf, IsRising, KeepsOthersIn, ChangesIn}
-use Rattle.std.specs.List.{AllByRecursion}
+use Rattle.desk_schema.specs.Texts.{adding_text, given_names}
+use Rattle.std.specs.List.{AllByRecursion, range_with_len}
 use Rattle.desk_statements.proofs.Seq.{IsBelow, chosen_by, put_last, below_chosen}
 use Rattle.desk_statements.proofs.Writing.{inserted, insert_edit, untouched, rows_of_values}
 use Rattle.desk_statements.proofs.Frames.{AreApart, still_desk, by_number, no_count}
@@ -98,3 +99,26 @@ pub adds : {A : Type 0} (layout : Layout) (it : TableOf A) (cells : Row) (added 
     → ((id : ℤ) → it.means (columns_of it (Int id ∷ cells)) ≡ Some added) → OnOk r (ChangesIn layout it (λ was. was ++ added ∷ []) old new)
 adds layout it cells added old new (Err e) h means = tt
 adds layout it cells added old new (Ok count) h means = means_more it cells added old new h (means h.id)
+
+-- the text, run with these values in a transaction over the tables of a desk, adds the record after the others
+abbrev pub AddsBy : {A : Type 0} → Layout → TableOf A → List ℕ → Row → A → Type 1
+AddsBy {A} layout it text values added =
+    (old new : State) (r : Result ℕ Error) → IsDeskOf layout old → IsTrue old.in_transaction → ExecutesInside 0 text values old new r → OnOk r (ChangesIn layout it (λ was. was ++ added ∷ []) old new)
+
+-- the terms of a row that is added: NULL for its number, for the column of that number too where rows are counted, and each value that is passed
+abbrev pub given_terms : Table → List Term
+given_terms table = lit Null ∷ (if table.is_counted then lit Null ∷ [] else []) ++ map (col 0) (range_with_len 0 (length (given_names table)))
+
+-- in this version of the tables the text made of the table adds a row with what is passed
+pub record AddsGiven {A : Type 0} (layout : Layout) (it : TableOf A) (table : Table) : Type 0 where
+  pub place : ℕ
+  pub is : command_of (understood layout.schema (adding_text table)) ≡ Insert place (Values (given_terms table) (suc (length table.columns)))
+  pub plain : IsPlain (understood layout.schema (adding_text table))
+  pub there : slice_get layout.schema.tables place ≡ Some (record table { tree = it.number })
+  pub numbered : IsTrue (has_table layout it.number)
+
+pub adds_given : {A : Type 0} {layout : Layout} {it : TableOf A} {table : Table} → AreApart layout → AddsGiven layout it table → (values cells : Row) (added : A)
+    → map (λ s. cast_row (record table { tree = it.number }) (drop 0 s)) (rows_of_values (record table { tree = it.number }) values (suc (length table.columns)) (given_terms table)) ≡ (Null ∷ cells) ∷ []
+    → ((id : ℤ) → it.means (columns_of it (Int id ∷ cells)) ≡ Some added) → AddsBy layout it (adding_text table) values added
+adds_given {layout = layout} {it = it} {table = table} apart given values cells added cast means old new r was inside h =
+    adds layout it cells added old new r (adds_row apart given.place (record table { tree = it.number }) (given_terms table) _ (adding_text table) values cells given.is given.plain given.there given.numbered cast old new r was inside h) means

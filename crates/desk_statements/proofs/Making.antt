@@ -15,6 +15,7 @@ use Rattle.sqlite.specs.Listing.{understood}
 use Rattle.sqlite.specs.State.{State, mode_of, ExecutesInside, Writes}
 use Rattle.sqlite.proofs.Callers.{IsPlain, command_of, statement_of, runs_as}
 use Rattle.desk_schema.specs.Statements.{AreEmpty}
+use Rattle.desk_schema.specs.Texts.{indexing_text}
 use Rattle.desk_statements.proofs.Writing.{went, same_value}
 
 emptied : (tables : List Table) (old new : Trees) → AllByRecursion (λ t. old t.tree ≡ []) tables → AllByRecursion (λ t. new t.tree ≡ old t.tree) tables → (last : Table) → new last.tree ≡ []
@@ -81,7 +82,7 @@ still_empty [] old new h k = tt
 still_empty (t ∷ tables) old new h k = (k.0 ∙ h.0, still_empty tables old new h.1 k.1)
 
 -- an index on a table of a schema whose tables have no row
-pub made_index : (old new : State) (schema : Schema) (at : ℕ) (text : List ℕ) (table : Table) (index : Index) (r : Result ℕ Error)
+made_index : (old new : State) (schema : Schema) (at : ℕ) (text : List ℕ) (table : Table) (index : Index) (r : Result ℕ Error)
     → command_of (understood schema text) ≡ CreateIndex at → statement_of text (understood schema text) ≡ text → IsPlain (understood schema text) → slice_get schema.tables at ≡ Some table
     → index_defined_by table text ≡ Ok index → AreEmpty schema old → IsTrue old.in_transaction → ExecutesInside 0 text [] old new r
     → OnOk r (AreEmpty (indexed schema table index) new × IsTrue new.in_transaction)
@@ -107,3 +108,16 @@ pub record MakesTable (schema : Schema) (text : List ℕ) (table : Table) : Type
 pub table_made : {schema : Schema} {text : List ℕ} {table : Table} → MakesTable schema text table → (old new : State) (r : Result ℕ Error) → AreEmpty schema old → IsTrue old.in_transaction → ExecutesInside 0 text [] old new r
     → OnOk r (AreEmpty (created schema table) new × IsTrue new.in_transaction)
 table_made {schema} {text} {table} makes old new r = made old new schema text table r makes.is makes.alone makes.plain makes.defined makes.full
+
+-- in the schema the text made of the table and of the index makes this index
+pub record MakesIndex (schema : Schema) (table : Table) (index : Index) : Type 0 where
+  pub place : ℕ
+  pub is : command_of (understood schema (indexing_text table index)) ≡ CreateIndex place
+  pub alone : statement_of (indexing_text table index) (understood schema (indexing_text table index)) ≡ indexing_text table index
+  pub plain : IsPlain (understood schema (indexing_text table index))
+  pub there : slice_get schema.tables place ≡ Some table
+  pub defined : index_defined_by table (indexing_text table index) ≡ Ok index
+
+pub index_made : {schema : Schema} {table : Table} {index : Index} → MakesIndex schema table index → (old new : State) (r : Result ℕ Error) → AreEmpty schema old → IsTrue old.in_transaction → ExecutesInside 0 (indexing_text table index) [] old new r
+    → OnOk r (AreEmpty (indexed schema table index) new × IsTrue new.in_transaction)
+index_made {schema} {table} {index} makes old new r = made_index old new schema makes.place (indexing_text table index) table index r makes.is makes.alone makes.plain makes.there makes.defined

@@ -13,6 +13,7 @@ use Rattle.desk_rows.specs.Columns.{unix_day, day_in}
 use Rattle.desk_rows.specs.Office.{closed_in}
 use Rattle.desk_statements.proofs.GivenNumbers.{days_below}
 use Rattle.desk_schema.specs.Tables.{desk_schema, up_to_keys, closed_table as table}
+use Rattle.desk_schema.specs.Texts.{adding_text, making_text}
 use Rattle.desk_schema.specs.Contents.{closed}
 use Rattle.desk_schema.specs.Statements.{IsDesk, Empties, AddsAfter, layout_one}
 use Rattle.desk_statements.proofs.Adding.{adds_numbered, means_more}
@@ -23,24 +24,18 @@ use Rattle.desk_statements.proofs.Making.{MakesTable}
 use Rattle.desk_statements.proofs.Values.{cast_null, cast_int}
 use Rattle.desk_statements.proofs.Frames.{ones_apart}
 
-abbrev make_text : List ℕ
-make_text = codes "CREATE TABLE closed (day INTEGER NOT NULL PRIMARY KEY) STRICT"
-
-pub makes : MakesTable up_to_keys make_text table
+pub makes : MakesTable up_to_keys (making_text (codes "day INTEGER NOT NULL PRIMARY KEY" ∷ []) [] table) table
 unfolding understood everything Rattle.sqlite_schema.specs.Names.same_name
 makes = record { is = refl; alone = refl; plain = (refl, refl); defined = refl; full = refl }
-
-abbrev add_text : List ℕ
-add_text = codes "INSERT INTO closed (day) VALUES (?1)"
 
 abbrev terms : List Term
 terms = col 0 0 ∷ lit Null ∷ []
 
-add_is : command_of (understood desk_schema add_text) ≡ Insert 2 (Values terms 2)
+add_is : command_of (understood desk_schema (adding_text table)) ≡ Insert 2 (Values terms 2)
 unfolding understood everything
 add_is = refl
 
-add_plain : IsPlain (understood desk_schema add_text)
+add_plain : IsPlain (understood desk_schema (adding_text table))
 unfolding understood everything
 add_plain = (refl, refl)
 
@@ -48,29 +43,17 @@ means : (n : ℤ) (day : ℕ) → unix_day n ≡ Some day → closed_in (Int n �
 unfolding closed_in day_in
 means n day is = is
 
-pub adds_day : (day : ℕ) (n : ℤ) → unix_day n ≡ Some day → (old new : State) (r : Result ℕ Error) → IsDesk old → IsTrue old.in_transaction → ExecutesInside 0 add_text (Int n ∷ []) old new r
+pub adds_day : (day : ℕ) (n : ℤ) → unix_day n ≡ Some day → (old new : State) (r : Result ℕ Error) → IsDesk old → IsTrue old.in_transaction → ExecutesInside 0 (adding_text table) (Int n ∷ []) old new r
     → OnOk r (AddsAfter (λ earlier. nat_lt earlier day) closed day old new)
 adds_day day n is old new (Err e) was inside h = tt
 adds_day day n is old new (Ok count) was inside h = λ records known passed.
-    let row = adds_numbered ones_apart 2 (record table { tree = 4 }) terms 2 add_text (Int n ∷ []) n (Null ∷ []) add_is add_plain refl refl (rw (cast_null, cast_int n) refl) old new (Ok count) was inside
+    let row = adds_numbered ones_apart 2 (record table { tree = 4 }) terms 2 (adding_text table) (Int n ∷ []) n (Null ∷ []) add_is add_plain refl refl (rw (cast_null, cast_int n) refl) old new (Ok count) was inside
     (days_below (old.now.trees 4) records n day (was.rising 4 refl) is known passed) h in
     means_more closed (Null ∷ []) day old new row.0 (rw row.1 (means n day is))
 
-abbrev all_text : List ℕ
-all_text = codes "SELECT day FROM closed ORDER BY day"
-
-pub lists : ListsTable layout_one closed all_text
+pub lists : ListsTable layout_one closed table
 unfolding understood everything
-lists = record {
-  shows = col 1 0 ∷ [];
-  names = codes "day" ∷ [];
-  is = refl;
-  plain = (refl, refl);
-  unlisted = refl;
-  none = refl;
-  numbered = refl;
-  columns = λ row. refl;
-}
+lists = record { is = refl; plain = (refl, refl); unlisted = refl; none = refl; numbered = refl }
 
 abbrev empty_text : List ℕ
 empty_text = codes "DELETE FROM closed"

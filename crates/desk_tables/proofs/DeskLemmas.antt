@@ -2,7 +2,7 @@
 use Rattle.std.proofs.Common.{◌≡◌, ℕ, pos, List, [], ◌∷◌, codes, false, Some, Ok, Err, Result, OnOk, IfOk, IfErr, IsTrue, ◌⊎◌, refl, subst}
 use Rattle.sqlite.specs.declared.types.Value.TheVariants.{Null, Int}
 use Rattle.sqlite.specs.Order.{Row}
-use Rattle.sqlite.specs.Term.{Term, lit, col}
+use Rattle.sqlite.specs.Term.{Term, lit}
 use Rattle.sqlite.specs.Source.TheVariants.{Values}
 use Rattle.sqlite.specs.Command.TheVariants.{Insert, Select}
 use Rattle.sqlite_tied.specs.Compute.{everything}
@@ -22,24 +22,23 @@ use Rattle.desk_rows.specs.Columns.{number_in}
 use Rattle.desk_rows.specs.Office.{version_in}
 use Rattle.desk_statements.proofs.GivenNumbers.{none_below}
 use Rattle.desk_schema.specs.Tables.{desk_schema, no_schema, desk_table as table}
+use Rattle.desk_schema.specs.Texts.{given_names, inserting_text, making_text}
 use Rattle.desk_schema.specs.Contents.{desk}
 use Rattle.desk_schema.specs.Statements.{IsDesk, AddsFirst, table_rows}
 use Rattle.desk_statements.proofs.Adding.{adds_numbered, means_more}
 use Rattle.desk_statements.proofs.Commits.{query_keeps}
+use Rattle.desk_statements.proofs.Listing.{shown_terms}
 use Rattle.desk_statements.proofs.Making.{MakesTable}
 use Rattle.desk_statements.proofs.Reading.{in_order, shown_same, whole}
 use Rattle.desk_statements.proofs.Values.{cast_null, cast_int}
 use Rattle.desk_statements.proofs.Frames.{ones_apart}
 
-abbrev make_text : List ℕ
-make_text = codes "CREATE TABLE desk (one INTEGER NOT NULL PRIMARY KEY, version INTEGER NOT NULL) STRICT"
-
-pub makes : MakesTable no_schema make_text table
+pub makes : MakesTable no_schema (making_text (codes "one INTEGER NOT NULL PRIMARY KEY" ∷ []) [] table) table
 unfolding understood everything Rattle.sqlite_schema.specs.Names.same_name
 makes = record { is = refl; alone = refl; plain = (refl, refl); defined = refl; full = refl }
 
 abbrev add_text : List ℕ
-add_text = codes "INSERT INTO desk (one, version) VALUES (1, 1)"
+add_text = inserting_text (codes "1" ∷ codes "1" ∷ []) table
 
 abbrev terms : List Term
 terms = lit (Int (pos 1)) ∷ lit Null ∷ lit (Int (pos 1)) ∷ []
@@ -74,14 +73,8 @@ answered : (r : Result Compiled CompileError) (db : Database) (rows : List Row) 
 answered (Ok c) db rows plain h = h
 answered (Err e) db rows plain h = absurd plain
 
-abbrev shows : List Term
-shows = col 1 0 ∷ col 1 2 ∷ []
-
-abbrev names : List (List ℕ)
-names = codes "one" ∷ codes "version" ∷ []
-
 module _ (others : List Table) (indexes : List Index) (views : List Stored) where
-  text_is : (command_of (understood (beside_desk others indexes views) version_text) ≡ Select (record { lets = []; body = whole 0 shows }) names) × (reads_listing (beside_desk others indexes views) version_text ≡ false)
+  text_is : (command_of (understood (beside_desk others indexes views) version_text) ≡ Select (record { lets = []; body = whole 0 (shown_terms desk) }) (given_names table)) × (reads_listing (beside_desk others indexes views) version_text ≡ false)
   unfolding understood everything
   text_is = (refl, refl)
 
@@ -94,7 +87,7 @@ module _ (others : List Table) (indexes : List Index) (views : List Stored) wher
     table = refl;
     plain = text_plain;
     listed = text_is.1;
-    whole = λ db rising rows h. in_order 0 shows db.trees refl rows rising.0 ((command_reads (understood (beside_desk others indexes views) version_text) _ db rows text_is.0 h).answer Null);
+    whole = λ db rising rows h. in_order 0 (shown_terms desk) db.trees refl rows rising.0 ((command_reads (understood (beside_desk others indexes views) version_text) _ db rows text_is.0 h).answer Null);
   }
 
 -- the tables of version 1 note it

@@ -1,13 +1,12 @@
 -- What the statements on `keys` do.
 use Rattle.std.proofs.Common.{◌≡◌, ℕ, List, [], ◌∷◌, codes, false, Some, Result, OnOk, IfOk, IfErr, IsTrue, ◌⊎◌, refl, ◌∙◌, filter}
-use Rattle.sqlite.specs.declared.types.Value.TheVariants.{Null, Text}
+use Rattle.sqlite.specs.declared.types.Value.TheVariants.{Text}
 use Rattle.sqlite.specs.Order.{Row, column}
-use Rattle.sqlite.specs.Term.{Term, lit, col, op2}
+use Rattle.sqlite.specs.Term.{Term, col, op2}
 use Rattle.sqlite.specs.Collation.TheVariants.{Binary}
 use Rattle.sqlite_sql.specs.declared.ops.BinaryOp.TheVariants.{Compare}
 use Rattle.sqlite_sql.specs.declared.ops.CompareOp.TheVariants.{Eq}
-use Rattle.sqlite.specs.Source.TheVariants.{Values}
-use Rattle.sqlite.specs.Command.TheVariants.{Insert, Select, Delete}
+use Rattle.sqlite.specs.Command.TheVariants.{Select, Delete}
 use Rattle.sqlite_tied.specs.Compute.{everything}
 use Rattle.sqlite.specs.declared.error.Error.{Error}
 use Rattle.sqlite.specs.Listing.{understood, reads_listing}
@@ -19,13 +18,14 @@ use Rattle.desk_rows.specs.Office.{key_row_in}
 use Rattle.desk_terms.specs.Names.{key_of, same_name}
 use Rattle.desk_words.specs.Callers.{caller_of}
 use Rattle.desk_schema.specs.Tables.{desk_schema, up_to_desk, keys_table as table}
+use Rattle.desk_schema.specs.Texts.{adding_text, finding_text, given_names, making_text}
 use Rattle.desk_schema.specs.Contents.{keys}
-use Rattle.desk_schema.specs.Statements.{IsDesk, columns_of, records_in, Adds, Empties, layout_one}
-use Rattle.desk_statements.proofs.Adding.{adds_row, adds}
+use Rattle.desk_schema.specs.Statements.{IsDesk, columns_of, records_in, Empties, layout_one}
+use Rattle.desk_statements.proofs.Adding.{AddsBy, AddsGiven, adds_given}
 use Rattle.desk_statements.proofs.Commits.{query_keeps}
 use Rattle.desk_statements.proofs.Deleting.{chosen, passes}
 use Rattle.desk_statements.proofs.Emptying.{empties, leaves_rows}
-use Rattle.desk_statements.proofs.Listing.{ListsTable}
+use Rattle.desk_statements.proofs.Listing.{ListsTable, shown_terms}
 use Rattle.desk_statements.proofs.Making.{MakesTable}
 use Rattle.desk_statements.proofs.Reading.{sought, finds}
 use Rattle.desk_rows.specs.Meanings.{all_mean}
@@ -35,64 +35,31 @@ use Rattle.std.proofs.Math.Bool.{and-true}
 use Rattle.desk_statements.proofs.Values.{cast_null}
 use Rattle.desk_statements.proofs.Frames.{ones_apart}
 
-abbrev make_text : List ℕ
-make_text = codes "CREATE TABLE keys (party TEXT NOT NULL PRIMARY KEY, secret TEXT NOT NULL UNIQUE) STRICT"
+-- how the columns that have a key are declared
+abbrev first_columns : List (List ℕ)
+first_columns = codes "party TEXT NOT NULL PRIMARY KEY" ∷ codes "secret TEXT NOT NULL UNIQUE" ∷ []
 
-pub makes : MakesTable up_to_desk make_text table
+pub makes : MakesTable up_to_desk (making_text first_columns [] table) table
 unfolding understood everything Rattle.sqlite_schema.specs.Names.same_name
 makes = record { is = refl; alone = refl; plain = (refl, refl); defined = refl; full = refl }
 
-abbrev add_text : List ℕ
-add_text = codes "INSERT INTO keys (party, secret) VALUES (?1, ?2)"
-
-abbrev terms : List Term
-terms = lit Null ∷ col 0 0 ∷ col 0 1 ∷ []
-
-add_is : command_of (understood desk_schema add_text) ≡ Insert 1 (Values terms 3)
+adds : AddsGiven layout_one keys table
 unfolding understood everything
-add_is = refl
+adds = record { place = 1; is = refl; plain = (refl, refl); there = refl; numbered = refl }
 
-add_plain : IsPlain (understood desk_schema add_text)
+pub lists : ListsTable layout_one keys table
 unfolding understood everything
-add_plain = (refl, refl)
+lists = record { is = refl; plain = (refl, refl); unlisted = refl; none = refl; numbered = refl }
 
 module _ (k : KeyRow) (party : List ℕ) (secret : List ℕ) where
   abbrev pub values : Row
   values = Text party ∷ Text secret ∷ []
 
-  means : caller_of party ≡ Some k.caller → key_of secret ≡ Some k.secret → key_row_in values ≡ Some (k)
-  unfolding key_row_in spelled
-  means party_is secret_is = rw (party_is, secret_is) refl
-
   pub adds_key : caller_of party ≡ Some k.caller → key_of secret ≡ Some k.secret
-      → (old new : State) (r : Result ℕ Error) → IsDesk old → IsTrue old.in_transaction → ExecutesInside 0 add_text values old new r → OnOk r (Adds keys (k) old new)
-  adds_key party_is secret_is old new r was inside h =
-      let cells = values in
-      adds layout_one keys cells (k) old new r
-      (adds_row ones_apart 1 (record table { tree = 1 }) terms 3 add_text values cells add_is add_plain refl refl (rw (cast_null) refl) old new r was inside h)
-      (λ id. means party_is secret_is)
-
-abbrev all_text : List ℕ
-all_text = codes "SELECT party, secret FROM keys ORDER BY rowid"
-
-abbrev shows : List Term
-shows = col 1 1 ∷ col 1 2 ∷ []
-
-abbrev names : List (List ℕ)
-names = codes "party" ∷ codes "secret" ∷ []
-
-pub lists : ListsTable layout_one keys all_text
-unfolding understood everything
-lists = record {
-  shows = shows;
-  names = names;
-  is = refl;
-  plain = (refl, refl);
-  unlisted = refl;
-  none = refl;
-  numbered = refl;
-  columns = λ row. refl;
-}
+      → AddsBy layout_one keys (adding_text table) values k
+  unfolding key_row_in spelled
+  adds_key party_is secret_is =
+      adds_given ones_apart adds values values k (rw (cast_null) refl) (λ id. rw (party_is, secret_is) refl)
 
 abbrev empty_text : List ℕ
 empty_text = codes "DELETE FROM keys"
@@ -109,12 +76,12 @@ pub empties_all : (old new : State) (r : Result ℕ Error) → IsDesk old → Is
 empties_all old new r was inside h = empties layout_one keys old new r (leaves_rows ones_apart 1 (record table { tree = 1 }) [] empty_text [] empty_is empty_plain refl refl refl old new r was inside h)
 
 abbrev find_text : List ℕ
-find_text = codes "SELECT party, secret FROM keys WHERE secret = ?1 ORDER BY rowid"
+find_text = finding_text table (codes "secret = ?1")
 
 abbrev with_secret : List Term
 with_secret = op2 (Compare Eq Binary) (col 1 2) (col 0 0) ∷ []
 
-find_is : (command_of (understood desk_schema find_text) ≡ Select (record { lets = []; body = sought 1 with_secret shows }) names) × (reads_listing desk_schema find_text ≡ false)
+find_is : (command_of (understood desk_schema find_text) ≡ Select (record { lets = []; body = sought 1 with_secret (shown_terms keys) }) (given_names table)) × (reads_listing desk_schema find_text ≡ false)
 unfolding understood everything
 find_is = (refl, refl)
 
@@ -135,7 +102,7 @@ chosen_so s secret is cells x h = and-true _ ∙ keys_tell (column cells 2) secr
 
 pub finds_secret : {V : Type 0} (items : V → List Row) (s secret : List ℕ) → key_of secret ≡ Some s → (old new : State) (r : Result V Error) → IsDesk old → IfOk r (λ v. Shown find_text (Text secret ∷ []) old new (items v))
     → IfOk r (λ v. ((was : List KeyRow) → records_in keys old.now.trees ≡ Some was → all_mean keys.means (items v) ≡ Some (filter (λ x. same_name x.secret s) was)) × IsUnchanged old new)
-finds_secret items s secret is = finds layout_one items keys with_secret shows names find_text (Text secret ∷ []) (λ x. same_name x.secret s) find_is.0 find_plain find_is.1 refl refl (λ cells. refl) (chosen_so s secret is)
+finds_secret items s secret is = finds layout_one items keys with_secret (shown_terms keys) (given_names table) find_text (Text secret ∷ []) (λ x. same_name x.secret s) find_is.0 find_plain find_is.1 refl refl (λ cells. refl) (chosen_so s secret is)
 
 pub find_keeps : {V : Type 0} (items : V → List Row) (secret : List ℕ) (old new : State) (r : Result V Error) → IsDesk old → IfOk r (λ v. Shown find_text (Text secret ∷ []) old new (items v))
     → IfErr r (λ e. FailsToQuery find_text (Text secret ∷ []) old new e ⊎ IsTooLate find_text (Text secret ∷ []) old new e) → KeepsCommit old new

@@ -8,8 +8,7 @@ use Rattle.sqlite.specs.Term.{Term, lit, col, op2}
 use Rattle.sqlite.specs.Collation.TheVariants.{Binary}
 use Rattle.sqlite_sql.specs.declared.ops.BinaryOp.TheVariants.{Compare}
 use Rattle.sqlite_sql.specs.declared.ops.CompareOp.TheVariants.{Eq}
-use Rattle.sqlite.specs.Source.TheVariants.{Values}
-use Rattle.sqlite.specs.Command.TheVariants.{Insert, Update, CreateTable}
+use Rattle.sqlite.specs.Command.TheVariants.{Update, CreateTable}
 use Rattle.sqlite.specs.Change.{created}
 use Rattle.sqlite.specs.Compile.{table_defined_by}
 use Rattle.sqlite.specs.Does.{lacks_sequence, sequence_text}
@@ -24,9 +23,10 @@ use Rattle.desk_rows.specs.Meetings.{meeting_in}
 use Rattle.desk_terms.specs.Kinds.{company_of, meeting_kind_of}
 use Rattle.desk_terms.specs.Names.{meeting_of, same_name}
 use Rattle.desk_schema.specs.Tables.{desk_schema, up_to_closed, up_to_meetings, meetings_table as table, sequence}
+use Rattle.desk_schema.specs.Texts.{adding_text, making_text, seq_column}
 use Rattle.desk_schema.specs.Contents.{meetings, without_resolutions, loaded_at, opened_at}
-use Rattle.desk_schema.specs.Statements.{IsDesk, Adds, Sets, columns_of, AreEmpty, layout_one}
-use Rattle.desk_statements.proofs.Adding.{adds_row, adds}
+use Rattle.desk_schema.specs.Statements.{IsDesk, Sets, columns_of, AreEmpty, layout_one}
+use Rattle.desk_statements.proofs.Adding.{AddsBy, AddsGiven, adds_given}
 use Rattle.desk_statements.proofs.Deleting.{picked, passes}
 use Rattle.desk_statements.proofs.Listing.{ListsTable}
 use Rattle.desk_statements.proofs.Making.{made_counted}
@@ -45,8 +45,12 @@ use Rattle.desk_statements.proofs.Updating.{new_row, changes_rows, sets}
 use Rattle.desk_statements.proofs.Values.{cast_flag, cast_int, cast_null, cast_some, flag, flag_kept}
 use Rattle.desk_statements.proofs.Frames.{ones_apart}
 
+-- how the columns that have a key are declared
+abbrev first_columns : List (List ℕ)
+first_columns = seq_column ∷ codes "meeting TEXT NOT NULL UNIQUE" ∷ []
+
 abbrev make_text : List ℕ
-make_text = codes "CREATE TABLE meetings (seq INTEGER PRIMARY KEY AUTOINCREMENT, meeting TEXT NOT NULL UNIQUE, company TEXT NOT NULL, kind TEXT NOT NULL, given INTEGER NOT NULL, appointed INTEGER NOT NULL, record INTEGER NOT NULL, loaded INTEGER NOT NULL, opened INTEGER) STRICT"
+make_text = making_text first_columns [] table
 
 make_is : (command_of (understood up_to_closed make_text) ≡ CreateTable) × (statement_of make_text (understood up_to_closed make_text) ≡ make_text) × (table_defined_by make_text ≡ Ok table)
 unfolding understood everything
@@ -64,51 +68,23 @@ pub makes : (old new : State) (r : Result ℕ Error) → AreEmpty up_to_closed o
     → OnOk r (AreEmpty up_to_meetings new × IsTrue new.in_transaction)
 makes old new r = made_counted old new up_to_closed make_text table sequence r make_is.0 make_is.1 make_plain make_is.2 make_lacks.0 make_lacks.1
 
-abbrev add_text : List ℕ
-add_text = codes "INSERT INTO meetings (meeting, company, kind, given, appointed, record, loaded, opened) VALUES (?1, ?2, ?3, ?4, ?5, ?6, ?7, ?8)"
-
-abbrev terms : List Term
-terms = lit Null ∷ lit Null ∷ col 0 0 ∷ col 0 1 ∷ col 0 2 ∷ col 0 3 ∷ col 0 4 ∷ col 0 5 ∷ col 0 6 ∷ col 0 7 ∷ []
-
-add_is : command_of (understood desk_schema add_text) ≡ Insert 3 (Values terms 10)
+adds : AddsGiven layout_one meetings table
 unfolding understood everything
-add_is = refl
+adds = record { place = 3; is = refl; plain = (refl, refl); there = refl; numbered = refl }
 
-add_plain : IsPlain (understood desk_schema add_text)
+pub lists : ListsTable layout_one meetings table
 unfolding understood everything
-add_plain = (refl, refl)
+lists = record { is = refl; plain = (refl, refl); unlisted = refl; none = refl; numbered = refl }
 
 module _ (m : Meeting) (meeting : List ℕ) (company : List ℕ) (kind : List ℕ) (given : ℤ) (appointed : ℤ) (recorded : ℤ) (opened : Option ℤ) where
   abbrev pub values : Row
   values = Text meeting ∷ Text company ∷ Text kind ∷ Int given ∷ Int appointed ∷ Int recorded ∷ flag m.loaded ∷ or_null Int opened ∷ []
 
-  means : meeting_of meeting ≡ Some m.id → read_word company_of company ≡ Some m.company → read_word meeting_kind_of kind ≡ Some m.kind → unix_day given ≡ Some m.given → moment_of_number appointed ≡ Some m.appointed → moment_of_number recorded ≡ Some m.record_moment → some_moment_of (or_null Int opened) ≡ Some m.opened → meeting_in values ≡ Some (without_resolutions m)
-  unfolding meeting_in day_in flag_in moment_in number_in some_moment_in spelled worded
-  means meeting_is company_is kind_is given_is appointed_is recorded_is opened_is = rw (meeting_is, company_is, kind_is, given_is, appointed_is, recorded_is, opened_is, flag_kept m.loaded) refl
-
   pub adds_meeting : meeting_of meeting ≡ Some m.id → read_word company_of company ≡ Some m.company → read_word meeting_kind_of kind ≡ Some m.kind → unix_day given ≡ Some m.given → moment_of_number appointed ≡ Some m.appointed → moment_of_number recorded ≡ Some m.record_moment → some_moment_of (or_null Int opened) ≡ Some m.opened
-      → (old new : State) (r : Result ℕ Error) → IsDesk old → IsTrue old.in_transaction → ExecutesInside 0 add_text values old new r → OnOk r (Adds meetings (without_resolutions m) old new)
-  adds_meeting meeting_is company_is kind_is given_is appointed_is recorded_is opened_is old new r was inside h =
-      let cells = Null ∷ values in
-      adds layout_one meetings cells (without_resolutions m) old new r
-      (adds_row ones_apart 3 (record table { tree = 5 }) terms 10 add_text values cells add_is add_plain refl refl (rw (cast_null, cast_int given, cast_int appointed, cast_int recorded, cast_flag m.loaded, cast_some opened) refl) old new r was inside h)
-      (λ id. means meeting_is company_is kind_is given_is appointed_is recorded_is opened_is)
-
-abbrev all_text : List ℕ
-all_text = codes "SELECT meeting, company, kind, given, appointed, record, loaded, opened FROM meetings ORDER BY seq"
-
-pub lists : ListsTable layout_one meetings all_text
-unfolding understood everything
-lists = record {
-  shows = col 1 2 ∷ col 1 3 ∷ col 1 4 ∷ col 1 5 ∷ col 1 6 ∷ col 1 7 ∷ col 1 8 ∷ col 1 9 ∷ [];
-  names = codes "meeting" ∷ codes "company" ∷ codes "kind" ∷ codes "given" ∷ codes "appointed" ∷ codes "record" ∷ codes "loaded" ∷ codes "opened" ∷ [];
-  is = refl;
-  plain = (refl, refl);
-  unlisted = refl;
-  none = refl;
-  numbered = refl;
-  columns = λ row. refl;
-}
+      → AddsBy layout_one meetings (adding_text table) values (without_resolutions m)
+  unfolding meeting_in day_in flag_in moment_in number_in some_moment_in spelled worded
+  adds_meeting meeting_is company_is kind_is given_is appointed_is recorded_is opened_is =
+      adds_given ones_apart adds values (Null ∷ values) (without_resolutions m) (rw (cast_null, cast_int given, cast_int appointed, cast_int recorded, cast_flag m.loaded, cast_some opened) refl) (λ id. rw (meeting_is, company_is, kind_is, given_is, appointed_is, recorded_is, opened_is, flag_kept m.loaded) refl)
 
 abbrev load_text : List ℕ
 load_text = codes "UPDATE meetings SET loaded = 1 WHERE meeting = ?1"

@@ -1,13 +1,12 @@
 -- What the statements on `register` do.
 use Rattle.std.proofs.Common.{◌≡◌, ℕ, ℤ, List, [], ◌∷◌, codes, Some, Result, OnOk, IsTrue, refl, ◌∙◌}
-use Rattle.sqlite.specs.declared.types.Value.TheVariants.{Null, Int, Text}
+use Rattle.sqlite.specs.declared.types.Value.TheVariants.{Int, Text}
 use Rattle.sqlite.specs.Order.{Row, column}
-use Rattle.sqlite.specs.Term.{Term, lit, col, op2}
+use Rattle.sqlite.specs.Term.{col, op2}
 use Rattle.sqlite.specs.Collation.TheVariants.{Binary}
 use Rattle.sqlite_sql.specs.declared.ops.BinaryOp.TheVariants.{Compare}
 use Rattle.sqlite_sql.specs.declared.ops.CompareOp.TheVariants.{Eq}
-use Rattle.sqlite.specs.Source.TheVariants.{Values}
-use Rattle.sqlite.specs.Command.TheVariants.{Insert, Delete}
+use Rattle.sqlite.specs.Command.TheVariants.{Delete}
 use Rattle.sqlite_tied.specs.Compute.{everything}
 use Rattle.sqlite.specs.declared.error.Error.{Error}
 use Rattle.sqlite.specs.Listing.{understood}
@@ -20,9 +19,10 @@ use Rattle.desk_rows.specs.Meetings.{holding_in}
 use Rattle.desk_terms.specs.Kinds.{holder_kind_of}
 use Rattle.desk_terms.specs.Names.{meeting_of, party_of, same_name}
 use Rattle.desk_schema.specs.Tables.{desk_schema, up_to_resolutions, register_table as table}
+use Rattle.desk_schema.specs.Texts.{adding_text, once_text}
 use Rattle.desk_schema.specs.Contents.{register}
-use Rattle.desk_schema.specs.Statements.{IsDesk, Adds, TakesOut, columns_of, layout_one}
-use Rattle.desk_statements.proofs.Adding.{adds_row, adds}
+use Rattle.desk_schema.specs.Statements.{IsDesk, TakesOut, columns_of, layout_one}
+use Rattle.desk_statements.proofs.Adding.{AddsBy, AddsGiven, adds_given}
 use Rattle.desk_statements.proofs.Deleting.{chosen, passes}
 use Rattle.desk_statements.proofs.Emptying.{takes_out, leaves_rows}
 use Rattle.desk_statements.proofs.Listing.{ListsTable}
@@ -33,58 +33,27 @@ use Rattle.std.proofs.Math.Bool.{and-true}
 use Rattle.desk_statements.proofs.Values.{cast_int, cast_null}
 use Rattle.desk_statements.proofs.Frames.{ones_apart}
 
-abbrev make_text : List ℕ
-make_text = codes "CREATE TABLE register (meeting TEXT NOT NULL REFERENCES meetings (meeting), member TEXT NOT NULL, kind TEXT NOT NULL, name TEXT NOT NULL, shares INTEGER NOT NULL, paid INTEGER NOT NULL, PRIMARY KEY (meeting, member)) STRICT"
-
-pub makes : MakesTable up_to_resolutions make_text table
+pub makes : MakesTable up_to_resolutions (once_text table) table
 unfolding understood everything Rattle.sqlite_schema.specs.Names.same_name
 makes = record { is = refl; alone = refl; plain = (refl, refl); defined = refl; full = refl }
 
-abbrev add_text : List ℕ
-add_text = codes "INSERT INTO register (meeting, member, kind, name, shares, paid) VALUES (?1, ?2, ?3, ?4, ?5, ?6)"
-
-abbrev terms : List Term
-terms = lit Null ∷ col 0 0 ∷ col 0 1 ∷ col 0 2 ∷ col 0 3 ∷ col 0 4 ∷ col 0 5 ∷ []
-
-add_is : command_of (understood desk_schema add_text) ≡ Insert 6 (Values terms 7)
+adds : AddsGiven layout_one register table
 unfolding understood everything
-add_is = refl
+adds = record { place = 6; is = refl; plain = (refl, refl); there = refl; numbered = refl }
 
-add_plain : IsPlain (understood desk_schema add_text)
+pub lists : ListsTable layout_one register table
 unfolding understood everything
-add_plain = (refl, refl)
+lists = record { is = refl; plain = (refl, refl); unlisted = refl; none = refl; numbered = refl }
 
 module _ (m : List ℕ) (x : RegisterRow) (meeting : List ℕ) (member : List ℕ) (kind : List ℕ) (name : List ℕ) (shares : ℤ) (paid : ℤ) where
   abbrev pub values : Row
   values = Text meeting ∷ Text member ∷ Text kind ∷ Text name ∷ Int shares ∷ Int paid ∷ []
 
-  means : meeting_of meeting ≡ Some m → party_of member ≡ Some x.member → read_word holder_kind_of kind ≡ Some x.kind → read_word plain_text_of name ≡ Some x.name → natural_of shares ≡ Some x.shares → natural_of paid ≡ Some x.paid → holding_in values ≡ Some (record { meeting = m; item = x })
-  unfolding holding_in number_in spelled worded
-  means meeting_is member_is kind_is name_is shares_is paid_is = rw (meeting_is, member_is, kind_is, name_is, shares_is, paid_is) refl
-
   pub adds_register : meeting_of meeting ≡ Some m → party_of member ≡ Some x.member → read_word holder_kind_of kind ≡ Some x.kind → read_word plain_text_of name ≡ Some x.name → natural_of shares ≡ Some x.shares → natural_of paid ≡ Some x.paid
-      → (old new : State) (r : Result ℕ Error) → IsDesk old → IsTrue old.in_transaction → ExecutesInside 0 add_text values old new r → OnOk r (Adds register (record { meeting = m; item = x }) old new)
-  adds_register meeting_is member_is kind_is name_is shares_is paid_is old new r was inside h =
-      let cells = values in
-      adds layout_one register cells (record { meeting = m; item = x }) old new r
-      (adds_row ones_apart 6 (record table { tree = 10 }) terms 7 add_text values cells add_is add_plain refl refl (rw (cast_null, cast_int shares, cast_int paid) refl) old new r was inside h)
-      (λ id. means meeting_is member_is kind_is name_is shares_is paid_is)
-
-abbrev all_text : List ℕ
-all_text = codes "SELECT meeting, member, kind, name, shares, paid FROM register ORDER BY rowid"
-
-pub lists : ListsTable layout_one register all_text
-unfolding understood everything
-lists = record {
-  shows = col 1 1 ∷ col 1 2 ∷ col 1 3 ∷ col 1 4 ∷ col 1 5 ∷ col 1 6 ∷ [];
-  names = codes "meeting" ∷ codes "member" ∷ codes "kind" ∷ codes "name" ∷ codes "shares" ∷ codes "paid" ∷ [];
-  is = refl;
-  plain = (refl, refl);
-  unlisted = refl;
-  none = refl;
-  numbered = refl;
-  columns = λ row. refl;
-}
+      → AddsBy layout_one register (adding_text table) values (record { meeting = m; item = x })
+  unfolding holding_in number_in spelled worded
+  adds_register meeting_is member_is kind_is name_is shares_is paid_is =
+      adds_given ones_apart adds values values (record { meeting = m; item = x }) (rw (cast_null, cast_int shares, cast_int paid) refl) (λ id. rw (meeting_is, member_is, kind_is, name_is, shares_is, paid_is) refl)
 
 abbrev empty_text : List ℕ
 empty_text = codes "DELETE FROM register WHERE meeting = ?1"

@@ -1,45 +1,32 @@
 -- What asking for columns tells.
-use Rattle.std.specs.Prelude.{◌≡◌, ℕ, List, [], ◌∷◌, ◌++◌, Result, Err, IsOk, IsTrue, OnOk, codes}
+use Rattle.std.specs.Prelude.{◌≡◌, ℕ, List, [], ◌∷◌, ◌++◌, map, Result, Err, IsOk, IsTrue, OnOk}
 use Rattle.std.specs.List.{AllByRecursion}
 use Rattle.sqlite.specs.Held.{Held, state}
 use Rattle.sqlite.specs.Listing.{understood}
 use Rattle.sqlite.specs.Schema.{Schema}
 use Rattle.sqlite.specs.State.{HasCleanDisk, Survives}
 use Rattle.sqlite_trees.specs.declared.store.Store as store
+use Rattle.desk_schema.specs.Tables.{desk_table, keys_table, closed_table, meetings_table, resolutions_table, register_table, appointments_table, endings_table, authorities_table, presences_table, demands_table, polls_table, casts_table}
+use Rattle.desk_schema.specs.Texts.{asking_text}
 use Rattle.desk_tables.specs.declared.columns.ColumnFault.{ColumnFault}
 use Rattle.desk_tables.specs.declared.columns.ColumnFault.TheVariants.{Missing}
 
 -- the columns of the desk, of its meetings, and of their resolutions and registers
 abbrev pub meeting_columns : List (List ℕ)
 meeting_columns =
-    codes "SELECT one, version FROM desk"
-    ∷ codes "SELECT party, secret FROM keys"
-    ∷ codes "SELECT day FROM closed"
-    ∷ codes
-    "SELECT seq, meeting, company, kind, given, appointed, record, loaded, opened FROM meetings"
-    ∷ codes "SELECT meeting, number, kind, body FROM resolutions"
-    ∷ codes "SELECT meeting, member, kind, name, shares, paid FROM register"
-    ∷ []
+    map asking_text
+    (desk_table ∷ keys_table ∷ closed_table ∷ meetings_table ∷ resolutions_table ∷ register_table
+    ∷ [])
 
 -- the columns of what is handed in
 abbrev pub paper_columns : List (List ℕ)
 paper_columns =
-    codes
-    "SELECT seq, meeting, member, number, proxy, first, last, instructions, moment FROM appointments"
-    ∷ codes "SELECT seq, meeting, member, number, moment FROM endings"
-    ∷ codes "SELECT seq, meeting, corporation, person, moment FROM authorities"
-    ∷ codes "SELECT seq, meeting, party, moment FROM presences"
-    ∷ []
+    map asking_text
+    (appointments_table ∷ endings_table ∷ authorities_table ∷ presences_table ∷ [])
 
 -- the columns of demands, polls and votes
 abbrev pub poll_columns : List (List ℕ)
-poll_columns =
-    codes "SELECT seq, meeting, resolution, party, moment FROM demands"
-    ∷ codes
-    "SELECT meeting, resolution, ordered, take, chair, started, closed, votes_for, votes_against, withheld, eligible FROM polls"
-    ∷ codes
-    "SELECT seq, meeting, resolution, voter, capacity, member, first, last, way, moment FROM casts"
-    ∷ []
+poll_columns = map asking_text (demands_table ∷ polls_table ∷ casts_table ∷ [])
 
 -- over tables of this schema each text is a statement
 abbrev pub AreUnderstood : Schema → List (List ℕ) → Type 0

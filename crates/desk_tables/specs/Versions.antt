@@ -1,5 +1,5 @@
 -- Which tables note their version, whatever else stands beside.
-use Rattle.std.specs.Prelude.{◌≡◌, ℕ, ◌==◌, false, List, [], ◌∷◌, Result, Ok, Err, IsTrue, codes}
+use Rattle.std.specs.Prelude.{◌≡◌, ℕ, ◌==◌, false, List, [], ◌∷◌, Result, Ok, Err, IsTrue}
 use Rattle.std.specs.List.{list_any}
 use Rattle.sqlite.specs.Effect.{Database, Reads as Shows}
 use Rattle.sqlite.specs.Given.{IsPlain}
@@ -15,10 +15,11 @@ use Rattle.sqlite_schema.specs.declared.schema.View.{View as Stored}
 use Rattle.desk_schema.specs.Contents.{desk}
 use Rattle.desk_schema.specs.Statements.{IsRising, table_rows}
 use Rattle.desk_schema.specs.Tables.{desk_table}
+use Rattle.desk_schema.specs.Texts.{listing_text}
 
 -- the text that reads the version of the tables
 abbrev pub version_text : List ℕ
-version_text = codes "SELECT one, version FROM desk ORDER BY one"
+version_text = listing_text desk_table
 
 -- these rows answer a statement, as it is understood
 abbrev pub IsAnsweredBy : Result Compiled CompileError → Database → List Row → Type 0

@@ -1,77 +1,41 @@
 -- What the statements on `endings` do.
-use Rattle.std.proofs.Common.{◌≡◌, ℕ, ℤ, List, [], ◌∷◌, codes, Some, Result, OnOk, IsTrue, refl}
+use Rattle.std.proofs.Common.{◌≡◌, ℕ, ℤ, List, [], ◌∷◌, Some, refl}
 use Rattle.sqlite.specs.declared.types.Value.TheVariants.{Null, Int, Text}
 use Rattle.sqlite.specs.Order.{Row}
-use Rattle.sqlite.specs.Term.{Term, lit, col}
-use Rattle.sqlite.specs.Source.TheVariants.{Values}
-use Rattle.sqlite.specs.Command.TheVariants.{Insert}
 use Rattle.sqlite_tied.specs.Compute.{everything}
-use Rattle.sqlite.specs.declared.error.Error.{Error}
 use Rattle.sqlite.specs.Listing.{understood}
-use Rattle.sqlite.specs.State.{State, ExecutesInside}
-use Rattle.sqlite.proofs.Callers.{IsPlain, command_of}
 use Rattle.desk_words.specs.declared.records.Ending.{Ending}
 use Rattle.desk_rows.specs.Columns.{moment_in, moment_of_number, natural_of, number_in, spelled}
 use Rattle.desk_rows.specs.Papers.{ending_in}
 use Rattle.desk_terms.specs.Names.{meeting_of, party_of}
-use Rattle.desk_schema.specs.Tables.{desk_schema, up_to_appointments, endings_table as table}
+use Rattle.desk_schema.specs.Tables.{up_to_appointments, endings_table as table}
+use Rattle.desk_schema.specs.Texts.{adding_text, filed_text}
 use Rattle.desk_schema.specs.Contents.{endings}
-use Rattle.desk_schema.specs.Statements.{IsDesk, Adds, layout_one}
-use Rattle.desk_statements.proofs.Adding.{adds_row, adds}
+use Rattle.desk_schema.specs.Statements.{layout_one}
+use Rattle.desk_statements.proofs.Adding.{AddsBy, AddsGiven, adds_given}
 use Rattle.desk_statements.proofs.Listing.{ListsTable}
 use Rattle.desk_statements.proofs.Making.{MakesTable}
 use Rattle.desk_statements.proofs.Values.{cast_int, cast_null}
 use Rattle.desk_statements.proofs.Frames.{ones_apart}
 
-abbrev make_text : List ℕ
-make_text = codes "CREATE TABLE endings (seq INTEGER PRIMARY KEY AUTOINCREMENT, meeting TEXT NOT NULL REFERENCES meetings (meeting), member TEXT NOT NULL, number INTEGER NOT NULL, moment INTEGER NOT NULL, UNIQUE (meeting, member, number)) STRICT"
-
-pub makes : MakesTable up_to_appointments make_text table
+pub makes : MakesTable up_to_appointments (filed_text table) table
 unfolding understood everything Rattle.sqlite_schema.specs.Names.same_name
 makes = record { is = refl; alone = refl; plain = (refl, refl); defined = refl; full = refl }
 
-abbrev add_text : List ℕ
-add_text = codes "INSERT INTO endings (meeting, member, number, moment) VALUES (?1, ?2, ?3, ?4)"
-
-abbrev terms : List Term
-terms = lit Null ∷ lit Null ∷ col 0 0 ∷ col 0 1 ∷ col 0 2 ∷ col 0 3 ∷ []
-
-add_is : command_of (understood desk_schema add_text) ≡ Insert 8 (Values terms 6)
+adds : AddsGiven layout_one endings table
 unfolding understood everything
-add_is = refl
+adds = record { place = 8; is = refl; plain = (refl, refl); there = refl; numbered = refl }
 
-add_plain : IsPlain (understood desk_schema add_text)
+pub lists : ListsTable layout_one endings table
 unfolding understood everything
-add_plain = (refl, refl)
+lists = record { is = refl; plain = (refl, refl); unlisted = refl; none = refl; numbered = refl }
 
 module _ (m : List ℕ) (x : Ending) (meeting : List ℕ) (member : List ℕ) (number : ℤ) (moment : ℤ) where
   abbrev pub values : Row
   values = Text meeting ∷ Text member ∷ Int number ∷ Int moment ∷ []
 
-  means : meeting_of meeting ≡ Some m → party_of member ≡ Some x.member → natural_of number ≡ Some x.number → moment_of_number moment ≡ Some x.moment → ending_in values ≡ Some (record { meeting = m; item = x })
-  unfolding ending_in moment_in number_in spelled
-  means meeting_is member_is number_is moment_is = rw (meeting_is, member_is, number_is, moment_is) refl
-
   pub adds_ending : meeting_of meeting ≡ Some m → party_of member ≡ Some x.member → natural_of number ≡ Some x.number → moment_of_number moment ≡ Some x.moment
-      → (old new : State) (r : Result ℕ Error) → IsDesk old → IsTrue old.in_transaction → ExecutesInside 0 add_text values old new r → OnOk r (Adds endings (record { meeting = m; item = x }) old new)
-  adds_ending meeting_is member_is number_is moment_is old new r was inside h =
-      let cells = Null ∷ values in
-      adds layout_one endings cells (record { meeting = m; item = x }) old new r
-      (adds_row ones_apart 8 (record table { tree = 14 }) terms 6 add_text values cells add_is add_plain refl refl (rw (cast_null, cast_int number, cast_int moment) refl) old new r was inside h)
-      (λ id. means meeting_is member_is number_is moment_is)
-
-abbrev all_text : List ℕ
-all_text = codes "SELECT meeting, member, number, moment FROM endings ORDER BY seq"
-
-pub lists : ListsTable layout_one endings all_text
-unfolding understood everything
-lists = record {
-  shows = col 1 2 ∷ col 1 3 ∷ col 1 4 ∷ col 1 5 ∷ [];
-  names = codes "meeting" ∷ codes "member" ∷ codes "number" ∷ codes "moment" ∷ [];
-  is = refl;
-  plain = (refl, refl);
-  unlisted = refl;
-  none = refl;
-  numbered = refl;
-  columns = λ row. refl;
-}
+      → AddsBy layout_one endings (adding_text table) values (record { meeting = m; item = x })
+  unfolding ending_in moment_in number_in spelled
+  adds_ending meeting_is member_is number_is moment_is =
+      adds_given ones_apart adds values (Null ∷ values) (record { meeting = m; item = x }) (rw (cast_null, cast_int number, cast_int moment) refl) (λ id. rw (meeting_is, member_is, number_is, moment_is) refl)

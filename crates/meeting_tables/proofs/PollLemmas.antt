@@ -1,15 +1,14 @@
 -- What the statements on `polls` do.
 use Rattle.std.proofs.Common.{◌≡◌, ℕ, ℤ, Bool, true, ◌&&◌, List, [], ◌∷◌, codes, false, Option, Some, Result, OnOk, IsTrue, refl, sym, ap, ap₂, subst, ◌∙◌, if◌then◌else◌}
 use Rattle.sqlite.specs.declared.types.Value.{Value}
-use Rattle.sqlite.specs.declared.types.Value.TheVariants.{Null, Int, Text}
+use Rattle.sqlite.specs.declared.types.Value.TheVariants.{Int, Text}
 use Rattle.sqlite.specs.Values.{or_null}
 use Rattle.sqlite.specs.Order.{Row, column}
-use Rattle.sqlite.specs.Term.{Term, lit, col, op2}
+use Rattle.sqlite.specs.Term.{Term, col, op2}
 use Rattle.sqlite.specs.Collation.TheVariants.{Binary}
 use Rattle.sqlite_sql.specs.declared.ops.BinaryOp.TheVariants.{Compare}
 use Rattle.sqlite_sql.specs.declared.ops.CompareOp.TheVariants.{Eq}
-use Rattle.sqlite.specs.Source.TheVariants.{Values}
-use Rattle.sqlite.specs.Command.TheVariants.{Insert, Update}
+use Rattle.sqlite.specs.Command.TheVariants.{Update}
 use Rattle.sqlite_tied.specs.Compute.{everything}
 use Rattle.sqlite.specs.declared.error.Error.{Error}
 use Rattle.sqlite.specs.Listing.{understood}
@@ -20,9 +19,10 @@ use Rattle.desk_rows.specs.Columns.{flag_in, flag_of, integer_of, moment_in, mom
 use Rattle.desk_rows.specs.Marks.{declared_in, declared_of, poll_in}
 use Rattle.desk_terms.specs.Names.{meeting_of}
 use Rattle.desk_schema.specs.Tables.{desk_schema, up_to_demands, polls_table as table}
+use Rattle.desk_schema.specs.Texts.{adding_text, once_text}
 use Rattle.desk_schema.specs.Contents.{polls, is_poll_named, started_at, closed_at, declared_as}
-use Rattle.desk_schema.specs.Statements.{IsDesk, Adds, Sets, columns_of, layout_one}
-use Rattle.desk_statements.proofs.Adding.{adds_row, adds}
+use Rattle.desk_schema.specs.Statements.{IsDesk, Sets, columns_of, layout_one}
+use Rattle.desk_statements.proofs.Adding.{AddsBy, AddsGiven, adds_given}
 use Rattle.desk_statements.proofs.Deleting.{picked, passes}
 use Rattle.desk_statements.proofs.Listing.{ListsTable}
 use Rattle.desk_statements.proofs.Making.{MakesTable}
@@ -43,58 +43,27 @@ use Rattle.desk_statements.proofs.Updating.{new_row, changes_rows, sets}
 use Rattle.desk_statements.proofs.Values.{cast_flag, cast_int, cast_null, cast_some, flag, flag_kept}
 use Rattle.desk_statements.proofs.Frames.{ones_apart}
 
-abbrev make_text : List ℕ
-make_text = codes "CREATE TABLE polls (meeting TEXT NOT NULL REFERENCES meetings (meeting), resolution INTEGER NOT NULL, ordered INTEGER NOT NULL, take INTEGER NOT NULL, chair INTEGER NOT NULL, started INTEGER, closed INTEGER, votes_for INTEGER, votes_against INTEGER, withheld INTEGER, eligible INTEGER, PRIMARY KEY (meeting, resolution)) STRICT"
-
-pub makes : MakesTable up_to_demands make_text table
+pub makes : MakesTable up_to_demands (once_text table) table
 unfolding understood everything Rattle.sqlite_schema.specs.Names.same_name
 makes = record { is = refl; alone = refl; plain = (refl, refl); defined = refl; full = refl }
 
-abbrev add_text : List ℕ
-add_text = codes "INSERT INTO polls (meeting, resolution, ordered, take, chair, started, closed, votes_for, votes_against, withheld, eligible) VALUES (?1, ?2, ?3, ?4, ?5, ?6, ?7, ?8, ?9, ?10, ?11)"
-
-abbrev terms : List Term
-terms = lit Null ∷ col 0 0 ∷ col 0 1 ∷ col 0 2 ∷ col 0 3 ∷ col 0 4 ∷ col 0 5 ∷ col 0 6 ∷ col 0 7 ∷ col 0 8 ∷ col 0 9 ∷ col 0 10 ∷ []
-
-add_is : command_of (understood desk_schema add_text) ≡ Insert 12 (Values terms 12)
+adds : AddsGiven layout_one polls table
 unfolding understood everything
-add_is = refl
+adds = record { place = 12; is = refl; plain = (refl, refl); there = refl; numbered = refl }
 
-add_plain : IsPlain (understood desk_schema add_text)
+pub lists : ListsTable layout_one polls table
 unfolding understood everything
-add_plain = (refl, refl)
+lists = record { is = refl; plain = (refl, refl); unlisted = refl; none = refl; numbered = refl }
 
 module _ (m : List ℕ) (x : Poll) (meeting : List ℕ) (resolution : ℤ) (ordered : ℤ) (take : ℤ) (started : Option ℤ) (closed : Option ℤ) (votes_for : Option ℤ) (votes_against : Option ℤ) (withheld : Option ℤ) (eligible : Option ℤ) where
   abbrev pub values : Row
   values = Text meeting ∷ Int resolution ∷ Int ordered ∷ Int take ∷ flag x.chair ∷ or_null Int started ∷ or_null Int closed ∷ or_null Int votes_for ∷ or_null Int votes_against ∷ or_null Int withheld ∷ or_null Int eligible ∷ []
 
-  means : meeting_of meeting ≡ Some m → natural_of resolution ≡ Some x.resolution → moment_of_number ordered ≡ Some x.ordered → moment_of_number take ≡ Some x.take → some_moment_of (or_null Int started) ≡ Some x.started → some_moment_of (or_null Int closed) ≡ Some x.closed → declared_of (or_null Int votes_for) (or_null Int votes_against) (or_null Int withheld) (or_null Int eligible) ≡ Some x.declared → poll_in values ≡ Some (record { meeting = m; item = x })
-  unfolding poll_in declared_in flag_in moment_in number_in some_moment_in spelled
-  means meeting_is resolution_is ordered_is take_is started_is closed_is declared_is = rw (meeting_is, resolution_is, ordered_is, take_is, started_is, closed_is, declared_is, flag_kept x.chair) refl
-
   pub adds_poll : meeting_of meeting ≡ Some m → natural_of resolution ≡ Some x.resolution → moment_of_number ordered ≡ Some x.ordered → moment_of_number take ≡ Some x.take → some_moment_of (or_null Int started) ≡ Some x.started → some_moment_of (or_null Int closed) ≡ Some x.closed → declared_of (or_null Int votes_for) (or_null Int votes_against) (or_null Int withheld) (or_null Int eligible) ≡ Some x.declared
-      → (old new : State) (r : Result ℕ Error) → IsDesk old → IsTrue old.in_transaction → ExecutesInside 0 add_text values old new r → OnOk r (Adds polls (record { meeting = m; item = x }) old new)
-  adds_poll meeting_is resolution_is ordered_is take_is started_is closed_is declared_is old new r was inside h =
-      let cells = values in
-      adds layout_one polls cells (record { meeting = m; item = x }) old new r
-      (adds_row ones_apart 12 (record table { tree = 22 }) terms 12 add_text values cells add_is add_plain refl refl (rw (cast_null, cast_int resolution, cast_int ordered, cast_int take, cast_flag x.chair, cast_some started, cast_some closed, cast_some votes_for, cast_some votes_against, cast_some withheld, cast_some eligible) refl) old new r was inside h)
-      (λ id. means meeting_is resolution_is ordered_is take_is started_is closed_is declared_is)
-
-abbrev all_text : List ℕ
-all_text = codes "SELECT meeting, resolution, ordered, take, chair, started, closed, votes_for, votes_against, withheld, eligible FROM polls ORDER BY rowid"
-
-pub lists : ListsTable layout_one polls all_text
-unfolding understood everything
-lists = record {
-  shows = col 1 1 ∷ col 1 2 ∷ col 1 3 ∷ col 1 4 ∷ col 1 5 ∷ col 1 6 ∷ col 1 7 ∷ col 1 8 ∷ col 1 9 ∷ col 1 10 ∷ col 1 11 ∷ [];
-  names = codes "meeting" ∷ codes "resolution" ∷ codes "ordered" ∷ codes "take" ∷ codes "chair" ∷ codes "started" ∷ codes "closed" ∷ codes "votes_for" ∷ codes "votes_against" ∷ codes "withheld" ∷ codes "eligible" ∷ [];
-  is = refl;
-  plain = (refl, refl);
-  unlisted = refl;
-  none = refl;
-  numbered = refl;
-  columns = λ row. refl;
-}
+      → AddsBy layout_one polls (adding_text table) values (record { meeting = m; item = x })
+  unfolding poll_in declared_in flag_in moment_in number_in some_moment_in spelled
+  adds_poll meeting_is resolution_is ordered_is take_is started_is closed_is declared_is =
+      adds_given ones_apart adds values values (record { meeting = m; item = x }) (rw (cast_null, cast_int resolution, cast_int ordered, cast_int take, cast_flag x.chair, cast_some started, cast_some closed, cast_some votes_for, cast_some votes_against, cast_some withheld, cast_some eligible) refl) (λ id. rw (meeting_is, resolution_is, ordered_is, take_is, started_is, closed_is, declared_is, flag_kept x.chair) refl)
 
 abbrev named : List Term
 named = op2 (Compare Eq Binary) (col 1 1) (col 0 0) ∷ op2 (Compare Eq Binary) (col 1 2) (col 0 1) ∷ []
