@@ -1,4 +1,3 @@
 pub mod Flat
-pub mod Giving
 pub mod Own
 pub mod Yields
