@@ -114,10 +114,10 @@ pub fn reply_to<S: Alter, W: Sink>(
 ///
 /// What is written is exactly the text of the reply to what the bytes spell, and the tables are the
 /// office after that call; or it is a fixed text that tells of a failure, and the tables are as
-/// they were. `Read` and `Write` are told only where that device failed, once in the call. After `Read`
-/// nothing is written or changed. After `Write` a part of one of these texts is written, and the
-/// tables are as after that text. At most 8,192 + 65,536 bytes are taken; those behind the request
-/// are not looked at.
+/// they were. `Read` and `Write` are told only where that device failed, once in the call. After
+/// `Read` nothing is written or changed. After `Write` a part of one of these texts is written, and
+/// the tables are as after that text. At most 8,192 + 65,536 bytes are taken; those behind the
+/// request are not looked at.
 pub fn serve_one<S: Alter, R: Source, W: Sink>(
     alloc: Global,
     desk: &mut Desk<S>,

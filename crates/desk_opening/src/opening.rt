@@ -237,10 +237,10 @@ pub fn open<S: Alter + Drop>(
     }
 }
 
-/// Opens the tables of the desk that a database holds, as `open` does, where the numbers of the rows
-/// of each table are known to rise, as they are of a file that was just opened: so they are not read
-/// once more for that. A refusal hands back the connection, its tables as they were. A limit of
-/// steps that was set on the connection is kept. A crash leaves what `open` says.
+/// Opens the tables of the desk that a database holds, as `open` does, where the numbers of the
+/// rows of each table are known to rise, as they are of a file that was just opened: so they are
+/// not read once more for that. A refusal hands back the connection, its tables as they were. A
+/// limit of steps that was set on the connection is kept. A crash leaves what `open` says.
 pub fn open_risen<S: Alter + Drop>(
     alloc: Global,
     conn: Connection<S>,

@@ -7,9 +7,9 @@ use Rattle.sqlite_schema.specs.declared.schema.Index.{Index}
 use Rattle.std.specs.Prelude.{ℕ, pred, List, [], ◌∷◌, ◌++◌, Option, Some, None, codes, drop, flat_map, if◌then◌else◌, length, map, slice_index_or, take}
 
 -- the texts one after the other, with a comma between
-abbrev pub joined : List (List ℕ) → List ℕ
-joined [] = []
-joined (first ∷ more) = first ++ flat_map (λ next. codes ", " ++ next) more
+abbrev pub with_commas : List (List ℕ) → List ℕ
+with_commas [] = []
+with_commas (first ∷ more) = first ++ flat_map (λ next. codes ", " ++ next) more
 
 -- ---- the names of columns
 
@@ -29,19 +29,19 @@ number_name (Some at) table = slice_index_or (names_of table) at []
 -- those at these places of a row, in parentheses
 abbrev pub columns_text : Table → List ℕ → List ℕ
 columns_text table places =
-    codes " (" ++ joined (map (λ at. slice_index_or (names_of table) (pred at) []) places)
+    codes " (" ++ with_commas (map (λ at. slice_index_or (names_of table) (pred at) []) places)
     ++ codes ")"
 
 -- ---- statements
 
 -- asks whether all columns stand
 abbrev pub asking_text : Table → List ℕ
-asking_text table = codes "SELECT " ++ joined (names_of table) ++ codes " FROM " ++ table.name
+asking_text table = codes "SELECT " ++ with_commas (names_of table) ++ codes " FROM " ++ table.name
 
 -- shows the columns of the rows that pass, in the order of their numbers
 abbrev pub shown_text : Table → List ℕ → List ℕ
 shown_text table which =
-    codes "SELECT " ++ joined (given_names table) ++ codes " FROM " ++ table.name ++ which
+    codes "SELECT " ++ with_commas (given_names table) ++ codes " FROM " ++ table.name ++ which
     ++ codes " ORDER BY " ++ number_name table.key table
 
 -- the same of all rows
@@ -55,8 +55,8 @@ finding_text table tests = shown_text table (codes " WHERE " ++ tests)
 -- adds a row of these values
 abbrev pub inserting_text : List (List ℕ) → Table → List ℕ
 inserting_text values table =
-    codes "INSERT INTO " ++ table.name ++ codes " (" ++ joined (given_names table)
-    ++ codes ") VALUES (" ++ joined values ++ codes ")"
+    codes "INSERT INTO " ++ table.name ++ codes " (" ++ with_commas (given_names table)
+    ++ codes ") VALUES (" ++ with_commas values ++ codes ")"
 
 -- the parameters of a statement
 abbrev pub parameters : List (List ℕ)
@@ -90,7 +90,7 @@ meeting_column = codes "meeting TEXT NOT NULL REFERENCES meetings (meeting)"
 abbrev pub making_text : List (List ℕ) → List (List ℕ) → Table → List ℕ
 making_text first keys table =
     codes "CREATE TABLE " ++ table.name ++ codes " ("
-    ++ joined (first ++ map column_text (drop (length first) table.columns) ++ keys)
+    ++ with_commas (first ++ map column_text (drop (length first) table.columns) ++ keys)
     ++ codes ") STRICT"
 
 -- makes a table of the form of `filed_table`

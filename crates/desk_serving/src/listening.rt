@@ -85,8 +85,8 @@ fn serve_next<S: Alter + Drop, C: Clock>(
 /// taken. Where the store is no longer open each request is answered by 503 and changes nothing.
 ///
 /// For `Ok` and for each fault: no failure is made good, and where the tables stood for an office,
-/// they stand afterwards for the office of a run of further calls, at most one a connection, each at
-/// a moment that the clock gave.
+/// they stand afterwards for the office of a run of further calls, at most one a connection, each
+/// at a moment that the clock gave.
 pub fn serve_loop<S: Alter + Drop, C: Clock>(
     alloc: Global,
     listener: &TcpListener,

@@ -18,8 +18,9 @@ use std::alloc::Global;
 
 /// Makes a new desk in a database that holds nothing, and ends with status 0 and `created`. It ends
 /// with 3 and `NotEmpty` where the database has a table, an index or a view, and with 3 and `Store`
-/// or `Memory` where it fails, or the connection is in a transaction. The connection is handed back,
-/// in no transaction where it was in none; with any other status than 0 its tables are as they were.
+/// or `Memory` where it fails, or the connection is in a transaction. The connection is handed
+/// back, in no transaction where it was in none; with any other status than 0 its tables are as
+/// they were.
 #[tactic(auto, using(crate::proofs::DeskLemmas::unmade))]
 pub fn init<S: Alter + Drop>(alloc: Global, conn: Connection<S>) -> (Ended, Connection<S>)
     ensures creates { Creates (state S.Store conn) (state S.Store result.1) (ended_view result.0) }

@@ -1,5 +1,5 @@
-//! What the tables hold of one meeting for the office's calls: of its lists those that the answer to
-//! a request reads.
+//! What the tables hold of one meeting for the office's calls: of its lists those that the answer
+//! to a request reads.
 #![tactic(auto)]
 
 mod asked;

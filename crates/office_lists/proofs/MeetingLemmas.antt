@@ -18,7 +18,7 @@ use Rattle.desk_rows.proofs.MeaningLemmas.{bound}
 use Rattle.desk_records.specs.Office.{FlatLists, lists_of, lists_of_all, lists_with, name_meetings, of_meeting, resolutions_of}
 use Rattle.office_lists.specs.declared.flat.MeetingRecords.{MeetingRecords}
 use Rattle.office_lists.specs.Flat.{flat_with}
-use Rattle.office_lists.specs.Own.{all_lists_in, all_name_meetings, lists_in, of_others, same_meeting_row, without}
+use Rattle.office_lists.specs.Own.{all_lists_in, all_name_meetings, lists_in, of_others, same_meeting_row, records_without}
 use Rattle.office_lists.proofs.ListLemmas.{second_false}
 
 -- ---- what is left of the records of a table
@@ -70,11 +70,11 @@ left_named m rows (r ∷ records) =
 
 -- ---- what is left of all records
 
-all_left_named : (m : MeetingRow) (rows : List MeetingRow) (r : MeetingRecords) → all_name_meetings r (m ∷ rows) ≡ all_name_meetings (without m.id r) rows
+all_left_named : (m : MeetingRow) (rows : List MeetingRow) (r : MeetingRecords) → all_name_meetings r (m ∷ rows) ≡ all_name_meetings (records_without m.id r) rows
 all_left_named m rows r =
     rw (left_named m rows r.resolutions, left_named m rows r.register, left_named m rows r.appointments, left_named m rows r.endings, left_named m rows r.authorities, left_named m rows r.presences, left_named m rows r.demands, left_named m rows r.polls, left_named m rows r.casts) refl
 
-lists_stay : (id : List ℕ) (r : MeetingRecords) (m : MeetingRow) → same_name id m.id ≡ false → lists_in (without id r) m ≡ lists_in r m
+lists_stay : (id : List ℕ) (r : MeetingRecords) (m : MeetingRow) → same_name id m.id ≡ false → lists_in (records_without id r) m ≡ lists_in r m
 lists_stay id r m apart =
     rw (other_stays id m.id apart r.resolutions, other_stays id m.id apart r.register, other_stays id m.id apart r.appointments, other_stays id m.id apart r.endings, other_stays id m.id apart r.authorities, other_stays id m.id apart r.presences, other_stays id m.id apart r.demands, other_stays id m.id apart r.polls, other_stays id m.id apart r.casts) refl
 
@@ -83,20 +83,20 @@ neither true b h = absurd (true≢false h)
 neither false b h = (refl, h)
 
 all_lists_stay : (row : MeetingRow) (r : MeetingRecords) (rows : List MeetingRow) → list_any (same_meeting_row row) rows ≡ false
-    → lists_of_all (flat_with [] [] [] (without row.id r)) rows ≡ lists_of_all (flat_with [] [] [] r) rows
+    → lists_of_all (flat_with [] [] [] (records_without row.id r)) rows ≡ lists_of_all (flat_with [] [] [] r) rows
 all_lists_stay row r [] none = refl
 all_lists_stay row r (m ∷ rows) none =
     let apart = neither (same_meeting_row row m) (list_any (same_meeting_row row) rows) none in
-    ap (λ (o : Option MeetingLists). o >>= λ first. lists_of_all (flat_with [] [] [] (without row.id r)) rows >>= λ later. Some (first ∷ later)) (lists_stay row.id r m apart.0)
+    ap (λ (o : Option MeetingLists). o >>= λ first. lists_of_all (flat_with [] [] [] (records_without row.id r)) rows >>= λ later. Some (first ∷ later)) (lists_stay row.id r m apart.0)
     ∙ ap (λ (o : Option (List MeetingLists)). lists_in r m >>= λ first. o >>= λ later. Some (first ∷ later)) (all_lists_stay row r rows apart.1)
 
 -- the lists of the first meeting, and those of the others by what it leaves
 first_takes : (m : MeetingRow) (rows : List MeetingRow) (r : MeetingRecords) → list_any (same_meeting_row m) rows ≡ false
-    → all_lists_in r (m ∷ rows) ≡ (lists_in r m >>= λ first. all_lists_in (without m.id r) rows >>= λ later. Some (first ∷ later))
+    → all_lists_in r (m ∷ rows) ≡ (lists_in r m >>= λ first. all_lists_in (records_without m.id r) rows >>= λ later. Some (first ∷ later))
 first_takes m rows r none =
     ap (λ (b : Bool). only b >>= λ _. lists_of_all (flat_with [] [] [] r) (m ∷ rows)) (all_left_named m rows r)
-    ∙ ap (λ (l : Option (List MeetingLists)). only (all_name_meetings (without m.id r) rows) >>= λ _. lists_in r m >>= λ first. l >>= λ later. Some (first ∷ later)) (sym (all_lists_stay m r rows none))
-    ∙ swap (all_name_meetings (without m.id r) rows) (lists_in r m) (lists_of_all (flat_with [] [] [] (without m.id r)) rows)
+    ∙ ap (λ (l : Option (List MeetingLists)). only (all_name_meetings (records_without m.id r) rows) >>= λ _. lists_in r m >>= λ first. l >>= λ later. Some (first ∷ later)) (sym (all_lists_stay m r rows none))
+    ∙ swap (all_name_meetings (records_without m.id r) rows) (lists_in r m) (lists_of_all (flat_with [] [] [] (records_without m.id r)) rows)
   where
     swap : (b : Bool) (o : Option MeetingLists) (l : Option (List MeetingLists))
         → (only b >>= λ _. o >>= λ first. l >>= λ later. Some (first ∷ later)) ≡ (o >>= λ first. (only b >>= λ _. l) >>= λ later. Some (first ∷ later))
@@ -116,10 +116,10 @@ from_place rows i m less is = drop_more rows i m less ∙ ap (λ n. n ∷ drop (
 
 -- after one meeting more
 pub one_more : (whole : Option (List MeetingLists)) (lists : List MeetingLists) (m : MeetingRow) (rows : List MeetingRow) (r : MeetingRecords) (x : MeetingLists)
-    → whole ≡ behind lists (all_lists_in r (m ∷ rows)) → list_any (same_meeting_row m) rows ≡ false → lists_in r m ≡ Some x → whole ≡ behind (lists ++ x ∷ []) (all_lists_in (without m.id r) rows)
+    → whole ≡ behind lists (all_lists_in r (m ∷ rows)) → list_any (same_meeting_row m) rows ≡ false → lists_in r m ≡ Some x → whole ≡ behind (lists ++ x ∷ []) (all_lists_in (records_without m.id r) rows)
 one_more whole lists m rows r x is none taken =
-    is ∙ ap (behind lists) (first_takes m rows r none ∙ ap (λ (o : Option MeetingLists). o >>= λ first. all_lists_in (without m.id r) rows >>= λ later. Some (first ∷ later)) taken)
-    ∙ joined (all_lists_in (without m.id r) rows)
+    is ∙ ap (behind lists) (first_takes m rows r none ∙ ap (λ (o : Option MeetingLists). o >>= λ first. all_lists_in (records_without m.id r) rows >>= λ later. Some (first ∷ later)) taken)
+    ∙ joined (all_lists_in (records_without m.id r) rows)
   where
     joined : (o : Option (List MeetingLists)) → behind lists (o >>= λ later. Some (x ∷ later)) ≡ behind (lists ++ x ∷ []) o
     joined None = refl
@@ -137,8 +137,8 @@ pub one_wrong : (whole : Option (List MeetingLists)) (lists : List MeetingLists)
     → (all : List MeetingLists) → whole ≡ Some all → are_meetings all ≡ false
 one_wrong whole lists m rows r is none wrong all h =
     let it = bound (all_lists_in r (m ∷ rows)) (λ later. Some (lists ++ later)) all (sym is ∙ h) in
-    let first = bound (lists_in r m) (λ f. all_lists_in (without m.id r) rows >>= λ later. Some (f ∷ later)) it.0 (sym (first_takes m rows r none) ∙ it.1) in
-    let later = bound (all_lists_in (without m.id r) rows) (λ l. Some (first.0 ∷ l)) it.0 first.2 in
+    let first = bound (lists_in r m) (λ f. all_lists_in (records_without m.id r) rows >>= λ later. Some (f ∷ later)) it.0 (sym (first_takes m rows r none) ∙ it.1) in
+    let later = bound (all_lists_in (records_without m.id r) rows) (λ l. Some (first.0 ∷ l)) it.0 first.2 in
     let same : first.0 ∷ later.0 ≡ it.0 = cc in
     let whole_is : lists ++ it.0 ≡ all = cc in
     second_false (nat_le (length all) MOST_MEETINGS && differ_by same_meeting all) (list_all is_meeting all)

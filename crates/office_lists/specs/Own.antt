@@ -31,8 +31,8 @@ abbrev pub of_others : {A : Type 0} → List ℕ → List (InMeeting A) → List
 of_others {A} id records = filter (λ (r : InMeeting A). not (same_name r.meeting id)) records
 
 -- the records of other meetings
-abbrev pub without : List ℕ → MeetingRecords → MeetingRecords
-without id records = record {
+abbrev pub records_without : List ℕ → MeetingRecords → MeetingRecords
+records_without id records = record {
   resolutions = of_others id records.resolutions;
   register = of_others id records.register;
   appointments = of_others id records.appointments;

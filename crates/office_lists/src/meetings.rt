@@ -4,7 +4,7 @@ ghost use Rattle.std.specs.List.{list_any};
 ghost use Rattle.desk_records.specs.Office.{name_meetings};
 ghost use Rattle.desk_words.specs.Office.{are_meetings, is_meeting};
 ghost use Rattle.office_lists.specs.Own.{all_lists_in, all_name_meetings, lists_in, same_meeting_row};
-ghost use Rattle.office_lists.specs.Own.{without};
+ghost use Rattle.office_lists.specs.Own.{records_without};
 ghost use Rattle.office_lists.specs.Yields.{Yields};
 
 use crate::fault::ReadFault;
@@ -24,7 +24,7 @@ fn take_lists(
     records: &mut MeetingRecords,
 ) -> Result<MeetingLists, ReadFault>
     ensures lists { Yields is_meeting result (lists_in records.old row.now) }
-    ensures left { OnOk result (records.new ≡ without row.now.id records.old) }
+    ensures left { OnOk result (records.new ≡ records_without row.now.id records.old) }
 {
     let meeting = Meeting {
         id: row.id,

@@ -172,7 +172,8 @@ fn presence_alone<S: Alter>(
 ) -> Result<OwnRows, ReadFault>
     ensures same_reference { tx.new.conn.ghost_name ≡ tx.old.conn.ghost_name }
     ensures told { IsToldOf S.Store tx.old.conn.now tx.new.conn.now result
-        (λ office rows. rows ≡ rows_kept reads.Presence (rows_in (meeting_at office meeting) party)) }
+        (λ office rows. rows
+        ≡ rows_kept reads.Presence (rows_in (meeting_at office meeting) party)) }
 {
     let present = is_present(tx, alloc, meeting, party)?;
     Ok(OwnRows {
@@ -191,7 +192,8 @@ fn none_of_them<S: Alter>(
 ) -> Result<OwnRows, ReadFault>
     ensures same_reference { tx.new.conn.ghost_name ≡ tx.old.conn.ghost_name }
     ensures told { IsToldOf S.Store tx.old.conn.now tx.new.conn.now result
-        (λ office rows. rows ≡ rows_kept reads.Nothing (rows_in (meeting_at office meeting) party)) }
+        (λ office rows. rows
+        ≡ rows_kept reads.Nothing (rows_in (meeting_at office meeting) party)) }
 {
     is_present(tx, alloc, meeting, party)?;
     Ok(no_rows_of(alloc, party))

@@ -27,10 +27,10 @@ pub fn desks_tell_runs<S: Alter>()
 
 /// So two desks, whose calls came one after another, are isolated and keep secrets, however replies
 /// are written. Where their offices are one to a party, and the calls that were made there show it
-/// the same, the texts of the replies to it are the same bytes, one for one. Where their offices are
-/// the same but for votes of some voters on a resolution, and the calls differ in such votes alone,
-/// so are the texts of the replies to the office, but for the result of that resolution, and before
-/// its declaration those to every party that is none of the voters.
+/// the same, the texts of the replies to it are the same bytes, one for one. Where their offices
+/// are the same but for votes of some voters on a resolution, and the calls differ in such votes
+/// alone, so are the texts of the replies to the office, but for the result of that resolution, and
+/// before its declaration those to every party that is none of the voters.
 pub fn desks_tell_no_more<S: Alter>()
     ensures isolated { DesksAreIsolated S.Store }
     ensures secret { DesksKeepSecrets S.Store }

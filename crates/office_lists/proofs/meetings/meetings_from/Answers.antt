@@ -6,7 +6,7 @@ use Rattle.std.proofs.lemmas.List.{take_rest}
 use Rattle.desk_lists.specs.Ordered.{differ_by}
 use Rattle.desk_words.specs.declared.limits.TheConstants.{MOST_MEETINGS}
 use Rattle.desk_words.specs.Office.{are_meetings, is_meeting}
-use Rattle.office_lists.specs.Own.{all_lists_in, lists_in, same_meeting_row, without}
+use Rattle.office_lists.specs.Own.{all_lists_in, lists_in, same_meeting_row, records_without}
 use Rattle.office_lists.specs.Yields.{Yields}
 use Rattle.office_lists.proofs.ListLemmas.{cause_by, second_false}
 use Rattle.office_lists.proofs.MeetingLemmas.{behind, from_place, one_more, one_wrong, rows_wrong}
@@ -57,6 +57,6 @@ loop-place-preserved c =
     let apart : list_any (same_meeting_row m) rest ≡ false = ap (list_any (same_meeting_row m)) (sym (take_rest rows (i + 1))) ∙ sym c.stands_again.ensures ∙ c.if-stands_again.false in
     let so_far = c.loop-place.invariant.0 ∙ ap (λ l. behind lists (all_lists_in left l)) here in (
       one_more whole lists m rest left x so_far apart c.in_ok-take_lists.ensures.lists
-          ∙ ap (λ l. behind l (all_lists_in (without m.id left) rest)) (sym c.in_ok-push.ensures.ok) ∙ ap (λ r. behind c.push.new.self (all_lists_in r rest)) (sym c.in_ok-take_lists.ensures.left),
+          ∙ ap (λ l. behind l (all_lists_in (records_without m.id left) rest)) (sym c.in_ok-push.ensures.ok) ∙ ap (λ r. behind c.push.new.self (all_lists_in r rest)) (sym c.in_ok-take_lists.ensures.left),
       c.loop-place.invariant.1 ∙ ap (differ_by same_meeting_row) here ∙ ap (λ b. not b && differ_by same_meeting_row rest) apart,
     )
