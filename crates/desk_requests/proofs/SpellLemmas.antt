@@ -53,7 +53,7 @@ asked-nowhere head why behind (Err e) is h = rw (h, is) refl
 
 head-more : {input left : List ℕ} {held : Held} (received : Received) → (holds : HoldsHead input left held) → HeadAsks held.asked (held.rest ++ left) received → Spells input received
 head-more {input} {left} {held} received holds asks =
-    let asks_head = subst (λ asked_on_route. HeadAsks asked_on_route (held.rest ++ left) received) holds.asked asks in
+    let asks_head = subst (λ asked. HeadAsks asked (held.rest ++ left) received) holds.asked asks in
     (front.Whole, (holds.head, held.rest ++ left, holds.is_head, holds.few, asks_head))
 
 -- the same head stands in front of more bytes

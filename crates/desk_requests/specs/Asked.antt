@@ -8,7 +8,7 @@ use Rattle.desk_terms.specs.declared.refusal.Refusal.TheVariants as refusal
 use Rattle.desk_words.specs.declared.request.Request.{Request}
 use Rattle.desk_bodies.specs.declared.route.Route.{Route}
 use Rattle.desk_bodies.specs.Answers.{readable}
-use Rattle.desk_bodies.specs.Reads as reads
+use Rattle.desk_terms.specs.Options as options
 use Rattle.desk_bodies.specs.Requests.{asked_on_route}
 use Rattle.desk_heads.specs.Fields.{only_value}
 use Rattle.desk_heads.specs.Heads.{Asked}
@@ -25,7 +25,7 @@ key_name = codes "desk-key"
 
 -- the key: the value of the one field `Desk-Key`, if it has the form of a key
 unfoldable pub key_of_head : Asked → Option (List ℕ)
-key_of_head head = reads.◌>>=◌ (only_value key_name head.fields) key_of
+key_of_head head = options.◌>>=◌ (only_value key_name head.fields) key_of
 
 -- the route, if it has this method
 abbrev pub by_method : List ℕ → Route → Result Route Refusal
