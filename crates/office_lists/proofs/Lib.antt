@@ -1,4 +1,4 @@
+pub mod GivingLemmas
 pub mod ListLemmas
-pub mod MeetingLemmas
 pub mod OfficeLemmas
 pub mod OrderLemmas

@@ -30,17 +30,15 @@ use Rattle.desk_words.proofs.OfficeFacts.{meeting_facts}
 use Rattle.desk_words.proofs.RegisterLimits.{keep_limits-permutation}
 use Rattle.desk_terms.specs.Options.{◌>>=◌, only}
 use Rattle.desk_rows.specs.declared.kept.NumberedResolution.{NumberedResolution}
-use Rattle.desk_rows.specs.declared.kept.MeetingRow.{MeetingRow}
-use Rattle.desk_records.specs.Office.{lists_with, number_before, numbered_from, of_meeting}
+use Rattle.desk_records.specs.Office.{number_before, numbered_from}
 use Rattle.desk_rows.proofs.MeaningLemmas.{bound}
 use Rattle.std.proofs.lemmas.Bool.{and_parts}
 use Rattle.office_lists.specs.declared.fault.ReadFault.{ReadFault}
 use Rattle.office_lists.specs.declared.fault.ReadFault.TheVariants as fault
 use Rattle.office_lists.specs.declared.fault.ReadFault.TheVariants.{NoOffice}
 use Rattle.office_lists.specs.Yields.{IsCause}
-use Rattle.office_lists.specs.declared.flat.MeetingRecords.{MeetingRecords}
-use Rattle.office_lists.specs.Flat.{flat_with}
-use Rattle.office_lists.specs.Own.{lists_in, resolutions_number_from, resolution_of, resolutions_own}
+use Rattle.office_lists.specs.declared.own.OwnRecords.{OwnRecords}
+use Rattle.office_lists.specs.Own.{resolutions_number_from, lists_own, lists_own_with, resolution_of, resolutions_own}
 
 pub second_false : (a b : Bool) → b ≡ false → (a && b) ≡ false
 second_false true b h = h
@@ -180,10 +178,10 @@ days_made list days kept up same =
 -- ---- the lists of a meeting
 
 -- where its resolutions are none
-pub resolutions_wrong : (records : MeetingRecords) (row : MeetingRow) → ((found : List Resolution) → resolutions_own (of_meeting row.id records.resolutions) ≡ Some found → are_resolutions found ≡ false) → (m : MeetingLists) → lists_in records row ≡ Some m → is_meeting m ≡ false
-resolutions_wrong records row none m h =
-    let it = bound (resolutions_own (of_meeting row.id records.resolutions)) (λ rs. Some (lists_with (flat_with [] [] [] records) row rs)) m h in
-    let same : lists_with (flat_with [] [] [] records) row it.0 ≡ m = cc in
+pub resolutions_wrong : (own : OwnRecords) → ((found : List Resolution) → resolutions_own own.resolutions ≡ Some found → are_resolutions found ≡ false) → (m : MeetingLists) → lists_own own ≡ Some m → is_meeting m ≡ false
+resolutions_wrong own none m h =
+    let it = bound (resolutions_own own.resolutions) (λ rs. Some (lists_own_with own rs)) m h in
+    let same : lists_own_with own it.0 ≡ m = cc in
     subst (λ (x : MeetingLists). is_meeting x ≡ false) same (rw (none it.0 it.1) refl)
 
 loaded_wrong : (m : MeetingLists) → are_rows m.register ≡ false → is_loaded_right m ≡ false
@@ -196,10 +194,10 @@ loaded_wrong m none = go m.meeting.loaded (no_rows m.register) (is_register m.re
     go false false false h = refl
 
 -- where its rows are no register's
-pub register_wrong : (records : MeetingRecords) (row : MeetingRow) → are_rows (sort_by member_before (of_meeting row.id records.register)) ≡ false → (m : MeetingLists) → lists_in records row ≡ Some m → is_meeting m ≡ false
-register_wrong records row none m h =
-    let it = bound (resolutions_own (of_meeting row.id records.resolutions)) (λ rs. Some (lists_with (flat_with [] [] [] records) row rs)) m h in
-    let lists = lists_with (flat_with [] [] [] records) row it.0 in
+pub rows_wrong : (own : OwnRecords) → are_rows (sort_by member_before own.register) ≡ false → (m : MeetingLists) → lists_own own ≡ Some m → is_meeting m ≡ false
+rows_wrong own none m h =
+    let it = bound (resolutions_own own.resolutions) (λ rs. Some (lists_own_with own rs)) m h in
+    let lists = lists_own_with own it.0 in
     let same : lists ≡ m = cc in
     subst (λ (x : MeetingLists). is_meeting x ≡ false) same (rw (second_false (are_resolutions it.0) (is_loaded_right lists) (loaded_wrong lists none)) refl)
 
@@ -208,10 +206,10 @@ polls_wrong_order opened count [] h = absurd (true≢false h)
 polls_wrong_order opened count (p ∷ ps) h = second_false (opened && list_all (is_poll count) (p ∷ ps)) (ascends_by poll_before (p ∷ ps)) h
 
 -- where a poll stands twice
-pub polls_wrong : (records : MeetingRecords) (row : MeetingRow) → ascends_by poll_before (sort_by poll_before (of_meeting row.id records.polls)) ≡ false → (m : MeetingLists) → lists_in records row ≡ Some m → is_meeting m ≡ false
-polls_wrong records row none m h =
-    let it = bound (resolutions_own (of_meeting row.id records.resolutions)) (λ rs. Some (lists_with (flat_with [] [] [] records) row rs)) m h in
-    let lists = lists_with (flat_with [] [] [] records) row it.0 in
+pub polls_wrong : (own : OwnRecords) → ascends_by poll_before (sort_by poll_before own.polls) ≡ false → (m : MeetingLists) → lists_own own ≡ Some m → is_meeting m ≡ false
+polls_wrong own none m h =
+    let it = bound (resolutions_own own.resolutions) (λ rs. Some (lists_own_with own rs)) m h in
+    let lists = lists_own_with own it.0 in
     let same : lists ≡ m = cc in
     subst (λ (x : MeetingLists). is_meeting x ≡ false) same
     (elim (cases_Bool (is_meeting lists)) [
@@ -234,10 +232,3 @@ pub cause_by : {X Y : Type 0} (part : X → Bool) (whole : Y → Bool) (e : Read
 cause_by part whole NoOffice a b leads h = leads h
 cause_by part whole fault.Store a b leads h = tt
 cause_by part whole fault.Memory a b leads h = tt
-
--- where its polls are refused
-pub polls_refused : (records : MeetingRecords) (row : MeetingRow) (polls : List Poll) (e : ReadFault) → polls ≡ of_meeting row.id records.polls
-    → IsCause (ascends_by poll_before) e (Some (sort_by poll_before polls)) → IsCause is_meeting e (lists_in records row)
-polls_refused records row polls e same =
-    subst (λ l. IsCause (ascends_by poll_before) e (Some (sort_by poll_before l)) → IsCause is_meeting e (lists_in records row)) (sym same)
-    (let own = sort_by poll_before (of_meeting row.id records.polls) in cause_by (ascends_by poll_before) is_meeting e (Some own) (lists_in records row) (λ wrong. polls_wrong records row (wrong own refl)))

@@ -1,79 +1,175 @@
 -- The office that records are, and records that are none.
-use Rattle.std.proofs.Common.{◌≡◌, ℕ, Bool, true, false, ◌&&◌, List, [], ◌∷◌, Option, Some, Err, Result, refl, sym, ap, subst, ◌∙◌}
+use Rattle.std.proofs.Common.{◌≡◌, ℕ, zero, suc, ◌<◌, ◌++◌, get_or, arith, Err, Bool, true, false, not, ◌&&◌, ◌||◌, List, [], ◌∷◌, map, length, Option, Some, refl, sym, ap, ◌∙◌, true≢false}
+use Rattle.std.specs.Prelude.{nat_le}
+use Rattle.std.specs.List.{list_all, list_any}
+use Rattle.desk_lists.specs.Ordered.{differ_by}
 use Rattle.desk_lists.specs.Sorting.{sort_by}
-use Rattle.desk_terms.specs.Options.{◌>>=◌, only}
+use Rattle.desk_terms.specs.Names.{same_name}
+use Rattle.desk_words.specs.declared.limits.TheConstants.{MOST_MEETINGS}
 use Rattle.desk_words.specs.Lists.{caller_before, day_before, is_day_list, is_key_list}
-use Rattle.desk_words.specs.Office.{are_meetings, is_office}
+use Rattle.desk_words.specs.Office.{are_meetings, is_meeting, is_office, same_meeting}
 use Rattle.desk_words.specs.declared.caller.KeyRow.{KeyRow}
 use Rattle.desk_words.specs.declared.office.MeetingLists.{MeetingLists}
 use Rattle.desk_words.specs.declared.office.OfficeLists.{OfficeLists}
+use Rattle.desk_terms.specs.Options.{◌>>=◌, only}
 use Rattle.desk_rows.specs.declared.kept.MeetingRow.{MeetingRow}
+use Rattle.desk_records.specs.Office.{FlatLists, have_meetings, lists_of, lists_of_all, lists_with, office_of_records, resolutions_of}
 use Rattle.desk_rows.proofs.MeaningLemmas.{bound}
-use Rattle.desk_records.specs.Office.{FlatLists, have_meetings, lists_of_all, office_of_records}
+use Rattle.std.specs.Prelude.{Result}
 use Rattle.office_lists.specs.declared.fault.ReadFault.{ReadFault}
+use Rattle.office_lists.specs.declared.fault.ReadFault.TheVariants as fault
+use Rattle.office_lists.specs.declared.fault.ReadFault.TheVariants.{NoOffice}
+use Rattle.office_lists.specs.Yields.{IsCause}
+use Rattle.office_lists.specs.declared.own.OwnRecords.{OwnRecords}
 use Rattle.office_lists.specs.declared.flat.MeetingRecords.{MeetingRecords}
 use Rattle.office_lists.specs.Flat.{flat_with}
-use Rattle.office_lists.specs.Own.{all_lists_in, lists_in}
-use Rattle.office_lists.specs.Yields.{IsCause, Yields}
-use Rattle.office_lists.proofs.ListLemmas.{cause_by, second_false}
+use Rattle.office_lists.specs.Giving.{all_lists_own, are_meeting_rows, own_records_of, same_meeting_row}
+use Rattle.office_lists.specs.Own.{lists_own}
+use Rattle.office_lists.proofs.ListLemmas.{second_false}
 
-module _ (keys : List KeyRow) (closed : List ℕ) (meetings : List MeetingRow) (records : MeetingRecords) where
-  -- the lists of the meetings are told by the records alone
-  lists_same : (rows : List MeetingRow) → lists_of_all (flat_with keys closed meetings records) rows ≡ lists_of_all (flat_with [] [] [] records) rows
-  lists_same [] = refl
-  lists_same (m ∷ rows) = ap (λ (o : Option (List MeetingLists)). lists_in records m >>= λ first. o >>= λ later. Some (first ∷ later)) (lists_same rows)
+-- the lists of all meetings are those of each one's own records
+pub lists_same : (keys : List KeyRow) (closed : List ℕ) (meetings : List MeetingRow) (records : MeetingRecords) (rows : List MeetingRow)
+    → all_lists_own (map (own_records_of records) rows) ≡ lists_of_all (flat_with keys closed meetings records) rows
+lists_same keys closed meetings records [] = refl
+lists_same keys closed meetings records (m ∷ rows) =
+    ap (λ (o : Option (List MeetingLists)). lists_own (own_records_of records m) >>= λ first. o >>= λ later. Some (first ∷ later)) (lists_same keys closed meetings records rows)
 
-  -- the office with these meetings
-  abbrev pub made : List MeetingLists → OfficeLists
-  made lists = record { keys = sort_by caller_before keys; closed = sort_by day_before closed; meetings = lists }
+-- the lists of one meeting more
+pub all_more : (all : List OwnRecords) (lists : List MeetingLists) (own : OwnRecords) (m : MeetingLists) → all_lists_own all ≡ Some lists → lists_own own ≡ Some m → all_lists_own (all ++ own ∷ []) ≡ Some (lists ++ m ∷ [])
+all_more [] lists own m h is =
+    let same : [] ≡ lists = cc in
+    ap (λ (o : Option MeetingLists). o >>= λ first. Some (first ∷ [])) is ∙ ap (λ l. Some (l ++ m ∷ [])) same
+all_more (next ∷ all) lists own m h is =
+    let first = bound (lists_own next) (λ f. all_lists_own all >>= λ later. Some (f ∷ later)) lists h in
+    let later = bound (all_lists_own all) (λ l. Some (first.0 ∷ l)) lists first.2 in
+    let same : first.0 ∷ later.0 ≡ lists = cc in
+    ap (λ (o : Option MeetingLists). o >>= λ f. all_lists_own (all ++ own ∷ []) >>= λ l. Some (f ∷ l)) first.1
+    ∙ ap (λ (o : Option (List MeetingLists)). o >>= λ l. Some (first.0 ∷ l)) (all_more all later.0 own m later.1 is) ∙ ap (λ l. Some (l ++ m ∷ [])) same
 
-  -- the office of records is made of the lists of their meetings
-  pub office_is : office_of_records (flat_with keys closed meetings records) ≡ (all_lists_in records meetings >>= λ lists. Some (made lists))
-  unfolding office_of_records
-  office_is =
-      let flat = flat_with keys closed meetings records in
-      ap (λ (o : Option (List MeetingLists)). only (have_meetings flat) >>= λ _. o >>= λ lists. Some (made lists)) (lists_same meetings)
-      ∙ joined (have_meetings flat) (lists_of_all (flat_with [] [] [] records) meetings)
-    where
-      joined : (b : Bool) (o : Option (List MeetingLists)) → (only b >>= λ _. o >>= λ lists. Some (made lists)) ≡ ((only b >>= λ _. o) >>= λ lists. Some (made lists))
-      joined true o = refl
-      joined false o = refl
+-- where the records of one are no meeting's
+pub one_wrong : (all : List OwnRecords) (i : ℕ) (own : OwnRecords) → i < length all → own ≡ get_or all i own → ((m : MeetingLists) → lists_own own ≡ Some m → is_meeting m ≡ false)
+    → (lists : List MeetingLists) → all_lists_own all ≡ Some lists → list_all is_meeting lists ≡ false
+one_wrong [] i own less is none lists h = absurd (omega arith)
+one_wrong (next ∷ all) zero own less is none lists h =
+    let first = bound (lists_own next) (λ f. all_lists_own all >>= λ later. Some (f ∷ later)) lists h in
+    let later = bound (all_lists_own all) (λ l. Some (first.0 ∷ l)) lists first.2 in
+    let same : first.0 ∷ later.0 ≡ lists = cc in
+    ap (list_all is_meeting) (sym same) ∙ ap (λ b. b && list_all is_meeting later.0) (none first.0 (ap lists_own is ∙ first.1))
+one_wrong (next ∷ all) (suc i) own less is none lists h =
+    let first = bound (lists_own next) (λ f. all_lists_own all >>= λ later. Some (f ∷ later)) lists h in
+    let later = bound (all_lists_own all) (λ l. Some (first.0 ∷ l)) lists first.2 in
+    let same : first.0 ∷ later.0 ≡ lists = cc in
+    ap (list_all is_meeting) (sym same)
+    ∙ second_false (is_meeting first.0) (list_all is_meeting later.0) (one_wrong all i own (omega (arith, less)) is none later.0 later.1)
 
-  -- where the one made of these lists is no office, there is none
-  made_wrong : ((lists : List MeetingLists) → all_lists_in records meetings ≡ Some lists → is_office (made lists) ≡ false)
-      → (office : OfficeLists) → office_of_records (flat_with keys closed meetings records) ≡ Some office → is_office office ≡ false
-  made_wrong wrong office h =
-      let it = bound (all_lists_in records meetings) (λ lists. Some (made lists)) office (sym office_is ∙ h) in
-      let same : made it.0 ≡ office = cc in
-      subst (λ (o : OfficeLists). is_office o ≡ false) same (wrong it.0 it.1)
+-- what an office of the records has
+pub record Parts (flat : FlatLists) (office : OfficeLists) : Type 0 where
+  pub known : have_meetings flat ≡ true
+  pub keys : office.keys ≡ sort_by caller_before flat.keys
+  pub closed : office.closed ≡ sort_by day_before flat.closed
+  pub meetings : lists_of_all flat flat.meetings ≡ Some office.meetings
 
-  -- where the keys, the closed days or the meetings are refused
-  pub by_keys : (e : ReadFault) → IsCause is_key_list e (Some (sort_by caller_before keys)) → IsCause is_office e (office_of_records (flat_with keys closed meetings records))
-  by_keys e =
-      let sorted = sort_by caller_before keys in
-      cause_by is_key_list is_office e (Some sorted) _ (λ none. made_wrong (λ lists _. ap (λ b. b && is_day_list (sort_by day_before closed) && are_meetings lists) (none sorted refl)))
+known_if : (b : Bool) → (u : Unit {0}) → only b ≡ Some u → b ≡ true
+known_if true u h = refl
+known_if false u h = absurd cc
 
-  pub by_days : (e : ReadFault) → IsCause is_day_list e (Some (sort_by day_before closed)) → IsCause is_office e (office_of_records (flat_with keys closed meetings records))
-  by_days e =
-      let sorted = sort_by day_before closed in
-      cause_by is_day_list is_office e (Some sorted) _
-      (λ none. made_wrong (λ lists _. ap (λ b. b && are_meetings lists) (second_false (is_key_list (sort_by caller_before keys)) (is_day_list sorted) (none sorted refl))))
+pub parts : (flat : FlatLists) (office : OfficeLists) → office_of_records flat ≡ Some office → Parts flat office
+unfolding office_of_records
+parts flat office h =
+    let known = bound (only (have_meetings flat)) (λ _. lists_of_all flat flat.meetings >>= λ lists. Some (record { keys = sort_by caller_before flat.keys; closed = sort_by day_before flat.closed; meetings = lists })) office h in
+    let lists = bound (lists_of_all flat flat.meetings) (λ lists. Some (record { keys = sort_by caller_before flat.keys; closed = sort_by day_before flat.closed; meetings = lists })) office known.2 in
+    let made : OfficeLists = record { keys = sort_by caller_before flat.keys; closed = sort_by day_before flat.closed; meetings = lists.0 } in
+    let same : made ≡ office = cc in
+    record {
+      known = known_if (have_meetings flat) known.0 known.1;
+      keys = ap (λ (o : OfficeLists). o.keys) (sym same);
+      closed = ap (λ (o : OfficeLists). o.closed) (sym same);
+      meetings = lists.1 ∙ ap (λ (o : OfficeLists). Some o.meetings) same;
+    }
 
-  pub by_meetings : (e : ReadFault) (rows : List MeetingRow) → rows ≡ meetings → IsCause are_meetings e (all_lists_in records rows) → IsCause is_office e (office_of_records (flat_with keys closed meetings records))
-  by_meetings e rows same h =
-      cause_by are_meetings is_office e (all_lists_in records meetings) _
-      (λ none. made_wrong (λ lists is. second_false (is_key_list (sort_by caller_before keys) && is_day_list (sort_by day_before closed)) (are_meetings lists) (none lists is)))
-      (subst (λ rows. IsCause are_meetings e (all_lists_in records rows)) same h)
+-- records that name meetings that stand are an office where each meeting's lists are some
+pub office_made : (flat : FlatLists) (keys : List KeyRow) (closed : List ℕ) (lists : List MeetingLists) → have_meetings flat ≡ true
+    → Some (sort_by caller_before flat.keys) ≡ Some keys → Some (sort_by day_before flat.closed) ≡ Some closed → lists_of_all flat flat.meetings ≡ Some lists
+    → office_of_records flat ≡ Some (record { keys = keys; closed = closed; meetings = lists })
+unfolding office_of_records
+office_made flat keys closed lists known keys_are days_are made =
+    let same_keys : sort_by caller_before flat.keys ≡ keys = cc in
+    let same_days : sort_by day_before flat.closed ≡ closed = cc in
+    rw (known, made) (ap (λ l. Some (record { keys = l; closed = sort_by day_before flat.closed; meetings = lists })) same_keys ∙ ap (λ l. Some (record { keys = keys; closed = l; meetings = lists })) same_days)
 
-  -- where none is
-  pub office_made : (k : List KeyRow) (d : List ℕ) (lists : List MeetingLists) (rows : List MeetingRow) → rows ≡ meetings → Some (sort_by caller_before keys) ≡ Some k → Some (sort_by day_before closed) ≡ Some d → all_lists_in records rows ≡ Some lists
-      → office_of_records (flat_with keys closed meetings records) ≡ Some (record { keys = k; closed = d; meetings = lists })
-  office_made k d lists rows same keys_are days_are made_of =
-      let same_keys : sort_by caller_before keys ≡ k = cc in
-      let same_days : sort_by day_before closed ≡ d = cc in
-      office_is ∙ ap (λ (o : Option (List MeetingLists)). o >>= λ l. Some (made l)) (ap (all_lists_in records) (sym same) ∙ made_of)
-      ∙ ap (λ l. Some (record { keys = l; closed = sort_by day_before closed; meetings = lists })) same_keys ∙ ap (λ l. Some (record { keys = k; closed = l; meetings = lists })) same_days
+-- ---- where they are no office
 
--- what is said of the records within is said of these
-pub told : (inside flat : FlatLists) (e : ReadFault) (r : Result OfficeLists ReadFault) → inside ≡ flat → r ≡ Err e → IsCause is_office e (office_of_records inside) → Yields is_office r (office_of_records flat)
-told inside flat e r same is h = subst (λ q. Yields is_office q (office_of_records flat)) (sym is) (subst (λ f. IsCause is_office e (office_of_records f)) same h)
+pub keys_wrong : (flat : FlatLists) → is_key_list (sort_by caller_before flat.keys) ≡ false → (office : OfficeLists) → office_of_records flat ≡ Some office → is_office office ≡ false
+keys_wrong flat none office h =
+    let p = parts flat office h in
+    let here : is_key_list office.keys ≡ false = ap is_key_list p.keys ∙ none in
+    rw here refl
+
+pub days_wrong : (flat : FlatLists) → is_day_list (sort_by day_before flat.closed) ≡ false → (office : OfficeLists) → office_of_records flat ≡ Some office → is_office office ≡ false
+days_wrong flat none office h =
+    let p = parts flat office h in
+    let here : is_day_list office.closed ≡ false = ap is_day_list p.closed ∙ none in
+    ap (λ b. b && are_meetings office.meetings) (second_false (is_key_list office.keys) (is_day_list office.closed) here)
+
+pub meetings_wrong : (flat : FlatLists) → ((lists : List MeetingLists) → lists_of_all flat flat.meetings ≡ Some lists → list_all is_meeting lists ≡ false) → (office : OfficeLists) → office_of_records flat ≡ Some office → is_office office ≡ false
+meetings_wrong flat none office h =
+    let p = parts flat office h in
+    second_false (is_key_list office.keys && is_day_list office.closed) (are_meetings office.meetings)
+    (second_false (nat_le (length office.meetings) 100 && differ_by same_meeting office.meetings) (list_all is_meeting office.meetings) (none office.meetings p.meetings))
+
+-- the meetings of the lists have the names of their rows
+named_so : (flat : FlatLists) (m : MeetingRow) (x : MeetingLists) → lists_of flat m ≡ Some x → x.meeting.id ≡ m.id
+named_so flat m x h =
+    let it = bound (resolutions_of m.id flat.resolutions) (λ rs. Some (lists_with flat m rs)) x h in
+    let same : lists_with flat m it.0 ≡ x = cc in
+    ap (λ (y : MeetingLists). y.meeting.id) (sym same)
+
+any_named : (flat : FlatLists) (id : List ℕ) (rows : List MeetingRow) (lists : List MeetingLists) → lists_of_all flat rows ≡ Some lists
+    → list_any (λ (x : MeetingLists). same_name id x.meeting.id) lists ≡ list_any (λ (m : MeetingRow). same_name id m.id) rows
+any_named flat id [] lists h = let same : [] ≡ lists = cc in ap (list_any (λ (x : MeetingLists). same_name id x.meeting.id)) (sym same)
+any_named flat id (m ∷ rows) lists h =
+    let first = bound (lists_of flat m) (λ f. lists_of_all flat rows >>= λ later. Some (f ∷ later)) lists h in
+    let later = bound (lists_of_all flat rows) (λ l. Some (first.0 ∷ l)) lists first.2 in
+    let same : first.0 ∷ later.0 ≡ lists = cc in
+    ap (list_any (λ (x : MeetingLists). same_name id x.meeting.id)) (sym same)
+    ∙ ap (λ n. same_name id n || list_any (λ (x : MeetingLists). same_name id x.meeting.id) later.0) (named_so flat m first.0 first.1)
+    ∙ ap (λ b. same_name id m.id || b) (any_named flat id rows later.0 later.1)
+
+pub differ_so : (flat : FlatLists) (rows : List MeetingRow) (lists : List MeetingLists) → lists_of_all flat rows ≡ Some lists → differ_by same_meeting lists ≡ differ_by same_meeting_row rows
+differ_so flat [] lists h = let same : [] ≡ lists = cc in ap (differ_by same_meeting) (sym same)
+differ_so flat (m ∷ rows) lists h =
+    let first = bound (lists_of flat m) (λ f. lists_of_all flat rows >>= λ later. Some (f ∷ later)) lists h in
+    let later = bound (lists_of_all flat rows) (λ l. Some (first.0 ∷ l)) lists first.2 in
+    let same : first.0 ∷ later.0 ≡ lists = cc in
+    ap (differ_by same_meeting) (sym same)
+    ∙ ap (λ n. not (list_any (λ (x : MeetingLists). same_name n x.meeting.id) later.0) && differ_by same_meeting later.0) (named_so flat m first.0 first.1)
+    ∙ ap (λ b. not b && differ_by same_meeting later.0) (any_named flat m.id rows later.0 later.1)
+    ∙ ap (λ b. not (list_any (same_meeting_row m) rows) && b) (differ_so flat rows later.0 later.1)
+
+count_so : (flat : FlatLists) (rows : List MeetingRow) (lists : List MeetingLists) → lists_of_all flat rows ≡ Some lists → length lists ≡ length rows
+count_so flat [] lists h = let same : [] ≡ lists = cc in ap length (sym same)
+count_so flat (m ∷ rows) lists h =
+    let first = bound (lists_of flat m) (λ f. lists_of_all flat rows >>= λ later. Some (f ∷ later)) lists h in
+    let later = bound (lists_of_all flat rows) (λ l. Some (first.0 ∷ l)) lists first.2 in
+    let same : first.0 ∷ later.0 ≡ lists = cc in
+    ap length (sym same) ∙ ap suc (count_so flat rows later.0 later.1)
+
+-- there are too many meetings, two have one name, or a record names none
+pub names_wrong : (flat : FlatLists) → (are_meeting_rows flat.meetings && have_meetings flat) ≡ false → (office : OfficeLists) → office_of_records flat ≡ Some office → is_office office ≡ false
+names_wrong flat none office h =
+    let p = parts flat office h in
+    let wrong : are_meeting_rows flat.meetings ≡ false = first_is (are_meeting_rows flat.meetings) (have_meetings flat) p.known none in
+    second_false (is_key_list office.keys && is_day_list office.closed) (are_meetings office.meetings)
+    (ap (λ b. b && list_all is_meeting office.meetings)
+    (ap (λ n. nat_le n MOST_MEETINGS && differ_by same_meeting office.meetings) (count_so flat flat.meetings office.meetings p.meetings)
+    ∙ ap (λ b. nat_le (length flat.meetings) MOST_MEETINGS && b) (differ_so flat flat.meetings office.meetings p.meetings) ∙ wrong))
+  where
+    first_is : (a b : Bool) → b ≡ true → (a && b) ≡ false → a ≡ false
+    first_is true b t f = absurd (true≢false (sym t ∙ f))
+    first_is false b t f = refl
+
+-- why records are not given out
+pub names_cause : {T : Type 0} (flat : FlatLists) (e : ReadFault) → (◌≡◌ {A = Result T ReadFault} (Err e) (Err NoOffice) → (are_meeting_rows flat.meetings && have_meetings flat) ≡ false) → IsCause is_office e (office_of_records flat)
+names_cause flat NoOffice none = names_wrong flat (none refl)
+names_cause flat fault.Store none = tt
+names_cause flat fault.Memory none = tt

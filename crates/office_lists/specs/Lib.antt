@@ -1,3 +1,4 @@
 pub mod Flat
+pub mod Giving
 pub mod Own
 pub mod Yields

@@ -1,17 +1,53 @@
--- The records of each meeting, and the lists that they are.
-use Rattle.std.specs.Prelude.{◌==◌, ℕ, suc, Bool, true, ◌&&◌, not, List, [], ◌∷◌, filter, Option}
+-- The records of one meeting, and the lists that they are.
+use Rattle.std.specs.Prelude.{◌==◌, ℕ, suc, Bool, true, ◌&&◌, ◌||◌, List, [], ◌∷◌, ◌++◌, Option}
+use Rattle.std.specs.Prelude.{Some}
 use Rattle.desk_lists.specs.Sorting.{sort_by}
-use Rattle.desk_terms.specs.Names.{same_name}
-use Rattle.desk_terms.specs.Options.{◌>>=◌, only}
+use Rattle.desk_words.specs.Office.{no_rows, poll_before}
+use Rattle.desk_words.specs.Registers.{is_register, member_before}
 use Rattle.desk_words.specs.declared.office.MeetingLists.{MeetingLists}
+use Rattle.desk_words.specs.declared.records.Appointment.{Appointment}
+use Rattle.desk_words.specs.declared.records.Authority.{Authority}
+use Rattle.desk_words.specs.declared.records.CastMark.{CastMark}
+use Rattle.desk_words.specs.declared.records.DemandMark.{DemandMark}
+use Rattle.desk_words.specs.declared.records.Ending.{Ending}
+use Rattle.desk_words.specs.declared.records.Poll.{Poll}
+use Rattle.desk_words.specs.declared.records.PresenceMark.{PresenceMark}
+use Rattle.desk_words.specs.declared.records.RegisterRow.{RegisterRow}
 use Rattle.desk_words.specs.declared.records.Resolution.{Resolution}
-use Rattle.desk_rows.specs.declared.kept.InMeeting.{InMeeting}
+use Rattle.desk_terms.specs.Options.{◌>>=◌}
 use Rattle.desk_rows.specs.declared.kept.MeetingRow.{MeetingRow}
 use Rattle.desk_rows.specs.declared.kept.NumberedResolution.{NumberedResolution}
-use Rattle.desk_records.specs.Office.{have_meetings, lists_of, lists_of_all, number_before}
-use Rattle.desk_records.specs.Office.{numbered_from}
-use Rattle.office_lists.specs.declared.flat.MeetingRecords.{MeetingRecords}
-use Rattle.office_lists.specs.Flat.{flat_with}
+use Rattle.desk_records.specs.Office.{number_before, numbered_from, whole_meeting}
+use Rattle.office_lists.specs.declared.own.OwnRecords.{OwnRecords}
+
+-- a meeting without records
+abbrev pub nothing_own : MeetingRow → OwnRecords
+nothing_own m = record {
+  meeting = m;
+  resolutions = [];
+  register = [];
+  appointments = [];
+  endings = [];
+  authorities = [];
+  presences = [];
+  demands = [];
+  polls = [];
+  casts = [];
+}
+
+-- the lists of a meeting with these resolutions
+abbrev pub lists_own_with : OwnRecords → List Resolution → MeetingLists
+lists_own_with own resolutions = record {
+  meeting = whole_meeting own.meeting resolutions;
+  register = sort_by member_before own.register;
+  appointments = own.appointments;
+  endings = own.endings;
+  authorities = own.authorities;
+  presences = own.presences;
+  demands = own.demands;
+  polls = sort_by poll_before own.polls;
+  casts = own.casts;
+}
 
 -- the resolutions in the order of their numbers, which are 1, 2, ..
 abbrev pub resolutions_own : List NumberedResolution → Option (List Resolution)
@@ -26,38 +62,43 @@ abbrev pub resolutions_number_from : ℕ → List NumberedResolution → Bool
 resolutions_number_from n [] = true
 resolutions_number_from n (r ∷ rest) = (r.number == n) && resolutions_number_from (suc n) rest
 
--- the records of other meetings
-abbrev pub of_others : {A : Type 0} → List ℕ → List (InMeeting A) → List (InMeeting A)
-of_others {A} id records = filter (λ (r : InMeeting A). not (same_name r.meeting id)) records
-
--- the records of other meetings
-abbrev pub records_without : List ℕ → MeetingRecords → MeetingRecords
-records_without id records = record {
-  resolutions = of_others id records.resolutions;
-  register = of_others id records.register;
-  appointments = of_others id records.appointments;
-  endings = of_others id records.endings;
-  authorities = of_others id records.authorities;
-  presences = of_others id records.presences;
-  demands = of_others id records.demands;
-  polls = of_others id records.polls;
-  casts = of_others id records.casts;
-}
-
--- both meetings have one name
-abbrev pub same_meeting_row : MeetingRow → MeetingRow → Bool
-same_meeting_row a b = same_name a.id b.id
-
--- no record is of a meeting that does not stand
-abbrev pub all_name_meetings : MeetingRecords → List MeetingRow → Bool
-all_name_meetings records meetings = have_meetings (flat_with [] [] meetings records)
-
 -- the lists of a meeting, or nothing where its resolutions are not numbered 1, 2, ..
-abbrev pub lists_in : MeetingRecords → MeetingRow → Option MeetingLists
-lists_in records m = lists_of (flat_with [] [] [] records) m
+abbrev pub lists_own : OwnRecords → Option MeetingLists
+lists_own own =
+    resolutions_own own.resolutions >>= λ resolutions. Some (lists_own_with own resolutions)
 
--- the lists of each meeting, or nothing where a record names none of them
-abbrev pub all_lists_in : MeetingRecords → List MeetingRow → Option (List MeetingLists)
-all_lists_in records meetings =
-    only (all_name_meetings records meetings)
-    >>= λ _. lists_of_all (flat_with [] [] [] records) meetings
+-- a meeting with these records behind its others
+abbrev pub adding_resolutions : List NumberedResolution → OwnRecords → OwnRecords
+adding_resolutions its own = record own { resolutions = own.resolutions ++ its }
+
+-- a meeting with these records behind its others
+abbrev pub adding_register : List RegisterRow → OwnRecords → OwnRecords
+adding_register its own = record own { register = own.register ++ its }
+
+-- a meeting with these records behind its others
+abbrev pub adding_appointments : List Appointment → OwnRecords → OwnRecords
+adding_appointments its own = record own { appointments = own.appointments ++ its }
+
+-- a meeting with these records behind its others
+abbrev pub adding_endings : List Ending → OwnRecords → OwnRecords
+adding_endings its own = record own { endings = own.endings ++ its }
+
+-- a meeting with these records behind its others
+abbrev pub adding_authorities : List Authority → OwnRecords → OwnRecords
+adding_authorities its own = record own { authorities = own.authorities ++ its }
+
+-- a meeting with these records behind its others
+abbrev pub adding_presences : List PresenceMark → OwnRecords → OwnRecords
+adding_presences its own = record own { presences = own.presences ++ its }
+
+-- a meeting with these records behind its others
+abbrev pub adding_demands : List DemandMark → OwnRecords → OwnRecords
+adding_demands its own = record own { demands = own.demands ++ its }
+
+-- a meeting with these records behind its others
+abbrev pub adding_polls : List Poll → OwnRecords → OwnRecords
+adding_polls its own = record own { polls = own.polls ++ its }
+
+-- a meeting with these records behind its others
+abbrev pub adding_casts : List CastMark → OwnRecords → OwnRecords
+adding_casts its own = record own { casts = own.casts ++ its }

@@ -4,19 +4,22 @@ ghost use Rattle.desk_lists.specs.Ordered.{ascends_by};
 ghost use Rattle.desk_lists.specs.Sorting.{sort_by};
 ghost use Rattle.desk_words.specs.Lists.{are_resolutions, caller_before, day_before, is_day_list};
 ghost use Rattle.desk_words.specs.Lists.{is_key_list};
-ghost use Rattle.desk_words.specs.Office.{poll_before, are_rows};
+ghost use Rattle.desk_words.specs.Office.{is_meeting, poll_before, are_rows};
 ghost use Rattle.desk_words.specs.Registers.{member_before};
 ghost use Rattle.desk_words.specs.declared.limits.TheConstants.{MOST_RESOLUTIONS};
 ghost use Rattle.desk_records.specs.Office.{number_before};
-ghost use Rattle.office_lists.specs.Own.{resolutions_number_from, resolution_of, resolutions_own};
+ghost use Rattle.office_lists.specs.Own.{resolutions_number_from, lists_own, resolution_of};
+ghost use Rattle.office_lists.specs.Own.{resolutions_own};
 ghost use Rattle.office_lists.specs.Yields.{Yields};
 
 use crate::fault::ReadFault;
+use crate::own::OwnRecords;
 use desk_lists::{ascend, into_order};
 use desk_rows::NumberedResolution;
 use desk_words::limits::MOST_RESOLUTIONS;
 use desk_words::{
-    Day, DayList, KeyRow, KeyRows, Listing, Poll, Register, RegisterRow, Resolution, Resolutions,
+    Day, DayList, KeyRow, KeyRows, Listing, Meeting, MeetingLists, Poll, Register, RegisterRow,
+    Resolution, Resolutions,
 };
 use std::alloc::{AllocError, Global};
 
@@ -146,5 +149,37 @@ pub fn resolution_list(
     match Resolutions::new(resolutions) {
         Ok(resolutions) => Ok(resolutions),
         Err(_) => Err(ReadFault::NoOffice),
+    }
+}
+
+impl OwnRecords {
+    /// The lists of the meeting. The fault is `NoOffice` only where its records are no
+    /// meeting's lists.
+    pub fn into_lists(self, alloc: Global) -> Result<MeetingLists, ReadFault>
+        ensures { Yields is_meeting result (lists_own self) }
+    {
+        let row = self.meeting;
+        let meeting = Meeting {
+            id: row.id,
+            company: row.company,
+            kind: row.kind,
+            given: row.given,
+            appointed: row.appointed,
+            record_moment: row.record_moment,
+            resolutions: resolution_list(alloc, self.resolutions)?,
+            loaded: row.loaded,
+            opened: row.opened,
+        };
+        Ok(MeetingLists {
+            meeting,
+            register: register_rows(self.register)?,
+            appointments: self.appointments,
+            endings: self.endings,
+            authorities: self.authorities,
+            presences: self.presences,
+            demands: self.demands,
+            polls: poll_list(self.polls)?,
+            casts: self.casts,
+        })
     }
 }

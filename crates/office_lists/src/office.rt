@@ -1,14 +1,29 @@
 //! The office that the records are.
+ghost use Rattle.std.specs.List.{list_all};
 ghost use Rattle.desk_records.specs.Office.{office_of_records};
-ghost use Rattle.desk_words.specs.Office.{is_office};
+ghost use Rattle.desk_words.specs.Office.{is_meeting, is_office};
+ghost use Rattle.office_lists.specs.Giving.{all_lists_own};
 ghost use Rattle.office_lists.specs.Yields.{Yields};
 
 use crate::fault::ReadFault;
 use crate::flat::FlatRecords;
+use crate::giving::meetings_with;
 use crate::lists::{day_list, key_rows};
-use crate::meetings::meetings_from;
-use desk_words::OfficeLists;
+use crate::own::OwnRecords;
+use desk_words::{Listing, MeetingLists, OfficeLists};
 use std::alloc::Global;
+
+/// The lists of each meeting. The fault is `NoOffice` only where the records of one are no
+/// meeting's lists.
+fn lists_from(alloc: Global, all: Vec<OwnRecords>) -> Result<Listing<MeetingLists>, ReadFault>
+    ensures { Yields (list_all is_meeting) result (all_lists_own all.items) }
+{
+    let mut lists = Listing::new(alloc);
+    for own in all {
+        lists.push(own.into_lists(alloc)?)?;
+    }
+    Ok(lists)
+}
 
 /// The office that the records are. The fault is `NoOffice` only where they are no office's.
 pub fn office_from(alloc: Global, flat: FlatRecords) -> Result<OfficeLists, ReadFault>
@@ -20,9 +35,12 @@ pub fn office_from(alloc: Global, flat: FlatRecords) -> Result<OfficeLists, Read
         meetings,
         records,
     } = flat;
+    let keys = key_rows(keys)?;
+    let closed = day_list(closed)?;
+    let meetings = meetings_with(alloc, meetings.as_slice(), records)?;
     Ok(OfficeLists {
-        keys: key_rows(keys)?,
-        closed: day_list(closed)?,
-        meetings: meetings_from(alloc, meetings.as_slice(), records)?,
+        keys,
+        closed,
+        meetings: lists_from(alloc, meetings)?,
     })
 }

@@ -1,33 +1,68 @@
-use Rattle.std.proofs.Common.{sym, ap, ◌∙◌, rules}
-use Rattle.desk_records.specs.Office.{office_of_records}
+use Rattle.std.proofs.Common.{◌≡◌, true, ◌&&◌, map, Err, Some, List, refl, subst, sym, ap, ◌∙◌, rules}
+use Rattle.std.specs.List.{list_all}
+use Rattle.desk_lists.specs.Sorting.{sort_by}
+use Rattle.desk_words.specs.Lists.{caller_before, day_before, is_day_list, is_key_list}
+use Rattle.desk_words.specs.Office.{is_meeting, is_office}
+use Rattle.desk_rows.specs.declared.kept.MeetingRow.{MeetingRow}
+use Rattle.desk_records.specs.Office.{lists_of_all, office_of_records}
 use Rattle.office_lists.specs.Flat.{flat_with}
-use Rattle.office_lists.proofs.OfficeLemmas.{by_days, by_keys, by_meetings, office_made, told}
+use Rattle.office_lists.specs.Giving.{all_lists_own, all_name_meetings, are_meeting_rows, own_records_of}
+use Rattle.office_lists.specs.Yields.{Yields}
+use Rattle.office_lists.proofs.ListLemmas.{cause_by}
+use Rattle.office_lists.proofs.OfficeLemmas.{days_wrong, keys_wrong, lists_same, meetings_wrong, names_cause, office_made}
 use Rattle.office_lists.proofs.office.office_from.Goals as goal
 
-pub returns-in_err-key_rows : goal.returns-in_err-key_rows
-returns-in_err-key_rows c =
+pub returns-in_err-keys : goal.returns-in_err-keys
+returns-in_err-keys c =
     let i = c.flat.inside in
-    let e = c.in_err-key_rows.field-0.0 in
-    told (flat_with i.keys i.closed i.meetings i.records) c.args.flat e c.from_residual.result c.flat.view_is (search rules)
-    (by_keys i.keys i.closed i.meetings i.records e c.in_err-key_rows.ensures)
+    let flat = flat_with i.keys i.closed i.meetings i.records in
+    let same : flat ≡ c.args.flat = c.flat.view_is in
+    let is : c.from_residual.result ≡ Err c.in_err-keys.field-0.0 = search rules in
+    let sorted = sort_by caller_before i.keys in
+    subst (λ r. Yields is_office r (office_of_records c.args.flat)) (sym is) (subst (λ f. Yields is_office (Err c.in_err-keys.field-0.0) (office_of_records f)) same
+    (cause_by is_key_list is_office c.in_err-keys.field-0.0 (Some sorted) (office_of_records flat) (λ wrong. keys_wrong flat (wrong sorted refl)) c.in_err-keys.ensures))
 
-pub returns-in_err-day_list : goal.returns-in_err-day_list
-returns-in_err-day_list c =
+pub returns-in_err-closed : goal.returns-in_err-closed
+returns-in_err-closed c =
     let i = c.flat.inside in
-    let e = c.in_err-day_list.field-0.0 in
-    told (flat_with i.keys i.closed i.meetings i.records) c.args.flat e c.from_residual-in_err-day_list.result c.flat.view_is (search rules)
-    (by_days i.keys i.closed i.meetings i.records e c.in_err-day_list.ensures)
+    let flat = flat_with i.keys i.closed i.meetings i.records in
+    let same : flat ≡ c.args.flat = c.flat.view_is in
+    let is : c.from_residual-in_err-closed.result ≡ Err c.in_err-closed.field-0.0 = search rules in
+    let sorted = sort_by day_before i.closed in
+    subst (λ r. Yields is_office r (office_of_records c.args.flat)) (sym is) (subst (λ f. Yields is_office (Err c.in_err-closed.field-0.0) (office_of_records f)) same
+    (cause_by is_day_list is_office c.in_err-closed.field-0.0 (Some sorted) (office_of_records flat) (λ wrong. days_wrong flat (wrong sorted refl)) c.in_err-closed.ensures))
 
-pub returns-in_err-meetings_from : goal.returns-in_err-meetings_from
-returns-in_err-meetings_from c =
+pub returns-in_err-meetings : goal.returns-in_err-meetings
+returns-in_err-meetings c =
     let i = c.flat.inside in
-    let e = c.in_err-meetings_from.field-0.0 in
-    told (flat_with i.keys i.closed i.meetings i.records) c.args.flat e c.from_residual-in_err-meetings_from.result c.flat.view_is (search rules)
-    (by_meetings i.keys i.closed i.meetings i.records e c.as_slice.result.now c.as_slice.ensures c.in_err-meetings_from.ensures)
+    let flat = flat_with i.keys i.closed i.meetings i.records in
+    let same : flat ≡ c.args.flat = c.flat.view_is in
+    let named = λ (rows : List MeetingRow). are_meeting_rows rows && all_name_meetings i.records rows in
+    let is : c.from_residual-in_err-meetings.result ≡ Err c.in_err-meetings.field-0.0 = search rules in
+    subst (λ r. Yields is_office r (office_of_records c.args.flat)) (sym is) (subst (λ f. Yields is_office (Err c.in_err-meetings.field-0.0) (office_of_records f)) same
+    (names_cause flat c.in_err-meetings.field-0.0 (λ h. ap named (sym c.as_slice.ensures) ∙ c.in_err-meetings.ensures.none h)))
+
+pub returns-in_err-lists_from : goal.returns-in_err-lists_from
+returns-in_err-lists_from c =
+    let i = c.flat.inside in
+    let flat = flat_with i.keys i.closed i.meetings i.records in
+    let same : flat ≡ c.args.flat = c.flat.view_is in
+    let is : c.from_residual-in_err-lists_from.result ≡ Err c.in_err-lists_from.field-0.0 = search rules in
+    let all = c.in_ok-meetings.meetings.items in
+    let lists : all_lists_own all ≡ lists_of_all flat flat.meetings =
+    ap all_lists_own (c.in_ok-meetings.ensures.made ∙ ap (map (own_records_of i.records)) c.as_slice.ensures) ∙ lists_same i.keys i.closed i.meetings i.records i.meetings in
+    subst (λ r. Yields is_office r (office_of_records c.args.flat)) (sym is) (subst (λ f. Yields is_office (Err c.in_err-lists_from.field-0.0) (office_of_records f)) same
+    (cause_by (list_all is_meeting) is_office c.in_err-lists_from.field-0.0 (all_lists_own all) (office_of_records flat) (λ wrong. meetings_wrong flat (λ l h. wrong l (lists ∙ h))) c.in_err-lists_from.ensures))
 
 pub returns : goal.returns
 returns c =
     let i = c.flat.inside in
-    ap office_of_records (sym c.flat.view_is)
-    ∙ office_made i.keys i.closed i.meetings i.records c.in_ok-key_rows.field-0 c.in_ok-day_list.field-0 c.in_ok-meetings_from.field-0 c.as_slice.result.now c.as_slice.ensures
-    c.in_ok-key_rows.ensures c.in_ok-day_list.ensures c.in_ok-meetings_from.ensures
+    let flat = flat_with i.keys i.closed i.meetings i.records in
+    let same : flat ≡ c.args.flat = c.flat.view_is in
+    let all = c.in_ok-meetings.meetings.items in
+    let lists : all_lists_own all ≡ lists_of_all flat flat.meetings =
+    ap all_lists_own (c.in_ok-meetings.ensures.made ∙ ap (map (own_records_of i.records)) c.as_slice.ensures) ∙ lists_same i.keys i.closed i.meetings i.records i.meetings in
+    let known : all_name_meetings i.records i.meetings ≡ true = ap (all_name_meetings i.records) (sym c.as_slice.ensures) ∙ c.in_ok-meetings.ensures.named in
+    ap office_of_records (sym same)
+    ∙ office_made flat c.keys.inside.rows.items c.closed-2.inside.days.items c.in_ok-lists_from.field-0 known (c.in_ok-keys.ensures ∙ ap (λ l. Some l) (sym c.keys.view_is))
+    (c.in_ok-closed.ensures ∙ ap (λ l. Some l) (sym c.closed-2.view_is)) (sym lists ∙ c.in_ok-lists_from.ensures)

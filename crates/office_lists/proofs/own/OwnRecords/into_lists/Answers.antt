@@ -1,0 +1,15 @@
+use Rattle.std.proofs.Common.{◌≡◌, Err, Some, refl, sym, subst, rules}
+use Rattle.desk_lists.specs.Ordered.{ascends_by}
+use Rattle.desk_lists.specs.Sorting.{sort_by}
+use Rattle.desk_words.specs.Office.{is_meeting, poll_before}
+use Rattle.office_lists.specs.Own.{lists_own}
+use Rattle.office_lists.specs.Yields.{Yields}
+use Rattle.office_lists.proofs.ListLemmas.{cause_by, polls_wrong}
+use Rattle.office_lists.proofs.own.OwnRecords.into_lists.Goals as goal
+
+pub returns-in_err-poll_list : goal.returns-in_err-poll_list
+returns-in_err-poll_list c =
+    let is : c.from_residual-in_err-poll_list.result ≡ Err c.in_err-poll_list.field-0.0 = search rules in
+    let own = c.args.self in
+    subst (λ r. Yields is_meeting r (lists_own own)) (sym is)
+    (cause_by (ascends_by poll_before) is_meeting c.in_err-poll_list.field-0.0 (Some (sort_by poll_before own.polls)) (lists_own own) (λ wrong. polls_wrong own (wrong (sort_by poll_before own.polls) refl)) c.in_err-poll_list.ensures)
