@@ -21,6 +21,12 @@ pub struct Times {
     is_numbered: bool,
 }
 
+const ONCE: Times = Times {
+    from: 1,
+    to: 1,
+    is_numbered: false,
+};
+
 /// Something that a case gives, once or many times.
 #[derive(Clone, Copy)]
 pub(crate) struct Given<'a> {
@@ -36,6 +42,13 @@ fn byte(digits: &str) -> Option<u8> {
     }
 }
 
+fn push_digits(digits: &str, into: &mut Vec<u8>) -> Result<(), AllocError> {
+    for byte in digits.split(' ').filter_map(byte) {
+        into.push(byte)?;
+    }
+    Ok(())
+}
+
 impl<'a> Piece<'a> {
     /// The bytes that the digits name, if they name any, parted by spaces.
     pub(crate) fn bytes(digits: &'a str) -> Option<Piece<'a>> {
@@ -43,53 +56,6 @@ impl<'a> Piece<'a> {
             Some(Piece::Bytes(digits))
         } else {
             None
-        }
-    }
-
-    /// Adds it to the bytes.
-    fn push(self, line_end: &str, into: &mut Vec<u8>) -> Result<(), AllocError> {
-        match self {
-            Piece::Line(text) => {
-                into.extend_from_slice(text.as_bytes())?;
-                into.extend_from_slice(line_end.as_bytes())
-            }
-            Piece::Text(text) => into.extend_from_slice(text.as_bytes()),
-            Piece::Bytes(digits) => {
-                for byte in digits.split(' ').filter_map(byte) {
-                    into.push(byte)?;
-                }
-                Ok(())
-            }
-        }
-    }
-
-    /// Whether a number has a place in it.
-    fn has_place(self) -> bool {
-        match self {
-            Piece::Line(text) | Piece::Text(text) => text.contains('#'),
-            Piece::Bytes(_) => false,
-        }
-    }
-
-    /// Adds it with the number in place of each `#`.
-    fn push_numbered(
-        self,
-        alloc: Global,
-        number: u64,
-        line_end: &str,
-        into: &mut Vec<u8>,
-    ) -> Result<(), AllocError> {
-        let number = format!(in alloc; "{number}")?;
-        match self {
-            Piece::Line(text) => {
-                let text = text.replace(alloc, '#', &number)?;
-                Piece::Line(&text).push(line_end, into)
-            }
-            Piece::Text(text) => {
-                let text = text.replace(alloc, '#', &number)?;
-                Piece::Text(&text).push(line_end, into)
-            }
-            Piece::Bytes(_) => self.push(line_end, into),
         }
     }
 }
@@ -129,31 +95,49 @@ impl<'a> Given<'a> {
         fits
     }
 
-    /// Adds all that is given to the bytes.
+    /// Adds the text as often as it is given, with the number in place of each `#`.
+    fn push_text(&self, alloc: Global, text: &str, into: &mut Vec<u8>) -> Result<(), AllocError> {
+        let Times {
+            from,
+            to,
+            is_numbered,
+        } = self.times.unwrap_or(ONCE);
+        let is_numbered = is_numbered && text.contains('#');
+        for number in u64::from(from)..u64::from(to).saturating_add(1) {
+            if is_numbered {
+                let number = format!(in alloc; "{number}")?;
+                let text = text.replace(alloc, '#', &number)?;
+                into.extend_from_slice(text.as_bytes())?;
+            } else {
+                into.extend_from_slice(text.as_bytes())?;
+            }
+        }
+        Ok(())
+    }
+
+    /// Adds the bytes as often as they are given.
+    fn push_bytes(&self, digits: &str, into: &mut Vec<u8>) -> Result<(), AllocError> {
+        let Times { from, to, .. } = self.times.unwrap_or(ONCE);
+        for _ in u64::from(from)..u64::from(to).saturating_add(1) {
+            push_digits(digits, into)?;
+        }
+        Ok(())
+    }
+
+    /// Adds all that is given to the bytes, each line with this end.
     pub(crate) fn push(
         &self,
         alloc: Global,
         line_end: &str,
         into: &mut Vec<u8>,
     ) -> Result<(), AllocError> {
-        let Some(
-            Times {
-                from,
-                to,
-                is_numbered,
-            },
-        ) = self.times
-        else {
-            return self.piece.push(line_end, into);
-        };
-        let is_numbered = is_numbered && self.piece.has_place();
-        for number in u64::from(from)..u64::from(to).saturating_add(1) {
-            if is_numbered {
-                self.piece.push_numbered(alloc, number, line_end, into)?;
-            } else {
-                self.piece.push(line_end, into)?;
+        match self.piece {
+            Piece::Line(text) => {
+                let line = format!(in alloc; "{text}{line_end}")?;
+                self.push_text(alloc, &line, into)
             }
+            Piece::Text(text) => self.push_text(alloc, text, into),
+            Piece::Bytes(digits) => self.push_bytes(digits, into),
         }
-        Ok(())
     }
 }
