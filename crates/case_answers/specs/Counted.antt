@@ -6,5 +6,5 @@ abbrev pub with_more : ℕ → ℕ → ℕ
 with_more count more = min (count + more) (2 ^ 64 - 1)
 
 -- the status of the program: 0 where there was a case and no fault
-abbrev pub ending_of : ℕ → ℕ → ℕ
-ending_of cases faults = if nat_lt 0 cases && (faults == 0) then 0 else 1
+abbrev pub status_for : ℕ → ℕ → ℕ
+status_for cases faults = if nat_lt 0 cases && (faults == 0) then 0 else 1

@@ -1,7 +1,7 @@
 //! What is found where answers are compared with those that cases expect.
 ghost use Rattle.std.specs.Prelude.{◌≡◌};
 ghost use Rattle.std.specs.Process.{exit_status};
-ghost use Rattle.case_answers.specs.Counted.{with_more, ending_of};
+ghost use Rattle.case_answers.specs.Counted.{with_more, status_for};
 
 use crate::case::{Case, CaseFile, Expected};
 use crate::differing::first_difference;
@@ -47,7 +47,7 @@ impl Findings {
 
     /// How the program ends: well only where there was a case, and nothing but what is expected.
     pub fn status(&self) -> ExitCode
-        ensures { exit_status result ≡ ending_of self.now.counts.cases self.now.counts.faults }
+        ensures { exit_status result ≡ status_for self.now.counts.cases self.now.counts.faults }
     {
         if self.counts.cases > 0 && self.counts.faults == 0 {
             ExitCode::SUCCESS
