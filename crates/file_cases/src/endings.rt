@@ -1,5 +1,5 @@
 //! How the program ends.
-use crate::answer::Answer;
+use crate::findings::Answer;
 use desk_endings::{Ended, Fault};
 use desk_words::Refusal;
 use std::alloc::{AllocError, Global};

@@ -3,9 +3,9 @@
 //! A small file is read in several ways: whole, a few bytes at a time, and with each read failing
 //! in turn. It has to spell the same however the bytes come, and a read that fails is told, whatever
 //! the file says.
-use crate::answer::Answer;
 use crate::case::FileKind;
 use crate::endings::ended_text;
+use crate::findings::Answer;
 use desk_devices::{FailAt, ShortReads, SliceSource};
 use desk_endings::Ended;
 use desk_papers::{FileFault, read_days, read_keys, read_register};

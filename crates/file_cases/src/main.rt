@@ -6,27 +6,28 @@
 //! where there is a case in each file and all is as expected.
 #![tactic(auto)]
 
-mod answer;
 mod case;
 mod endings;
 mod files;
+mod findings;
+mod given;
 mod words;
 
-use crate::answer::Answer;
-use crate::case::Question;
+use crate::case::{Case, Question, read_cases};
 use crate::endings::{fault_answer, refusal_answer, well_ended};
 use crate::files::file_answer;
+use crate::findings::{Answer, Findings};
+use crate::given::bytes_of;
 use crate::words::words_answer;
 use anyhow::{Context, Result};
-use case_answers::{Case, Findings, read_cases};
 use std::alloc::{AllocError, Global};
 use std::process::ExitCode;
 use std::{env, fs};
 
 /// What is answered to a case.
-fn answer_to(alloc: Global, case: &Case<Question>) -> Result<Answer, AllocError> {
-    let given = case.bytes(alloc, "\n")?;
-    match case.asked {
+fn answer_to(alloc: Global, case: &Case) -> Result<Answer, AllocError> {
+    let given = bytes_of(alloc, &case.given)?;
+    match case.question {
         Question::File(kind) => file_answer(alloc, kind, &given),
         Question::Words => words_answer(alloc, &given),
         Question::Fault(word) => fault_answer(alloc, word),
@@ -35,44 +36,27 @@ fn answer_to(alloc: Global, case: &Case<Question>) -> Result<Answer, AllocError>
     }
 }
 
-/// Counts a case, and tells what differs in its answer.
-fn compare(
-    alloc: Global,
-    findings: &mut Findings,
-    name: &str,
-    case: &Case<Question>,
-    answer: &Answer,
-) -> Result<(), AllocError> {
-    findings.count_case();
-    findings.count_others(answer.others);
-    if !case.whole.is_empty() {
-        findings.compare_whole(alloc, (name, case.line), &case.whole, &answer.text)?;
-    }
-    findings.compare_among(name, &case.among, &answer.text)?;
-    for what in &answer.other {
-        findings.tell(name, case.line, what)?;
-    }
-    Ok(())
-}
-
 /// Runs the cases of a file.
 fn run_file(alloc: Global, findings: &mut Findings, name: &str, text: &str) -> Result<()> {
-    let file = read_cases::<Question>(alloc, text)?;
-    findings.look_over(name, &file, "no case in the whole file")?;
-    findings.look_for_answers(name, &file.cases)?;
+    let file = read_cases(alloc, text)?;
+    findings.look_over(name, &file)?;
     for case in &file.cases {
         let answer = answer_to(alloc, case)?;
-        compare(alloc, findings, name, case, &answer)?;
+        findings.compare(alloc, name, case, &answer)?;
     }
     Ok(())
 }
 
 fn main(rt: HostRuntime) -> Result<ExitCode> {
-    let mut findings = Findings::new(rt.alloc(), Some("tries with other devices"));
+    let mut findings = Findings::new(rt.alloc());
     for name in env::args(&rt)?.skip(1) {
         let text = fs::read_to_string(&rt, &name).context(format_args!("reading {name}"))?;
         run_file(rt.alloc(), &mut findings, &name, &text).context(format_args!("running {name}"))?;
     }
     println!(rt; "{findings}")?;
-    Ok(findings.status())
+    Ok(if findings.is_all_expected() {
+        ExitCode::SUCCESS
+    } else {
+        ExitCode::FAILURE
+    })
 }

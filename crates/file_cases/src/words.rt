@@ -1,6 +1,6 @@
 //! What the words of the program ask.
-use crate::answer::Answer;
 use crate::endings::ended_text;
+use crate::findings::Answer;
 use desk_commands::{Plan, read_words};
 use desk_endings::Ended;
 use desk_words::{Moment, write_moment};

@@ -9,19 +9,22 @@
 mod answers;
 mod asked;
 mod case;
+mod findings;
+mod given;
 
 use crate::answers::{cut_answer, failing_answer, request_answer};
-use crate::case::Question;
+use crate::case::{Case, Question, read_cases};
+use crate::findings::Findings;
+use crate::given::bytes_of;
 use anyhow::{Context, Result};
-use case_answers::{Case, Findings, read_cases};
 use std::alloc::{AllocError, Global};
 use std::process::ExitCode;
 use std::{env, fs};
 
 /// What is answered to a case.
-fn answer_to(alloc: Global, case: &Case<Question>) -> Result<String, AllocError> {
-    let bytes = case.bytes(alloc, "\r\n")?;
-    match case.asked {
+fn answer_to(alloc: Global, case: &Case) -> Result<String, AllocError> {
+    let bytes = bytes_of(alloc, &case.given)?;
+    match case.question {
         Question::Request => request_answer(alloc, &bytes),
         Question::Cut => cut_answer(alloc, &bytes),
         Question::Failing => failing_answer(alloc, &bytes),
@@ -30,22 +33,25 @@ fn answer_to(alloc: Global, case: &Case<Question>) -> Result<String, AllocError>
 
 /// Runs the cases of a file.
 fn run_file(alloc: Global, findings: &mut Findings, name: &str, text: &str) -> Result<()> {
-    let file = read_cases::<Question>(alloc, text)?;
-    findings.look_over(name, &file, "no case in the whole file")?;
+    let file = read_cases(alloc, text)?;
+    findings.look_over(name, &file)?;
     for case in &file.cases {
         let answer = answer_to(alloc, case)?;
-        findings.count_case();
-        findings.compare_whole(alloc, (name, case.line), &case.whole, &answer)?;
+        findings.compare(alloc, name, case, &answer)?;
     }
     Ok(())
 }
 
 fn main(rt: HostRuntime) -> Result<ExitCode> {
-    let mut findings = Findings::new(rt.alloc(), None);
+    let mut findings = Findings::new(rt.alloc());
     for name in env::args(&rt)?.skip(1) {
         let text = fs::read_to_string(&rt, &name).context(format_args!("reading {name}"))?;
         run_file(rt.alloc(), &mut findings, &name, &text).context(format_args!("running {name}"))?;
     }
     println!(rt; "{findings}")?;
-    Ok(findings.status())
+    Ok(if findings.is_all_expected() {
+        ExitCode::SUCCESS
+    } else {
+        ExitCode::FAILURE
+    })
 }

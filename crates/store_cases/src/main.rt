@@ -14,6 +14,7 @@
 
 mod beside;
 mod case;
+mod findings;
 mod handed;
 mod office;
 mod printed;
@@ -21,38 +22,39 @@ mod reads;
 mod served;
 mod tables;
 
-use crate::case::Step;
+use crate::case::{Asked, read_case};
+use crate::findings::Findings;
 use crate::office::Office;
 use anyhow::{Context, Result};
-use case_answers::{Findings, read_cases};
 use std::alloc::Global;
 use std::process::ExitCode;
 use std::{env, fs};
 
-/// Runs the case that a file holds, step by step.
+/// Runs the case that a file holds.
 fn run_case(alloc: Global, findings: &mut Findings, name: &str, text: &str) -> Result<()> {
-    let file = read_cases::<Step>(alloc, text)?;
-    findings.count_case();
-    findings.look_over(name, &file, "no step in the whole file")?;
-    findings.look_for_answers(name, &file.cases)?;
+    let case = read_case(alloc, text)?;
+    findings.look_over(name, &case)?;
     let mut office = Office::new(alloc)?;
-    for step in &file.cases {
+    for step in &case.steps {
         let answer = match step.asked {
-            Step::Call(line) => office.call(line, true)?,
-            Step::Command(words) => office.command(words, &step.bytes(alloc, "\n")?)?,
+            Asked::Call(line) => office.call(line, true)?,
+            Asked::Command(words) => office.command(words, &step.file(alloc)?)?,
         };
-        findings.count_others(1);
-        findings.compare_whole(alloc, (name, step.line), &step.whole, &answer)?;
+        findings.compare(alloc, name, step, &answer)?;
     }
     Ok(())
 }
 
 fn main(rt: HostRuntime) -> Result<ExitCode> {
-    let mut findings = Findings::new(rt.alloc(), Some("answers"));
+    let mut findings = Findings::new(rt.alloc());
     for name in env::args(&rt)?.skip(1) {
         let text = fs::read_to_string(&rt, &name).context(format_args!("reading {name}"))?;
         run_case(rt.alloc(), &mut findings, &name, &text).context(format_args!("running {name}"))?;
     }
     println!(rt; "{findings}")?;
-    Ok(findings.status())
+    Ok(if findings.is_all_expected() {
+        ExitCode::SUCCESS
+    } else {
+        ExitCode::FAILURE
+    })
 }
