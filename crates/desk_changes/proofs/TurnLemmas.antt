@@ -117,7 +117,7 @@ module _ {S : Type 0} (g : store.Ghosts S) where
       → ((flat : FlatLists) → flat_in (state g a).now.trees ≡ Some flat → Changes its effect (state g a) (state g b) → flat_in (state g b).now.trees ≡ Some (change flat))
       → Rewrites {T = Unit {0}} g a b (Ok tt) any_records change
   turns_by a b n its effect change apart does commits flatly = record {
-    done = λ clean flat has good. let it = does clean has.inside has.desk in record { desk = it.desk; version = version_kept its.number (state g a) (state g b) apart it.others has.version; inside = it.inside; means = flatly flat has.means it };
+    done = λ clean flat has good. let it = does clean has.inside has.desk in record { desk = it.desk; version = version_kept its.number (state g a) (state g b) apart it.others has.version; inside = it.inside; sound = it.sound; means = flatly flat has.means it };
     kept = commits.kept;
     crash = commits.crash;
   }
@@ -131,8 +131,8 @@ module _ {S : Type 0} (g : store.Ghosts S) where
   writes_from a b r change turn turns next = record {
     written = λ clean office h can.
         let flat = bound (flat_in (state g a).now.trees) office_of_records office h.means in
-        on_ok r (turns.done clean flat.0 (record { desk = h.desk; version = h.version; inside = h.inside; means = flat.1 }) refl) (λ has.
-        record { desk = has.desk; version = has.version; inside = has.inside; means = ap (λ (o : Option FlatLists). o >>= office_of_records) has.means ∙ next flat.0 office (are_of flat.0 office flat.2) (possible office change can) });
+        on_ok r (turns.done clean flat.0 (record { desk = h.desk; version = h.version; inside = h.inside; sound = h.sound; means = flat.1 }) refl) (λ has.
+        record { desk = has.desk; version = has.version; inside = has.inside; sound = has.sound; means = ap (λ (o : Option FlatLists). o >>= office_of_records) has.means ∙ next flat.0 office (are_of flat.0 office flat.2) (possible office change can) });
     kept = turns.kept;
     crash = turns.crash;
   }
@@ -191,6 +191,7 @@ module _ {S : Type 0} (g : store.Ghosts S) where
             desk = it.desk;
             version = version_kept table.closed.number (state g b) (state g c) refl it.others mid.version;
             inside = it.inside;
+            sound = it.sound;
             means = table_changed (state g b) (state g c) (days_added days flat) mid.means Closed (λ was. was ++ day ∷ []) it
                 ∙ ap (λ l. Some (record flat { closed = l })) (append_assoc flat.closed days (day ∷ []));
           };

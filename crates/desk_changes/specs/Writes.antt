@@ -1,6 +1,7 @@
 -- What is ensured where a change is written into the tables.
 use Rattle.std.specs.Prelude.{◌≡◌, ℕ, suc, ◌==◌, Bool, true, List, [], ◌∷◌, ◌++◌, length, map, Some, Result, OnOk, IsTrue}
 use Rattle.sqlite.specs.declared.error.Error.{Error}
+use Rattle.sqlite.specs.Effect.{IsDatabase}
 use Rattle.sqlite.specs.Held.{Held, state}
 use Rattle.sqlite.specs.State.{State, HasCleanDisk, KeepsCommit, Survives}
 use Rattle.sqlite_trees.specs.declared.store.Store as store
@@ -16,11 +17,13 @@ use Rattle.desk_records.specs.Standing.{IsVersionOne}
 use Rattle.desk_schema.specs.Statements.{IsDesk}
 use Rattle.desk_words.specs.Changes.{after, can_make}
 
--- in a transaction the tables are those of a desk, of version 1, and they are this office
+-- in a transaction the tables are those of a desk, of version 1, listed as they are declared, and
+-- they are this office
 pub record StandsIn (office : OfficeLists) (s : State) : Type 0 where
   pub desk : IsDesk s
   pub version : IsVersionOne s
   pub inside : IsTrue s.in_transaction
+  pub sound : IsDatabase s.now
   pub means : office_in s.now.trees ≡ Some office
 
 -- what writing a change ensures of tables that are an office
@@ -37,11 +40,13 @@ pub record Writes {S T : Type 0} (g : store.Ghosts S) (old new : Held S) (result
 
 -- ---- statements one after another
 
--- in a transaction the tables are those of a desk, of version 1, and hold these records
+-- in a transaction the tables are those of a desk, of version 1, listed as they are declared, and
+-- hold these records
 pub record HoldsRecords (flat : FlatLists) (s : State) : Type 0 where
   pub desk : IsDesk s
   pub version : IsVersionOne s
   pub inside : IsTrue s.in_transaction
+  pub sound : IsDatabase s.now
   pub means : flat_in s.now.trees ≡ Some flat
 
 -- what statements ensure of tables whose records pass a test

@@ -2,6 +2,7 @@
 use Rattle.std.specs.Prelude.{◌≡◌, ◌≢◌, ℕ, Bool, false, ◌==◌, List, [], ◌∷◌, ◌++◌, map, filter, not, Option, Some, Result, OnOk, IsTrue}
 use Rattle.std.specs.List.{AllByRecursion, list_all, list_any}
 use Rattle.sqlite.specs.declared.error.Error.{Error}
+use Rattle.sqlite.specs.Effect.{IsDatabase}
 use Rattle.sqlite.specs.Order.{Row, column}
 use Rattle.sqlite.specs.Tree.{Trees}
 use Rattle.sqlite.specs.Table.{Table}
@@ -64,7 +65,8 @@ KeepsOthersIn layout changed old new =
     (number : ℕ) → IsTrue (has_table layout number) → number ≢ changed
     → new.now.trees number ≡ old.now.trees number
 
--- what the rows of a table mean is changed, and nothing else
+-- what the rows of a table mean is changed, and nothing else; the database lists its tables and
+-- obeys their declarations
 pub record ChangesIn {A : Type 0} (layout : Layout) (table : TableOf A) (change : List A → List A)
     (old new : State) : Type 0 where
   pub records : (was : List A)
@@ -73,6 +75,7 @@ pub record ChangesIn {A : Type 0} (layout : Layout) (table : TableOf A) (change 
   pub others : KeepsOthersIn layout table.number old new
   pub desk : IsDeskOf layout new
   pub inside : IsTrue new.in_transaction
+  pub sound : IsDatabase new.now
 
 -- where a statement is answered in a transaction over the tables of a desk, and the disk returned
 -- what was written, this is what it did

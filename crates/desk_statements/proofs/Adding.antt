@@ -1,6 +1,7 @@
 -- What INSERT of one row does to the tables of a desk.
 use Rattle.std.proofs.Common.{◌≡◌, ℕ, suc, ℤ, List, [], ◌∷◌, ◌++◌, map, length, drop, slice_get, if◌then◌else◌, Bool, true, false, Some, Ok, Err, Result, OnOk, IsTrue, refl, sym, ap, subst, ◌∙◌}
 use Rattle.sqlite.specs.declared.types.Value.TheVariants.{Null, Int}
+use Rattle.sqlite.specs.Effect.{IsDatabase}
 use Rattle.sqlite.specs.Order.{Row}
 use Rattle.sqlite.specs.Term.{Term, lit, col}
 use Rattle.sqlite.specs.Table.{Table}
@@ -29,6 +30,7 @@ pub record AddsRow (layout : Layout) (number : ℕ) (cells : Row) (old new : Sta
   pub others : KeepsOthersIn layout number old new
   pub desk : IsDeskOf layout new
   pub inside : IsTrue new.in_transaction
+  pub sound : IsDatabase new.now
 
 -- a row with no number of its own gets the next, and stands last
 placed : (counts : Bool) (last : ℤ) (rows : List Row) (cells : Row) → IsRising rows
@@ -57,7 +59,7 @@ module _ {layout : Layout} (apart : AreApart layout) (at : ℕ) (table : Table) 
       i.kept apart.counts apart.counted k it listed uncounted ∙ untouched layout.schema db i.mid (insert_edit db table i.counter (rows_of_values table params width terms)) i.put k it listed other) in
       let last_is = put_last row (db table.tree) (below_chosen table.is_counted last (db table.tree) up) in
       let rises : IsRising (new.now.trees table.tree) = subst IsRising (sym (mine ∙ sym last_is)) (IsShaped-put_row row (db table.tree) refl up) in
-      record { id = id; rows = mine; others = kept; desk = still_desk table.tree old new was i.same_schema kept rises; inside = w.shown.mode ∙ inside }
+      record { id = id; rows = mine; others = kept; desk = still_desk table.tree old new was i.same_schema kept rises; inside = w.shown.mode ∙ inside; sound = w.sound }
 
 -- a row with a number of its own, above the others, keeps it and stands last
 placed_so : (counts : Bool) (last : ℤ) (rows : List Row) (id : ℤ) (cells : Row) → AllByRecursion (IsBelow id) rows
@@ -84,7 +86,7 @@ module _ {layout : Layout} (apart : AreApart layout) (at : ℕ) (table : Table) 
       let kept = by_number apart table.tree old new (λ k it listed uncounted other.
       i.kept apart.counts apart.counted k it listed uncounted ∙ untouched layout.schema db i.mid (insert_edit db table i.counter (rows_of_values table params width terms)) i.put k it listed other) in
       let rises : IsRising (new.now.trees table.tree) = subst IsRising (sym (mine ∙ sym (put_last row (db table.tree) below))) (IsShaped-put_row row (db table.tree) refl (was.rising table.tree numbered_so)) in
-      (record { id = id; rows = mine; others = kept; desk = still_desk table.tree old new was i.same_schema kept rises; inside = w.shown.mode ∙ inside }, refl)
+      (record { id = id; rows = mine; others = kept; desk = still_desk table.tree old new was i.same_schema kept rises; inside = w.shown.mode ∙ inside; sound = w.sound }, refl)
 
 -- what the new row means is added to what the rows mean
 pub means_more : {A : Type 0} {layout : Layout} (it : TableOf A) (cells : Row) (added : A) (old new : State) (h : AddsRow layout it.number cells old new) → it.means (columns_of it (Int h.id ∷ cells)) ≡ Some added → ChangesIn layout it (λ was. was ++ added ∷ []) old new
@@ -93,6 +95,7 @@ means_more it cells added old new h means = record {
   others = h.others;
   desk = h.desk;
   inside = h.inside;
+  sound = h.sound;
 }
 
 pub adds : {A : Type 0} (layout : Layout) (it : TableOf A) (cells : Row) (added : A) (old new : State) (r : Result ℕ Error) → OnOk r (AddsRow layout it.number cells old new)

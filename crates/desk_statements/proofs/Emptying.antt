@@ -1,5 +1,6 @@
 -- What DELETE does to the tables of a desk.
 use Rattle.std.proofs.Common.{◌≡◌, ℕ, List, [], ◌∷◌, filter, map, slice_get, Bool, true, false, not, cond, Some, None, Ok, Err, Result, OnOk, IsTrue, refl, sym, subst, ◌∙◌}
+use Rattle.sqlite.specs.Effect.{IsDatabase}
 use Rattle.sqlite.specs.Order.{Row}
 use Rattle.sqlite.specs.Term.{Term}
 use Rattle.sqlite.specs.Table.{Table}
@@ -23,6 +24,7 @@ pub record LeavesRows (layout : Layout) (number : ℕ) (left : Row → Bool) (ol
   pub others : KeepsOthersIn layout number old new
   pub desk : IsDeskOf layout new
   pub inside : IsTrue new.in_transaction
+  pub sound : IsDatabase new.now
 
 module _ {layout : Layout} (apart : AreApart layout) (at : ℕ) (table : Table) (tests : List Term) (text : List ℕ) (params : Row)
     (is : command_of (understood layout.schema text) ≡ Delete at (record { lets = []; body = chosen table.tree tests })) (plain : IsPlain (understood layout.schema text))
@@ -41,6 +43,7 @@ module _ {layout : Layout} (apart : AreApart layout) (at : ℕ) (table : Table) 
         others = kept;
         desk = still_desk table.tree old new was d.same_schema kept (subst IsRising (sym d.left) (IsShaped-filter shape.Table (λ row. not (passes tests params row)) (old.now.trees table.tree) up));
         inside = w.shown.mode ∙ inside;
+        sound = w.sound;
       }
 
 none_left : (rows : List Row) → filter (λ row. false) rows ≡ []
@@ -55,6 +58,7 @@ empties layout it old new (Ok count) h = record {
   others = h.others;
   desk = h.desk;
   inside = h.inside;
+  sound = h.sound;
 }
 
 -- where a row is chosen exactly where its record passes, the records that pass are taken out
@@ -82,4 +86,5 @@ module _ {A : Type 0} (it : TableOf A) (chooses : Row → Bool) (test : A → Bo
     others = h.others;
     desk = h.desk;
     inside = h.inside;
+    sound = h.sound;
   }

@@ -16,7 +16,7 @@ use Rattle.sqlite.specs.Rowids.TheVariants.{Given}
 use Rattle.sqlite.specs.Command.TheVariants.{Update}
 use Rattle.sqlite.specs.Does.{Tally, Does}
 use Rattle.sqlite.specs.Rows.{Written}
-use Rattle.sqlite.specs.Effect.{Database}
+use Rattle.sqlite.specs.Effect.{Database, IsDatabase}
 use Rattle.sqlite.specs.declared.error.Error.{Error}
 use Rattle.sqlite.specs.Listing.{understood}
 use Rattle.sqlite.specs.State.{State, mode_of, ExecutesInside}
@@ -141,6 +141,7 @@ pub record ChangesRows (layout : Layout) (number : ℕ) (change : Row → Row) (
   pub others : KeepsOthersIn layout number old new
   pub desk : IsDeskOf layout new
   pub inside : IsTrue new.in_transaction
+  pub sound : IsDatabase new.now
 
 module _ {layout : Layout} (apart : AreApart layout) (at : ℕ) (table : Table) (tests new : List Term) (text : List ℕ) (params : Row)
     (is : command_of (understood layout.schema text) ≡ Update at (record { lets = []; body = picked table.tree tests new })) (plain : IsPlain (understood layout.schema text))
@@ -175,6 +176,7 @@ module _ {layout : Layout} (apart : AreApart layout) (at : ℕ) (table : Table) 
         others = kept;
         desk = still_desk table.tree old now was (ap (λ (d : Database). d.schema) now_is) kept (subst IsRising (sym rows) (still_table table tests new params keeps db up.0 up.1, still_keyed table tests new params keeps db up.1));
         inside = w.shown.mode ∙ inside;
+        sound = w.sound;
       }
 
 -- where each row's record is changed so, what the rows mean is changed so
@@ -192,4 +194,5 @@ module _ {A : Type 0} (it : TableOf A) (change : Row → Row) (set : A → A) (s
     others = h.others;
     desk = h.desk;
     inside = h.inside;
+    sound = h.sound;
   }
