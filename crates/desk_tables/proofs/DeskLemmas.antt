@@ -1,6 +1,7 @@
 -- What the statements on `desk` do.
 use Rattle.std.proofs.Common.{◌≡◌, ℕ, pos, List, [], ◌∷◌, codes, false, Some, Ok, Err, Result, OnOk, IfOk, IfErr, IsTrue, ◌⊎◌, refl, subst}
 use Rattle.sqlite.specs.declared.types.Value.TheVariants.{Null, Int}
+use Rattle.sqlite.specs.Held.{Held, state}
 use Rattle.sqlite.specs.Order.{Row}
 use Rattle.sqlite.specs.Term.{Term, lit}
 use Rattle.sqlite.specs.Source.TheVariants.{Values}
@@ -17,7 +18,8 @@ use Rattle.sqlite_resolve.specs.declared.compiled.Compiled.{Compiled}
 use Rattle.sqlite_resolve.specs.declared.error.CompileError.{CompileError}
 use Rattle.sqlite_schema.specs.declared.schema.Index.{Index}
 use Rattle.sqlite_schema.specs.declared.schema.View.{View as Stored}
-use Rattle.desk_tables.specs.Versions.{IsAnsweredBy, AreNoted, NotesVersion, beside_desk, version_text}
+use Rattle.sqlite_trees.specs.declared.store.Store as store
+use Rattle.desk_tables.specs.Versions.{IsAnsweredBy, AreNoted, NotesVersion, ShowsVersions, beside_desk, version_text}
 use Rattle.desk_rows.specs.Columns.{number_in}
 use Rattle.desk_rows.specs.Office.{version_in}
 use Rattle.desk_statements.proofs.GivenNumbers.{none_below}
@@ -106,3 +108,8 @@ reads items old new (Ok v) was h =
 pub reads_keeps : {V : Type 0} (items : V → List Row) (old new : State) (r : Result V Error) → NotesVersion old.now.schema → IfOk r (λ v. Shown version_text [] old new (items v))
     → IfErr r (λ e. FailsToQuery version_text [] old new e ⊎ IsTooLate version_text [] old new e) → KeepsCommit old new
 reads_keeps items old new r noted = query_keeps items version_text [] old new old.now.schema noted.plain r refl
+
+-- what is answered is what the text shows, whatever the tables are
+pub shows : {S V : Type 0} (g : store.Ghosts S) (old new : Held S) (items : V → List Row) (r : Result V Error) → IfOk r (λ v. Shown version_text [] (state g old) (state g new) (items v)) → IfOk r (λ v. ShowsVersions g (state g old).now (items v))
+shows g old new items (Err e) h = tt
+shows g old new items (Ok v) h = (old, new, refl, h)

@@ -3,15 +3,17 @@ use Rattle.std.specs.Prelude.{◌≡◌, ℕ, ◌==◌, false, List, [], ◌∷�
 use Rattle.std.specs.List.{list_any}
 use Rattle.sqlite.specs.Effect.{Database, Reads as Shows}
 use Rattle.sqlite.specs.Given.{IsPlain}
+use Rattle.sqlite.specs.Held.{Held, state}
 use Rattle.sqlite.specs.Listing.{reads_listing, understood}
 use Rattle.sqlite.specs.Order.{Row}
 use Rattle.sqlite.specs.Schema.{Schema}
-use Rattle.sqlite.specs.State.{State}
+use Rattle.sqlite.specs.State.{Shown, State}
 use Rattle.sqlite.specs.Table.{Table}
 use Rattle.sqlite_resolve.specs.declared.compiled.Compiled.{Compiled}
 use Rattle.sqlite_resolve.specs.declared.error.CompileError.{CompileError}
 use Rattle.sqlite_schema.specs.declared.schema.Index.{Index}
 use Rattle.sqlite_schema.specs.declared.schema.View.{View as Stored}
+use Rattle.sqlite_trees.specs.declared.store.Store as store
 use Rattle.desk_schema.specs.Contents.{desk}
 use Rattle.desk_schema.specs.Statements.{IsRising, table_rows}
 use Rattle.desk_schema.specs.Tables.{desk_table}
@@ -20,6 +22,13 @@ use Rattle.desk_schema.specs.Texts.{listing_text}
 -- the text that reads the version of the tables
 abbrev pub version_text : List ℕ
 version_text = listing_text desk_table
+
+-- a connection to this database answers the text that reads the version with these rows, so the
+-- database understands it, whatever its tables are
+abbrev pub ShowsVersions : {S : Type 0} → store.Ghosts S → Database → List Row → Type 0
+ShowsVersions {S} g db rows =
+    (before after : Held S) × ((state g before).now ≡ db)
+    × Shown version_text [] (state g before) (state g after) rows
 
 -- these rows answer a statement, as it is understood
 abbrev pub IsAnsweredBy : Result Compiled CompileError → Database → List Row → Type 0

@@ -5,6 +5,7 @@ ghost use Rattle.desk_schema.specs.Statements.{AddsFirst, CommitsNothing, Does, 
 ghost use Rattle.desk_schema.specs.Statements.{WasOpen};
 ghost use Rattle.desk_schema.specs.Tables.{no_schema, up_to_desk};
 ghost use Rattle.desk_tables.specs.Versions.{AreNoted, FirstTableNotes, NotesVersion};
+ghost use Rattle.desk_tables.specs.Versions.{ShowsVersions};
 ghost use Rattle.sqlite.specs.Held.{state};
 ghost use Rattle.sqlite.specs.State.{HasCleanDisk, KeepsCommit, Survives};
 
@@ -32,12 +33,15 @@ pub fn add<S: Alter>(tx: &mut Transaction<'_, S>) -> Result<usize, Error>
     tx.execute("INSERT INTO desk (one, version) VALUES (1, 1)", &[])
 }
 
-/// The rows, of which there is one, of tables of any version.
+/// The rows, of which there is one, of tables of any version. Whatever the tables are, the rows are
+/// those that the text which reads the version shows.
 pub fn all<S: Alter>(tx: &mut Transaction<'_, S>) -> Result<Vec<Row>, Error>
     ensures same_reference { tx.new.conn.ghost_name ≡ tx.old.conn.ghost_name }
     ensures rows { HasCleanDisk (state S.Store tx.new.conn.now)
         → AreNoted (state S.Store tx.old.conn.now) → IfOk result (λ rows.
         ReadsTable S.Store tx.old.conn.now tx.new.conn.now desk rows.items) }
+    ensures shown { HasCleanDisk (state S.Store tx.new.conn.now) → IfOk result (λ rows.
+        ShowsVersions S.Store (state S.Store tx.old.conn.now).now rows.items) }
     ensures kept { HasCleanDisk (state S.Store tx.new.conn.now)
         → NotesVersion (state S.Store tx.old.conn.now).now.schema
         → KeepsCommit (state S.Store tx.old.conn.now) (state S.Store tx.new.conn.now) }

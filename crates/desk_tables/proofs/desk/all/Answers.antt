@@ -1,6 +1,6 @@
 use Rattle.sqlite.specs.Held.{state}
 use Rattle.desk_statements.proofs.Commits.{query_opened}
-use Rattle.desk_tables.proofs.DeskLemmas.{reads, reads_keeps}
+use Rattle.desk_tables.proofs.DeskLemmas.{reads, reads_keeps, shows}
 use Rattle.desk_tables.proofs.desk.all.Goals as goal
 
 pub returns-clause-rows : goal.returns-clause-rows
@@ -14,3 +14,6 @@ returns-clause-kept g c = λ clean noted.
 pub returns-clause-was_open : goal.returns-clause-was_open
 returns-clause-was_open g c = λ clean is_open.
     query_opened (λ v. v.items) _ _ (state g.S.Store c.args.tx.now.conn.now) (state g.S.Store c.query_all.new.self.conn.now) c.query_all.result (c.query_all.ensures.ok clean) (c.query_all.ensures.err clean) is_open
+
+pub returns-clause-shown : goal.returns-clause-shown
+returns-clause-shown g c = λ clean. shows g.S.Store c.args.tx.now.conn.now c.query_all.new.self.conn.now (λ v. v.items) c.query_all.result (c.query_all.ensures.ok clean)
