@@ -1,68 +1,21 @@
 -- The runs of the shares that an appointment governs.
-use Rattle.std.proofs.Common.{◌≡◌, ℕ, suc, ◌+◌, ◌<◌, ◌≤◌, Bool, true, false, cond, List, [], ◌∷◌, ◌++◌, Vec, Global, refl, sym, ap, ◌∙◌, arith}
-use Rattle.std.specs.Prelude.{◌↔◌, ◌&&◌, ◌||◌, ◌==◌, nat_le, Option, Some, None, All, IsTrue, filter, find, fold, option_map, option_and_then, reverse}
+use Rattle.std.proofs.Common.{◌≡◌, ℕ, Bool, true, false, cond, List, [], ◌∷◌, ◌++◌, refl, sym, ap, ◌∙◌}
+use Rattle.std.specs.Prelude.{◌↔◌, ◌&&◌, ◌||◌, ◌==◌, Option, Some, None, IsTrue, filter, find, option_map, option_and_then, reverse}
 use Rattle.std.specs.List.{list_any}
-use Rattle.std.specs.Option.{option_map_or, option_or, unwrap_or}
-use Rattle.std.proofs.lemmas.Bool.{eq-eqb, eqb-true, and_from, le-leb}
+use Rattle.std.specs.Option.{option_map_or, option_or}
+use Rattle.std.proofs.lemmas.Bool.{eq-eqb, eqb-true}
 use Rattle.std.proofs.lemmas.List.{reverse-append}
-use Rattle.std.proofs.lemmas.List.Elements.{All-head, All-tail, filter-append}
+use Rattle.std.proofs.lemmas.List.Elements.{filter-append}
 use Rattle.std.proofs.lemmas.List.Folds.{find-append, list_any-append}
 use Rattle.desk_lists.proofs.Booleans.{neither_first, neither_second}
-use Rattle.desk_terms.specs.Places.{Places}
 use Rattle.desk_words.specs.declared.records.Appointment.{Appointment}
 use Rattle.desk_words.specs.declared.records.Ending.{Ending}
 use Rattle.proxy_rules.specs.declared.holdings.Holding.{Holding}
-use Rattle.proxy_rules.specs.declared.papers.Cutoffs.{Cutoffs}
-use Rattle.proxy_rules.specs.declared.pieces.GovernedPiece.{GovernedPiece}
-use Rattle.proxy_rules.specs.Governing.{ends, governed_in, governs, has_share, is_ended, is_over, last_over, unended}
+use Rattle.proxy_rules.specs.Governing.{ends, governs, has_share, is_ended, is_over, last_over, unended}
 use Rattle.proxy_rules.specs.Holdings.{holding_of, is_ended_of}
 use Rattle.proxy_rules.specs.Laws.{EarlierTakeNothing, EndingsReviveNothing, RunsHoldWhatGoverns, has_number}
-use Rattle.proxy_rules.specs.Runs.{joined, runs_that}
-use Rattle.proxy_rules.specs.Tagging.{with_piece}
-use Rattle.proxy_rules.specs.Tiles.{ArePieces, IsGoverned, governing_of, are_tiled, governed_ranges}
-use Rattle.proxy_rules.proofs.RunLemmas.{are_in-runs_that, runs_that-stretch}
-use Rattle.proxy_rules.proofs.TileLemmas.{tiled}
-
--- ---- the runs that a look-up finds
-
--- the runs that are found, and none where nothing is
-abbrev pub runs_in : Option (Vec Places Global) → List Places
-runs_in found = option_map_or (λ (runs : Vec Places Global). runs.items) found []
-
--- a list that stands for nothing holds nothing
-pub runs_in-or : (found : Option (Vec Places Global)) (new : Vec Places Global) → new.items ≡ [] → (unwrap_or found new).items ≡ runs_in found
-runs_in-or None new none = none
-runs_in-or (Some runs) new none = refl
-
--- ---- the runs of pieces
-
-module _ (cutoffs : Cutoffs) (holding : Holding) (number : ℕ) where
-  abbrev test : ℕ → Bool
-  test place = governs cutoffs holding number place
-
-  one_piece : (n : ℕ) (piece : GovernedPiece) → piece.range.from ≡ n + 1 → n + 1 ≤ piece.range.to → IsGoverned cutoffs holding piece
-      → with_piece holding number (runs_that test n) piece ≡ runs_that test piece.range.to
-  one_piece n piece begins within governed =
-      let by = option_map_or (λ (a : Appointment). a.number == number) (governing_of holding piece) false in
-      let up : n < piece.range.to = omega arith in
-      let from : piece.range.from ≡ suc n = omega arith in
-      let stretch = runs_that-stretch test by n piece.range.to up
-      (λ place low high. ap (λ o. option_map_or (λ (a : Appointment). a.number == number) o false)
-      (governed place (and_from (nat_le piece.range.from place) (nat_le place piece.range.to) (le-leb piece.range.from place (omega (arith, begins))) (le-leb place piece.range.to high)))) in
-      ap (λ first. cond by (joined (runs_that test n) (record { from = first; to = piece.range.to })) (runs_that test n)) from
-      ∙ sym stretch
-
-  runs_from : (n : ℕ) (pieces : List GovernedPiece) (last : ℕ) → are_tiled (n + 1) (governed_ranges pieces) last ≡ true → All (IsGoverned cutoffs holding) pieces
-      → fold (with_piece holding number) (runs_that test n) pieces ≡ runs_that test last
-  runs_from n [] last all governed = let e : n + 1 ≡ last + 1 = eqb-true (n + 1) (last + 1) all in let same : n ≡ last = omega arith in ap (runs_that test) same
-  runs_from n (piece ∷ pieces) last all governed =
-      let t = tiled (n + 1) piece.range (governed_ranges pieces) last all in
-      ap (λ runs. fold (with_piece holding number) runs pieces) (one_piece n piece t.begins t.within (All-head (IsGoverned cutoffs holding) piece pieces governed))
-      ∙ runs_from piece.range.to pieces last t.rest (All-tail (IsGoverned cutoffs holding) piece pieces governed)
-
-  -- the runs of the pieces that an appointment governs are those of the shares that it governs
-  pub runs_of-pieces : (pieces : List GovernedPiece) → ArePieces cutoffs holding pieces → fold (with_piece holding number) [] pieces ≡ governed_in cutoffs holding number
-  runs_of-pieces pieces are = runs_from 0 pieces holding.shares are.tiled are.governed
+use Rattle.proxy_rules.specs.Runs.{runs_that}
+use Rattle.proxy_rules.proofs.RunLemmas.{are_in-runs_that}
 
 -- ---- the runs that an appointment governs, place by place
 

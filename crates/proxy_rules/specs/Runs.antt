@@ -1,9 +1,5 @@
 -- Runs of places: places that stand together, from the first of them to the last.
-use Rattle.std.specs.Prelude.{ℕ, zero, suc, ◌+◌, ◌==◌, Bool, true, ◌&&◌, nat_le, nat_lt, List, [], ◌∷◌, Vec, if◌then◌else◌}
-use Rattle.std.specs.BTreeMap.{BTreeMap, get}
-use Rattle.std.specs.Option.{option_map_or}
-use Rattle.std.specs.Ordering.{nat_cmp}
-use Rattle.std.specs.declared.alloc.Global.{Global}
+use Rattle.std.specs.Prelude.{ℕ, zero, suc, ◌+◌, ◌==◌, Bool, true, ◌&&◌, nat_le, nat_lt, List, [], ◌∷◌, if◌then◌else◌}
 use Rattle.desk_terms.specs.Places.{Places}
 use Rattle.desk_words.specs.Seen.{Place}
 
@@ -30,8 +26,3 @@ are_parted [] = true
 are_parted (run ∷ []) = nat_le run.from run.to
 are_parted (first ∷ second ∷ runs) =
     nat_le first.from first.to && nat_lt (first.to + 1) second.from && are_parted (second ∷ runs)
-
--- the runs that a map keeps for a number, and none where it keeps nothing
-abbrev pub runs_at : BTreeMap ℕ (Vec Places Global) → ℕ → List Places
-runs_at runs number =
-    option_map_or (λ (own : Vec Places Global). own.items) (get nat_cmp runs number) []

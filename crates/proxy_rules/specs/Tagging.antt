@@ -1,17 +1,13 @@
 -- A holding's appointments as covers of its places, each under the tag of its number. For private
 -- contracts.
-use Rattle.std.specs.Prelude.{ℕ, ◌-◌, ◌==◌, Bool, false, nat_le, nat_lt, min, List, find, Option, Some, None, option_map, option_and_then, if◌then◌else◌}
+use Rattle.std.specs.Prelude.{ℕ, ◌-◌, Bool, nat_le, nat_lt, min, List, find, Option, Some, None, option_map, option_and_then, if◌then◌else◌}
 use Rattle.std.specs.List.{filter_map}
-use Rattle.std.specs.Option.{option_map_or}
 use Rattle.desk_terms.specs.Places.{Places, range_of}
 use Rattle.desk_words.specs.Seen.{Place}
 use Rattle.desk_words.specs.declared.records.Appointment.{Appointment}
 use Rattle.desk_words.specs.declared.records.Ending.{Ending}
-use Rattle.proxy_rules.specs.declared.holdings.Holding.{Holding}
 use Rattle.proxy_rules.specs.declared.papers.Cutoffs.{Cutoffs}
 use Rattle.proxy_rules.specs.declared.pieces.GovernedPiece.{GovernedPiece}
-use Rattle.proxy_rules.specs.Runs.{joined}
-use Rattle.proxy_rules.specs.Tiles.{governing_of}
 use Rattle.share_blocks.specs.Covers.{Cover}
 use Rattle.share_blocks.specs.Pieces.{Piece, tags_at}
 use Rattle.share_blocks.specs.Tags.{Tag, tag_of}
@@ -54,15 +50,3 @@ piece_by held tag =
 abbrev pub piece_over : (Tag → Bool) → (Tag → Bool) → List Piece → ℕ → Places → Option GovernedPiece
 piece_over test is_ended pieces shares range =
     piece_by (held_of shares range) (tag_over test is_ended pieces range.from)
-
--- the runs of a number, with a range behind them where its appointment governs that
-abbrev pub with_range : Option Appointment → Places → ℕ → List Places → List Places
-with_range by range number runs =
-    if option_map_or (λ (a : Appointment). a.number == number) by false
-    then joined runs range
-    else runs
-
--- the runs of a number, with a piece behind them where its appointment governs that
-abbrev pub with_piece : Holding → ℕ → List Places → GovernedPiece → List Places
-with_piece holding number runs piece =
-    with_range (governing_of holding piece) piece.range number runs

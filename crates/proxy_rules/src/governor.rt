@@ -1,14 +1,14 @@
 //! Which appointment of a proxy governs a share.
-ghost use Rattle.std.specs.Prelude.{◌≡◌, false, filter, find, nat_le, option_and_then, reverse};
-ghost use Rattle.std.specs.List.{list_any, slice_get};
-ghost use Rattle.std.specs.Option.{option_copied, option_map_or};
+ghost use Rattle.std.specs.Prelude.{◌≡◌, ◌&&◌, filter, find, nat_le, reverse};
+ghost use Rattle.std.specs.List.{list_any};
+ghost use Rattle.std.specs.Option.{option_copied};
 ghost use Rattle.proxy_rules.specs.Governing.{ends, governing_number, is_over};
 ghost use Rattle.proxy_rules.specs.Holdings.{holding_of, is_ended_of, is_given_by};
 ghost use Rattle.proxy_rules.specs.Shares.{is_share, row_of, shares_by};
 
 use crate::papers::{Cutoffs, Papers};
 use crate::rows::shares;
-use desk_words::{Appointment, Ending, Filed, Party, RegisterRow};
+use desk_words::{Appointment, Ending, Party, RegisterRow};
 
 /// Whether an appointment was received in time to count (section 327).
 pub(crate) fn counts(appointment: &Appointment, cutoffs: &Cutoffs) -> bool
@@ -24,57 +24,25 @@ pub(crate) fn is_over(appointment: &Appointment, cutoffs: &Cutoffs, place: u64) 
     counts(appointment, cutoffs) && appointment.range.has(place)
 }
 
-/// Whether there is an appointment at the index, and it is over the place.
-fn is_over_at(appointments: &[Appointment], index: usize, cutoffs: &Cutoffs, place: u64) -> bool
-    ensures { result
-        ≡ option_map_or (is_over cutoffs.now place) (slice_get appointments.now index) false }
-{
-    match appointments.get(index) {
-        Some(appointment) => is_over(appointment, cutoffs, place),
-        None => false,
-    }
-}
-
-/// The last of the indices at which there is an appointment over the place.
-fn index_over(
-    appointments: &[Appointment],
-    indices: &[usize],
-    cutoffs: &Cutoffs,
-    place: u64,
-) -> Option<usize>
-    ensures { result
-        ≡ find
-        (λ index. option_map_or (is_over cutoffs.now place) (slice_get appointments.now index)
-        false)
-        (reverse indices.now) }
-{
-    indices
-        .iter()
-        .rev()
-        .copied()
-        .find(|index| is_over_at(appointments, *index, cutoffs, place))
-}
-
-/// The last of the appointments at the indices that is over the place.
-fn last_at<'a>(
+/// The last of the appointments that is the member's and over the place.
+fn last_own_over<'a>(
     appointments: &'a [Appointment],
-    indices: &[usize],
+    member: Party,
     cutoffs: &Cutoffs,
     place: u64,
 ) -> Option<&'a Appointment>
     ensures { option_copied result
-        ≡ option_and_then (slice_get appointments.now)
-        (find
-        (λ index. option_map_or (is_over cutoffs.now place)
-        (slice_get appointments.now index) false)
-        (reverse indices.now)) }
+        ≡ find (λ a. is_given_by member a && is_over cutoffs.now place a)
+        (reverse appointments.now) }
 {
-    appointments.get(index_over(appointments, indices, cutoffs, place)?)
+    appointments.iter().rev().find(|appointment| appointment.member.is(member)
+        && is_over(appointment, cutoffs, place))
 }
 
 /// The last of the member's appointments that is over the place.
+#[tactic(auto, using(crate::proofs::ListLemmas::last_kept))]
 fn last_over<'a>(
-    appointments: &'a Filed<Appointment>,
+    appointments: &'a [Appointment],
     member: Party,
     cutoffs: &Cutoffs,
     place: u64,
@@ -83,8 +51,7 @@ fn last_over<'a>(
         ≡ find (is_over cutoffs.now place)
         (reverse (filter (is_given_by member) appointments.now)) }
 {
-    let indices = appointments.places_by_first(member);
-    last_at(appointments.as_slice(), indices, cutoffs, place)
+    last_own_over(appointments, member, cutoffs, place)
 }
 
 /// Whether an ending names the appointment of that number, in time to count.
@@ -94,35 +61,15 @@ pub(crate) fn ends(ending: &Ending, cutoffs: &Cutoffs, number: u64) -> bool
     ending.number == number && ending.moment < cutoffs.endings
 }
 
-/// Whether there is an ending at the index, and it names the number, in time to count.
-fn ends_at(endings: &[Ending], index: usize, cutoffs: &Cutoffs, number: u64) -> bool
-    ensures { result ≡ option_map_or (ends cutoffs.now number) (slice_get endings.now index) false }
-{
-    match endings.get(index) {
-        Some(ending) => ends(ending, cutoffs, number),
-        None => false,
-    }
-}
-
-/// Whether one of the endings at the indices names the number, in time to count.
-fn any_ends(endings: &[Ending], indices: &[usize], cutoffs: &Cutoffs, number: u64) -> bool
-    ensures { result
-        ≡ list_any
-        (λ index. option_map_or (ends cutoffs.now number) (slice_get endings.now index) false)
-        indices.now }
-{
-    indices
-        .iter()
-        .any(|index| ends_at(endings, *index, cutoffs, number))
-}
-
 /// Whether a counted ending of the member's names the number.
-fn is_ended(endings: &Filed<Ending>, member: Party, cutoffs: &Cutoffs, number: u64) -> bool
+fn is_ended(endings: &[Ending], member: Party, cutoffs: &Cutoffs, number: u64) -> bool
     ensures { result
         ≡ list_any (ends cutoffs.now number) (filter (is_ended_of member) endings.now) }
 {
-    let indices = endings.places_by_first(member);
-    any_ends(endings.as_slice(), indices, cutoffs, number)
+    endings
+        .iter()
+        .filter(|ending| ending.member.is(member))
+        .any(|ending| ends(ending, cutoffs, number))
 }
 
 /// The member's row.
@@ -156,8 +103,8 @@ fn is_share(register: &[RegisterRow], member: Party, place: u64) -> bool
 /// was received before `cutoffs.endings`. The last received of the counted appointments that hold
 /// the place governs the share, unless a counted ending names it: then none does, since what it
 /// replaced is not revived. What is no place of the holding is governed by none, and treasury
-/// shares are no shares here. It looks at the member's own appointments and endings, and takes no
-/// memory.
+/// shares are no shares here. It goes over all appointments and endings, and takes no memory. No
+/// request asks it: a count takes the pieces of a holding, and a reply the runs of an appointment.
 pub fn governing(cutoffs: &Cutoffs, papers: &Papers, member: Party, place: u64) -> Option<u64>
     ensures { result
         ≡ governing_number cutoffs.now
@@ -168,8 +115,8 @@ pub fn governing(cutoffs: &Cutoffs, papers: &Papers, member: Party, place: u64) 
     if !is_share(papers.register, member, place) {
         return None;
     }
-    let last = last_over(papers.appointments, member, cutoffs, place)?;
-    if is_ended(papers.endings, member, cutoffs, last.number) {
+    let last = last_over(papers.appointments.as_slice(), member, cutoffs, place)?;
+    if is_ended(papers.endings.as_slice(), member, cutoffs, last.number) {
         None
     } else {
         Some(last.number)

@@ -22,4 +22,4 @@ pub use instructions::{allows, instructed_on};
 pub use papers::{Cutoffs, Papers};
 pub use pieces::{GovernedPiece, held};
 pub use rows::{find_row, shares};
-pub use runs::{governed, runs_by_number};
+pub use runs::governed;

@@ -158,8 +158,20 @@ impl Holding {
         requires { IsKept self.now }
         ensures { IfOk result (λ pieces. ArePieces cutoffs.now self.now pieces.items) }
     {
+        self.pieces_by::<PlainBlocks>(alloc, cutoffs)
+    }
+
+    /// The same, found over blocks of the kind that is asked for. The error is want of memory.
+    pub fn pieces_by<B: Blocks>(
+        &self,
+        alloc: Global,
+        cutoffs: &Cutoffs,
+    ) -> Result<Vec<GovernedPiece>, AllocError>
+        requires { IsKept self.now }
+        ensures { IfOk result (λ pieces. ArePieces cutoffs.now self.now pieces.items) }
+    {
         let covers = covers_by(alloc, cutoffs, self.appointed.as_slice())?;
-        let blocks: PlainBlocks = share_blocks::run(alloc, covers.as_slice())?;
+        let blocks: B = share_blocks::run(alloc, covers.as_slice())?;
         let ended = ended_numbers(cutoffs, self.ended.as_slice());
         pieces_of(alloc, &blocks, &Admitted::all(), &ended, self.shares)
     }

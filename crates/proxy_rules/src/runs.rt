@@ -1,18 +1,14 @@
 //! The shares that appointments govern, in runs.
-ghost use Rattle.std.specs.Prelude.{◌≡◌, ◌==◌, [], ℕ, true, IsTrue, IfOk, OnOk, fold, if◌then◌else◌};
-ghost use Rattle.std.specs.Option.{option_copied};
+ghost use Rattle.std.specs.Prelude.{◌≡◌, [], true, IfOk, OnOk};
 ghost use Rattle.desk_words.specs.Office.{are_numbered_after, are_rows};
 ghost use Rattle.proxy_rules.specs.Governing.{governed_in};
-ghost use Rattle.proxy_rules.specs.Holdings.{IsKept, are_tags, holding_of};
-ghost use Rattle.proxy_rules.specs.Runs.{joined, runs_at};
-ghost use Rattle.proxy_rules.specs.Tagging.{with_piece, with_range};
+ghost use Rattle.proxy_rules.specs.Holdings.{are_tags, holding_of};
+ghost use Rattle.proxy_rules.specs.Runs.{joined};
 
 use crate::holdings::Holding;
 use crate::papers::{Cutoffs, Papers};
-use crate::pieces::GovernedPiece;
-use desk_words::{Appointment, Party, Range};
+use desk_words::{Party, Range};
 use std::alloc::{AllocError, Global};
-use std::collections::BTreeMap;
 
 /// Puts a run behind the others, joined with the last where that ends just before it.
 pub(crate) fn join_run(runs: &mut Vec<Range>, run: Range) -> Result<(), AllocError>
@@ -28,74 +24,10 @@ pub(crate) fn join_run(runs: &mut Vec<Range>, run: Range) -> Result<(), AllocErr
     Ok(())
 }
 
-/// Puts a run behind those of a number.
-fn add_run(runs: &mut BTreeMap<u64, Vec<Range>>, number: u64, run: Range) -> Result<(), AllocError>
-    ensures { OnOk result
-        ((other : ℕ)
-        → runs_at runs.new other
-        ≡
-        (if number == other
-        then joined (runs_at runs.old other) run
-        else runs_at runs.old other)) }
-{
-    join_run(runs.entry(number)?.or_default(), run)
-}
-
-/// Puts a range behind the runs of the appointment that governs it, where one does.
-fn add_range(
-    runs: &mut BTreeMap<u64, Vec<Range>>,
-    by: Option<&Appointment>,
-    range: Range,
-) -> Result<(), AllocError>
-    ensures { OnOk result
-        ((number : ℕ)
-        → runs_at runs.new number
-        ≡ with_range (option_copied by.entry) range number (runs_at runs.old number)) }
-{
-    match by {
-        Some(appointment) => add_run(runs, appointment.number, range),
-        None => Ok(()),
-    }
-}
-
-/// The runs of each number over the pieces of a holding.
-fn runs_over(
-    alloc: Global,
-    holding: &Holding,
-    pieces: &[GovernedPiece],
-) -> Result<BTreeMap<u64, Vec<Range>>, AllocError>
-    ensures { IfOk result
-        (λ runs. (number : ℕ)
-        → runs_at runs number ≡ fold (with_piece holding.now number) [] pieces.now) }
-{
-    let mut runs = BTreeMap::new(alloc);
-    for piece in pieces {
-        add_range(&mut runs, holding.appointment(piece), piece.range)?;
-    }
-    Ok(runs)
-}
-
-/// The shares of a holding that each of its appointments governs, by the appointment's number: its
-/// runs of places in order, with a gap between each and the next (sections 324 and 330). The
-/// holding is one that an office keeps. The error is want of memory. It goes over the pieces of the
-/// holding.
-pub fn runs_by_number(
-    alloc: Global,
-    cutoffs: &Cutoffs,
-    holding: &Holding,
-) -> Result<BTreeMap<u64, Vec<Range>>, AllocError>
-    requires { IsKept holding.now }
-    ensures { IfOk result
-        (λ runs. (number : ℕ) → runs_at runs number ≡ governed_in cutoffs.now holding.now number) }
-{
-    let pieces = holding.pieces(alloc, cutoffs)?;
-    runs_over(alloc, holding, pieces.as_slice())
-}
-
 /// The shares that the member's appointment of that number governs: their places in runs in order,
 /// with a gap between each and the next (sections 324 and 330). Where it governs none, or the
 /// member has none of that number, there are no runs. The lists are those of a meeting. The error
-/// is want of memory.
+/// is want of memory. It is `Holding::governed_by` of the member's holding.
 pub fn governed(
     alloc: Global,
     cutoffs: &Cutoffs,
@@ -113,7 +45,5 @@ pub fn governed(
         papers.now.endings.now member)
         number) }
 {
-    let holding = Holding::of(alloc, papers, member)?;
-    let mut runs = runs_by_number(alloc, cutoffs, &holding)?;
-    Ok(runs.remove(&number).unwrap_or(Vec::new(alloc)))
+    Holding::of(alloc, papers, member)?.governed_by(alloc, cutoffs, number)
 }

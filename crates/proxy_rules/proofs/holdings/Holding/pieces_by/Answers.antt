@@ -8,17 +8,17 @@ use Rattle.proxy_rules.specs.Tiles.{ArePieces}
 use Rattle.proxy_rules.specs.declared.pieces.GovernedPiece.{GovernedPiece}
 use Rattle.proxy_rules.proofs.GoverningLemmas.{are_pieces}
 use Rattle.share_blocks.proofs.CoverLemmas.{alike}
-use Rattle.share_blocks.specs.Covers.{newest_of, pieces_after}
+use Rattle.share_blocks.specs.Covers.{newest_of}
 use Rattle.share_blocks.specs.Pieces.{ranges_of}
-use Rattle.proxy_rules.proofs.holdings.Holding.pieces.Goals as goal
+use Rattle.proxy_rules.proofs.holdings.Holding.pieces_by.Goals as goal
 
 pub returns : goal.returns
-returns c =
+returns g c =
     let cutoffs = c.args.cutoffs.now in
     let holding = c.args.self.now in
     let admitted = contains c.all.result in
     let has_ended = contains c.ended_numbers-ended.result in
-    let pieces = pieces_after c.in_ok-blocks.blocks.covers.items in
+    let pieces = g.B.Blocks.pieces c.in_ok-blocks.blocks in
     let covers = c.as_slice-2.ensures.value ∙ c.in_ok-covers.ensures ∙ ap (covers_by cutoffs) c.as_slice.ensures in
     let in_order = c.in_ok-blocks.ensures.in_order in
     let are = are_pieces admitted has_ended c.all.ensures cutoffs holding c.requires
