@@ -12,6 +12,6 @@ pub use demand::{Demand, demand_reached};
 pub use desk_words::{carried, result_of};
 pub use proxy_rules::{
     Cutoffs, GovernedPiece, Holding, Papers, copies_at, cutoffs, given_by, governed, governing,
-    is_late_poll, runs_by_number, shares,
+    is_late_poll, shares,
 };
 pub use qualifying::quorum;
