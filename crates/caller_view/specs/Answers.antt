@@ -1,5 +1,5 @@
 -- The answer to a party.
-use Rattle.std.specs.Prelude.{map}
+use Rattle.std.specs.Prelude.{Bool, true, false, map}
 use Rattle.desk_words.specs.Rulings.{Ruling, in_found, told}
 use Rattle.desk_words.specs.Seen.{Moment}
 use Rattle.desk_words.specs.declared.change.Entry.{Entry}
@@ -47,3 +47,10 @@ ruling_for public own now (Instructed resolution) meeting =
 -- what decides a party's request: that there is no meeting, and else what is ruled in it
 abbrev pub party_ruling : PublicRecord → OwnView → Moment → PartyRequest → Ruling Entry
 party_ruling public own now asked = in_found public.meeting (ruling_for public own now asked)
+
+-- the answer to the request takes no memory: it is a refusal, or a reply and an entry without lists
+abbrev pub takes_no_memory : PartyRequest → Bool
+takes_no_memory Notice = false
+takes_no_memory OwnThings = false
+takes_no_memory (Appoint new) = false
+takes_no_memory other = true

@@ -1,7 +1,7 @@
 //! The answer to a party.
 ghost use Rattle.std.specs.Prelude.{◌≡◌, true, IfOk, IsOk, map};
 ghost use Rattle.desk_words.specs.Rulings.{refuses, settled};
-ghost use Rattle.caller_view.specs.Answers.{mine_of, party_ruling};
+ghost use Rattle.caller_view.specs.Answers.{mine_of, party_ruling, takes_no_memory};
 ghost use Rattle.caller_view.specs.Appointments.{cutoff_in, given_use, use_by};
 
 use crate::appointments::{appoint, end, use_by};
@@ -69,7 +69,8 @@ fn mine(
 
 /// The answer to a party: a function of what it may see, the moment and the request. It is refused
 /// as `NoMeeting` where there is no meeting, and else as its request is. The own things are taken,
-/// since the reply may be made of them. The error is want of memory; a refusal takes none.
+/// since the reply may be made of them. The error is want of memory: a notice, own things and an
+/// appointment that is recorded take some, and nothing else does.
 pub fn answer(
     alloc: Global,
     public: &PublicRecord,
@@ -80,6 +81,7 @@ pub fn answer(
     ensures answer { IfOk result (λ a. a ≡ settled
         (party_ruling public.now own now asked.now)) }
     ensures sure { refuses (party_ruling public.now own now asked.now) ≡ true → IsOk result }
+    ensures no_memory { takes_no_memory asked.now ≡ true → IsOk result }
 {
     let Some(meeting) = public.meeting else {
         return Ok(refuse(Refusal::NoMeeting));

@@ -12,8 +12,10 @@ mod OwnThingsLemmas
 mod PlaceLemmas
 mod ProxyLemmas
 pub mod ReadLemmas
+mod ReplacedLemmas
 mod RunLemmas
 mod SecrecyLemmas
 mod WorldLemmas
 mod WrongAnswers
+mod WrongReplaced
 mod WrongTellings

@@ -45,7 +45,7 @@ find-within test wider (x ∷ xs) within =
     ]) refl
 
 -- some value passes exactly where one of those that pass does
-any-kept : {X : Type 0} (test : X → Bool) (xs : List X) → list_any test (filter test xs) ≡ list_any test xs
+pub any-kept : {X : Type 0} (test : X → Bool) (xs : List X) → list_any test (filter test xs) ≡ list_any test xs
 any-kept test xs = any-filter test test xs ∙ ap (λ t. list_any t xs) (λ i x. twice (test x) i)
   where
     twice : (b : Bool) → (b && b) ≡ b
@@ -61,7 +61,7 @@ map-alike f h (x ∷ xs) same =
     λ i. head i ∷ tail i
 
 -- what passes a test passes one of two
-or-left : (a b : Bool) → a ≡ true → (a || b) ≡ true
+pub or-left : (a b : Bool) → a ≡ true → (a || b) ≡ true
 or-left a b h = ap (λ c. c || b) h
 
 -- and the first, the second or the third of three

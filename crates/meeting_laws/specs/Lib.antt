@@ -6,6 +6,7 @@ pub mod OwnThings
 pub mod Proxies
 pub mod Reads
 pub mod Refusals
+pub mod Replaced
 pub mod Runs
 pub mod Secrecy
 pub mod Worlds
@@ -14,3 +15,4 @@ pub mod WrongLoads
 pub mod WrongOfficeReads
 pub mod WrongOwnThings
 pub mod WrongReads
+pub mod WrongReplaced

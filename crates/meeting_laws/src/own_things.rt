@@ -3,8 +3,10 @@ ghost use Rattle.std.specs.Prelude.{[], ◌∷◌};
 ghost use Rattle.caller_view.specs.Views.{own_in};
 ghost use Rattle.meeting_laws.specs.Laws.{OwnThingsTellWhatGoverns};
 ghost use Rattle.meeting_laws.specs.OwnThings.{OwnThingsAreOfTheMeeting, TellsOwnAlone};
+ghost use Rattle.meeting_laws.specs.Replaced.{TellsNoNameOrPence, TellsWhatIsLeft};
 ghost use Rattle.meeting_laws.specs.WrongAnswers.{a_member, meeting_with_casts, vote_of_another};
 ghost use Rattle.meeting_laws.specs.WrongOwnThings.{TellsMore, demands_of_all, meeting_with_demand, meeting_with_presence, presence_of_any, quiet_meeting, votes_of_all};
+ghost use Rattle.meeting_laws.specs.WrongReplaced.{TellsMoreThanIsLeft, a_proxy, number_told, places_told, proxy_told, replaced_by_one_else, replaced_once, replaced_over_more, replaced_twice, replaced_under_another_name, row_told, told_with};
 
 /// What a party is told of a meeting as its own is read from the notice, the polls, and the records
 /// that concern it: its own ones, those that name it, what members who named it gave and ended, and
@@ -32,4 +34,34 @@ pub fn others_things_are_caught()
 /// rules, for the meeting and for each late poll.
 pub fn own_things_tell_what_governs()
     ensures { OwnThingsTellWhatGoverns }
+{}
+
+/// A proxy learns of its member's other appointments what they leave to it, and nothing else. What
+/// a party is told of a meeting as its own is the same in any two meetings that leave it the same,
+/// whatever the members who named it gave to others, ended, and hold. The appointments that name it
+/// are the same there but for their numbers, and govern the same shares, for the meeting and for
+/// each late poll (sections 324, 327 and 330). The rows of corporations that authorised it may
+/// differ in name and pence there. So may all rows but its own, where nothing else differs.
+pub fn proxies_learn_what_is_left()
+    ensures left { TellsWhatIsLeft own_in }
+    ensures rows { TellsNoNameOrPence own_in }
+{}
+
+/// That law can fail: the number, the proxy and the places of the appointment that replaced a
+/// proxy's own, and the member's row, each told to the proxy as its own, tell apart two meetings
+/// that leave it the same, and differ in what replaced its appointment, or in that row's name and
+/// pence.
+pub fn replacing_appointments_are_caught()
+    ensures number { TellsMoreThanIsLeft (told_with number_told) replaced_once replaced_twice
+        a_proxy }
+    ensures proxy { TellsMoreThanIsLeft (told_with proxy_told) replaced_once replaced_by_one_else
+        a_proxy }
+    ensures places { TellsMoreThanIsLeft (told_with places_told) replaced_once replaced_over_more
+        a_proxy }
+    ensures row { TellsMoreThanIsLeft row_told replaced_once replaced_under_another_name a_proxy }
+    ensures number_caught { TellsWhatIsLeft (told_with number_told) → ⊥ }
+    ensures proxy_caught { TellsWhatIsLeft (told_with proxy_told) → ⊥ }
+    ensures places_caught { TellsWhatIsLeft (told_with places_told) → ⊥ }
+    ensures row_caught { TellsWhatIsLeft row_told → ⊥ }
+    ensures name_caught { TellsNoNameOrPence row_told → ⊥ }
 {}
