@@ -9,7 +9,7 @@ ghost use Rattle.desk_words.specs.declared.office.OfficeLists.{OfficeLists};
 ghost use Rattle.sqlite.specs.Files.{file_state};
 ghost use Rattle.sqlite.specs.State.{HasCleanDisk};
 
-use crate::file::{is_blank, make_file};
+use crate::file::{find, make_file};
 use desk_endings::{Ended, Fault};
 use desk_opening::laws::found_rows_rise;
 use desk_store::Desk;
@@ -55,7 +55,9 @@ fn connect(rt: &HostRuntime, file: &str) -> Result<Connection<DeskFile>, (Error,
 /// Makes a new desk in a file, and ends with status 0 and `created`. The file is made where it is
 /// not there, so that its owner alone can read it, and is not left there where the system refuses
 /// its name or that of its log. It ends with 3 and `NotEmpty` where the file holds a table, an
-/// index or a view, and with 3 and `Store` or `Memory` where it fails.
+/// index or a view, or where a desk left its log beside this name and no file, or one that is empty
+/// or a single byte: both are left as they are. It ends with 3 and `Store` or `Memory` where it
+/// fails.
 pub fn create(rt: &HostRuntime, file: &str) -> Ended
     ensures { EndsCreating (ended_view result) }
 {
@@ -101,15 +103,16 @@ fn ended_of(refused: (Ended, Connection<DeskFile>)) -> Ended
 
 impl DiskDesk {
     /// Opens the desk that a file is. A file that is not there is not made, and ends the program
-    /// with `Store`; one that is empty or a single byte is left as it is, and is `NotADesk`.
+    /// with `Store`. One that is empty or a single byte is left as it is, and is `NotADesk`; beside
+    /// the log of a desk it is `Store`, and the log is left as it is too.
     pub fn open(rt: &HostRuntime, file: &str) -> Result<DiskDesk, Ended>
         ensures stands { IfOk result (λ disk. HasCleanDisk (tables_of disk)
             → (tables_of disk).now.schema ≡ desk_schema
             → (office : OfficeLists) × Stands (tables_of disk) office) }
         ensures fault { IfErr result (λ ended. EndsOpening (ended_view ended)) }
     {
-        if is_blank(rt, file)? {
-            return Err(Ended::by(Fault::NotADesk));
+        if let Some(fault) = find(rt, file)?.opening_fault() {
+            return Err(Ended::by(fault));
         }
         let conn = match connect(rt, file) {
             Ok(conn) => conn,
