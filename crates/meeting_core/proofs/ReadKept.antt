@@ -1,5 +1,5 @@
 -- What is decided of the office's calls from what they read.
-use Rattle.std.proofs.Common.{◌≡◌, ℕ, Bool, true, false, cond, List, refl, sym, ap, ◌∙◌}
+use Rattle.std.proofs.Common.{◌≡◌, ℕ, Bool, true, false, cond, List, refl, sym, ap, subst, ◌∙◌}
 use Rattle.std.specs.Prelude.{Option, Some, None, Result, Ok, Err, IfOk, IfSome, option_map}
 use Rattle.std.specs.Cmp.Lexicographic.{nat_list_cmp_total}
 use Rattle.std.proofs.lemmas.List.Sorted.{IsPermutation-refl}
@@ -24,7 +24,7 @@ use Rattle.office_answers.specs.Reads.{lists_read, reads_register}
 use Rattle.office_answers.proofs.ReadLaws.{read_meeting, read_so}
 use Rattle.office_checks.specs.InOrder.{in_order}
 use Rattle.meeting_core.specs.Checked.{in_order_for}
-use Rattle.meeting_core.specs.Decisions.{AreListsRead, office_call}
+use Rattle.meeting_core.specs.Decisions.{AreListsRead, IsNoMeeting, office_call}
 use Rattle.meeting_core.specs.Step.{decided}
 use Rattle.meeting_core.proofs.OfficeKept.{step_kept}
 use Rattle.meeting_core.proofs.RulingLemmas.{settled_within}
@@ -79,3 +79,14 @@ weaker (Some m) reads h = λ _. h
 pub both_ok : {X E : Type 0} (r : Result X E) (P Q R : X → Type 0) → ((x : X) → P x → Q x → R x) → IfOk r P → IfOk r Q → IfOk r R
 both_ok (Ok x) P Q R next p q = next x p q
 both_ok (Err e) P Q R next p q = tt
+
+-- where the lists that were read are a meeting's in order, it is not that they are no meeting's
+pub never_none : (what : OfficeRequest) (found lists : Option MeetingLists) → lists ≡ option_map (in_order_for what) found → IfSome lists (λ m. reads_register what ≡ true → is_meeting m ≡ true)
+    → IsNoMeeting what found → ⊥
+never_none what None lists same right none = absurd none.1
+never_none what (Some m) lists same right none =
+    let P : Option MeetingLists → Type 0 = λ x. IfSome x (λ y. reads_register what ≡ true → is_meeting y ≡ true) in
+    let is : is_meeting (in_order_for what m) ≡ true = subst P same right none.0 in
+    let order : in_order_for what m ≡ in_order m = ap (λ b. cond b (in_order m) m) none.0 in
+    let never : false ≡ true = sym none.1 ∙ ap is_meeting (sym order) ∙ is in
+    absurd (cc)

@@ -1,5 +1,5 @@
 -- One step of the office, and runs of steps.
-use Rattle.std.specs.Prelude.{Bool, true, false, ◌&&◌, not, List, [], ◌∷◌, ◌++◌}
+use Rattle.std.specs.Prelude.{Bool, true, false, ◌&&◌, ◌||◌, not, List, [], ◌∷◌, ◌++◌}
 use Rattle.desk_words.specs.Refusals.{Case}
 use Rattle.desk_words.specs.Rulings.{Ruling, refused, ruled_within, settled}
 use Rattle.desk_words.specs.Seen.{Moment}
@@ -20,7 +20,7 @@ use Rattle.desk_terms.specs.declared.refusal.Refusal.{Refusal}
 use Rattle.desk_terms.specs.declared.refusal.Refusal.TheVariants.{OfficeOnly, PartyOnly}
 use Rattle.caller_view.specs.Answers.{party_ruling}
 use Rattle.caller_view.specs.Views.{meeting_at, own_of, public_of}
-use Rattle.office_answers.specs.Answers.{desk_ruling, is_refused_at_once, office_ruling}
+use Rattle.office_answers.specs.Answers.{desk_ruling, is_list_held, is_refused_at_once, is_register_held, office_ruling}
 use Rattle.desk_words.specs.Changes.{after_some}
 
 -- a party calls
@@ -76,11 +76,14 @@ is_start_or_close (Start resolution) = true
 is_start_or_close (Close resolution) = true
 is_start_or_close other = false
 
--- what is never answered by want of memory: what the wrong side asks, and a start or a close by the
--- office
-abbrev pub needs_no_memory : Caller → Request → Bool
-needs_no_memory caller.Office (asked.Office meeting what) = is_start_or_close what
-needs_no_memory who request = is_misplaced who request
+-- what is never answered by want of memory: what the wrong side asks, and of the office a start, a
+-- close and what it loads that is held already
+abbrev pub needs_no_memory : OfficeLists → Caller → Request → Bool
+needs_no_memory office caller.Office (asked.Desk what) =
+    is_list_held office.keys office.closed what
+needs_no_memory office caller.Office (asked.Office meeting what) =
+    is_start_or_close what || is_register_held (meeting_at office meeting) what
+needs_no_memory office who request = is_misplaced who request
 
 -- the office is refused, before any memory is taken
 abbrev pub is_at_once_to : Caller → Answer Change → Bool

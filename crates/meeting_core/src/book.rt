@@ -6,7 +6,8 @@ ghost use Rattle.desk_words.specs.Office.{is_office};
 ghost use Rattle.desk_words.specs.Rulings.{settled, within};
 ghost use Rattle.desk_words.specs.declared.change.Change.TheVariants as change;
 ghost use Rattle.desk_words.specs.declared.change.MeetingChange.TheVariants as meeting_change;
-ghost use Rattle.office_answers.specs.Answers.{office_ruling, refuses_at_once, takes_no_memory};
+ghost use Rattle.office_answers.specs.Answers.{is_register_held, office_ruling, refuses_at_once};
+ghost use Rattle.office_answers.specs.Answers.{takes_no_memory};
 ghost use Rattle.office_answers.specs.Limits.{if_any, is_within_limits, keeps_limits};
 ghost use Rattle.desk_words.specs.Changes.{after, after_some, empty_office, sets_fields};
 ghost use Rattle.meeting_core.specs.Step.{decided, is_at_once_to, needs_no_memory, stepped};
@@ -136,6 +137,8 @@ impl Book {
         ensures refusals { refuses_at_once (office_ruling self.now.closed
             (meeting_at self.now meeting) now asked.now)
             ≡ true → IsOk result }
+        ensures same { is_register_held (meeting_at self.now meeting) asked.now ≡ true
+            → IsOk result }
     {
         let found = find_meeting(&self.meetings, meeting);
         office_answer(self.alloc, &self.closed, found, now, asked)
@@ -161,7 +164,8 @@ impl Book {
     fn answer_to(&self, call: &Call) -> Result<Answer<Change>, AllocError>
         ensures answer { IfOk result (λ a. a ≡ decided self.now call.now) }
         ensures limits { IfOk result (λ a. if_any keeps_limits a.change ≡ true) }
-        ensures sure { needs_no_memory call.now.caller call.now.request ≡ true → IsOk result }
+        ensures sure { needs_no_memory self.now call.now.caller call.now.request ≡ true
+            → IsOk result }
         ensures refusals { is_at_once_to call.now.caller (decided self.now call.now) ≡ true
             → IsOk result }
     {
@@ -187,15 +191,16 @@ impl Book {
 
     /// The reply to a call, and its change: to a party the answer of its public record and its own
     /// things, to the office that of the whole office. The error is want of memory; a start or a
-    /// close of a poll by the office needs none, nor does an office request of a party or a party
-    /// request of the office, which are refused, nor any call of the office that is refused, but as
-    /// `NoQuorum` or `DemandTooSmall`.
+    /// close of a poll by the office needs none, nor does its load of what is held already, nor an
+    /// office request of a party or a party request of the office, which are refused, nor any call
+    /// of the office that is refused, but as `NoQuorum` or `DemandTooSmall`.
     pub fn decide(&self, call: &Call) -> Result<(Reply, Option<Change>), AllocError>
         ensures reply { IfOk result (λ d. d.0 ≡ (decided self.now call.now).reply) }
         ensures change { IfOk result (λ d. d.1 ≡ (decided self.now call.now).change) }
         ensures held { IsTrue (is_office self.now) }
         ensures kept { IfOk result (λ d. IsTrue (is_office (after_some self.now d.1))) }
-        ensures sure { needs_no_memory call.now.caller call.now.request ≡ true → IsOk result }
+        ensures sure { needs_no_memory self.now call.now.caller call.now.request ≡ true
+            → IsOk result }
         ensures refusals { is_at_once_to call.now.caller (decided self.now call.now) ≡ true
             → IsOk result }
     {
@@ -251,7 +256,7 @@ impl Book {
         ensures ok { OnOk result (self.new ≡ stepped self.old call) }
         ensures err { OnErr result (self.new ≡ self.old) }
         ensures kept { IsTrue (is_office self.new) }
-        ensures sure { needs_no_memory call.caller call.request ≡ true → IsOk result }
+        ensures sure { needs_no_memory self.old call.caller call.request ≡ true → IsOk result }
         ensures refusals { is_at_once_to call.caller (decided self.old call) ≡ true → IsOk result }
     {
         let (reply, change) = self.decide(&call)?;

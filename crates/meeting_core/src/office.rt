@@ -1,10 +1,13 @@
 //! What is decided of the office's calls, from what their answers read.
-ghost use Rattle.std.specs.Prelude.{◌≡◌, true, false, Err, IfErr, IfOk, IfSome, IsTrue, None, Some, option_map};
+ghost use Rattle.std.specs.Prelude.{◌≡◌, true, false, Err, IfErr, IfOk, IfSome, IsOk, IsTrue, None, Some, option_map};
 ghost use Rattle.desk_words.specs.Changes.{after_some};
+ghost use Rattle.desk_words.specs.Keys.{same_keys};
 ghost use Rattle.desk_words.specs.Office.{is_meeting, is_office};
 ghost use Rattle.desk_words.specs.Seen.{Moment};
 ghost use Rattle.desk_words.specs.declared.office.OfficeLists.{OfficeLists};
 ghost use Rattle.desk_words.specs.declared.request.DeskRequest.TheVariants as desk;
+ghost use Rattle.office_answers.specs.Answers.{is_register_held, takes_no_memory};
+ghost use Rattle.office_answers.specs.Lists.{same_days};
 ghost use Rattle.office_answers.specs.Reads.{reads_register};
 ghost use Rattle.office_checks.specs.InOrder.{in_order};
 ghost use Rattle.meeting_core.specs.Checked.{in_order_for};
@@ -43,13 +46,13 @@ fn of_a_meeting(found: Option<MeetingLists>) -> Result<MeetingLists, BookFault>
     found.ok_or(BookFault::NoOffice)
 }
 
-/// The lists with the register in order, if they are those of a meeting.
+/// The lists with the register in order, if they are those of a meeting; else `NoOffice`.
 fn checked(alloc: Global, lists: MeetingLists) -> Result<MeetingLists, BookFault>
     ensures value { IfOk result (λ m. (is_meeting m ≡ true) × (m ≡ in_order lists)) }
-    ensures no_office { result ≡ Err NoOffice → is_meeting (in_order lists) ≡ false }
+    ensures fault { IfErr result
+        (λ e. (is_meeting (in_order lists) ≡ false) × (e ≡ NoOffice)) }
 {
-    let found = meeting_checked(alloc, lists)?;
-    of_a_meeting(found)
+    of_a_meeting(meeting_checked(alloc, lists))
 }
 
 /// What was read of a meeting, if it is that of a meeting where the answer reads the register.
@@ -61,7 +64,7 @@ fn checked_for(
     ensures right { IfOk result (λ found. IfSome found
         (λ m. reads_register asked.now ≡ true → is_meeting m ≡ true)) }
     ensures same { IfOk result (λ lists. lists ≡ option_map (in_order_for asked.now) found) }
-    ensures no_office { result ≡ Err NoOffice → IsNoMeeting asked.now found }
+    ensures fault { IfErr result (λ e. IsNoMeeting asked.now found × (e ≡ NoOffice)) }
 {
     let Some(lists) = found else {
         return Ok(None);
@@ -74,8 +77,9 @@ fn checked_for(
 
 /// What is decided of what the office asks in a meeting, from those of the closed days and of the
 /// meeting's lists alone that the answer reads: it is so in every office of which these are read,
-/// and what it changes leaves the lists of an office. The fault is `NoOffice` only where what was
-/// read with the register is no meeting's; `Memory`, which says nothing of it, is want of memory.
+/// and what it changes leaves the lists of an office. The fault is `NoOffice` exactly where what was
+/// read with the register is no meeting's; `Memory` is want of memory, and comes where
+/// `office_answer` may be refused it, alone.
 pub fn decide_in_meeting(
     alloc: Global,
     meeting: MeetingId,
@@ -91,6 +95,10 @@ pub fn decide_in_meeting(
         → AreListsRead office meeting asked.now closed.now found
         → IsTrue (is_office (after_some office a.change))) }
     ensures no_office { result ≡ Err NoOffice → IsNoMeeting asked.now found }
+    ensures is_none { IsNoMeeting asked.now found → result ≡ Err NoOffice }
+    ensures sure { takes_no_memory asked.now ≡ true → IfErr result (λ e. e ≡ NoOffice) }
+    ensures same { is_register_held (option_map (in_order_for asked.now) found) asked.now ≡ true
+        → IfErr result (λ e. e ≡ NoOffice) }
 {
     let lists = checked_for(alloc, found, asked)?;
     let answer = office_answer(alloc, closed, lists.as_ref(), now, asked)?;
@@ -115,24 +123,28 @@ pub fn decide_call(
     call_meeting(is_named, held, new)
 }
 
-/// What is decided of a list of closed days, from those that are held. The error is want of memory.
+/// What is decided of a list of closed days, from those that are held. The error is want of memory;
+/// the same days take none.
 pub fn decide_closed(held: &Closed, days: &DayList) -> Result<Answer<Change>, AllocError>
     ensures decided { IfOk result (λ a. (office : OfficeLists) (now : Moment)
         → held.now ≡ office.closed
         → a ≡ decided office (desk_call now (desk.ClosedDays days.now))) }
     ensures kept { IfOk result (λ a. (office : OfficeLists) → IsTrue (is_office office)
         → held.now ≡ office.closed → IsTrue (is_office (after_some office a.change))) }
+    ensures same { same_days held.now days.now ≡ true → IsOk result }
 {
     load_days(held, days)
 }
 
-/// What is decided of a list of keys, from those that are held. The error is want of memory.
+/// What is decided of a list of keys, from those that are held. The error is want of memory; the
+/// same keys take none.
 pub fn decide_keys(held: &KeyRows, rows: &KeyRows) -> Result<Answer<Change>, AllocError>
     ensures decided { IfOk result (λ a. (office : OfficeLists) (now : Moment)
         → held.now ≡ office.keys
         → a ≡ decided office (desk_call now (desk.Keys rows.now))) }
     ensures kept { IfOk result (λ a. (office : OfficeLists) → IsTrue (is_office office)
         → held.now ≡ office.keys → IsTrue (is_office (after_some office a.change))) }
+    ensures same { same_keys held.now rows.now ≡ true → IsOk result }
 {
     load_keys(held, rows)
 }

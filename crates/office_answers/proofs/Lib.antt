@@ -1,2 +1,3 @@
 pub mod MeetingRules
 pub mod ReadLaws
+pub mod CountLemmas

@@ -1,7 +1,9 @@
 -- The answer to the office.
-use Rattle.std.specs.Prelude.{List, Bool, true, false, Option}
+use Rattle.std.specs.Prelude.{List, Bool, true, false, Option, Some}
 use Rattle.std.specs.Option.{option_map_or}
+use Rattle.desk_words.specs.Keys.{same_keys}
 use Rattle.desk_words.specs.Refusals.{first_refusal}
+use Rattle.desk_words.specs.Rows.{same_rows}
 use Rattle.desk_words.specs.Rulings.{Ruling, in_found, refusal_in}
 use Rattle.desk_words.specs.Seen.{Day, Moment}
 use Rattle.desk_words.specs.declared.answer.Answer.{Answer}
@@ -17,7 +19,7 @@ use Rattle.desk_terms.specs.declared.refusal.Refusal.{Refusal}
 use Rattle.desk_terms.specs.declared.refusal.Refusal.TheVariants.{NoQuorum, DemandTooSmall}
 use Rattle.office_answers.specs.Attendance.{presence_ruling}
 use Rattle.office_answers.specs.Calls.{call_ruling, load_ruling}
-use Rattle.office_answers.specs.Lists.{closed_ruling, keys_ruling}
+use Rattle.office_answers.specs.Lists.{closed_ruling, keys_ruling, same_days}
 use Rattle.office_answers.specs.Polls.{open_ruling, order_ruling, start_ruling, close_ruling, declare_ruling}
 
 -- what decides what the office asks of the whole desk, from its keys, its closed days and its
@@ -50,6 +52,17 @@ takes_no_memory (Order new) = new.chair
 takes_no_memory (Start resolution) = true
 takes_no_memory (Close resolution) = true
 takes_no_memory other = false
+
+-- the closed days or the keys that come are those that are held already
+abbrev pub is_list_held : List KeyRow → List Day → DeskRequest → Bool
+is_list_held keys closed (desk.ClosedDays days) = same_days closed days
+is_list_held keys closed (desk.Keys rows) = same_keys keys rows
+is_list_held keys closed other = false
+
+-- the register that comes is the one that is held already (section 113)
+abbrev pub is_register_held : Option MeetingLists → OfficeRequest → Bool
+is_register_held (Some m) (LoadRegister new) = same_rows m.register new.rows
+is_register_held found other = false
 
 -- a refusal that is decided before any memory is taken: all but those for which it is counted who
 -- is present (section 318), or which shares demand a poll (section 321)

@@ -7,6 +7,7 @@ use Rattle.desk_words.specs.Refusals.{Case}
 use Rattle.desk_words.specs.Rulings.{Ruling, no_resolution}
 use Rattle.desk_words.specs.Seen.{Day, Moment, Number}
 use Rattle.desk_terms.specs.declared.refusal.Refusal.TheVariants.{Exists, NoRegister, Opened, NotOpened, Early, NoQuorum, PollOrdered, NoPoll, DemandTooSmall, PollNotOpen, PollClosed, NotClosed, Declared}
+use Rattle.desk_words.specs.declared.answer.Answer.{Answer}
 use Rattle.desk_words.specs.declared.change.MeetingChange.{MeetingChange}
 use Rattle.desk_words.specs.declared.change.MeetingChange.TheVariants.{SetOpened, AddPoll, SetPoll}
 use Rattle.desk_words.specs.declared.change.PollChange.TheVariants as poll
@@ -144,14 +145,17 @@ abbrev pub declaration_of : MeetingLists → List Day → Moment → Number → 
 declaration_of m closed now resolution =
     result_on (slice_get m.meeting.resolutions (resolution - 1)) (tally_in m closed now resolution)
 
+-- the result is told, and the count is kept (sections 282 to 284)
+abbrev pub declared_as : Number → Declaration → Answer MeetingChange
+declared_as resolution declared = record {
+  reply = reply.Declared declared;
+  change = Some (SetPoll resolution (poll.Declared declared.tally));
+}
+
 -- the result of a poll is declared, by the closed days and the moment of the call
 abbrev pub declare_ruling : MeetingLists → List Day → Moment → Number → Ruling MeetingChange
 declare_ruling m closed now resolution =
     record {
       cases = declare_cases m resolution;
-      accepted =
-          let declared = declaration_of m closed now resolution in record {
-            reply = reply.Declared declared;
-            change = Some (SetPoll resolution (poll.Declared declared.tally));
-          };
+      accepted = declared_as resolution (declaration_of m closed now resolution);
     }

@@ -3,7 +3,8 @@ ghost use Rattle.std.specs.Prelude.{◌≡◌, true, IfOk, IfSome, IsOk};
 ghost use Rattle.std.specs.Option.{option_copied};
 ghost use Rattle.desk_words.specs.Office.{is_meeting};
 ghost use Rattle.desk_words.specs.Rulings.{refuses, settled};
-ghost use Rattle.office_answers.specs.Answers.{desk_ruling, office_ruling, refuses_at_once, takes_no_memory};
+ghost use Rattle.office_answers.specs.Answers.{desk_ruling, is_list_held, is_register_held};
+ghost use Rattle.office_answers.specs.Answers.{office_ruling, refuses_at_once, takes_no_memory};
 ghost use Rattle.office_answers.specs.Limits.{if_any, is_within_limits, keeps_limits};
 ghost use Rattle.office_answers.specs.Reads.{reads_register};
 
@@ -19,7 +20,8 @@ use office_days::Closed;
 use std::alloc::{AllocError, Global};
 
 /// The answer to what the office asks of the whole desk, from its keys, its closed days and its
-/// meetings. The error is want of memory; a refusal takes none.
+/// meetings. The error is want of memory; a refusal takes none, nor does a list that is held
+/// already.
 pub fn desk_answer(
     keys: &KeyRows,
     closed: &Closed,
@@ -31,6 +33,7 @@ pub fn desk_answer(
     ensures limits { IfOk result (λ a. if_any keeps_limits a.change ≡ true) }
     ensures refusals { refuses (desk_ruling keys.now closed.now meetings.now asked.now) ≡ true
         → IsOk result }
+    ensures same { is_list_held keys.now closed.now asked.now ≡ true → IsOk result }
 {
     match asked {
         DeskRequest::CallMeeting(new) => {
@@ -46,7 +49,8 @@ pub fn desk_answer(
 /// meeting's lists; where the request reads no register, they need not be all of a meeting's. It is
 /// refused as `NoMeeting` where there is none, and else as its request is.
 /// The error is want of memory; what `takes_no_memory` names, a presence, a start and a close among
-/// it, needs none, nor does a refusal other than `NoQuorum` and `DemandTooSmall`.
+/// it, needs none, nor does a register that is held already, nor a refusal other than `NoQuorum`
+/// and `DemandTooSmall`.
 pub fn office_answer(
     alloc: Global,
     closed: &Closed,
@@ -63,6 +67,7 @@ pub fn office_answer(
     ensures refusals { refuses_at_once (office_ruling closed.now
         (option_copied found.entry) now asked.now)
         ≡ true → IsOk result }
+    ensures same { is_register_held (option_copied found.entry) asked.now ≡ true → IsOk result }
 {
     let Some(lists) = found else {
         return Ok(refuse(Refusal::NoMeeting));

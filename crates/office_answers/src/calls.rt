@@ -1,6 +1,7 @@
 //! The calling of a meeting, and the loading of its register.
 ghost use Rattle.std.specs.Prelude.{◌≡◌, true, IfOk, IsOk, IsTrue};
 ghost use Rattle.desk_words.specs.Refusals.{first_refusal};
+ghost use Rattle.desk_words.specs.Rows.{same_rows};
 ghost use Rattle.desk_words.specs.Rulings.{refuses, settled};
 ghost use Rattle.desk_words.specs.Lists.{are_resolutions};
 ghost use Rattle.office_answers.specs.Calls.{cases_of_call, load_cases, load_ruling, new_meeting_of, ruling_of_call};
@@ -87,7 +88,7 @@ fn load_refusal(meeting: &Meeting, now: Moment, new: &NewRegister) -> Option<Ref
 /// The answer to a register for a meeting (section 113): the first that holds of `OtherRecord`
 /// where it is of another moment than the meeting's record moment, `Opened`, and `Early` before
 /// that moment; else `Same` where the rows are those that are held, and else `Loaded`, which sets
-/// the register. The error is want of memory; a refusal takes none.
+/// the register. The error is want of memory; a refusal and `Same` take none.
 pub(crate) fn load_register(
     lists: &MeetingLists,
     now: Moment,
@@ -96,6 +97,7 @@ pub(crate) fn load_register(
     ensures answer { IfOk result (λ a. a ≡ settled (load_ruling lists.now now new.now)) }
     ensures limits { IfOk result (λ a. if_any is_within_limits a.change ≡ true) }
     ensures sure { refuses (load_ruling lists.now now new.now) ≡ true → IsOk result }
+    ensures same { same_rows lists.now.register new.now.rows ≡ true → IsOk result }
 {
     if let Some(refusal) = load_refusal(&lists.meeting, now, new) {
         return Ok(refuse(refusal));

@@ -1,5 +1,6 @@
 //! The loading of the lists of the whole desk: its closed days and its keys.
-ghost use Rattle.std.specs.Prelude.{◌≡◌, true, IfOk};
+ghost use Rattle.std.specs.Prelude.{◌≡◌, true, IfOk, IsOk};
+ghost use Rattle.desk_words.specs.Keys.{same_keys};
 ghost use Rattle.desk_words.specs.Rulings.{settled};
 ghost use Rattle.office_answers.specs.Limits.{if_any, keeps_limits};
 ghost use Rattle.office_answers.specs.Lists.{closed_ruling, keys_ruling, same_days};
@@ -15,10 +16,11 @@ fn same_days(held: &[Day], days: &[Day]) -> bool
 }
 
 /// The answer to a list of closed days (section 1173): `Same` where it is the one that is held, and
-/// else `Loaded`, which replaces it. The error is want of memory.
+/// else `Loaded`, which replaces it. The error is want of memory; `Same` takes none.
 pub fn load_days(held: &Closed, days: &DayList) -> Result<Answer<Change>, AllocError>
     ensures answer { IfOk result (λ a. a ≡ settled (closed_ruling held.now days.now)) }
     ensures limits { IfOk result (λ a. if_any keeps_limits a.change ≡ true) }
+    ensures same { same_days held.now days.now ≡ true → IsOk result }
 {
     if same_days(held.days(), days.as_slice()) {
         return Ok(tell(Reply::Same));
@@ -30,10 +32,11 @@ pub fn load_days(held: &Closed, days: &DayList) -> Result<Answer<Change>, AllocE
 }
 
 /// The answer to a list of keys: `Same` where it is the one that is held, and else `Loaded`, which
-/// replaces it. The error is want of memory.
+/// replaces it. The error is want of memory; `Same` takes none.
 pub fn load_keys(held: &KeyRows, rows: &KeyRows) -> Result<Answer<Change>, AllocError>
     ensures answer { IfOk result (λ a. a ≡ settled (keys_ruling held.now rows.now)) }
     ensures limits { IfOk result (λ a. if_any keeps_limits a.change ≡ true) }
+    ensures same { same_keys held.now rows.now ≡ true → IsOk result }
 {
     if same_keys(held.as_slice(), rows.as_slice()) {
         return Ok(tell(Reply::Same));

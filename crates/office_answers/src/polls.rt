@@ -1,5 +1,5 @@
 //! The opening of a meeting, and the way of a poll: ordered, started, closed, declared.
-ghost use Rattle.std.specs.Prelude.{◌≡◌, ◌-◌, ◌&&◌, not, true, false, Some, IfOk, IsOk, IsTrue, length};
+ghost use Rattle.std.specs.Prelude.{◌≡◌, ◌-◌, ◌&&◌, not, true, false, Err, IfOk, IsOk, IsTrue, MatchResult, Ok, Some, length};
 ghost use Rattle.std.specs.List.{slice_get};
 ghost use Rattle.desk_words.specs.Finding.{poll_on};
 ghost use Rattle.desk_words.specs.Office.{is_meeting, is_resolution, is_tally};
@@ -9,7 +9,7 @@ ghost use Rattle.desk_words.specs.Rulings.{refuses, settled};
 ghost use Rattle.office_answers.specs.Answers.{is_some_at_once, refuses_at_once};
 ghost use Rattle.office_answers.specs.Attendance.{demand_noted, quorum_in};
 ghost use Rattle.office_answers.specs.Limits.{if_any, is_within_limits};
-ghost use Rattle.office_answers.specs.Polls.{open_cases, open_ruling, order_cases, order_ruling, poll_of, start_cases, start_ruling, close_cases, close_ruling, declare_ruling, result_cases, result_on, declaration_of, tally_in};
+ghost use Rattle.office_answers.specs.Polls.{open_cases, open_ruling, order_cases, order_ruling, poll_of, start_cases, start_ruling, close_cases, close_ruling, declare_ruling, result_cases, result_on, declared_as, tally_in};
 
 use crate::attendance::{demand_in, papers_of, quorum_in};
 use desk_words::{
@@ -293,29 +293,34 @@ fn tally_in(
 ) -> Result<Tally, AllocError>
     requires meeting { is_meeting lists.now ≡ true }
     requires poll { poll_on lists.now.polls number ≡ Some poll.now }
-    ensures { IfOk result (λ t. t ≡ tally_in lists.now closed.now now number) }
+    ensures value { IfOk result (λ t. t ≡ tally_in lists.now closed.now now number) }
+    ensures limits { IfOk result (λ t. IsTrue (is_tally t)) }
 {
     let cutoffs = cutoffs(&lists.meeting, Some(poll), closed, now);
     tally(alloc, &cutoffs, &papers_of(lists), number)
 }
 
-/// The result of a poll on a resolution of the meeting, by the count of its votes.
-fn declaration(
-    alloc: Global,
-    closed: &Closed,
+/// The answer that declares the result of a poll, by the count of its votes. The error is that of
+/// the count.
+fn declare(
     lists: &MeetingLists,
-    now: Moment,
-    number: u64,
-    poll: &Poll,
-) -> Result<Declaration, AllocError>
-    requires number { is_resolution (length lists.now.meeting.resolutions) number ≡ true }
-    requires meeting { is_meeting lists.now ≡ true }
-    requires poll { poll_on lists.now.polls number ≡ Some poll.now }
-    ensures value { IfOk result (λ d. d ≡ declaration_of lists.now closed.now now number) }
-    ensures limits { IfOk result (λ d. IsTrue (is_tally d.tally)) }
+    resolution: u64,
+    count: Result<Tally, AllocError>,
+) -> Result<Answer<MeetingChange>, AllocError>
+    requires { is_resolution (length lists.now.meeting.resolutions) resolution ≡ true }
+    ensures { MatchResult count
+        (λ tally. result ≡ Ok (declared_as resolution
+        (result_on (slice_get lists.now.meeting.resolutions (resolution - 1)) tally)))
+        (λ error. result ≡ Err error) }
 {
-    let tally = tally_in(alloc, closed, lists, now, number, poll)?;
-    Ok(result_on(&lists.meeting, number, tally))
+    let declaration = result_on(&lists.meeting, resolution, count?);
+    Ok(Answer {
+        reply: Reply::Declared(declaration),
+        change: Some(MeetingChange::SetPoll {
+            resolution,
+            change: PollChange::Declared(declaration.tally),
+        }),
+    })
 }
 
 /// The answer to the declaration of a poll: the first that holds of `NoResolution`, `NoPoll`,
@@ -347,12 +352,6 @@ pub(crate) fn declare_poll(
     if let Some(refusal) = declare_refusal(&poll) {
         return Ok(refuse(refusal));
     }
-    let declaration = declaration(alloc, closed, lists, now, resolution, &poll)?;
-    Ok(Answer {
-        reply: Reply::Declared(declaration),
-        change: Some(MeetingChange::SetPoll {
-            resolution,
-            change: PollChange::Declared(declaration.tally),
-        }),
-    })
+    let count = tally_in(alloc, closed, lists, now, resolution, &poll);
+    declare(lists, resolution, count)
 }

@@ -1,17 +1,17 @@
 -- The lists of a meeting, tested one after another.
-use Rattle.std.proofs.Common.{◌≡◌, Bool, true, false, ◌&&◌, cond, ◌<◌, ℕ, length, get_or, List, [], ◌∷◌, ◌++◌, map, inl, inr, refl, ap, sym, ◌∙◌, true≢false}
+use Rattle.std.proofs.Common.{◌≡◌, ℕ, zero, suc, ◌+◌, ◌<◌, ◌≤◌, arith, Bool, true, false, ◌&&◌, cond, List, [], ◌∷◌, length, get_or, take, set, map, inl, inr, refl, ap, sym, ◌∙◌, true≢false}
 use Rattle.std.specs.Prelude.{Some, None, is_some}
 use Rattle.std.specs.List.{list_all}
 use Rattle.std.proofs.lemmas.Bool.{cases_Bool}
-use Rattle.std.proofs.lemmas.List.{map-append}
-use Rattle.std.proofs.lemmas.List.Folds.{list_all-append, list_all-map, list_all_at}
+use Rattle.std.proofs.lemmas.List.{take_all}
+use Rattle.std.proofs.lemmas.List.Folds.{list_all-map, list_all_at, list_all_more}
 use Rattle.std.specs.Cmp.Derive.{both_true}
 use Rattle.desk_words.specs.Office.{implies, is_loaded_right, is_meeting, no_rows}
 use Rattle.desk_words.specs.Registers.{is_register}
 use Rattle.desk_words.specs.declared.office.MeetingLists.{MeetingLists}
 use Rattle.desk_words.specs.declared.records.RegisterRow.{RegisterRow}
 use Rattle.desk_words.proofs.OfficeFacts.{meeting_facts}
-use Rattle.office_checks.specs.InOrder.{each_checked, in_order, loaded_of, meeting_checked, rows_checked}
+use Rattle.office_checks.specs.InOrder.{in_order, rows_checked}
 
 -- what is given under a condition
 pub given-some : {X : Type 0} (b : Bool) (x y : X) → cond b (Some x) None ≡ Some y → (b ≡ true) × (x ≡ y)
@@ -26,63 +26,74 @@ and_false : (a : Bool) → (a && false) ≡ false
 and_false true = refl
 and_false false = refl
 
--- a meeting that is opened without a register is none
-pub loaded_of-opened : (m : MeetingLists) → implies (is_some m.meeting.opened) m.meeting.loaded ≡ false → loaded_of m ≡ None
-loaded_of-opened m early =
-    let rows = cond m.meeting.loaded (is_register (in_order m).register) (no_rows (in_order m).register) in
-    ap (λ b. cond b (Some (in_order m)) None) (ap (λ b. rows && b) early ∙ and_false rows)
+-- a meeting that is opened without a register is not loaded as it should be
+pub loaded-opened : (m : MeetingLists) → implies (is_some m.meeting.opened) m.meeting.loaded ≡ false → is_loaded_right (in_order m) ≡ false
+loaded-opened m early =
+    let rows = cond m.meeting.loaded (is_register (in_order m).register) (no_rows (in_order m).register) in ap (λ b. rows && b) early ∙ and_false rows
 
-pub loaded_of-none : (m : MeetingLists) → rows_checked m.meeting.loaded m.register ≡ None → loaded_of m ≡ None
-loaded_of-none m none =
-    let rows = cond m.meeting.loaded (is_register (in_order m).register) (no_rows (in_order m).register) in
-    ap (λ b. cond (b && implies (is_some m.meeting.opened) m.meeting.loaded) (Some (in_order m)) None) (given-none rows (in_order m).register none)
+pub loaded-none : (m : MeetingLists) → rows_checked m.meeting.loaded m.register ≡ None → is_loaded_right (in_order m) ≡ false
+loaded-none m none =
+    ap (λ b. b && implies (is_some m.meeting.opened) m.meeting.loaded)
+    (given-none (cond m.meeting.loaded (is_register (in_order m).register) (no_rows (in_order m).register)) (in_order m).register none)
 
-pub loaded_of-some : (m : MeetingLists) (rows : List RegisterRow) → implies (is_some m.meeting.opened) m.meeting.loaded ≡ true → rows_checked m.meeting.loaded m.register ≡ Some rows
-    → loaded_of m ≡ Some (record m { register = rows })
-loaded_of-some m rows right some =
+-- rows that are loaded as they should be, and stand in order
+pub loaded-some : (m : MeetingLists) (rows : List RegisterRow) → implies (is_some m.meeting.opened) m.meeting.loaded ≡ true → rows_checked m.meeting.loaded m.register ≡ Some rows
+    → (is_loaded_right (in_order m) ≡ true) × (record m { register = rows } ≡ in_order m)
+loaded-some m rows right some =
     let both = given-some (cond m.meeting.loaded (is_register (in_order m).register) (no_rows (in_order m).register)) (in_order m).register rows some in
-    ap (λ b. cond (b && implies (is_some m.meeting.opened) m.meeting.loaded) (Some (in_order m)) None) both.0
-    ∙ ap (λ b. cond b (Some (in_order m)) None) right
-    ∙ ap (λ r. Some (record m { register = r })) both.1
+    (both_true both.0 right, ap (λ r. record m { register = r }) (sym both.1))
 
-is_meeting-unloaded : (m : MeetingLists) → is_loaded_right m ≡ false → is_meeting m ≡ false
+-- lists whose register is not loaded as it should be are none of a meeting
+pub is_meeting-unloaded : (m : MeetingLists) → is_loaded_right m ≡ false → is_meeting m ≡ false
 is_meeting-unloaded m h = elim (cases_Bool (is_meeting m)) [
   | inl good ↦ absurd (true≢false (sym (meeting_facts m good).loaded ∙ h))
   | inr wrong ↦ wrong
 ]
 
--- lists whose register is not loaded as it should be are none of a meeting
-pub meeting_checked-unloaded : (m : MeetingLists) → loaded_of m ≡ None → meeting_checked m ≡ None
-meeting_checked-unloaded m none = ap (λ b. cond b (Some (in_order m)) None) (is_meeting-unloaded (in_order m) (given-none (is_loaded_right (in_order m)) (in_order m) none))
-
-pub loaded_of-right : (m n : MeetingLists) → loaded_of m ≡ Some n → is_loaded_right n ≡ true
-loaded_of-right m n some =
-    let both = given-some (is_loaded_right (in_order m)) (in_order m) n some in ap is_loaded_right (sym both.1) ∙ both.0
-
--- the others are those of a meeting where the other tests hold
-pub meeting_checked-loaded : (m n : MeetingLists) (b : Bool) → loaded_of m ≡ Some n → is_meeting n ≡ b → meeting_checked m ≡ cond b (Some n) None
-meeting_checked-loaded m n b some is =
-    let both = given-some (is_loaded_right (in_order m)) (in_order m) n some in
-    ap (λ x. cond (is_meeting x) (Some x) None) both.1 ∙ ap (λ c. cond c (Some n) None) is
-
 -- each of the lists is that of a meeting, once its register is in order
 abbrev pub are_each : List MeetingLists → Bool
 are_each ms = list_all (λ m. is_meeting (in_order m)) ms
 
-pub each_checked-none : (ms : List MeetingLists) (i : ℕ) (m : MeetingLists) → (i < length ms) × (m ≡ get_or ms i m) → meeting_checked m ≡ None → each_checked ms ≡ None
-each_checked-none ms i m turn none =
-    let wrong = given-none (is_meeting (in_order m)) (in_order m) none in
-    ap (λ b. cond b (Some (map in_order ms)) None)
-    (list_all-map is_meeting in_order ms ∙ list_all_at (λ x. is_meeting (in_order x)) ms i m turn.0 (ap (λ x. is_meeting (in_order x)) (sym turn.1) ∙ wrong))
+-- the lists, the first so many of them in order
+abbrev pub ordered_first : ℕ → List MeetingLists → List MeetingLists
+ordered_first zero ms = ms
+ordered_first (suc i) [] = []
+ordered_first (suc i) (m ∷ ms) = in_order m ∷ ordered_first i ms
 
-pub each_checked-some : (ms found : List MeetingLists) → found ≡ map in_order ms → are_each ms ≡ true → each_checked ms ≡ Some found
-each_checked-some ms found made all =
-    ap (λ b. cond b (Some (map in_order ms)) None) (list_all-map is_meeting in_order ms ∙ all) ∙ ap (λ l. Some l) (sym made)
+-- the next stand as they were
+pub ordered-next : (i : ℕ) (ms : List MeetingLists) (d : MeetingLists) → get_or (ordered_first i ms) i d ≡ get_or ms i d
+ordered-next zero ms d = refl
+ordered-next (suc i) [] d = refl
+ordered-next (suc i) (m ∷ ms) d = ordered-next i ms d
 
-pub each_checked-more : (ms found : List MeetingLists) (m n : MeetingLists) → found ≡ map in_order ms → are_each ms ≡ true → meeting_checked m ≡ Some n
-    → (found ++ n ∷ [] ≡ map in_order (ms ++ m ∷ [])) × (are_each (ms ++ m ∷ []) ≡ true)
-each_checked-more ms found m n made all some =
-    let both = given-some (is_meeting (in_order m)) (in_order m) n some in (
-      ap (λ l. l ++ n ∷ []) made ∙ ap (λ x. map in_order ms ++ x ∷ []) (sym both.1) ∙ sym (map-append in_order ms (m ∷ [])),
-      list_all-append (λ x. is_meeting (in_order x)) ms (m ∷ []) ∙ both_true all (both_true both.0 refl),
+ordered-set : (i : ℕ) (ms : List MeetingLists) (d : MeetingLists) → i < length ms → set (ordered_first i ms) i (in_order (get_or ms i d)) ≡ ordered_first (suc i) ms
+ordered-set zero [] d h = absurd (omega arith)
+ordered-set zero (m ∷ ms) d h = refl
+ordered-set (suc i) [] d h = absurd (omega arith)
+ordered-set (suc i) (m ∷ ms) d h = ap (λ l. in_order m ∷ l) (ordered-set i ms d (omega arith))
+
+pub ordered-all : (i : ℕ) (ms : List MeetingLists) → length ms ≤ i → ordered_first i ms ≡ map in_order ms
+ordered-all zero [] h = refl
+ordered-all zero (m ∷ ms) h = absurd (omega arith)
+ordered-all (suc i) [] h = refl
+ordered-all (suc i) (m ∷ ms) h = ap (λ l. in_order m ∷ l) (ordered-all i ms (omega arith))
+
+-- the next of them is put in order
+pub ordered-step : (init now : List MeetingLists) (i : ℕ) (m n : MeetingLists) → now ≡ ordered_first i init → i < length init → m ≡ get_or now i m → n ≡ in_order m → are_each (take i init) ≡ true → is_meeting (in_order m) ≡ true
+    → (set now i n ≡ ordered_first (i + 1) init) × (are_each (take (i + 1) init) ≡ true)
+ordered-step init now i m n is within there made each right =
+    let next : m ≡ get_or init i m = there ∙ ap (λ l. get_or l i m) is ∙ ordered-next i init m in
+    let one : suc i ≡ i + 1 = omega arith in (
+      ap (λ l. set l i n) is ∙ ap (set (ordered_first i init) i) (made ∙ ap in_order next) ∙ ordered-set i init m within ∙ ap (λ k. ordered_first k init) one,
+      list_all_more (λ x. is_meeting (in_order x)) init i m within ∙ both_true each (ap (λ x. is_meeting (in_order x)) (sym next) ∙ right),
     )
+
+-- and where it is no meeting's, not each are
+pub ordered-wrong : (init now : List MeetingLists) (i : ℕ) (m : MeetingLists) → now ≡ ordered_first i init → i < length init → m ≡ get_or now i m → is_meeting (in_order m) ≡ false → list_all is_meeting (map in_order init) ≡ false
+ordered-wrong init now i m is within there wrong =
+    let next : m ≡ get_or init i m = there ∙ ap (λ l. get_or l i m) is ∙ ordered-next i init m in
+    list_all-map is_meeting in_order init ∙ list_all_at (λ x. is_meeting (in_order x)) init i m within (ap (λ x. is_meeting (in_order x)) (sym next) ∙ wrong)
+
+pub ordered-end : (init now : List MeetingLists) (i : ℕ) → now ≡ ordered_first i init → length init ≤ i → are_each (take i init) ≡ true → (now ≡ map in_order init) × (list_all is_meeting (map in_order init) ≡ true)
+ordered-end init now i is end each =
+    (is ∙ ordered-all i init end, list_all-map is_meeting in_order init ∙ ap are_each (sym (take_all i init end)) ∙ each)

@@ -1,23 +1,21 @@
 -- Appointments that are numbered 1, 2, .. by member.
-use Rattle.std.proofs.Common.{◌≡◌, ℕ, suc, ◌+◌, ◌<◌, ◌≤◌, Bool, true, false, cond, ◌&&◌, ◌||◌, ◌==◌, List, [], ◌∷◌, ◌++◌, length, get_or, take, drop, refl, ap, sym, ◌∙◌, arith, add-one, append_assoc, map}
+use Rattle.std.proofs.Common.{◌≡◌, ℕ, zero, suc, ◌+◌, ◌-◌, ◌<◌, ◌≤◌, Bool, true, false, cond, ◌&&◌, ◌||◌, ◌==◌, List, [], ◌∷◌, ◌++◌, length, get_or, take, drop, refl, ap, sym, ◌∙◌, subst, arith, add-one, append_assoc}
 use Rattle.std.specs.Prelude.{count_by, nat_le, nat_lt}
 use Rattle.std.specs.List.{list_any}
 use Rattle.std.specs.Cmp.{first_so, second_so}
 use Rattle.std.proofs.Math.Seq.{drop-cons, take-suc}
 use Rattle.std.proofs.lemmas.Bool.{eqb-true}
 use Rattle.std.proofs.lemmas.Bool.Decides.{nat_tests}
-use Rattle.std.proofs.lemmas.List.{map-append, take_more}
 use Rattle.std.proofs.lemmas.List.Sums.{sum_by-append}
-use Rattle.std.specs.Ordering.{is_eq}
 use Rattle.desk_lists.proofs.Differing.{count_snoc}
 use Rattle.desk_filed.specs.Places.{has_first, places_passing}
 use Rattle.desk_terms.specs.Names.{same_name, name_cmp}
-use Rattle.desk_words.proofs.RowLemmas.{same_name-true}
+use Rattle.desk_words.proofs.RowLemmas.{same_name-true, same_name-refl}
 use Rattle.desk_words.specs.Office.{are_numbered_after, is_ending_of}
 use Rattle.desk_words.specs.declared.records.Appointment.{Appointment}
 use Rattle.desk_words.specs.declared.records.Ending.{Ending}
-use Rattle.office_checks.proofs.KeyLemmas.{count-map, length-places_that}
-use Rattle.office_checks.specs.Keys.{key_times}
+use Rattle.office_checks.proofs.KeyLemmas.{length-places_that}
+use Rattle.office_checks.proofs.RankLemmas.{StandsAt, ranked, stands}
 use Rattle.office_checks.proofs.TieLemmas.{name-ties}
 
 -- the appointment is the member's
@@ -87,28 +85,46 @@ own-places member given places are =
     ∙ length-places_that (has_first name_cmp (λ (a : Appointment). a.member) member) given
     ∙ ap (λ test. count_by test given) (λ i a. name-ties a.member member i)
 
--- how often a member stands among those of the earlier appointments
-times-earlier : (member : List ℕ) (earlier : List Appointment) → key_times name_cmp member (map (λ (a : Appointment). a.member) earlier) ≡ count_by (is_of member) earlier
-times-earlier member earlier =
-    count-map (λ other. is_eq (name_cmp other member)) (λ (a : Appointment). a.member) earlier
-    ∙ ap (λ test. count_by test earlier) (λ i a. name-ties a.member member i)
+by_place : (k rank i : ℕ) (ps : List ℕ) → StandsAt ps rank i → ((j : ℕ) → j < length ps → get_or ps j 0 ≡ i → j ≡ rank)
+    → (suc k == suc rank) ≡ (nat_le 1 (suc k) && nat_le (suc k) (length ps) && (get_or ps k 0 == i))
+by_place k rank i ps at only =
+    (elim (k == rank) as (λ b. (k == rank) ≡ b → (suc k == suc rank) ≡ (nat_le 1 (suc k) && nat_le (suc k) (length ps) && (get_or ps k 0 == i))) [
+      | true ↦ λ same.
+          let is = eqb-true k rank same in
+          let there : get_or ps k 0 ≡ i = ap (λ j. get_or ps j 0) is ∙ at.there in
+          grind (arith, nat_tests, is, there, at.within)
+      | false ↦ λ other.
+          let apart : (k < length ps) → get_or ps k 0 ≡ i → ⊥ = λ h there. (let is = only k h there in absurd (grind (arith, nat_tests, is, other))) in
+          grind (arith, nat_tests, other, apart)
+    ]) refl
 
--- the next appointment has its number, and the others go on from it
-pub next-number : (given : List Appointment) (i : ℕ) (a : Appointment) (members : List (List ℕ)) (times : ℕ) → i < length given → a ≡ get_or given i a
-    → members ≡ map (λ (b : Appointment). b.member) (take i given) → times ≡ key_times name_cmp a.member members
-    → are_numbered_after (take i given) (drop i given) ≡ ((a.number == suc times) && are_numbered_after (take (i + 1) given) (drop (i + 1) given))
-next-number given i a members times within is filed counted =
-    let count : times ≡ count_by (is_of a.member) (take i given) = counted ∙ ap (key_times name_cmp a.member) filed ∙ times-earlier a.member (take i given) in
-    numbered-more given i a within
-    ∙ ap (λ (x : Appointment). (x.number == suc (count_by (is_of x.member) (take i given))) && are_numbered_after (take (i + 1) given) (drop (i + 1) given)) (sym is)
-    ∙ ap (λ n. (a.number == suc n) && are_numbered_after (take (i + 1) given) (drop (i + 1) given)) (sym count)
+-- a number is that of the rank exactly where it leads to the place
+by_rank : (n rank i : ℕ) (ps : List ℕ) → StandsAt ps rank i → ((k : ℕ) → k < length ps → get_or ps k 0 ≡ i → k ≡ rank)
+    → (n == suc rank) ≡ (nat_le 1 n && nat_le n (length ps) && (get_or ps (n - 1) 0 == i))
+by_rank zero rank i ps at only = grind (arith, nat_tests)
+by_rank (suc k) rank i ps at only =
+    let before : k ≡ suc k - 1 = omega arith in
+    by_place k rank i ps at only ∙ ap (λ j. nat_le 1 (suc k) && nat_le (suc k) (length ps) && (get_or ps j 0 == i)) before
 
--- the members of one appointment more are filed
-pub members-more : (given : List Appointment) (i : ℕ) (a : Appointment) (members : List (List ℕ)) → i < length given → a ≡ get_or given i a
-    → members ≡ map (λ (b : Appointment). b.member) (take i given) → members ++ a.member ∷ [] ≡ map (λ (b : Appointment). b.member) (take (i + 1) given)
-members-more given i a members within is filed =
-    let name : Appointment → List ℕ = λ b. b.member in
-    ap (λ l. l ++ a.member ∷ []) filed
-    ∙ ap (λ b. map name (take i given) ++ name b ∷ []) is
-    ∙ sym (map-append name (take i given) (get_or given i a ∷ []))
-    ∙ ap (map name) (sym (take_more given i a within))
+-- an appointment has the number after those of its member's earlier ones exactly where its place is the one of that number among the member's
+pub numbered-at : (given : List Appointment) (places : List ℕ) (i : ℕ) (a : Appointment) → places ≡ places_passing (has_first name_cmp (λ (b : Appointment). b.member) a.member) given
+    → i < length given → get_or given i a ≡ a
+    → (a.number == suc (count_by (is_of a.member) (take i given))) ≡ (nat_le 1 a.number && nat_le a.number (length places) && (get_or places (a.number - 1) 0 == i))
+numbered-at given places i a are within is =
+    let test = is_of a.member in
+    let own : places ≡ places_passing test given = are ∙ ap (λ t. places_passing t given) (λ j b. name-ties b.member a.member j) in
+    let rank = count_by test (take i given) in
+    let at = stands test given i a within (ap (λ (b : Appointment). same_name b.member a.member) is ∙ same_name-refl a.member) in
+    let P : List ℕ → Type 0 = λ ps. (a.number == suc rank) ≡ (nat_le 1 a.number && nat_le a.number (length ps) && (get_or ps (a.number - 1) 0 == i)) in
+    subst P (sym own) (by_rank a.number rank i (places_passing test given) at (λ k h same. sym (ranked test given k h) ∙ ap (λ p. count_by test (take p given)) same))
+
+-- whether the others go on is whether the next has its number and those after it go on
+pub numbered-step : (given items : List Appointment) (i : ℕ) (a : Appointment) (right : Bool) → items ≡ given → i < length items → a ≡ get_or items i a
+    → right ≡ (a.number == suc (count_by (is_of a.member) (take i given)))
+    → are_numbered_after (take i items) (drop i items) ≡ (right && are_numbered_after (take (i + 1) items) (drop (i + 1) items))
+numbered-step given items i a right same within is told =
+    let rest = are_numbered_after (take (i + 1) items) (drop (i + 1) items) in
+    numbered-more items i a within
+    ∙ ap (λ (x : Appointment). (x.number == suc (count_by (is_of x.member) (take i items))) && rest) (sym is)
+    ∙ ap (λ l. (a.number == suc (count_by (is_of a.member) (take i l))) && rest) same
+    ∙ ap (λ b. b && rest) (sym told)

@@ -1,8 +1,7 @@
 -- The office of some lists. A register is a set of rows, so that its rows may come in any order.
 use Rattle.std.specs.Prelude.{Bool, List, map, Option, Some, None, if◌then◌else◌}
-use Rattle.std.specs.List.{list_all}
 use Rattle.desk_lists.specs.Sorting.{sort_by}
-use Rattle.desk_words.specs.Office.{are_meetings, is_loaded_right, is_meeting, is_office, no_rows}
+use Rattle.desk_words.specs.Office.{are_meetings, is_meeting, is_office, no_rows}
 use Rattle.desk_words.specs.Registers.{is_register, member_before}
 use Rattle.desk_words.specs.declared.office.MeetingLists.{MeetingLists}
 use Rattle.desk_words.specs.declared.office.OfficeLists.{OfficeLists}
@@ -19,17 +18,9 @@ rows_checked loaded rows =
 abbrev pub in_order : MeetingLists → MeetingLists
 in_order m = record m { register = sort_by member_before m.register }
 
--- they, if the register is loaded as it should be
-abbrev pub loaded_of : MeetingLists → Option MeetingLists
-loaded_of m = if is_loaded_right (in_order m) then Some (in_order m) else None
-
--- they, if they are the lists of a meeting
+-- the lists of a meeting, if they are such once the register is in order
 abbrev pub meeting_checked : MeetingLists → Option MeetingLists
 meeting_checked m = if is_meeting (in_order m) then Some (in_order m) else None
-
--- the lists, each register in order, if each are those of a meeting
-abbrev pub each_checked : List MeetingLists → Option (List MeetingLists)
-each_checked ms = if list_all is_meeting (map in_order ms) then Some (map in_order ms) else None
 
 -- the lists of meetings, each register in order, if they are those of the meetings of an office
 abbrev pub meetings_of : List MeetingLists → Option (List MeetingLists)

@@ -1,29 +1,39 @@
 //! Whether appointments and endings are those of a meeting.
-ghost use Rattle.std.specs.Prelude.{◌≡◌, [], IfOk, map, true};
-ghost use Rattle.std.specs.List.{list_all, list_any};
+ghost use Rattle.std.specs.Prelude.{◌≡◌, ◌==◌, [], Some, count_by, suc, take, true};
+ghost use Rattle.std.specs.List.{list_all, list_any, slice_get};
 ghost use Rattle.desk_lists.specs.Ordered.{differ_by};
+ghost use Rattle.desk_terms.specs.Names.{same_name};
 ghost use Rattle.desk_words.specs.Office.{are_appointments, are_numbered_after, is_appointment};
 ghost use Rattle.desk_words.specs.Office.{are_endings, is_ending_of, same_ending};
-ghost use Rattle.office_checks.specs.Keys.{ended_in};
+ghost use Rattle.desk_words.specs.declared.records.Appointment.{Appointment};
 
-use crate::keys::{Mark, differ, times};
+use crate::keys::{Marked, stand_once};
 use desk_words::limits::MOST_APPOINTMENTS;
-use desk_words::{Appointment, Ending, Filed, Party};
-use std::alloc::{AllocError, Global};
+use desk_words::{Appointment, Ending, Filed};
+
+/// Whether the appointment at a place has the number after those of its member's earlier ones.
+fn is_numbered(given: &Filed<Appointment>, place: usize, appointment: &Appointment) -> bool
+    requires { slice_get given.now place ≡ Some appointment.now }
+    ensures { result ≡ (appointment.now.number
+        == suc (count_by (λ (b : Appointment). same_name b.member appointment.now.member)
+        (take place given.now))) }
+{
+    let own = given.places_by_first(appointment.member);
+    1 <= appointment.number
+        && appointment.number <= own.len() as u64
+        && own[(appointment.number - 1) as usize] == place
+}
 
 /// Whether the appointments of each member are numbered 1, 2, .. in order of receipt.
-fn are_numbered(alloc: Global, given: &[Appointment]) -> Result<bool, AllocError>
-    ensures { IfOk result (λ numbered. numbered ≡ are_numbered_after [] given.now) }
+fn are_numbered(given: &Filed<Appointment>) -> bool
+    ensures { result ≡ are_numbered_after [] given.now }
 {
-    let mut members: Filed<Mark<Party>> = Filed::new(alloc);
-    for appointment in given {
-        let key = appointment.member;
-        if appointment.number != times(&members, key) as u64 + 1 {
-            return Ok(false);
+    for (place, appointment) in given.as_slice().iter().enumerate() {
+        if !is_numbered(given, place, appointment) {
+            return false;
         }
-        members.push(Mark { key })?;
     }
-    Ok(true)
+    true
 }
 
 fn is_appointment(resolutions: usize, appointment: &Appointment) -> bool
@@ -41,15 +51,11 @@ fn are_each_right(resolutions: usize, given: &[Appointment]) -> bool
 }
 
 /// Whether they are the appointments of a meeting with so many resolutions (sections 324 and
-/// 324A). The error is want of memory.
-pub(crate) fn are_appointments(
-    alloc: Global,
-    resolutions: usize,
-    given: &[Appointment],
-) -> Result<bool, AllocError>
-    ensures { IfOk result (λ right. right ≡ are_appointments resolutions given.now) }
+/// 324A).
+pub(crate) fn are_appointments(resolutions: usize, given: &Filed<Appointment>) -> bool
+    ensures { result ≡ are_appointments resolutions given.now }
 {
-    Ok(are_numbered(alloc, given)? && are_each_right(resolutions, given))
+    are_numbered(given) && are_each_right(resolutions, given.as_slice())
 }
 
 /// Whether an ending names an appointment of its member.
@@ -68,31 +74,27 @@ fn name_appointments(given: &Filed<Appointment>, ended: &[Ending]) -> bool
     ended.iter().all(|ending| names_appointment(given, ending))
 }
 
-/// The appointments that are ended, each by its member and its number.
-fn named_by(alloc: Global, ended: &[Ending]) -> Result<Vec<(Party, u64)>, AllocError>
-    ensures { IfOk result (λ named. named.items ≡ map ended_in ended.now) }
-{
-    ended
-        .iter()
-        .map(|ending| (ending.member, ending.number))
-        .collect(alloc)
+impl Marked for Ending {
+    type Mark = u64;
+
+    ghost mark_of = { λ ending. ending.number };
+
+    fn mark(&self) -> u64 {
+        self.number
+    }
 }
 
 /// Whether no appointment is ended twice.
-fn endings_differ(alloc: Global, ended: &[Ending]) -> Result<bool, AllocError>
-    ensures { IfOk result (λ apart. apart ≡ differ_by same_ending ended.now) }
+fn endings_differ(ended: &Filed<Ending>) -> bool
+    ensures { result ≡ differ_by same_ending ended.now }
 {
-    Ok(differ(named_by(alloc, ended)?))
+    stand_once(ended)
 }
 
-/// Whether they are endings of these appointments (section 330). The error is want of memory.
-pub(crate) fn are_endings(
-    alloc: Global,
-    given: &Filed<Appointment>,
-    ended: &[Ending],
-) -> Result<bool, AllocError>
+/// Whether they are endings of these appointments (section 330).
+pub(crate) fn are_endings(given: &Filed<Appointment>, ended: &Filed<Ending>) -> bool
     requires { are_numbered_after [] given.now ≡ true }
-    ensures { IfOk result (λ right. right ≡ are_endings given.now ended.now) }
+    ensures { result ≡ are_endings given.now ended.now }
 {
-    Ok(name_appointments(given, ended) && endings_differ(alloc, ended)?)
+    name_appointments(given, ended.as_slice()) && endings_differ(ended)
 }

@@ -1,5 +1,5 @@
 //! Whether authorities, presences and demands are those of a meeting.
-ghost use Rattle.std.specs.Prelude.{◌≡◌, IfOk, count_by, length, map, nat_le};
+ghost use Rattle.std.specs.Prelude.{◌≡◌, count_by, length, nat_le};
 ghost use Rattle.std.specs.List.{list_all};
 ghost use Rattle.desk_lists.specs.Ordered.{differ_by};
 ghost use Rattle.desk_terms.specs.Names.{same_name};
@@ -9,12 +9,10 @@ ghost use Rattle.desk_words.specs.declared.records.PresenceMark.{PresenceMark};
 ghost use Rattle.desk_words.specs.declared.limits.TheConstants.{MOST_AUTHORITIES};
 ghost use Rattle.desk_words.specs.Office.{are_authorities, same_authority, same_presence};
 ghost use Rattle.desk_words.specs.Office.{are_demands, is_resolution, same_demand};
-ghost use Rattle.office_checks.specs.Keys.{demanded_in, named_in};
 
-use crate::keys::differ;
+use crate::keys::{Marked, stand_once};
 use desk_words::limits::MOST_AUTHORITIES;
 use desk_words::{Authority, DemandMark, Filed, Meeting, Party, PresenceMark};
-use std::alloc::{AllocError, Global};
 
 /// Whether the party that gave an authority gave `MOST_AUTHORITIES` at most.
 fn gave_few(given: &Filed<Authority>, authority: &Authority) -> bool
@@ -34,60 +32,70 @@ fn all_gave_few(given: &Filed<Authority>) -> bool
         .all(|authority| gave_few(given, authority))
 }
 
-/// Who is authorised, each with the party that authorises.
-fn named_by(alloc: Global, given: &[Authority]) -> Result<Vec<(Party, Party)>, AllocError>
-    ensures { IfOk result (λ named. named.items ≡ map named_in given.now) }
-{
-    given
-        .iter()
-        .map(|authority| (authority.corporation, authority.person))
-        .collect(alloc)
+impl Marked for Authority {
+    type Mark = Party;
+
+    ghost mark_of = { λ authority. authority.person };
+
+    fn mark(&self) -> Party {
+        self.person
+    }
 }
 
 /// Whether no party authorises a person twice.
-fn authorities_differ(alloc: Global, given: &[Authority]) -> Result<bool, AllocError>
-    ensures { IfOk result (λ apart. apart ≡ differ_by same_authority given.now) }
+fn authorities_differ(given: &Filed<Authority>) -> bool
+    ensures { result ≡ differ_by same_authority given.now }
 {
-    Ok(differ(named_by(alloc, given)?))
+    stand_once(given)
 }
 
-/// Whether they are the authorities of a meeting (section 323). The error is want of memory.
-pub(crate) fn are_authorities(alloc: Global, given: &Filed<Authority>) -> Result<bool, AllocError>
-    ensures { IfOk result (λ right. right ≡ are_authorities given.now) }
+/// Whether they are the authorities of a meeting (section 323).
+pub(crate) fn are_authorities(given: &Filed<Authority>) -> bool
+    ensures { result ≡ are_authorities given.now }
 {
-    Ok(all_gave_few(given) && authorities_differ(alloc, given.as_slice())?)
+    all_gave_few(given) && authorities_differ(given)
 }
 
-/// The parties that are marked present.
-fn present(alloc: Global, marks: &[PresenceMark]) -> Result<Vec<Party>, AllocError>
-    ensures { IfOk result (λ parties. parties.items
-        ≡ map (λ (m : PresenceMark). m.party) marks.now) }
+/// Whether the party is marked present once at most.
+fn is_marked_once(marks: &Filed<PresenceMark>, mark: &PresenceMark) -> bool
+    ensures { result ≡ nat_le (count_by (λ (other : PresenceMark). same_presence other mark.now)
+        marks.now) 1 }
 {
-    marks.iter().map(|mark| mark.party).collect(alloc)
+    marks.places_by_first(mark.party).len() <= 1
 }
 
-/// Whether no party is marked present twice. The error is want of memory.
-pub(crate) fn presences_differ(alloc: Global, marks: &[PresenceMark]) -> Result<bool, AllocError>
-    ensures { IfOk result (λ apart. apart ≡ differ_by same_presence marks.now) }
+fn are_marked_once(marks: &Filed<PresenceMark>) -> bool
+    ensures { result ≡ list_all (λ (mark : PresenceMark). nat_le (count_by
+        (λ (other : PresenceMark). same_presence other mark) marks.now) 1) marks.now }
 {
-    Ok(differ(present(alloc, marks)?))
-}
-
-/// On which resolutions polls are demanded, each with the party that demands it.
-fn demanded(alloc: Global, demands: &[DemandMark]) -> Result<Vec<(u64, Party)>, AllocError>
-    ensures { IfOk result (λ named. named.items ≡ map demanded_in demands.now) }
-{
-    demands
+    marks
+        .as_slice()
         .iter()
-        .map(|demand| (demand.resolution, demand.party))
-        .collect(alloc)
+        .all(|mark| is_marked_once(marks, mark))
+}
+
+/// Whether no party is marked present twice.
+pub(crate) fn presences_differ(marks: &Filed<PresenceMark>) -> bool
+    ensures { result ≡ differ_by same_presence marks.now }
+{
+    are_marked_once(marks)
+}
+
+impl Marked for DemandMark {
+    type Mark = u64;
+
+    ghost mark_of = { λ demand. demand.resolution };
+
+    fn mark(&self) -> u64 {
+        self.resolution
+    }
 }
 
 /// Whether no party demands a poll on a resolution twice.
-fn demands_differ(alloc: Global, demands: &[DemandMark]) -> Result<bool, AllocError>
-    ensures { IfOk result (λ apart. apart ≡ differ_by same_demand demands.now) }
+fn demands_differ(demands: &Filed<DemandMark>) -> bool
+    ensures { result ≡ differ_by same_demand demands.now }
 {
-    Ok(differ(demanded(alloc, demands)?))
+    stand_once(demands)
 }
 
 /// Whether each demand is of a poll on a resolution of the meeting.
@@ -100,15 +108,9 @@ fn name_resolutions(meeting: &Meeting, demands: &[DemandMark]) -> bool
         .all(|demand| meeting.has_resolution(demand.resolution))
 }
 
-/// Whether they are demands of polls in the meeting (sections 321 and 329). The error is want of
-/// memory.
-pub(crate) fn are_demands(
-    alloc: Global,
-    meeting: &Meeting,
-    demands: &[DemandMark],
-) -> Result<bool, AllocError>
-    ensures { IfOk result (λ right. right
-        ≡ are_demands (length meeting.now.resolutions) demands.now) }
+/// Whether they are demands of polls in the meeting (sections 321 and 329).
+pub(crate) fn are_demands(meeting: &Meeting, demands: &Filed<DemandMark>) -> bool
+    ensures { result ≡ are_demands (length meeting.now.resolutions) demands.now }
 {
-    Ok(name_resolutions(meeting, demands) && demands_differ(alloc, demands)?)
+    name_resolutions(meeting, demands.as_slice()) && demands_differ(demands)
 }

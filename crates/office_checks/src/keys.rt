@@ -1,71 +1,54 @@
-//! Keys of records: whether they differ, and how often each stands.
-ghost use Rattle.std.specs.Prelude.{◌≡◌, None, IfOk, map, nat_le};
+//! How often items stand that have one first key and one mark.
+ghost use Rattle.std.specs.Prelude.{◌≡◌, ◌&&◌, count_by, nat_le};
 ghost use Rattle.std.specs.List.{list_all};
-ghost use Rattle.std.specs.Ordering.{eq_by_cmp};
-ghost use Rattle.desk_lists.specs.Ordered.{differ_by};
-ghost use Rattle.office_checks.specs.Keys.{key_of_mark, key_times};
+ghost use Rattle.std.specs.Ordering.{is_eq};
 
 use desk_filed::{Filed, FiledBy};
-use std::alloc::{AllocError, Global};
 
-/// A key that is filed under itself.
-#[derive(Clone, Copy)]
-pub(crate) struct Mark<K> {
-    pub key: K,
+/// An item that is told by a mark from the others of its first key.
+pub(crate) trait Marked: FiledBy {
+    /// What marks items.
+    type Mark: Ord + Copy;
+
+    // The mark, as contracts see it.
+    ghost mark_of: { Self → Self.Mark };
+
+    /// The mark of the item.
+    fn mark(&self) -> Self::Mark
+        ensures { result ≡ mark_of self.now };
 }
 
-impl<K: Ord + Copy> FiledBy for Mark<K> {
-    type Key = K;
-
-    ghost first_key_of = { λ mark. mark.key };
-
-    ghost second_key_of = { λ _. None };
-
-    fn first_key(&self) -> K {
-        self.key
+/// How many items have the first key and the mark. It looks at those of that key alone, and takes
+/// no memory.
+pub(crate) fn times<T: Marked>(items: &Filed<T>, key: T::Key, mark: T::Mark) -> usize
+    ensures { result ≡ count_by (λ (item : T). is_eq (T.Mark.cmp (T.mark_of item) mark)
+        && is_eq (T.Key.cmp (T.first_key_of item) key)) items.now }
+{
+    let all = items.as_slice();
+    let mut times = 0;
+    for place in items.places_by_first(key) {
+        if all[*place].mark().cmp(&mark).is_eq() {
+            times += 1;
+        }
     }
-
-    fn second_key(&self) -> Option<K> {
-        None
-    }
+    times
 }
 
-/// Whether no two keys are equal, in about n log n comparisons.
-pub(crate) fn differ<K: Ord + Drop>(keys: Vec<K>) -> bool
-    ensures { result ≡ differ_by (eq_by_cmp K.cmp) keys.items }
+/// Whether one item at most has the first key and the mark of an item.
+fn stands_once<T: Marked>(items: &Filed<T>, item: &T) -> bool
+    ensures { result ≡ nat_le (count_by (λ (other : T).
+        is_eq (T.Mark.cmp (T.mark_of other) (T.mark_of item.now))
+        && is_eq (T.Key.cmp (T.first_key_of other) (T.first_key_of item.now))) items.now) 1 }
 {
-    let mut keys = keys;
-    keys.sort_unstable();
-    keys.is_sorted_by(|first, second| first.cmp(second).is_lt())
+    times(items, item.first_key(), item.mark()) <= 1
 }
 
-/// The keys, filed. The error is want of memory.
-fn filed<K: Ord + Copy>(alloc: Global, keys: &[K]) -> Result<Filed<Mark<K>>, AllocError>
-    ensures { IfOk result (λ marks. map key_of_mark marks ≡ keys.now) }
+/// Whether no two items have one first key and one mark.
+pub(crate) fn stand_once<T: Marked>(items: &Filed<T>) -> bool
+    ensures { result ≡ list_all (λ (item : T). nat_le (count_by (λ (other : T).
+        is_eq (T.Mark.cmp (T.mark_of other) (T.mark_of item))
+        && is_eq (T.Key.cmp (T.first_key_of other) (T.first_key_of item))) items.now) 1)
+        items.now }
 {
-    let mut marks = Filed::new(alloc);
-    for key in keys {
-        marks.push(Mark { key: *key })?;
-    }
-    Ok(marks)
-}
-
-/// How often a key stands among others.
-pub(crate) fn times<K: Ord + Copy>(marks: &Filed<Mark<K>>, key: K) -> usize
-    ensures { result ≡ key_times K.cmp key (map key_of_mark marks.now) }
-{
-    marks.places_by_first(key).len()
-}
-
-/// Whether each key stands so often at most. The error is want of memory.
-pub(crate) fn stand_at_most<K: Ord + Copy>(
-    alloc: Global,
-    keys: &[K],
-    most: usize,
-) -> Result<bool, AllocError>
-    ensures { IfOk result (λ few. few
-        ≡ list_all (λ key. nat_le (key_times K.cmp key keys.now) most) keys.now) }
-{
-    let marks = filed(alloc, keys)?;
-    Ok(keys.iter().all(|key| times(&marks, *key) <= most))
+    items.as_slice().iter().all(|item| stands_once(items, item))
 }

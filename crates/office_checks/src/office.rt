@@ -1,31 +1,29 @@
 //! The office of some lists.
-ghost use Rattle.std.specs.Prelude.{◌≡◌, IfOk};
+ghost use Rattle.std.specs.Prelude.{◌≡◌};
 ghost use Rattle.office_checks.specs.InOrder.{office_checked};
 
 use crate::meetings::meetings_of;
 use desk_words::OfficeLists;
-use std::alloc::{AllocError, Global};
+use std::alloc::Global;
 
 /// The office of some lists, or none where they are no office: the lists themselves, each register
 /// put in the order of members first, since a register is a set of rows, which may come in any
-/// order. It costs about n log n comparisons. The error is want of memory.
-pub fn office_checked(alloc: Global, lists: OfficeLists) -> Result<Option<OfficeLists>, AllocError>
-    ensures { IfOk result (λ office. office ≡ office_checked lists) }
+/// order. It takes no memory.
+pub fn office_checked(alloc: Global, lists: OfficeLists) -> Option<OfficeLists>
+    ensures { result ≡ office_checked lists }
 {
     let OfficeLists {
         keys,
         closed,
         meetings,
     } = lists;
-    let Some(meetings) = meetings_of(alloc, meetings)? else {
-        return Ok(None);
-    };
+    let meetings = meetings_of(alloc, meetings)?;
     // These open the values, so that what their types keep is known.
     let _ = keys.as_slice();
     let _ = closed.as_slice();
-    Ok(Some(OfficeLists {
+    Some(OfficeLists {
         keys,
         closed,
         meetings,
-    }))
+    })
 }

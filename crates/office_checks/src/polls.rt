@@ -1,20 +1,20 @@
 //! Whether polls and casts are those of a meeting.
-ghost use Rattle.std.specs.Prelude.{◌≡◌, IfOk, count_by, is_some, length, map, nat_le};
-ghost use Rattle.std.specs.List.{list_all, list_any};
+ghost use Rattle.std.specs.Prelude.{◌≡◌, ◌&&◌, ◌==◌, Some, count_by, is_some, length, nat_le, not, take, true};
+ghost use Rattle.std.specs.List.{list_all, list_any, slice_get};
 ghost use Rattle.std.specs.Option.{option_copied};
 ghost use Rattle.desk_lists.specs.Ordered.{ascends_by};
+ghost use Rattle.desk_terms.specs.Names.{same_name};
 ghost use Rattle.desk_words.specs.declared.records.CastMark.{CastMark};
+ghost use Rattle.desk_words.specs.declared.records.Poll.{Poll};
 ghost use Rattle.desk_words.specs.declared.limits.TheConstants.{MOST_CASTS};
 ghost use Rattle.desk_words.specs.Office.{are_casts, is_cast_on, same_ballot};
 ghost use Rattle.desk_words.specs.Office.{are_polls, is_declared_right, is_poll, is_tally};
 ghost use Rattle.desk_words.specs.Office.{poll_before};
-ghost use Rattle.office_checks.specs.Keys.{ballot_of};
 
-use crate::keys::stand_at_most;
+use crate::keys::{Marked, times};
 use desk_lists::ascend;
 use desk_words::limits::{MOST_CASTS, MOST_SHARES};
-use desk_words::{CastMark, Meeting, Party, Poll, Tally};
-use std::alloc::{AllocError, Global};
+use desk_words::{CastMark, Filed, Meeting, Party, Poll, Tally};
 
 /// Whether the votes are those of some shares, and the shares `MOST_SHARES` at most (section 284).
 fn is_tally(tally: &Tally) -> bool
@@ -86,34 +86,64 @@ fn are_on_started(polls: &[Poll], casts: &[CastMark]) -> bool
     casts.iter().all(|cast| is_on_started(polls, cast))
 }
 
-/// On which resolutions votes are cast, each with its voter.
-fn ballots(alloc: Global, casts: &[CastMark]) -> Result<Vec<(u64, Party)>, AllocError>
-    ensures { IfOk result (λ ballots. ballots.items ≡ map ballot_of casts.now) }
-{
-    casts
-        .iter()
-        .map(|cast| (cast.resolution, cast.voter))
-        .collect(alloc)
+impl Marked for CastMark {
+    type Mark = u64;
+
+    ghost mark_of = { λ cast. cast.resolution };
+
+    fn mark(&self) -> u64 {
+        self.resolution
+    }
 }
 
-/// Whether each voter cast `MOST_CASTS` votes at most on a resolution.
-fn cast_few(alloc: Global, casts: &[CastMark]) -> Result<bool, AllocError>
-    ensures { IfOk result (λ few. few
-        ≡ list_all (λ c. nat_le (count_by (λ d. same_ballot d c) casts.now) MOST_CASTS)
-        casts.now) }
+/// Whether a voter cast `MOST_CASTS` votes at most on a resolution.
+fn cast_few_on(casts: &Filed<CastMark>, voter: Party, resolution: u64) -> bool
+    ensures { result ≡ nat_le (count_by (λ (d : CastMark).
+        d.resolution == resolution && same_name d.voter voter) casts.now) MOST_CASTS }
 {
-    let ballots = ballots(alloc, casts)?;
-    stand_at_most(alloc, ballots.as_slice(), MOST_CASTS)
+    times(casts, voter, resolution) <= MOST_CASTS
+}
+
+/// Whether a voter cast `MOST_CASTS` votes at most on the resolution of each poll.
+fn voter_cast_few(polls: &[Poll], casts: &Filed<CastMark>, voter: Party) -> bool
+    ensures { result ≡ list_all (λ (p : Poll). nat_le (count_by (λ (d : CastMark).
+        d.resolution == p.resolution && same_name d.voter voter) casts.now) MOST_CASTS)
+        polls.now }
+{
+    polls
+        .iter()
+        .all(|poll| cast_few_on(casts, voter, poll.resolution))
+}
+
+/// Whether the vote at a place is the first of its voter.
+fn is_first(casts: &Filed<CastMark>, place: usize, cast: &CastMark) -> bool
+    requires { slice_get casts.now place ≡ Some cast.now }
+    ensures { result ≡ not (list_any (λ (d : CastMark). same_name d.voter cast.now.voter)
+        (take place casts.now)) }
+{
+    casts.places_by_first(cast.voter)[0] == place
+}
+
+/// Whether each voter cast `MOST_CASTS` votes at most on a resolution. It counts the votes of each
+/// voter once for each poll.
+fn cast_few(polls: &[Poll], casts: &Filed<CastMark>) -> bool
+    requires { list_all (λ c. list_any (is_cast_on c) polls.now) casts.now ≡ true }
+    ensures { result
+        ≡ list_all (λ c. nat_le (count_by (λ d. same_ballot d c) casts.now) MOST_CASTS)
+        casts.now }
+{
+    for (place, cast) in casts.as_slice().iter().enumerate() {
+        if is_first(casts, place, cast) && !voter_cast_few(polls, casts, cast.voter) {
+            return false;
+        }
+    }
+    true
 }
 
 /// Whether they are casts on these polls, of which a meeting has `MOST_RESOLUTIONS` at most
-/// (sections 284 and 322). The error is want of memory.
-pub(crate) fn are_casts(
-    alloc: Global,
-    polls: &[Poll],
-    casts: &[CastMark],
-) -> Result<bool, AllocError>
-    ensures { IfOk result (λ right. right ≡ are_casts polls.now casts.now) }
+/// (sections 284 and 322).
+pub(crate) fn are_casts(polls: &[Poll], casts: &Filed<CastMark>) -> bool
+    ensures { result ≡ are_casts polls.now casts.now }
 {
-    Ok(are_on_started(polls, casts) && cast_few(alloc, casts)?)
+    are_on_started(polls, casts.as_slice()) && cast_few(polls, casts)
 }

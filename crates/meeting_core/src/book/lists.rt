@@ -51,14 +51,14 @@ fn book_of(alloc: Global, office: Option<OfficeLists>) -> Result<Book, BookFault
 
 impl Book {
     /// The book of some lists, as they were kept. A register is a set of rows (section 113), so
-    /// each is put in the order of members first. The fault is `NoOffice` where the lists are no
-    /// office then, and only there; `Memory`, which says nothing of the lists, is want of memory.
+    /// each is put in the order of members first. The fault is `NoOffice`, exactly where the lists
+    /// are no office then: it takes no memory.
     pub fn of_lists(alloc: Global, lists: OfficeLists) -> Result<Book, BookFault>
         ensures value { IfOk result (λ b. b ≡ office_in_order lists) }
         ensures kept { IfOk result (λ b. IsTrue (is_office b)) }
         ensures no_office { result ≡ Err NoOffice → is_office (office_in_order lists) ≡ false }
+        ensures sure { IfErr result (λ e. e ≡ NoOffice) }
     {
-        let office = office_checked(alloc, lists)?;
-        book_of(alloc, office)
+        book_of(alloc, office_checked(alloc, lists))
     }
 }

@@ -23,7 +23,8 @@ impl Book {
         ensures change { IfOk result (λ s. s.1 ≡ (decided self.now call.now).change) }
         ensures held { IsTrue (is_office self.now) }
         ensures kept { IfOk result (λ s. IsTrue (is_office (after_some self.now s.1))) }
-        ensures sure { needs_no_memory call.now.caller call.now.request ≡ true → IfErr result
+        ensures sure { needs_no_memory self.now call.now.caller call.now.request ≡ true
+            → IfErr result
             (λ e. FnOnceReturnsAt F.FnOnce show (decided self.now call.now).reply (Err e)) }
         ensures refusals { is_at_once_to call.now.caller (decided self.now call.now) ≡ true
             → IfErr result
@@ -49,7 +50,7 @@ impl Book {
             × (self.new ≡ stepped self.old call)) }
         ensures same { OnErr result (self.new ≡ self.old) }
         ensures kept { IsTrue (is_office self.new) }
-        ensures sure { needs_no_memory call.caller call.request ≡ true → IfErr result
+        ensures sure { needs_no_memory self.old call.caller call.request ≡ true → IfErr result
             (λ e. FnOnceReturnsAt F.FnOnce show (decided self.old call).reply (Err e)) }
         ensures refusals { is_at_once_to call.caller (decided self.old call) ≡ true
             → IfErr result

@@ -1,13 +1,13 @@
-use Rattle.std.proofs.Common.{ap, ◌∙◌}
+use Rattle.std.proofs.Common.{◌≡◌, true, false, ap, ◌∙◌}
 use Rattle.std.specs.Prelude.{Option}
 use Rattle.desk_words.specs.Rulings.{settled}
 use Rattle.desk_words.specs.declared.answer.Answer.{Answer}
 use Rattle.desk_words.specs.declared.change.Change.{Change}
 use Rattle.desk_words.specs.declared.office.MeetingLists.{MeetingLists}
-use Rattle.office_answers.specs.Answers.{office_ruling}
+use Rattle.office_answers.specs.Answers.{is_register_held, office_ruling}
 use Rattle.office_answers.specs.Limits.{if_any, keeps_limits}
 use Rattle.meeting_core.specs.Decisions.{office_call}
-use Rattle.meeting_core.proofs.ReadKept.{decided_so, decision_kept, limits_within}
+use Rattle.meeting_core.proofs.ReadKept.{decided_so, decision_kept, limits_within, never_none}
 use Rattle.meeting_core.proofs.office.decide_in_meeting.Goals as goal
 
 pub returns-clause-decided : goal.returns-clause-decided
@@ -28,3 +28,18 @@ returns-clause-kept c = λ office kept read.
     (c.in_ok-answer.ensures.answer ∙ ap (λ (lists : Option MeetingLists). settled (office_ruling c.args.closed.now lists now what)) c.as_ref.ensures.value) in
     let limits = ap (λ (a : Answer Change). if_any keeps_limits a.change) c.in_meeting.ensures ∙ limits_within c.args.meeting c.in_ok-answer.answer.change c.in_ok-answer.ensures.limits in
     decision_kept office (office_call c.args.meeting now what) c.in_meeting.result is limits kept
+
+-- lists that passed are a meeting's
+pub returns-in_err-answer-clause-is_none : goal.returns-in_err-answer-clause-is_none
+returns-in_err-answer-clause-is_none c = λ none. absurd (never_none c.args.asked.now c.args.found c.in_ok-lists.lists c.in_ok-lists.ensures.same c.in_ok-lists.ensures.right none)
+
+pub returns-clause-is_none : goal.returns-clause-is_none
+returns-clause-is_none c = λ none. absurd (never_none c.args.asked.now c.args.found c.in_ok-lists.lists c.in_ok-lists.ensures.same c.in_ok-lists.ensures.right none)
+
+-- the register that is held is loaded again without memory
+pub returns-in_err-answer-clause-same : goal.returns-in_err-answer-clause-same
+returns-in_err-answer-clause-same c = λ held.
+    let never : false ≡ true =
+    c.in_err-answer.ensures.same
+    (ap (λ (lists : Option MeetingLists). is_register_held lists c.args.asked.now) (c.as_ref.ensures.value ∙ c.in_ok-lists.ensures.same) ∙ held) in
+    absurd (cc)

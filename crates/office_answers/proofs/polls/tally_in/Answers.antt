@@ -1,10 +1,12 @@
-use Rattle.std.proofs.Common.{◌≡◌, [], ap, sym, ◌∙◌}
+use Rattle.std.proofs.Common.{◌≡◌, true, [], ap, sym, ◌∙◌}
 use Rattle.std.proofs.lemmas.Result.{IfOk-weaker}
-use Rattle.desk_words.specs.Office.{are_numbered_after, are_rows}
+use Rattle.desk_words.specs.Finding.{poll_on}
+use Rattle.desk_words.specs.Office.{are_numbered_after, are_rows, is_tally}
 use Rattle.desk_words.specs.declared.records.Tally.{Tally}
 use Rattle.proxy_rules.specs.Cutoffs.{cutoffs_of}
 use Rattle.proxy_rules.specs.Holdings.{are_tags}
-use Rattle.vote_rules.specs.Tallies.{tally_of}
+use Rattle.vote_rules.specs.Tallies.{tally_of, vote_at}
+use Rattle.vote_rules.proofs.CountLemmas.{is_tally-tally_by}
 use Rattle.office_answers.specs.Polls.{tally_in}
 use Rattle.desk_words.proofs.OfficeFacts.{meeting_numbered}
 use Rattle.office_answers.proofs.MeetingRules.{meeting_rows, meeting_tags}
@@ -20,8 +22,8 @@ pub tally-requires-clause-numbered : goal.tally-requires-clause-numbered
 tally-requires-clause-numbered c = ap (are_numbered_after []) c.papers_of.ensures.appointments ∙ meeting_numbered c.args.lists.now c.requires.meeting
 
 -- the papers are the meeting's own lists
-pub returns : goal.returns
-returns c =
+pub returns-clause-value : goal.returns-clause-value
+returns-clause-value c =
     let papers = c.papers_of.result in
     let is = c.papers_of.ensures in
     let m = c.args.lists.now in
@@ -31,3 +33,17 @@ returns c =
     let cutoffs = c.cutoffs-cutoffs.ensures ∙ ap (λ poll. cutoffs_of m.meeting poll c.args.closed.now c.args.now) (sym c.requires.poll) in
     let same : read ≡ due = λ i. tally_of (cutoffs i) (is.register i) (is.appointments i) (is.endings i) (is.authorities i) (is.casts i) number in
     IfOk-weaker c.tally.result (λ (t : Tally). t ≡ read) (λ (t : Tally). t ≡ due) (λ t e. e ∙ same) c.tally.ensures
+
+-- a count is that of some shares
+pub returns-clause-limits : goal.returns-clause-limits
+returns-clause-limits c =
+    let papers = c.papers_of.result in
+    let is = c.papers_of.ensures in
+    let m = c.args.lists.now in
+    let number = c.args.number in
+    let read = tally_of c.cutoffs-cutoffs.result papers.register.now papers.appointments.now papers.endings.now papers.authorities.now papers.casts.now number in
+    let due = tally_in m c.args.closed.now c.args.now number in
+    let cutoffs = c.cutoffs-cutoffs.ensures ∙ ap (λ poll. cutoffs_of m.meeting poll c.args.closed.now c.args.now) (sym c.requires.poll) in
+    let same : read ≡ due = λ i. tally_of (cutoffs i) (is.register i) (is.appointments i) (is.endings i) (is.authorities i) (is.casts i) number in
+    let right = is_tally-tally_by (vote_at (cutoffs_of m.meeting (poll_on m.polls number) c.args.closed.now c.args.now) m.appointments m.endings m.authorities m.casts number) m.register (meeting_rows m c.requires.meeting) in
+    IfOk-weaker c.tally.result (λ (t : Tally). t ≡ read) (λ (t : Tally). is_tally t ≡ true) (λ t e. ap is_tally (e ∙ same) ∙ right) c.tally.ensures

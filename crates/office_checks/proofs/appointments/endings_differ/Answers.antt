@@ -1,19 +1,15 @@
-use Rattle.std.proofs.Common.{ℕ, List, ap, ◌∙◌}
-use Rattle.std.specs.Prelude.{Bool}
-use Rattle.std.specs.Ordering.{is_eq, nat_cmp, ordering_then}
-use Rattle.desk_lists.specs.Ordered.{differ_by}
-use Rattle.desk_terms.specs.Names.{name_cmp}
-use Rattle.office_checks.specs.Keys.{ended_in}
-use Rattle.office_checks.proofs.KeyLemmas.{differ-map}
-use Rattle.office_checks.proofs.TieLemmas.{ending-ties}
+use Rattle.std.proofs.Common.{ap, ◌∙◌}
+use Rattle.std.specs.Prelude.{Bool, count_by, nat_le}
+use Rattle.std.specs.List.{list_all}
+use Rattle.desk_words.specs.Office.{same_ending}
+use Rattle.desk_words.specs.declared.records.Ending.{Ending}
+use Rattle.office_checks.proofs.KeyLemmas.{differ-once}
+use Rattle.office_checks.proofs.TieLemmas.{ending-ties, ending-self, ending-turned}
 use Rattle.office_checks.proofs.appointments.endings_differ.Goals as goal
-
-abbrev alike : List ℕ × ℕ → List ℕ × ℕ → Bool
-alike a b = is_eq (ordering_then (name_cmp a.0 b.0) (nat_cmp a.1 b.1))
 
 pub returns : goal.returns
 returns c =
-    c.differ.ensures
-    ∙ ap (differ_by alike) c.in_ok-named_by.ensures
-    ∙ differ-map alike ended_in c.args.ended.now
-    ∙ ap (λ same. differ_by same c.args.ended.now) (λ i a b. ending-ties a b i)
+    let all = c.args.ended.now in
+    c.stand_once.ensures
+    ∙ ap (λ (same : Ending → Ending → Bool). list_all (λ (x : Ending). nat_le (count_by (λ (other : Ending). same other x) all) 1) all) (λ i other x. ending-ties other x i)
+    ∙ differ-once same_ending ending-self ending-turned all

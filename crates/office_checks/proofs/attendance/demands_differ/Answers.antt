@@ -1,19 +1,15 @@
-use Rattle.std.proofs.Common.{ℕ, List, ap, ◌∙◌}
-use Rattle.std.specs.Prelude.{Bool}
-use Rattle.std.specs.Ordering.{is_eq, nat_cmp, ordering_then}
-use Rattle.desk_lists.specs.Ordered.{differ_by}
-use Rattle.desk_terms.specs.Names.{name_cmp}
-use Rattle.office_checks.specs.Keys.{demanded_in}
-use Rattle.office_checks.proofs.KeyLemmas.{differ-map}
-use Rattle.office_checks.proofs.TieLemmas.{demand-ties}
+use Rattle.std.proofs.Common.{ap, ◌∙◌}
+use Rattle.std.specs.Prelude.{Bool, count_by, nat_le}
+use Rattle.std.specs.List.{list_all}
+use Rattle.desk_words.specs.Office.{same_demand}
+use Rattle.desk_words.specs.declared.records.DemandMark.{DemandMark}
+use Rattle.office_checks.proofs.KeyLemmas.{differ-once}
+use Rattle.office_checks.proofs.TieLemmas.{demand-ties, demand-self, demand-turned}
 use Rattle.office_checks.proofs.attendance.demands_differ.Goals as goal
-
-abbrev alike : ℕ × List ℕ → ℕ × List ℕ → Bool
-alike a b = is_eq (ordering_then (nat_cmp a.0 b.0) (name_cmp a.1 b.1))
 
 pub returns : goal.returns
 returns c =
-    c.differ.ensures
-    ∙ ap (differ_by alike) c.in_ok-demanded.ensures
-    ∙ differ-map alike demanded_in c.args.demands.now
-    ∙ ap (λ same. differ_by same c.args.demands.now) (λ i a b. demand-ties a b i)
+    let all = c.args.demands.now in
+    c.stand_once.ensures
+    ∙ ap (λ (same : DemandMark → DemandMark → Bool). list_all (λ (x : DemandMark). nat_le (count_by (λ (other : DemandMark). same other x) all) 1) all) (λ i other x. demand-ties other x i)
+    ∙ differ-once same_demand demand-self demand-turned all

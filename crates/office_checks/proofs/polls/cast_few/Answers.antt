@@ -1,35 +1,31 @@
-use Rattle.std.proofs.Common.{◌≡◌, ℕ, List, map, ap, ◌∙◌}
-use Rattle.std.specs.Prelude.{count_by, nat_le}
-use Rattle.std.specs.List.{list_all}
-use Rattle.std.specs.Ordering.{is_eq, nat_cmp, ordering_then}
-use Rattle.std.specs.declared.cmp.Ordering.{Ordering}
-use Rattle.std.proofs.lemmas.List.Folds.{list_all-map}
-use Rattle.std.proofs.lemmas.Result.{IfOk-weaker}
-use Rattle.desk_terms.specs.Names.{name_cmp}
-use Rattle.desk_words.specs.declared.limits.TheConstants.{MOST_CASTS}
-use Rattle.desk_words.specs.declared.records.CastMark.{CastMark}
-use Rattle.desk_words.specs.Office.{same_ballot}
-use Rattle.office_checks.specs.Keys.{ballot_of, key_times}
-use Rattle.office_checks.proofs.KeyLemmas.{count-map}
-use Rattle.office_checks.proofs.TieLemmas.{ballot-ties}
+use Rattle.std.proofs.Common.{ap, sym, ◌∙◌}
+use Rattle.std.proofs.lemmas.List.{take_all}
+use Rattle.office_checks.proofs.CastLemmas.{few-earlier, few-more, few_ballots, few_each, many_ballots}
+use Rattle.office_checks.proofs.polls.cast_few.Goals.{else-is_first-via-then-is_first+else-not-voter_cast_few, else-is_first-via-else-is_first}
 use Rattle.office_checks.proofs.polls.cast_few.Goals as goal
 
-abbrev order : ℕ × List ℕ → ℕ × List ℕ → Ordering
-order a b = ordering_then (nat_cmp a.0 b.0) (name_cmp a.1 b.1)
+pub returns-then-not-voter_cast_few : goal.returns-then-not-voter_cast_few
+returns-then-not-voter_cast_few c =
+    sym (many_ballots c.args.polls.now c.args.casts.now c.cast-item.result.voter (sym c.voter_cast_few.ensures ∙ c.if-not-voter_cast_few.true))
 
-times : (casts : List CastMark) (c : CastMark) → key_times order (ballot_of c) (map ballot_of casts) ≡ count_by (λ d. same_ballot d c) casts
-times casts c =
-    count-map (λ other. is_eq (order other (ballot_of c))) ballot_of casts
-    ∙ ap (λ test. count_by test casts) (λ i d. ballot-ties d c i)
-
-few : (casts : List CastMark) (ballots : List (ℕ × List ℕ)) → ballots ≡ map ballot_of casts
-    → list_all (λ key. nat_le (key_times order key ballots) MOST_CASTS) ballots ≡ list_all (λ c. nat_le (count_by (λ d. same_ballot d c) casts) MOST_CASTS) casts
-few casts ballots named =
-    ap (λ keys. list_all (λ key. nat_le (key_times order key keys) MOST_CASTS) keys) named
-    ∙ list_all-map (λ key. nat_le (key_times order key (map ballot_of casts)) MOST_CASTS) ballot_of casts
-    ∙ ap (λ test. list_all test casts) (λ i c. nat_le (times casts c i) MOST_CASTS)
+pub loop-place-preserved : goal.loop-place-preserved
+loop-place-preserved c =
+    let polls = c.args.polls.now in
+    let casts = c.args.casts.now in
+    let items = c.as_slice-cast-items.result.now in
+    let i = c.loop-place.place in
+    let cast = c.cast-item.result in
+    few-more polls casts items i cast c.as_slice-cast-items.ensures c.loop-place-test.true c.cast-item.is c.loop-place.invariant
+    (elim c.else-is_first.branch [
+      | else-is_first-via-then-is_first+else-not-voter_cast_few w ↦ sym w.voter_cast_few.ensures ∙ w.if-not-voter_cast_few.false
+      | else-is_first-via-else-is_first w ↦ few-earlier polls casts items i cast c.is_first.result c.as_slice-cast-items.ensures c.loop-place.invariant c.is_first.ensures w.if-is_first.false
+    ])
 
 pub returns : goal.returns
 returns c =
-    let ballots = c.as_slice.ensures.value ∙ c.in_ok-ballots.ensures in
-    IfOk-weaker c.stand_at_most.result _ _ (λ b e. e ∙ few c.args.casts.now c.as_slice.result.now ballots) c.stand_at_most.ensures
+    let polls = c.args.polls.now in
+    let items = c.as_slice-cast-items.result.now in
+    sym (few_ballots polls c.args.casts.now c.args.casts.now c.requires
+    (ap (λ l. few_each polls l l) (sym c.as_slice-cast-items.ensures)
+    ∙ ap (few_each polls items) (sym (take_all c.loop-place.place items c.loop-place-test.false))
+    ∙ c.loop-place.invariant))
