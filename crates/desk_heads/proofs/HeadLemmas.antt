@@ -7,7 +7,7 @@ use Rattle.httparse.specs.Spans.{RequestExceeds}
 use Rattle.httparse.proofs.GrammarLemmas.{request_unique}
 use Rattle.std.proofs.lemmas.List.Elements.{All-head, All-tail}
 use Rattle.std.proofs.lemmas.List.Concat.{flat_map-cons}
-use Rattle.desk_heads.specs.Heads.{HasHead, HasNoHead, head_place, IsUnfinished, IsBroken, IsOpen}
+use Rattle.desk_heads.specs.Heads.{HasHead, HasNoHead, head_place, IsUnfinished, IsBroken, IsCutInTarget, IsOpen}
 use Rattle.desk_heads.specs.Laws.{HasOneHead, HasOneFront}
 use Rattle.desk_heads.specs.declared.front.Front.TheVariants.{Whole, TooLarge, Unreadable}
 use Rattle.desk_heads.specs.declared.front.TheConstants.{LONGEST_HEAD, MOST_FIELDS}
@@ -30,8 +30,8 @@ not_both input h rest x none = none h _ (head_in_place input h rest x)
 few_or_many : (input : List ℕ) (h k : RequestHead) (rest rest' : List ℕ) → HasHead input h rest → length h.fields ≤ MOST_FIELDS → HasHead input k rest' → MOST_FIELDS < length k.fields → ⊥
 few_or_many input h k rest rest' x few y many = omega (arith, few, many, ap (λ (g : RequestHead). length g.fields) (one_head input h k rest rest' x y).0)
 
-gap : (input : List ℕ) → IsUnfinished input → IsBroken input → EndsInTarget (head_place input)
-gap input u b = ended b.ended u.unended
+gap : (input : List ℕ) → IsUnfinished input → IsBroken input → IsCutInTarget input
+gap input u b = record { none = u.none; full = u.full; inside = ended b.ended u.unended }
   where
     ended : (length input < LONGEST_HEAD) ⊎ NeverHasRequest (head_place input) → MayBecomeRequest (head_place input) → EndsInTarget (head_place input)
     ended (inl short) m = absurd (omega (arith, short, u.full))

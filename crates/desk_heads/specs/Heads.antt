@@ -1,7 +1,7 @@
 -- The head of an input, over the grammar of `httparse`.
 use Rattle.std.specs.Prelude.{◌≡◌, ℕ, ◌+◌, ◌<◌, ◌≤◌, ◌⊎◌, List, ◌++◌, Option, Some, None, length, take, drop, map, ⊤}
 use Rattle.std.specs.Io.KnownBytes.{Consumes}
-use Rattle.httparse.specs.Grammar.{RequestHead, print_request, ReadsRequest, HasNoRequest, MayBecomeRequest, NeverHasRequest}
+use Rattle.httparse.specs.Grammar.{RequestHead, print_request, ReadsRequest, HasNoRequest, MayBecomeRequest, NeverHasRequest, EndsInTarget}
 use Rattle.httparse.specs.Spans.{span_bytes, header_bytes, name_and_value}
 use Rattle.httparse.specs.declared.spans.HeaderSpan.{HeaderSpan}
 use Rattle.httparse.specs.declared.spans.RequestSpans.{RequestSpans}
@@ -51,6 +51,12 @@ pub record IsUnfinished (input : List ℕ) : Type 0 where
 pub record IsBroken (input : List ℕ) : Type 0 where
   pub none : HasNoHead input
   pub ended : (length input < LONGEST_HEAD) ⊎ NeverHasRequest (head_place input)
+
+-- there is no head, and the first 8,192 bytes are there and end inside the target
+pub record IsCutInTarget (input : List ℕ) : Type 0 where
+  pub none : HasNoHead input
+  pub full : LONGEST_HEAD ≤ length input
+  pub inside : EndsInTarget (head_place input)
 
 -- what stands at the front of an input
 abbrev pub IsFront : Front → List ℕ → Type 0

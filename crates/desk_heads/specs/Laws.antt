@@ -1,7 +1,7 @@
 -- The laws of heads, and the limits by their numbers.
 use Rattle.std.specs.Prelude.{◌≡◌, ◌⊎◌, List, ℕ}
-use Rattle.httparse.specs.Grammar.{RequestHead, EndsInTarget}
-use Rattle.desk_heads.specs.Heads.{HasHead, head_place, IsFront}
+use Rattle.httparse.specs.Grammar.{RequestHead}
+use Rattle.desk_heads.specs.Heads.{HasHead, IsCutInTarget, IsFront}
 use Rattle.desk_heads.specs.declared.front.Front.{Front}
 use Rattle.desk_heads.specs.declared.front.TheConstants.{LONGEST_HEAD, MOST_FIELDS}
 use Rattle.desk_heads.specs.declared.length.TheConstants.{LONGEST_BODY}
@@ -12,11 +12,11 @@ HasOneHead =
     (input : List ℕ) (h k : RequestHead) (rest rest' : List ℕ)
     → HasHead input h rest → HasHead input k rest' → (h ≡ k) × (rest ≡ rest')
 
--- an input has one front, but where its first 8,192 bytes end inside the target
+-- an input has one front, but where its first 8,192 bytes hold no head and end inside the target
 abbrev pub HasOneFront : Type 0
 HasOneFront =
     (input : List ℕ) (a b : Front)
-    → IsFront a input → IsFront b input → (a ≡ b) ⊎ EndsInTarget (head_place input)
+    → IsFront a input → IsFront b input → (a ≡ b) ⊎ IsCutInTarget input
 
 -- what each limit is
 pub record LimitsAre : Type 0 where

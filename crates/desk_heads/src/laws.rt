@@ -6,8 +6,8 @@ pub fn one_head()
     ensures { HasOneHead }
 {}
 
-/// An input has one front, but where its first 8,192 bytes hold no head and end inside the target:
-/// there it may be too large and unreadable.
+/// An input has one front, but where its first 8,192 bytes are there, hold no head and end inside
+/// the target: there it may be too large and unreadable.
 pub fn one_front()
     ensures { HasOneFront }
 {}

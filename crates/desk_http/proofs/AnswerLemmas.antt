@@ -1,6 +1,7 @@
 -- How what is asked of a desk by one request joins.
-use Rattle.std.proofs.Common.{◌≡◌, ◌⊎◌, inl, inr, false, Option, Some, None, Result, Ok, Err, refl, sym, subst}
-use Rattle.std.specs.Prelude.{IfOk, OnErr}
+use Rattle.std.proofs.Common.{◌≡◌, ◌⊎◌, inl, inr, ℕ, ◌≤◌, true, false, List, Option, Some, None, Result, Ok, Err, IsTrue, refl, sym, ap, subst, ◌∙◌, arith}
+use Rattle.std.specs.Prelude.{IfErr, IfOk, OnErr, OnOk, is_some}
+use Rattle.sqlite_disk.specs.Disk.{MoreFaults}
 use Rattle.sqlite.specs.State.{State, HasCleanDisk}
 use Rattle.desk_terms.specs.declared.refusal.Refusal.{Refusal}
 use Rattle.desk_terms.specs.declared.refusal.Refusal.TheVariants.{Key}
@@ -11,27 +12,43 @@ use Rattle.desk_words.specs.declared.reply.Reply.TheVariants as reply
 use Rattle.desk_words.specs.declared.request.Call.{Call}
 use Rattle.desk_words.specs.declared.request.Request.{Request}
 use Rattle.desk_requests.specs.declared.received.Received.{Received}
-use Rattle.desk_requests.specs.declared.received.Received.TheVariants.{Refused}
+use Rattle.desk_requests.specs.Received.{is_unheard}
+use Rattle.desk_requests.specs.declared.received.Received.TheVariants.{Refused, With}
 use Rattle.desk_requests.specs.declared.received.Unheard.{Unheard}
+use Rattle.desk_requests.specs.declared.received.Unheard.TheVariants as unheard
 use Rattle.desk_records.specs.Standing.{Stands}
 use Rattle.desk_store.specs.Joins.{Leaves, office_after}
-use Rattle.desk_http.specs.Answers.{IsAnswer, MakesCall, ShowsReply, call_received, call_of, if_ok, reply_in, reply_of, unheard_reply}
+use Rattle.desk_store.specs.Reads.{caller_with}
+use Rattle.desk_http.specs.Answers.{IsAnswer, IsCutOff, IsFault, MakesCall, ShowsReply, call_received, call_of, if_ok, reply_in, reply_of, unheard_reply}
 use Rattle.desk_http.specs.declared.answers.Answered.{Answered}
+use Rattle.desk_http.specs.declared.answers.Unanswered.{Unanswered}
+use Rattle.desk_http.specs.declared.answers.Unanswered.TheVariants as unanswered
 
 -- a desk that is not asked is left as it was
 pub not_asked : (s : State) → s.in_transaction ≡ false → Leaves None s s
 not_asked s ended = record {
   was_clean = λ clean. clean;
   was_open = λ clean is_open. is_open;
+  closes = λ clean is_open. inl is_open;
+  counts = omega arith;
   ended = ended;
   stands = λ clean is_open office stands. stands;
 }
+
+-- only a fault shuts a store, in two calls as in one
+pub closes_then : (a b c : State) → a.faults ≤ b.faults → b.faults ≤ c.faults → IsTrue b.is_open ⊎ MoreFaults a.faults b.faults → (IsTrue b.is_open → IsTrue c.is_open ⊎ MoreFaults b.faults c.faults)
+    → IsTrue c.is_open ⊎ MoreFaults a.faults c.faults
+closes_then a b c first next (inl is_open) two =
+    elim (two is_open) as (λ (_ : IsTrue c.is_open ⊎ MoreFaults b.faults c.faults). IsTrue c.is_open ⊎ MoreFaults a.faults c.faults) [ inl still ↦ inl still | inr more ↦ inr (omega (arith, more, first)) ]
+closes_then a b c first next (inr more) two = inr (omega (arith, more, next))
 
 -- what is left of a reading is what is asked next
 pub leaves_then : (made : Option Call) (a b c : State) → Leaves None a b → Leaves made b c → Leaves made a c
 leaves_then made a b c one two = record {
   was_clean = λ clean. one.was_clean (two.was_clean clean);
   was_open = λ clean is_open. one.was_open (two.was_clean clean) (two.was_open clean is_open);
+  closes = λ clean is_open. closes_then a b c one.counts two.counts (one.closes (two.was_clean clean) is_open) (two.closes clean);
+  counts = omega (arith, one.counts, two.counts);
   ended = two.ended;
   stands = λ clean is_open office stands. two.stands clean is_open office (one.stands (two.was_clean clean) (two.was_open clean is_open) office stands);
 }
@@ -81,6 +98,35 @@ module _ (s : State) (office : OfficeLists) (now : Moment) (stands : Stands s of
   refused_done received refusal (Err e) is shown = tt
   refused_done received refusal (Ok a) is shown =
       subst (λ q. IsAnswer (reply_in office now q) a × Stands s (office_after office (call_received office now q))) (sym is) ((reply.Refused refusal, refl, shown), stands)
+
+-- a source that failed in the body has no reply to a caller
+pub cut_unheard : {E : Type 0} (heard : Result Request Unheard) (why : Unheard) (r : Result Answered E) → heard ≡ Err why → IfOk r (IsAnswer (unheard_reply why)) → is_unheard heard ≡ true → OnOk r ⊥
+cut_unheard heard why (Err e) is shown cut = tt
+cut_unheard heard (unheard.Refused refusal) (Ok a) is shown cut = let told : is_unheard (Err (unheard.Refused refusal)) ≡ true = subst (λ h. is_unheard h ≡ true) is cut in absurd (cc)
+cut_unheard heard unheard.Memory (Ok a) is shown cut = let told : is_unheard (Err unheard.Memory) ≡ true = subst (λ h. is_unheard h ≡ true) is cut in absurd (cc)
+cut_unheard heard unheard.Failed (Ok a) is shown cut = let none = shown.1 in absurd (cc)
+
+-- what was asked was heard
+pub cut_heard : {E : Type 0} {X : Type 0} (heard : Result Request Unheard) (request : Request) (r : Result X E) → heard ≡ Ok request → is_unheard heard ≡ true → OnOk r ⊥
+cut_heard heard request (Err e) is cut = tt
+cut_heard heard request (Ok a) is cut = let told : is_unheard (Ok request) ≡ true = subst (λ h. is_unheard h ≡ true) is cut in absurd (cc)
+
+-- what is not answered of a caller is cut off only where its source failed
+pub fault_cut : (heard : Result Request Unheard) (why : Unanswered) → IsFault heard why → why ≡ unanswered.CutOff → is_unheard heard ≡ true
+fault_cut (Ok request) why (failed, is) cut = let both : unanswered.Failure failed ≡ unanswered.CutOff = sym is ∙ cut in absurd (cc)
+fault_cut (Err (unheard.Refused refusal)) why is cut = let both = sym is ∙ cut in absurd (cc)
+fault_cut (Err unheard.Memory) why is cut = let both = sym is ∙ cut in absurd (cc)
+fault_cut (Err unheard.Failed) why is cut = refl
+
+-- of a caller that was found
+pub found_cut : {T : Type 0} (r : Result T Unanswered) (key : List ℕ) (heard : Result Request Unheard) (who : Caller) (a b c : State)
+    → (HasCleanDisk b → (office : OfficeLists) → Stands a office → Some who ≡ caller_with office.keys key) → (HasCleanDisk c → HasCleanDisk b) → IfErr r (IsFault heard)
+    → IfErr r (λ why. why ≡ unanswered.CutOff → IsCutOff (With key heard) a c)
+found_cut (Ok x) key heard who a b c found clean h = tt
+found_cut (Err why) key heard who a b c found clean h = λ cut. record {
+  cut_off = fault_cut heard why h cut;
+  caller = λ is_clean office stands. ap is_some (sym (found (clean is_clean) office stands));
+}
 
 -- what was not heard makes no call
 pub unheard_leaves : {T E : Type 0} (s : State) (r : Result T E) (now : Moment) (who : Caller) (heard : Result Request Unheard) (why : Unheard) → heard ≡ Err why → s.in_transaction ≡ false

@@ -1,9 +1,8 @@
 -- Offices that agree for the sender of a request reply to it alike.
-use Rattle.std.proofs.Common.{◌≡◌, ◌⊎◌, ℕ, inl, inr, true, false, List, Option, Some, None, Result, Ok, Err, refl, sym, ap, subst, ◌∙◌}
-use Rattle.httparse.specs.Grammar.{EndsInTarget}
+use Rattle.std.proofs.Common.{◌≡◌, ◌⊎◌, ℕ, inl, inr, Bool, true, false, List, Option, Some, None, Result, Ok, Err, refl, sym, ap, subst, ◌∙◌}
 use Rattle.desk_terms.specs.declared.refusal.Refusal.{Refusal}
 use Rattle.desk_terms.specs.declared.refusal.Refusal.TheVariants.{Key}
-use Rattle.desk_heads.specs.Heads.{asked_of_head, head_place}
+use Rattle.desk_heads.specs.Heads.{IsCutInTarget, asked_of_head}
 use Rattle.desk_heads.specs.declared.front.Front.{Front}
 use Rattle.desk_heads.specs.declared.front.Front.TheVariants as front
 use Rattle.desk_words.specs.Seen.{Moment, Party}
@@ -15,7 +14,7 @@ use Rattle.desk_words.specs.declared.office.OfficeLists.{OfficeLists}
 use Rattle.desk_words.specs.declared.reply.Reply.{Reply}
 use Rattle.desk_words.specs.declared.reply.Reply.TheVariants as reply
 use Rattle.desk_words.specs.declared.request.Request.{Request}
-use Rattle.desk_requests.specs.Asked.{key_of_head, request_in}
+use Rattle.desk_requests.specs.Asked.{is_whole, key_of_head, request_in}
 use Rattle.desk_requests.specs.Laws.{SpellsOne, is_said, is_told}
 use Rattle.desk_requests.specs.Received.{Hears, IsWith, Spells, SpellsAt}
 use Rattle.desk_requests.specs.declared.received.Received.{Received}
@@ -51,9 +50,9 @@ abbrev told_as : Result Request Refusal → Result Request Unheard
 told_as (Ok request) = Ok request
 told_as (Err why) = Err (unheard.Refused why)
 
-told_hears : (said : Result Request Refusal) → Hears said (told_as said)
-told_hears (Ok request) = refl
-told_hears (Err why) = refl
+told_hears : (whole : Bool) (said : Result Request Refusal) → Hears whole said (told_as said)
+told_hears whole (Ok request) = refl
+told_hears whole (Err why) = refl
 
 told_said : (said : Result Request Refusal) → is_said (told_as said) ≡ true
 told_said (Ok request) = refl
@@ -70,21 +69,21 @@ record HasTold (Says : Received → Type 0) (a : Received) : Type 0 where
   is : is_told told ≡ true
   alike : (a ≡ told) ⊎ IsUntold a told
 
-heard_told : (key : List ℕ) (said : Result Request Refusal) (a : Received) (heard : Result Request Unheard) → a ≡ With key heard → Hears said heard → HasTold (IsWith (Some key) said) a
-heard_told key said a (Ok request) is hears = record { told = a; says = (Ok request, is, hears); is = ap is_told is; alike = inl refl }
-heard_told key said a (Err (unheard.Refused why)) is hears = record { told = a; says = (Err (unheard.Refused why), is, hears); is = ap is_told is; alike = inl refl }
-heard_told key said a (Err unheard.Memory) is hears =
-    record { told = With key (told_as said); says = (told_as said, refl, told_hears said); is = told_said said; alike = inr (key, Err unheard.Memory, told_as said, is, refl, refl) }
-heard_told key said a (Err unheard.Failed) is hears =
-    record { told = With key (told_as said); says = (told_as said, refl, told_hears said); is = told_said said; alike = inr (key, Err unheard.Failed, told_as said, is, refl, refl) }
+heard_told : (key : List ℕ) (whole : Bool) (said : Result Request Refusal) (a : Received) (heard : Result Request Unheard) → a ≡ With key heard → Hears whole said heard → HasTold (IsWith (Some key) whole said) a
+heard_told key whole said a (Ok request) is hears = record { told = a; says = (Ok request, is, hears); is = ap is_told is; alike = inl refl }
+heard_told key whole said a (Err (unheard.Refused why)) is hears = record { told = a; says = (Err (unheard.Refused why), is, hears); is = ap is_told is; alike = inl refl }
+heard_told key whole said a (Err unheard.Memory) is hears =
+    record { told = With key (told_as said); says = (told_as said, refl, told_hears whole said); is = told_said said; alike = inr (key, Err unheard.Memory, told_as said, is, refl, refl) }
+heard_told key whole said a (Err unheard.Failed) is hears =
+    record { told = With key (told_as said); says = (told_as said, refl, told_hears whole said); is = told_said said; alike = inr (key, Err unheard.Failed, told_as said, is, refl, refl) }
 
-with_told : (key : Option (List ℕ)) (said : Result Request Refusal) (a : Received) → IsWith key said a → HasTold (IsWith key said) a
-with_told None said a is = record { told = a; says = is; is = ap is_told is; alike = inl refl }
-with_told (Some key) said a (heard, is, hears) = heard_told key said a heard is hears
+with_told : (key : Option (List ℕ)) (whole : Bool) (said : Result Request Refusal) (a : Received) → IsWith key whole said a → HasTold (IsWith key whole said) a
+with_told None whole said a is = record { told = a; says = is; is = ap is_told is; alike = inl refl }
+with_told (Some key) whole said a (heard, is, hears) = heard_told key whole said a heard is hears
 
 front_told : (input : List ℕ) (front : Front) (a : Received) → SpellsAt front input a → HasTold (SpellsAt front input) a
 front_told input front.Whole a (head, behind, has, few, asks) =
-    let there = with_told (key_of_head (asked_of_head head)) (request_in (asked_of_head head) behind) a asks in
+    let there = with_told (key_of_head (asked_of_head head)) (is_whole (asked_of_head head) behind) (request_in (asked_of_head head) behind) a asks in
     record { told = there.told; says = (head, behind, has, few, there.says); is = there.is; alike = there.alike }
 front_told input front.TooLarge a (is, x) = record { told = a; says = (is, x); is = ap is_told x; alike = inl refl }
 front_told input front.Unreadable a (is, x) = record { told = a; says = (is, x); is = ap is_told x; alike = inl refl }
@@ -128,6 +127,6 @@ texts_alike law one_request one other now input a b spells_a spells_b agree x y 
     by_one (one_request input first.told second.told first.says second.says first.is second.is)
     (told_agree one other now a first.told x first.alike is_x agree) (told_reply one now a first.told x first.alike is_x) (told_reply other now b second.told y second.alike is_y)
   where
-    by_one : {p q : Received} → (p ≡ q) ⊎ EndsInTarget (head_place input) → AgreeWith one other now p → reply_in one now p ≡ Some x → reply_in other now q ≡ Some y → (replied_text x ≡ replied_text y) ⊎ EndsInTarget (head_place input)
+    by_one : {p q : Received} → (p ≡ q) ⊎ IsCutInTarget input → AgreeWith one other now p → reply_in one now p ≡ Some x → reply_in other now q ≡ Some y → (replied_text x ≡ replied_text y) ⊎ IsCutInTarget input
     by_one (inl same) agreed is_p is_q = inl (ap replied_text (some_same x y (sym is_p ∙ replies_alike law one other now _ agreed ∙ ap (reply_in other now) same ∙ is_q)))
     by_one (inr ends) agreed is_p is_q = inr ends

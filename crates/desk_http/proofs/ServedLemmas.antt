@@ -1,7 +1,12 @@
 -- What is written of a reply, and of a failure.
-use Rattle.std.proofs.Common.{◌≡◌, ℕ, inl, inr, List, None, Result, Ok, Err, refl, subst, sym}
+use Rattle.std.proofs.Common.{◌≡◌, ◌⊎◌, ℕ, inl, inr, List, None, Result, Ok, Err, refl, subst, sym, ◌∙◌}
 use Rattle.std.specs.Prelude.{IfErr, OnErr, OnOk}
+use Rattle.sqlite.specs.Held.{Held, state}
 use Rattle.sqlite.specs.State.{State, HasCleanDisk}
+use Rattle.sqlite_trees.specs.declared.store.Store as store
+use Rattle.desk_clocks.specs.declared.clock.Clock as clock
+use Rattle.desk_devices.specs.declared.sink.Sink as sink
+use Rattle.desk_devices.specs.declared.source.Source as source
 use Rattle.desk_words.specs.Seen.{Moment}
 use Rattle.desk_words.specs.declared.office.OfficeLists.{OfficeLists}
 use Rattle.desk_words.specs.declared.reply.Failure.{Failure}
@@ -9,12 +14,15 @@ use Rattle.desk_requests.specs.declared.received.Received.{Received}
 use Rattle.desk_routes.specs.ReplyTexts.{reply_text}
 use Rattle.desk_records.specs.Standing.{Stands}
 use Rattle.desk_store.specs.Joins.{Leaves, office_after}
-use Rattle.desk_http.specs.Answers.{IsAnswer, call_received, reply_in}
-use Rattle.desk_http.specs.Served.{Serves, TellsFailure, as_write, failure_text}
+use Rattle.desk_http.specs.Answers.{IsAnswer, IsCutOff, MakesCall, call_received, reply_in}
+use Rattle.desk_http.specs.Served.{FailsWriting, OnFault, Replies, Serves, ServesRequest, TellsFailure, WritesPart, WritesText, as_served, as_write, failure_text, only_at}
+use Rattle.desk_http.specs.declared.now.NowFault.{NowFault}
+use Rattle.desk_http.specs.declared.now.NowFault.TheVariants.{Clock}
 use Rattle.desk_http.specs.declared.answers.Answered.{Answered}
 use Rattle.desk_http.specs.declared.answers.Unanswered.{Unanswered}
 use Rattle.desk_http.specs.declared.serve.ServeFault.{ServeFault}
-use Rattle.desk_http.specs.declared.serve.ServeFault.TheVariants.{Write}
+use Rattle.desk_http.specs.declared.answers.Unanswered.TheVariants.{CutOff}
+use Rattle.desk_http.specs.declared.serve.ServeFault.TheVariants.{Read, Write}
 
 -- the text of what is answered, or a part of it, is written
 pub serves_reply : (now : Moment) (received : Received) (old new : State) (answered : Answered) (IsWritten : List ℕ → Type 0)
@@ -27,12 +35,21 @@ serves_reply now received old new answered IsWritten done written = λ clean off
       written,
     )
 
+first_of_two : {A B : Type 0} → A ⊎ B → ¬ B → A
+first_of_two (inl a) none = a
+first_of_two (inr b) none = absurd (none b)
+
 -- the text of a failure, or a part of it, is written
 pub serves_failure : (now : Moment) (received : Received) (old new : State) (failure : Failure) (IsWritten : List ℕ → Type 0)
     → Leaves None old new → IsWritten (failure_text failure) → Serves now received old new IsWritten
 serves_failure now received old new failure IsWritten leaves written = λ clean office stands. (
   failure_text failure,
-  inr (record { failure = failure; text_is = refl; same = λ is_open. leaves.stands clean is_open office stands }),
+  inr (record {
+    failure = failure;
+    text_is = refl;
+    same = λ is_open. leaves.stands clean is_open office stands;
+    unfaulted = λ is_open none. leaves.stands clean (first_of_two (leaves.closes clean is_open) none) office stands;
+  }),
   written,
 )
 
@@ -57,3 +74,69 @@ pub failed_partly : {T : Type 0} (r : Result T ServeFault) (now : Moment) (recei
     → Leaves None old new → IfErr r (λ fault. fault ≡ Write → TellsFailure why IsWritten) → IfErr r (λ fault. fault ≡ Write → Serves now received old new IsWritten)
 failed_partly (Ok x) now received old new why IsWritten leaves h = tt
 failed_partly (Err e) now received old new why IsWritten leaves h = λ is. let told = h is in serves_failure now received old new told.0 IsWritten leaves told.2
+
+-- a write that failed is no cut-off body
+sent_read : {T E : Type 0} (P : Type 0) (written : Result T E) (told : Result T ServeFault) → told ≡ as_write written → OnFault told Read P
+sent_read {T} {E} P (Ok x) told is = subst (λ r. OnFault r Read P) (sym is) tt
+sent_read {T} {E} P (Err e) told is = subst (λ r. OnFault r Read P) (sym is) (λ same. absurd (cc))
+
+on_read : {T : Type 0} (r : Result T ServeFault) {P Q : Type 0} → OnFault r Read P → (P → Q) → OnFault r Read Q
+on_read (Ok x) h next = tt
+on_read (Err e) h next = λ is. next (h is)
+
+module _ {S W : Type 0} (g : store.Ghosts S) (h : sink.Ghosts W) (now : Moment) (received : Received) (old new : Held S) (before after : W) where
+  -- where there is an answer, and it is written
+  pub answered_replies : {T E : Type 0} (written : Result T E) (told : Result T ServeFault) (answered : Answered) → told ≡ as_write written
+      → (HasCleanDisk (state g new) → (office : OfficeLists) → Stands (state g old) office
+      → IsAnswer (reply_in office now received) answered × Stands (state g new) (office_after office (call_received office now received)))
+      → MakesCall (λ office. call_received office now received) (state g old) (state g new)
+      → OnOk written (WritesText h before after (reply_text answered.status answered.body.items)) → OnErr written (WritesPart h before after (reply_text answered.status answered.body.items))
+      → OnOk written (h.failures after ≡ h.failures before) → OnErr written (FailsWriting h before after)
+      → Replies g h now received told old new before after
+  answered_replies written told answered is done makes all part works failed = record {
+    served = sent_well written told is all (serves_reply now received (state g old) (state g new) answered (WritesText h before after) done);
+    partly = sent_badly written told is part (serves_reply now received (state g old) (state g new) answered (WritesPart h before after) done);
+    unread = sent_read _ written told is;
+    makes = makes;
+    works = sent_well written told is works (λ same. same);
+    failed = sent_badly written told is failed (λ same. same);
+  }
+
+  -- where there is none, and its failure is told
+  pub unanswered_replies : {T : Type 0} (told : Result T ServeFault) (why : Unanswered) → (why ≡ CutOff → IsCutOff received (state g old) (state g new)) → Leaves None (state g old) (state g new)
+      → MakesCall (λ office. call_received office now received) (state g old) (state g new)
+      → OnOk told (TellsFailure why (WritesText h before after)) → OnFault told Write (TellsFailure why (WritesPart h before after)) → OnFault told Read ((why ≡ CutOff) × (after ≡ before))
+      → OnOk told (h.failures after ≡ h.failures before) → OnFault told Write (FailsWriting h before after)
+      → Replies g h now received told old new before after
+  unanswered_replies told why cause leaves makes all part unread works failed = record {
+    served = failed_served told now received (state g old) (state g new) why (WritesText h before after) leaves all;
+    partly = failed_partly told now received (state g old) (state g new) why (WritesPart h before after) leaves part;
+    unread = on_read told unread (λ it. (cause it.0, leaves, it.1));
+    makes = makes;
+    works = works;
+    failed = failed;
+  }
+
+-- ---- one request
+
+-- what a device did is not told as a clock that gave no moment
+pub served_no_clock : {T : Type 0} (told : Result T ServeFault) → as_served told ≡ Err Clock → ⊥
+served_no_clock (Ok x) is = absurd (cc)
+served_no_clock (Err fault) is = absurd (cc)
+
+-- as by a clock that gives one moment
+pub served_only : {T S C R W : Type 0} (g : store.Ghosts S) (k : clock.Ghosts C) (r : source.Ghosts R) (h : sink.Ghosts W) (moment : Moment) (result : Result T NowFault) (told : Result T ServeFault)
+    (old new : Held S) (from till : C) (reader reader' : R) (before after : W) → ((now : Moment) → k.gives from now till → now ≡ moment) → (k.fails from till → ⊥) → result ≡ as_served told
+    → ServesRequest g k r h result old new from till reader reader' before after → ServesRequest g (only_at moment) r h (as_served told) old new tt tt reader reader' before after
+served_only g k r h moment result told old new from till reader reader' before after only never same (inl it) = inl (record {
+  received = it.received;
+  read = it.read;
+  moment = it.moment;
+  given = only it.moment it.given;
+  told = it.told;
+  is = sym same ∙ it.is;
+  replies = it.replies;
+})
+served_only g k r h moment result told old new from till reader reader' before after only never same (inr (inl it, still, unwritten)) =
+    inr (inl (record { is = sym same ∙ it.is; failed = it.failed; bound = it.bound; unasked = refl }), still, unwritten)
+served_only g k r h moment result told old new from till reader reader' before after only never same (inr (inr it, still, unwritten)) = absurd (never it.fails)

@@ -1,5 +1,5 @@
 -- What is replied to what was received, and which call is made of it.
-use Rattle.std.specs.Prelude.{◌≡◌, ◌⊎◌, Option, Some, None, Result, Ok, Err}
+use Rattle.std.specs.Prelude.{◌≡◌, ◌⊎◌, Bool, true, false, Option, Some, None, is_some, IsTrue, Result, Ok, Err}
 use Rattle.sqlite.specs.State.{State, HasCleanDisk}
 use Rattle.desk_terms.specs.declared.refusal.Refusal.TheVariants.{Key}
 use Rattle.desk_words.specs.Seen.{Moment}
@@ -10,6 +10,9 @@ use Rattle.desk_words.specs.declared.reply.Reply.TheVariants as reply
 use Rattle.desk_words.specs.declared.request.Call.{Call}
 use Rattle.desk_words.specs.declared.request.Request.{Request}
 use Rattle.desk_replies.specs.Replies.{reply_bytes}
+use Rattle.desk_words.specs.declared.reply.Failure.{Failure}
+use Rattle.desk_words.specs.declared.reply.Failure.TheVariants as failure
+use Rattle.desk_requests.specs.Received.{is_cut_off}
 use Rattle.desk_requests.specs.declared.received.Received.{Received}
 use Rattle.desk_requests.specs.declared.received.Received.TheVariants.{Refused, With}
 use Rattle.desk_requests.specs.declared.received.Unheard.{Unheard}
@@ -20,6 +23,8 @@ use Rattle.desk_store.specs.Joins.{Leaves}
 use Rattle.desk_store.specs.Reads.{caller_with}
 use Rattle.meeting_core.specs.Step.{decided}
 use Rattle.desk_http.specs.declared.answers.Answered.{Answered}
+use Rattle.desk_http.specs.declared.answers.Unanswered.{Unanswered}
+use Rattle.desk_http.specs.declared.answers.Unanswered.TheVariants as unanswered
 
 -- the call that a caller makes by what was heard, at a moment; nobody makes one, and none is made
 -- by what was not heard
@@ -60,6 +65,28 @@ ShowsReply reply a = (a.status ≡ reply_status reply) × (a.body.items ≡ repl
 -- there is such a reply, and it is that one, as it is sent
 abbrev pub IsAnswer : Option Reply → Answered → Type 0
 IsAnswer found a = (reply : Reply) × (found ≡ Some reply) × ShowsReply reply a
+
+-- why what was not heard is not answered: its source failed; else memory was refused, for the text
+-- of its refusal too
+abbrev pub fault_unheard : Unheard → Unanswered
+fault_unheard unheard.Failed = unanswered.CutOff
+fault_unheard why = unanswered.Failure failure.Memory
+
+-- why what was heard of a caller is not answered: a request by a failure of the desk or of memory
+abbrev pub IsFault : Result Request Unheard → Unanswered → Type 0
+IsFault (Ok request) why = (failed : Failure) × (why ≡ unanswered.Failure failed)
+IsFault (Err heard) why = why ≡ fault_unheard heard
+
+-- the key that came is a caller's
+abbrev pub is_of_caller : OfficeLists → Received → Bool
+is_of_caller office (Refused refusal) = false
+is_of_caller office (With key heard) = is_some (caller_with office.keys key)
+
+-- a body was cut off, with the key of a caller: a key that is nobody's comes first
+pub record IsCutOff (received : Received) (old new : State) : Type 0 where
+  pub cut_off : is_cut_off received ≡ true
+  pub caller : HasCleanDisk new → (office : OfficeLists) → Stands old office
+      → IsTrue (is_of_caller office received)
 
 -- the call, if it was answered
 abbrev pub if_ok : {T E : Type 0} → Result T E → Option Call → Option Call

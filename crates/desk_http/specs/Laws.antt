@@ -1,7 +1,6 @@
 -- What a reply over HTTP tells.
 use Rattle.std.specs.Prelude.{◌≡◌, ◌⊎◌, ⊤, ℕ, List, Option, Some, None, Result, Ok, Err}
-use Rattle.httparse.specs.Grammar.{EndsInTarget}
-use Rattle.desk_heads.specs.Heads.{head_place}
+use Rattle.desk_heads.specs.Heads.{IsCutInTarget}
 use Rattle.desk_words.specs.Seen.{Moment, Party}
 use Rattle.desk_words.specs.declared.caller.Caller.{Caller}
 use Rattle.desk_words.specs.declared.caller.Caller.TheVariants as caller
@@ -56,4 +55,4 @@ TextsTellNoMore =
     → Spells input a → Spells input b
     → AgreeWith one other now a
     → (x y : Reply) → reply_in one now a ≡ Some x → reply_in other now b ≡ Some y
-    → (replied_text x ≡ replied_text y) ⊎ EndsInTarget (head_place input)
+    → (replied_text x ≡ replied_text y) ⊎ IsCutInTarget input

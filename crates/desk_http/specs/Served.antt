@@ -1,30 +1,35 @@
 -- What is written of a reply, and what is left of the desk.
-use Rattle.std.specs.Prelude.{◌≡◌, ◌⊎◌, ℕ, ◌+◌, List, Option, Some, None, IsTrue, Result, Ok, Err}
-use Rattle.std.specs.Prelude.{IfErr}
+use Rattle.std.specs.Prelude.{◌≡◌, ◌⊎◌, ℕ, ◌+◌, ◌≤◌, true, false, List, Option, Some, None, IsTrue, Result, Ok, Err}
+use Rattle.std.specs.Prelude.{IfErr, OnOk}
 use Rattle.std.specs.Io.KnownBytes.{Appends}
+use Rattle.sqlite.specs.Held.{Held, state}
 use Rattle.sqlite.specs.State.{State, HasCleanDisk}
+use Rattle.sqlite_disk.specs.Disk.{MoreFaults}
+use Rattle.sqlite_trees.specs.declared.store.Store as store
+use Rattle.desk_clocks.specs.declared.clock.Clock as clock
 use Rattle.desk_devices.specs.Counts.{one_more}
 use Rattle.desk_devices.specs.Written.{AppendsPrefix}
 use Rattle.desk_devices.specs.declared.sink.Sink as sink
 use Rattle.desk_devices.specs.declared.source.Source as source
 use Rattle.desk_heads.specs.declared.front.TheConstants.{LONGEST_HEAD}
-use Rattle.desk_heads.specs.declared.length.TheConstants.{LONGEST_BODY}
 use Rattle.desk_words.specs.Seen.{Moment}
 use Rattle.desk_words.specs.declared.office.OfficeLists.{OfficeLists}
 use Rattle.desk_words.specs.declared.reply.Failure.{Failure}
 use Rattle.desk_words.specs.declared.reply.Reply.{Reply}
 use Rattle.desk_records.specs.Standing.{Stands}
 use Rattle.desk_replies.specs.Replies.{reply_bytes}
-use Rattle.desk_requests.specs.Received.{Came, Spells}
+use Rattle.desk_requests.specs.Received.{Came, Spells, TakesRequest, is_cut_off}
 use Rattle.desk_requests.specs.declared.received.Received.{Received}
 use Rattle.desk_routes.specs.ReplyTexts.{failure_body, reply_text}
 use Rattle.desk_routes.specs.Statuses.{reply_status}
-use Rattle.desk_store.specs.Joins.{office_after}
-use Rattle.desk_http.specs.Answers.{call_received, reply_in}
+use Rattle.desk_store.specs.Joins.{Leaves, office_after}
+use Rattle.desk_http.specs.Answers.{IsCutOff, MakesCall, call_received, reply_in}
 use Rattle.desk_http.specs.declared.answers.Unanswered.{Unanswered}
 use Rattle.desk_http.specs.declared.answers.Unanswered.TheVariants as unanswered
 use Rattle.desk_http.specs.declared.serve.ServeFault.{ServeFault}
-use Rattle.desk_http.specs.declared.serve.ServeFault.TheVariants.{Write}
+use Rattle.desk_http.specs.declared.serve.ServeFault.TheVariants.{Read, Write}
+use Rattle.desk_http.specs.declared.now.NowFault.{NowFault}
+use Rattle.desk_http.specs.declared.now.NowFault.TheVariants.{Clock, Serve}
 
 -- the text of a reply
 abbrev pub replied_text : Reply → List ℕ
@@ -42,32 +47,41 @@ pub record IsReplied (office : OfficeLists) (now : Moment) (received : Received)
   pub text_is : text ≡ replied_text reply
   pub stands : Stands new (office_after office (call_received office now received))
 
--- the text tells of a failure, and the tables of a store that is open are the office as it was
-pub record IsFailed (office : OfficeLists) (new : State) (text : List ℕ) : Type 0 where
+-- the text tells of a failure, and the tables are the office as it was: of a store that is open,
+-- and of one that was open, where the disk refused nothing in the call
+pub record IsFailed (office : OfficeLists) (old new : State) (text : List ℕ) : Type 0 where
   pub failure : Failure
   pub text_is : text ≡ failure_text failure
   pub same : IsTrue new.is_open → Stands new office
+  pub unfaulted : IsTrue old.is_open → ¬ (MoreFaults old.faults new.faults) → Stands new office
 
 -- the text is that of the reply, or tells of a failure
-abbrev pub IsServed : OfficeLists → Moment → Received → State → List ℕ → Type 0
-IsServed office now received new text =
-    IsReplied office now received new text ⊎ IsFailed office new text
+abbrev pub IsServed : OfficeLists → Moment → Received → State → State → List ℕ → Type 0
+IsServed office now received old new text =
+    IsReplied office now received new text ⊎ IsFailed office old new text
 
 -- of an office for which the tables stood, with this text or a part of it
 abbrev pub Serves : Moment → Received → State → State → (List ℕ → Type 0) → Type 0
 Serves now received old new IsWritten =
     HasCleanDisk new → (office : OfficeLists) → Stands old office
-    → (text : List ℕ) × IsServed office now received new text × IsWritten text
+    → (text : List ℕ) × IsServed office now received old new text × IsWritten text
 
 -- what was received is what the bytes spell that came
 abbrev pub IsReceived : Option (List ℕ) → Option (List ℕ) → ℕ → ℕ → Received → Type 0
 IsReceived unread left passed passed' received =
-    Came (λ input. Spells input received) (LONGEST_HEAD + LONGEST_BODY) unread left passed passed'
+    Came (λ input. Spells input received) (TakesRequest received) unread left passed passed'
 
--- the bytes came from this source
-abbrev pub Receives : {R : Type 0} → source.Ghosts R → R → R → Received → Type 0
-Receives g before after received =
-    IsReceived (g.remaining before) (g.remaining after) (g.passed before) (g.passed after) received
+-- the source failed, once in the call
+abbrev pub FailsReading : {R : Type 0} → source.Ghosts R → R → R → Type 0
+FailsReading g before after = g.failures after ≡ one_more (g.failures before)
+
+-- the bytes came from this source, which failed where the body is cut off, once, and there alone
+pub record Receives {R : Type 0} (g : source.Ghosts R) (before after : R) (received : Received)
+    : Type 0 where
+  pub spelled : IsReceived (g.remaining before) (g.remaining after) (g.passed before)
+      (g.passed after) received
+  pub works : is_cut_off received ≡ false → g.failures after ≡ g.failures before
+  pub cut_off : is_cut_off received ≡ true → FailsReading g before after
 
 -- this text was written to the sink
 abbrev pub WritesText : {W : Type 0} → sink.Ghosts W → W → W → List ℕ → Type 0
@@ -76,10 +90,6 @@ WritesText g before after text = Appends (g.contents before) (g.contents after) 
 -- some bytes from the front of this text were written to the sink, and not all of them
 abbrev pub WritesPart : {W : Type 0} → sink.Ghosts W → W → W → List ℕ → Type 0
 WritesPart g before after text = AppendsPrefix (g.contents before) (g.contents after) text
-
--- the source failed, once in the call
-abbrev pub FailsReading : {R : Type 0} → source.Ghosts R → R → R → Type 0
-FailsReading g before after = g.failures after ≡ one_more (g.failures before)
 
 -- the sink failed, once in the call
 abbrev pub FailsWriting : {W : Type 0} → sink.Ghosts W → W → W → Type 0
@@ -98,3 +108,72 @@ TellsFailure why IsWritten =
 abbrev pub as_write : {T E : Type 0} → Result T E → Result T ServeFault
 as_write (Ok x) = Ok x
 as_write (Err e) = Err Write
+
+-- ---- what one request comes to
+
+-- what was received is answered on a desk at a moment, and written: the reply or a failure is told,
+-- or a write failed, or the body was cut off, and then nothing is written or changed; whatever is
+-- told, one call was made at most
+pub record Replies {T S W : Type 0} (g : store.Ghosts S) (h : sink.Ghosts W) (now : Moment)
+    (received : Received) (result : Result T ServeFault) (old new : Held S) (before after : W)
+    : Type 0 where
+  pub served : OnOk result
+      (Serves now received (state g old) (state g new) (WritesText h before after))
+  pub partly : OnFault result Write
+      (Serves now received (state g old) (state g new) (WritesPart h before after))
+  pub unread : OnFault result Read (IsCutOff received (state g old) (state g new)
+      × Leaves None (state g old) (state g new) × (after ≡ before))
+  pub makes : MakesCall (λ office. call_received office now received) (state g old) (state g new)
+  pub works : OnOk result (h.failures after ≡ h.failures before)
+  pub failed : OnFault result Write (FailsWriting h before after)
+
+-- what came of a device is told so
+abbrev pub as_served : {T : Type 0} → Result T ServeFault → Result T NowFault
+as_served (Ok x) = Ok x
+as_served (Err fault) = Err (Serve fault)
+
+-- a request was read; then the clock gave a moment; then it was answered at that moment
+pub record IsAnsweredAt {T S C R W : Type 0} (g : store.Ghosts S) (k : clock.Ghosts C)
+    (r : source.Ghosts R) (h : sink.Ghosts W) (result : Result T NowFault) (old new : Held S)
+    (from till : C) (reader reader' : R) (before after : W) : Type 0 where
+  pub received : Received
+  pub read : Receives r reader reader' received
+  pub moment : Moment
+  pub given : k.gives from moment till
+  pub told : Result T ServeFault
+  pub is : result ≡ as_served told
+  pub replies : Replies g h moment received told old new before after
+
+-- the source failed before the head had come whole, and the clock was not asked
+pub record IsUnread {T C R : Type 0} (r : source.Ghosts R) (result : Result T NowFault)
+    (from till : C) (reader reader' : R) : Type 0 where
+  pub is : result ≡ Err (Serve Read)
+  pub failed : FailsReading r reader reader'
+  pub bound : r.passed reader' ≤ r.passed reader + LONGEST_HEAD
+  pub unasked : till ≡ from
+
+-- a request was read, and then the clock gave no moment
+pub record IsUntimed {T C R : Type 0} (k : clock.Ghosts C) (r : source.Ghosts R)
+    (result : Result T NowFault) (from till : C) (reader reader' : R) : Type 0 where
+  pub is : result ≡ Err Clock
+  pub received : Received
+  pub read : Receives r reader reader' received
+  pub fails : k.fails from till
+
+-- one request is served on a desk: it is read, then answered at the moment that a clock gives, and
+-- what is told of it is written; or it is not read, or the clock gives no moment, and then nothing
+-- is written or changed
+abbrev pub ServesRequest : {T S C R W : Type 0} → store.Ghosts S → clock.Ghosts C
+    → source.Ghosts R → sink.Ghosts W → Result T NowFault
+    → Held S → Held S → C → C → R → R → W → W → Type 0
+ServesRequest g k r h result old new from till reader reader' before after =
+    IsAnsweredAt g k r h result old new from till reader reader' before after
+    ⊎ ((IsUnread r result from till reader reader' ⊎ IsUntimed k r result from till reader reader')
+    × (new ≡ old) × (after ≡ before))
+
+-- a clock that gives this one moment, as often as it is asked
+abbrev pub only_at : Moment → clock.Ghosts (Unit {0})
+only_at moment = record {
+  gives = λ from now till. now ≡ moment;
+  fails = λ from till. ⊥;
+}

@@ -1,14 +1,15 @@
 //! What is answered of a request on a desk.
-ghost use Rattle.std.specs.Prelude.{◌≡◌, IfErr, IfOk, OnErr, Some, None, true};
-ghost use Rattle.desk_http.specs.Answers.{IsAnswer, MakesCall, ShowsReply, call_received, call_of, if_ok};
+ghost use Rattle.std.specs.Prelude.{◌≡◌, IfErr, IfOk, OnErr, OnOk, Some, None, true};
+ghost use Rattle.desk_http.specs.Answers.{IsAnswer, IsCutOff, IsFault, MakesCall, ShowsReply};
+ghost use Rattle.desk_http.specs.Answers.{call_of, call_received, fault_unheard, if_ok};
 ghost use Rattle.desk_http.specs.Answers.{reply_in, reply_of, unheard_reply};
-ghost use Rattle.desk_requests.specs.declared.received.Unheard.TheVariants.{Failed};
 ghost use Rattle.desk_http.specs.declared.answers.Unanswered.TheVariants.{CutOff};
 ghost use Rattle.desk_http.specs.declared.answers.Unanswered.TheVariants as unanswered;
 ghost use Rattle.desk_records.specs.Standing.{Stands};
 ghost use Rattle.desk_requests.specs.Received.{is_cut_off, is_unheard};
 ghost use Rattle.desk_store.specs.Joins.{Leaves, office_after};
 ghost use Rattle.desk_words.specs.declared.office.OfficeLists.{OfficeLists};
+ghost use Rattle.desk_terms.specs.declared.refusal.Refusal.TheVariants.{Key};
 ghost use Rattle.desk_words.specs.declared.reply.Failure.TheVariants as failure;
 ghost use Rattle.desk_words.specs.declared.reply.Reply.TheVariants as reply;
 ghost use Rattle.desk_requests.specs.declared.received.Received.TheVariants.{With};
@@ -77,7 +78,7 @@ fn refused(alloc: Global, refusal: Refusal) -> Result<Answered, Unanswered>
 /// The answer to what was not heard.
 fn answer_unheard(alloc: Global, why: Unheard) -> Result<Answered, Unanswered>
     ensures shown { IfOk result (IsAnswer (unheard_reply why)) }
-    ensures cause { IfErr result (λ fault. fault ≡ CutOff → why ≡ Failed) }
+    ensures cause { IfErr result (λ fault. fault ≡ fault_unheard why) }
 {
     match why {
         Unheard::Refused(refusal) => refused(alloc, refusal),
@@ -101,7 +102,8 @@ fn answer_to<S: Alter>(
         (office_after office (call_of moment (Some caller) heard))) }
     ensures leaves { Leaves (if_ok result (call_of moment (Some caller) heard))
         (state S.Store desk.old) (state S.Store desk.new) }
-    ensures cause { IfErr result (λ why. why ≡ CutOff → is_unheard heard ≡ true) }
+    ensures cause { IfErr result (IsFault heard) }
+    ensures cut_off { is_unheard heard ≡ true → OnOk result ⊥ }
 {
     desk.rests();
     match heard {
@@ -134,7 +136,9 @@ fn answer_with<S: Alter>(
         (state S.Store desk.old) (state S.Store desk.new) }
     ensures unmade { OnErr result
         (Leaves None (state S.Store desk.old) (state S.Store desk.new)) }
-    ensures cause { IfErr result (λ why. why ≡ CutOff → is_unheard heard ≡ true) }
+    ensures cause { IfErr result (λ why. why ≡ CutOff
+        → IsCutOff (With key heard) (state S.Store desk.old) (state S.Store desk.new)) }
+    ensures cut_off { is_unheard heard ≡ true → IfOk result (ShowsReply (reply.Refused Key)) }
 {
     match desk.caller_of(&key)? {
         Some(caller) => answer_to(alloc, desk, moment, caller, heard),
@@ -150,7 +154,8 @@ fn answer_with<S: Alter>(
 /// `Desk::perform` makes it: the reply is made before the commit.
 ///
 /// The error is a failure of the desk or want of memory, after which nothing has changed, or
-/// `CutOff`, only where the source failed in the body.
+/// `CutOff`, only where the source failed in the body and the key is a caller's. A body that was
+/// cut off so has no other reply than `Key`.
 pub fn answer<S: Alter>(
     alloc: Global,
     desk: &mut Desk<S>,
@@ -166,7 +171,9 @@ pub fn answer<S: Alter>(
         (state S.Store desk.old) (state S.Store desk.new) }
     ensures unmade { OnErr result
         (Leaves None (state S.Store desk.old) (state S.Store desk.new)) }
-    ensures cause { IfErr result (λ why. why ≡ CutOff → is_cut_off received ≡ true) }
+    ensures cause { IfErr result (λ why. why ≡ CutOff
+        → IsCutOff received (state S.Store desk.old) (state S.Store desk.new)) }
+    ensures cut_off { is_cut_off received ≡ true → IfOk result (ShowsReply (reply.Refused Key)) }
 {
     desk.rests();
     match received {

@@ -4,7 +4,12 @@
 
 mod answers;
 pub mod laws;
+mod now;
 mod serve;
 
 pub use answers::{Answered, Unanswered, answer};
-pub use serve::{ServeFault, reply_to, serve_one};
+pub use desk_bodies::request_of;
+pub use desk_replies::reply_text;
+pub use desk_routes::write_reply;
+pub use now::{NowFault, serve_now, serve_one};
+pub use serve::{ServeFault, reply_to};

@@ -1,22 +1,14 @@
-//! One request, served.
-ghost use Rattle.std.specs.Prelude.{◌≡◌, ◌+◌, ◌≤◌, OnErr, OnOk, None, true};
-ghost use Rattle.desk_heads.specs.declared.front.TheConstants.{LONGEST_HEAD};
-ghost use Rattle.desk_heads.specs.declared.length.TheConstants.{LONGEST_BODY};
-ghost use Rattle.desk_http.specs.Answers.{MakesCall, call_received};
-ghost use Rattle.desk_http.specs.Served.{FailsReading, FailsWriting, OnFault, Receives, Serves};
-ghost use Rattle.desk_http.specs.Served.{TellsFailure, WritesPart, WritesText};
-ghost use Rattle.desk_http.specs.Served.{as_write, failure_text};
+//! What was received, answered and written.
+ghost use Rattle.std.specs.Prelude.{◌≡◌, OnErr, OnOk};
+ghost use Rattle.desk_http.specs.Served.{FailsWriting, OnFault, Replies, TellsFailure};
+ghost use Rattle.desk_http.specs.Served.{WritesPart, WritesText, as_write, failure_text};
 ghost use Rattle.desk_http.specs.declared.answers.Unanswered.TheVariants.{CutOff};
 ghost use Rattle.desk_http.specs.declared.serve.ServeFault.TheVariants.{Read, Write};
-ghost use Rattle.desk_requests.specs.Received.{is_cut_off};
-ghost use Rattle.desk_requests.specs.declared.received.Received.{Received};
 ghost use Rattle.desk_routes.specs.ReplyTexts.{reply_text};
-ghost use Rattle.desk_store.specs.Joins.{Leaves};
-ghost use Rattle.sqlite.specs.Held.{state};
 
 use crate::answers::{Answered, Unanswered, answer};
-use desk_devices::{DeviceFailed, Sink, Source, write_all};
-use desk_requests::{Received, read_request};
+use desk_devices::{DeviceFailed, Sink, write_all};
+use desk_requests::Received;
 use desk_routes::{failure_reply, write_reply};
 use desk_store::Desk;
 use desk_words::{Failure, Moment};
@@ -90,62 +82,11 @@ pub fn reply_to<S: Alter, W: Sink>(
     received: Received,
     writer: &mut W,
 ) -> Result<(), ServeFault>
-    ensures served { OnOk result
-        (Serves moment received (state S.Store desk.old) (state S.Store desk.new)
-        (WritesText W.Sink writer.old writer.new)) }
-    ensures partly { OnFault result Write
-        (Serves moment received (state S.Store desk.old) (state S.Store desk.new)
-        (WritesPart W.Sink writer.old writer.new)) }
-    ensures makes { MakesCall (λ office. call_received office moment received)
-        (state S.Store desk.old) (state S.Store desk.new) }
-    ensures unread { OnFault result Read ((is_cut_off received ≡ true)
-        × Leaves None (state S.Store desk.old) (state S.Store desk.new)
-        × (writer.new ≡ writer.old)) }
-    ensures works { OnOk result (W.failures writer.new ≡ W.failures writer.old) }
-    ensures failed { OnFault result Write (FailsWriting W.Sink writer.old writer.new) }
+    ensures { Replies S.Store W.Sink moment received result desk.old desk.new
+        writer.old writer.new }
 {
     match answer(alloc, desk, moment, received) {
         Ok(answered) => sent(write_answered(&answered, writer)),
         Err(why) => write_unanswered(why, writer),
-    }
-}
-
-/// Serves one request: reads it, answers it on a desk at a moment, and writes the reply.
-///
-/// What is written is exactly the text of the reply to what the bytes spell, and the tables are the
-/// office after that call; or it is a fixed text that tells of a failure, and the tables are as
-/// they were. `Read` and `Write` are told only where that device failed, once in the call. After
-/// `Read` nothing is written or changed. After `Write` a part of one of these texts is written, and
-/// the tables are as after that text. At most 8,192 + 65,536 bytes are taken; those behind the
-/// request are not looked at.
-pub fn serve_one<S: Alter, R: Source, W: Sink>(
-    alloc: Global,
-    desk: &mut Desk<S>,
-    moment: Moment,
-    reader: &mut R,
-    writer: &mut W,
-) -> Result<(), ServeFault>
-    ensures served { OnOk result ((received : Received)
-        × Receives R.Source reader.old reader.new received
-        × Serves moment received (state S.Store desk.old) (state S.Store desk.new)
-        (WritesText W.Sink writer.old writer.new)) }
-    ensures partly { OnFault result Write ((received : Received)
-        × Receives R.Source reader.old reader.new received
-        × Serves moment received (state S.Store desk.old) (state S.Store desk.new)
-        (WritesPart W.Sink writer.old writer.new)) }
-    ensures unread { OnFault result Read
-        (Leaves None (state S.Store desk.old) (state S.Store desk.new)
-        × (writer.new ≡ writer.old) × FailsReading R.Source reader.old reader.new) }
-    ensures works { OnOk result (W.failures writer.new ≡ W.failures writer.old) }
-    ensures failed { OnFault result Write (FailsWriting W.Sink writer.old writer.new) }
-    ensures makes { (received : Received)
-        × MakesCall (λ office. call_received office moment received)
-        (state S.Store desk.old) (state S.Store desk.new) }
-    ensures bound { R.passed reader.new ≤ R.passed reader.old + (LONGEST_HEAD + LONGEST_BODY) }
-{
-    desk.rests();
-    match read_request(alloc, reader) {
-        Ok(received) => reply_to(alloc, desk, moment, received, writer),
-        Err(DeviceFailed) => Err(ServeFault::Read),
     }
 }

@@ -1,6 +1,8 @@
 -- What an input spells.
-use Rattle.std.proofs.Common.{◌≡◌, ℕ, ◌+◌, ◌≤◌, true, false, List, [], ◌++◌, Option, Some, None, Ok, Err, Result, length, refl, ap, subst, ◌∙◌, arith, append_assoc, length-append}
-use Rattle.std.specs.Prelude.{IfSome}
+use Rattle.std.proofs.Common.{◌≡◌, ◌⊎◌, inl, inr, ℕ, ◌+◌, ◌-◌, ◌≤◌, Bool, true, false, List, [], ◌++◌, Option, Some, None, Ok, Err, Result, length, refl, ap, subst, ◌∙◌, arith, append_assoc, length-append}
+use Rattle.std.specs.Prelude.{IfSome, nat_le}
+use Rattle.std.proofs.lemmas.Bool.Decides.{nat_tests}
+use Rattle.desk_terms.specs.Results.{◌>>=◌}
 use Rattle.std.specs.Result.{IsErrAnd}
 use Rattle.std.proofs.lemmas.List.{append-nil}
 use Rattle.desk_devices.proofs.Chained.{Consumes-chained}
@@ -15,8 +17,8 @@ use Rattle.desk_heads.specs.declared.front.Front.TheVariants as front
 use Rattle.desk_heads.specs.declared.front.TheConstants.{LONGEST_HEAD}
 use Rattle.desk_heads.specs.declared.length.TheConstants.{LONGEST_BODY}
 use Rattle.httparse.specs.Grammar.{print_request}
-use Rattle.desk_requests.specs.Asked.{request_by, request_in, way_in}
-use Rattle.desk_requests.specs.Received.{HeadAsks, Came, Hears, IsBody, Spells}
+use Rattle.desk_requests.specs.Asked.{front_of, has_front, is_whole, request_by, request_in, size_on, size_read, way_in}
+use Rattle.desk_requests.specs.Received.{EndInBody, HeadAsks, Came, Hears, IsBody, Spells, TakesBody, TakesRequest, most_behind, most_read}
 use Rattle.desk_requests.specs.declared.asked.Way.{Way}
 use Rattle.desk_requests.specs.declared.received.Received.{Received}
 use Rattle.desk_requests.specs.declared.received.Received.TheVariants.{Refused}
@@ -27,9 +29,10 @@ use Rattle.desk_requests.proofs.CameLemmas.{came-read}
 -- ---- what is asked
 
 -- with a whole body the request is what the body says
-pub asked-whole : (route : Route) (body behind : List ℕ) → IsBody true body behind → request_by route (length body) behind ≡ readable (asked_on_route route body)
+pub asked-whole : (route : Route) (body behind : List ℕ) (heard : Result Request Unheard) → IsBody true body behind
+    → Hears true (readable (asked_on_route route body)) heard → Hears (has_front (length body) behind) (request_by route (length body) behind) heard
 unfolding request_by
-asked-whole route body behind is = rw is refl
+asked-whole route body behind heard is h = rw is h
 
 -- with bytes that are too few it is unreadable
 pub asked-short : (route : Route) (body behind : List ℕ) → IsBody false body behind → request_by route (length body) behind ≡ Err refusal.Unreadable
@@ -38,16 +41,49 @@ asked-short route body behind is = rw is refl
 
 -- on the way of a head
 pub asked-way : (head : Asked) (way : Way) (rest behind bytes : List ℕ) (heard : Result Request Unheard) → way_in head ≡ Ok way → behind ≡ rest
-    → Hears (request_by way.route way.size (behind ++ bytes)) heard → Hears (request_in head (rest ++ bytes)) heard
+    → Hears (has_front way.size (behind ++ bytes)) (request_by way.route way.size (behind ++ bytes)) heard → Hears (is_whole head (rest ++ bytes)) (request_in head (rest ++ bytes)) heard
 unfolding request_in
 asked-way head way rest behind bytes heard is same h = rw (is, ← same) h
 
 -- and what has none is refused
 pub asked-nowhere : (head : Asked) (why : Refusal) (behind : List ℕ) (heard : Result Request Unheard) → way_in head ≡ Err why
-    → IsErrAnd heard (λ e. e ≡ unheard.Refused why) → Hears (request_in head behind) heard
+    → IsErrAnd heard (λ e. e ≡ unheard.Refused why) → Hears (is_whole head behind) (request_in head behind) heard
 unfolding request_in
 asked-nowhere head why behind (Ok request) is h = absurd h
 asked-nowhere head why behind (Err e) is h = rw (h, is) refl
+
+-- ---- how many bytes are read of a body
+
+readable-why : {A : Type 0} (found : Option A) (why : Refusal) → readable found ≡ Err why → why ≡ refusal.Unreadable
+readable-why None why is = cc
+readable-why (Some x) why is = absurd (cc)
+
+-- what a body is refused for is that it is unreadable
+unreadable-why : (route : Route) (size : ℕ) (behind : List ℕ) (why : Refusal) → request_by route size behind ≡ Err why → why ≡ refusal.Unreadable
+unfolding request_by
+unreadable-why route size behind why is = by (front_of size behind) is
+  where
+    by : (found : Option (List ℕ)) → (readable found >>= (λ body. readable (asked_on_route route body))) ≡ Err why → why ≡ refusal.Unreadable
+    by None e = cc
+    by (Some body) e = readable-why (asked_on_route route body) why e
+
+read-whole : (whole : Bool) (route : Route) (size : ℕ) (behind : List ℕ) (heard : Result Request Unheard) → Hears whole (request_by route size behind) heard → most_read heard ≡ LONGEST_BODY
+read-whole whole route size behind (Ok request) h = refl
+read-whole whole route size behind (Err (unheard.Refused why)) h = ap (λ w. most_read (Err (unheard.Refused w))) (unreadable-why route size behind why h)
+read-whole whole route size behind (Err unheard.Memory) h = refl
+read-whole whole route size behind (Err unheard.Failed) h = refl
+
+-- of no body
+pub takes-nothing : (size most : ℕ) (came : List ℕ) → TakesBody size came most []
+takes-nothing size most came = record { rest = omega arith; bound = omega arith }
+
+-- of a body on a way
+pub takes-way : (whole : Bool) (way : Result Way Refusal) (on : Way) (rest behind bytes more : List ℕ) (heard : Result Request Unheard) → way ≡ Ok on → on.size ≤ LONGEST_BODY → behind ≡ rest
+    → Hears whole (request_by on.route on.size more) heard → length bytes ≤ on.size - length behind → TakesBody (size_on way) rest (most_read heard) bytes
+takes-way whole way on rest behind bytes more heard is within same hears few =
+    let most = read-whole whole on.route on.size more heard hears in
+    let size : size_on way ≡ on.size = ap size_on is in
+    record { rest = omega (arith, few, size, ap length same); bound = omega (arith, few, within, most) }
 
 -- ---- what is spelled
 
@@ -77,11 +113,33 @@ whole-known held received None b found asks = tt
 whole-known held received (Some input) None found asks = absurd found
 whole-known held received (Some input) (Some left) found asks = head-more received found asks
 
+-- bytes that settle a request, with its head
+pub takes-head : (received : Received) (bytes : List ℕ) → length bytes ≤ LONGEST_HEAD → TakesRequest received bytes
+takes-head received bytes few = record { bound = omega (arith, few); ends = inl few }
+
+-- a head, and behind it no more than is missing of the body
+takes-body : (held : Held) (received : Received) (more : List ℕ) → length held.bytes ≤ LONGEST_HEAD → HoldsHead held.bytes [] held
+    → TakesBody (size_read held.asked) held.rest (most_behind received) more → TakesRequest received (held.bytes ++ more)
+takes-body held received more few holds takes = record {
+  bound = omega (arith, few, takes.bound, length-append held.bytes more);
+  ends = by (nat_le (length held.rest) (size_read held.asked)) refl;
+}
+  where
+    by : (fits : Bool) → nat_le (length held.rest) (size_read held.asked) ≡ fits → (length (held.bytes ++ more) ≤ LONGEST_HEAD) ⊎ EndInBody (held.bytes ++ more)
+    by true is =
+        let within : length held.rest ≤ size_read held.asked = grind (arith, nat_tests) in
+        let all : length (held.rest ++ more) ≤ size_read held.asked = omega (arith, within, takes.rest, length-append held.rest more) in
+        let there = held-more held more holds in
+        inr (there.head, held.rest ++ more, there.is_head, subst (λ asked. length (held.rest ++ more) ≤ size_read asked) there.asked all)
+    by false is =
+        let past : size_read held.asked ≤ length held.rest = grind (arith, nat_tests) in
+        inl (omega (arith, few, past, takes.rest, length-append held.bytes more))
+
 -- what came with a whole head and behind it
 pub whole-spelled : (held : Held) (received : Received) (a b z : Option (List ℕ)) (p q r : ℕ) → Comes [] held.bytes a b p q → length held.bytes ≤ LONGEST_HEAD
     → Finds front.Whole held.bytes [] held → FindsKnown front.Whole [] a b held
-    → Came (λ bytes. HeadAsks held.asked (held.rest ++ bytes) received) LONGEST_BODY b z q r
-    → Came (λ input. Spells input received) (LONGEST_HEAD + LONGEST_BODY) a z p r
+    → Came (λ bytes. HeadAsks held.asked (held.rest ++ bytes) received) (TakesBody (size_read held.asked) held.rest (most_behind received)) b z q r
+    → Came (λ input. Spells input received) (TakesRequest received) a z p r
 whole-spelled held received a b z p q r comes bound found known came =
     let is : held.bytes ≡ comes.bytes = comes.behind in
     let holds : Spells (held.bytes ++ came.bytes) received = head-more received (held-more held came.bytes found) came.holds in
@@ -89,7 +147,7 @@ whole-spelled held received a b z p q r comes bound found known came =
       bytes = comes.bytes ++ came.bytes;
       consumed = Consumes-chained a b z comes.bytes came.bytes comes.consumed came.consumed;
       counted = omega (arith, comes.counted, came.counted, length-append comes.bytes came.bytes);
-      bound = omega (arith, bound, ap length is, came.bound, length-append comes.bytes came.bytes);
+      taken = subst (λ bytes. TakesRequest received (bytes ++ came.bytes)) is (takes-body held received came.bytes bound found came.taken);
       holds = subst (λ bytes. Spells (bytes ++ came.bytes) received) is holds;
       holds_known = whole-known held received a b known came.holds_known;
     }
@@ -102,6 +160,6 @@ large-known held (Some input) (Some left) found = (front.TooLarge, (found, refl)
 -- what came with a head that is too large
 pub large-spelled : (held : Held) (a b : Option (List ℕ)) (p q : ℕ) → Comes [] held.bytes a b p q → length held.bytes ≤ LONGEST_HEAD
     → Finds front.TooLarge held.bytes [] held → FindsKnown front.TooLarge [] a b held
-    → Came (λ input. Spells input (Refused refusal.TooLarge)) (LONGEST_HEAD + LONGEST_BODY) a b p q
+    → Came (λ input. Spells input (Refused refusal.TooLarge)) (TakesRequest (Refused refusal.TooLarge)) a b p q
 large-spelled held a b p q comes bound found known =
-    came-read _ LONGEST_HEAD _ held.bytes a b p q comes bound (omega arith) (front.TooLarge, (found, refl)) (large-known held a b known)
+    came-read _ _ held.bytes a b p q comes (takes-head (Refused refusal.TooLarge) held.bytes bound) (front.TooLarge, (found, refl)) (large-known held a b known)

@@ -1,6 +1,6 @@
 -- What a head and the bytes behind it ask: first the key, then the route, the method, the size of
 -- the body, and what the body says.
-use Rattle.std.specs.Prelude.{ℕ, List, length, take, nat_le, Option, Some, None, Result, Ok, Err, ok_or, codes, if◌then◌else◌}
+use Rattle.std.specs.Prelude.{ℕ, Bool, false, List, length, take, nat_le, Option, Some, None, is_some, Result, Ok, Err, ok_or, codes, if◌then◌else◌}
 use Rattle.desk_terms.specs.Results.{◌>>=◌}
 use Rattle.desk_terms.specs.Names.{key_of}
 use Rattle.desk_terms.specs.declared.refusal.Refusal.{Refusal}
@@ -54,6 +54,10 @@ way_in head = do
 abbrev pub front_of : ℕ → List ℕ → Option (List ℕ)
 front_of size bytes = if nat_le size (length bytes) then Some (take size bytes) else None
 
+-- there are so many
+abbrev pub has_front : ℕ → List ℕ → Bool
+has_front size bytes = is_some (front_of size bytes)
+
 -- what is asked on a route by a body of this size; what stands behind the body is not looked at
 unfoldable pub request_by : Route → ℕ → List ℕ → Result Request Refusal
 request_by route size behind = do
@@ -65,3 +69,26 @@ unfoldable pub request_in : Asked → List ℕ → Result Request Refusal
 request_in head behind = do
   way ← way_in head
   request_by way.route way.size behind
+
+-- the request has a way, and its body is whole
+abbrev pub is_whole_on : Result Way Refusal → List ℕ → Bool
+is_whole_on (Ok way) behind = has_front way.size behind
+is_whole_on (Err why) behind = false
+
+-- the body of a head is whole, by the bytes behind the head
+abbrev pub is_whole : Asked → List ℕ → Bool
+is_whole head behind = is_whole_on (way_in head) behind
+
+-- so many bytes of a body are read: none where the route, the method or the size is refused
+abbrev pub size_on : Result Way Refusal → ℕ
+size_on (Ok way) = way.size
+size_on (Err why) = 0
+
+-- and none where there is no key
+abbrev pub size_with : Option (List ℕ) → Result Way Refusal → ℕ
+size_with None way = 0
+size_with (Some key) way = size_on way
+
+-- the size of the body that is read behind a head
+abbrev pub size_read : Asked → ℕ
+size_read head = size_with (key_of_head head) (way_in head)

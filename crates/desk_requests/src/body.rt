@@ -1,5 +1,5 @@
 //! The body of a request.
-ghost use Rattle.std.specs.Prelude.{◌≡◌, ◌++◌, length, min, take, IfOk, OnOk, OnErr};
+ghost use Rattle.std.specs.Prelude.{◌≡◌, ◌-◌, ◌≤◌, ◌++◌, length, min, take, IfOk, OnOk, OnErr};
 ghost use Rattle.desk_devices.specs.Counts.{one_more};
 ghost use Rattle.desk_requests.specs.Received.{Came, IsBody};
 
@@ -25,7 +25,7 @@ pub(crate) fn read_body<S: Source>(
 ) -> Result<bool, DeviceFailed>
     ensures came { Came
         (λ bytes. IfOk result (λ whole. IsBody whole body.new (behind.now ++ bytes)))
-        (length body.old)
+        (λ bytes. length bytes ≤ length body.old - length behind.now)
         (S.remaining source.old) (S.remaining source.new)
         (S.passed source.old) (S.passed source.new) }
     ensures size { length body.new ≡ length body.old }

@@ -4,7 +4,8 @@ ghost use Rattle.desk_requests.specs.Laws.{SpellsOne};
 use desk_heads::{one_front, one_head};
 
 /// An input spells one thing at most, if memory lasts and the source does not fail; but where its
-/// first 8,192 bytes hold no head and end inside the target, it may be too large and unreadable.
+/// first 8,192 bytes are there, hold no head and end inside the target, it may be too large and
+/// unreadable.
 pub fn one_request()
     ensures { SpellsOne }
 {

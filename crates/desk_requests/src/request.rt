@@ -1,12 +1,13 @@
 //! A request, read from a source.
-ghost use Rattle.std.specs.Prelude.{◌≡◌, ◌++◌, ◌+◌, ◌≤◌, ℕ, List, true, false, length, IfOk, OnErr};
+ghost use Rattle.std.specs.Prelude.{◌≡◌, ◌++◌, ◌-◌, ◌≤◌, ℕ, List, true, false, length, IfOk, MatchResult, OnErr};
 ghost use Rattle.desk_bodies.specs.Answers.{readable};
 ghost use Rattle.desk_bodies.specs.Requests.{asked_on_route};
 ghost use Rattle.desk_devices.specs.Counts.{one_more};
 ghost use Rattle.desk_heads.specs.declared.front.TheConstants.{LONGEST_HEAD};
-ghost use Rattle.desk_heads.specs.declared.length.TheConstants.{LONGEST_BODY};
-ghost use Rattle.desk_requests.specs.Asked.{request_by, request_in};
+ghost use Rattle.desk_requests.specs.Asked.{has_front, request_by, request_in, size_on, size_read, way_in};
 ghost use Rattle.desk_requests.specs.Received.{HeadAsks, Came, Hears, IsBody, Spells, is_cut_off, is_unheard};
+ghost use Rattle.desk_requests.specs.Asked.{is_whole};
+ghost use Rattle.desk_requests.specs.Received.{TakesBody, TakesRequest, most_behind, most_read};
 
 use crate::asked::{Way, key_in, way_in};
 use crate::body::read_body;
@@ -19,7 +20,7 @@ use std::alloc::Global;
 
 /// What is asked on a route by a whole body.
 fn asked(alloc: Global, route: Route, body: &[u8]) -> Result<Request, Unheard>
-    ensures asked { Hears (readable (asked_on_route route body.now)) result }
+    ensures asked { Hears true (readable (asked_on_route route body.now)) result }
     ensures heard { is_unheard result ≡ false }
 {
     Ok(route.request(alloc, body)?)
@@ -28,7 +29,8 @@ fn asked(alloc: Global, route: Route, body: &[u8]) -> Result<Request, Unheard>
 /// What is asked on a route by a body, which may not be whole.
 fn asked_by(alloc: Global, route: Route, whole: bool, body: &[u8]) -> Result<Request, Unheard>
     ensures asked { (behind : List ℕ) → IsBody whole body.now behind
-        → Hears (request_by route (length body.now) behind) result }
+        → Hears (has_front (length body.now) behind)
+        (request_by route (length body.now) behind) result }
     ensures heard { is_unheard result ≡ false }
 {
     if whole {
@@ -48,8 +50,9 @@ fn request_by<S: Source>(
 ) -> Result<Request, Unheard>
     requires { length body.old ≡ way.size }
     ensures came { Came
-        (λ bytes. Hears (request_by way.route way.size (behind.now ++ bytes)) result)
-        way.size
+        (λ bytes. Hears (has_front way.size (behind.now ++ bytes))
+        (request_by way.route way.size (behind.now ++ bytes)) result)
+        (λ bytes. length bytes ≤ way.size - length behind.now)
         (S.remaining source.old) (S.remaining source.new)
         (S.passed source.old) (S.passed source.new) }
     ensures works { is_unheard result ≡ false → S.failures source.new ≡ S.failures source.old }
@@ -69,8 +72,9 @@ fn request_in<S: Source>(
     source: &mut S,
 ) -> Result<Request, Unheard>
     ensures came { Came
-        (λ bytes. Hears (request_in head.now.asked (head.now.rest ++ bytes)) result)
-        LONGEST_BODY
+        (λ bytes. Hears (is_whole head.now.asked (head.now.rest ++ bytes))
+        (request_in head.now.asked (head.now.rest ++ bytes)) result)
+        (TakesBody (size_on (way_in head.now.asked)) head.now.rest (most_read result))
         (S.remaining source.old) (S.remaining source.new)
         (S.passed source.old) (S.passed source.new) }
     ensures works { is_unheard result ≡ false → S.failures source.new ≡ S.failures source.old }
@@ -86,7 +90,7 @@ fn request_in<S: Source>(
 fn received<S: Source>(alloc: Global, head: &HeadReader, source: &mut S) -> Received
     ensures came { Came
         (λ bytes. HeadAsks head.now.asked (head.now.rest ++ bytes) result)
-        LONGEST_BODY
+        (TakesBody (size_read head.now.asked) head.now.rest (most_behind result))
         (S.remaining source.old) (S.remaining source.new)
         (S.passed source.old) (S.passed source.new) }
     ensures works { is_cut_off result ≡ false → S.failures source.new ≡ S.failures source.old }
@@ -104,7 +108,8 @@ fn received<S: Source>(alloc: Global, head: &HeadReader, source: &mut S) -> Rece
 
 /// Reads one request: its head, of at most 8,192 bytes, and, where its key, route, method and size
 /// let it, its body of at most 65,536. No byte behind the request is asked for, though some may be
-/// taken with the head. It asks no table and no clock.
+/// taken with the head, in its 8,192 bytes. It asks no table and no clock. A body that is cut is
+/// unreadable, and memory is wanted for one that is whole alone.
 ///
 /// The error is one failed call of the source before the whole head had come. A source that fails
 /// in the body is told as `Failed` beside the key.
@@ -112,7 +117,8 @@ pub fn read_request<S: Source>(alloc: Global, source: &mut S) -> Result<Received
     // What the bytes spell that came, as those behind them do not tell otherwise.
     ensures came { Came
         (λ input. IfOk result (λ received. Spells input received))
-        (LONGEST_HEAD + LONGEST_BODY)
+        (λ bytes. MatchResult result (λ received. TakesRequest received bytes)
+        (λ _. length bytes ≤ LONGEST_HEAD))
         (S.remaining source.old) (S.remaining source.new)
         (S.passed source.old) (S.passed source.new) }
     ensures works { IfOk result (λ received. is_cut_off received ≡ false

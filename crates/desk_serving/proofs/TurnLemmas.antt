@@ -1,9 +1,20 @@
 -- One turn after another.
-use Rattle.std.proofs.Common.{◌≡◌, ◌⊎◌, inl, inr, ℕ, ◌+◌, ◌≤◌, false, List, [], ◌∷◌, ◌++◌, Option, Some, None, Result, Ok, Err, refl, subst, sym, arith, length-append}
+use Rattle.std.proofs.Common.{◌≡◌, ◌⊎◌, inl, inr, ℕ, ◌+◌, ◌≤◌, false, List, [], ◌∷◌, ◌++◌, Option, Some, None, Result, Ok, Err, refl, subst, sym, ◌∙◌, arith, length-append}
+use Rattle.std.specs.Prelude.{MatchResult, OnErr, OnOk}
+use Rattle.sqlite.specs.Held.{Held, state}
 use Rattle.sqlite.specs.State.{State}
+use Rattle.sqlite_trees.specs.declared.store.Store as store
+use Rattle.desk_clocks.specs.declared.clock.Clock as clock
+use Rattle.desk_devices.specs.declared.sink.Sink as sink
+use Rattle.desk_devices.specs.declared.source.Source as source
 use Rattle.desk_clocks.specs.Gives.{GaveInTurn}
 use Rattle.desk_records.specs.Standing.{Stands}
 use Rattle.desk_http.specs.Answers.{MakesCall, call_received, call_of}
+use Rattle.desk_http.specs.Served.{ServesRequest}
+use Rattle.desk_http.specs.declared.now.NowFault.{NowFault}
+use Rattle.desk_http.specs.declared.now.NowFault.TheVariants.{Clock}
+use Rattle.desk_http.proofs.AnswerLemmas.{closes_then}
+use Rattle.desk_http.proofs.ServedLemmas.{served_no_clock}
 use Rattle.desk_requests.specs.declared.received.Received.{Received}
 use Rattle.desk_requests.specs.declared.received.Received.TheVariants.{Refused, With}
 use Rattle.desk_requests.specs.declared.received.Unheard.{Unheard}
@@ -39,6 +50,8 @@ pub ran-none : (s : State) → s.in_transaction ≡ false → Ran [] s s
 ran-none s ended = record {
   was_clean = λ clean. clean;
   was_open = λ clean is_open. is_open;
+  closes = λ clean is_open. inl is_open;
+  counts = omega arith;
   ended = ended;
   stands = λ clean is_open office stands. ([], tt, stands);
 }
@@ -47,6 +60,8 @@ pub ran-then : (a b c : State) (moments more : List Moment) → Ran moments a b 
 ran-then a b c moments more first next = record {
   was_clean = λ clean. first.was_clean (next.was_clean clean);
   was_open = λ clean is_open. first.was_open (next.was_clean clean) (next.was_open clean is_open);
+  closes = λ clean is_open. closes_then a b c first.counts next.counts (first.closes (next.was_clean clean) is_open) (next.closes clean);
+  counts = omega (arith, first.counts, next.counts);
   ended = next.ended;
   stands = λ clean is_open office stands.
       let mid = first.stands (next.was_clean clean) (next.was_open clean is_open) office stands in
@@ -102,6 +117,8 @@ pub ran-made : (now : Moment) (received : Received) (a b : State) → MakesCall 
 ran-made now received a b makes = record {
   was_clean = makes.leaves.was_clean;
   was_open = makes.leaves.was_open;
+  closes = makes.leaves.closes;
+  counts = makes.leaves.counts;
   ended = makes.leaves.ended;
   stands = λ clean is_open office stands. (
     makes.made ∷ [],
@@ -109,3 +126,36 @@ ran-made now received a b makes = record {
     subst (λ (o : OfficeLists). Stands b o) (run-one office makes.made) (makes.leaves.stands clean is_open office stands),
   );
 }
+
+-- what the serving of one request leaves, where the clock gave a moment or was not asked
+pub served_turn : {T S C R W : Type 0} (g : store.Ghosts S) (k : clock.Ghosts C) (r : source.Ghosts R) (h : sink.Ghosts W) (result : Result T NowFault) (old new : Held S) (from till : C)
+    (reader reader' : R) (before after : W) → (state g old).in_transaction ≡ false → ServesRequest g k r h result old new from till reader reader' before after
+    → (result ≡ Err Clock → ⊥) → Turned k.gives 1 from till (state g old) (state g new)
+served_turn g k r h result old new from till reader reader' before after ended (inl it) timed =
+    turned-one k.gives from till it.moment (state g old) (state g new) it.given (ran-made it.moment it.received (state g old) (state g new) it.replies.makes)
+served_turn g k r h result old new from till reader reader' before after ended (inr (inl it, same, unwritten)) timed =
+    subst (λ s. Turned k.gives 1 from till (state g old) (state g s)) (sym same)
+    (subst (λ c. Turned k.gives 1 from c (state g old) (state g old)) (sym it.unasked) (turned-none k.gives 1 from (state g old) ended))
+served_turn g k r h result old new from till reader reader' before after ended (inr (inr it, same, unwritten)) timed = absurd (timed it.is)
+
+-- and where it gave none
+pub served_untimed : {T S C R W : Type 0} (g : store.Ghosts S) (k : clock.Ghosts C) (r : source.Ghosts R) (h : sink.Ghosts W) (result : Result T NowFault) (old new : Held S) (from till : C)
+    (reader reader' : R) (before after : W) → ServesRequest g k r h result old new from till reader reader' before after → result ≡ Err Clock → k.fails from till × (new ≡ old)
+served_untimed g k r h result old new from till reader reader' before after (inl it) untimed = absurd (served_no_clock it.told (sym it.is ∙ untimed))
+served_untimed g k r h result old new from till reader reader' before after (inr (inl it, same, unwritten)) untimed = let both = sym it.is ∙ untimed in absurd (cc)
+served_untimed g k r h result old new from till reader reader' before after (inr (inr it, same, unwritten)) untimed = (it.fails, same)
+
+-- the same, by what was made of the result
+module _ {T U E S C R W : Type 0} (g : store.Ghosts S) (k : clock.Ghosts C) (r : source.Ghosts R) (h : sink.Ghosts W) (result : Result T NowFault) (old new : Held S) (from till : C)
+    (reader reader' : R) (before after : W) (serves : ServesRequest g k r h result old new from till reader reader' before after) where
+  pub turned_if : (told : Result U E) → (state g old).in_transaction ≡ false → MatchResult told (λ _. result ≡ Err Clock → ⊥) (λ _. result ≡ Err Clock) → OnOk told (Turned k.gives 1 from till (state g old) (state g new))
+  turned_if (Ok x) ended timed = served_turn g k r h result old new from till reader reader' before after ended serves timed
+  turned_if (Err e) ended timed = tt
+
+  pub untimed_if : (told : Result U E) → MatchResult told (λ _. result ≡ Err Clock → ⊥) (λ _. result ≡ Err Clock) → OnErr told (k.fails from till × (new ≡ old))
+  untimed_if (Ok x) timed = tt
+  untimed_if (Err e) timed = served_untimed g k r h result old new from till reader reader' before after serves timed
+
+pub on_err : {U E : Type 0} {P Q : Type 0} (told : Result U E) → OnErr told P → (P → Q) → OnErr told Q
+on_err (Ok x) p next = tt
+on_err (Err e) p next = next p

@@ -7,6 +7,7 @@ use Rattle.desk_clocks.specs.Gives.{GaveInTurn}
 use Rattle.desk_clocks.specs.declared.clock.Clock as clock
 use Rattle.desk_records.specs.Standing.{Stands}
 use Rattle.desk_schema.specs.Statements.{WasOpen}
+use Rattle.desk_store.specs.Joins.{ShutsByFault}
 use Rattle.desk_store.specs.Runs.{calls_in}
 use Rattle.desk_words.specs.Seen.{Moment}
 use Rattle.desk_words.specs.declared.office.OfficeLists.{OfficeLists}
@@ -32,18 +33,16 @@ HasRun office moments new =
     × Stands new (run_of office (calls_in made)).office
 
 -- what is left of a desk after such a run: no failure is made good, so a clean disk was clean
--- before, and an open store was open before; it is in no transaction; and where the tables stood
--- for an office, they stand for it after the run
+-- before, and an open store was open before; only a fault of the disk shuts a store; it is in no
+-- transaction; and where the tables stood for an office, they stand for it after the run
 pub record Ran (moments : List Moment) (old new : State) : Type 0 where
   pub was_clean : HasCleanDisk new → HasCleanDisk old
   pub was_open : WasOpen old new
+  pub closes : ShutsByFault old new
+  pub counts : old.faults ≤ new.faults
   pub ended : new.in_transaction ≡ false
   pub stands : HasCleanDisk new → IsTrue new.is_open → (office : OfficeLists) → Stands old office
       → HasRun office moments new
-
--- such a run was made on this desk
-abbrev pub RanOn : {S : Type 0} → store.Ghosts S → List Moment → Held S → Held S → Type 0
-RanOn g moments old new = Ran moments (state g old) (state g new)
 
 -- a clock gave some moments, at most so many, and such a run was made at these
 pub record Turned {C : Type 0} (gives : C → Moment → C → Type 0) (most : ℕ) (clock clock' : C)

@@ -3,7 +3,5 @@
 #![tactic(auto)]
 
 mod listening;
-mod now;
 
-pub use listening::{LoopFault, serve_loop};
-pub use now::{NowFault, serve_now};
+pub use listening::{LoopFault, serve_listener, serve_loop};

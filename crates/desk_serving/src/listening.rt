@@ -1,12 +1,13 @@
 //! One connection after another.
-ghost use Rattle.std.specs.Prelude.{◌≡◌, IfErr, OnErr, OnOk};
+ghost use Rattle.std.specs.Prelude.{◌≡◌, Err, IfErr, MatchResult, OnErr, OnOk};
+ghost use Rattle.desk_http.specs.declared.now.NowFault.TheVariants as now_fault;
 ghost use Rattle.desk_serving.specs.Turns.{RanAt};
 ghost use Rattle.desk_serving.specs.declared.listening.LoopFault.TheVariants.{Clock, Socket};
 
-use crate::now::{NowFault, serve_now};
 use desk_clocks::{Clock, ClockFailed};
 use desk_devices::{ReadDevice, WriteDevice};
-use desk_sockets::{Accepted, SocketFailed, answer_of, end_connection};
+use desk_http::{NowFault, serve_now};
+use desk_sockets::{Accepted, Listener, SocketFailed, end_connection};
 use desk_store::Desk;
 use sqlite::Alter;
 use std::alloc::Global;
@@ -38,6 +39,16 @@ impl From<ClockFailed> for LoopFault {
     }
 }
 
+/// What of a request that was served ends a loop: that the clock gave no moment.
+fn unless_untimed(served: Result<(), NowFault>) -> Result<(), ClockFailed>
+    ensures { MatchResult result (λ _. served ≡ Err now_fault.Clock → ⊥) (λ _. served ≡ Err now_fault.Clock) }
+{
+    match served {
+        Err(NowFault::Clock) => Err(ClockFailed),
+        Ok(()) | Err(NowFault::Serve(_)) => Ok(()),
+    }
+}
+
 /// Serves the one request of a connection, and ends it, also where its peer failed.
 fn serve_connection<S: Alter + Drop, C: Clock>(
     alloc: Global,
@@ -49,30 +60,29 @@ fn serve_connection<S: Alter + Drop, C: Clock>(
     ensures failed { OnErr result (C.fails clock.old clock.new) }
     ensures untouched { OnErr result (desk.new ≡ desk.old) }
 {
+    desk.rests();
     let mut reader = ReadDevice::new(&stream);
     let mut writer = WriteDevice::new(&stream);
     let served = serve_now(alloc, desk, clock, &mut reader, &mut writer);
     end_connection(stream);
-    match served {
-        Err(NowFault::Clock) => Err(ClockFailed),
-        Ok(()) | Err(NowFault::Serve(_)) => Ok(()),
-    }
+    unless_untimed(served)
 }
 
 /// Serves the next connection of a listener, or counts a peer that was gone before.
-fn serve_next<S: Alter + Drop, C: Clock>(
+fn serve_next<S: Alter + Drop, L: Listener, C: Clock>(
     alloc: Global,
-    listener: &TcpListener,
+    listener: &mut L,
     desk: &mut Desk<S>,
     clock: &mut C,
 ) -> Result<(), LoopFault>
     ensures turned { OnOk result (RanAt C.Clock S.Store 1 clock.old clock.new desk.old desk.new) }
     ensures failed { IfErr result (λ fault. fault ≡ Clock → C.fails clock.old clock.new) }
-    ensures unasked { IfErr result (λ fault. fault ≡ Socket → clock.new ≡ clock.old) }
+    ensures unasked { IfErr result (λ fault. fault ≡ Socket
+        → (clock.new ≡ clock.old) × L.fails listener.old listener.new) }
     ensures untouched { OnErr result (desk.new ≡ desk.old) }
 {
     desk.rests();
-    match answer_of(listener.accept())? {
+    match listener.next()? {
         Accepted::Peer(stream) => Ok(serve_connection(alloc, desk, clock, stream)?),
         Accepted::Gone => Ok(()),
     }
@@ -84,9 +94,36 @@ fn serve_next<S: Alter + Drop, C: Clock>(
 /// A connection whose peer fails counts, and so does that of a peer that is gone before it is
 /// taken. Where the store is no longer open each request is answered by 503 and changes nothing.
 ///
-/// For `Ok` and for each fault: no failure is made good, and where the tables stood for an office,
-/// they stand afterwards for the office of a run of further calls, at most one a connection, each
-/// at a moment that the clock gave.
+/// For `Ok` and for each fault: no failure is made good, only a fault of the disk shuts the store,
+/// and where the tables stood for an office, they stand afterwards for the office of a run of
+/// further calls, at most one a connection, each at a moment that the clock gave. `Socket` is told
+/// only where the listener failed, and `Clock` only where the clock gave no moment.
+pub fn serve_listener<S: Alter + Drop, L: Listener, C: Clock>(
+    alloc: Global,
+    listener: &mut L,
+    desk: &mut Desk<S>,
+    clock: &mut C,
+    count: u32,
+) -> Result<(), LoopFault>
+    ensures served { OnOk result
+        (RanAt C.Clock S.Store count clock.old clock.new desk.old desk.new) }
+    ensures no_listener { IfErr result (λ fault. fault ≡ Socket
+        → RanAt C.Clock S.Store count clock.old clock.new desk.old desk.new
+        × ((between : L) × L.fails between listener.new)) }
+    ensures no_moment { IfErr result (λ fault. fault ≡ Clock
+        → (between : C) × RanAt C.Clock S.Store count clock.old between desk.old desk.new
+        × C.fails between clock.new) }
+{
+    desk.rests();
+    let mut served = 0;
+    while served < count {
+        serve_next(alloc, listener, desk, clock)?;
+        served += 1;
+    }
+    Ok(())
+}
+
+/// Serves one connection of a socket after another on a desk, as `serve_listener` does.
 pub fn serve_loop<S: Alter + Drop, C: Clock>(
     alloc: Global,
     listener: &TcpListener,
@@ -102,11 +139,6 @@ pub fn serve_loop<S: Alter + Drop, C: Clock>(
         → (between : C) × RanAt C.Clock S.Store count clock.old between desk.old desk.new
         × C.fails between clock.new) }
 {
-    desk.rests();
-    let mut served = 0;
-    while served < count {
-        serve_next(alloc, listener, desk, clock)?;
-        served += 1;
-    }
-    Ok(())
+    let mut sockets = listener;
+    serve_listener(alloc, &mut sockets, desk, clock, count)
 }

@@ -1,11 +1,11 @@
 //! What a listener that is asked for a connection answers.
-ghost use Rattle.std.specs.Prelude.{◌≡◌};
+ghost use Rattle.std.specs.Prelude.{◌≡◌, OnErr};
 ghost use Rattle.desk_sockets.specs.Accepting.{answer_of, is_of_a_peer};
 
 use std::error::Error;
 use std::fmt;
 use std::io::{self, ErrorKind};
-use std::net::{SocketAddr, TcpStream};
+use std::net::{SocketAddr, TcpListener, TcpStream};
 
 /// What a listener answered that was asked for a connection.
 #[derive(Drop)]
@@ -48,5 +48,28 @@ pub fn answer_of(taken: io::Result<(TcpStream, SocketAddr)>) -> Result<Accepted,
         Ok((stream, _)) => Ok(Accepted::Peer(stream)),
         Err(error) if is_of_a_peer(error.kind()) => Ok(Accepted::Gone),
         Err(_) => Err(SocketFailed),
+    }
+}
+
+/// What connections are asked of, one after another.
+pub trait Listener {
+    /// Holds of a listener that failed, not by one peer that is gone, and the listener as it is
+    /// then.
+    ghost fails: { Self → Self → Type 0 };
+
+    /// The next connection, for which it waits as long as it takes.
+    ///
+    /// The error is that the listener failed, and not by one peer that is gone.
+    fn next(&mut self) -> Result<Accepted, SocketFailed>
+        ensures { OnErr result (fails self.old self.new) };
+}
+
+impl Listener for &TcpListener {
+    ghost use Rattle.std.specs.Prelude.{◌≡◌};
+
+    ghost fails = { λ old new. new ≡ old };
+
+    fn next(&mut self) -> Result<Accepted, SocketFailed> {
+        answer_of(self.accept())
     }
 }

@@ -5,5 +5,5 @@ mod accepting;
 mod ending;
 pub mod laws;
 
-pub use accepting::{Accepted, SocketFailed, answer_of};
+pub use accepting::{Accepted, Listener, SocketFailed, answer_of};
 pub use ending::{MOST_DRAINED, drain, end_connection};

@@ -1,8 +1,9 @@
 //! A desk over tables in memory, in which one meeting is called.
 use desk_clocks::Clock;
 use desk_devices::{ReadDevice, WriteDevice};
+use desk_http::{NowFault, serve_now};
 use desk_program::call_of;
-use desk_serving::{LoopFault, NowFault, serve_loop, serve_now};
+use desk_serving::{LoopFault, serve_loop};
 use desk_store::Desk;
 use desk_words::{Moment, read_moment};
 use sqlite::{Connection, MemStore};

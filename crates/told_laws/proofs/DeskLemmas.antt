@@ -1,5 +1,5 @@
 -- What a desk over tables tells is a run.
-use Rattle.std.proofs.Common.{◌≡◌, ◌⊎◌, inl, inr, ℕ, List, [], ◌∷◌, refl, ap, sym, ◌∙◌, subst}
+use Rattle.std.proofs.Common.{◌≡◌, ◌⊎◌, inl, inr, ℕ, List, [], ◌∷◌, map, refl, ap, sym, ◌∙◌, subst}
 use Rattle.std.proofs.lemmas.List.{append_cancel_left}
 use Rattle.std.specs.Prelude.{Option, Some, None, option_map, Result, Ok, Err, IsTrue, IfOk}
 use Rattle.std.specs.declared.alloc.Global.{Global}
@@ -7,6 +7,7 @@ use Rattle.std.specs.declared.vec.Vec.{Vec}
 use Rattle.sqlite.specs.Held.{Held, state}
 use Rattle.sqlite.specs.State.{State, HasCleanDisk}
 use Rattle.sqlite_trees.specs.declared.store.Store as store
+use Rattle.desk_words.specs.Changes.{empty_office}
 use Rattle.desk_words.specs.declared.caller.Caller.{Caller}
 use Rattle.desk_words.specs.declared.office.OfficeLists.{OfficeLists}
 use Rattle.desk_words.specs.declared.reply.Failure.{Failure}
@@ -23,11 +24,13 @@ use Rattle.desk_store.specs.Reads.{caller_with}
 use Rattle.desk_http.specs.Answers.{call_received, call_of, reply_in, reply_of}
 use Rattle.desk_http.specs.Served.{IsServed, replied_text}
 use Rattle.meeting_core.specs.Step.{decided, run_of, stepped}
-use Rattle.told_laws.specs.Connections.{ConnectionsAreTold, as_http, asked_on, asks_by}
-use Rattle.told_laws.specs.Desks.{AreTold, AskedText, Asks, DesksAreIsolated, DesksKeepSecrets, DesksTellRuns, HasToldARun, HasFailure, IsOf, HasReply, IsToldOnDesk, IsToldIn, Makes, Nothing, Tells, Writing, as_json, asked_by_call, call_made, reply_to}
-use Rattle.told_laws.specs.Exchanges.{Exchange, TellTheRun, calls_made}
-use Rattle.told_laws.specs.Texts.{TextsAreIsolated, TextsKeepSecrets, TextsTellTheSame}
-use Rattle.run_laws.specs.Isolation.{Alike}
+use Rattle.told_laws.specs.Connections.{AreServed, Connection, ConnectionsAreIsolated, ConnectionsAreTold, ConnectionsTellRuns, as_http, asked_on, asked_over, asks_by}
+use Rattle.told_laws.specs.Desks.{AlikeDesksAreIsolated, AreTold, AskedText, Asks, DesksAreIsolated, DesksKeepSecrets, DesksTellRuns, HasToldARun, HasFailure, IsOf, HasReply, IsToldOnDesk, IsToldIn, Makes, Nothing, Tells, Writing, as_json, asked_by_call, call_made, reply_to}
+use Rattle.told_laws.specs.Exchanges.{Exchange, TellTheRun, calls_made, is_call_by, texts_to}
+use Rattle.told_laws.specs.Texts.{TextsAreIsolated, TextsKeepSecrets, TextsTellTheSame, ToldRun, calls_told}
+use Rattle.told_laws.proofs.TextLemmas.{to-party}
+use Rattle.run_laws.specs.Isolation.{Alike, IsolatesCalls, RunsAreTheDesks}
+use Rattle.run_laws.specs.Traces.{replies_to, run_by}
 use Rattle.run_laws.specs.Votes.{AreSameBut}
 
 -- ---- one exchange more
@@ -102,8 +105,19 @@ module _ {S : Type 0} (g : store.Ghosts S) where
 -- ---- two desks
 
 module _ {S : Type 0} (g : store.Ghosts S) where
-  pub desks_isolated : TextsAreIsolated → DesksAreIsolated g
-  desks_isolated law writing viewer one other asked again left kept told later alike near near_again same =
+  pub desks_isolated : RunsAreTheDesks → IsolatesCalls decided → DesksAreIsolated g
+  desks_isolated desk law writing party asked again left kept told later same =
+      replied_to writing.reply party told.run told.begins
+      ∙ ap (map writing.reply) (law party (calls_told told.run) (calls_told later.run) same)
+      ∙ sym (replied_to writing.reply party later.run later.begins)
+    where
+      replied_to : (text_of : Reply → List ℕ) (party : List ℕ) (run : ToldRun text_of) → run.office ≡ empty_office
+          → texts_to (is_call_by party) run.exchanges ≡ map text_of (replies_to party (calls_told run) (run_by decided empty_office (calls_told run)).replies)
+      replied_to text_of party run begins =
+          to-party desk text_of party run ∙ ap (λ (o : OfficeLists). map text_of (replies_to party (calls_told run) (run_by decided o (calls_told run)).replies)) begins
+
+  pub alike_desks_isolated : TextsAreIsolated → AlikeDesksAreIsolated g
+  alike_desks_isolated law writing viewer one other asked again left kept told later alike near near_again same =
       let from = subst (λ o. Alike viewer one o) (sym later.begins) alike in
       law writing.reply viewer told.run later.run (subst (λ o. Alike viewer o later.run.office) (sym told.begins) from) near near_again same
 
@@ -139,9 +153,9 @@ replied-by : (office : OfficeLists) (call : Option Call) (reply : Reply) → ((c
 replied-by office (Some call) reply same = ap (λ r. Some r) (sym (same call refl))
 replied-by office None reply same = refl
 
-served-told : (now : ℕ) (received : Received) (office : OfficeLists) (new : State) (text : List ℕ) → IsTrue new.is_open → IsServed office now received new text
+served-told : (now : ℕ) (received : Received) (office : OfficeLists) (old new : State) (text : List ℕ) → IsTrue new.is_open → IsServed office now received old new text
     → IsToldIn as_http (asked_on now received text) office new
-served-told now received office new text is_open (inl replied) = record {
+served-told now received office old new text is_open (inl replied) = record {
   exchange = record { made = call_received office now received; text = text };
   of = record {
     same = refl;
@@ -154,7 +168,7 @@ served-told now received office new text is_open (inl replied) = record {
   };
   stands = replied.stands;
 }
-served-told now received office new text is_open (inr failed) = record {
+served-told now received office old new text is_open (inr failed) = record {
   exchange = record { made = None; text = text };
   of = record { same = refl; is = inr (record { failure = failed.failure; text = failed.text_is; made = refl }) };
   stands = failed.same is_open;
@@ -162,13 +176,27 @@ served-told now received office new text is_open (inr failed) = record {
 
 module _ {S : Type 0} (g : store.Ghosts S) where
   pub connections_told : ConnectionsAreTold g
-  connections_told now received old new before text clean_before open_before served = record {
-    was_clean = clean_before;
-    was_open = open_before;
+  connections_told c old new served = record {
+    was_clean = served.was_clean;
+    was_open = served.was_open;
     told = λ clean is_open office stands.
-        (let it = served clean office stands in
-        subst (λ t. IsToldIn as_http (asked_on now received t) office (state g new)) (sym (append_cancel_left before text it.0 it.2)) (served-told now received office (state g new) it.0 is_open it.1));
+        (let it = served.serves clean office stands in
+        subst (λ t. IsToldIn as_http (asked_on c.moment c.received t) office (state g new)) (sym (append_cancel_left c.before c.text it.0 it.2))
+        (served-told c.moment c.received office (state g old) (state g new) it.0 is_open it.1));
   }
+
+  served_told : (connections : List Connection) (old new : Held S) → AreServed g old connections new → AreTold g as_http old (map asked_over connections) new
+  served_told [] old new served = served
+  served_told (c ∷ later) old new served = (served.0, connections_told c old served.0 served.1, served_told later served.0 new served.2)
+
+  pub connections_tell : ConnectionsTellRuns g
+  connections_tell connections old new served = desks_tell g as_http old new (map asked_over connections) (served_told connections old new served)
+
+  pub connections_isolated : RunsAreTheDesks → IsolatesCalls decided → ConnectionsAreIsolated g
+  connections_isolated desk law party one other left kept first second =
+      let told = connections_tell one first.old left first.served first.clean first.is_open empty_office first.empty in
+      let later = connections_tell other second.old kept second.served second.clean second.is_open empty_office second.empty in
+      record { told = told; later = later; alike = desks_isolated g desk law as_http party (map asked_over one) (map asked_over other) left kept told later }
 
 -- ---- by perform
 

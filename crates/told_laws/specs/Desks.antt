@@ -18,9 +18,11 @@ use Rattle.meeting_core.specs.Step.{decided, run_of}
 use Rattle.run_laws.specs.Isolation.{Alike}
 use Rattle.run_laws.specs.Parts.{Viewer}
 use Rattle.run_laws.specs.Traces.{is_near_call}
+use Rattle.desk_words.specs.Changes.{empty_office}
+use Rattle.desk_words.specs.Seen.{Party}
 use Rattle.run_laws.specs.Votes.{AreSameBut, Secret, is_secret_call, without}
 use Rattle.told_laws.specs.Exchanges.{Exchange, is_call_by, texts_to}
-use Rattle.told_laws.specs.Texts.{TextsTellTheSame, ToldRun, calls_told, shown_in}
+use Rattle.told_laws.specs.Texts.{AreTextsAlike, TextsTellTheSame, ToldRun, calls_told, shown_in}
 
 -- how a desk writes a reply, and that a failure is the answer
 pub record Writing : Type 0 where
@@ -119,10 +121,20 @@ DesksTellRuns {S} g =
 
 -- ---- what two desks tell
 
--- isolation: where the offices of two desks are one to a party, and the calls that were made there
--- show it the same, the texts of the replies to it are the same bytes, one for one
+-- isolation: from the office that holds nothing, where the calls that were made on two desks show a
+-- party the same, with all sources of either, the texts of the replies to it are the same bytes,
+-- one for one
 abbrev pub DesksAreIsolated : {S : Type 0} → store.Ghosts S → Type 0
 DesksAreIsolated {S} g =
+    (writing : Writing) (party : Party) (asked again : List AskedText) (left kept : Held S)
+    → (told : HasToldARun writing empty_office asked (state g left))
+    → (later : HasToldARun writing empty_office again (state g kept))
+    → AreTextsAlike party told.run later.run
+
+-- and from any two offices: where they are one to a party, and the calls that were made there show
+-- it the same
+abbrev pub AlikeDesksAreIsolated : {S : Type 0} → store.Ghosts S → Type 0
+AlikeDesksAreIsolated {S} g =
     (writing : Writing) (viewer : Viewer) (one other : OfficeLists) (asked again : List AskedText)
     (left kept : Held S)
     → (told : HasToldARun writing one asked (state g left))

@@ -1,6 +1,7 @@
 -- What holds of the replies in runs holds of the texts that tell them, byte for byte.
 use Rattle.std.specs.Prelude.{◌≡◌, ◌⊎◌, ℕ, not, List, IsTrue}
 use Rattle.std.specs.List.{AllZip, list_all}
+use Rattle.desk_words.specs.Changes.{empty_office}
 use Rattle.desk_words.specs.Seen.{Party}
 use Rattle.desk_words.specs.declared.office.OfficeLists.{OfficeLists}
 use Rattle.desk_words.specs.declared.reply.Declaration.{Declaration}
@@ -11,7 +12,7 @@ use Rattle.meeting_core.specs.Step.{decided}
 use Rattle.run_laws.specs.Isolation.{Alike}
 use Rattle.run_laws.specs.Parts.{Viewer}
 use Rattle.run_laws.specs.Secrecy.{are_before}
-use Rattle.run_laws.specs.Traces.{Shown, is_near_call, trace_of}
+use Rattle.run_laws.specs.Traces.{Shown, is_near_call, trace_of, viewer_of}
 use Rattle.run_laws.specs.Votes.{AreSameBut, Secret, is_secret_call, without}
 use Rattle.told_laws.specs.Exchanges.{Exchange, TellTheRun, asks_declaration, calls_made, is_call_by, is_open_call, texts_to}
 
@@ -28,6 +29,17 @@ calls_told run = calls_made run.exchanges
 -- what a run shows to a viewer
 abbrev pub shown_in : {text_of : Reply → List ℕ} → Viewer → ToldRun text_of → List Shown
 shown_in viewer run = trace_of decided viewer run.office (calls_told run)
+
+-- where the calls of two runs from the office that holds nothing show a party the same, with all
+-- sources of either, the texts of the replies to it are the same bytes, one for one
+abbrev pub AreTextsAlike : {text_of : Reply → List ℕ} → Party → ToldRun text_of → ToldRun text_of
+    → Type 0
+AreTextsAlike party one other =
+    let calls = calls_told one in
+    let later = calls_told other in
+    let viewer = viewer_of party calls later in
+    trace_of decided viewer empty_office calls ≡ trace_of decided viewer empty_office later
+    → texts_to (is_call_by party) one.exchanges ≡ texts_to (is_call_by party) other.exchanges
 
 -- isolation: where the offices of two runs are one to a party, and their calls show it the same,
 -- the texts of the replies to it are the same bytes, one for one

@@ -7,13 +7,15 @@ ghost use Rattle.desk_words.specs.declared.office.OfficeLists.{OfficeLists};
 ghost use Rattle.meeting_core.specs.Step.{decided, stepped};
 ghost use Rattle.sqlite.specs.Held.{state};
 ghost use Rattle.sqlite.specs.State.{HasCleanDisk};
-ghost use Rattle.told_laws.specs.Connections.{ConnectionsAreTold};
-ghost use Rattle.told_laws.specs.Desks.{DesksAreIsolated, DesksKeepSecrets, DesksTellRuns, IsToldOnDesk, as_json, asked_by_call};
+ghost use Rattle.told_laws.specs.Connections.{ConnectionsAreIsolated, ConnectionsAreTold, ConnectionsTellRuns};
+ghost use Rattle.told_laws.specs.Desks.{AlikeDesksAreIsolated, DesksAreIsolated, DesksKeepSecrets, DesksTellRuns};
+ghost use Rattle.told_laws.specs.Desks.{IsToldOnDesk, as_json, asked_by_call};
 
 use crate::texts::texts_tell_no_more;
 use desk_replies::reply_text;
 use desk_store::Desk;
 use desk_words::{Call, Failure};
+use run_laws::isolation;
 use sqlite::Alter;
 use std::alloc::Global;
 
@@ -26,15 +28,18 @@ pub fn desks_tell_runs<S: Alter>()
 {}
 
 /// So two desks, whose calls came one after another, are isolated and keep secrets, however replies
-/// are written. Where their offices are one to a party, and the calls that were made there show it
-/// the same, the texts of the replies to it are the same bytes, one for one. Where their offices
+/// are written. From the office that holds nothing, where the calls that were made show a party the
+/// same, with all its sources on either desk, the texts of the replies to it are the same bytes,
+/// one for one; and so they are where two offices are one to a party. Where their offices
 /// are the same but for votes of some voters on a resolution, and the calls differ in such votes
 /// alone, so are the texts of the replies to the office, but for the result of that resolution, and
 /// before its declaration those to every party that is none of the voters.
 pub fn desks_tell_no_more<S: Alter>()
     ensures isolated { DesksAreIsolated S.Store }
+    ensures alike { AlikeDesksAreIsolated S.Store }
     ensures secret { DesksKeepSecrets S.Store }
 {
+    isolation();
     texts_tell_no_more();
 }
 
@@ -43,8 +48,18 @@ pub fn desks_tell_no_more<S: Alter>()
 /// of the refusal of what is no call, or it tells of a failure. So one connection after another, as
 /// in `serve_loop`, is told as a run.
 pub fn connections_are_told<S: Alter>()
-    ensures { ConnectionsAreTold S.Store }
+    ensures told { ConnectionsAreTold S.Store }
+    ensures runs { ConnectionsTellRuns S.Store }
 {}
+
+/// So two whole lists of connections, each from a desk that holds nothing, are isolated: where the
+/// calls that were made on them show a party the same, with all its sources in either, what is
+/// written to its connections is the same bytes, one for one.
+pub fn connections_tell_no_more<S: Alter>()
+    ensures { ConnectionsAreIsolated S.Store }
+{
+    isolation();
+}
 
 /// Makes one call on a desk, and gives the JSON text of its reply.
 fn performed<S: Alter>(alloc: Global, desk: &mut Desk<S>, call: Call) -> Result<Vec<u8>, Failure>

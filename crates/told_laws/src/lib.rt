@@ -6,6 +6,8 @@ mod desks;
 mod replays;
 mod texts;
 
-pub use desks::{connections_are_told, desks_tell_no_more, desks_tell_runs, told};
+pub use desks::{
+    connections_are_told, connections_tell_no_more, desks_tell_no_more, desks_tell_runs, told,
+};
 pub use replays::{replays_tell_no_more, replays_tell_runs};
 pub use texts::texts_tell_no_more;

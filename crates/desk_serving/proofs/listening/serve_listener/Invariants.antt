@@ -2,7 +2,7 @@
 use Rattle.std.proofs.Common.{◌-◌, ◌≤◌}
 use Rattle.sqlite.specs.Held.{state}
 use Rattle.desk_serving.specs.Turns.{Turned}
-use Rattle.desk_serving.proofs.listening.serve_loop.Given as goal
+use Rattle.desk_serving.proofs.listening.serve_listener.Given as goal
 
 abbrev pub invariant-loop-served : goal.invariant-loop-served
 invariant-loop-served g l = record {

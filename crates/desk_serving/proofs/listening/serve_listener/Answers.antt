@@ -1,9 +1,15 @@
 use Rattle.std.proofs.Common.{arith}
-use Rattle.desk_serving.proofs.TurnLemmas.{turned-then}
-use Rattle.desk_serving.proofs.listening.serve_loop.Goals as goal
+use Rattle.desk_serving.proofs.TurnLemmas.{turned-none, turned-then}
+use Rattle.desk_serving.proofs.listening.serve_listener.Goals as goal
 
 pub loop-served-preserved : goal.loop-served-preserved
 loop-served-preserved g c = record {
   turned = turned-then _ c.loop-served.served 1 _ _ _ _ _ _ _ (omega arith) c.loop-served.invariant.turned c.in_ok-serve_next.ensures.turned;
   bound = omega (arith, c.loop-served-test.true);
+}
+
+pub loop-served-init : goal.loop-served-init
+loop-served-init g c = record {
+  turned = turned-none _ 0 _ _ c.rests.ensures;
+  bound = omega arith;
 }

@@ -1,0 +1,88 @@
+//! One request, served at the moment that a clock gives.
+ghost use Rattle.desk_http.specs.Served.{ServesRequest, as_served, only_at};
+
+use crate::serve::{ServeFault, reply_to};
+use desk_clocks::{Clock, ClockFailed};
+use desk_devices::{Sink, Source};
+use desk_requests::read_request;
+use desk_store::Desk;
+use desk_words::Moment;
+use sqlite::Alter;
+use std::alloc::Global;
+
+/// Why a request was not served to its end.
+#[derive(Clone, Copy, Debug, PartialEq, Eq)]
+pub enum NowFault {
+    /// A device failed.
+    Serve(ServeFault),
+    /// The clock gave no moment. The request was read; nothing was written or changed.
+    Clock,
+}
+
+/// A clock that gives one moment, as often as it is asked.
+#[derive(Drop)]
+struct OnlyAt(Moment);
+
+impl Clock for OnlyAt {
+    ghost use Rattle.std.specs.Prelude.{◌≡◌};
+
+    ghost gives = { λ old moment new. moment ≡ old.0 };
+
+    ghost fails = { λ old new. ⊥ };
+
+    fn now(&mut self) -> Result<Moment, ClockFailed> {
+        Ok(self.0)
+    }
+}
+
+/// Serves one request at the moment that a clock gives: reads it, then asks the clock, then answers
+/// it on a desk and writes the reply, as `reply_to` does. So what a peer sends after a moment is
+/// served after it, however early it connected.
+///
+/// What is written is exactly the text of the reply to what the bytes spell, and the tables are the
+/// office after that call; or it is a fixed text that tells of a failure, and the tables are as
+/// they were. `Read` and `Write` are told only where that device failed, once in the call. After
+/// `Read` nothing is written or changed, and the clock was not asked, but for a source that failed
+/// in the body; after `Write` a part of one of these texts is written, and the tables are as after
+/// that text; after `Clock` nothing is written or changed. The one call that may have been made is
+/// the one that was received. At most 8,192 + 65,536 bytes are taken, and 8,192 where the head
+/// alone is answered; those behind the request are not looked at.
+pub fn serve_now<S: Alter, C: Clock, R: Source, W: Sink>(
+    alloc: Global,
+    desk: &mut Desk<S>,
+    clock: &mut C,
+    reader: &mut R,
+    writer: &mut W,
+) -> Result<(), NowFault>
+    ensures { ServesRequest S.Store C.Clock R.Source W.Sink result desk.old desk.new
+        clock.old clock.new reader.old reader.new writer.old writer.new }
+{
+    let Ok(received) = read_request(alloc, reader) else {
+        return Err(NowFault::Serve(ServeFault::Read));
+    };
+    let Ok(moment) = clock.now() else {
+        return Err(NowFault::Clock);
+    };
+    match reply_to(alloc, desk, moment, received, writer) {
+        Ok(()) => Ok(()),
+        Err(fault) => Err(NowFault::Serve(fault)),
+    }
+}
+
+/// Serves one request at a moment, as `serve_now` does by a clock that gives this one.
+pub fn serve_one<S: Alter, R: Source, W: Sink>(
+    alloc: Global,
+    desk: &mut Desk<S>,
+    moment: Moment,
+    reader: &mut R,
+    writer: &mut W,
+) -> Result<(), ServeFault>
+    ensures { ServesRequest S.Store (only_at moment) R.Source W.Sink (as_served result)
+        desk.old desk.new tt tt reader.old reader.new writer.old writer.new }
+{
+    match serve_now(alloc, desk, &mut OnlyAt(moment), reader, writer) {
+        Ok(()) => Ok(()),
+        Err(NowFault::Serve(fault)) => Err(fault),
+        Err(NowFault::Clock) => unreachable!(),
+    }
+}
