@@ -1,5 +1,6 @@
 -- Tables without rows, and the office that they are.
 use Rattle.std.proofs.Common.{◌≡◌, ◌≢◌, ℕ, nat_lt, true, [], Some, IsTrue, refl, sym, ap, ◌∙◌, true≢false}
+use Rattle.sqlite.specs.Effect.{IsDatabase}
 use Rattle.sqlite.specs.State.{State}
 use Rattle.sqlite.specs.Tree.{Trees}
 use Rattle.desk_schema.specs.Contents as contents
@@ -21,7 +22,7 @@ unfolding flat_in office_of_records
 held trees a b c d e f g h i j k l = rw (a, b, c, d, e, f, g, h, i, j, k, l) refl
 
 -- and with the version noted they are the empty office
-pub noted : (old new : State) → AreEmpty desk_schema old → AddsFirst contents.desk version_one old new → Stands new empty_office × IsTrue new.in_transaction
+pub noted : (old new : State) → AreEmpty desk_schema old → AddsFirst contents.desk version_one old new → Stands new empty_office × IsDatabase new.now × IsTrue new.in_transaction
 noted old new empty adds =
     let was = of_tables ones_apart (λ n. old.now.trees n ≡ []) empty.1 in
     let none : records_in contents.desk old.now.trees ≡ Some [] = rw (was 0 refl) refl in
@@ -34,5 +35,6 @@ noted old new empty adds =
             (is 24 refl refl);
         kept = refl;
       },
+      added.sound,
       added.inside,
     )

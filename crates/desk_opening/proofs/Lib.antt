@@ -1,3 +1,4 @@
+pub mod AskingLemmas
 pub mod CrashLemmas
 pub mod EmptyLemmas
 pub mod FaultLemmas
@@ -7,3 +8,4 @@ pub mod OneSchema
 pub mod OpeningLemmas
 pub mod OrderedOffice
 pub mod RisingLemmas
+pub mod WholeLemmas

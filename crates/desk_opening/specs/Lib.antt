@@ -3,3 +3,4 @@ pub mod Making
 pub mod Opened
 pub mod Opening
 pub mod Rising
+pub mod Whole

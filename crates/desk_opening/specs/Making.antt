@@ -1,17 +1,17 @@
 -- How the tables of a desk are made.
-use Rattle.std.specs.Prelude.{◌≡◌, [], ◌∷◌, Some, Result, OnOk, IsTrue}
+use Rattle.std.specs.Prelude.{◌≡◌, Result, OnOk, IsTrue}
 use Rattle.sqlite.specs.declared.error.Error.{Error}
+use Rattle.sqlite.specs.Effect.{IsDatabase}
 use Rattle.sqlite.specs.Held.{Held, state}
 use Rattle.sqlite.specs.Schema.{Schema}
 use Rattle.sqlite.specs.State.{State, HasCleanDisk, KeepsCommit, Survives}
 use Rattle.sqlite.specs.Tree.{Trees}
 use Rattle.sqlite_trees.specs.declared.store.Store as store
 use Rattle.desk_words.specs.Changes.{empty_office}
-use Rattle.desk_schema.specs.Contents.{desk}
-use Rattle.desk_schema.specs.Statements.{AreEmpty, Makes, records_in}
+use Rattle.desk_schema.specs.Statements.{AreEmpty, Makes}
 use Rattle.desk_schema.specs.Tables.{no_schema}
-use Rattle.desk_records.specs.Office.{office_in}
-use Rattle.desk_records.specs.Standing.{Stands, version_one}
+use Rattle.desk_records.specs.Standing.{Stands}
+use Rattle.desk_opening.specs.Whole.{IsWhole}
 
 -- in a transaction the empty tables of the first schema become those of the second, and nothing is
 -- committed
@@ -28,16 +28,12 @@ pub record LeavesEmptyDesk {S T : Type 0} (g : store.Ghosts S) (old new : Held S
     (result : Result T Error) : Type 0 where
   pub made : HasCleanDisk (state g new) → IsTrue (state g old).in_transaction
       → AreEmpty no_schema (state g old)
-      → OnOk result (Stands (state g new) empty_office × IsTrue (state g new).in_transaction)
+      → OnOk result (Stands (state g new) empty_office × IsDatabase (state g new).now
+      × IsTrue (state g new).in_transaction)
   pub kept : HasCleanDisk (state g new) → IsTrue (state g old).in_transaction
       → AreEmpty no_schema (state g old) → KeepsCommit (state g old) (state g new)
   pub crash : Survives (state g old) (state g new) (λ _. ⊥)
 
--- these are the tables of a desk that holds nothing: they note version 1
-pub record AreEmptyDesk (db : Trees) : Type 0 where
-  pub version : records_in desk db ≡ Some (version_one ∷ [])
-  pub holds : office_in db ≡ Some empty_office
-
--- the tables that a desk is made of, in a database that had none
+-- in a database that had no table, these are whole the tables of a desk that holds nothing
 abbrev pub AreMade : State → Trees → Type 0
-AreMade old db = old.now.schema ≡ no_schema → AreEmptyDesk db
+AreMade old db = old.now.schema ≡ no_schema → IsWhole db empty_office

@@ -1,18 +1,21 @@
 -- What is known of a desk that was made or opened, and of a database that was not, where the disk
 -- returned what was written.
-use Rattle.std.specs.Prelude.{◌≡◌, Result, OnOk, IsTrue}
+use Rattle.std.specs.Prelude.{◌≡◌, ◌⊎◌, Result, OnOk, IsTrue}
 use Rattle.sqlite.specs.Held.{Held, state}
 use Rattle.sqlite.specs.State.{HasCleanDisk, Survives}
 use Rattle.sqlite_trees.specs.declared.store.Store as store
 use Rattle.desk_words.specs.Changes.{empty_office}
+use Rattle.desk_words.specs.declared.office.OfficeLists.{OfficeLists}
 use Rattle.desk_schema.specs.Tables.{desk_schema}
 use Rattle.desk_records.specs.Standing.{IsVersionOne, Stands}
 use Rattle.desk_tables.specs.Columns.{HasColumns}
 use Rattle.desk_tables.specs.Versions.{NotesVersion}
 use Rattle.desk_opening.specs.Crashes.{LeavesItself}
 use Rattle.desk_opening.specs.Making.{AreMade}
-use Rattle.desk_opening.specs.Opening.{IsCleanBack, IsOpenCause}
+use Rattle.desk_opening.specs.Opening.{IsCleanBack, IsOpenCause, ShowsLater}
+use Rattle.desk_opening.specs.Whole.{IsWhole, LeavesWhole}
 use Rattle.desk_opening.specs.declared.fault.OpenFault.{OpenFault}
+use Rattle.desk_opening.specs.declared.fault.OpenFault.TheVariants.{NewerVersion, Store, Memory}
 use Rattle.desk_opening.specs.declared.opening.HandedBack.{HandedBack}
 
 -- where it went well, this holds
@@ -57,15 +60,29 @@ HadVersionOne g old new =
 abbrev pub HadColumns : {S : Type 0} → store.Ghosts S → Held S → Held S → Type 0
 HadColumns g old new = HasCleanDisk (state g new) → HasColumns (state g old).now.schema
 
--- the fault is why tables that noted their version were not opened as a desk
-abbrev pub IsWhyUnopened : {S : Type 0} → store.Ghosts S → Held S → OpenFault → HandedBack S
-    → Type 0
-IsWhyUnopened g old why it =
-    IsCleanBack g it → NotesVersion (state g old).now.schema → IsOpenCause why (state g old)
+-- the fault is why tables were not opened as a desk
+pub record IsWhyUnopened {S : Type 0} (g : store.Ghosts S) (old : Held S) (why : OpenFault)
+    (it : HandedBack S) : Type 0 where
+  -- of tables that noted their version
+  pub cause : IsCleanBack g it → NotesVersion (state g old).now.schema
+      → IsOpenCause why (state g old)
+  -- whatever the tables were, a later version is told only where they showed one
+  pub newer : IsCleanBack g it → why ≡ NewerVersion → ShowsLater g (state g old).now
+  -- tables that are whole are told to be no desk's, or a later version's, by no fault
+  pub whole : IsCleanBack g it → (office : OfficeLists) → IsWhole (state g old).now.trees office
+      → (why ≡ Store) ⊎ (why ≡ Memory)
 
--- the tables are those of a desk that holds nothing
+-- the tables are those of a desk that holds nothing, and a crash leaves that office whole
 abbrev pub HoldsNothing : {S : Type 0} → store.Ghosts S → Held S → Type 0
-HoldsNothing g made = HasCleanDisk (state g made) → Stands (state g made) empty_office
+HoldsNothing g made =
+    HasCleanDisk (state g made)
+    → Stands (state g made) empty_office × LeavesWhole (state g made) empty_office
+
+-- where the tables were declared as a desk's are, they stand for an office, and a crash leaves that
+-- office whole
+abbrev pub StandsWhole : {S : Type 0} → store.Ghosts S → Held S → Held S → OfficeLists → Type 0
+StandsWhole g old new office =
+    IfDeclared g old new (Stands (state g new) office × LeavesWhole (state g new) office)
 
 -- a crash leaves what it left before, or the tables that are made, whole
 abbrev pub SurvivesMaking : {S : Type 0} → store.Ghosts S → Held S → Held S → Type 0

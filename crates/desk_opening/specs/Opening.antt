@@ -4,19 +4,23 @@ use Rattle.std.specs.Prelude.{IfErr, IfOk, OnOk}
 use Rattle.sqlite.specs.declared.error.Error.{Error}
 use Rattle.sqlite.specs.declared.error.Error.TheVariants.{SqliteFailure}
 use Rattle.sqlite.specs.declared.error.ErrorCode.TheVariants.{OutOfMemory}
+use Rattle.sqlite.specs.Effect.{Database}
 use Rattle.sqlite.specs.Held.{Held, state}
+use Rattle.sqlite.specs.Order.{Row}
 use Rattle.sqlite.specs.State.{State, HasCleanDisk, Survives}
 use Rattle.sqlite.specs.Tree.{Trees}
 use Rattle.sqlite_trees.specs.View.{IsClean}
 use Rattle.sqlite_trees.specs.declared.store.Store as store
 use Rattle.desk_words.specs.declared.office.OfficeLists.{OfficeLists}
 use Rattle.desk_words.specs.Office.{is_office}
+use Rattle.desk_rows.specs.Meanings.{all_mean}
 use Rattle.desk_rows.specs.declared.kept.Version.{Version}
 use Rattle.desk_records.specs.Office.{office_in}
+use Rattle.desk_schema.specs.Contents.{desk}
 use Rattle.desk_schema.specs.Statements.{ChangesNothing, IsDesk, IsRead, WasOpen}
 use Rattle.desk_schema.specs.Tables.{desk_schema}
 use Rattle.desk_tables.specs.Columns.{HasColumns}
-use Rattle.desk_tables.specs.Versions.{AreNoted}
+use Rattle.desk_tables.specs.Versions.{AreNoted, ShowsVersions}
 use Rattle.desk_records.specs.Standing.{IsVersionOne}
 use Rattle.office_lists.specs.declared.fault.ReadFault.{ReadFault}
 use Rattle.office_lists.specs.declared.fault.ReadFault.TheVariants as reading
@@ -61,14 +65,25 @@ IsNoDesk s =
 abbrev pub IsOpenCause : OpenFault → State → Type 0
 IsOpenCause = IsFaultOf IsNoDesk
 
+-- a later version is what the text that reads the version shows of a database, whatever its tables
+-- are
+pub record ShowsLater {S : Type 0} (g : store.Ghosts S) (db : Database) : Type 0 where
+  pub rows : List Row
+  pub shown : ShowsVersions g db rows
+  pub version : Version
+  pub means : all_mean desk.means rows ≡ Some (version ∷ [])
+  pub later : 2 ≤ version.number
+
 -- in a transaction over tables that note their version they are told to be of version 1, or why
--- not, and nothing is committed
+-- not, and nothing is committed; a later version is told only where it is shown
 pub record TellsVersion {S T : Type 0} (g : store.Ghosts S) (old new : Held S)
     (result : Result T OpenFault) : Type 0 where
   pub one : HasCleanDisk (state g new) → AreNoted (state g old)
       → OnOk result (IsVersionOne (state g old))
   pub cause : HasCleanDisk (state g new) → AreNoted (state g old)
       → IfErr result (λ fault. IsFaultOf HasNoVersion fault (state g old))
+  pub newer : HasCleanDisk (state g new) → result ≡ Err NewerVersion
+      → ShowsLater g (state g old).now
   pub was_open : WasOpen (state g old) (state g new)
   pub crash : Survives (state g old) (state g new) (λ _. ⊥)
 

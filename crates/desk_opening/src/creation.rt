@@ -4,13 +4,13 @@ ghost use Rattle.std.specs.Prelude.{OnErr, OnOk};
 ghost use Rattle.desk_records.specs.Standing.{Stands};
 ghost use Rattle.desk_opening.specs.Crashes.{LeavesItself};
 ghost use Rattle.desk_opening.specs.Opened.{HoldsNothing, IsSettled, KeepsOpenTables};
-ghost use Rattle.desk_opening.specs.Opened.{OnDone, SurvivesMaking};
+ghost use Rattle.desk_opening.specs.Opened.{OnDone, StaysOpen, SurvivesMaking};
 ghost use Rattle.desk_opening.specs.declared.fault.CreateFault.TheVariants.{NotEmpty};
 ghost use Rattle.desk_opening.specs.declared.fault.CreateFault.TheVariants as creating;
 ghost use Rattle.desk_schema.specs.Tables.{no_schema};
 ghost use Rattle.desk_words.specs.Changes.{empty_office};
 ghost use Rattle.sqlite.specs.Held.{state};
-ghost use Rattle.sqlite.specs.State.{HasCleanDisk};
+ghost use Rattle.sqlite.specs.State.{HasCleanDisk, IsLive};
 
 use crate::fault::CreateFault;
 use crate::making::make_empty_desk;
@@ -29,9 +29,12 @@ fn has_nothing<S: Alter>(conn: &Connection<S>) -> bool
 /// tables that are read, and nothing else.
 fn rests<S: Alter>(conn: &Connection<S>)
     requires { conn.now.in_transaction ≡ false }
-    ensures { IsTrue (state S.Store conn.now).is_open → LeavesItself (state S.Store conn.now) }
+    ensures settled { IsTrue (state S.Store conn.now).is_open
+        → LeavesItself (state S.Store conn.now) }
+    ensures live { IsLive (state S.Store conn.now) }
 {
     let _ = conn.is_autocommit();
+    let _ = conn.schema();
 }
 
 /// Makes the tables of a desk that holds nothing, in one transaction.
@@ -53,8 +56,8 @@ fn make_desk<S: Alter>(conn: &mut Connection<S>) -> Result<(), Error>
     tx.commit()
 }
 
-/// Makes the tables of a desk that holds nothing, in one transaction. The fault is `NotEmpty`
-/// exactly where the database has a table, an index or a view. A refusal hands the connection back,
+/// Makes the tables of a desk that holds nothing, in one transaction. The store is then open. The
+/// fault is `NotEmpty` exactly where the database has a table, an index or a view. A refusal hands the connection back,
 /// its tables as they were. A connection in a transaction is refused, as `NotEmpty` or `Store`, and
 /// is handed back as it was. Of a desk that is made a crash leaves the tables that are read, and
 /// nothing else; after a refusal it leaves what it left before, or the tables that are made, whole.
@@ -65,6 +68,7 @@ pub fn create<S: Alter + Drop>(
     ensures made { IfOk result (λ made. HoldsNothing S.Store made) }
     ensures empty { IfOk result (λ _. (state S.Store conn).now.schema ≡ no_schema) }
     ensures none { IfOk result (λ made. made.in_transaction ≡ false) }
+    ensures is_open { IfOk result (λ made. StaysOpen S.Store made) }
     ensures not_empty { IfErr result (λ e. e.0 ≡ NotEmpty
         → (state S.Store conn).now.schema ≢ no_schema) }
     ensures cause { IfErr result (λ e. e.0 ≢ NotEmpty

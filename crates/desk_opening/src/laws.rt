@@ -1,7 +1,17 @@
 //! What is known of the tables of a file as it is opened.
 ghost use Rattle.desk_opening.specs.Rising.{FoundRowsRise};
+ghost use Rattle.desk_opening.specs.Whole.{OpensAgain};
+
+use sqlite::Alter;
 
 /// The numbers of the rows of each table rise, in whatever files hold.
 pub fn found_rows_rise()
     ensures { FoundRowsRise }
+{}
+
+/// `open` opens the office that a crash leaves whole. Where a connection shows tables that a crash
+/// may leave of a desk, and a crash leaves an office of it whole, what `open` gives stands for that
+/// office, as its clause on whole tables says.
+pub fn opens_again<S: Alter>()
+    ensures { OpensAgain S.Store }
 {}

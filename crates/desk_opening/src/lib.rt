@@ -10,4 +10,4 @@ mod version;
 
 pub use creation::create;
 pub use fault::{CreateFault, OpenFault};
-pub use opening::{HandedBack, open, open_risen};
+pub use opening::{HandedBack, ask_open, open, open_risen};

@@ -1,13 +1,14 @@
 //! The tables of a desk that was kept.
 ghost use Rattle.std.specs.Prelude.{◌≡◌, ◌≢◌, ◌⊎◌, false, Err, IfErr, IfOk, IsTrue, OnOk};
 ghost use Rattle.desk_opening.specs.Crashes.{LeavesItself, LeavesNoMore};
-ghost use Rattle.desk_opening.specs.Opened.{HadColumns, HadVersionOne, IfDeclared, IsSettled};
+ghost use Rattle.desk_opening.specs.Opened.{HadColumns, HadVersionOne, IsSettled};
 ghost use Rattle.desk_opening.specs.Opened.{IsWhyUnopened, KeepsOpenRows, KeepsTables};
-ghost use Rattle.desk_opening.specs.Opened.{OnDone, StaysOpen};
+ghost use Rattle.desk_opening.specs.Opened.{OnDone, StandsWhole, StaysOpen};
 ghost use Rattle.desk_opening.specs.Opening.{HandsBack, IsInNone, IsOpenCause, IsVerdict};
-ghost use Rattle.desk_opening.specs.Opening.{TellsOffice};
+ghost use Rattle.desk_opening.specs.Opening.{ShowsLater, TellsOffice};
 ghost use Rattle.desk_opening.specs.Rising.{RowsRise};
-ghost use Rattle.desk_records.specs.Standing.{HasNoOffice, IsVersionOne, Stands};
+ghost use Rattle.desk_opening.specs.Whole.{AsksOpen, IsWhole, OpensWhole};
+ghost use Rattle.desk_records.specs.Standing.{HasNoOffice, IsVersionOne};
 ghost use Rattle.desk_opening.specs.declared.fault.OpenFault.TheVariants.{NotADesk, NewerVersion};
 ghost use Rattle.desk_opening.specs.declared.fault.OpenFault.TheVariants as opening;
 ghost use Rattle.desk_opening.specs.declared.opening.HandedBack.TheVariants as back;
@@ -17,8 +18,9 @@ ghost use Rattle.desk_tables.specs.Versions.{AreNoted};
 ghost use Rattle.desk_words.specs.declared.office.OfficeLists.{OfficeLists};
 ghost use Rattle.desk_words.specs.Office.{is_office};
 ghost use Rattle.office_checks.specs.InOrder.{office_in_order};
+ghost use Rattle.sqlite.specs.Effect.{IsDatabase};
 ghost use Rattle.sqlite.specs.Held.{state};
-ghost use Rattle.sqlite.specs.State.{HasCleanDisk, Survives};
+ghost use Rattle.sqlite.specs.State.{Fails, HasCleanDisk, Survives};
 ghost use Rattle.sqlite_trees.specs.View.{IsClean};
 
 use crate::fault::OpenFault;
@@ -79,12 +81,12 @@ fn judge_lists(alloc: Global, lists: OfficeLists) -> Result<OfficeLists, OpenFau
     ensures ordered { IfOk result (λ office. office ≡ office_in_order lists) }
     ensures office { IfOk result (λ office. IsTrue (is_office office)) }
     ensures wrong { result ≡ Err NotADesk → is_office (office_in_order lists) ≡ false }
+    ensures sure { IfErr result (λ fault. fault ≡ NotADesk) }
     ensures other { result ≢ Err NewerVersion }
 {
     match office_checked(alloc, lists) {
-        Ok(Some(office)) => Ok(office),
-        Ok(None) => Err(OpenFault::NotADesk),
-        Err(_) => Err(OpenFault::Memory),
+        Some(office) => Ok(office),
+        None => Err(OpenFault::NotADesk),
     }
 }
 
@@ -144,28 +146,27 @@ fn judge_columns<S: Alter>(conn: &mut Connection<S>) -> Result<(), OpenFault>
     Ok(())
 }
 
-/// Whether the store is open, which a statement tells that is compiled, and not run. A crash then
-/// leaves the tables as they are read.
-#[tactic(auto, using(crate::proofs::FaultLemmas::of_the_store))]
-fn ask_open<S: Alter>(conn: &mut Connection<S>) -> Result<(), OpenFault>
+/// Asks whether the store is open, by a statement that is compiled and not run. Nothing is changed.
+/// Where the store is open, a crash then leaves the tables as they are read. The error is that of a
+/// store that is shut, or that failed in this call; want of memory is one of its causes.
+pub fn ask_open<S: Alter>(conn: &mut Connection<S>) -> Result<(), Error>
     requires { conn.old.in_transaction ≡ false }
     ensures ended { conn.new.in_transaction ≡ false }
-    ensures crash { Survives (state S.Store conn.old) (state S.Store conn.new) (λ _. ⊥) }
-    ensures is_open { OnDone S.Store conn.new result (IsTrue (state S.Store conn.new).is_open) }
-    ensures same { HasCleanDisk (state S.Store conn.new) → IsTrue (state S.Store conn.new).is_open
-        → IsTrue (state S.Store conn.old).is_open
-        × ((state S.Store conn.new).now ≡ (state S.Store conn.old).now) }
+    ensures asked { AsksOpen S.Store conn.old conn.new result }
     ensures settled { OnDone S.Store conn.new result (LeavesItself (state S.Store conn.new)) }
-    ensures fault { IfErr result (λ fault. (fault ≡ opening.Store) ⊎ (fault ≡ opening.Memory)) }
+    ensures cause { HasCleanDisk (state S.Store conn.new)
+        → IfErr result (Fails (state S.Store conn.old) (state S.Store conn.new) ⊥) }
 {
     let _ = conn.is_autocommit();
     conn.prepare("BEGIN")?;
     let _ = conn.is_autocommit();
+    let _ = conn.schema();
     Ok(())
 }
 
 /// The office that tables of version 1 hold, where each column that is read stands, they are as
 /// they were and the store is open still. The version is asked before the other tables are read.
+#[tactic(auto, using(crate::proofs::FaultLemmas::of_the_store))]
 fn kept_office<S: Alter>(conn: &mut Connection<S>, alloc: Global) -> Result<OfficeLists, OpenFault>
     requires { conn.old.in_transaction ≡ false }
     ensures ended { conn.new.in_transaction ≡ false }
@@ -183,6 +184,12 @@ fn kept_office<S: Alter>(conn: &mut Connection<S>, alloc: Global) -> Result<Offi
     ensures cause { HasCleanDisk (state S.Store conn.new) → AreNoted (state S.Store conn.old)
         → RowsRise (state S.Store conn.old)
         → IfErr result (λ fault. IsOpenCause fault (state S.Store conn.old)) }
+    ensures newer { HasCleanDisk (state S.Store conn.new) → result ≡ Err NewerVersion
+        → ShowsLater S.Store (state S.Store conn.old).now }
+    ensures whole { HasCleanDisk (state S.Store conn.new) → RowsRise (state S.Store conn.old)
+        → (office : OfficeLists) → IsWhole (state S.Store conn.old).now.trees office
+        → IfErr result (λ fault. (fault ≡ opening.Store) ⊎ (fault ≡ opening.Memory)) }
+    ensures sound { OnDone S.Store conn.new result (IsDatabase (state S.Store conn.new).now) }
     ensures settled { OnDone S.Store conn.new result (LeavesItself (state S.Store conn.new)) }
 {
     let _ = conn.schema();
@@ -195,21 +202,23 @@ fn kept_office<S: Alter>(conn: &mut Connection<S>, alloc: Global) -> Result<Offi
 }
 
 /// Opens the tables of the desk that the database holds, and gives the office that they hold,
-/// where they are declared as `create` declares them. Whatever tables it holds, it is opened only
-/// where each column that is read stands. The version is asked before the other tables are read.
-/// The fault is `NewerVersion` only where tables that note their version note a later one, and
-/// `NotADesk` only where they note none, or the first and a column that is read is missing or what
-/// they hold is no office. A refusal hands back the connection, or the store where that could not
-/// be read again, its tables as they were. A connection in a transaction is refused as `Store` and
-/// handed back as it was. A limit of steps that was set on the connection is not kept. Of a desk
-/// that is opened a crash leaves the tables that are read, and nothing else; after a refusal it
+/// where they are declared as `create` declares them, indexes included. Whatever tables it holds, it
+/// is opened only where each column that is read stands. The version is asked before the other
+/// tables are read. The fault is `NewerVersion` only where the database understands the text that
+/// reads the version, and it shows a later one. Of tables that note their version, as those of
+/// version 1 do, it is `NotADesk` only where they note none, or the first and a column that is read
+/// is missing or what they hold is no office. Tables that are whole are refused as `Store` or
+/// `Memory` alone. A refusal hands back the connection, or the store where that could not be read
+/// again, its tables as they were. A connection in a transaction is refused as `Store` and handed
+/// back as it was. A limit of steps that was set on the connection is not kept. Of a desk that is
+/// opened a crash leaves the tables that are read, whole, and nothing else; after a refusal it
 /// leaves nothing that it did not leave before.
 pub fn open<S: Alter + Drop>(
     alloc: Global,
     conn: Connection<S>,
 ) -> Result<(Connection<S>, OfficeLists), (OpenFault, HandedBack<S>)>
-    ensures stands { IfOk result (λ opened. IfDeclared S.Store conn opened.0
-        (Stands (state S.Store opened.0) opened.1)) }
+    ensures stands { IfOk result (λ opened. StandsWhole S.Store conn opened.0 opened.1) }
+    ensures whole { IfOk result (λ opened. OpensWhole S.Store conn opened.0) }
     ensures same { IfOk result (λ opened. KeepsTables S.Store conn opened.0) }
     ensures is_open { IfOk result (λ opened. StaysOpen S.Store opened.0) }
     ensures version { IfOk result (λ opened. HadVersionOne S.Store conn opened.0) }
@@ -247,8 +256,8 @@ pub fn open_risen<S: Alter + Drop>(
 ) -> Result<(Connection<S>, OfficeLists), (OpenFault, Connection<S>)>
     requires none { conn.in_transaction ≡ false }
     requires rising { HasCleanDisk (state S.Store conn) → RowsRise (state S.Store conn) }
-    ensures stands { IfOk result (λ opened. IfDeclared S.Store conn opened.0
-        (Stands (state S.Store opened.0) opened.1)) }
+    ensures stands { IfOk result (λ opened. StandsWhole S.Store conn opened.0 opened.1) }
+    ensures whole { IfOk result (λ opened. OpensWhole S.Store conn opened.0) }
     ensures same { IfOk result (λ opened. KeepsTables S.Store conn opened.0) }
     ensures is_open { IfOk result (λ opened. StaysOpen S.Store opened.0) }
     ensures version { IfOk result (λ opened. HadVersionOne S.Store conn opened.0) }

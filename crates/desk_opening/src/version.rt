@@ -1,12 +1,15 @@
 //! Which version of the program made the tables.
-ghost use Rattle.std.specs.Prelude.{◌≡◌, false, [], ◌∷◌, IfErr, IsTrue, OnOk};
-ghost use Rattle.desk_opening.specs.Opening.{IsFaultOf, IsVersionFault, TellsVersion};
+ghost use Rattle.std.specs.Prelude.{◌≡◌, ◌⊎◌, false, [], ◌∷◌, Err, IfErr, IfOk, IsTrue, List, OnOk, Some};
+ghost use Rattle.desk_opening.specs.Opening.{IsFaultOf, IsVersionFault, ShowsLater, TellsVersion};
+ghost use Rattle.desk_opening.specs.declared.fault.OpenFault.TheVariants.{NotADesk, NewerVersion};
 ghost use Rattle.desk_records.specs.Standing.{HasNoVersion, IsVersionOne, version_one};
 ghost use Rattle.desk_schema.specs.Contents.{desk};
 ghost use Rattle.desk_schema.specs.Statements.{WasOpen, records_in};
-ghost use Rattle.desk_tables.specs.Versions.{AreNoted};
+ghost use Rattle.desk_rows.specs.Meanings.{all_mean};
+ghost use Rattle.desk_tables.specs.Versions.{AreNoted, ShowsVersions};
 ghost use Rattle.office_lists.specs.Yields.{Yields, any_at_all};
 ghost use Rattle.sqlite.specs.Held.{state};
+ghost use Rattle.sqlite.specs.Order.{Row};
 ghost use Rattle.sqlite.specs.State.{HasCleanDisk, Survives};
 
 use crate::fault::OpenFault;
@@ -26,6 +29,9 @@ fn read_versions<S: Alter>(
     ensures told { HasCleanDisk (state S.Store tx.new.conn.now)
         → AreNoted (state S.Store tx.old.conn.now)
         → Yields any_at_all result (records_in desk (state S.Store tx.old.conn.now).now.trees) }
+    ensures shown { HasCleanDisk (state S.Store tx.new.conn.now) → IfOk result (λ versions.
+        (rows : List Row) × ShowsVersions S.Store (state S.Store tx.old.conn.now).now rows
+        × (all_mean desk.means rows ≡ Some versions)) }
     ensures was_open { WasOpen (state S.Store tx.old.conn.now) (state S.Store tx.new.conn.now) }
     ensures crash { Survives (state S.Store tx.old.conn.now) (state S.Store tx.new.conn.now)
         (λ _. ⊥) }
@@ -71,6 +77,8 @@ fn ask_version<S: Alter>(conn: &mut Connection<S>, alloc: Global) -> Result<(), 
         → OnOk result (IsVersionOne (state S.Store conn.old)) }
     ensures cause { HasCleanDisk (state S.Store conn.new) → AreNoted (state S.Store conn.old)
         → IfErr result (λ fault. IsFaultOf HasNoVersion fault (state S.Store conn.old)) }
+    ensures newer { HasCleanDisk (state S.Store conn.new) → result ≡ Err NewerVersion
+        → ShowsLater S.Store (state S.Store conn.old).now }
 {
     let _ = conn.is_autocommit();
     let mut tx = conn.transaction();
@@ -80,8 +88,9 @@ fn ask_version<S: Alter>(conn: &mut Connection<S>, alloc: Global) -> Result<(), 
     read
 }
 
-/// Judges whether the tables are of version 1, whatever tables they are. Where they note a version,
-/// the fault is `NewerVersion` only where it is a later one, and `NotADesk` only where it is none.
+/// Judges whether the tables are of version 1, whatever tables they are. The fault is `NewerVersion`
+/// only where the text that reads the version shows a later one. Of tables that note their version
+/// it is `NotADesk` only where they note none.
 pub(crate) fn judge_version<S: Alter>(
     conn: &mut Connection<S>,
     alloc: Global,
@@ -96,6 +105,10 @@ pub(crate) fn judge_version<S: Alter>(
         → OnOk result (IsVersionOne (state S.Store conn.old)) }
     ensures cause { HasCleanDisk (state S.Store conn.new) → AreNoted (state S.Store conn.old)
         → IfErr result (λ fault. IsFaultOf HasNoVersion fault (state S.Store conn.old)) }
+    ensures newer { HasCleanDisk (state S.Store conn.new) → result ≡ Err NewerVersion
+        → ShowsLater S.Store (state S.Store conn.old).now }
+    ensures was_open { HasCleanDisk (state S.Store conn.new) → IfErr result (λ fault.
+        (fault ≡ NotADesk) ⊎ (fault ≡ NewerVersion) → IsTrue (state S.Store conn.old).is_open) }
 {
     let _ = conn.schema();
     columns::ask_version(conn)?;

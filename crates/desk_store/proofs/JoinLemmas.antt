@@ -1,6 +1,6 @@
 -- What is left of a desk where what was done in a transaction is committed, or its commit fails.
 use Rattle.std.proofs.Common.{◌≡◌, inl, inr, [], Option, None, Ok, Err, Result, IsErr, true, false, IsTrue, sym, ap, subst, ◌∙◌, true≢false, arith}
-use Rattle.sqlite.specs.Effect.{Database}
+use Rattle.sqlite.specs.Effect.{Database, IsDatabase}
 use Rattle.sqlite.specs.Held.{Held, state}
 use Rattle.sqlite.specs.State.{State, HasCleanDisk, IsUnchanged, KeepsCommit, KeepsCounts, Shows, Survives}
 use Rattle.sqlite.specs.Steps.{FailsToCommit}
@@ -9,16 +9,18 @@ use Rattle.sqlite.specs.declared.error.Error.{Error}
 use Rattle.sqlite.proofs.StateLemmas.{survives_then}
 use Rattle.sqlite_trees.specs.declared.store.Store as store
 use Rattle.desk_words.specs.declared.office.OfficeLists.{OfficeLists}
+use Rattle.desk_words.specs.declared.reply.Failure.{Failure}
 use Rattle.desk_words.specs.declared.request.Call.{Call}
-use Rattle.desk_records.specs.Office.{office_in}
 use Rattle.desk_records.specs.Standing.{Stands}
 use Rattle.desk_schema.specs.Statements.{IsDesk, WasOpen}
 use Rattle.desk_opening.specs.Crashes.{LeavesItself}
-use Rattle.desk_opening.proofs.CrashLemmas.{leaves_itself}
+use Rattle.desk_opening.specs.Whole.{AsksOpen, IsWhole, LeavesWhole}
+use Rattle.desk_opening.proofs.CrashLemmas.{leaves_itself, nothing_then}
+use Rattle.desk_opening.proofs.WholeLemmas.{leaves_whole, whole_of}
 use Rattle.desk_opening.proofs.OpeningLemmas.{desk_same}
 use Rattle.meeting_core.specs.Step.{stepped}
 use Rattle.office_lists.specs.declared.fault.ReadFault.{ReadFault}
-use Rattle.desk_store.specs.Joins.{AreAfter, IsAsItWas, Leaves, office_after, made_by}
+use Rattle.desk_store.specs.Joins.{AreAfter, IsAsItWas, IsDeskIfOpen, Leaves, office_after, made_by}
 use Rattle.desk_store.specs.Reads.{IsTold}
 use Rattle.desk_store.proofs.KeepingLemmas.{stands_same}
 
@@ -58,7 +60,7 @@ module _ {S : Type 0} (g : store.Ghosts S) (a first b new : Held S) (begun : fir
       let h = subst (λ (it : Held S). Survives (state g it) (state g b) (λ _. ⊥)) begun within.crash in
       record { clean = h.clean; shield = h.shield; counts = h.counts; limit = h.limit; closes = h.closes; crash = h.crash }
 
-  desk_clean : HasCleanDisk (state g new) → HasCleanDisk (state g a)
+  pub desk_clean : HasCleanDisk (state g new) → HasCleanDisk (state g a)
   desk_clean clean = omega (arith, from_desk.clean, last.clean, clean)
 
   desk_open : IsTrue (state g first).is_open → IsTrue (state g a).is_open
@@ -67,11 +69,17 @@ module _ {S : Type 0} (g : store.Ghosts S) (a first b new : Held S) (begun : fir
   stands_begun : (office : OfficeLists) → Stands (state g a) office → Stands (state g first) office
   stands_begun office stands = stands_same (state g a) (state g first) office (ap (λ (it : Held S). (state g it).now) begun) stands
 
+  -- what survives the transaction and its commit
+  over_all : Survives (state g a) (state g new) (λ db. db ≡ (state g b).now.trees)
+  over_all = survives_then (state g a) (state g b) (state g new) (λ _. ⊥) (λ db. db ≡ (state g b).now.trees) (λ db. db ≡ (state g b).now.trees) (λ _ _ none. absurd none) (λ _ _ is. is) from_desk last
+
   pub committed : (made : Option Call) → (HasCleanDisk (state g new) → Shows (state g b) (state g new) (state g b).now (state g b).now false)
       → (HasCleanDisk (state g b) → (office : OfficeLists) → Stands (state g first) office → Stands (state g b) (office_after office made)) → Leaves made (state g a) (state g new)
   committed made shows there = record {
     was_clean = desk_clean;
     was_open = λ clean is_open. desk_open (within.was_open (mid_clean clean) (shows clean).was_open);
+    closes = over_all.closes;
+    counts = over_all.counts;
     ended = ended;
     stands = λ clean is_open office stands. stands_same (state g b) (state g new) (office_after office made) (shows clean).now_is (there (mid_clean clean) office (stands_begun office stands));
   }
@@ -95,6 +103,8 @@ module _ {S : Type 0} (g : store.Ghosts S) (a first b new : Held S) (begun : fir
     not_committed = record {
       was_clean = desk_clean;
       was_open = λ clean is_open. desk_open (within.was_open (mid_clean clean) (opened (fails clean).1 is_open));
+      closes = over_all.closes;
+      counts = over_all.counts;
       ended = ended;
       stands = λ clean is_open office stands. undone clean is_open office stands (fails clean).1;
     }
@@ -112,21 +122,31 @@ module _ {S : Type 0} (g : store.Ghosts S) (a first b new : Held S) (begun : fir
         },
       )
 
-  -- a crash leaves what it left before, or what is committed: the office after the step
-  pub survives_call : (call : Call) → (HasCleanDisk (state g b) → (office : OfficeLists) → Stands (state g first) office → Stands (state g b) (stepped office call)) → Survives (state g a) (state g new) (AreAfter (state g a) call)
-  survives_call call there =
+  -- a crash leaves what it left before, or what is committed: whole the office after the step
+  pub survives_call : (call : Call) → (HasCleanDisk (state g a) → IsTrue (state g a).is_open)
+      → (HasCleanDisk (state g b) → (office : OfficeLists) → Stands (state g first) office → Stands (state g b) (stepped office call) × IsDatabase (state g b).now) → Survives (state g a) (state g new) (AreAfter (state g a) call)
+  survives_call call opened there =
       survives_then (state g a) (state g b) (state g new) (λ _. ⊥) (λ db. db ≡ (state g b).now.trees) (AreAfter (state g a) call) (λ _ db none. absurd none)
-      (λ clean db is office stands. ap office_in is ∙ (there (mid_clean clean) office (stands_begun office stands)).holds) from_desk last
+      (λ clean db is. (
+        opened (desk_clean clean),
+        λ office stands.
+            let it = there (mid_clean clean) office (stands_begun office stands) in
+            subst (λ (t : Trees). IsWhole t (stepped office call)) (sym is) (whole_of (state g b) (stepped office call) it.0 it.1),
+      )) from_desk last
+
+  -- what stands behind the commit is left whole
+  pub whole_behind : (call : Call) (office : OfficeLists) → Stands (state g b) (stepped office call) → IsDatabase (state g b).now → Shows (state g b) (state g new) (state g b).now (state g b).now false → LeavesItself (state g new) → LeavesWhole (state g new) (stepped office call)
+  whole_behind call office stands sound shows itself =
+      leaves_whole (state g new) (stepped office call) (stands_same (state g b) (state g new) (stepped office call) shows.now_is stands) (subst IsDatabase (sym shows.now_is) sound) itself
 
   -- where nothing was changed in the transaction, a crash leaves what it left before
   pub survives_read : ((s : S) → IsTrue (g.view s).is_open → g.recovers s (g.view s).committed) → (IsTrue (state g a).is_open → (state g a).now ≡ (state g a).committed) → (IsDesk (state g first) → HasCleanDisk (state g b) → IsUnchanged (state g first) (state g b))
-      → IsDesk (state g a) → Survives (state g a) (state g new) (λ _. ⊥)
+      → (HasCleanDisk (state g a) → IsDesk (state g a)) → Survives (state g a) (state g new) (λ _. ⊥)
   survives_read stays settled same desk =
       let begun_now = ap (λ (it : Held S). (state g it).now) begun in
-      let there = desk_same (state g a) (state g first) (sym begun_now) desk in
       let whole = survives_then (state g a) (state g b) (state g new) (λ _. ⊥) (λ db. db ≡ (state g b).now.trees) (state g a).may_leave (λ _ _ none. absurd none)
       (λ clean db is.
-      let it = (same there (mid_clean clean)).0 in
+      let it = (same (desk_same (state g a) (state g first) (sym begun_now) (desk (desk_clean clean))) (mid_clean clean)).0 in
       let was_open = desk_open it.was_open in
       let trees_are = ap (λ (d : Database). d.trees) (it.now_is ∙ begun_now ∙ settled was_open) in
       subst (state g a).may_leave (sym (is ∙ trees_are)) (stays a.store was_open)) from_desk last in
@@ -138,3 +158,77 @@ module _ {S : Type 0} (g : store.Ghosts S) (a first b new : Held S) (begun : fir
         closes = whole.closes;
         crash = λ clean db may. elim (whole.crash clean db may) [ inl was ↦ inl was | inr was ↦ inl was ];
       }
+
+-- ---- whether the store is open is asked first
+
+module _ {S : Type 0} (g : store.Ghosts S) (first a : Held S) where
+  -- it is not known to be: no call is made
+  pub asked_stop : {T : Type 0} {e : Failure} → (state g a).in_transaction ≡ false → AsksOpen {T = T} g first a (Err e) → Leaves None (state g first) (state g a)
+  asked_stop ended asked = record {
+    was_clean = λ clean. omega (arith, asked.crash.clean, clean);
+    was_open = λ clean is_open. (asked.same clean is_open).0;
+    closes = asked.crash.closes;
+    counts = asked.crash.counts;
+    ended = ended;
+    stands = λ clean is_open office stands. stands_same (state g first) (state g a) office (asked.same clean is_open).1 stands;
+  }
+
+  module _ {T : Type 0} {t : T} (asked : AsksOpen {T = T} {E = Failure} g first a (Ok t)) where
+    -- it is open, and its tables are those that they were
+    pub asked_open : HasCleanDisk (state g a) → IsTrue (state g a).is_open
+    asked_open clean = (asked.still clean).0.0.is_open
+
+    pub asked_stands : HasCleanDisk (state g a) → (office : OfficeLists) → Stands (state g first) office → Stands (state g a) office
+    asked_stands clean office stands = stands_same (state g first) (state g a) office (asked.still clean).0.0.now_is stands
+
+    pub desk_behind : IsDeskIfOpen (state g first) → HasCleanDisk (state g a) → IsDesk (state g a)
+    desk_behind desk clean = let it = (asked.still clean).0.0 in desk_same (state g first) (state g a) (sym it.now_is) (desk it.was_open)
+
+    pub leaves_behind : (made : Option Call) (new : State) → Leaves made (state g a) new → Leaves made (state g first) new
+    leaves_behind made new h = record {
+      was_clean = λ clean. let early = h.was_clean clean in omega (arith, asked.crash.clean, early);
+      was_open = λ clean is_open. (asked.same (h.was_clean clean) (h.was_open clean is_open)).0;
+      closes = λ clean was_open. elim (h.closes clean (asked_open (h.was_clean clean))) [ inl still ↦ inl still | inr more ↦ inr (omega (arith, asked.crash.counts, more)) ];
+      counts = omega (arith, asked.crash.counts, h.counts);
+      ended = h.ended;
+      stands = λ clean is_open office stands. h.stands clean is_open office (asked_stands (h.was_clean clean) office stands);
+    }
+
+    -- in a transaction that is begun behind it, the database lists its tables as they are declared
+    pub begun_sound : (inner b : Held S) → inner ≡ record a { in_transaction = true } → IsWithin (state g inner) (state g b) → HasCleanDisk (state g b) → IsDatabase (state g inner).now
+    begun_sound inner b begun within clean =
+        let crash = subst (λ (it : Held S). Survives (state g it) (state g b) (λ _. ⊥)) begun within.crash in
+        let early : HasCleanDisk (state g a) = omega (arith, crash.clean, clean) in
+        subst (λ (it : Held S). IsDatabase (state g it).now) (sym begun) (asked.still early).1
+
+    pub survives_behind : (call : Call) (new : State) → Survives (state g a) new (AreAfter (state g a) call) → Survives (state g first) new (AreAfter (state g first) call)
+    survives_behind call new last =
+        survives_then (state g first) (state g a) new (λ _. ⊥) (AreAfter (state g a) call) (AreAfter (state g first) call) (λ _ _ none. absurd none)
+        (λ clean db after.
+        let early : HasCleanDisk (state g a) = omega (arith, last.clean, clean) in
+        ((asked.same early after.0).0, λ office stands. after.1 office (asked_stands early office stands))) asked.crash last
+
+    -- where all was as it was behind the asking, it is as it was before
+    pub same_behind : (new : State) → HasCleanDisk (state g a) → IsAsItWas (state g a) new → IsAsItWas (state g first) new
+    same_behind new clean same =
+        let it = asked.still clean in (
+          record {
+            was_open = it.0.0.was_open;
+            is_open = same.0.is_open;
+            now_is = same.0.now_is ∙ it.0.0.now_is;
+            committed_is = same.0.committed_is ∙ it.0.0.committed_is;
+            mode = same.0.mode;
+          },
+          record { changes = same.1.changes ∙ it.0.1.changes; last_rowid = same.1.last_rowid ∙ it.0.1.last_rowid },
+        )
+
+-- where nothing is committed, what is committed is no other office
+pub survives_nothing : (old new : State) (P : Trees → Type 0) → Survives old new (λ _. ⊥) → Survives old new P
+survives_nothing old new P h = record {
+  clean = h.clean;
+  shield = h.shield;
+  counts = h.counts;
+  limit = h.limit;
+  closes = h.closes;
+  crash = λ clean db may. elim (h.crash clean db may) [ inl was ↦ inl was | inr none ↦ absurd none ];
+}

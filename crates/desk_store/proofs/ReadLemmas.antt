@@ -10,7 +10,7 @@ use Rattle.office_lists.specs.declared.fault.ReadFault.{ReadFault}
 use Rattle.desk_reading.specs.Reading.{IsReading}
 use Rattle.office_checks.specs.InOrder.{office_in_order}
 use Rattle.party_reading.specs.Telling.{IsToldOf, TellsOnly}
-use Rattle.desk_store.specs.Reads.{IsTold, IsWhole}
+use Rattle.desk_store.specs.Reads.{IsTold, IsBookOf}
 use Rattle.desk_opening.proofs.OrderedOffice.{office_ordered}
 
 pub mapped_ok : {X E D : Type 0} (Q : E → D → Type 0) (P : X → Type 0) (s : Result X E) (r : Result X D) → MatchResult s (λ x. r ≡ Ok x) (λ e. IsErrAnd r (Q e)) → IfOk s P → IfOk r P
@@ -29,12 +29,12 @@ ok_weaker P Q (Err e) next h = tt
 module _ {S : Type 0} (g : store.Ghosts S) (a b : Held S) where
   -- the lists that are read are the office, and so is the book of them
   pub book_told : {E : Type 0} (Q : E → ReadFault → Type 0) (lists : OfficeLists) (made : Result OfficeLists E) (r : Result OfficeLists ReadFault) → IsReading g a b is_office (Ok lists) office_in
-      → IfOk made (λ book. book ≡ office_in_order lists) → MatchResult made (λ x. r ≡ Ok x) (λ e. IsErrAnd r (Q e)) → IsTold g a b r IsWhole
+      → IfOk made (λ book. book ≡ office_in_order lists) → MatchResult made (λ x. r ≡ Ok x) (λ e. IsErrAnd r (Q e)) → IsTold g a b r IsBookOf
   book_told Q lists made r reading is mapped = record {
     told = λ clean office stands.
         let found : ◌≡◌ {A = Option OfficeLists} (Some lists) (Some office) = sym (reading.told (clean, stands.desk)) ∙ stands.holds in
         let same : lists ≡ office = cc in
-        mapped_ok Q (IsWhole office) made r mapped (ok_weaker (λ book. book ≡ office_in_order lists) (IsWhole office) made (λ book ordered. ordered ∙ ap office_in_order same ∙ office_ordered office stands.kept) is);
+        mapped_ok Q (IsBookOf office) made r mapped (ok_weaker (λ book. book ≡ office_in_order lists) (IsBookOf office) made (λ book ordered. ordered ∙ ap office_in_order same ∙ office_ordered office stands.kept) is);
     same = λ read. always r (reading.same read);
     changes = reading.changes;
   }

@@ -1,6 +1,7 @@
 -- A call that is decided, and written.
 use Rattle.std.proofs.Common.{◌≡◌, true, Option, Some, None, Ok, Err, Result, IsErr, IsTrue, sym, ap, subst, ◌∙◌, arith}
 use Rattle.sqlite.specs.declared.error.Error.{Error}
+use Rattle.sqlite.specs.Effect.{IsDatabase}
 use Rattle.sqlite.specs.Held.{Held, state}
 use Rattle.sqlite.specs.State.{HasCleanDisk, IsUnchanged, KeepsCommit}
 use Rattle.sqlite_trees.specs.declared.store.Store as store
@@ -32,11 +33,11 @@ failed_told g a b IsSo IsThat old (Err e) bad read = record { told = λ clean of
 
 module _ {S : Type 0} (g : store.Ghosts S) (a b c : Held S) (call : Call) (answer : Answer Change) (told : IsTold g a b (Ok answer) (IsDecided call)) where
   -- while a call is decided, the tables stay the office that they are
-  holds : HasCleanDisk (state g b) → IsTrue (state g a).in_transaction → (office : OfficeLists) → Stands (state g a) office → StandsIn office (state g b)
-  holds clean inside office stands =
+  holds : HasCleanDisk (state g b) → IsTrue (state g a).in_transaction → IsDatabase (state g a).now → (office : OfficeLists) → Stands (state g a) office → StandsIn office (state g b)
+  holds clean inside sound office stands =
       let same = told.same (clean, stands.desk) in
       let there = stands_same (state g a) (state g b) office same.0.now_is stands in
-      record { desk = there.desk; version = there.version; inside = same.0.mode ∙ inside; means = there.holds }
+      record { desk = there.desk; version = there.version; inside = same.0.mode ∙ inside; sound = subst IsDatabase (sym same.0.now_is) sound; means = there.holds }
 
   module _ {T : Type 0} (r : Result T Error) (writes : WritesIfAny g b c r answer.change) where
     early : HasCleanDisk (state g c) → HasCleanDisk (state g b)
@@ -61,20 +62,23 @@ module _ {S : Type 0} (g : store.Ghosts S) (a b c : Held S) (call : Call) (answe
         subst (λ (h : Held S). IsUnchanged (state g a) (state g h)) (sym same) (told.same (before, stands.desk))
 
   -- where it is written, the tables are the office after the step
-  pub step_holds : {T : Type 0} (x : T) → DecidedChangesCanBeMade → WritesIfAny g b c (Ok x) answer.change → HasCleanDisk (state g c) → IsTrue (state g a).in_transaction → (office : OfficeLists) → Stands (state g a) office
-      → Stands (state g c) (stepped office call) × IsTrue (state g c).in_transaction × ((decided office call).reply ≡ answer.reply)
-  step_holds x law writes clean inside office stands =
+  pub step_holds : {T : Type 0} (x : T) → DecidedChangesCanBeMade → WritesIfAny g b c (Ok x) answer.change → HasCleanDisk (state g c) → IsTrue (state g a).in_transaction → IsDatabase (state g a).now → (office : OfficeLists) → Stands (state g a) office
+      → (Stands (state g c) (stepped office call) × IsDatabase (state g c).now) × IsTrue (state g c).in_transaction × ((decided office call).reply ≡ answer.reply)
+  step_holds x law writes clean inside sound office stands =
       let before = early (Ok x) writes clean in
       let is = told.told before office stands in
       let change = ap (λ (it : Answer Change). it.change) is.is in
-      let there = writes.written clean office (holds before inside office stands) (decided_makes law office call answer.change (sym change) stands.kept is.kept) in
+      let there = writes.written clean office (holds before inside sound office stands) (decided_makes law office call answer.change (sym change) stands.kept is.kept) in
       let left = ap (after_some office) change in (
-        record {
-          desk = there.desk;
-          version = there.version;
-          holds = there.means ∙ ap (λ (o : OfficeLists). Some o) left;
-          kept = subst (λ (o : OfficeLists). IsTrue (is_office o)) left is.kept;
-        },
+        (
+          record {
+            desk = there.desk;
+            version = there.version;
+            holds = there.means ∙ ap (λ (o : OfficeLists). Some o) left;
+            kept = subst (λ (o : OfficeLists). IsTrue (is_office o)) left is.kept;
+          },
+          there.sound,
+        ),
         there.inside,
         sym (ap (λ (it : Answer Change). it.reply) is.is),
       )

@@ -2,6 +2,7 @@
 use Rattle.std.specs.Prelude.{◌≡◌, ℕ, Bool, List, Option, Some, None, find, option_map, Result, IfOk, OnOk, IsTrue}
 use Rattle.desk_terms.specs.Names.{same_name}
 use Rattle.sqlite.specs.declared.error.Error.{Error}
+use Rattle.sqlite.specs.Effect.{IsDatabase}
 use Rattle.sqlite.specs.Held.{Held, state}
 use Rattle.sqlite.specs.State.{HasCleanDisk, IsUnchanged, KeepsCommit, Survives}
 use Rattle.sqlite_trees.specs.declared.store.Store as store
@@ -32,12 +33,13 @@ OfOffice g old new Holds =
     HasCleanDisk (state g new) → (office : OfficeLists) → Stands (state g old) office
     → Holds office
 
--- so it does where a transaction had begun
+-- so it does where a transaction had begun, over tables that the database lists as they are
+-- declared
 abbrev pub OfOfficeInside : {S : Type 0} → store.Ghosts S → Held S → Held S
     → (OfficeLists → Type 0) → Type 0
 OfOfficeInside g old new Holds =
-    HasCleanDisk (state g new) → IsTrue (state g old).in_transaction → (office : OfficeLists)
-    → Stands (state g old) office → Holds office
+    HasCleanDisk (state g new) → IsTrue (state g old).in_transaction → IsDatabase (state g old).now
+    → (office : OfficeLists) → Stands (state g old) office → Holds office
 
 -- what is told is so of the office for which the tables stand, and nothing is changed
 pub record IsTold {S X : Type 0} (g : store.Ghosts S) (old new : Held S)
@@ -47,9 +49,9 @@ pub record IsTold {S X : Type 0} (g : store.Ghosts S) (old new : Held S)
   pub same : IsRead g old new → OnOk result (IsUnchanged (state g old) (state g new))
   pub changes : ChangesNothing g old new
 
--- it is the office
-abbrev pub IsWhole : OfficeLists → OfficeLists → Type 0
-IsWhole office book = book ≡ office
+-- the book is the office
+abbrev pub IsBookOf : OfficeLists → OfficeLists → Type 0
+IsBookOf office book = book ≡ office
 
 -- the caller whose key it is, or none where no key equals it
 abbrev pub caller_with : List KeyRow → List ℕ → Option Caller

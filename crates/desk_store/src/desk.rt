@@ -1,6 +1,10 @@
 //! The desk of a company over its tables.
 ghost use Rattle.std.specs.Prelude.{◌≡◌, false};
+ghost use Rattle.desk_opening.specs.Whole.{AsksOpen};
 
+use crate::reading::failure_of;
+use desk_opening::ask_open;
+use desk_words::Failure;
 use sqlite::{Alter, Connection};
 use std::alloc::Global;
 use std::marker::Model;
@@ -37,6 +41,16 @@ impl<S: Alter> Desk<S> {
         ensures { self.now.in_transaction ≡ false }
     {
         let _ = self.conn.is_autocommit();
+    }
+
+    /// Asks whether the store is open. Nothing is changed. A store that is shut commits nothing, so
+    /// each call asks this before its transaction begins.
+    pub(crate) fn ask_open(&mut self) -> Result<(), Failure>
+        ensures asked { AsksOpen S.Store self.old self.new result }
+        ensures ended { self.new.in_transaction ≡ false }
+    {
+        let _ = self.conn.is_autocommit();
+        ask_open(&mut self.conn).map_err(|error| failure_of(error.into()))
     }
 
     /// Hands the connection back. It takes no memory.

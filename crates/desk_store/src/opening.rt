@@ -7,6 +7,7 @@ ghost use Rattle.desk_opening.specs.Opened.{KeepsOpenTables, KeepsTables, StaysO
 ghost use Rattle.desk_opening.specs.Opened.{SurvivesMaking};
 ghost use Rattle.desk_opening.specs.Opening.{HandsBack, IsInNone};
 ghost use Rattle.desk_opening.specs.Rising.{RowsRise};
+ghost use Rattle.desk_opening.specs.Whole.{LeavesWhole, OpensWhole};
 ghost use Rattle.desk_opening.specs.declared.fault.CreateFault.TheVariants.{NotEmpty};
 ghost use Rattle.desk_opening.specs.declared.fault.CreateFault.TheVariants as creating;
 ghost use Rattle.desk_opening.specs.declared.fault.OpenFault.TheVariants as opening;
@@ -23,17 +24,18 @@ use sqlite::{Alter, Connection};
 use std::alloc::Global;
 
 impl<S: Alter + Drop> Desk<S> {
-    /// Makes the tables of a desk that holds nothing, in one transaction. The fault is `NotEmpty`
-    /// exactly where the database has a table, an index or a view. A refusal hands the connection
-    /// back, its tables as they were. A connection in a transaction is refused, as `NotEmpty` or
-    /// `Store`, and is handed back as it was. Of a desk that is made a crash leaves the tables that
-    /// are read, and nothing else; after a refusal it leaves what it left before, or the tables that
-    /// are made, whole.
+    /// Makes the tables of a desk that holds nothing, in one transaction. The store is then open.
+    /// The fault is `NotEmpty` exactly where the database has a table, an index or a view. A refusal
+    /// hands the connection back, its tables as they were. A connection in a transaction is refused,
+    /// as `NotEmpty` or `Store`, and is handed back as it was. Of a desk that is made a crash leaves
+    /// the tables that are read, whole, and nothing else. After a refusal it leaves what it left
+    /// before, or the tables that are made, whole.
     pub fn create(
         alloc: Global,
         conn: Connection<S>,
     ) -> Result<Desk<S>, (CreateFault, Connection<S>)>
         ensures made { IfOk result (λ desk. HoldsNothing S.Store desk) }
+        ensures is_open { IfOk result (λ desk. StaysOpen S.Store desk) }
         ensures empty { IfOk result (λ _. (state S.Store conn).now.schema ≡ no_schema) }
         ensures not_empty { IfErr result (λ e. e.0 ≡ NotEmpty
             → (state S.Store conn).now.schema ≢ no_schema) }
@@ -56,18 +58,26 @@ impl<S: Alter + Drop> Desk<S> {
     }
 
     /// Opens the desk that the database holds, where its tables are declared as `create` declares
-    /// them. Whatever tables it holds, it is opened only where each column that is read stands. The
-    /// version is asked before the other tables are read. The fault is `NewerVersion` only where
-    /// tables that note their version note a later one, and `NotADesk` only where they note none,
-    /// or the first and a column that is read is missing or what they hold is no office. A refusal
-    /// hands back the connection, or the store where that could not be read again, its tables as
-    /// they were. A connection in a transaction is refused as `Store` and handed back as it was. A
-    /// limit of steps that was set on the connection is not kept. Of a desk that is opened a crash
-    /// leaves the tables that are read, and nothing else; after a refusal it leaves nothing that it
-    /// did not leave before.
+    /// them, indexes included. Whatever tables it holds, it is opened only where each column that is
+    /// read stands. So a desk also opens after another program ran `ANALYZE`, made a further table,
+    /// index, view or column, or dropped an index; of such a desk no clause says more.
+    ///
+    /// The version is asked before the other tables are read. The fault is `NewerVersion` only where
+    /// the database understands the text that reads the version, and it shows a later one. Of tables
+    /// that note their version, as those of version 1 do, it is `NotADesk` only where they note
+    /// none, or the first and a column that is read is missing or what they hold is no office.
+    /// Tables that are whole are refused as `Store` or `Memory` alone.
+    ///
+    /// A refusal hands back the connection, or the store where that could not be read again, its
+    /// tables as they were. A connection in a transaction is refused as `Store` and handed back as
+    /// it was. A limit of steps that was set on the connection is not kept. Of a desk that is opened
+    /// a crash leaves the tables that are read, whole, and nothing else. After a refusal it leaves
+    /// nothing that it did not leave before.
     pub fn open(alloc: Global, conn: Connection<S>) -> Result<Desk<S>, (OpenFault, HandedBack<S>)>
         ensures stands { IfOk result (λ desk. IfDeclared S.Store conn desk
-            ((office : OfficeLists) × Stands (state S.Store desk) office)) }
+            ((office : OfficeLists) × Stands (state S.Store desk) office
+            × LeavesWhole (state S.Store desk) office)) }
+        ensures whole { IfOk result (λ desk. OpensWhole S.Store conn desk) }
         ensures same { IfOk result (λ desk. KeepsTables S.Store conn desk) }
         ensures is_open { IfOk result (λ desk. StaysOpen S.Store desk) }
         ensures version { IfOk result (λ desk. HadVersionOne S.Store conn desk) }
@@ -97,7 +107,9 @@ impl<S: Alter + Drop> Desk<S> {
         requires none { conn.in_transaction ≡ false }
         requires rising { HasCleanDisk (state S.Store conn) → RowsRise (state S.Store conn) }
         ensures stands { IfOk result (λ desk. IfDeclared S.Store conn desk
-            ((office : OfficeLists) × Stands (state S.Store desk) office)) }
+            ((office : OfficeLists) × Stands (state S.Store desk) office
+            × LeavesWhole (state S.Store desk) office)) }
+        ensures whole { IfOk result (λ desk. OpensWhole S.Store conn desk) }
         ensures same { IfOk result (λ desk. KeepsTables S.Store conn desk) }
         ensures is_open { IfOk result (λ desk. StaysOpen S.Store desk) }
         ensures version { IfOk result (λ desk. HadVersionOne S.Store conn desk) }

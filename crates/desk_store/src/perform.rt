@@ -3,11 +3,13 @@ ghost use Rattle.std.specs.Prelude.{◌≡◌, IfOk, IsTrue, None, Ok, OnOk};
 ghost use Rattle.std.specs.Fn.{FnOnceReturnsAt};
 ghost use Rattle.desk_opening.specs.Crashes.{LeavesItself};
 ghost use Rattle.desk_opening.specs.Opened.{OnDone};
+ghost use Rattle.desk_opening.specs.Whole.{LeavesWhole};
 ghost use Rattle.desk_schema.specs.Statements.{WasOpen};
 ghost use Rattle.desk_store.specs.Joins.{AreAfter, IsAsItWas, Leaves, made_by};
 ghost use Rattle.desk_store.specs.Reads.{OfOffice, OfOfficeInside, WritesIfAny};
 ghost use Rattle.desk_records.specs.Standing.{Stands};
 ghost use Rattle.meeting_core.specs.Step.{decided, stepped};
+ghost use Rattle.sqlite.specs.Effect.{IsDatabase};
 ghost use Rattle.sqlite.specs.Held.{state};
 ghost use Rattle.sqlite.specs.State.{IsUnchanged, KeepsCommit, Survives};
 
@@ -47,7 +49,8 @@ fn step<S: Alter, T: Drop, F: FnOnce(&Reply) -> Result<T, AllocError>>(
     ensures same_reference { tx.new.conn.ghost_name ≡ tx.old.conn.ghost_name }
     ensures shown { OfOfficeInside S.Store tx.old.conn.now tx.new.conn.now (λ office. IfOk result
         (λ t. FnOnceReturnsAt F.FnOnce show (decided office call.now).reply (Ok t)
-        × Stands (state S.Store tx.new.conn.now) (stepped office call.now))) }
+        × Stands (state S.Store tx.new.conn.now) (stepped office call.now)
+        × IsDatabase (state S.Store tx.new.conn.now).now)) }
     ensures inside { OfOfficeInside S.Store tx.old.conn.now tx.new.conn.now
         (λ _. OnOk result (IsTrue (state S.Store tx.new.conn.now).in_transaction)) }
     ensures kept { OfOffice S.Store tx.old.conn.now tx.new.conn.now
@@ -69,8 +72,9 @@ impl<S: Alter> Desk<S> {
     /// Makes one call, in one transaction with one commit: the tables are then the office after the
     /// step. `show` is asked once for what is answered of the reply, before the commit. After a
     /// failure, that of `show` included, the tables are as they were; a call that changes nothing
-    /// writes nothing. After an answer a crash leaves the tables that are read, and nothing else;
-    /// after a failure it leaves what it left before, or the office after the step.
+    /// writes nothing. After an answer a crash leaves the tables that are read, whole, and nothing
+    /// else. After a failure it leaves what it left before, or whole the office after the step. A
+    /// store that is shut commits nothing.
     pub fn perform<T: Drop, F: FnOnce(&Reply) -> Result<T, AllocError>>(
         &mut self,
         call: Call,
@@ -85,12 +89,15 @@ impl<S: Alter> Desk<S> {
         ensures stays_open { OnDone S.Store self.new result
             (IsTrue (state S.Store self.new).is_open) }
         ensures settled { OnDone S.Store self.new result (LeavesItself (state S.Store self.new)) }
+        ensures whole { OfOffice S.Store self.old self.new (λ office. OnOk result
+            (LeavesWhole (state S.Store self.new) (stepped office call))) }
         ensures still { OfOffice S.Store self.old self.new (λ office.
             (decided office call).change ≡ None → OnOk result
             (IsAsItWas (state S.Store self.old) (state S.Store self.new))) }
         ensures crash { Survives (state S.Store self.old) (state S.Store self.new)
             (AreAfter (state S.Store self.old) call) }
     {
+        self.ask_open()?;
         let _ = self.conn.is_autocommit();
         let mut tx = self.conn.transaction();
         let shown = step(&mut tx, self.alloc, &call, show).map_err(failure_of)?;

@@ -1,7 +1,7 @@
 //! What the tables tell, read within a transaction.
 ghost use Rattle.std.specs.Prelude.{◌≡◌};
 ghost use Rattle.desk_store.specs.Faults.{failure_of, fault_of_book};
-ghost use Rattle.desk_store.specs.Reads.{AreOwn, IsCallerWith, IsPublic, IsTold, IsWhole};
+ghost use Rattle.desk_store.specs.Reads.{AreOwn, IsCallerWith, IsPublic, IsTold, IsBookOf};
 
 use caller_view::OwnView;
 use desk_reading::{ReadFault, read_office};
@@ -39,7 +39,7 @@ pub(crate) fn read_book<S: Alter>(
     alloc: Global,
 ) -> Result<Book, ReadFault>
     ensures same_reference { tx.new.conn.ghost_name ≡ tx.old.conn.ghost_name }
-    ensures tells { IsTold S.Store tx.old.conn.now tx.new.conn.now result IsWhole }
+    ensures tells { IsTold S.Store tx.old.conn.now tx.new.conn.now result IsBookOf }
 {
     let lists = read_office(tx, alloc)?;
     Book::of_lists(alloc, lists).map_err(fault_of_book)

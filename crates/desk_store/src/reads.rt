@@ -1,10 +1,10 @@
 //! What the tables say, without a change. Of a desk that is read a crash leaves what it left
-//! before, and after an answer the tables that are read, and nothing else.
+//! before, also where its store is shut, and after an answer the tables that are read, and nothing
+//! else.
 ghost use Rattle.std.specs.Prelude.{◌≡◌, IfOk, IsTrue, None};
 ghost use Rattle.desk_opening.specs.Crashes.{LeavesItself};
 ghost use Rattle.desk_opening.specs.Opened.{OnDone};
-ghost use Rattle.desk_schema.specs.Statements.{IsDesk};
-ghost use Rattle.desk_store.specs.Joins.{Leaves};
+ghost use Rattle.desk_store.specs.Joins.{IsDeskIfOpen, Leaves};
 ghost use Rattle.caller_view.specs.Views.{own_of, public_of};
 ghost use Rattle.desk_store.specs.Reads.{OfOffice, caller_with};
 ghost use Rattle.sqlite.specs.Held.{state};
@@ -27,9 +27,10 @@ impl<S: Alter> Desk<S> {
         ensures stays_open { OnDone S.Store self.new result
             (IsTrue (state S.Store self.new).is_open) }
         ensures settled { OnDone S.Store self.new result (LeavesItself (state S.Store self.new)) }
-        ensures crash { IsDesk (state S.Store self.old)
+        ensures crash { IsDeskIfOpen (state S.Store self.old)
             → Survives (state S.Store self.old) (state S.Store self.new) (λ _. ⊥) }
     {
+        self.ask_open()?;
         let _ = self.conn.is_autocommit();
         let mut tx = self.conn.transaction();
         let found = read_caller(&mut tx, self.alloc, key).map_err(failure_of)?;
@@ -45,9 +46,10 @@ impl<S: Alter> Desk<S> {
         ensures stays_open { OnDone S.Store self.new result
             (IsTrue (state S.Store self.new).is_open) }
         ensures settled { OnDone S.Store self.new result (LeavesItself (state S.Store self.new)) }
-        ensures crash { IsDesk (state S.Store self.old)
+        ensures crash { IsDeskIfOpen (state S.Store self.old)
             → Survives (state S.Store self.old) (state S.Store self.new) (λ _. ⊥) }
     {
+        self.ask_open()?;
         let _ = self.conn.is_autocommit();
         let mut tx = self.conn.transaction();
         let book = read_book(&mut tx, self.alloc).map_err(failure_of)?;
@@ -64,9 +66,10 @@ impl<S: Alter> Desk<S> {
         ensures stays_open { OnDone S.Store self.new result
             (IsTrue (state S.Store self.new).is_open) }
         ensures settled { OnDone S.Store self.new result (LeavesItself (state S.Store self.new)) }
-        ensures crash { IsDesk (state S.Store self.old)
+        ensures crash { IsDeskIfOpen (state S.Store self.old)
             → Survives (state S.Store self.old) (state S.Store self.new) (λ _. ⊥) }
     {
+        self.ask_open()?;
         let _ = self.conn.is_autocommit();
         let mut tx = self.conn.transaction();
         let kept = read_record(&mut tx, self.alloc, meeting).map_err(failure_of)?;
@@ -89,9 +92,10 @@ impl<S: Alter> Desk<S> {
         ensures stays_open { OnDone S.Store self.new result
             (IsTrue (state S.Store self.new).is_open) }
         ensures settled { OnDone S.Store self.new result (LeavesItself (state S.Store self.new)) }
-        ensures crash { IsDesk (state S.Store self.old)
+        ensures crash { IsDeskIfOpen (state S.Store self.old)
             → Survives (state S.Store self.old) (state S.Store self.new) (λ _. ⊥) }
     {
+        self.ask_open()?;
         let _ = self.conn.is_autocommit();
         let mut tx = self.conn.transaction();
         let own = read_things(&mut tx, self.alloc, party, meeting, now).map_err(failure_of)?;

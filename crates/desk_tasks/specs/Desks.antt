@@ -12,12 +12,12 @@ use Rattle.desk_endings.specs.Endings.{Ending, ending, ended_by}
 use Rattle.desk_endings.specs.declared.ended.Fault.{Fault}
 use Rattle.desk_endings.specs.declared.ended.Fault.TheVariants as fault
 use Rattle.desk_records.specs.Standing.{Stands}
-use Rattle.desk_opening.specs.Opening.{IsOpenCause}
+use Rattle.desk_opening.specs.Opened.{IsWhyUnopened}
 use Rattle.desk_opening.specs.declared.fault.CreateFault.{CreateFault}
 use Rattle.desk_opening.specs.declared.fault.CreateFault.TheVariants as creating
 use Rattle.desk_opening.specs.declared.fault.OpenFault.{OpenFault}
 use Rattle.desk_opening.specs.declared.fault.OpenFault.TheVariants as opening
-use Rattle.desk_tables.specs.Versions.{NotesVersion}
+use Rattle.desk_opening.specs.declared.opening.HandedBack.TheVariants as handed
 
 -- a database that held something is told to be not empty, and no other is; one that held nothing
 -- is a desk that holds nothing, or the store failed, or memory ran out
@@ -46,13 +46,11 @@ open_fault opening.Memory = fault.Memory
 abbrev pub EndsUnopened : Ending → Type 0
 EndsUnopened end = (why : OpenFault) × (end ≡ ended_by (open_fault why))
 
--- so it ends over these tables, whatever they are: where they note their version, the fault is why
--- they are not opened
+-- so it ends over these tables, whatever they are: the fault is why they are not opened
 abbrev pub IsUnopened : {S : Type 0} → store.Ghosts S → Held S → Ending → Held S → Type 0
 IsUnopened g conn end back =
     (why : OpenFault) × (end ≡ ended_by (open_fault why))
-    × (HasCleanDisk (state g back) → NotesVersion (state g conn).now.schema
-    → IsOpenCause why (state g conn))
+    × IsWhyUnopened g conn why (handed.Connection back)
 
 -- the fault for which a file was not opened as a database
 abbrev pub file_fault : Error → Fault

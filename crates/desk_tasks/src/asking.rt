@@ -2,6 +2,7 @@
 ghost use Rattle.std.specs.Prelude.{◌≡◌, ◌≢◌, ◌⊎◌, IfOk, IsTrue};
 ghost use Rattle.desk_endings.specs.Endings.{ended_view};
 ghost use Rattle.desk_records.specs.Standing.{Stands};
+ghost use Rattle.desk_store.specs.Joins.{ShutsByFault};
 ghost use Rattle.desk_tasks.specs.Loading.{by_office, ended_by_failure, ended_by_reply, Answers};
 ghost use Rattle.desk_words.specs.declared.office.OfficeLists.{OfficeLists};
 ghost use Rattle.sqlite.specs.Held.{state};
@@ -43,6 +44,7 @@ pub(crate) fn ask<S: Alter>(desk: &mut Desk<S>, now: Moment, request: Request) -
     ensures same { HasCleanDisk (state S.Store desk.new) → IsTrue (state S.Store desk.new).is_open
         → (office : OfficeLists) → Stands (state S.Store desk.old) office
         → result.status ≢ 0 → Stands (state S.Store desk.new) office }
+    ensures closes { ShutsByFault (state S.Store desk.old) (state S.Store desk.new) }
 {
     let call = Call {
         moment: now,

@@ -6,6 +6,7 @@ ghost use Rattle.desk_files.specs.Keys.{key_file};
 ghost use Rattle.desk_files.specs.Registers.{register_file};
 ghost use Rattle.desk_files.specs.declared.whole.TheConstants.{DAY_FILE_LIMIT, FILE_LIMIT};
 ghost use Rattle.desk_records.specs.Standing.{Stands};
+ghost use Rattle.desk_store.specs.Joins.{ShutsByFault};
 ghost use Rattle.desk_tasks.specs.Loading.{Follows, Loads};
 ghost use Rattle.desk_tasks.specs.Reading.{load_asked, reader_at, with_days, with_keys, with_register};
 ghost use Rattle.desk_words.specs.declared.office.OfficeLists.{OfficeLists};
@@ -71,6 +72,7 @@ fn load<S: Alter>(desk: &mut Desk<S>, now: Moment, file: Result<Request, FileFau
     ensures same { HasCleanDisk (state S.Store desk.new) → IsTrue (state S.Store desk.new).is_open
         → (office : OfficeLists) → Stands (state S.Store desk.old) office
         → result.status ≢ 0 → Stands (state S.Store desk.new) office }
+    ensures closes { ShutsByFault (state S.Store desk.old) (state S.Store desk.new) }
 {
     match file {
         Ok(request) => ask(desk, now, request),
@@ -83,8 +85,9 @@ fn load<S: Alter>(desk: &mut Desk<S>, now: Moment, file: Result<Request, FileFau
 ///
 /// A fault of the file ends with 3 and its line and cause, and nothing is asked. `ReadFault` says
 /// that a read failed or that more bytes came than the file may have. `Memory` ends with 3 too, and
-/// so does `Store`, only where the office was asked. With any other status than 0 the tables are
-/// the office that they were.
+/// so does `Store`, only where the office was asked. With any other status than 0 the tables of an
+/// open store are the office that they were. An open store stays open, or its disk failed in this
+/// call.
 pub fn keys<S: Alter, R: Source>(
     alloc: Global,
     desk: &mut Desk<S>,
@@ -100,6 +103,7 @@ pub fn keys<S: Alter, R: Source>(
     ensures same { HasCleanDisk (state S.Store desk.new) → IsTrue (state S.Store desk.new).is_open
         → (office : OfficeLists) → Stands (state S.Store desk.old) office
         → result.status ≢ 0 → Stands (state S.Store desk.new) office }
+    ensures closes { ShutsByFault (state S.Store desk.old) (state S.Store desk.new) }
     ensures bound { R.passed reader.new ≤ R.passed reader.old + FILE_LIMIT + 1 }
 {
     let file = read_keys(alloc, reader);
@@ -122,6 +126,7 @@ pub fn days<S: Alter, R: Source>(
     ensures same { HasCleanDisk (state S.Store desk.new) → IsTrue (state S.Store desk.new).is_open
         → (office : OfficeLists) → Stands (state S.Store desk.old) office
         → result.status ≢ 0 → Stands (state S.Store desk.new) office }
+    ensures closes { ShutsByFault (state S.Store desk.old) (state S.Store desk.new) }
     ensures bound { R.passed reader.new ≤ R.passed reader.old + DAY_FILE_LIMIT + 1 }
 {
     let file = read_days(alloc, reader);
@@ -148,6 +153,7 @@ pub fn register<S: Alter, R: Source>(
     ensures same { HasCleanDisk (state S.Store desk.new) → IsTrue (state S.Store desk.new).is_open
         → (office : OfficeLists) → Stands (state S.Store desk.old) office
         → result.status ≢ 0 → Stands (state S.Store desk.new) office }
+    ensures closes { ShutsByFault (state S.Store desk.old) (state S.Store desk.new) }
     ensures bound { R.passed reader.new ≤ R.passed reader.old + FILE_LIMIT + 1 }
 {
     let file = read_register(alloc, reader);

@@ -7,6 +7,7 @@ ghost use Rattle.desk_devices.specs.Written.{AppendsPrefix};
 ghost use Rattle.desk_endings.specs.Endings.{ended_view};
 ghost use Rattle.desk_papers.specs.Results.{results_of};
 ghost use Rattle.desk_records.specs.Standing.{Stands};
+ghost use Rattle.desk_store.specs.Joins.{ShutsByFault};
 ghost use Rattle.desk_tasks.specs.Results.{Prints, PrintsRecord, Writer};
 ghost use Rattle.desk_words.specs.declared.office.OfficeLists.{OfficeLists};
 ghost use Rattle.sqlite.specs.Held.{state};
@@ -59,6 +60,7 @@ pub fn results<S: Alter, W: Sink>(
     ensures same { HasCleanDisk (state S.Store desk.new) → IsTrue (state S.Store desk.new).is_open
         → (office : OfficeLists) → Stands (state S.Store desk.old) office
         → Stands (state S.Store desk.new) office }
+    ensures closes { ShutsByFault (state S.Store desk.old) (state S.Store desk.new) }
 {
     match desk.read_public(meeting) {
         Ok(kept) => print(alloc, &kept.record(), writer),

@@ -12,14 +12,14 @@ returns-in_err-show-clause-kept g c =
     step_keeps g.S.Store c.args.tx.now.conn.now c.decide.new.tx.conn.now c.write_if_any.new.tx.conn.now c.args.call.now c.in_ok-answer.answer c.in_ok-answer.ensures.tells _ c.in_ok-write_if_any.ensures.writes
 
 pub returns-clause-shown : goal.returns-clause-shown
-returns-clause-shown g c = λ clean inside office stands.
-    let it = step_holds g.S.Store c.args.tx.now.conn.now c.decide.new.tx.conn.now c.write_if_any.new.tx.conn.now c.args.call.now c.in_ok-answer.answer c.in_ok-answer.ensures.tells c.in_ok-write_if_any.field-0 c.decided_changes_can_be_made.ensures c.in_ok-write_if_any.ensures.writes clean inside office stands in
+returns-clause-shown g c = λ clean inside sound office stands.
+    let it = step_holds g.S.Store c.args.tx.now.conn.now c.decide.new.tx.conn.now c.write_if_any.new.tx.conn.now c.args.call.now c.in_ok-answer.answer c.in_ok-answer.ensures.tells c.in_ok-write_if_any.field-0 c.decided_changes_can_be_made.ensures c.in_ok-write_if_any.ensures.writes clean inside sound office stands in
     let shown : FnOnceReturnsAt g.F.FnOnce c.args.show c.in_ok-answer.answer.reply (Ok c.in_ok-show.field-0) = search rules in
-    (subst (λ r. FnOnceReturnsAt g.F.FnOnce c.args.show r (Ok c.in_ok-show.field-0)) (sym it.2) shown, it.0)
+    (subst (λ r. FnOnceReturnsAt g.F.FnOnce c.args.show r (Ok c.in_ok-show.field-0)) (sym it.2) shown, it.0.0, it.0.1)
 
 pub returns-clause-inside : goal.returns-clause-inside
-returns-clause-inside g c = λ clean inside office stands.
-    (step_holds g.S.Store c.args.tx.now.conn.now c.decide.new.tx.conn.now c.write_if_any.new.tx.conn.now c.args.call.now c.in_ok-answer.answer c.in_ok-answer.ensures.tells c.in_ok-write_if_any.field-0 c.decided_changes_can_be_made.ensures c.in_ok-write_if_any.ensures.writes clean inside office stands).1
+returns-clause-inside g c = λ clean inside sound office stands.
+    (step_holds g.S.Store c.args.tx.now.conn.now c.decide.new.tx.conn.now c.write_if_any.new.tx.conn.now c.args.call.now c.in_ok-answer.answer c.in_ok-answer.ensures.tells c.in_ok-write_if_any.field-0 c.decided_changes_can_be_made.ensures c.in_ok-write_if_any.ensures.writes clean inside sound office stands).1
 
 pub returns-clause-kept : goal.returns-clause-kept
 returns-clause-kept g c =

@@ -1,0 +1,57 @@
+-- Tables that are whole, as a crash may leave them and as `open` finds them.
+use Rattle.std.specs.Prelude.{◌≡◌, [], ◌∷◌, Some, Result, OnOk, IsTrue}
+use Rattle.sqlite.specs.Effect.{IsDatabase}
+use Rattle.sqlite.specs.Held.{Held, state}
+use Rattle.sqlite.specs.State.{State, HasCleanDisk, IsUnchanged, Survives}
+use Rattle.sqlite.specs.Tree.{Trees}
+use Rattle.sqlite_catalog.specs.Listing.{AreListed}
+use Rattle.sqlite_trees.specs.Objects.{catalog_tree}
+use Rattle.sqlite_trees.specs.declared.store.Store as store
+use Rattle.desk_words.specs.declared.office.OfficeLists.{OfficeLists}
+use Rattle.desk_words.specs.Office.{is_office}
+use Rattle.desk_schema.specs.Contents.{desk}
+use Rattle.desk_schema.specs.Statements.{records_in}
+use Rattle.desk_schema.specs.Tables.{desk_schema}
+use Rattle.desk_records.specs.Office.{office_in}
+use Rattle.desk_records.specs.Standing.{Stands, version_one}
+
+-- these tables are whole, and they are this office: the database lists them as a desk's are
+-- declared, they note version 1, and what they hold is the office
+pub record IsWhole (db : Trees) (office : OfficeLists) : Type 0 where
+  pub declared : AreListed (db catalog_tree) desk_schema
+  pub version : records_in desk db ≡ Some (version_one ∷ [])
+  pub holds : office_in db ≡ Some office
+  pub kept : IsTrue (is_office office)
+
+-- whether the store is open is asked: nothing is changed, and a crash leaves what it left before
+pub record AsksOpen {S T E : Type 0} (g : store.Ghosts S) (old new : Held S) (result : Result T E)
+    : Type 0 where
+  pub crash : Survives (state g old) (state g new) (λ _. ⊥)
+  -- an open store was open before, and shows the same tables
+  pub same : HasCleanDisk (state g new) → IsTrue (state g new).is_open
+      → IsTrue (state g old).is_open × ((state g new).now ≡ (state g old).now)
+  -- so it is answered only where the store is open; the database then lists its tables as they are
+  -- declared
+  pub still : HasCleanDisk (state g new)
+      → OnOk result (IsUnchanged (state g old) (state g new) × IsDatabase (state g new).now)
+
+-- a crash leaves this office whole, and nothing else
+abbrev pub LeavesWhole : State → OfficeLists → Type 0
+LeavesWhole s office = (db : Trees) → s.may_leave db → IsWhole db office
+
+-- tables that were whole are opened as their office
+abbrev pub OpensWhole : {S : Type 0} → store.Ghosts S → Held S → Held S → Type 0
+OpensWhole g old new =
+    HasCleanDisk (state g new) → (office : OfficeLists) → IsWhole (state g old).now.trees office
+    → Stands (state g new) office
+
+-- what a crash leaves whole, `open` opens as that office: where a connection shows tables that a
+-- crash may leave of a desk which it leaves whole
+abbrev pub OpensAgain : {S : Type 0} → store.Ghosts S → Type 0
+OpensAgain {S} g =
+    (desk conn opened : Held S) (office : OfficeLists)
+    → LeavesWhole (state g desk) office
+    → (state g desk).may_leave (state g conn).now.trees
+    → OpensWhole g conn opened
+    → HasCleanDisk (state g opened)
+    → Stands (state g opened) office

@@ -1,0 +1,5 @@
+use Rattle.desk_store.proofs.RunLaws.{crashes_run}
+use Rattle.desk_store.proofs.laws.crashes_leave_a_run.Goals as goal
+
+pub returns : goal.returns
+returns g c = crashes_run g.S.Store
