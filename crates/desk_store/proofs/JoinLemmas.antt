@@ -2,7 +2,7 @@
 use Rattle.std.proofs.Common.{◌≡◌, inl, inr, [], Option, None, Ok, Err, Result, IsErr, true, false, IsTrue, sym, ap, subst, ◌∙◌, true≢false, arith}
 use Rattle.sqlite.specs.Effect.{Database, IsDatabase}
 use Rattle.sqlite.specs.Held.{Held, state}
-use Rattle.sqlite.specs.State.{State, HasCleanDisk, IsUnchanged, KeepsCommit, KeepsCounts, Shows, Survives}
+use Rattle.sqlite.specs.State.{State, HasCleanDisk, IsRolledBack, IsUnchanged, KeepsCommit, KeepsCounts, Shows, Survives}
 use Rattle.sqlite.specs.Steps.{FailsToCommit}
 use Rattle.sqlite.specs.Tree.{Trees}
 use Rattle.sqlite.specs.declared.error.Error.{Error}
@@ -82,6 +82,21 @@ module _ {S : Type 0} (g : store.Ghosts S) (a first b new : Held S) (begun : fir
     counts = over_all.counts;
     ended = ended;
     stands = λ clean is_open office stands. stands_same (state g b) (state g new) (office_after office made) (shows clean).now_is (there (mid_clean clean) office (stands_begun office stands));
+  }
+
+  -- the transaction is rolled back
+  pub dropped : (HasCleanDisk (state g new) → IsRolledBack (state g b) (state g new)) → (IsTrue (state g a).is_open → (state g a).now ≡ (state g a).committed) → Leaves None (state g a) (state g new)
+  dropped undone settled = record {
+    was_clean = desk_clean;
+    was_open = λ clean is_open. desk_open (within.was_open (mid_clean clean) ((undone clean).was_open is_open));
+    closes = over_all.closes;
+    counts = over_all.counts;
+    ended = ended;
+    stands = λ clean is_open office stands.
+        let mid_open = (undone clean).was_open is_open in
+        let kept = within.kept (mid_clean clean) office (stands_begun office stands) in
+        let committed_is = ap (λ (it : Held S). (state g it).committed) begun in
+        stands_same (state g a) (state g new) office (((undone clean).undone is_open).0 ∙ kept.committed mid_open ∙ committed_is ∙ sym (settled (desk_open (kept.was_open mid_open)))) stands;
   }
 
   -- the commit fails, of a transaction that has not ended

@@ -7,7 +7,7 @@ use Rattle.desk_records.specs.Standing.{Stands}
 use Rattle.desk_schema.specs.Statements.{IsDesk}
 use Rattle.desk_store.specs.Reads.{IsBookOf}
 use Rattle.desk_opening.proofs.CrashLemmas.{nothing_then}
-use Rattle.desk_store.proofs.JoinLemmas.{IsOver, asked_stands, asked_stop, desk_behind, desk_clean, leaves_behind, committed, itself_after, not_committed, survives_read, told_within}
+use Rattle.desk_store.proofs.JoinLemmas.{IsOver, asked_stands, asked_stop, desk_behind, desk_clean, leaves_behind, committed, dropped, itself_after, not_committed, survives_nothing, survives_read, told_within}
 use Rattle.desk_store.proofs.KeepingLemmas.{stands_same}
 use Rattle.desk_store.proofs.ReadLemmas.{error_of, mapped_failed, mapped_is, mapped_on}
 use Rattle.desk_store.proofs.desk.Desk.book.Goals as goal
@@ -83,3 +83,14 @@ returns-clause-settled g c = λ clean.
 
 pub returns-in_err-ask_open-clause-leaves : goal.returns-in_err-ask_open-clause-leaves
 returns-in_err-ask_open-clause-leaves g c = asked_stop g.S.Store c.args.self.now c.ask_open.new.self c.ask_open.ensures.ended c.in_err-ask_open.ensures.asked
+
+pub returns-in_err-book-clause-leaves : goal.returns-in_err-book-clause-leaves
+returns-in_err-book-clause-leaves g c =
+    let old = state g.S.Store c.ask_open.new.self in
+    let end = state g.S.Store c.drop-tx.new.self.0 in
+    let begun : c.transaction-tx.result.conn.now ≡ record c.ask_open.new.self { in_transaction = true } = search rules in
+    let within = told_within g.S.Store c.transaction-tx.result.conn.now c.read_book.new.tx.conn.now c.read_book.result IsBookOf c.read_book.ensures.tells in
+    let settled : IsTrue old.is_open → old.now ≡ old.committed = search rules in
+    leaves_behind g.S.Store c.args.self.now c.ask_open.new.self c.in_ok-ask_open.ensures.asked None end
+    (dropped g.S.Store c.ask_open.new.self c.transaction-tx.result.conn.now c.read_book.new.tx.conn.now c.drop-tx.new.self.0 begun within c.drop-tx.ensures.ended
+    (survives_nothing (state g.S.Store c.read_book.new.tx.conn.now) end (λ db. db ≡ (state g.S.Store c.read_book.new.tx.conn.now).now.trees) c.drop-tx.ensures.survives) c.drop-tx.ensures.undone settled)
