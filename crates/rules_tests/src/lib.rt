@@ -13,3 +13,5 @@ mod papers;
 mod polls;
 #[cfg(test)]
 mod proxies;
+#[cfg(test)]
+mod votes;

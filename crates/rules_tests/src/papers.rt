@@ -58,21 +58,24 @@ pub(crate) fn moment(text: &str) -> Result<Moment, Fail> {
     Ok(read_moment(text.as_bytes()).ok_or("a moment")?)
 }
 
-fn row(alloc: Global, member: &str, shares: u64) -> Result<RegisterRow, Fail> {
+fn row(alloc: Global, member: &str, kind: HolderKind, shares: u64) -> Result<RegisterRow, Fail> {
     Ok(RegisterRow {
         member: party(member)?,
-        kind: HolderKind::Individual,
+        kind,
         name: Text::new(alloc, b"Ada").ok().ok_or("a text")?,
         shares,
         paid: 100,
     })
 }
 
-/// Individuals, each with so many shares and 100 pence paid up on each.
-pub(crate) fn register(alloc: Global, holdings: &[(&str, u64)]) -> Result<Register, Fail> {
+/// Holders, each with so many shares and 100 pence paid up on each.
+pub(crate) fn register(
+    alloc: Global,
+    holdings: &[(&str, HolderKind, u64)],
+) -> Result<Register, Fail> {
     let mut rows = Vec::new(alloc);
-    for (member, shares) in holdings {
-        rows.push(row(alloc, member, *shares)?)?;
+    for (member, kind, shares) in holdings {
+        rows.push(row(alloc, member, *kind, *shares)?)?;
     }
     Ok(Register::new(rows).ok().ok_or("a register")?)
 }

@@ -1,6 +1,6 @@
 //! Majorities of any counts, and what a demand amounts to.
 use crate::papers::{Lists, moment, party, register};
-use desk_words::{DemandMark, ResKind};
+use desk_words::{DemandMark, HolderKind, ResKind};
 use poll_rules::{Cutoffs, Demand, carried, demand_reached};
 use std::alloc::Global;
 use std::test::Fail;
@@ -23,7 +23,14 @@ fn majorities_of_large_counts(rt: HostRuntime) {
 /// A demand of M1, who holds 90 of 1,000 shares.
 fn demanded(alloc: Global) -> Result<Demand, Fail> {
     let at = moment("2026-06-18T10:01:00")?;
-    let register = register(alloc, &[("M1", 90), ("M2", 10), ("M3", 900)])?;
+    let register = register(
+        alloc,
+        &[
+            ("M1", HolderKind::Individual, 90),
+            ("M2", HolderKind::Individual, 10),
+            ("M3", HolderKind::Individual, 900),
+        ],
+    )?;
     let demand = DemandMark {
         resolution: 1,
         party: party("M1")?,

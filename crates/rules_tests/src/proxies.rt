@@ -1,5 +1,5 @@
 //! Which appointment governs a share, asked for one share and for one appointment, as no request
-//! does.
+//! does, and over linked blocks.
 ghost use Rattle.std.specs.Prelude.{◌≡◌, ◌==◌, [], suc, count_by};
 ghost use Rattle.desk_words.specs.Names.{same_name};
 ghost use Rattle.desk_words.specs.Office.{are_numbered_after};
@@ -7,8 +7,9 @@ ghost use Rattle.desk_words.specs.declared.records.Appointment.{Appointment};
 ghost use Rattle.proxy_rules.specs.Holdings.{are_tags};
 
 use crate::papers::{Lists, moment, party, register};
-use desk_words::{Appointment, Ending, Filed, Listing, Party, Range};
-use proxy_rules::{Cutoffs, governed, governing};
+use desk_words::{Appointment, Ending, Filed, HolderKind, Listing, Party, Range};
+use proxy_rules::{Cutoffs, Holding, governed, governing};
+use share_blocks::LinkedBlocks;
 use std::alloc::Global;
 use std::test::Fail;
 
@@ -18,17 +19,18 @@ const LATE: &str = "2026-06-16T10:00:01";
 
 const OPENING: &str = "2026-06-18T10:00:00";
 
-fn cutoffs() -> Result<Cutoffs, Fail> {
+pub(crate) fn cutoffs() -> Result<Cutoffs, Fail> {
     Ok(Cutoffs {
         appointments: moment(IN_TIME)?,
         endings: moment(OPENING)?,
     })
 }
 
-/// An appointment by M1 of that number, over these places.
-fn appointment(
+/// An appointment of the proxy by M1, of that number and over these places.
+pub(crate) fn appointment(
     alloc: Global,
     number: u64,
+    proxy: &str,
     from: u64,
     to: u64,
     at: &str,
@@ -36,7 +38,7 @@ fn appointment(
     Ok(Appointment {
         member: party("M1")?,
         number,
-        proxy: party("P")?,
+        proxy: party(proxy)?,
         range: Range::new(from, to).ok_or("a range")?,
         instructions: Listing::new(alloc),
         moment: moment(at)?,
@@ -46,14 +48,14 @@ fn appointment(
 /// Number 1 over all shares, 2 over 41 to 60, 3 over 55 to 200, and 4, which is late.
 fn appointments(alloc: Global) -> Result<Filed<Appointment>, Fail> {
     let mut given = Filed::new(alloc);
-    given.push(appointment(alloc, 1, 1, 200, IN_TIME)?)?;
-    given.push(appointment(alloc, 2, 41, 60, IN_TIME)?)?;
-    given.push(appointment(alloc, 3, 55, 200, IN_TIME)?)?;
-    given.push(appointment(alloc, 4, 10, 20, LATE)?)?;
+    given.push(appointment(alloc, 1, "P", 1, 200, IN_TIME)?)?;
+    given.push(appointment(alloc, 2, "P", 41, 60, IN_TIME)?)?;
+    given.push(appointment(alloc, 3, "P", 55, 200, IN_TIME)?)?;
+    given.push(appointment(alloc, 4, "P", 10, 20, LATE)?)?;
     Ok(given)
 }
 
-fn ending(number: u64, at: &str) -> Result<Ending, Fail> {
+pub(crate) fn ending(number: u64, at: &str) -> Result<Ending, Fail> {
     Ok(Ending {
         member: party("M1")?,
         number,
@@ -72,7 +74,13 @@ fn lists(alloc: Global) -> Result<Lists, Fail> {
 
 /// The number of the appointment that governs a share, or 0, where M1 holds 100 shares.
 fn number_for(alloc: Global, member: &str, place: u64) -> Result<u64, Fail> {
-    let register = register(alloc, &[("M1", 100), ("M2", 50)])?;
+    let register = register(
+        alloc,
+        &[
+            ("M1", HolderKind::Individual, 100),
+            ("M2", HolderKind::Individual, 50),
+        ],
+    )?;
     let lists = lists(alloc)?;
     let papers = lists.papers(register.rows());
     Ok(governing(&cutoffs()?, &papers, party(member)?, place).unwrap_or(0))
@@ -99,7 +107,7 @@ fn the_last_appointment_governs(rt: HostRuntime) -> Result<(), Fail> {
     Ok(())
 }
 
-fn all_tags(appointments: &[Appointment]) -> bool
+pub(crate) fn all_tags(appointments: &[Appointment]) -> bool
     ensures { result ≡ are_tags appointments.now }
 {
     appointments.iter().all(|appointment| 1 <= appointment.number && appointment.number <= 256)
@@ -127,7 +135,7 @@ fn is_next(earlier: &[Appointment], appointment: &Appointment) -> bool
     appointment.number > 0 && appointment.number - 1 == count_by(earlier, appointment.member) as u64
 }
 
-fn all_numbered(given: &[Appointment]) -> bool
+pub(crate) fn all_numbered(given: &[Appointment]) -> bool
     ensures { result ≡ are_numbered_after [] given.now }
 {
     for index in 0..given.len() {
@@ -140,7 +148,7 @@ fn all_numbered(given: &[Appointment]) -> bool
 
 /// The runs of shares that an appointment of M1 governs.
 fn runs(alloc: Global, number: u64) -> Result<Vec<Range>, Fail> {
-    let register = register(alloc, &[("M1", 100)])?;
+    let register = register(alloc, &[("M1", HolderKind::Individual, 100)])?;
     let lists = lists(alloc)?;
     let given = lists.appointments.as_slice();
     if !all_tags(given) || !all_numbered(given) {
@@ -162,5 +170,51 @@ fn runs_end_with_the_holding(rt: HostRuntime) -> Result<(), Fail> {
     assert!(rt; is_one_run(&runs(rt.alloc(), 1)?, 1, 40));
     assert!(rt; is_one_run(&runs(rt.alloc(), 3)?, 55, 100));
     assert!(rt; runs(rt.alloc(), 2)?.is_empty() && runs(rt.alloc(), 4)?.is_empty());
+    Ok(())
+}
+
+/// The last place of each piece of a holding, with the number of what governs it, or 0, one piece
+/// after another.
+fn ends(alloc: Global, holding: &Holding) -> Result<Vec<u64>, Fail> {
+    if !holding.is_kept() {
+        return Err("no holding of an office".into());
+    }
+    let pieces = holding.pieces_by::<LinkedBlocks>(alloc, &cutoffs()?)?;
+    let mut ends = Vec::new(alloc);
+    for piece in &pieces {
+        ends.push(piece.range.to())?;
+        ends.push(holding.appointment(piece).map_or(0, |by| by.number))?;
+    }
+    Ok(ends)
+}
+
+/// A hundred shares, all of which M1 appointed for; 41 to 60 again, and this appointment is ended.
+fn replaced(alloc: Global) -> Result<Holding, Fail> {
+    let mut given = Vec::new(alloc);
+    given.push(appointment(alloc, 1, "P", 1, 100, "2026-06-02T09:00:00")?)?;
+    given.push(appointment(alloc, 2, "Q", 41, 60, "2026-06-03T09:00:00")?)?;
+    Ok(Holding {
+        shares: 100,
+        appointed: Listing::from_vec(given),
+        ended: Listing::from_vec(vec![in alloc; ending(2, "2026-06-04T09:00:00")?]?),
+    })
+}
+
+fn unappointed(alloc: Global, shares: u64) -> Holding {
+    Holding {
+        shares,
+        appointed: Listing::new(alloc),
+        ended: Listing::new(alloc),
+    }
+}
+
+#[test]
+fn what_governs_over_linked_blocks(rt: HostRuntime) -> Result<(), Fail> {
+    let wanted: &[u64] = &[40, 1, 60, 0, 100, 1];
+    assert!(rt; ends(rt.alloc(), &replaced(rt.alloc())?)?.as_slice() == wanted);
+    for shares in [50, 999_995, 1_000_000_000_000] {
+        let found = ends(rt.alloc(), &unappointed(rt.alloc(), shares))?;
+        assert!(rt; found.as_slice() == [shares, 0].as_slice(), "{shares}");
+    }
     Ok(())
 }
