@@ -75,6 +75,11 @@ makes_found r found now heard who a b c is one two = record {
 pub unmade : {T E : Type 0} (r : Result T E) (call : Option Call) (e : E) (old new : State) → r ≡ Err e → Leaves (if_ok r call) old new → Leaves None old new
 unmade r call e old new is leaves = subst (λ q. Leaves (if_ok q call) old new) is leaves
 
+-- nor did what failed behind a reading
+pub unmade_behind : {T E : Type 0} (r : Result T E) (call : Option Call) (a b c : State) → Leaves None a b → Leaves (if_ok r call) b c → OnErr r (Leaves None a c)
+unmade_behind (Ok x) call a b c one two = tt
+unmade_behind (Err e) call a b c one two = leaves_then None a b c one two
+
 -- ---- what is replied
 
 module _ (s : State) (office : OfficeLists) (now : Moment) (stands : Stands s office) where
