@@ -33,8 +33,8 @@ CallsAreARun {S} g =
 
 -- ---- a crash at the end
 
--- what is asked of a desk: a reading, whether it is answered or fails, a call that is answered, or a
--- call that fails
+-- what is asked of a desk: a reading, whether it is answered or fails, a call that is answered, or
+-- a call that fails
 pub data Asked : Type 0 where
   Reads : Asked
   Answers : Call → Asked
