@@ -6,7 +6,8 @@ use crate::tables::Tables;
 use desk_endings::Ended;
 use desk_replies::reply_text;
 use desk_words::{
-    Call, Caller, DeskRequest, KeyRows, MeetingId, Moment, Party, Reply, Request, read_party,
+    Call, Caller, DayList, DeskRequest, KeyRows, MeetingId, Moment, Party, Reply, Request,
+    read_party,
 };
 use meeting_core::Book;
 use std::alloc::{AllocError, Global};
@@ -18,8 +19,9 @@ pub struct Beside {
     book: Book,
     meetings: Vec<MeetingId>,
     parties: Vec<Party>,
-    /// The keys that the book holds.
+    /// The keys that the office loaded last, and the closed days.
     keys: KeyRows,
+    closed: DayList,
     /// The moment of the last call.
     last: Option<Moment>,
 }
@@ -42,17 +44,17 @@ fn ended_by(reply: &Reply) -> Ended {
     }
 }
 
-/// What a book replies where keys are loaded.
-fn reply_to_keys(
+/// The reply of a book to a request of the office that names no meeting.
+fn reply_to(
     alloc: Global,
     book: &Book,
-    keys: KeyRows,
+    asked: DeskRequest,
     moment: Moment,
 ) -> Result<Vec<u8>, AllocError> {
     let call = Call {
         moment,
         caller: Caller::Office,
-        request: Request::Desk(DeskRequest::Keys(keys)),
+        request: Request::Desk(asked),
     };
     let (reply, _) = book.decide(&call)?;
     reply_text(alloc, &reply)
@@ -67,6 +69,7 @@ impl Beside {
             meetings: Vec::new(alloc),
             parties: Vec::new(alloc),
             keys: KeyRows::empty(alloc),
+            closed: DayList::empty(alloc),
             last: None,
         }
     }
@@ -88,6 +91,16 @@ impl Beside {
         Ok(())
     }
 
+    /// Takes the keys or the closed days of a request that loads them.
+    fn take_lists(&mut self, request: &Request) -> Result<(), AllocError> {
+        match request {
+            Request::Desk(DeskRequest::Keys(rows)) => self.keys = rows.copy()?,
+            Request::Desk(DeskRequest::ClosedDays(days)) => self.closed = days.copy()?,
+            _ => (),
+        }
+        Ok(())
+    }
+
     /// Takes the moment and the meeting of a call, and the parties that its text names.
     pub fn take_names(&mut self, call: &Call, text: &[u8]) -> Result<(), AllocError> {
         self.last = Some(call.moment);
@@ -100,9 +113,17 @@ impl Beside {
         Ok(())
     }
 
+    /// Makes a call. Takes the keys or the closed days, where the office loads them by it.
+    fn step(&mut self, call: Call) -> Result<Reply, AllocError> {
+        if let Caller::Office = call.caller {
+            self.take_lists(&call.request)?;
+        }
+        self.book.step(call)
+    }
+
     /// Makes a call, and gives the text of its reply.
     pub fn perform(&mut self, call: Call) -> Result<Vec<u8>, AllocError> {
-        let reply = self.book.step(call)?;
+        let reply = self.step(call)?;
         reply_text(self.alloc, &reply)
     }
 
@@ -112,16 +133,13 @@ impl Beside {
             Ok(request) => request,
             Err(fault) => return Ok(Ended::by_file(fault)),
         };
-        if let Request::Desk(DeskRequest::Keys(rows)) = &request {
-            self.keys = rows.copy()?;
-        }
         let call = Call {
             moment: handed.now,
             caller: Caller::Office,
             request,
         };
         self.take_names(&call, handed.bytes)?;
-        Ok(ended_by(&self.book.step(call)?))
+        Ok(ended_by(&self.step(call)?))
     }
 
     /// Adds a line to an answer where other results of a meeting are printed than this text, or
@@ -135,10 +153,21 @@ impl Beside {
         print_failing(self.alloc, &self.book, meeting, text, answer)
     }
 
-    /// Whether a book replies as this one does where the keys that this one holds are loaded again.
-    fn has_keys_of(&self, book: &Book, moment: Moment) -> Result<bool, AllocError> {
-        let here = reply_to_keys(self.alloc, &self.book, self.keys.copy()?, moment)?;
-        let there = reply_to_keys(self.alloc, book, self.keys.copy()?, moment)?;
+    /// The replies of a book where the keys and then the closed days that were loaded last are
+    /// loaded again.
+    fn replies_to_lists(&self, book: &Book, moment: Moment) -> Result<Vec<u8>, AllocError> {
+        let keys = DeskRequest::Keys(self.keys.copy()?);
+        let mut text = reply_to(self.alloc, book, keys, moment)?;
+        let closed = DeskRequest::ClosedDays(self.closed.copy()?);
+        text.extend_from_slice(&reply_to(self.alloc, book, closed, moment)?)?;
+        Ok(text)
+    }
+
+    /// Whether both books reply alike where the keys and the closed days that were loaded last are
+    /// loaded again.
+    fn has_lists_of(&self, book: &Book, moment: Moment) -> Result<bool, AllocError> {
+        let here = self.replies_to_lists(&self.book, moment)?;
+        let there = self.replies_to_lists(book, moment)?;
         Ok(here.as_slice() == there.as_slice())
     }
 
@@ -183,8 +212,8 @@ impl Beside {
     }
 
     /// Whether a desk's book holds what this one holds, and the desk reads that where it reads less
-    /// than all: the keys, and of each meeting that was named its public record, and the own things
-    /// of each party that was named.
+    /// than all: the keys and the closed days, of each meeting that was named its public record, and
+    /// the own things of each party that was named.
     pub fn is_like(&self, book: &Book, tables: &mut Tables) -> Result<bool, AllocError> {
         let Some(moment) = self.last else {
             return Ok(true);
@@ -194,6 +223,6 @@ impl Beside {
                 return Ok(false);
             }
         }
-        self.has_keys_of(book, moment)
+        self.has_lists_of(book, moment)
     }
 }

@@ -2,7 +2,9 @@
 //!
 //! `> LINE` is a call, in the form of a line of a replay, and `$ WORDS` a command of the program, or
 //! something that is done to the database itself. `| LINE` is a line of the file that a command
-//! reads. `= LINE` is a line of the answer. Empty lines and lines that begin with `#` are comment.
+//! reads, `& 0D 0A` bytes of that file, and `* NUMBER` right under one of these gives it so many
+//! times. `= LINE` is a line of the answer. Empty lines and lines that begin with `#` are comment.
+use crate::given::{Given, Piece, bytes_of};
 use std::alloc::{AllocError, Global};
 
 /// What is asked of the desk.
@@ -27,7 +29,7 @@ pub struct Expected<'a> {
 pub struct Step<'a> {
     pub line: u64,
     pub asked: Asked<'a>,
-    pub given: Vec<&'a str>,
+    pub given: Vec<Given<'a>>,
     pub expected: Vec<Expected<'a>>,
 }
 
@@ -44,7 +46,8 @@ pub struct Case<'a> {
 enum Line<'a> {
     Comment,
     Asks(Asked<'a>),
-    Gives(&'a str),
+    Gives(Piece<'a>),
+    Repeats(u32),
     Expects(&'a str),
     Unknown,
 }
@@ -60,8 +63,16 @@ fn read_line(line: &str) -> Line<'_> {
     match mark {
         ">" => Line::Asks(Asked::Call(rest)),
         "$" => Line::Asks(Asked::Command(rest)),
-        "|" => Line::Gives(rest),
+        "|" => Line::Gives(Piece::Line(rest)),
+        "&" => match Piece::bytes(rest) {
+            Some(piece) => Line::Gives(piece),
+            None => Line::Unknown,
+        },
         "=" => Line::Expects(rest),
+        "*" => match rest.parse() {
+            Ok(times) => Line::Repeats(times),
+            Err(_) => Line::Unknown,
+        },
         _ => Line::Unknown,
     }
 }
@@ -69,22 +80,25 @@ fn read_line(line: &str) -> Line<'_> {
 impl<'a> Step<'a> {
     /// Takes what a line under the first says, where it is in its place.
     fn take(&mut self, number: u64, line: Line<'a>) -> Result<bool, AllocError> {
+        let is_giving = self.expected.is_empty();
         match line {
-            Line::Gives(text) if self.expected.is_empty() => self.given.push(text)?,
+            Line::Gives(piece) if is_giving => self.given.push(Given::once(piece))?,
+            Line::Repeats(times) if is_giving => {
+                return Ok(
+                    self.given
+                        .last_mut()
+                        .is_some_and(|given| given.repeat(times)),
+                );
+            }
             Line::Expects(text) => self.expected.push(Expected { line: number, text })?,
             _ => return Ok(false),
         }
         Ok(true)
     }
 
-    /// The bytes of the file that is handed in, each line with a line feed behind it.
+    /// The bytes of the file that is handed in.
     pub fn file(&self, alloc: Global) -> Result<Vec<u8>, AllocError> {
-        let mut bytes = Vec::new(alloc);
-        for line in self.given.iter().copied() {
-            bytes.extend_from_slice(line.as_bytes())?;
-            bytes.push(b'\n')?;
-        }
-        Ok(bytes)
+        bytes_of(alloc, &self.given)
     }
 }
 

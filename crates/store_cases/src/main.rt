@@ -15,6 +15,7 @@
 mod beside;
 mod case;
 mod findings;
+mod given;
 mod handed;
 mod office;
 mod printed;

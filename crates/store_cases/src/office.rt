@@ -6,7 +6,7 @@ use crate::tables::Tables;
 use desk_devices::VecSink;
 use desk_endings::Ended;
 use desk_program::call_of;
-use desk_words::{Call, Caller, Failure, read_key, read_meeting, read_moment};
+use desk_words::{Call, Caller, Failure, Moment, read_key, read_meeting, read_moment};
 use std::alloc::{AllocError, Global};
 
 /// A desk over a database in memory, and a book and a further desk that make the same calls.
@@ -188,17 +188,47 @@ impl Office {
         Ok(answer)
     }
 
-    /// The whole reply to a request over HTTP that comes at a moment. The book and the desk beside
-    /// do not answer it, so that it may ask and change nothing.
-    fn http(&mut self, moment: &str, request: &[u8]) -> Result<String, AllocError> {
-        let Some(moment) = read_moment(moment.as_bytes()) else {
-            return String::from_str(self.alloc, "no moment");
-        };
+    /// The whole reply over HTTP to these bytes at a moment.
+    fn reply_to(&mut self, moment: Moment, request: &[u8]) -> Result<String, AllocError> {
         let mut sink = VecSink::new(self.alloc);
         if !self.tables.serve(moment, request, &mut sink) {
             return String::from_str(self.alloc, "no reply");
         }
-        let mut answer = String::from_utf8_lossy(self.alloc, sink.as_slice())?;
+        String::from_utf8_lossy(self.alloc, sink.as_slice())
+    }
+
+    /// Adds a line to a reply for each prefix of a request with another reply. The prefixes are
+    /// tried from the empty one to the one that lacks the last byte.
+    fn compare_prefixes(
+        &mut self,
+        moment: Moment,
+        request: &[u8],
+        reply: &mut String,
+    ) -> Result<(), AllocError> {
+        let mut others = String::new(self.alloc);
+        for count in 0..request.len() {
+            let other = self.reply_to(moment, &request[..count])?;
+            if &other != reply {
+                writeln!(
+                    others,
+                    "after {count} bytes it is answered otherwise: {other}"
+                )?;
+            }
+        }
+        write!(reply, "\n{others}")
+    }
+
+    /// The whole reply to a request over HTTP at a moment. Where the request is cut, the reply to
+    /// the empty input, and a further line for each prefix with another reply. The book and the
+    /// desk beside do not answer it, so it must not change the office.
+    fn http(&mut self, moment: &str, request: &[u8], is_cut: bool) -> Result<String, AllocError> {
+        let Some(moment) = read_moment(moment.as_bytes()) else {
+            return String::from_str(self.alloc, "no moment");
+        };
+        let mut answer = self.reply_to(moment, if is_cut { b"" } else { request })?;
+        if is_cut {
+            self.compare_prefixes(moment, request, &mut answer)?;
+        }
         self.compare(&mut answer)?;
         Ok(answer)
     }
@@ -226,7 +256,8 @@ impl Office {
             "open" => self.open(),
             "unshown" => self.call(rest, false),
             "results" => self.results(rest),
-            "http" => self.http(rest, file),
+            "http" => self.http(rest, file, false),
+            "cut" => self.http(rest, file, true),
             "keys" | "days" | "register" => self.load(command, rest, file),
             _ => String::from_str(self.alloc, self.word(command, rest)),
         }

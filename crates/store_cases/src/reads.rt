@@ -2,7 +2,8 @@
 use caller_view::{OwnView, PublicRecord, answer};
 use desk_replies::reply_text;
 use desk_words::{
-    Given, MeetingId, Moment, Party, PartyRequest, PollGoverned, Received, RegisterRow,
+    Given, Meeting, MeetingId, Moment, Party, PartyRequest, PollGoverned, Received, RegisterRow,
+    Resolution,
 };
 use meeting_core::Book;
 use std::alloc::{AllocError, Global};
@@ -92,8 +93,42 @@ fn is_same_own(own: &OwnView, other: &OwnView) -> bool {
         && own.casts.as_slice() == other.casts.as_slice()
 }
 
-/// The text of the notice by a public record. It tells all that the record has of a meeting, and
-/// what follows there from the closed days; of the asker's own things it tells nothing.
+fn is_same_resolution(resolution: &Resolution, other: &Resolution) -> bool {
+    resolution.kind == other.kind && resolution.text.is(&other.text)
+}
+
+fn are_same_resolutions(resolutions: &[Resolution], others: &[Resolution]) -> bool {
+    resolutions.len() == others.len()
+        && resolutions
+            .iter()
+            .zip(others)
+            .all(|(one, other)| is_same_resolution(one, other))
+}
+
+fn is_same_meeting(meeting: &Meeting, other: &Meeting) -> bool {
+    meeting.id == other.id
+        && meeting.company == other.company
+        && meeting.kind == other.kind
+        && meeting.given == other.given
+        && meeting.appointed == other.appointed
+        && meeting.record_moment == other.record_moment
+        && meeting.loaded == other.loaded
+        && meeting.opened == other.opened
+        && are_same_resolutions(meeting.resolutions.as_slice(), other.resolutions.as_slice())
+}
+
+/// Whether both have the same meeting and the same polls.
+fn is_same_public(public: &PublicRecord, other: &PublicRecord) -> bool {
+    let is_same = match (public.meeting(), other.meeting()) {
+        (Some(meeting), Some(other)) => is_same_meeting(meeting, other),
+        (None, None) => true,
+        _ => false,
+    };
+    is_same && public.polls() == other.polls()
+}
+
+/// The text of the notice by a public record. Its cutoffs and lateness follow from the closed days.
+/// It tells nothing of the asker's own things.
 fn notice_by(
     alloc: Global,
     asker: &Asker,
@@ -126,5 +161,6 @@ pub fn is_given(
     public: &PublicRecord,
 ) -> Result<bool, AllocError> {
     let held = asker.own_in(book)?;
-    Ok(is_same_own(own, &held) && is_noticed(alloc, asker, book, public)?)
+    let is_same = is_same_own(own, &held) && is_same_public(public, &book.public_of(asker.meeting));
+    Ok(is_same && is_noticed(alloc, asker, book, public)?)
 }
