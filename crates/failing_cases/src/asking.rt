@@ -4,23 +4,28 @@ ghost use Rattle.desk_opening.specs.Rising.{RowsRise};
 ghost use Rattle.sqlite.specs.Held.{state};
 ghost use Rattle.sqlite.specs.State.{HasCleanDisk};
 
-use crate::served::{Request, serve};
+use crate::looking::look;
+use crate::served::{Request, STORE_FAILED, serve};
 use desk_program::call_of;
 use desk_replies::reply_text;
 use desk_store::{CreateFault, Desk, OpenFault};
 use desk_words::Failure;
-use meeting_core::Book;
 use sqlite::{Alter, Connection};
-use std::alloc::{AllocError, Global};
+use std::alloc::Global;
 
 /// What is asked.
 #[derive(Clone, Copy)]
 pub enum Asked<'a> {
     /// That a desk is made.
     Create,
+    /// That a desk is opened.
+    Open,
+    /// That a statement is run, where no desk is opened.
+    Statement(&'a str),
     /// A call, in the form of a line of a replay.
     Call(&'a str),
-    /// What the book would reply to each of these calls, none of which is made.
+    /// The rows of all tables, and what the book would reply to each of these calls, none of which
+    /// is made.
     Book(&'a [&'a str]),
     /// A request over HTTP.
     Request(Request<'a>),
@@ -37,7 +42,7 @@ fn create_word(fault: CreateFault) -> &'static str {
     }
 }
 
-fn open_word(fault: OpenFault) -> &'static str {
+pub fn open_word(fault: OpenFault) -> &'static str {
     match fault {
         OpenFault::NotADesk => "NotADesk",
         OpenFault::NewerVersion => "NewerVersion",
@@ -46,7 +51,7 @@ fn open_word(fault: OpenFault) -> &'static str {
     }
 }
 
-fn failure_word(failure: Failure) -> &'static str {
+pub fn failure_word(failure: Failure) -> &'static str {
     match failure {
         Failure::Store => "Store",
         Failure::Memory => "Memory",
@@ -56,33 +61,6 @@ fn failure_word(failure: Failure) -> &'static str {
 /// Whether a line is a call.
 pub fn is_call(alloc: Global, line: &str) -> bool {
     call_of(alloc, line.as_bytes()).is_ok()
-}
-
-/// Adds what a book replies to a call; nothing where the line is none.
-fn add_reply(alloc: Global, book: &Book, line: &str, told: &mut Vec<u8>) -> Result<(), AllocError> {
-    if let Ok(call) = call_of(alloc, line.as_bytes()) {
-        let (reply, _) = book.decide(&call)?;
-        told.extend_from_slice(&reply_text(alloc, &reply)?)?;
-    }
-    told.push(b'\n')?;
-    Ok(())
-}
-
-/// What a book replies to each of some calls, a line each.
-fn replies_of(alloc: Global, book: &Book, lines: &[&str]) -> Result<Vec<u8>, AllocError> {
-    let mut told = Vec::new(alloc);
-    for line in lines {
-        add_reply(alloc, book, line, &mut told)?;
-    }
-    Ok(told)
-}
-
-/// What the book of a desk replies to each of some calls.
-fn ask_book<S: Alter>(alloc: Global, desk: &mut Desk<S>, lines: &[&str]) -> Answer {
-    match desk.book() {
-        Ok(book) => replies_of(alloc, &book, lines).map_err(|_| "Memory"),
-        Err(failure) => Err(failure_word(failure)),
-    }
 }
 
 /// What a desk replies to a call.
@@ -95,19 +73,37 @@ fn call<S: Alter>(alloc: Global, desk: &mut Desk<S>, line: &str) -> Answer {
     }
 }
 
-/// What a desk answers.
-fn ask_desk<S: Alter>(alloc: Global, desk: &mut Desk<S>, asked: &Asked) -> Answer {
-    match asked {
-        Asked::Create => Err("a desk"),
-        Asked::Call(line) => call(alloc, desk, line),
-        Asked::Book(lines) => ask_book(alloc, desk, lines),
-        Asked::Request(request) => serve(alloc, desk, *request).map_err(|_| "Memory"),
+/// What is answered to a request over HTTP: the reply, or `Store` where it is the one that says so.
+fn reply<S: Alter>(alloc: Global, desk: &mut Desk<S>, request: Request) -> Answer {
+    match serve(alloc, desk, request) {
+        Ok(text) if text.as_slice() == STORE_FAILED => Err("Store"),
+        Ok(text) => Ok(text),
+        Err(_) => Err("Memory"),
     }
 }
 
-/// What is answered where a desk is made.
-fn created(alloc: Global) -> Answer {
-    match String::from_str(alloc, "created") {
+fn ask_once<S: Alter>(alloc: Global, desk: &mut Desk<S>, asked: &Asked) -> Answer {
+    match asked {
+        Asked::Call(line) => call(alloc, desk, line),
+        Asked::Request(request) => reply(alloc, desk, *request),
+        _ => Err("no call and no request"),
+    }
+}
+
+/// What a desk answers. Where that is `Store` it is asked once more, and has to answer so again.
+fn ask_desk<S: Alter>(alloc: Global, desk: &mut Desk<S>, asked: &Asked) -> Answer {
+    match ask_once(alloc, desk, asked) {
+        Err("Store") => match ask_once(alloc, desk, asked) {
+            Err("Store") => Err("Store"),
+            _ => Err("another answer after Store"),
+        },
+        answer => answer,
+    }
+}
+
+/// The answer that is a word.
+pub fn word(alloc: Global, text: &str) -> Answer {
+    match String::from_str(alloc, text) {
         Ok(text) => Ok(text.into_bytes()),
         Err(_) => Err("Memory"),
     }
@@ -116,9 +112,18 @@ fn created(alloc: Global) -> Answer {
 /// What is answered where a database is to be made a desk, and its store.
 fn create<S: Alter + Drop>(alloc: Global, conn: Connection<S>) -> (Answer, S) {
     match Desk::create(alloc, conn) {
-        Ok(desk) => (created(alloc), desk.close().into_store()),
+        Ok(desk) => (word(alloc, "created"), desk.close().into_store()),
         Err((fault, conn)) => (Err(create_word(fault)), conn.into_store()),
     }
+}
+
+/// What is answered where a statement is run on a database, and its store.
+fn execute<S: Alter + Drop>(alloc: Global, mut conn: Connection<S>, sql: &str) -> (Answer, S) {
+    let answer = match conn.execute(sql, &[]) {
+        Ok(_) => word(alloc, "done"),
+        Err(_) => Err("not done"),
+    };
+    (answer, conn.into_store())
 }
 
 /// What is answered where a database is to be opened as a desk, and its store. It is opened as the
@@ -143,6 +148,9 @@ pub fn ask<S: Alter + Drop>(alloc: Global, conn: Connection<S>, asked: &Asked) -
 {
     match asked {
         Asked::Create => create(alloc, conn),
-        _ => open(alloc, conn, asked),
+        Asked::Statement(sql) => execute(alloc, conn, sql),
+        Asked::Open => look(alloc, conn, None),
+        Asked::Book(lines) => look(alloc, conn, Some(lines)),
+        Asked::Call(_) | Asked::Request(_) => open(alloc, conn, asked),
     }
 }

@@ -3,7 +3,7 @@ use crate::asking::{Asked, is_call};
 use crate::disks::Disks;
 use crate::findings::Findings;
 use crate::served::{Request, request_text};
-use crate::trial::{Office, Trial, is_bytes};
+use crate::trial::{Office, Trial, is_answer};
 use std::alloc::{AllocError, Global};
 
 /// A case as far as it has come.
@@ -20,7 +20,11 @@ pub struct Case<'a> {
 fn asked_of(text: &str) -> Asked<'_> {
     match text {
         "create" => Asked::Create,
-        line => Asked::Call(line),
+        "open" => Asked::Open,
+        line => match line.split_once(' ') {
+            Some(("sql", statement)) => Asked::Statement(statement),
+            _ => Asked::Call(line),
+        },
     }
 }
 
@@ -43,7 +47,7 @@ impl<'a> Case<'a> {
         findings: &mut Findings,
     ) -> Result<(), AllocError> {
         let given = self.disks.ask(&asked_of(text));
-        if is_bytes(&given, answer.as_bytes()) {
+        if is_answer(&given, answer.as_bytes()) {
             Ok(())
         } else {
             findings.tell("another answer")

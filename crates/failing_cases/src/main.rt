@@ -1,12 +1,14 @@
-//! Runs case files: commands on a desk in two files in memory, each stopped at each call of the log
-//! and at each call of the database, and requests over HTTP of which each read fails in turn, and
-//! each write.
+//! Runs case files: commands on a desk in two files in memory, and requests over HTTP. Each is
+//! stopped at each call of the log and at each call of the database. Of a request each read of its
+//! bytes fails in turn too, and each write of its reply.
 //!
-//! After each stop the files are opened again, as they were written and as a power cut leaves them:
-//! the office has to be the one before the command or the one after it, as far as its replies tell,
-//! and the one after it where the command was answered. After a read that failed it has to be the
-//! one before the request, and nothing may be written; after a write that failed the one after it,
-//! and the front of its reply.
+//! After each stop the files are opened again, as they were written and as a power cut leaves them.
+//! The rows of all tables and the replies of the book have to be those before the command or those
+//! after it, and those after it where the command was answered. A command that was not answered has
+//! to fail as `Store`, and so has the same once more on the same desk. After a read that failed the
+//! office has to be the one before the request, and nothing may be written but the refusal of a
+//! key. After a write that failed the office has to be the one after the request, and what was
+//! written the front of its reply.
 //!
 //! The words of the program are the names of the case files. It prints what was not as expected,
 //! and a line for each file. It ends with status 0 only where all is as expected.
@@ -17,6 +19,7 @@ mod case;
 mod disks;
 mod filed;
 mod findings;
+mod looking;
 mod served;
 mod trial;
 

@@ -6,6 +6,11 @@ use desk_words::read_moment;
 use sqlite::Alter;
 use std::alloc::{AllocError, Global};
 
+/// The reply that says that the store failed.
+pub const STORE_FAILED: &[u8] =
+    b"HTTP/1.1 503 Service Unavailable\r\nContent-Type: application/json\r\n\
+    Content-Length: 18\r\nConnection: close\r\n\r\n{\"failed\":\"Store\"}";
+
 /// A sink that takes one byte a write.
 #[derive(Drop)]
 struct ByteByByte<W> {

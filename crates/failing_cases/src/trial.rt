@@ -30,11 +30,11 @@ fn told(disks: &Disks, asks: &[&str]) -> Result<Answer, AllocError> {
     Ok(disks.copy(Stop::Never)?.ask(&Asked::Book(asks)))
 }
 
-/// Whether just these bytes are answered.
-pub fn is_bytes(answer: &Answer, bytes: &[u8]) -> bool {
+/// Whether just these bytes are answered, or they are the word of the fault.
+pub fn is_answer(answer: &Answer, bytes: &[u8]) -> bool {
     match answer {
         Ok(answered) => answered.as_slice() == bytes,
-        Err(_) => false,
+        Err(word) => word.as_bytes() == bytes,
     }
 }
 
@@ -93,11 +93,11 @@ impl Trial<'_> {
     fn stop(&self, asked: &Asked, stop: Stop, findings: &mut Findings) -> Result<bool, AllocError> {
         let mut left = self.before.disks.copy(stop)?;
         let answer = left.ask(asked);
-        let is_answered = is_bytes(&answer, self.answer);
-        if !is_answered && answer != Err("Store") {
+        let is_answered = is_answer(&answer, self.answer);
+        let has_stopped = left.have_stopped();
+        if !is_answered && (answer != Err("Store") || !has_stopped) {
             findings.tell("a stop leads to another answer")?;
         }
-        let has_stopped = left.have_stopped();
         self.judge(&left, is_answered, findings)?;
         left.cut_power();
         self.judge(&left, is_answered, findings)?;
@@ -143,25 +143,36 @@ impl Trial<'_> {
     ) -> Result<(), AllocError> {
         let mut left = self.before.disks.copy(Stop::Never)?;
         let answer = left.ask(&Asked::Request(*request));
-        if is_bytes(&answer, written) && wanted.is_in(&left, self.asks)? {
+        if is_answer(&answer, written) && wanted.is_in(&left, self.asks)? {
             Ok(())
         } else {
             findings.tell("a device that fails leads to another reply, or to another office")
         }
     }
 
-    /// Serves a request of which each read fails in turn, a byte a read: nothing is written, and
-    /// the office is as it was.
+    /// What is written, or the fault, where the read behind these bytes of a request fails. Only
+    /// where the head has come and its key is nobody's is there a reply: that key is refused.
+    fn written_after(&self, came: &[u8]) -> &[u8] {
+        let is_unknown = self.answer.starts_with(b"HTTP/1.1 401 ");
+        if is_unknown && came.windows(4).any(|bytes| bytes == b"\r\n\r\n".as_slice()) {
+            self.answer
+        } else {
+            b"Read\n"
+        }
+    }
+
+    /// Serves a request of which each read fails in turn, a byte a read: the office is as it was,
+    /// and nothing is written but the refusal of a key.
     fn fail_reads(&self, request: &Request, findings: &mut Findings) -> Result<(), AllocError> {
         for count in 0..request.text.len() {
-            let read = (count as u64).saturating_add(1);
             let failing = Request {
                 moment: request.moment,
                 text: request.text,
-                read,
+                read: (count as u64).saturating_add(1),
                 write: 0,
             };
-            self.serve(&failing, b"Read\n", self.before, findings)?;
+            let written = self.written_after(&request.text[..count]);
+            self.serve(&failing, written, self.before, findings)?;
         }
         Ok(())
     }
@@ -187,7 +198,20 @@ impl Trial<'_> {
         Ok(())
     }
 
-    /// Serves a request with each read failing in turn, and each write.
+    /// Serves a request of which the read behind its last byte would fail: it is answered, since no
+    /// byte more is awaited.
+    fn fail_behind(&self, request: &Request, findings: &mut Findings) -> Result<(), AllocError> {
+        let failing = Request {
+            moment: request.moment,
+            text: request.text,
+            read: (request.text.len() as u64).saturating_add(1),
+            write: 0,
+        };
+        self.serve(&failing, self.answer, self.after, findings)
+    }
+
+    /// Serves a request with each read failing in turn, and each write, and then with a stop at
+    /// each call of the files.
     pub fn fail_each(
         &self,
         alloc: Global,
@@ -196,6 +220,9 @@ impl Trial<'_> {
     ) -> Result<(), AllocError> {
         findings.next_command();
         self.fail_reads(request, findings)?;
-        self.fail_writes(alloc, request, findings)
+        self.fail_behind(request, findings)?;
+        self.fail_writes(alloc, request, findings)?;
+        self.stop_at_each(&Asked::Request(*request), findings)?;
+        findings.end_command(!self.is_same())
     }
 }
