@@ -17,7 +17,7 @@ use Rattle.desk_schema.specs.Tables.{desk_schema}
 use Rattle.desk_schema.specs.Contents.{authorities}
 use Rattle.desk_schema.specs.Statements.{columns_of}
 use Rattle.desk_statements.proofs.Reading.{sought}
-use Rattle.found_rows.proofs.Queries.{IsQuery, names_both, both_tell, names_meeting, one_tells}
+use Rattle.found_rows.proofs.Queries.{IsQuery, names_both, both_tell, names_meeting, names_three, one_tells, three_tell}
 
 abbrev shows : List Term
 shows = col 1 2 ∷ col 1 3 ∷ col 1 4 ∷ col 1 5 ∷ []
@@ -104,4 +104,28 @@ of_meeting m meeting meeting_is = record {
   numbered = refl;
   columns = λ cells. refl;
   same = λ cells x h. one_tells cells 2 meeting m x.meeting (names_in (columns_of authorities cells) x h).0 meeting_is;
+}
+
+abbrev naming_by_text : List ℕ
+naming_by_text = codes "SELECT meeting, corporation, person, moment FROM authorities WHERE meeting = ?1 AND corporation = ?2 AND person = ?3 ORDER BY seq"
+
+naming_by_is : (command_of (understood desk_schema naming_by_text) ≡ Select (record { lets = []; body = sought 16 (names_three 2 3 4) shows }) names) × (reads_listing desk_schema naming_by_text ≡ false) × IsPlain (understood desk_schema naming_by_text)
+unfolding understood everything
+naming_by_is = (refl, refl, (refl, refl))
+
+-- the rows of the meeting, of the corporation and of the person
+pub naming_by : (m meeting n party p person : List ℕ) → meeting_of meeting ≡ Some m → party_of party ≡ Some n → party_of person ≡ Some p
+    → IsQuery authorities naming_by_text (Text meeting ∷ Text party ∷ Text person ∷ []) (λ x. same_name x.meeting m && (same_name x.item.corporation n && same_name x.item.person p))
+unfolding spelled
+naming_by m meeting n party p person meeting_is party_is person_is = record {
+  tests = names_three 2 3 4;
+  project = shows;
+  names = names;
+  is = naming_by_is.0;
+  plain = naming_by_is.2;
+  unlisted = naming_by_is.1;
+  none = refl;
+  numbered = refl;
+  columns = λ cells. refl;
+  same = λ cells x h. let of = names_in (columns_of authorities cells) x h in three_tell cells 2 3 4 meeting m party n person p x.meeting x.item.corporation x.item.person of.0 meeting_is of.1 party_is of.2 person_is;
 }

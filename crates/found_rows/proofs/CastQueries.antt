@@ -1,6 +1,6 @@
 -- What is found in `casts`.
-use Rattle.std.proofs.Common.{◌≡◌, ℕ, List, [], ◌∷◌, codes, false, Some, refl, ◌∙◌, ◌&&◌}
-use Rattle.sqlite.specs.declared.types.Value.TheVariants.{Text}
+use Rattle.std.proofs.Common.{◌≡◌, ℕ, ℤ, ◌==◌, List, [], ◌∷◌, codes, false, Some, refl, ◌∙◌, ◌&&◌}
+use Rattle.sqlite.specs.declared.types.Value.TheVariants.{Int, Text}
 use Rattle.sqlite.specs.Order.{Row}
 use Rattle.sqlite.specs.Term.{Term, col}
 use Rattle.sqlite.specs.Command.TheVariants.{Select}
@@ -9,7 +9,7 @@ use Rattle.sqlite.specs.Listing.{understood, reads_listing}
 use Rattle.sqlite.proofs.Callers.{IsPlain, command_of}
 use Rattle.desk_rows.specs.declared.kept.InMeeting.{InMeeting}
 use Rattle.desk_words.specs.declared.records.CastMark.{CastMark}
-use Rattle.desk_rows.specs.Columns.{spelled, number_in, moment_in}
+use Rattle.desk_rows.specs.Columns.{spelled, natural_of, number_in, moment_in}
 use Rattle.desk_rows.specs.Marks.{cast_in, cast_kind_in}
 use Rattle.desk_rows.proofs.MeaningLemmas.{bound, option_ap}
 use Rattle.desk_terms.specs.Names.{meeting_of, party_of, same_name}
@@ -17,7 +17,7 @@ use Rattle.desk_schema.specs.Tables.{desk_schema}
 use Rattle.desk_schema.specs.Contents.{casts}
 use Rattle.desk_schema.specs.Statements.{columns_of}
 use Rattle.desk_statements.proofs.Reading.{sought}
-use Rattle.found_rows.proofs.Queries.{IsQuery, names_both, both_tell, names_meeting, one_tells}
+use Rattle.found_rows.proofs.Queries.{IsQuery, names_both, both_tell, names_meeting, names_three, numbered_tell, one_tells}
 
 abbrev shows : List Term
 shows = col 1 2 ∷ col 1 3 ∷ col 1 4 ∷ col 1 5 ∷ col 1 6 ∷ col 1 7 ∷ col 1 8 ∷ col 1 9 ∷ col 1 10 ∷ []
@@ -26,7 +26,7 @@ abbrev names : List (List ℕ)
 names = codes "meeting" ∷ codes "resolution" ∷ codes "voter" ∷ codes "capacity" ∷ codes "member" ∷ codes "first" ∷ codes "last" ∷ codes "way" ∷ codes "moment" ∷ []
 
 -- what a row names
-names_in : (cells : Row) (x : InMeeting CastMark) → cast_in cells ≡ Some x → (spelled meeting_of cells 0 ≡ Some x.meeting) × (spelled party_of cells 2 ≡ Some x.item.voter)
+names_in : (cells : Row) (x : InMeeting CastMark) → cast_in cells ≡ Some x → (spelled meeting_of cells 0 ≡ Some x.meeting) × (spelled party_of cells 2 ≡ Some x.item.voter) × (number_in cells 1 ≡ Some x.item.resolution)
 unfolding cast_in
 names_in cells x h =
     let meeting = bound (spelled meeting_of cells 0) _ x h in
@@ -34,7 +34,7 @@ names_in cells x h =
     let voter = bound (spelled party_of cells 2) _ x resolution.2 in
     let what = bound (cast_kind_in cells 3) _ x voter.2 in
     let moment = bound (moment_in cells 8) _ x what.2 in
-    (meeting.1 ∙ option_ap (λ (y : InMeeting CastMark). y.meeting) moment.2, voter.1 ∙ option_ap (λ (y : InMeeting CastMark). y.item.voter) moment.2)
+    (meeting.1 ∙ option_ap (λ (y : InMeeting CastMark). y.meeting) moment.2, voter.1 ∙ option_ap (λ (y : InMeeting CastMark). y.item.voter) moment.2, resolution.1 ∙ option_ap (λ (y : InMeeting CastMark). y.item.resolution) moment.2)
 
 abbrev cast_by_text : List ℕ
 cast_by_text = codes "SELECT meeting, resolution, voter, capacity, member, first, last, way, moment FROM casts WHERE meeting = ?1 AND voter = ?2 ORDER BY seq"
@@ -81,4 +81,28 @@ of_meeting m meeting meeting_is = record {
   numbered = refl;
   columns = λ cells. refl;
   same = λ cells x h. one_tells cells 2 meeting m x.meeting (names_in (columns_of casts cells) x h).0 meeting_is;
+}
+
+abbrev cast_on_text : List ℕ
+cast_on_text = codes "SELECT meeting, resolution, voter, capacity, member, first, last, way, moment FROM casts WHERE meeting = ?1 AND voter = ?2 AND resolution = ?3 ORDER BY seq"
+
+cast_on_is : (command_of (understood desk_schema cast_on_text) ≡ Select (record { lets = []; body = sought 24 (names_three 2 4 3) shows }) names) × (reads_listing desk_schema cast_on_text ≡ false) × IsPlain (understood desk_schema cast_on_text)
+unfolding understood everything
+cast_on_is = (refl, refl, (refl, refl))
+
+-- the rows of the meeting, of the voter and on the resolution
+pub cast_on : (m meeting n party : List ℕ) (z : ℤ) (k : ℕ) → meeting_of meeting ≡ Some m → party_of party ≡ Some n → natural_of z ≡ Some k
+    → IsQuery casts cast_on_text (Text meeting ∷ Text party ∷ Int z ∷ []) (λ x. same_name x.meeting m && (same_name x.item.voter n && x.item.resolution == k))
+unfolding spelled number_in
+cast_on m meeting n party z k meeting_is party_is number_is = record {
+  tests = names_three 2 4 3;
+  project = shows;
+  names = names;
+  is = cast_on_is.0;
+  plain = cast_on_is.2;
+  unlisted = cast_on_is.1;
+  none = refl;
+  numbered = refl;
+  columns = λ cells. refl;
+  same = λ cells x h. let of = names_in (columns_of casts cells) x h in numbered_tell cells 2 4 3 meeting m party n x.meeting x.item.voter z k x.item.resolution of.0 meeting_is of.1 party_is of.2 number_is;
 }

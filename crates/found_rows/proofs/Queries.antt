@@ -1,10 +1,10 @@
 -- A query by a fixed statement: what it finds, and that it changes nothing.
-use Rattle.std.proofs.Common.{◌≡◌, ◌⊎◌, ℕ, List, [], ◌∷◌, Bool, true, false, ◌&&◌, if◌then◌else◌, Option, Some, None, Result, IfOk, IfErr, IsTrue, refl, ap₂, ◌∙◌}
+use Rattle.std.proofs.Common.{◌≡◌, ◌⊎◌, ℕ, List, [], ◌∷◌, ℤ, ◌==◌, Bool, true, false, ◌&&◌, if◌then◌else◌, Option, Some, None, Result, IfOk, IfErr, IsTrue, refl, ap₂, ◌∙◌}
 use Rattle.std.proofs.Math.Bool.{and-true}
 use Rattle.std.specs.Cmp.{first_so}
 use Rattle.sqlite.specs.declared.error.Error.{Error}
 use Rattle.sqlite.specs.declared.types.Value.{Value}
-use Rattle.sqlite.specs.declared.types.Value.TheVariants.{Text}
+use Rattle.sqlite.specs.declared.types.Value.TheVariants.{Int, Text}
 use Rattle.sqlite.specs.Collation.TheVariants.{Binary}
 use Rattle.sqlite.specs.Order.{Row, column}
 use Rattle.sqlite.specs.Ops.{binary, is_true}
@@ -19,13 +19,13 @@ use Rattle.sqlite_sql.specs.declared.ops.BinaryOp.TheVariants.{Compare}
 use Rattle.sqlite_sql.specs.declared.ops.CompareOp.TheVariants.{Eq}
 use Rattle.sqlite_trees.specs.declared.store.Store as store
 use Rattle.desk_terms.specs.Names.{in_places, is_name, is_party, meeting_of, party_of, same_name}
-use Rattle.desk_rows.specs.Columns.{spelled_of}
+use Rattle.desk_rows.specs.Columns.{natural_of, natural_value, spelled_of}
 use Rattle.desk_schema.specs.Tables.{desk_schema}
 use Rattle.desk_schema.specs.Statements.{ChangesNothing, FindsRecords, IsRead, TableOf, columns_of, has_table, layout_one}
 use Rattle.desk_statements.proofs.Commits.{query_keeps, query_opened}
 use Rattle.desk_statements.proofs.Deleting.{passes}
 use Rattle.desk_statements.proofs.Reading.{finds, sought}
-use Rattle.desk_statements.proofs.Tests.{names_tell}
+use Rattle.desk_statements.proofs.Tests.{names_tell, numbers_tell}
 
 -- ---- the tests of WHERE
 
@@ -36,6 +36,10 @@ names_meeting at = op2 (Compare Eq Binary) (col 1 at) (col 0 0) ∷ []
 -- and the second is the party that another column names
 abbrev pub names_both : ℕ → ℕ → List Term
 names_both at other = op2 (Compare Eq Binary) (col 1 at) (col 0 0) ∷ op2 (Compare Eq Binary) (col 1 other) (col 0 1) ∷ []
+
+-- and the third is the party that a further column names
+abbrev pub names_three : ℕ → ℕ → ℕ → List Term
+names_three at other third = op2 (Compare Eq Binary) (col 1 at) (col 0 0) ∷ op2 (Compare Eq Binary) (col 1 other) (col 0 1) ∷ op2 (Compare Eq Binary) (col 1 third) (col 0 2) ∷ []
 
 -- a party's name has the form of a meeting's
 party_name : (bytes name : List ℕ) → party_of bytes ≡ Some name → meeting_of bytes ≡ Some name
@@ -57,6 +61,17 @@ one_tells cells at s m a here is = and-true _ ∙ names_tell (column cells at) s
 pub both_tell : (cells : Row) (at other : ℕ) (s m t n a b : List ℕ) → spelled_of meeting_of (column cells at) ≡ Some a → meeting_of s ≡ Some m → spelled_of party_of (column cells other) ≡ Some b → party_of t ≡ Some n
     → passes (names_both at other) (Text s ∷ Text t ∷ []) cells ≡ (same_name a m && same_name b n)
 both_tell cells at other s m t n a b here is there party = ap₂ ◌&&◌ (names_tell (column cells at) s a m here is) (and-true _ ∙ parties_tell (column cells other) t b n there party)
+
+pub three_tell : (cells : Row) (at other third : ℕ) (s m t n u p a b d : List ℕ) → spelled_of meeting_of (column cells at) ≡ Some a → meeting_of s ≡ Some m → spelled_of party_of (column cells other) ≡ Some b → party_of t ≡ Some n
+    → spelled_of party_of (column cells third) ≡ Some d → party_of u ≡ Some p → passes (names_three at other third) (Text s ∷ Text t ∷ Text u ∷ []) cells ≡ (same_name a m && (same_name b n && same_name d p))
+three_tell cells at other third s m t n u p a b d here is there party last proxy =
+    ap₂ ◌&&◌ (names_tell (column cells at) s a m here is) (ap₂ ◌&&◌ (parties_tell (column cells other) t b n there party) (and-true _ ∙ parties_tell (column cells third) u d p last proxy))
+
+-- the third parameter is a number
+pub numbered_tell : (cells : Row) (at other third : ℕ) (s m t n a b : List ℕ) (z : ℤ) (k d : ℕ) → spelled_of meeting_of (column cells at) ≡ Some a → meeting_of s ≡ Some m → spelled_of party_of (column cells other) ≡ Some b → party_of t ≡ Some n
+    → natural_value (column cells third) ≡ Some d → natural_of z ≡ Some k → passes (names_three at other third) (Text s ∷ Text t ∷ Int z ∷ []) cells ≡ (same_name a m && (same_name b n && d == k))
+numbered_tell cells at other third s m t n a b z k d here is there party last number =
+    ap₂ ◌&&◌ (names_tell (column cells at) s a m here is) (ap₂ ◌&&◌ (parties_tell (column cells other) t b n there party) (and-true _ ∙ numbers_tell (column cells third) z d k last number))
 
 -- ---- a query
 

@@ -47,3 +47,30 @@ pub fn naming<S: Alter>(
         params![meeting_text(&meeting), party_text(&person)],
     )
 }
+
+/// The rows of the authorities that a corporation gave to a person in a meeting, in order of
+/// receipt.
+pub fn naming_by<S: Alter>(
+    tx: &mut Transaction<'_, S>,
+    meeting: MeetingId,
+    corporation: Party,
+    person: Party,
+) -> Result<Vec<Row>, Error>
+    ensures same_reference { tx.new.conn.ghost_name ≡ tx.old.conn.ghost_name }
+    ensures rows { IsRead S.Store tx.old.conn.now tx.new.conn.now
+        → IfOk result
+        (λ rows. FindsRecords S.Store tx.old.conn.now tx.new.conn.now authorities
+        (λ it. same_name it.meeting meeting
+        && (same_name it.item.corporation corporation && same_name it.item.person person))
+        rows.items) }
+    ensures changes { ChangesNothing S.Store tx.old.conn.now tx.new.conn.now }
+{
+    tx.query_all(
+        "SELECT meeting, corporation, person, moment FROM authorities WHERE meeting = ?1 AND corporation = ?2 AND person = ?3 ORDER BY seq",
+        params![
+            meeting_text(&meeting),
+            party_text(&corporation),
+            party_text(&person)
+        ],
+    )
+}
