@@ -9,7 +9,7 @@ use Rattle.desk_words.specs.declared.office.MeetingLists.{MeetingLists}
 use Rattle.desk_words.specs.declared.office.OfficeLists.{OfficeLists}
 use Rattle.desk_words.specs.declared.records.RegisterRow.{RegisterRow}
 use Rattle.desk_words.proofs.OfficeFacts.{found_facts}
-use Rattle.party_reading.specs.Lists.{register_in}
+use Rattle.row_source.specs.Lists.{register_in}
 use Rattle.party_reading.proofs.MeetingLemmas.{the_same}
 
 module _ {X : Type 0} (before : MeetingLists → X) (after : MeetingLists → MeetingLists) where

@@ -5,7 +5,7 @@ use Rattle.desk_words.specs.declared.office.MeetingLists.{MeetingLists}
 use Rattle.desk_words.specs.declared.records.Meeting.{Meeting}
 use Rattle.desk_words.specs.declared.records.Poll.{Poll}
 use Rattle.office_answers.specs.Reads.{polls_alone}
-use Rattle.party_reading.specs.Lists.{appointments_in, authorities_in, endings_in, register_in}
+use Rattle.row_source.specs.Lists.{appointments_in, authorities_in, endings_in, register_in}
 use Rattle.proxy_rules.specs.Parties.{is_presence_of}
 use Rattle.meeting_reading.specs.declared.parts.ShareLists.{ShareLists}
 

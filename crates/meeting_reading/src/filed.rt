@@ -3,8 +3,9 @@
 ghost use Rattle.std.specs.Prelude.{◌≡◌, Err, MatchResult, filter, map};
 ghost use Rattle.caller_view.specs.Views.{meeting_at};
 ghost use Rattle.office_lists.specs.declared.fault.ReadFault.TheVariants.{Memory};
-ghost use Rattle.party_reading.specs.Lists.{appointments_in, authorities_in, casts_in};
-ghost use Rattle.party_reading.specs.Lists.{demands_in, endings_in, item_of, presences_in};
+ghost use Rattle.row_source.specs.Lists.{appointments_in, authorities_in, casts_in};
+ghost use Rattle.row_source.specs.Lists.{demands_in, endings_in, presences_in};
+ghost use Rattle.party_reading.specs.Lists.{item_of};
 ghost use Rattle.party_reading.specs.Telling.{IsToldOf};
 ghost use Rattle.proxy_rules.specs.Parties.{is_presence_of};
 

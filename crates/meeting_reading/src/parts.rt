@@ -2,7 +2,7 @@
 ghost use Rattle.std.specs.Prelude.{◌≡◌, [], option_map};
 ghost use Rattle.caller_view.specs.Views.{meeting_at};
 ghost use Rattle.office_answers.specs.Reads.{polls_alone};
-ghost use Rattle.party_reading.specs.Lists.{register_in};
+ghost use Rattle.row_source.specs.Lists.{register_in};
 ghost use Rattle.party_reading.specs.Telling.{IsToldOf};
 ghost use Rattle.proxy_rules.specs.Parties.{is_presence_of};
 ghost use Rattle.meeting_reading.specs.Parts.{meeting_with, shares_alone, share_lists_in, with_shares};

@@ -1,1 +1,1 @@
-pub mod MemberLemmas
+pub mod ListLemmas

@@ -1,8 +1,9 @@
 //! The rows of a party in the lists of a meeting.
 #![tactic(auto)]
 
+mod lists;
 mod members;
 mod own;
-mod rows;
 
-pub use rows::{no_rows_of, rows_for, rows_of};
+pub use lists::{rows_for, rows_of};
+pub use row_source::no_rows_of;

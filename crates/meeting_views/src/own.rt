@@ -1,20 +1,17 @@
 //! The records of a party, looked up by the names that they are filed under.
-ghost use Rattle.std.specs.Prelude.{◌≡◌, ◌==◌, IfOk, filter, map, true};
+ghost use Rattle.std.specs.Prelude.{◌≡◌, ◌==◌, IfOk, filter, true};
 ghost use Rattle.std.specs.List.{list_any};
 ghost use Rattle.std.specs.Option.{option_copied};
 ghost use Rattle.desk_words.specs.Ordered.{ascends_by};
 ghost use Rattle.desk_words.specs.Registers.{member_before};
 ghost use Rattle.caller_view.specs.Reads.{cast_on};
-ghost use Rattle.caller_view.specs.Rows.{authority_rows_in};
 ghost use Rattle.proxy_rules.specs.Holdings.{is_ended_of};
 ghost use Rattle.proxy_rules.specs.Parties.{authorises, is_authority_of, is_cast_by, is_demanded_by, is_presence_of};
 ghost use Rattle.proxy_rules.specs.Shares.{row_of};
 
-use caller_view::AuthorityRows;
 use desk_words::limits::MOST_CASTS;
 use desk_words::{
-    Authority, CastMark, DemandMark, Ending, Filed, Listing, MeetingLists, Party, PresenceMark,
-    RegisterRow,
+    Authority, CastMark, DemandMark, Ending, Filed, Party, PresenceMark, RegisterRow,
 };
 use proxy_rules::find_row;
 use std::alloc::{AllocError, Global};
@@ -64,24 +61,33 @@ pub(crate) fn trusting(
     authorities.by_second(alloc, party)
 }
 
-/// The authorities, each with its corporation's row.
-pub(crate) fn with_rows(
+/// Those of a corporation.
+fn of_corporation(
     alloc: Global,
-    lists: &MeetingLists,
     given: &[Authority],
-) -> Result<Listing<AuthorityRows>, AllocError>
-    requires { ascends_by member_before lists.now.register ≡ true }
-    ensures { IfOk result (λ all. all ≡ map (authority_rows_in lists.now) given.now) }
+    corporation: Party,
+) -> Result<Vec<Authority>, AllocError>
+    ensures { IfOk result (λ found. found.items ≡ filter (is_authority_of corporation) given.now) }
 {
-    let rows = lists.register.as_slice();
-    let mut all = Listing::new(alloc);
-    for authority in given {
-        all.push(AuthorityRows {
-            authority: *authority,
-            row: row_of(rows, authority.corporation)?,
-        })?;
-    }
-    Ok(all)
+    given
+        .iter()
+        .copied()
+        .filter(|authority| authority.corporation.is(corporation))
+        .collect(alloc)
+}
+
+/// The authorities that a corporation gave to a party, in order of receipt.
+pub(crate) fn trusting_for(
+    alloc: Global,
+    authorities: &Filed<Authority>,
+    corporation: Party,
+    party: Party,
+) -> Result<Vec<Authority>, AllocError>
+    ensures { IfOk result (λ given. given.items
+        ≡ filter (is_authority_of corporation) (filter (authorises party) authorities.now)) }
+{
+    let given = trusting(alloc, authorities, party)?;
+    of_corporation(alloc, given.as_slice(), corporation)
 }
 
 pub(crate) fn is_present(presences: &Filed<PresenceMark>, party: Party) -> bool

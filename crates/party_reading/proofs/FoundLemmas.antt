@@ -23,7 +23,8 @@ use Rattle.desk_records.proofs.OfficeLemmas.{AreOf, are_of}
 use Rattle.office_lists.specs.declared.fault.ReadFault.{ReadFault}
 use Rattle.office_lists.specs.declared.fault.ReadFault.TheVariants as fault
 use Rattle.office_lists.specs.Yields.{IsCause, Yields, any_at_all, fault_of_error}
-use Rattle.party_reading.specs.Lists.{item_of, list_in}
+use Rattle.row_source.specs.Lists.{list_in}
+use Rattle.party_reading.specs.Lists.{item_of}
 use Rattle.party_reading.specs.Telling.{IsToldOf, TellsOnly}
 use Rattle.party_reading.proofs.MeetingLemmas.{HoldAll, all_held, list_is, passing, the_same}
 use Rattle.party_reading.proofs.TellingLemmas.{tells_fault, tells_weaker}

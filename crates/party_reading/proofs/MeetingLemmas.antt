@@ -17,7 +17,8 @@ use Rattle.desk_records.specs.Office.{FlatLists, lists_of, lists_of_all, lists_w
 pub use Rattle.desk_records.proofs.FlatChanges.{HoldAll, all_held}
 use Rattle.desk_records.proofs.ListChanges.{ListOf}
 use Rattle.desk_records.proofs.OfficeLemmas.{AreOf, named_so}
-use Rattle.party_reading.specs.Lists.{item_of, list_in}
+use Rattle.row_source.specs.Lists.{list_in}
+use Rattle.party_reading.specs.Lists.{item_of}
 
 pub the_same : {X : Type 0} {x y : X} → ◌≡◌ {A = Option X} (Some x) (Some y) → x ≡ y
 the_same h = cc

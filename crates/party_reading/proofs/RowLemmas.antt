@@ -1,12 +1,11 @@
 -- A party's rows, from what was told of each list.
-use Rattle.std.proofs.Common.{◌≡◌, ℕ, Bool, true, false, not, ◌&&◌, ◌||◌, ◌==◌, cond, ◌+◌, ◌<◌, List, [], ◌∷◌, ◌++◌, length, get_or, map, take, filter, find, slice_get, Option, Some, None, IsTrue, inl, inr, refl, sym, ap, subst, ◌∙◌, true≢false, arith}
+use Rattle.std.proofs.Common.{◌≡◌, ℕ, Bool, true, false, not, ◌&&◌, ◌||◌, ◌==◌, cond, List, [], ◌∷◌, length, map, filter, find, slice_get, Option, Some, None, IsTrue, inl, inr, refl, sym, ap, subst, ◌∙◌, true≢false, arith}
 use Rattle.std.specs.Cmp.{first_so, second_so}
 use Rattle.std.specs.Cmp.Lexicographic.{nat_list_cmp_total, texts_ties}
 use Rattle.std.specs.List.{list_any}
 use Rattle.std.specs.Option.{option_map_or}
 use Rattle.std.proofs.lemmas.Bool.{cases_Bool, not-true}
 use Rattle.std.proofs.lemmas.Bool.Decides.{nat_tests}
-use Rattle.std.proofs.lemmas.List.{map-append, take_more}
 use Rattle.desk_lists.specs.Ordered.{ascends_by, differ_by}
 use Rattle.desk_lists.specs.Sorting.{insert_by, sort_by}
 use Rattle.desk_lists.proofs.Ascending.{differ_by_key-IsPermutation, differs-from_ascends_by}
@@ -18,7 +17,6 @@ use Rattle.desk_words.specs.Office.{is_office}
 use Rattle.desk_words.specs.Registers.{member_before, same_member}
 use Rattle.desk_words.specs.declared.office.MeetingLists.{MeetingLists}
 use Rattle.desk_words.specs.declared.office.OfficeLists.{OfficeLists}
-use Rattle.desk_words.specs.declared.records.Appointment.{Appointment}
 use Rattle.desk_words.specs.declared.records.RegisterRow.{RegisterRow}
 use Rattle.desk_words.proofs.OfficeFacts.{found_facts, register_ascends}
 use Rattle.desk_words.proofs.RowLemmas.{same_name-true, same_name-refl}
@@ -27,12 +25,9 @@ use Rattle.desk_records.specs.Office.{FlatLists, of_meeting}
 use Rattle.desk_records.proofs.ListChanges.{list_of}
 use Rattle.desk_records.proofs.Names.ListName.{Register}
 use Rattle.desk_records.proofs.OfficeLemmas.{AreOf}
-use Rattle.proxy_rules.specs.Holdings.{is_ended_of, is_given_by}
-use Rattle.proxy_rules.specs.Parties.{authorises, is_authority_of, is_cast_by, is_demanded_by, is_presence_of}
 use Rattle.proxy_rules.specs.Shares.{row_of}
-use Rattle.caller_view.specs.Rows.{givers, no_rows_of, rows_in}
-use Rattle.meeting_views.proofs.MemberLemmas.{giver-again, giver-new}
-use Rattle.party_reading.specs.Lists.{appointments_in, authorities_in, authority_at, casts_in, demands_in, endings_in, item_of, named_at, presences_in, register_in}
+use Rattle.row_source.specs.Lists.{register_in}
+use Rattle.party_reading.specs.Lists.{item_of}
 use Rattle.party_reading.proofs.MeetingLemmas.{list_is, passing}
 
 -- ---- the first that passes
@@ -115,48 +110,15 @@ row_so id member flat office of kept =
     ap (λ l. slice_get l 0) (passing id (of_member member) flat.register) ∙ first_passing (of_member member) rows
     ∙ sym (found_sorted same_member (of_member member) (members_apart member) member_before rows differ) ∙ ap (find (of_member member)) are
 
--- ---- one more of a list
+-- ---- two tests
 
--- one record more, each made into something
-pub made_more : {X Y : Type 0} (make : X → Y) (xs : List X) (i : ℕ) (x : X) (made after : List Y) (y : Y) → i < length xs → x ≡ get_or xs i x → made ≡ map make (take i xs) → y ≡ make x → after ≡ made ++ y ∷ []
-    → after ≡ map make (take (i + 1) xs)
-made_more make xs i x made after y h is so_far new put =
-    put ∙ (λ j. so_far j ++ new j ∷ []) ∙ sym (map-append make (take i xs) (x ∷ [])) ∙ ap (map make) (sym (take_more xs i x h ∙ ap (λ z. take i xs ++ z ∷ []) (sym is)))
-
--- a member more, unless it is one of them already
-pub member_more : {Y : Type 0} (make : List ℕ → Y) (given : List Appointment) (i : ℕ) (a : Appointment) (made after : List Y) (y : Y) → i < length given → a ≡ get_or given i a → list_any (is_given_by a.member) (take i given) ≡ false
-    → made ≡ map make (givers (take i given)) → y ≡ make a.member → after ≡ made ++ y ∷ [] → after ≡ map make (givers (take (i + 1) given))
-member_more make given i a made after y h is none so_far new put =
-    let before = givers (take i given) in
-    put ∙ (λ j. so_far j ++ new j ∷ []) ∙ sym (map-append make before (a.member ∷ [])) ∙ ap (map make) (giver-new given i a before (before ++ a.member ∷ []) h is none refl refl)
-
-pub member_again : {Y : Type 0} (make : List ℕ → Y) (given : List Appointment) (i : ℕ) (a : Appointment) (made after : List Y) → i < length given → a ≡ get_or given i a → list_any (is_given_by a.member) (take i given) ≡ true
-    → made ≡ map make (givers (take i given)) → after ≡ made → after ≡ map make (givers (take (i + 1) given))
-member_again make given i a made after h is some so_far put =
-    put ∙ so_far ∙ ap (map make) (giver-again given i a (givers (take i given)) (givers (take i given)) h is some refl refl)
-
--- ---- all rows
-
--- the rows are what it may act by, and the rest
-pub rows_are : (found : Option MeetingLists) (party : List ℕ)
-    → record (rows_in found party) {
-      given = filter (is_given_by party) (appointments_in found);
-      ended = filter (is_ended_of party) (endings_in found);
-      persons = filter (is_authority_of party) (authorities_in found);
-      casts = filter (is_cast_by party) (casts_in found);
-    } ≡ rows_in found party
-rows_are None party = refl
-rows_are (Some m) party = refl
-
--- what it may act by is read of each list
-pub standing_are : (found : Option MeetingLists) (party : List ℕ)
-    → record (no_rows_of party) {
-      row = row_of (register_in found) party;
-      received = (named_at found party).received;
-      members = (named_at found party).members;
-      authorised = map (authority_at found) (filter (authorises party) (authorities_in found));
-      present = list_any (is_presence_of party) (presences_in found);
-      demands = filter (is_demanded_by party) (demands_in found);
-    } ≡ record (rows_in found party) { given = []; ended = []; persons = []; casts = [] }
-standing_are None party = refl
-standing_are (Some m) party = refl
+-- what passes both passes one after the other
+pub both_pass : {X : Type 0} (p q : X → Bool) (xs : List X) → filter (λ x. p x && q x) xs ≡ filter p (filter q xs)
+both_pass p q [] = refl
+both_pass {X} p q (x ∷ xs) =
+    let both : List X = filter (λ x. p x && q x) xs in
+    let rest : both ≡ filter p (filter q xs) = both_pass p q xs in
+    elim (q x) as (λ b. cond (p x && b) (x ∷ both) both ≡ filter p (cond b (x ∷ filter q xs) (filter q xs))) [
+      | true ↦ elim (p x) as (λ a. cond (a && true) (x ∷ both) both ≡ cond a (x ∷ filter p (filter q xs)) (filter p (filter q xs))) [ true ↦ ap (λ l. x ∷ l) rest | false ↦ rest ]
+      | false ↦ elim (p x) as (λ a. cond (a && false) (x ∷ both) both ≡ filter p (filter q xs)) [ true ↦ rest | false ↦ rest ]
+    ]

@@ -1,2 +1,4 @@
+pub mod Home
+pub mod HomeLaws
 pub mod Lists
 pub mod Telling

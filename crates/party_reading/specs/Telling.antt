@@ -1,5 +1,5 @@
 -- What is told of the office that the tables hold.
-use Rattle.std.specs.Prelude.{◌≡◌, Result, Ok, Err, Some, OnOk, IsTrue}
+use Rattle.std.specs.Prelude.{◌≡◌, Result, MatchResult, Some, OnOk, IsTrue}
 use Rattle.sqlite.specs.Held.{Held, state}
 use Rattle.sqlite.specs.State.{IsUnchanged}
 use Rattle.sqlite_trees.specs.declared.store.Store as store
@@ -10,13 +10,16 @@ use Rattle.desk_records.specs.Office.{office_in}
 use Rattle.office_lists.specs.declared.fault.ReadFault.{ReadFault}
 use Rattle.office_lists.specs.declared.fault.ReadFault.TheVariants.{NoOffice, Store, Memory}
 
+-- it is never said that there is no office
+abbrev pub MayFail : ReadFault → Type 0
+MayFail NoOffice = ⊥
+MayFail Store = Unit {0}
+MayFail Memory = Unit {0}
+
 -- what is given is so; where nothing is, memory ran out or the store refused, and it is never said
 -- that there is no office
 abbrev pub TellsOnly : {X : Type 0} → (X → Type 0) → Result X ReadFault → Type 0
-TellsOnly IsSo (Ok x) = IsSo x
-TellsOnly IsSo (Err NoOffice) = ⊥
-TellsOnly IsSo (Err Store) = Unit {0}
-TellsOnly IsSo (Err Memory) = Unit {0}
+TellsOnly IsSo result = MatchResult result IsSo MayFail
 
 -- in a transaction over tables that hold an office, what is told is so of that office, and nothing
 -- is changed

@@ -1,132 +1,138 @@
 //! Those of a party's rows in a meeting that the answer to its request reads, read from the tables.
-ghost use Rattle.std.specs.Prelude.{◌≡◌, ◌==◌, ℕ, filter};
-ghost use Rattle.desk_terms.specs.Names.{same_name};
-ghost use Rattle.proxy_rules.specs.Holdings.{is_given_by};
-ghost use Rattle.caller_view.specs.Reads.{appointments_read, authorities_read, cast_on, given_read, members_read, rows_kept, rows_read};
-ghost use Rattle.caller_view.specs.Rows.{no_rows_of, rows_in};
+ghost use Rattle.std.specs.Prelude.{◌≡◌};
+ghost use Rattle.std.proofs.Common.{◌∙◌};
+ghost use Rattle.caller_view.specs.Reads.{rows_read};
+ghost use Rattle.caller_view.specs.Rows.{rows_in};
 ghost use Rattle.caller_view.specs.Views.{meeting_at};
-ghost use Rattle.caller_view.specs.declared.reads.Reads.TheVariants as reads;
-ghost use Rattle.caller_view.specs.declared.rows.AuthorityRows.{AuthorityRows};
-ghost use Rattle.caller_view.specs.declared.rows.MemberRows.{MemberRows};
-ghost use Rattle.party_reading.specs.Lists.{persons_read};
-ghost use Rattle.party_reading.specs.Telling.{IsToldOf};
+ghost use Rattle.sqlite.specs.Held.{state};
+ghost use Rattle.sqlite.specs.State.{HasCleanDisk};
+ghost use Rattle.party_reading.specs.Home.{Keeps, Leaves, Shows};
+ghost use Rattle.party_reading.specs.Telling.{IsToldOf, MayFail};
+ghost use Rattle.party_reading.specs.HomeLaws as laws;
 
-use crate::own::{read_rows, standing_of};
-use crate::rows::{ended_by, given_by, is_present, persons_of};
-use caller_view::{AuthorityRows, MemberRows, OwnRows, Reads, reads_of};
-use desk_words::{
-    Appointment, Capacity, CastMark, Listing, MeetingId, NewCast, Party, PartyRequest,
+use crate::rows::{
+    casts_of, casts_on, demands_of, ended_by, given_by, is_present, naming, naming_by, persons_of,
+    row_of, trusting, trusting_for,
 };
-use meeting_views::no_rows_of;
+use caller_view::{OwnRows, Reads, reads_of};
+use desk_words::{
+    Appointment, Authority, CastMark, DemandMark, Ending, Listing, MeetingId, Party, PartyRequest,
+    RegisterRow,
+};
 use office_lists::ReadFault;
+use row_source::{RowSource, rows_for};
 use sqlite::{Alter, Transaction};
 use std::alloc::Global;
 
-/// The appointments of a member among these.
-fn of_member(received: Listing<Appointment>, member: Party) -> Listing<Appointment>
-    ensures { result ≡ filter (is_given_by member) received }
-{
-    let mut found = received.into_vec();
-    found.retain(|appointment| appointment.member.is(member));
-    Listing::from_vec(found)
-}
-
-/// A member among these.
-fn one_member(members: Listing<MemberRows>, member: Party) -> Listing<MemberRows>
-    ensures { result ≡ filter (λ (rows : MemberRows). same_name rows.member member) members }
-{
-    let mut found = members.into_vec();
-    found.retain(|rows| rows.member.is(member));
-    Listing::from_vec(found)
-}
-
-/// The authorities of a corporation among these.
-fn of_corporation(authorised: Listing<AuthorityRows>, corporation: Party) -> Listing<AuthorityRows>
-    ensures { result
-        ≡ filter (λ (rows : AuthorityRows). same_name rows.authority.corporation corporation)
-        authorised }
-{
-    let mut found = authorised.into_vec();
-    found.retain(|rows| rows.authority.corporation.is(corporation));
-    Listing::from_vec(found)
-}
-
-/// The votes on a resolution among these.
-fn casts_on(casts: Listing<CastMark>, resolution: u64) -> Listing<CastMark>
-    ensures { result ≡ cast_on resolution casts }
-{
-    let mut found = casts.into_vec();
-    found.retain(|cast| cast.resolution == resolution);
-    Listing::from_vec(found)
-}
-
-/// What a vote reads of the appointments that name the party: as a proxy, those of the member.
-fn appointments_read(
+/// A transaction over the tables, in which the records of a meeting are looked up.
+#[derive(Drop)]
+struct InTables<'t, 'c, S: Alter> {
     alloc: Global,
-    received: Listing<Appointment>,
-    new: &NewCast,
-) -> Listing<Appointment>
-    ensures { result ≡ appointments_read new.now received new.now.capacity }
-{
-    match new.capacity {
-        Capacity::Proxy => of_member(received, new.member),
-        Capacity::Member | Capacity::Rep => Listing::new(alloc),
+    tx: &'t mut Transaction<'c, S>,
+    meeting: MeetingId,
+}
+
+impl<S: Alter> RowSource for InTables<'_, '_, S> {
+    type Error = ReadFault;
+
+    ghost trusted = { λ it. HasCleanDisk (state S.Store it.tx.now.conn.now) };
+
+    ghost shows = { λ it found. Shows S.Store it.tx.now.conn.now it.meeting found };
+
+    ghost keeps = { λ a b. (b.tx.ghost_name ≡ a.tx.ghost_name)
+        × (b.tx.now.conn.ghost_name ≡ a.tx.now.conn.ghost_name) × (b.meeting ≡ a.meeting)
+        × Keeps S.Store a.tx.now.conn.now b.tx.now.conn.now };
+
+    ghost leaves = { λ a b. (b.tx.ghost_name ≡ a.tx.ghost_name)
+        × (b.tx.now.conn.ghost_name ≡ a.tx.now.conn.ghost_name) × (b.meeting ≡ a.meeting)
+        × Leaves S.Store a.tx.now.conn.now b.tx.now.conn.now };
+
+    ghost may_fail = { MayFail };
+
+    fn row_of(&mut self, member: Party) -> Result<Option<RegisterRow>, ReadFault> {
+        row_of(self.tx, self.alloc, self.meeting, member)
     }
-}
 
-/// What a vote reads of the members who named the party: as a proxy, the member.
-fn members_read(alloc: Global, members: Listing<MemberRows>, new: &NewCast) -> Listing<MemberRows>
-    ensures { result ≡ members_read new.now members new.now.capacity }
-{
-    match new.capacity {
-        Capacity::Proxy => one_member(members, new.member),
-        Capacity::Member | Capacity::Rep => Listing::new(alloc),
+    fn given_by(&mut self, member: Party) -> Result<Listing<Appointment>, ReadFault> {
+        given_by(self.tx, self.alloc, self.meeting, member)
     }
-}
 
-/// What a vote reads of the authorities that were given to the party: as a representative, that of
-/// the member.
-fn authorities_read(
-    alloc: Global,
-    authorised: Listing<AuthorityRows>,
-    new: &NewCast,
-) -> Listing<AuthorityRows>
-    ensures { result ≡ authorities_read new.now authorised new.now.capacity }
-{
-    match new.capacity {
-        Capacity::Rep => of_corporation(authorised, new.member),
-        Capacity::Member | Capacity::Proxy => Listing::new(alloc),
+    fn naming(&mut self, party: Party) -> Result<Listing<Appointment>, ReadFault> {
+        naming(self.tx, self.alloc, self.meeting, party)
     }
-}
 
-/// What a vote reads of a party's rows.
-fn for_cast(alloc: Global, rows: OwnRows, new: &NewCast) -> OwnRows
-    ensures { result ≡ rows_kept (reads.Vote new.now) rows }
-{
-    OwnRows {
-        row: rows.row,
-        received: appointments_read(alloc, rows.received, new),
-        members: members_read(alloc, rows.members, new),
-        authorised: authorities_read(alloc, rows.authorised, new),
-        casts: casts_on(rows.casts, new.resolution),
-        ..no_rows_of(alloc, rows.party)
+    fn naming_by(
+        &mut self,
+        member: Party,
+        party: Party,
+    ) -> Result<Listing<Appointment>, ReadFault> {
+        naming_by(self.tx, self.alloc, self.meeting, member, party)
     }
-}
 
-/// What is read of a party's rows for what it casts as instructed.
-fn for_instructed(alloc: Global, rows: OwnRows, resolution: u64) -> OwnRows
-    ensures { result ≡ rows_kept (reads.AsInstructed resolution) rows }
-{
-    OwnRows {
-        received: rows.received,
-        members: rows.members,
-        casts: casts_on(rows.casts, resolution),
-        ..no_rows_of(alloc, rows.party)
+    fn ended_by(&mut self, member: Party) -> Result<Listing<Ending>, ReadFault> {
+        ended_by(self.tx, self.alloc, self.meeting, member)
     }
+
+    fn persons_of(&mut self, party: Party) -> Result<Listing<Authority>, ReadFault> {
+        persons_of(self.tx, self.alloc, self.meeting, party)
+    }
+
+    fn trusting(&mut self, party: Party) -> Result<Listing<Authority>, ReadFault> {
+        trusting(self.tx, self.alloc, self.meeting, party)
+    }
+
+    fn trusting_for(
+        &mut self,
+        corporation: Party,
+        party: Party,
+    ) -> Result<Listing<Authority>, ReadFault> {
+        trusting_for(self.tx, self.alloc, self.meeting, corporation, party)
+    }
+
+    fn is_present(&mut self, party: Party) -> Result<bool, ReadFault> {
+        is_present(self.tx, self.alloc, self.meeting, party)
+    }
+
+    fn demands_of(&mut self, party: Party) -> Result<Listing<DemandMark>, ReadFault> {
+        demands_of(self.tx, self.alloc, self.meeting, party)
+    }
+
+    fn casts_of(&mut self, party: Party) -> Result<Listing<CastMark>, ReadFault> {
+        casts_of(self.tx, self.alloc, self.meeting, party)
+    }
+
+    fn casts_on(&mut self, party: Party, resolution: u64) -> Result<Listing<CastMark>, ReadFault> {
+        casts_on(self.tx, self.alloc, self.meeting, party, resolution)
+    }
+
+    ghost still_shows = { λ a b keep trust found shown. laws.still_shows S.Store.own
+        a.tx.now.conn.now b.tx.now.conn.now a.meeting b.meeting keep.2 keep.3 trust found shown };
+
+    ghost was_trusted = { λ a b left trust. left.3.was_clean trust };
+
+    ghost keeps_then = { λ a b c one two. (
+      two.0 ∙ one.0,
+      two.1 ∙ one.1,
+      two.2 ∙ one.2,
+      laws.keeps_then S.Store.own a.tx.now.conn.now b.tx.now.conn.now c.tx.now.conn.now
+          one.3 two.3,
+    ) };
+
+    ghost leaves_then = { λ a b c one two. (
+      two.0 ∙ one.0,
+      two.1 ∙ one.1,
+      two.2 ∙ one.2,
+      laws.leaves_then S.Store.own a.tx.now.conn.now b.tx.now.conn.now c.tx.now.conn.now
+          one.3 two.3,
+    ) };
+
+    ghost memory_may_fail = { laws.memory_may_fail };
 }
 
-/// The appointments that a party gave, and their endings, alone.
-fn given_alone<S: Alter>(
+/// The rows of a party in a meeting; where there is none of that name, none. Of the tables it reads
+/// what names both, and of the members who named the party and of the corporations that authorised
+/// it their own.
+pub fn read_rows<S: Alter>(
     tx: &mut Transaction<'_, S>,
     alloc: Global,
     meeting: MeetingId,
@@ -134,108 +140,20 @@ fn given_alone<S: Alter>(
 ) -> Result<OwnRows, ReadFault>
     ensures same_reference { tx.new.conn.ghost_name ≡ tx.old.conn.ghost_name }
     ensures told { IsToldOf S.Store tx.old.conn.now tx.new.conn.now result
-        (λ office rows. rows ≡ given_read (rows_in (meeting_at office meeting) party)) }
+        (λ office rows. rows ≡ rows_in (meeting_at office meeting) party) }
 {
-    let given = given_by(tx, alloc, meeting, party)?;
-    let ended = ended_by(tx, alloc, meeting, party)?;
-    Ok(OwnRows {
-        given,
-        ended,
-        ..no_rows_of(alloc, party)
-    })
-}
-
-/// The authorities that a party gave, alone.
-fn persons_alone<S: Alter>(
-    tx: &mut Transaction<'_, S>,
-    alloc: Global,
-    meeting: MeetingId,
-    party: Party,
-) -> Result<OwnRows, ReadFault>
-    ensures same_reference { tx.new.conn.ghost_name ≡ tx.old.conn.ghost_name }
-    ensures told { IsToldOf S.Store tx.old.conn.now tx.new.conn.now result
-        (λ office rows. rows ≡ persons_read (rows_in (meeting_at office meeting) party)) }
-{
-    let persons = persons_of(tx, alloc, meeting, party)?;
-    Ok(OwnRows {
-        persons,
-        ..no_rows_of(alloc, party)
-    })
-}
-
-/// Whether a party is present, alone.
-fn presence_alone<S: Alter>(
-    tx: &mut Transaction<'_, S>,
-    alloc: Global,
-    meeting: MeetingId,
-    party: Party,
-) -> Result<OwnRows, ReadFault>
-    ensures same_reference { tx.new.conn.ghost_name ≡ tx.old.conn.ghost_name }
-    ensures told { IsToldOf S.Store tx.old.conn.now tx.new.conn.now result
-        (λ office rows. rows
-        ≡ rows_kept reads.Presence (rows_in (meeting_at office meeting) party)) }
-{
-    let present = is_present(tx, alloc, meeting, party)?;
-    Ok(OwnRows {
-        present,
-        ..no_rows_of(alloc, party)
-    })
-}
-
-/// No rows. The tables are asked all the same, whether the party is present, and so are known to be
-/// open.
-fn none_of_them<S: Alter>(
-    tx: &mut Transaction<'_, S>,
-    alloc: Global,
-    meeting: MeetingId,
-    party: Party,
-) -> Result<OwnRows, ReadFault>
-    ensures same_reference { tx.new.conn.ghost_name ≡ tx.old.conn.ghost_name }
-    ensures told { IsToldOf S.Store tx.old.conn.now tx.new.conn.now result
-        (λ office rows. rows
-        ≡ rows_kept reads.Nothing (rows_in (meeting_at office meeting) party)) }
-{
-    is_present(tx, alloc, meeting, party)?;
-    Ok(no_rows_of(alloc, party))
-}
-
-/// What a vote reads of a party's rows.
-fn read_for_cast<S: Alter>(
-    tx: &mut Transaction<'_, S>,
-    alloc: Global,
-    meeting: MeetingId,
-    party: Party,
-    new: &NewCast,
-) -> Result<OwnRows, ReadFault>
-    ensures same_reference { tx.new.conn.ghost_name ≡ tx.old.conn.ghost_name }
-    ensures told { IsToldOf S.Store tx.old.conn.now tx.new.conn.now result
-        (λ office rows. rows
-        ≡ rows_kept (reads.Vote new.now) (rows_in (meeting_at office meeting) party)) }
-{
-    let rows = read_rows(tx, alloc, meeting, party)?;
-    Ok(for_cast(alloc, rows, new))
-}
-
-/// What is read of a party's rows for what it casts as instructed.
-fn read_for_instructed<S: Alter>(
-    tx: &mut Transaction<'_, S>,
-    alloc: Global,
-    meeting: MeetingId,
-    party: Party,
-    resolution: u64,
-) -> Result<OwnRows, ReadFault>
-    ensures same_reference { tx.new.conn.ghost_name ≡ tx.old.conn.ghost_name }
-    ensures told { IsToldOf S.Store tx.old.conn.now tx.new.conn.now result
-        (λ office rows. rows
-        ≡ rows_kept (reads.AsInstructed resolution) (rows_in (meeting_at office meeting) party)) }
-{
-    let rows = read_rows(tx, alloc, meeting, party)?;
-    Ok(for_instructed(alloc, rows, resolution))
+    rows_for(
+        &mut InTables { alloc, tx, meeting },
+        alloc,
+        party,
+        &Reads::Everything,
+    )
 }
 
 /// Those of a party's rows in a meeting that the answer to its request reads, and nothing in place
 /// of the others; where there is no meeting of that name, none. What the party gave, whom it
-/// authorised and whether it is present are read alone where no more is asked.
+/// authorised and whether it is present are read alone where no more is asked, and a vote reads of
+/// others the member alone for whom it is cast.
 pub fn read_asked<S: Alter>(
     tx: &mut Transaction<'_, S>,
     alloc: Global,
@@ -248,16 +166,10 @@ pub fn read_asked<S: Alter>(
         (λ office rows. rows
         ≡ rows_read asked.now (rows_in (meeting_at office meeting) party)) }
 {
-    match reads_of(asked) {
-        Reads::Nothing => none_of_them(tx, alloc, meeting, party),
-        Reads::Everything => read_rows(tx, alloc, meeting, party),
-        Reads::Given => given_alone(tx, alloc, meeting, party),
-        Reads::Persons => persons_alone(tx, alloc, meeting, party),
-        Reads::Presence => presence_alone(tx, alloc, meeting, party),
-        Reads::Standing => standing_of(tx, alloc, meeting, party),
-        Reads::Vote(new) => read_for_cast(tx, alloc, meeting, party, &new),
-        Reads::AsInstructed(resolution) => {
-            read_for_instructed(tx, alloc, meeting, party, resolution)
-        }
-    }
+    rows_for(
+        &mut InTables { alloc, tx, meeting },
+        alloc,
+        party,
+        &reads_of(asked),
+    )
 }

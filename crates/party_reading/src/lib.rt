@@ -4,11 +4,10 @@
 
 mod asked;
 pub mod found;
-mod members;
 mod own;
 mod public;
 mod rows;
 
-pub use asked::read_asked;
-pub use own::{read_own, read_rows};
+pub use asked::{read_asked, read_rows};
+pub use own::read_own;
 pub use public::{KeptRecord, meeting_of, polls_of, read_closed, read_public};

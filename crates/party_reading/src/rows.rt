@@ -4,9 +4,10 @@ ghost use Rattle.std.specs.List.{list_any};
 ghost use Rattle.proxy_rules.specs.Holdings.{is_ended_of, is_given_by};
 ghost use Rattle.proxy_rules.specs.Parties.{authorises, is_authority_of, is_cast_by, is_demanded_by, is_presence_of, names};
 ghost use Rattle.proxy_rules.specs.Shares.{row_of};
+ghost use Rattle.caller_view.specs.Reads.{cast_on};
 ghost use Rattle.caller_view.specs.Views.{meeting_at};
-ghost use Rattle.party_reading.specs.Lists.{appointments_in, authorities_in, casts_in};
-ghost use Rattle.party_reading.specs.Lists.{demands_in, endings_in, presences_in, register_in};
+ghost use Rattle.row_source.specs.Lists.{appointments_in, authorities_in, cast_in, casts_in, naming_by_in, trusting_for_in};
+ghost use Rattle.row_source.specs.Lists.{demands_in, endings_in, presences_in, register_in};
 ghost use Rattle.party_reading.specs.Telling.{IsToldOf};
 
 use crate::found::{first, found, items};
@@ -73,6 +74,32 @@ pub(crate) fn naming<S: Alter>(
     )
 }
 
+/// Those of the appointments that name a party.
+fn naming_among(given: Listing<Appointment>, party: Party) -> Listing<Appointment>
+    ensures { result ≡ filter (names party) given }
+{
+    let mut found = given.into_vec();
+    found.retain(|appointment| appointment.proxy.is(party));
+    Listing::from_vec(found)
+}
+
+/// Those of them that a member gave. They are chosen among all that the member gave, which are few:
+/// of two indexes that serve a statement with both names it is not known which one is taken.
+pub(crate) fn naming_by<S: Alter>(
+    tx: &mut Transaction<'_, S>,
+    alloc: Global,
+    meeting: MeetingId,
+    member: Party,
+    party: Party,
+) -> Result<Listing<Appointment>, ReadFault>
+    ensures same_reference { tx.new.conn.ghost_name ≡ tx.old.conn.ghost_name }
+    ensures told { IsToldOf S.Store tx.old.conn.now tx.new.conn.now result
+        (λ office received. received ≡ naming_by_in (meeting_at office meeting) member party) }
+{
+    let given = given_by(tx, alloc, meeting, member)?;
+    Ok(naming_among(given, party))
+}
+
 /// A member's endings of its appointments (section 330), in order of receipt.
 pub(crate) fn ended_by<S: Alter>(
     tx: &mut Transaction<'_, S>,
@@ -121,6 +148,27 @@ pub(crate) fn trusting<S: Alter>(
     items(alloc, found(alloc, authorities::naming(tx, meeting, party)))
 }
 
+/// Those of them that a corporation gave.
+pub(crate) fn trusting_for<S: Alter>(
+    tx: &mut Transaction<'_, S>,
+    alloc: Global,
+    meeting: MeetingId,
+    corporation: Party,
+    party: Party,
+) -> Result<Listing<Authority>, ReadFault>
+    ensures same_reference { tx.new.conn.ghost_name ≡ tx.old.conn.ghost_name }
+    ensures told { IsToldOf S.Store tx.old.conn.now tx.new.conn.now result
+        (λ office given. given ≡ trusting_for_in (meeting_at office meeting) corporation party) }
+{
+    items(
+        alloc,
+        found(
+            alloc,
+            authorities::naming_by(tx, meeting, corporation, party),
+        ),
+    )
+}
+
 /// Whether a party is marked present (section 318).
 pub(crate) fn is_present<S: Alter>(
     tx: &mut Transaction<'_, S>,
@@ -167,4 +215,36 @@ pub(crate) fn casts_of<S: Alter>(
         (λ office casts. casts ≡ filter (is_cast_by party) (casts_in (meeting_at office meeting))) }
 {
     items(alloc, found(alloc, casts::cast_by(tx, meeting, party)))
+}
+
+/// The votes on a resolution among these.
+fn among(casts: Listing<CastMark>, resolution: u64) -> Listing<CastMark>
+    ensures { result ≡ cast_on resolution casts }
+{
+    let mut found = casts.into_vec();
+    found.retain(|cast| cast.resolution == resolution);
+    Listing::from_vec(found)
+}
+
+/// The votes that a party cast on a resolution, in order of receipt. A number past those that a
+/// column holds is looked for among all of its votes.
+pub(crate) fn casts_on<S: Alter>(
+    tx: &mut Transaction<'_, S>,
+    alloc: Global,
+    meeting: MeetingId,
+    party: Party,
+    resolution: u64,
+) -> Result<Listing<CastMark>, ReadFault>
+    ensures same_reference { tx.new.conn.ghost_name ≡ tx.old.conn.ghost_name }
+    ensures told { IsToldOf S.Store tx.old.conn.now tx.new.conn.now result
+        (λ office casts. casts ≡ cast_on resolution (cast_in (meeting_at office meeting) party)) }
+{
+    if resolution >= 1 << 63 {
+        let casts = casts_of(tx, alloc, meeting, party)?;
+        return Ok(among(casts, resolution));
+    }
+    items(
+        alloc,
+        found(alloc, casts::cast_on(tx, meeting, party, resolution)),
+    )
 }

@@ -2,7 +2,7 @@ use Rattle.std.proofs.Common.{◌≡◌, Err, filter, refl, sym, ◌∙◌, rule
 use Rattle.desk_words.specs.Finding.{meeting_named}
 use Rattle.office_answers.specs.Reads.{polls_alone}
 use Rattle.proxy_rules.specs.Parties.{is_presence_of}
-use Rattle.party_reading.specs.Lists.{presences_in}
+use Rattle.row_source.specs.Lists.{presences_in}
 use Rattle.party_reading.proofs.TellingLemmas.{told_after, told_both, told_so, told_stop}
 use Rattle.meeting_reading.specs.Parts.{presence_alone}
 use Rattle.meeting_reading.proofs.PartLemmas.{joined, none_so}

@@ -1,7 +1,7 @@
 use Rattle.std.proofs.Common.{◌≡◌, Err, refl, sym, ◌∙◌, rules}
 use Rattle.desk_words.specs.Finding.{meeting_named}
 use Rattle.office_answers.specs.Reads.{polls_alone}
-use Rattle.party_reading.specs.Lists.{register_in}
+use Rattle.row_source.specs.Lists.{register_in}
 use Rattle.party_reading.proofs.TellingLemmas.{told_after, told_both, told_so, told_stop}
 use Rattle.meeting_reading.specs.Parts.{register_alone}
 use Rattle.meeting_reading.proofs.PartLemmas.{joined, none_so}

@@ -8,7 +8,7 @@ use Rattle.desk_schema.specs.Contents as table
 use Rattle.desk_records.proofs.ListChanges.{list_of}
 use Rattle.desk_records.proofs.Names.ListName.{Register}
 use Rattle.desk_words.specs.Office.{are_rows}
-use Rattle.party_reading.specs.Lists.{register_in}
+use Rattle.row_source.specs.Lists.{register_in}
 use Rattle.party_reading.proofs.FoundLemmas.{items_told, yields_tell}
 use Rattle.party_reading.proofs.MeetingLemmas.{list_is}
 use Rattle.party_reading.proofs.TellingLemmas.{told_so, told_stop}

@@ -1,6 +1,6 @@
 use Rattle.std.proofs.Common.{◌≡◌, Err, refl, sym, ◌∙◌, rules}
 use Rattle.desk_words.specs.Finding.{meeting_named}
-use Rattle.party_reading.specs.Lists.{demands_in}
+use Rattle.row_source.specs.Lists.{demands_in}
 use Rattle.party_reading.proofs.TellingLemmas.{told_after, told_both, told_so, told_stop}
 use Rattle.meeting_reading.specs.Parts.{shares_alone, shares_and_demands}
 use Rattle.meeting_reading.proofs.PartLemmas.{joined, none_so}

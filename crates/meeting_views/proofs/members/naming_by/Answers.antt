@@ -7,6 +7,9 @@ use Rattle.std.proofs.lemmas.Option.{gets}
 use Rattle.desk_terms.specs.Names.{same_name}
 use Rattle.desk_words.specs.declared.records.Appointment.{Appointment}
 use Rattle.proxy_rules.proofs.NameLemmas.{filter-named}
+use Rattle.caller_view.proofs.OwnLemmas.{filter-swap}
+use Rattle.proxy_rules.specs.Holdings.{is_given_by}
+use Rattle.proxy_rules.specs.Parties.{names}
 use Rattle.meeting_views.proofs.members.naming_by.Goals as goal
 
 pub loop-place-preserved : goal.loop-place-preserved
@@ -20,3 +23,4 @@ returns c =
     ∙ ap (λ l. naming (filter_map (slice_get c.as_slice-all.result.now) l)) (take_all _ places c.loop-place-test.false)
     ∙ ap (λ (all : List Appointment). naming (filter_map (slice_get all) places)) c.as_slice-all.ensures
     ∙ ap naming (c.places_by_first-place-items.ensures.picked ∙ filter-named (λ (a : Appointment). a.member) c.args.member c.args.appointments.now)
+    ∙ filter-swap (names c.args.party) (is_given_by c.args.member) c.args.appointments.now

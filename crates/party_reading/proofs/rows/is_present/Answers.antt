@@ -6,7 +6,7 @@ use Rattle.desk_schema.specs.Contents as table
 use Rattle.desk_records.proofs.ListChanges.{list_of}
 use Rattle.desk_records.proofs.Names.ListName.{Presences}
 use Rattle.proxy_rules.specs.Parties.{is_presence_of}
-use Rattle.party_reading.specs.Lists.{presences_in}
+use Rattle.row_source.specs.Lists.{presences_in}
 use Rattle.party_reading.proofs.FoundLemmas.{items_told, received_so}
 use Rattle.party_reading.proofs.RowLemmas.{some_pass}
 use Rattle.party_reading.proofs.TellingLemmas.{told_so, told_stop}

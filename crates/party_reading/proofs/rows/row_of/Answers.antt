@@ -4,7 +4,7 @@ use Rattle.desk_words.specs.declared.office.OfficeLists.{OfficeLists}
 use Rattle.desk_words.specs.declared.records.RegisterRow.{RegisterRow}
 use Rattle.desk_schema.specs.Contents as table
 use Rattle.proxy_rules.specs.Shares as shares
-use Rattle.party_reading.specs.Lists.{register_in}
+use Rattle.row_source.specs.Lists.{register_in}
 use Rattle.party_reading.proofs.FoundLemmas.{items_told}
 use Rattle.party_reading.proofs.RowLemmas.{row_so}
 use Rattle.party_reading.proofs.TellingLemmas.{told_so, told_stop}

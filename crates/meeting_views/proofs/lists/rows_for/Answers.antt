@@ -1,0 +1,11 @@
+use Rattle.std.proofs.Common.{Some, refl, ap, ◌∙◌}
+use Rattle.caller_view.specs.Reads.{rows_kept}
+use Rattle.caller_view.specs.Rows as rows
+use Rattle.caller_view.specs.declared.reads.Reads.{Reads}
+use Rattle.meeting_views.proofs.ListLemmas.{if_ok}
+use Rattle.meeting_views.proofs.lists.rows_for.Goals as goal
+
+pub returns : goal.returns
+returns c =
+    let all = rows.rows_of c.args.lists.now c.args.party in
+    if_ok _ _ c.rows_for.result (λ made is. is ∙ ap (λ (what : Reads). rows_kept what all) c.reads_of.ensures) (c.rows_for.ensures.told tt (Some c.args.lists.now) refl)

@@ -1,0 +1,27 @@
+-- A look-up in a transaction over the tables.
+use Rattle.std.proofs.Common.{Option, Result, OnOk, refl}
+use Rattle.std.specs.Prelude.{MatchResult}
+use Rattle.std.proofs.lemmas.Result.{on_ok_weaker}
+use Rattle.sqlite.specs.Held.{Held, state}
+use Rattle.sqlite.specs.State.{HasCleanDisk}
+use Rattle.sqlite_trees.specs.declared.store.Store as store
+use Rattle.desk_words.specs.Seen.{MeetingName}
+use Rattle.desk_words.specs.declared.office.MeetingLists.{MeetingLists}
+use Rattle.desk_words.specs.declared.office.OfficeLists.{OfficeLists}
+use Rattle.caller_view.specs.Views.{meeting_at}
+use Rattle.office_lists.specs.declared.fault.ReadFault.{ReadFault}
+use Rattle.party_reading.specs.Home.{Keeps, Leaves, Shows}
+use Rattle.party_reading.specs.Telling.{IsToldOf, MayFail}
+use Rattle.party_reading.proofs.TellingLemmas.{tells_weaker}
+
+module _ {S X : Type 0} (g : store.Ghosts S) (a b : Held S) (result : Result X ReadFault) where
+  -- what is told of the meeting that the tables show is told of their office
+  pub of_told : (meeting : MeetingName) (P : OfficeLists → X → Type 0) (Q : Option MeetingLists → X → Type 0) → (HasCleanDisk (state g b) → (found : Option MeetingLists) → Shows g a meeting found → MatchResult result (Q found) MayFail)
+      → OnOk result (Keeps g a b) → Leaves g a b → ((office : OfficeLists) (x : X) → Q (meeting_at office meeting) x → P office x) → IsToldOf g a b result P
+  of_told meeting P Q told kept left next = record {
+    told = λ read office holds is.
+        let shows : Shows g a meeting (meeting_at office meeting) = record { desk = read.1; office = office; holds = holds; kept = is; is = refl } in
+        tells_weaker (Q (meeting_at office meeting)) (P office) result (next office) (told read.0 (meeting_at office meeting) shows);
+    same = λ read. on_ok_weaker result (λ (keeps : Keeps g a b). keeps.same read) kept;
+    changes = left.changes;
+  }

@@ -1,0 +1,16 @@
+use Rattle.std.proofs.Common.{ap, sym, ◌∙◌}
+use Rattle.caller_view.specs.Reads.{rows_kept}
+use Rattle.caller_view.specs.Rows.{rows_in}
+use Rattle.caller_view.specs.Views.{meeting_at}
+use Rattle.caller_view.specs.declared.reads.Reads.{Reads}
+use Rattle.std.proofs.lemmas.Result.{on_ok_weaker}
+use Rattle.party_reading.proofs.HomeLemmas.{of_told}
+use Rattle.party_reading.proofs.asked.read_asked.Goals as goal
+
+pub returns-clause-told : goal.returns-clause-told
+returns-clause-told g c =
+    let all = c.rows_for.ensures in
+    let handed_back = c.tx-1.given.1 (sym all.left.0) in
+    rw handed_back
+    (of_told g.S.Store _ _ c.rows_for.result c.args.meeting _ _ all.told (on_ok_weaker c.rows_for.result (λ k. k.3) all.kept) all.left.3
+    (λ office rows is. is ∙ ap (λ (what : Reads). rows_kept what (rows_in (meeting_at office c.args.meeting) c.args.party)) c.reads_of.ensures))

@@ -1,0 +1,14 @@
+use Rattle.std.proofs.Common.{◌≡◌, ℕ, List, take}
+use Rattle.std.specs.BTreeSet.{contains}
+use Rattle.std.specs.List.{list_any}
+use Rattle.desk_terms.specs.Names.{name_cmp}
+use Rattle.caller_view.specs.Rows.{givers}
+use Rattle.proxy_rules.specs.Holdings.{is_given_by}
+use Rattle.row_source.proofs.members.givers.Given as goal
+
+-- the givers of the first appointments, who are those that were seen
+abbrev pub invariant-loop-appointment : goal.invariant-loop-appointment
+invariant-loop-appointment l = record {
+  members : l.members.items ≡ givers (take l.appointment-index l.given);
+  seen : (member : List ℕ) → contains name_cmp l.seen member ≡ list_any (is_given_by member) (take l.appointment-index l.given);
+}

@@ -1,0 +1,10 @@
+use Rattle.std.proofs.Common.{◌∙◌}
+use Rattle.row_source.proofs.RowLemmas.{nothing_is}
+use Rattle.row_source.proofs.TellingLemmas.{told_so}
+use Rattle.row_source.proofs.rows.none_of_them.Goals as goal
+
+pub returns : goal.returns
+returns g c =
+    let w = g.met.R.RowSource in
+    told_so _ _ _ _ _ _ _ c.in_ok-is_present.field-0 _ _ _ c.in_ok-is_present.ensures
+    (λ found p. c.no_rows_of.ensures ∙ nothing_is found c.args.party)

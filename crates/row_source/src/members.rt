@@ -1,0 +1,137 @@
+//! The members who named a party, and the corporations that authorised it.
+ghost use Rattle.std.specs.Prelude.{◌≡◌, IfOk, map};
+ghost use Rattle.std.specs.Option.{option_map_or};
+ghost use Rattle.caller_view.specs.Rows.{givers};
+ghost use Rattle.proxy_rules.specs.Shares.{shares_of};
+ghost use Rattle.row_source.specs.Lists.{authority_at, member_at, received_from, trusting_from};
+ghost use Rattle.row_source.specs.Lists.{with_members};
+ghost use Rattle.row_source.specs.Telling.{Tells};
+
+use crate::source::RowSource;
+use caller_view::{AuthorityRows, MemberRows};
+use desk_words::{Appointment, Authority, Listing, Party, RegisterRow};
+use proxy_rules::{Holding, shares};
+use std::alloc::{AllocError, Global};
+use std::collections::BTreeSet;
+
+/// Appointments that name a party, and the members who gave them, each once, in the order in which
+/// they first named it.
+#[derive(Drop)]
+pub(crate) struct ReceivedRows {
+    pub(crate) received: Listing<Appointment>,
+    pub(crate) members: Listing<MemberRows>,
+}
+
+/// How many shares a member of this row has. Treasury shares are none, and neither has one without
+/// a row.
+fn shares_by(row: &Option<RegisterRow>) -> u64
+    ensures { result ≡ option_map_or shares_of row.now 0 }
+{
+    match row {
+        Some(row) => shares(row),
+        None => 0,
+    }
+}
+
+/// A member, with its shares, its appointments and its endings.
+fn member_rows<R: RowSource>(source: &mut R, member: Party) -> Result<MemberRows, R::Error>
+    ensures { Tells R.trusted R.shows R.keeps R.leaves R.may_fail source.old source.new result
+        (λ found rows. rows ≡ member_at found member) }
+{
+    let row = source.row_of(member)?;
+    let appointed = source.given_by(member)?;
+    let ended = source.ended_by(member)?;
+    Ok(MemberRows {
+        member,
+        holding: Holding {
+            shares: shares_by(&row),
+            appointed,
+            ended,
+        },
+    })
+}
+
+/// The members who gave the appointments, each once, where it first gave one.
+fn givers(alloc: Global, given: &[Appointment]) -> Result<Vec<Party>, AllocError>
+    ensures { IfOk result (λ members. members.items ≡ givers given.now) }
+{
+    let mut members = Vec::new(alloc);
+    let mut seen = BTreeSet::new(alloc);
+    for appointment in given {
+        if seen.insert(appointment.member)? {
+            members.push(appointment.member)?;
+        }
+    }
+    Ok(members)
+}
+
+/// The appointments that name a party, or those that a giver gave, where one is named.
+fn received_from<R: RowSource>(
+    source: &mut R,
+    giver: Option<Party>,
+    party: Party,
+) -> Result<Listing<Appointment>, R::Error>
+    ensures { Tells R.trusted R.shows R.keeps R.leaves R.may_fail source.old source.new result
+        (λ found received. received ≡ received_from found giver party) }
+{
+    match giver {
+        None => source.naming(party),
+        Some(member) => source.naming_by(member, party),
+    }
+}
+
+/// The appointments that name a party (section 324), or those that a giver gave, where one is
+/// named; and the members who gave them.
+pub(crate) fn named<R: RowSource>(
+    source: &mut R,
+    alloc: Global,
+    giver: Option<Party>,
+    party: Party,
+) -> Result<ReceivedRows, R::Error>
+    ensures { Tells R.trusted R.shows R.keeps R.leaves R.may_fail source.old source.new result
+        (λ found named. named ≡ with_members found (received_from found giver party)) }
+{
+    let received = received_from(source, giver, party)?;
+    let mut members = Listing::new(alloc);
+    for member in &givers(alloc, received.as_slice())? {
+        members.push(member_rows(source, *member)?)?;
+    }
+    Ok(ReceivedRows { received, members })
+}
+
+/// The authorities that were given to a party, or that of a giver, where one is named.
+fn trusting_from<R: RowSource>(
+    source: &mut R,
+    giver: Option<Party>,
+    party: Party,
+) -> Result<Listing<Authority>, R::Error>
+    ensures { Tells R.trusted R.shows R.keeps R.leaves R.may_fail source.old source.new result
+        (λ found given. given ≡ trusting_from found giver party) }
+{
+    match giver {
+        None => source.trusting(party),
+        Some(corporation) => source.trusting_for(corporation, party),
+    }
+}
+
+/// The authorities that were given to a party (section 323), or that of a giver, where one is
+/// named; each with its corporation's row.
+pub(crate) fn authorised<R: RowSource>(
+    source: &mut R,
+    alloc: Global,
+    giver: Option<Party>,
+    party: Party,
+) -> Result<Listing<AuthorityRows>, R::Error>
+    ensures { Tells R.trusted R.shows R.keeps R.leaves R.may_fail source.old source.new result
+        (λ found all. all ≡ map (authority_at found) (trusting_from found giver party)) }
+{
+    let given = trusting_from(source, giver, party)?;
+    let mut all = Listing::new(alloc);
+    for authority in given.as_slice() {
+        all.push(AuthorityRows {
+            authority: *authority,
+            row: source.row_of(authority.corporation)?,
+        })?;
+    }
+    Ok(all)
+}

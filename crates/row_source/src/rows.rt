@@ -1,0 +1,261 @@
+//! Those of a party's rows in a meeting that the answer to its request reads.
+ghost use Rattle.std.specs.Prelude.{◌≡◌, map};
+ghost use Rattle.caller_view.specs.Reads.{rows_kept};
+ghost use Rattle.caller_view.specs.Rows.{no_rows_of, rows_in};
+ghost use Rattle.caller_view.specs.declared.reads.Reads.TheVariants as reads;
+ghost use Rattle.row_source.specs.Lists.{authority_at, for_member, naming_by_in, trusting_for_in};
+ghost use Rattle.row_source.specs.Lists.{with_members};
+ghost use Rattle.row_source.specs.Telling.{Tells};
+
+use crate::members::{authorised, named};
+use crate::source::RowSource;
+use caller_view::{OwnRows, Reads};
+use desk_words::{Capacity, Listing, NewCast, Party};
+use std::alloc::Global;
+
+/// The rows of a party where there is no meeting.
+pub fn no_rows_of(alloc: Global, party: Party) -> OwnRows
+    ensures { result ≡ no_rows_of party }
+{
+    OwnRows {
+        party,
+        row: None,
+        given: Listing::new(alloc),
+        ended: Listing::new(alloc),
+        persons: Listing::new(alloc),
+        received: Listing::new(alloc),
+        members: Listing::new(alloc),
+        authorised: Listing::new(alloc),
+        present: false,
+        demands: Listing::new(alloc),
+        casts: Listing::new(alloc),
+    }
+}
+
+/// What a party may act by at a meeting, and the polls that it demanded.
+fn standing_of<R: RowSource>(
+    source: &mut R,
+    alloc: Global,
+    party: Party,
+) -> Result<OwnRows, R::Error>
+    ensures { Tells R.trusted R.shows R.keeps R.leaves R.may_fail source.old source.new result
+        (λ found rows. rows ≡ rows_kept reads.Standing (rows_in found party)) }
+{
+    let named = named(source, alloc, None, party)?;
+    let row = source.row_of(party)?;
+    let authorised = authorised(source, alloc, None, party)?;
+    let present = source.is_present(party)?;
+    let demands = source.demands_of(party)?;
+    Ok(OwnRows {
+        row,
+        received: named.received,
+        members: named.members,
+        authorised,
+        present,
+        demands,
+        ..no_rows_of(alloc, party)
+    })
+}
+
+/// All rows of a party.
+fn rows_of<R: RowSource>(source: &mut R, alloc: Global, party: Party) -> Result<OwnRows, R::Error>
+    ensures { Tells R.trusted R.shows R.keeps R.leaves R.may_fail source.old source.new result
+        (λ found rows. rows ≡ rows_in found party) }
+{
+    let given = source.given_by(party)?;
+    let ended = source.ended_by(party)?;
+    let persons = source.persons_of(party)?;
+    let casts = source.casts_of(party)?;
+    let standing = standing_of(source, alloc, party)?;
+    Ok(OwnRows {
+        given,
+        ended,
+        persons,
+        casts,
+        ..standing
+    })
+}
+
+/// The appointments that a party gave, and their endings, alone.
+fn given_alone<R: RowSource>(
+    source: &mut R,
+    alloc: Global,
+    party: Party,
+) -> Result<OwnRows, R::Error>
+    ensures { Tells R.trusted R.shows R.keeps R.leaves R.may_fail source.old source.new result
+        (λ found rows. rows ≡ rows_kept reads.Given (rows_in found party)) }
+{
+    let given = source.given_by(party)?;
+    let ended = source.ended_by(party)?;
+    Ok(OwnRows {
+        given,
+        ended,
+        ..no_rows_of(alloc, party)
+    })
+}
+
+/// The authorities that a party gave, alone.
+fn persons_alone<R: RowSource>(
+    source: &mut R,
+    alloc: Global,
+    party: Party,
+) -> Result<OwnRows, R::Error>
+    ensures { Tells R.trusted R.shows R.keeps R.leaves R.may_fail source.old source.new result
+        (λ found rows. rows ≡ rows_kept reads.Persons (rows_in found party)) }
+{
+    let persons = source.persons_of(party)?;
+    Ok(OwnRows {
+        persons,
+        ..no_rows_of(alloc, party)
+    })
+}
+
+/// Whether a party is present, alone.
+fn presence_alone<R: RowSource>(
+    source: &mut R,
+    alloc: Global,
+    party: Party,
+) -> Result<OwnRows, R::Error>
+    ensures { Tells R.trusted R.shows R.keeps R.leaves R.may_fail source.old source.new result
+        (λ found rows. rows ≡ rows_kept reads.Presence (rows_in found party)) }
+{
+    let present = source.is_present(party)?;
+    Ok(OwnRows {
+        present,
+        ..no_rows_of(alloc, party)
+    })
+}
+
+/// No rows. The source is asked all the same, and so is known to answer.
+fn none_of_them<R: RowSource>(
+    source: &mut R,
+    alloc: Global,
+    party: Party,
+) -> Result<OwnRows, R::Error>
+    ensures { Tells R.trusted R.shows R.keeps R.leaves R.may_fail source.old source.new result
+        (λ found rows. rows ≡ rows_kept reads.Nothing (rows_in found party)) }
+{
+    source.is_present(party)?;
+    Ok(no_rows_of(alloc, party))
+}
+
+/// What votes as instructed on a resolution read.
+fn for_instructed<R: RowSource>(
+    source: &mut R,
+    alloc: Global,
+    party: Party,
+    resolution: u64,
+) -> Result<OwnRows, R::Error>
+    ensures { Tells R.trusted R.shows R.keeps R.leaves R.may_fail source.old source.new result
+        (λ found rows. rows ≡ rows_kept (reads.AsInstructed resolution) (rows_in found party)) }
+{
+    let named = named(source, alloc, None, party)?;
+    let casts = source.casts_on(party, resolution)?;
+    Ok(OwnRows {
+        received: named.received,
+        members: named.members,
+        casts,
+        ..no_rows_of(alloc, party)
+    })
+}
+
+/// What a vote reads in each capacity: the party's own row, and its votes on that resolution.
+fn for_member<R: RowSource>(
+    source: &mut R,
+    alloc: Global,
+    party: Party,
+    resolution: u64,
+) -> Result<OwnRows, R::Error>
+    ensures { Tells R.trusted R.shows R.keeps R.leaves R.may_fail source.old source.new result
+        (λ found rows. rows ≡ for_member found party resolution) }
+{
+    let row = source.row_of(party)?;
+    let casts = source.casts_on(party, resolution)?;
+    Ok(OwnRows {
+        row,
+        casts,
+        ..no_rows_of(alloc, party)
+    })
+}
+
+/// What a vote as a representative reads: besides, the authority that the corporation gave.
+fn for_rep<R: RowSource>(
+    source: &mut R,
+    alloc: Global,
+    party: Party,
+    new: &NewCast,
+) -> Result<OwnRows, R::Error>
+    ensures { Tells R.trusted R.shows R.keeps R.leaves R.may_fail source.old source.new result
+        (λ found rows. rows ≡ record (for_member found party new.now.resolution) {
+          authorised = map (authority_at found) (trusting_for_in found new.now.member party);
+        }) }
+{
+    let authorised = authorised(source, alloc, Some(new.member), party)?;
+    let rows = for_member(source, alloc, party, new.resolution)?;
+    Ok(OwnRows { authorised, ..rows })
+}
+
+/// What a vote as a proxy reads: besides, the member's appointments that name the party, and the
+/// member who gave them.
+fn for_proxy<R: RowSource>(
+    source: &mut R,
+    alloc: Global,
+    party: Party,
+    new: &NewCast,
+) -> Result<OwnRows, R::Error>
+    ensures { Tells R.trusted R.shows R.keeps R.leaves R.may_fail source.old source.new result
+        (λ found rows. rows ≡ record (for_member found party new.now.resolution) {
+          received = naming_by_in found new.now.member party;
+          members = (with_members found (naming_by_in found new.now.member party)).members;
+        }) }
+{
+    let named = named(source, alloc, Some(new.member), party)?;
+    let rows = for_member(source, alloc, party, new.resolution)?;
+    Ok(OwnRows {
+        received: named.received,
+        members: named.members,
+        ..rows
+    })
+}
+
+/// What a vote reads. As a proxy or a representative it reads of others the member alone for whom
+/// it is cast.
+fn for_vote<R: RowSource>(
+    source: &mut R,
+    alloc: Global,
+    party: Party,
+    new: &NewCast,
+) -> Result<OwnRows, R::Error>
+    ensures { Tells R.trusted R.shows R.keeps R.leaves R.may_fail source.old source.new result
+        (λ found rows. rows ≡ rows_kept (reads.Vote new.now) (rows_in found party)) }
+{
+    match new.capacity {
+        Capacity::Member => for_member(source, alloc, party, new.resolution),
+        Capacity::Rep => for_rep(source, alloc, party, new),
+        Capacity::Proxy => for_proxy(source, alloc, party, new),
+    }
+}
+
+/// Those of a party's rows in a meeting that are read, and nothing in place of the others, which
+/// are not looked up; where there is no meeting, none. The error is that of a look-up, or want of
+/// memory.
+pub fn rows_for<R: RowSource>(
+    source: &mut R,
+    alloc: Global,
+    party: Party,
+    what: &Reads,
+) -> Result<OwnRows, R::Error>
+    ensures { Tells R.trusted R.shows R.keeps R.leaves R.may_fail source.old source.new result
+        (λ found rows. rows ≡ rows_kept what.now (rows_in found party)) }
+{
+    match what {
+        Reads::Nothing => none_of_them(source, alloc, party),
+        Reads::Everything => rows_of(source, alloc, party),
+        Reads::Given => given_alone(source, alloc, party),
+        Reads::Persons => persons_alone(source, alloc, party),
+        Reads::Presence => presence_alone(source, alloc, party),
+        Reads::Standing => standing_of(source, alloc, party),
+        Reads::Vote(new) => for_vote(source, alloc, party, new),
+        Reads::AsInstructed(resolution) => for_instructed(source, alloc, party, *resolution),
+    }
+}
