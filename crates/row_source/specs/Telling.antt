@@ -2,9 +2,9 @@
 use Rattle.std.specs.Prelude.{Option, Result, MatchResult, OnOk}
 use Rattle.desk_words.specs.declared.office.MeetingLists.{MeetingLists}
 
--- where the source may be trusted after the look-up, the answer holds of the meeting that the source
--- showed, or of there being none, and an error is one that may be met; after an answer the source is
--- kept, and no look-up leaves more than this
+-- where the source may be trusted after the look-up, the answer holds of the meeting that it showed
+-- before, or of there being none, and an error is one that may be met; after an answer the source
+-- is kept, and no look-up leaves more than this
 pub record Tells {S X E : Type 0} (trusted : S → Type 0) (shows : S → Option MeetingLists → Type 0)
     (keeps leaves : S → S → Type 0) (may_fail : E → Type 0) (old new : S) (result : Result X E)
     (Holds : Option MeetingLists → X → Type 0) : Type 0 where
