@@ -1,5 +1,5 @@
 -- What the statements do to the rows of the tables.
-use Rattle.std.specs.Prelude.{◌≡◌, ◌≢◌, ℕ, Bool, false, ◌==◌, List, [], ◌∷◌, ◌++◌, map, filter, not, Option, Some, Result, OnOk, IsTrue}
+use Rattle.std.specs.Prelude.{◌≡◌, ◌≢◌, ℕ, Bool, false, ◌==◌, List, [], ◌∷◌, ◌++◌, map, filter, not, true, ◌&&◌, ◌||◌, Option, Some, Result, OnOk, IsTrue}
 use Rattle.std.specs.List.{AllByRecursion, list_all, list_any}
 use Rattle.sqlite.specs.declared.error.Error.{Error}
 use Rattle.sqlite.specs.Effect.{IsDatabase}
@@ -7,6 +7,9 @@ use Rattle.sqlite.specs.Order.{Row, column}
 use Rattle.sqlite.specs.Tree.{Trees}
 use Rattle.sqlite.specs.Table.{Table}
 use Rattle.sqlite.specs.Schema.{Schema}
+use Rattle.sqlite_schema.specs.declared.schema.Action.{Action}
+use Rattle.sqlite_schema.specs.declared.schema.Action.TheVariants.{NoAction}
+use Rattle.sqlite_schema.specs.declared.schema.Reference.{Reference}
 use Rattle.sqlite.specs.View.{IsShaped}
 use Rattle.sqlite.specs.State.{State, HasCleanDisk, Survives, KeepsCommit, IsUnchanged}
 use Rattle.sqlite.specs.Held.{Held, state}
@@ -36,9 +39,32 @@ has_table layout number = list_any (λ n. n == number) layout.numbers
 abbrev pub IsRising : List Row → Type 0
 IsRising = IsShaped shape.Table
 
+-- ---- no reference acts
+
+abbrev pub is_none : Action → Bool
+is_none NoAction = true
+is_none _ = false
+
+abbrev pub is_still : Reference → Bool
+is_still ref = is_none ref.on_delete && is_none ref.on_update
+
+-- the number is no table's of the desk
+abbrev pub is_other : Layout → Table → Bool
+is_other layout t = not (has_table layout t.tree)
+
+-- each table of which a reference acts is no table of the desk
+abbrev pub act_on_others : Layout → List Table → Bool
+act_on_others layout tables = list_all (λ (t : Table). list_all is_still t.references || is_other layout t) tables
+
+-- the tables of the version stand first, as they are declared
+pub record HasTables (layout : Layout) (s : Schema) : Type 0 where
+  pub others : List Table
+  pub tables : s.tables ≡ layout.schema.tables ++ others
+  pub apart : IsTrue (list_all (is_other layout) others)
+
 -- the tables are a desk's, of this version, and the numbers of their rows rise
 pub record IsDeskOf (layout : Layout) (s : State) : Type 0 where
-  pub schema : s.now.schema ≡ layout.schema
+  pub schema : HasTables layout s.now.schema
   pub rising : (number : ℕ) → IsTrue (has_table layout number) → IsRising (s.now.trees number)
 
 -- a table: its number, the places of its columns in a row, and what these columns mean

@@ -22,13 +22,15 @@ use Rattle.sqlite.specs.Rows.{Written}
 use Rattle.sqlite.specs.Effect.{Database}
 use Rattle.sqlite.specs.State.{State, mode_of, Writes}
 use Rattle.sqlite_trees.proofs.ListLemmas.{map-map}
-use Rattle.desk_schema.specs.Statements.{IsRising}
+use Rattle.desk_schema.specs.Statements.{IsRising, Layout, has_table}
 use Rattle.sqlite_trees.specs.View.{is_int}
 use Rattle.std.proofs.lemmas.Bool.{cases_Bool}
 use Rattle.sqlite_rules.proofs.PlaceLemmas.{tied_same}
 use Rattle.sqlite_rules.proofs.ListLemmas.{has_filtered}
 use Rattle.desk_statements.proofs.Seq.{is_its_id}
-use Rattle.desk_statements.proofs.Writing.{are_still, applied, untouched, went, same_value}
+use Rattle.desk_statements.proofs.Writing.{went, same_value}
+use Rattle.desk_statements.proofs.Acting.{first_step, step}
+use Rattle.desk_statements.proofs.Frames.{AreApart}
 
 -- ---- the rows that are left
 
@@ -163,15 +165,15 @@ left_are tree tests shows db params rows up same =
     ∙ any-map (λ x. has_rowid (id_in (rowid x)) r) (λ x. eval_all (col 1 0 ∷ shows) (params ∷ x ∷ [])) (filter m (db tree))
     ∙ each_row m (db tree) r up there)))
 
-pub record Deleted (schema : Schema) (table : Table) (tests : List Term) (params : Row) (old new : State) : Type 0 where
+pub record Deleted (layout : Layout) (schema : Schema) (table : Table) (tests : List Term) (params : Row) (old new : State) : Type 0 where
   pub same_schema : new.now.schema ≡ schema
   pub left : new.now.trees table.tree ≡ filter (λ r. not (passes tests params r)) (old.now.trees table.tree)
-  pub kept : (k : ℕ) (it : Table) → slice_get schema.tables k ≡ Some it → it.tree ≢ table.tree → new.now.trees it.tree ≡ old.now.trees it.tree
+  pub kept : (number : ℕ) → IsTrue (has_table layout number) → number ≢ table.tree → new.now.trees number ≡ old.now.trees number
 
-pub deleted : (old new : State) (schema : Schema) (at : ℕ) (table : Table) (tests : List Term) (text : List ℕ) (params : Row) (count : ℕ)
-    → are_still schema ≡ true → old.now.schema ≡ schema → slice_get schema.tables at ≡ Some table → given_at [] table.tree ≡ None → IsRising (old.now.trees table.tree)
-    → Writes old new None (Delete at (record { lets = []; body = chosen table.tree tests })) text params count → Deleted schema table tests params old new
-deleted old new schema at table tests text params count still has there none up w =
+pub deleted : {layout : Layout} {schema : Schema} → AreApart layout schema → (old new : State) (at : ℕ) (table : Table) (tests : List Term) (text : List ℕ) (params : Row) (count : ℕ)
+    → old.now.schema ≡ schema → slice_get schema.tables at ≡ Some table → given_at [] table.tree ≡ None → IsRising (old.now.trees table.tree) → IsTrue (has_table layout table.tree)
+    → Writes old new None (Delete at (record { lets = []; body = chosen table.tree tests })) text params count → Deleted layout schema table tests params old new
+deleted {schema = schema} apart old new at table tests text params count has there none up is w =
     let command = Delete at (record { lets = []; body = chosen table.tree tests }) in
     let changed = rw there at (subst (λ s. Does old.step_limit (mode_of old) params (record old.now { schema = s }) text None command (Ok (w.tally, new.now))) has w.changed) in
     let done = went changed in
@@ -181,9 +183,9 @@ deleted old new schema at table tests text params count still has there none up 
     let trees : done.0.trees ≡ written.0 = ap (λ (it : Written). it.trees) (same_value written.2) in
     let final : new.now.trees ≡ written.0 = ap (λ (d : Database). d.trees) now ∙ trees in
     let edit = edit_of old.now.trees table (ids_of given.0) Given 0 [] in
-    let step = applied schema still old.now.trees written.0 edit written.1 in
+    let one = first_step apart old.now.trees written.0 edit written.1 in
     record {
       same_schema = ap (λ (d : Database). d.schema) now;
-      left = ap (λ (t : Trees). t table.tree) final ∙ step.rows ∙ left_are table.tree tests [] old.now.trees params given.0 up (picked_rows table.tree tests [] old.now.trees params given.0 none (given.1.answer Null));
-      kept = λ k it listed apart. ap (λ (t : Trees). t it.tree) final ∙ untouched schema old.now.trees written.0 edit step k it listed apart;
+      left = ap (λ (t : Trees). t table.tree) final ∙ one.2 table.tree is ∙ one.1.rows ∙ left_are table.tree tests [] old.now.trees params given.0 up (picked_rows table.tree tests [] old.now.trees params given.0 none (given.1.answer Null));
+      kept = λ number of other. ap (λ (t : Trees). t number) final ∙ one.2 number of ∙ step apart old.now.trees one.0 edit one.1 number of other;
     }

@@ -4,6 +4,7 @@ use Rattle.sqlite.specs.Effect.{IsDatabase}
 use Rattle.sqlite.specs.Order.{Row}
 use Rattle.sqlite.specs.Term.{Term}
 use Rattle.sqlite.specs.Table.{Table}
+use Rattle.sqlite.specs.Schema.{Schema}
 use Rattle.sqlite.specs.Program.{given_at}
 use Rattle.sqlite.specs.Command.TheVariants.{Delete}
 use Rattle.sqlite.specs.declared.error.Error.{Error}
@@ -15,7 +16,7 @@ use Rattle.sqlite_trees.specs.declared.store.Shape.TheVariants as shape
 use Rattle.desk_rows.specs.Meanings.{all_mean}
 use Rattle.desk_schema.specs.Statements.{Layout, TableOf, columns_of, has_table, IsDeskOf, IsRising, KeepsOthersIn, ChangesIn}
 use Rattle.desk_statements.proofs.Deleting.{chosen, passes, deleted}
-use Rattle.desk_statements.proofs.Frames.{AreApart, still_desk, by_number}
+use Rattle.desk_statements.proofs.Frames.{AreApart, still_desk}
 use Rattle.desk_statements.proofs.GivenNumbers.{each_means}
 
 -- some rows are left, and nothing else is changed
@@ -26,22 +27,21 @@ pub record LeavesRows (layout : Layout) (number : ℕ) (left : Row → Bool) (ol
   pub inside : IsTrue new.in_transaction
   pub sound : IsDatabase new.now
 
-module _ {layout : Layout} (apart : AreApart layout) (at : ℕ) (table : Table) (tests : List Term) (text : List ℕ) (params : Row)
-    (is : command_of (understood layout.schema text) ≡ Delete at (record { lets = []; body = chosen table.tree tests })) (plain : IsPlain (understood layout.schema text))
-    (there : slice_get layout.schema.tables at ≡ Some table) (numbered_so : IsTrue (has_table layout table.tree)) (none : given_at [] table.tree ≡ None) where
-  pub leaves_rows : (old new : State) (r : Result ℕ Error) → IsDeskOf layout old → IsTrue old.in_transaction → ExecutesInside 0 text params old new r
+module _ {layout : Layout} {schema : Schema} (apart : AreApart layout schema) (at : ℕ) (table : Table) (tests : List Term) (text : List ℕ) (params : Row)
+    (is : command_of (understood schema text) ≡ Delete at (record { lets = []; body = chosen table.tree tests })) (plain : IsPlain (understood schema text))
+    (there : slice_get schema.tables at ≡ Some table) (numbered_so : IsTrue (has_table layout table.tree)) (none : given_at [] table.tree ≡ None) where
+  pub leaves_rows : (old new : State) (r : Result ℕ Error) → old.now.schema ≡ schema → IsDeskOf layout old → IsTrue old.in_transaction → ExecutesInside 0 text params old new r
       → OnOk r (LeavesRows layout table.tree (λ row. not (passes tests params row)) old new)
-  leaves_rows old new (Err e) was inside h = tt
-  leaves_rows old new (Ok count) was inside h =
+  leaves_rows old new (Err e) has was inside h = tt
+  leaves_rows old new (Ok count) has was inside h =
       let command = Delete at (record { lets = []; body = chosen table.tree tests }) in
-      let w = runs_as text params old new layout.schema was.schema command is plain count h.0 in
+      let w = runs_as text params old new schema has command is plain count h.0 in
       let up = was.rising table.tree numbered_so in
-      let d = deleted old new layout.schema at table tests (statement_of text (understood layout.schema text)) params count apart.still was.schema there none up w in
-      let kept = by_number apart table.tree old new (λ k it listed uncounted other. d.kept k it listed other) in
-      record {
+      let d = deleted apart old new at table tests (statement_of text (understood schema text)) params count has there none up numbered_so w in
+            record {
         rows = d.left;
-        others = kept;
-        desk = still_desk table.tree old new was d.same_schema kept (subst IsRising (sym d.left) (IsShaped-filter shape.Table (λ row. not (passes tests params row)) (old.now.trees table.tree) up));
+        others = d.kept;
+        desk = still_desk table.tree old new was (d.same_schema ∙ sym has) d.kept (subst IsRising (sym d.left) (IsShaped-filter shape.Table (λ row. not (passes tests params row)) (old.now.trees table.tree) up));
         inside = w.shown.mode ∙ inside;
         sound = w.sound;
       }

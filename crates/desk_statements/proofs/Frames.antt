@@ -1,36 +1,54 @@
 -- The tables of a version by their numbers, and what a write to one of them leaves of the others.
-use Rattle.std.proofs.Common.{◌≡◌, ◌≢◌, inl, inr, ℕ, suc, ◌==◌, List, [], ◌∷◌, Bool, true, not, ◌&&◌, slice_get, Some, refl, sym, subst, ◌∙◌, IsTrue, true≢false}
+use Rattle.std.proofs.Common.{◌≡◌, ◌≢◌, inl, inr, ℕ, suc, ◌==◌, List, [], ◌∷◌, ◌++◌, Bool, true, not, ◌&&◌, ◌||◌, false, slice_get, Some, refl, sym, subst, ◌∙◌, IsTrue, true≢false}
 use Rattle.std.specs.List.{AllByRecursion, list_all, list_any}
 use Rattle.std.proofs.lemmas.Bool.{and_parts}
 use Rattle.std.proofs.lemmas.Bool.Decides.{eqb_tells}
 use Rattle.sqlite.specs.Table.{Table}
+use Rattle.sqlite.specs.Schema.{Schema}
+use Rattle.sqlite_schema.specs.declared.schema.Index.{Index}
+use Rattle.sqlite_schema.specs.declared.schema.View.{View as Stored}
 use Rattle.sqlite.specs.Rows.{sequence}
 use Rattle.sqlite.specs.State.{State}
 use Rattle.desk_schema.specs.Tables.{sequence as counts_of_numbers}
-use Rattle.desk_schema.specs.Statements.{Layout, layout_one, has_table, AreEmpty, IsDeskOf, IsRising, KeepsOthersIn}
+use Rattle.desk_schema.specs.Statements.{Layout, layout_one, has_table, AreEmpty, HasTables, act_on_others, is_other, is_still, IsDeskOf, IsRising, KeepsOthersIn}
 use Rattle.sqlite_trees.proofs.ListLemmas.{all-slice_get}
-use Rattle.desk_statements.proofs.Writing.{are_still}
+
+-- a schema whose tables are these of the version and others beside, with any indexes and views
+abbrev pub beside : Layout → List Table → List Index → List Stored → Schema
+beside layout others indexes views = record { tables = layout.schema.tables ++ others; indexes = indexes; views = views }
+
+-- what holds of each such schema holds of a schema that has the tables
+pub wide : {layout : Layout} (P : Schema → Type 0) → ((others : List Table) → list_all (is_other layout) others ≡ true → (indexes : List Index) (views : List Stored) → P (beside layout others indexes views)) → (s : Schema) → HasTables layout s → P s
+wide P h s has = subst (λ ts. P (record { tables = ts; indexes = s.indexes; views = s.views })) (sym has.tables) (h has.others has.apart s.indexes s.views)
 
 -- no reference acts, one table counts the numbers given so far, and each number of a table of the
 -- desk is that of another one that is declared
-pub record AreApart (layout : Layout) : Type 0 where
-  pub still : are_still layout.schema ≡ true
+pub record AreApart (layout : Layout) (schema : Schema) : Type 0 where
+  pub acts : act_on_others layout schema.tables ≡ true
   pub counts : Table
-  pub counted : sequence layout.schema ≡ Some counts
-  pub declared : IsTrue (list_all (λ number. list_any (λ (t : Table). t.tree == number) layout.schema.tables && not (number == counts.tree)) layout.numbers)
+  pub counted : sequence schema ≡ Some counts
+  pub declared : IsTrue (list_all (λ number. list_any (λ (t : Table). t.tree == number) schema.tables && not (number == counts.tree)) layout.numbers)
 
-pub ones_apart : AreApart layout_one
+apart_act : (layout : Layout) (others : List Table) → list_all (is_other layout) others ≡ true → act_on_others layout others ≡ true
+apart_act layout [] h = refl
+apart_act layout (t ∷ others) h = let both = and_parts (is_other layout t) (list_all (is_other layout) others) h in rw (both.0, or_true (list_all is_still t.references), apart_act layout others both.1) refl
+  where
+    or_true : (b : Bool) → (b || true) ≡ true
+    or_true true = refl
+    or_true false = refl
+
+pub ones_apart : (schema : Schema) → HasTables layout_one schema → AreApart layout_one schema
 unfolding Rattle.sqlite_schema.specs.Names.same_name
-ones_apart = record { still = refl; counts = record counts_of_numbers { tree = 7 }; counted = refl; declared = refl }
+ones_apart = wide (AreApart layout_one) (λ others apart indexes views. record { acts = apart_act layout_one others apart; counts = record counts_of_numbers { tree = 7 }; counted = refl; declared = refl })
 
 -- a table with this number, and its place in the list
-record IsListed (tables : List Table) (number : ℕ) : Type 0 where
-  place : ℕ
-  table : Table
-  there : slice_get tables place ≡ Some table
-  numbered : table.tree ≡ number
+pub record IsListed (tables : List Table) (number : ℕ) : Type 0 where
+  pub place : ℕ
+  pub table : Table
+  pub there : slice_get tables place ≡ Some table
+  pub numbered : table.tree ≡ number
 
-listed_in : (tables : List Table) (number : ℕ) → list_any (λ (t : Table). t.tree == number) tables ≡ true → IsListed tables number
+pub listed_in : (tables : List Table) (number : ℕ) → list_any (λ (t : Table). t.tree == number) tables ≡ true → IsListed tables number
 listed_in [] number h = absurd (true≢false (sym h))
 listed_in (t ∷ tables) number h = elim (eqb_tells t.tree number) [
   | inl same ↦ record { place = 0; table = t; there = refl; numbered = same.1 }
@@ -48,35 +66,38 @@ passes_so test (n ∷ numbers) number all h =
     let tests = and_parts (test n) (list_all test numbers) all in
     elim (eqb_tells n number) [ inl same ↦ subst (λ k. test k ≡ true) same.1 tests.0 | inr other ↦ passes_so test numbers number tests.1 (rw other.0 at h) ]
 
-module _ {layout : Layout} (apart : AreApart layout) where
-  declared_apart : (number : ℕ) → IsTrue (has_table layout number) → IsTrue (list_any (λ (t : Table). t.tree == number) layout.schema.tables) × IsTrue (not (number == apart.counts.tree))
+module _ {layout : Layout} {schema : Schema} (apart : AreApart layout schema) where
+  declared_apart : (number : ℕ) → IsTrue (has_table layout number) → IsTrue (list_any (λ (t : Table). t.tree == number) schema.tables) × IsTrue (not (number == apart.counts.tree))
   declared_apart number is = and_parts _ _ (passes_so _ layout.numbers number apart.declared is)
+
+  pub declared_so : (number : ℕ) → IsTrue (has_table layout number) → IsTrue (list_any (λ (t : Table). t.tree == number) schema.tables)
+  declared_so number is = (declared_apart number is).0
 
   pub no_count : (number : ℕ) → IsTrue (has_table layout number) → number ≢ apart.counts.tree
   no_count number is = elim (eqb_tells number apart.counts.tree) [ inl same ↦ absurd (true≢false (sym (rw same.0 at (declared_apart number is).1))) | inr other ↦ other.1 ]
 
   -- what holds of the tree of each table that is declared holds of the numbers of the desk's
-  pub of_tables : (P : ℕ → Type 0) → AllByRecursion (λ (t : Table). P t.tree) layout.schema.tables → (number : ℕ) → IsTrue (has_table layout number) → P number
-  of_tables P all number is = of_tree P layout.schema.tables number all (declared_apart number is).0
+  pub of_tables : (P : ℕ → Type 0) → AllByRecursion (λ (t : Table). P t.tree) schema.tables → (number : ℕ) → IsTrue (has_table layout number) → P number
+  of_tables P all number is = of_tree P schema.tables number all (declared_apart number is).0
 
   -- each table but that of the counts and one other keeps its rows
   abbrev pub KeepsListed : ℕ → State → State → Type 0
-  KeepsListed changed old new = (k : ℕ) (it : Table) → slice_get layout.schema.tables k ≡ Some it → it.tree ≢ apart.counts.tree → it.tree ≢ changed → new.now.trees it.tree ≡ old.now.trees it.tree
+  KeepsListed changed old new = (k : ℕ) (it : Table) → slice_get schema.tables k ≡ Some it → it.tree ≢ apart.counts.tree → it.tree ≢ changed → new.now.trees it.tree ≡ old.now.trees it.tree
 
   pub by_number : (changed : ℕ) (old new : State) → KeepsListed changed old new → KeepsOthersIn layout changed old new
   by_number changed old new kept = λ number is other.
-      let it = listed_in layout.schema.tables number (declared_apart number is).0 in
+      let it = listed_in schema.tables number (declared_apart number is).0 in
       let same = it.numbered in
       subst (λ n. new.now.trees n ≡ old.now.trees n) same (kept it.place it.table it.there (λ e. no_count number is (sym same ∙ e)) (λ e. other (sym same ∙ e)))
 
   -- tables with no row are those of a desk
-  pub empty_is_desk : (s : State) → AreEmpty layout.schema s → IsDeskOf layout s
-  empty_is_desk s h = record { schema = h.0; rising = λ number is. subst IsRising (sym (of_tables (λ n. s.now.trees n ≡ []) h.1 number is)) (tt, tt) }
+  pub empty_is_desk : (s : State) → AreEmpty schema s → HasTables layout schema → IsDeskOf layout s
+  empty_is_desk s h has = record { schema = subst (HasTables layout) (sym h.0) has; rising = λ number is. subst IsRising (sym (of_tables (λ n. s.now.trees n ≡ []) h.1 number is)) (tt, tt) }
 
 -- the tables are still those of the desk after a write to one of them, where its rows rise
-pub still_desk : {layout : Layout} (changed : ℕ) (old new : State) → IsDeskOf layout old → new.now.schema ≡ layout.schema → KeepsOthersIn layout changed old new → IsRising (new.now.trees changed) → IsDeskOf layout new
-still_desk changed old new was schema kept mine = record {
-  schema = schema;
+pub still_desk : {layout : Layout} (changed : ℕ) (old new : State) → IsDeskOf layout old → new.now.schema ≡ old.now.schema → KeepsOthersIn layout changed old new → IsRising (new.now.trees changed) → IsDeskOf layout new
+still_desk {layout = layout} changed old new was schema kept mine = record {
+  schema = subst (HasTables layout) (sym schema) was.schema;
   rising = λ number is. elim (eqb_tells number changed) [
     | inl same ↦ subst (λ n. IsRising (new.now.trees n)) (sym same.1) mine
     | inr other ↦ subst IsRising (sym (kept number is other.1)) (was.rising number is)

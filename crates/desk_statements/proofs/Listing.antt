@@ -8,13 +8,14 @@ use Rattle.sqlite.specs.Order.{Row, column}
 use Rattle.sqlite.specs.Program.{given_at}
 use Rattle.sqlite.specs.State.{HasCleanDisk, Shown, FailsToQuery, IsTooLate, Survives}
 use Rattle.sqlite.specs.Table.{Table}
+use Rattle.sqlite.specs.Schema.{Schema}
 use Rattle.sqlite.specs.Term.{Term, col, eval_all}
 use Rattle.sqlite.proofs.Callers.{IsPlain, command_of}
 use Rattle.sqlite_trees.specs.declared.store.Store as store
-use Rattle.desk_schema.specs.Statements.{Layout, TableOf, ChangesNothingIn, IsReadIn, ReadsTable, has_table}
+use Rattle.desk_schema.specs.Statements.{Layout, HasTables, TableOf, ChangesNothingIn, IsReadIn, ReadsTable, has_table}
 use Rattle.desk_schema.specs.Texts.{given_names, listing_text}
 use Rattle.desk_statements.proofs.Commits.{query_keeps, query_opened}
-use Rattle.desk_statements.proofs.Reading.{whole, reads_whole}
+use Rattle.desk_statements.proofs.Reading.{AsksAs, whole, reads_whole}
 
 -- the terms that show the columns of a table
 abbrev pub shown_terms : {A : Type 0} → TableOf A → List Term
@@ -26,9 +27,7 @@ shows_columns params row (at ∷ places) = ap (λ l. column row at ∷ l) (shows
 
 -- in this version of the tables the text made of the table shows the columns of all its rows, in the order of their numbers
 pub record ListsTable {A : Type 0} (layout : Layout) (it : TableOf A) (table : Table) : Type 0 where
-  pub is : command_of (understood layout.schema (listing_text table)) ≡ Select (record { lets = []; body = whole it.number (shown_terms it) }) (given_names table)
-  pub plain : IsPlain (understood layout.schema (listing_text table))
-  pub unlisted : reads_listing layout.schema (listing_text table) ≡ false
+  pub asks : (s : Schema) → HasTables layout s → AsksAs s (listing_text table) (whole it.number (shown_terms it)) (given_names table)
   pub none : given_at [] it.number ≡ None
   pub numbered : IsTrue (has_table layout it.number)
 
@@ -36,12 +35,12 @@ module _ {A V S : Type 0} {layout : Layout} {it : TableOf A} {table : Table} (li
     (shown : HasCleanDisk (state g new) → IfOk r (λ v. Shown (listing_text table) [] (state g old) (state g new) (items v))) where
   pub listing_rows : IsReadIn layout g old new → IfOk r (λ v. ReadsTable g old new it (items v))
   listing_rows read =
-      reads_whole layout items it (shown_terms it) (given_names table) (listing_text table) lists.is lists.plain lists.unlisted lists.none lists.numbered (λ row. shows_columns [] row it.columns) (state g old) (state g new) r read.1 (shown read.0)
+      reads_whole layout items it (shown_terms it) (given_names table) (listing_text table) lists.asks lists.none lists.numbered (λ row. shows_columns [] row it.columns) (state g old) (state g new) r read.1 (shown read.0)
 
   pub listing_changes : (HasCleanDisk (state g new) → IfErr r (λ e. FailsToQuery (listing_text table) [] (state g old) (state g new) e ⊎ IsTooLate (listing_text table) [] (state g old) (state g new) e)) → Survives (state g old) (state g new) (λ _. ⊥)
       → ChangesNothingIn layout g old new
   listing_changes refused crash = record {
-    kept = λ read. query_keeps items (listing_text table) [] (state g old) (state g new) layout.schema lists.plain r read.1.schema (shown read.0) (refused read.0);
+    kept = λ read. query_keeps items (listing_text table) [] (state g old) (state g new) (state g old).now.schema (lists.asks (state g old).now.schema read.1.schema).plain r refl (shown read.0) (refused read.0);
     was_open = λ clean. query_opened items (listing_text table) [] (state g old) (state g new) r (shown clean) (refused clean);
     crash = crash;
   }

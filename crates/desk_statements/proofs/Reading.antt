@@ -13,7 +13,7 @@ use Rattle.sqlite.specs.Command.TheVariants.{Select}
 use Rattle.sqlite.specs.Listing.{understood, reads_listing}
 use Rattle.sqlite.specs.State.{State, Shown, IsUnchanged}
 use Rattle.sqlite.specs.declared.error.Error.{Error}
-use Rattle.desk_schema.specs.Statements.{Layout, TableOf, columns_of, table_rows, records_in, has_table, IsDeskOf}
+use Rattle.desk_schema.specs.Statements.{Layout, HasTables, TableOf, columns_of, table_rows, records_in, has_table, IsDeskOf}
 use Rattle.desk_rows.specs.Meanings.{all_mean}
 use Rattle.desk_statements.proofs.Deleting.{passes, each_passed}
 use Rattle.desk_statements.proofs.GivenNumbers.{each_means}
@@ -72,16 +72,23 @@ map-same : {f g : Row → Row} → ((row : Row) → f row ≡ g row) → (rows :
 map-same e [] = refl
 map-same e (row ∷ rows) = rw (e row, map-same e rows) refl
 
+-- in this schema the text is understood as this query
+pub record AsksAs (schema : Schema) (sql : List ℕ) (q : Query) (names : List (List ℕ)) : Type 0 where
+  pub is : command_of (understood schema sql) ≡ Select (record { lets = []; body = q }) names
+  pub plain : IsPlain (understood schema sql)
+  pub unlisted : reads_listing schema sql ≡ false
+
 -- a query with no parameters that reads a table of the desk whole, in the order of the rows' numbers
 pub reads_whole : {A V : Type 0} (layout : Layout) (items : V → List Row) (it : TableOf A) (project : List Term) (names : List (List ℕ)) (sql : List ℕ)
-    → command_of (understood layout.schema sql) ≡ Select (record { lets = []; body = whole it.number project }) names → IsPlain (understood layout.schema sql) → reads_listing layout.schema sql ≡ false
+    → ((s : Schema) → HasTables layout s → AsksAs s sql (whole it.number project) names)
     → given_at [] it.number ≡ None → IsTrue (has_table layout it.number) → ((row : Row) → eval_all project ([] ∷ row ∷ []) ≡ columns_of it row)
     → (old new : State) (r : Result V Error) → IsDeskOf layout old → IfOk r (λ v. Shown sql [] old new (items v)) → IfOk r (λ v. (items v ≡ table_rows it old.now.trees) × IsUnchanged old new)
-reads_whole layout items it project names sql is plain unlisted none numbered columns old new (Err e) was h = tt
-reads_whole layout items it project names sql is plain unlisted none numbered columns old new (Ok v) was h =
-    let got = reads_as sql [] old new layout.schema was.schema (Select (record { lets = []; body = whole it.number project }) names) is plain unlisted (items v) h in (
+reads_whole layout items it project names sql asks none numbered columns old new (Err e) was h = tt
+reads_whole layout items it project names sql asks none numbered columns old new (Ok v) was h =
+    let of = asks old.now.schema was.schema in
+    let got = reads_as sql [] old new old.now.schema refl (Select (record { lets = []; body = whole it.number project }) names) of.is of.plain of.unlisted (items v) h in (
       in_order it.number project old.now.trees none (items v) (was.rising it.number numbered).0 (got.answer Null) ∙ map-same columns (old.now.trees it.number),
-      shown_same sql [] old new layout.schema was.schema plain (items v) h,
+      shown_same sql [] old new old.now.schema refl of.plain (items v) h,
     )
 
 -- a query of the rows that pass the tests, in the order of their numbers
@@ -139,16 +146,17 @@ found_records {A} it chooses test same (row ∷ rows) was h =
 
 -- a query with parameters that shows all columns of the rows that pass
 pub finds : {A V : Type 0} (layout : Layout) (items : V → List Row) (it : TableOf A) (tests project : List Term) (names : List (List ℕ)) (sql : List ℕ) (params : Row) (test : A → Bool)
-    → command_of (understood layout.schema sql) ≡ Select (record { lets = []; body = sought it.number tests project }) names → IsPlain (understood layout.schema sql) → reads_listing layout.schema sql ≡ false
+    → ((s : Schema) → HasTables layout s → AsksAs s sql (sought it.number tests project) names)
     → given_at [] it.number ≡ None → IsTrue (has_table layout it.number) → ((row : Row) → eval_all project (params ∷ row ∷ []) ≡ columns_of it row)
     → ((row : Row) (x : A) → it.means (columns_of it row) ≡ Some x → passes tests params row ≡ test x)
     → (old new : State) (r : Result V Error) → IsDeskOf layout old → IfOk r (λ v. Shown sql params old new (items v))
     → IfOk r (λ v. ((was : List A) → records_in it old.now.trees ≡ Some was → all_mean it.means (items v) ≡ Some (filter test was)) × IsUnchanged old new)
-finds layout items it tests project names sql params test is plain unlisted none numbered columns same old new (Err e) was h = tt
-finds layout items it tests project names sql params test is plain unlisted none numbered columns same old new (Ok v) was h =
-    let got = reads_as sql params old new layout.schema was.schema (Select (record { lets = []; body = sought it.number tests project }) names) is plain unlisted (items v) h in
+finds layout items it tests project names sql params test asks none numbered columns same old new (Err e) was h = tt
+finds layout items it tests project names sql params test asks none numbered columns same old new (Ok v) was h =
+    let of = asks old.now.schema was.schema in
+    let got = reads_as sql params old new old.now.schema refl (Select (record { lets = []; body = sought it.number tests project }) names) of.is of.plain of.unlisted (items v) h in
     let rows = sought_in_order it.number tests project params old.now.trees none (items v) (was.rising it.number numbered).0 (got.answer Null)
     ∙ map-same columns (filter (passes tests params) (old.now.trees it.number)) in (
       λ records known. subst (λ l. all_mean it.means l ≡ Some (filter test records)) (sym rows) (found_records it (passes tests params) test same (old.now.trees it.number) records known),
-      shown_same sql params old new layout.schema was.schema plain (items v) h,
+      shown_same sql params old new old.now.schema refl of.plain (items v) h,
     )

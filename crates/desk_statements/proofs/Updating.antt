@@ -1,5 +1,5 @@
 -- What UPDATE does to the tables of a desk.
-use Rattle.std.proofs.Common.{◌≡◌, inl, inr, ℕ, List, [], ◌∷◌, map, filter, drop, slice_get, Bool, true, false, not, if◌then◌else◌, Some, None, Ok, Err, Result, OnOk, IsTrue, IsPermutation, Less, refl, sym, ap, ap₂, subst, ◌∙◌}
+use Rattle.std.proofs.Common.{◌≡◌, ◌≢◌, inl, inr, ℕ, List, [], ◌∷◌, map, filter, drop, slice_get, Bool, true, false, not, if◌then◌else◌, Some, None, Ok, Err, Result, OnOk, IsTrue, IsPermutation, Less, refl, sym, ap, ap₂, subst, ◌∙◌}
 use Rattle.std.specs.List.{AllByRecursion}
 use Rattle.std.specs.Ordering.{ordering_reverse}
 use Rattle.std.proofs.lemmas.Bool.{cases_Bool}
@@ -9,6 +9,7 @@ use Rattle.sqlite.specs.Order.{Row, value_cmp}
 use Rattle.sqlite.specs.Term.{Term, col, eval_all}
 use Rattle.sqlite.specs.Program.{given_at}
 use Rattle.sqlite.specs.Table.{Table}
+use Rattle.sqlite.specs.Schema.{Schema}
 use Rattle.sqlite.specs.Tree.{Trees, IsTable, rowid, put_row}
 use Rattle.sqlite.specs.Cast.{cast_row}
 use Rattle.sqlite.specs.Edit.{edit_of, without_all, put_all, numbered, are_fresh}
@@ -33,9 +34,10 @@ use Rattle.sqlite_trees.proofs.ListLemmas.{all-permutation, ascending-filter}
 use Rattle.desk_rows.specs.Meanings.{all_mean}
 use Rattle.desk_schema.specs.Statements.{Layout, TableOf, columns_of, has_table, IsDeskOf, IsRising, KeepsOthersIn, ChangesIn}
 use Rattle.desk_statements.proofs.Deleting.{picked, picked_rows, left_are, passes, stays_in}
-use Rattle.desk_statements.proofs.Frames.{AreApart, still_desk, by_number}
+use Rattle.desk_statements.proofs.Frames.{AreApart, still_desk}
+use Rattle.desk_statements.proofs.Acting.{first_step, step}
 use Rattle.desk_statements.proofs.GivenNumbers.{each_means}
-use Rattle.desk_statements.proofs.Writing.{applied, untouched, went, same_value}
+use Rattle.desk_statements.proofs.Writing.{went, same_value}
 
 -- ---- tables with the same rows are one
 
@@ -143,17 +145,17 @@ pub record ChangesRows (layout : Layout) (number : ℕ) (change : Row → Row) (
   pub inside : IsTrue new.in_transaction
   pub sound : IsDatabase new.now
 
-module _ {layout : Layout} (apart : AreApart layout) (at : ℕ) (table : Table) (tests new : List Term) (text : List ℕ) (params : Row)
-    (is : command_of (understood layout.schema text) ≡ Update at (record { lets = []; body = picked table.tree tests new })) (plain : IsPlain (understood layout.schema text))
-    (there : slice_get layout.schema.tables at ≡ Some table) (numbered_so : IsTrue (has_table layout table.tree)) (none : given_at [] table.tree ≡ None)
+module _ {layout : Layout} {schema : Schema} (apart : AreApart layout schema) (at : ℕ) (table : Table) (tests new : List Term) (text : List ℕ) (params : Row)
+    (is : command_of (understood schema text) ≡ Update at (record { lets = []; body = picked table.tree tests new })) (plain : IsPlain (understood schema text))
+    (there : slice_get schema.tables at ≡ Some table) (numbered_so : IsTrue (has_table layout table.tree)) (none : given_at [] table.tree ≡ None)
     (keeps : (row : Row) → IsTrue (is_int (rowid row)) → rowid (new_row table new params row) ≡ rowid row) where
-  pub changes_rows : (old now : State) (r : Result ℕ Error) → IsDeskOf layout old → IsTrue old.in_transaction → ExecutesInside 0 text params old now r
+  pub changes_rows : (old now : State) (r : Result ℕ Error) → old.now.schema ≡ schema → IsDeskOf layout old → IsTrue old.in_transaction → ExecutesInside 0 text params old now r
       → OnOk r (ChangesRows layout table.tree (λ row. if passes tests params row then new_row table new params row else row) old now)
-  changes_rows old now (Err e) was inside h = tt
-  changes_rows old now (Ok count) was inside h =
+  changes_rows old now (Err e) has was inside h = tt
+  changes_rows old now (Ok count) has was inside h =
       let command = Update at (record { lets = []; body = picked table.tree tests new }) in
-      let w = runs_as text params old now layout.schema was.schema command is plain count h.0 in
-      let changed = rw there at (subst (λ s. Does old.step_limit (mode_of old) params (record old.now { schema = s }) (statement_of text (understood layout.schema text)) None command (Ok (w.tally, now.now))) was.schema w.changed) in
+      let w = runs_as text params old now schema has command is plain count h.0 in
+      let changed = rw there at (subst (λ s. Does old.step_limit (mode_of old) params (record old.now { schema = s }) (statement_of text (understood schema text)) None command (Ok (w.tally, now.now))) has w.changed) in
       let done = went changed in
       let now_is = ap (λ (p : Tally × Database). p.1) (same_value (went (went done.2).2).2) in
       let given = went done.1 in
@@ -161,20 +163,20 @@ module _ {layout : Layout} (apart : AreApart layout) (at : ℕ) (table : Table) 
       let trees : done.0.trees ≡ written.0 = ap (λ (it : Written). it.trees) (same_value written.2) in
       let final : now.now.trees ≡ written.0 = ap (λ (d : Database). d.trees) now_is ∙ trees in
       let edit = edit_of old.now.trees table (ids_of given.0) Given 1 given.0 in
-      let step = applied layout.schema apart.still old.now.trees written.0 edit written.1 in
+      let one = first_step apart old.now.trees written.0 edit written.1 in
       let db = old.now.trees table.tree in
       let up = was.rising table.tree numbered_so in
       let same = picked_rows table.tree tests new old.now.trees params given.0 none (given.1.answer Null) in
       let left = left_are table.tree tests new old.now.trees params given.0 up same in
       let news = map (λ s. cast_row table (drop 1 s)) given.0 in
       let news_are : edit.news ≡ news = given_stay news (without_all db (ids_of given.0)) in
-      let fresh = subst (λ l. are_fresh l news ≡ true) left (subst (λ n. are_fresh (without_all db (ids_of given.0)) n ≡ true) news_are step.fresh) in
-      let rows = ap (λ (t : Trees). t table.tree) final ∙ step.rows ∙ ap₂ put_all left news_are ∙ all_changed table tests new params keeps db given.0 up same fresh in
-      let kept = by_number apart table.tree old now (λ k it listed uncounted other. ap (λ (t : Trees). t it.tree) final ∙ untouched layout.schema old.now.trees written.0 edit step k it listed other) in
+      let fresh = subst (λ l. are_fresh l news ≡ true) left (subst (λ n. are_fresh (without_all db (ids_of given.0)) n ≡ true) news_are one.1.fresh) in
+      let rows = ap (λ (t : Trees). t table.tree) final ∙ one.2 table.tree numbered_so ∙ one.1.rows ∙ ap₂ put_all left news_are ∙ all_changed table tests new params keeps db given.0 up same fresh in
+      let kept = λ (number : ℕ) (is_one : IsTrue (has_table layout number)) (other : number ≢ table.tree). ap (λ (t : Trees). t number) final ∙ one.2 number is_one ∙ step apart old.now.trees one.0 edit one.1 number is_one other in
       record {
         rows = rows;
         others = kept;
-        desk = still_desk table.tree old now was (ap (λ (d : Database). d.schema) now_is) kept (subst IsRising (sym rows) (still_table table tests new params keeps db up.0 up.1, still_keyed table tests new params keeps db up.1));
+        desk = still_desk table.tree old now was (ap (λ (d : Database). d.schema) now_is ∙ sym has) kept (subst IsRising (sym rows) (still_table table tests new params keeps db up.0 up.1, still_keyed table tests new params keeps db up.1));
         inside = w.shown.mode ∙ inside;
         sound = w.sound;
       }
