@@ -7,8 +7,11 @@ use Rattle.sqlite.specs.Table.{Table}
 use Rattle.sqlite.specs.Schema.{Schema}
 use Rattle.sqlite_schema.specs.declared.schema.Index.{Index}
 use Rattle.sqlite_schema.specs.declared.schema.View.{View as Stored}
+use Rattle.sqlite.specs.Command.{Command}
+use Rattle.sqlite.specs.Listing.{understood}
 use Rattle.sqlite.specs.Rows.{sequence}
 use Rattle.sqlite.specs.State.{State}
+use Rattle.sqlite.proofs.Callers.{IsPlain, command_of}
 use Rattle.desk_schema.specs.Tables.{sequence as counts_of_numbers}
 use Rattle.desk_schema.specs.Statements.{Layout, layout_one, has_table, AreEmpty, HasTables, act_on_others, is_other, is_still, IsDeskOf, IsRising, KeepsOthersIn}
 use Rattle.sqlite_trees.proofs.ListLemmas.{all-slice_get}
@@ -21,7 +24,13 @@ beside layout others indexes views = record { tables = layout.schema.tables ++ o
 pub wide : {layout : Layout} (P : Schema → Type 0) → ((others : List Table) → list_all (is_other layout) others ≡ true → (indexes : List Index) (views : List Stored) → P (beside layout others indexes views)) → (s : Schema) → HasTables layout s → P s
 wide P h s has = subst (λ ts. P (record { tables = ts; indexes = s.indexes; views = s.views })) (sym has.tables) (h has.others has.apart s.indexes s.views)
 
--- no reference acts, one table counts the numbers given so far, and each number of a table of the
+-- in this schema the text is understood as this command, whose table stands at this place
+pub record RunsOn (schema : Schema) (text : List ℕ) (command : Command) (at : ℕ) (table : Table) : Type 0 where
+  pub is : command_of (understood schema text) ≡ command
+  pub plain : IsPlain (understood schema text)
+  pub there : slice_get schema.tables at ≡ Some table
+
+-- no reference of a table of the desk acts, one table counts the numbers given so far, and each number of a table of the
 -- desk is that of another one that is declared
 pub record AreApart (layout : Layout) (schema : Schema) : Type 0 where
   pub acts : act_on_others layout schema.tables ≡ true

@@ -25,9 +25,13 @@ shows_columns : (params row : Row) (places : List ℕ) → eval_all (map (col 1)
 shows_columns params row [] = refl
 shows_columns params row (at ∷ places) = ap (λ l. column row at ∷ l) (shows_columns params row places)
 
--- in this version of the tables the text made of the table shows the columns of all its rows, in the order of their numbers
+-- in this schema the text made of the table shows the columns of all its rows, in the order of their numbers
+abbrev pub ListsAs : {A : Type 0} → TableOf A → Table → Schema → Type 0
+ListsAs it table s = AsksAs s (listing_text table) (whole it.number (shown_terms it)) (given_names table)
+
+-- so it is in each schema that has the tables of this version
 pub record ListsTable {A : Type 0} (layout : Layout) (it : TableOf A) (table : Table) : Type 0 where
-  pub asks : (s : Schema) → HasTables layout s → AsksAs s (listing_text table) (whole it.number (shown_terms it)) (given_names table)
+  pub asks : (s : Schema) → HasTables layout s → ListsAs it table s
   pub none : given_at [] it.number ≡ None
   pub numbered : IsTrue (has_table layout it.number)
 

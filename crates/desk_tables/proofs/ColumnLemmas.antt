@@ -18,7 +18,14 @@ use Rattle.sqlite_tied.specs.Compute.{everything}
 use Rattle.sqlite_trees.specs.declared.error.StoreError.{StoreError}
 use Rattle.sqlite_trees.specs.declared.error.StoreError.TheVariants as kind
 use Rattle.sqlite_trees.specs.declared.store.Store as store
-use Rattle.desk_schema.specs.Tables.{desk_schema}
+use Rattle.desk_schema.specs.Statements.{HasTables, layout_one}
+use Rattle.desk_statements.proofs.Frames.{beside, wide}
+use Rattle.desk_schema.specs.Tables.{desk_table, keys_table, closed_table, meetings_table, resolutions_table, register_table, appointments_table, endings_table, authorities_table, presences_table, demands_table, polls_table, casts_table}
+use Rattle.desk_schema.specs.Texts.{asking_text}
+use Rattle.sqlite.specs.Table.{Table}
+use Rattle.sqlite_schema.specs.declared.schema.Index.{Index}
+use Rattle.sqlite_schema.specs.declared.schema.View.{View as Stored}
+use Rattle.sqlite.specs.Schema.{Schema}
 use Rattle.desk_tables.specs.Columns.{AreUnderstood, AsksFor, HasColumns}
 use Rattle.desk_tables.specs.declared.columns.ColumnFault.{ColumnFault}
 use Rattle.desk_tables.specs.declared.columns.ColumnFault.TheVariants.{Missing, Refused}
@@ -121,7 +128,60 @@ asks_stop {e = e} g a b texts more r is one = subst (λ q. AsksFor g a b (texts 
       (bad.0, λ are. bad.1 (front _ texts more are));
 })
 
--- the texts are statements over the tables of a desk
-pub columns_stand : HasColumns desk_schema
-unfolding HasColumns understood everything
-columns_stand = (refl, (refl, (refl, (refl, (refl, (refl, (refl, (refl, (refl, (refl, (refl, (refl, (refl, tt)))))))))))))
+-- each text is a statement over the tables of a desk, whatever stands beside them
+module _ (others : List Table) (indexes : List Index) (views : List Stored) where
+  asks_desk : IsOk (understood (beside layout_one others indexes views) (asking_text desk_table))
+  unfolding understood everything
+  asks_desk = refl
+
+  asks_keys : IsOk (understood (beside layout_one others indexes views) (asking_text keys_table))
+  unfolding understood everything
+  asks_keys = refl
+
+  asks_closed : IsOk (understood (beside layout_one others indexes views) (asking_text closed_table))
+  unfolding understood everything
+  asks_closed = refl
+
+  asks_meetings : IsOk (understood (beside layout_one others indexes views) (asking_text meetings_table))
+  unfolding understood everything
+  asks_meetings = refl
+
+  asks_resolutions : IsOk (understood (beside layout_one others indexes views) (asking_text resolutions_table))
+  unfolding understood everything
+  asks_resolutions = refl
+
+  asks_register : IsOk (understood (beside layout_one others indexes views) (asking_text register_table))
+  unfolding understood everything
+  asks_register = refl
+
+  asks_appointments : IsOk (understood (beside layout_one others indexes views) (asking_text appointments_table))
+  unfolding understood everything
+  asks_appointments = refl
+
+  asks_endings : IsOk (understood (beside layout_one others indexes views) (asking_text endings_table))
+  unfolding understood everything
+  asks_endings = refl
+
+  asks_authorities : IsOk (understood (beside layout_one others indexes views) (asking_text authorities_table))
+  unfolding understood everything
+  asks_authorities = refl
+
+  asks_presences : IsOk (understood (beside layout_one others indexes views) (asking_text presences_table))
+  unfolding understood everything
+  asks_presences = refl
+
+  asks_demands : IsOk (understood (beside layout_one others indexes views) (asking_text demands_table))
+  unfolding understood everything
+  asks_demands = refl
+
+  asks_polls : IsOk (understood (beside layout_one others indexes views) (asking_text polls_table))
+  unfolding understood everything
+  asks_polls = refl
+
+  asks_casts : IsOk (understood (beside layout_one others indexes views) (asking_text casts_table))
+  unfolding understood everything
+  asks_casts = refl
+
+pub columns_stand : (s : Schema) → HasTables layout_one s → HasColumns s
+unfolding HasColumns
+columns_stand = wide HasColumns (λ others apart indexes views. (asks_desk others indexes views, (asks_keys others indexes views, (asks_closed others indexes views, (asks_meetings others indexes views, (asks_resolutions others indexes views, (asks_register others indexes views, (asks_appointments others indexes views, (asks_endings others indexes views, (asks_authorities others indexes views, (asks_presences others indexes views, (asks_demands others indexes views, (asks_polls others indexes views, (asks_casts others indexes views, tt))))))))))))))

@@ -26,14 +26,15 @@ use Rattle.desk_statements.proofs.GivenNumbers.{none_below}
 use Rattle.desk_schema.specs.Tables.{desk_schema, no_schema, desk_table as table}
 use Rattle.desk_schema.specs.Texts.{given_names, inserting_text, making_text}
 use Rattle.desk_schema.specs.Contents.{desk}
-use Rattle.desk_schema.specs.Statements.{IsDesk, AddsFirst, table_rows}
+use Rattle.desk_schema.specs.Statements.{IsDesk, AddsFirst, table_rows, HasTables, layout_one}
 use Rattle.desk_statements.proofs.Adding.{adds_numbered, means_more}
 use Rattle.desk_statements.proofs.Commits.{query_keeps}
 use Rattle.desk_statements.proofs.Listing.{shown_terms}
 use Rattle.desk_statements.proofs.Making.{MakesTable}
 use Rattle.desk_statements.proofs.Reading.{in_order, shown_same, whole}
 use Rattle.desk_statements.proofs.Values.{cast_null, cast_int}
-use Rattle.desk_statements.proofs.Frames.{ones_apart}
+use Rattle.desk_statements.proofs.Frames.{ones_apart, wide, RunsOn}
+use Rattle.sqlite.specs.Schema.{Schema}
 
 pub makes : MakesTable no_schema (making_text (codes "one INTEGER NOT NULL PRIMARY KEY" ∷ []) [] table) table
 unfolding understood everything Rattle.sqlite_schema.specs.Names.same_name
@@ -45,13 +46,9 @@ add_text = inserting_text (codes "1" ∷ codes "1" ∷ []) table
 abbrev terms : List Term
 terms = lit (Int (pos 1)) ∷ lit Null ∷ lit (Int (pos 1)) ∷ []
 
-add_is : command_of (understood desk_schema add_text) ≡ Insert 0 (Values terms 3)
+add_runs : (s : Schema) → HasTables layout_one s → RunsOn s add_text (Insert 0 (Values terms 3)) 0 (record table { tree = 0 })
 unfolding understood everything
-add_is = refl
-
-add_plain : IsPlain (understood desk_schema add_text)
-unfolding understood everything
-add_plain = (refl, refl)
+add_runs = wide (λ s. RunsOn s add_text (Insert 0 (Values terms 3)) 0 (record table { tree = 0 })) (λ others apart indexes views. record { is = refl; plain = (refl, refl); there = refl })
 
 means : version_in (Int (pos 1) ∷ Int (pos 1) ∷ []) ≡ Some (record { number = 1 })
 unfolding version_in number_in
@@ -61,7 +58,7 @@ pub adds_version : (old new : State) (r : Result ℕ Error) → IsDesk old → I
 adds_version old new (Err e) was inside h = tt
 adds_version old new (Ok count) was inside h = λ records known none.
     let cells = Null ∷ Int (pos 1) ∷ [] in
-    let row = adds_numbered ones_apart 0 (record table { tree = 0 }) terms 3 add_text [] (pos 1) cells add_is add_plain refl refl (rw (cast_null, cast_int (pos 1)) refl) old new (Ok count) was inside (none_below desk (old.now.trees 0) records (pos 1) known none) h in
+    let row = adds_numbered (ones_apart old.now.schema was.schema) 0 (record table { tree = 0 }) terms 3 add_text [] (pos 1) cells (add_runs old.now.schema was.schema).is (add_runs old.now.schema was.schema).plain (add_runs old.now.schema was.schema).there refl (rw (cast_null, cast_int (pos 1)) refl) old new (Ok count) refl was inside (none_below desk (old.now.trees 0) records (pos 1) known none) h in
     means_more desk cells (record { number = 1 }) old new row.0 (rw row.1 means)
 
 -- ---- the version of tables of any schema
@@ -93,8 +90,8 @@ module _ (others : List Table) (indexes : List Index) (views : List Stored) wher
   }
 
 -- the tables of version 1 note it
-pub desk_notes : NotesVersion desk_schema
-desk_notes = notes _ _ []
+pub desk_notes : (s : Schema) → HasTables layout_one s → NotesVersion s
+desk_notes = wide NotesVersion (λ others apart indexes views. notes _ indexes views)
 
 pub reads : {V : Type 0} (items : V → List Row) (old new : State) (r : Result V Error) → AreNoted old → IfOk r (λ v. Shown version_text [] old new (items v))
     → IfOk r (λ v. (items v ≡ table_rows desk old.now.trees) × IsUnchanged old new)

@@ -25,10 +25,10 @@ use Rattle.desk_terms.specs.Names.{meeting_of, same_name}
 use Rattle.desk_schema.specs.Tables.{desk_schema, up_to_closed, up_to_meetings, meetings_table as table, sequence}
 use Rattle.desk_schema.specs.Texts.{adding_text, making_text, seq_column}
 use Rattle.desk_schema.specs.Contents.{meetings, without_resolutions, loaded_at, opened_at}
-use Rattle.desk_schema.specs.Statements.{IsDesk, Sets, columns_of, AreEmpty, layout_one}
+use Rattle.desk_schema.specs.Statements.{IsDesk, Sets, columns_of, AreEmpty, layout_one, HasTables}
 use Rattle.desk_statements.proofs.Adding.{AddsBy, AddsGiven, adds_given}
 use Rattle.desk_statements.proofs.Deleting.{picked, passes}
-use Rattle.desk_statements.proofs.Listing.{ListsTable}
+use Rattle.desk_statements.proofs.Listing.{ListsTable, ListsAs}
 use Rattle.desk_statements.proofs.Making.{made_counted}
 use Rattle.sqlite.specs.Kind.TheVariants.{Integer, Text as Texts}
 use Rattle.sqlite.specs.Cast.{cast}
@@ -43,7 +43,8 @@ use Rattle.desk_statements.proofs.Tests.{names_tell, kept_spelled, kept_worded, 
 use Rattle.std.proofs.Math.Bool.{and-true}
 use Rattle.desk_statements.proofs.Updating.{new_row, changes_rows, sets}
 use Rattle.desk_statements.proofs.Values.{cast_flag, cast_int, cast_null, cast_some, flag, flag_kept}
-use Rattle.desk_statements.proofs.Frames.{ones_apart}
+use Rattle.desk_statements.proofs.Frames.{ones_apart, wide, RunsOn}
+use Rattle.sqlite.specs.Schema.{Schema}
 
 -- how the columns that have a key are declared
 abbrev first_columns : List (List ℕ)
@@ -68,13 +69,13 @@ pub makes : (old new : State) (r : Result ℕ Error) → AreEmpty up_to_closed o
     → OnOk r (AreEmpty up_to_meetings new × IsTrue new.in_transaction)
 makes old new r = made_counted old new up_to_closed make_text table sequence r make_is.0 make_is.1 make_plain make_is.2 make_lacks.0 make_lacks.1
 
-adds : AddsGiven layout_one meetings table
+adds : (s : Schema) → HasTables layout_one s → AddsGiven layout_one s meetings table
 unfolding understood everything
-adds = record { place = 3; is = refl; plain = (refl, refl); there = refl; numbered = refl }
+adds = wide (λ s. AddsGiven layout_one s meetings table) (λ others apart indexes views. record { place = 3; is = refl; plain = (refl, refl); there = refl; numbered = refl })
 
 pub lists : ListsTable layout_one meetings table
 unfolding understood everything
-lists = record { is = refl; plain = (refl, refl); unlisted = refl; none = refl; numbered = refl }
+lists = record { asks = wide (ListsAs meetings table) (λ others apart indexes views. record { is = refl; plain = (refl, refl); unlisted = refl }); none = refl; numbered = refl }
 
 module _ (m : Meeting) (meeting : List ℕ) (company : List ℕ) (kind : List ℕ) (given : ℤ) (appointed : ℤ) (recorded : ℤ) (opened : Option ℤ) where
   abbrev pub values : Row
@@ -92,13 +93,9 @@ load_text = codes "UPDATE meetings SET loaded = 1 WHERE meeting = ?1"
 abbrev load_terms : List Term
 load_terms = col 1 0 ∷ lit Null ∷ col 1 2 ∷ col 1 3 ∷ col 1 4 ∷ col 1 5 ∷ col 1 6 ∷ col 1 7 ∷ lit (Int (pos 1)) ∷ col 1 9 ∷ []
 
-load_is : command_of (understood desk_schema load_text) ≡ Update 3 (record { lets = []; body = picked 5 (op2 (Compare Eq Binary) (col 1 2) (col 0 0) ∷ []) load_terms })
+load_runs : (s : Schema) → HasTables layout_one s → RunsOn s load_text (Update 3 (record { lets = []; body = picked 5 (op2 (Compare Eq Binary) (col 1 2) (col 0 0) ∷ []) load_terms })) 3 (record table { tree = 5 })
 unfolding understood everything
-load_is = refl
-
-load_plain : IsPlain (understood desk_schema load_text)
-unfolding understood everything
-load_plain = (refl, refl)
+load_runs = wide (λ s. RunsOn s load_text (Update 3 (record { lets = []; body = picked 5 (op2 (Compare Eq Binary) (col 1 2) (col 0 0) ∷ []) load_terms })) 3 (record table { tree = 5 })) (λ others apart indexes views. record { is = refl; plain = (refl, refl); there = refl })
 
 abbrev open_text : List ℕ
 open_text = codes "UPDATE meetings SET opened = ?2 WHERE meeting = ?1"
@@ -109,13 +106,9 @@ open_terms = col 1 0 ∷ lit Null ∷ col 1 2 ∷ col 1 3 ∷ col 1 4 ∷ col 1 
 abbrev named : List Term
 named = op2 (Compare Eq Binary) (col 1 2) (col 0 0) ∷ []
 
-open_is : command_of (understood desk_schema open_text) ≡ Update 3 (record { lets = []; body = picked 5 named open_terms })
+open_runs : (s : Schema) → HasTables layout_one s → RunsOn s open_text (Update 3 (record { lets = []; body = picked 5 named open_terms })) 3 (record table { tree = 5 })
 unfolding understood everything
-open_is = refl
-
-open_plain : IsPlain (understood desk_schema open_text)
-unfolding understood everything
-open_plain = (refl, refl)
+open_runs = wide (λ s. RunsOn s open_text (Update 3 (record { lets = []; body = picked 5 named open_terms })) 3 (record table { tree = 5 })) (λ others apart indexes views. record { is = refl; plain = (refl, refl); there = refl })
 
 -- what the columns of a row give, where it is that of a meeting
 record IsMeetingRow (cells : Row) (x : MeetingRow) : Type 0 where
@@ -236,10 +229,10 @@ pub loads : (m meeting : List ℕ) → meeting_of meeting ≡ Some m → (old ne
     → OnOk r (Sets meetings (loaded_at m) old new)
 loads m meeting is old new r was inside h =
     sets meetings (λ cells. if passes named (Text meeting ∷ []) cells then new_row (record table { tree = 5 }) load_terms (Text meeting ∷ []) cells else cells) (loaded_at m) (load_sets m meeting is) layout_one old new r
-    (changes_rows ones_apart 3 (record table { tree = 5 }) named load_terms load_text (Text meeting ∷ []) load_is load_plain refl refl refl (keeps_number load_terms (Text meeting ∷ [])) old new r was inside h)
+    (changes_rows (ones_apart old.now.schema was.schema) 3 (record table { tree = 5 }) named load_terms load_text (Text meeting ∷ []) (load_runs old.now.schema was.schema).is (load_runs old.now.schema was.schema).plain (load_runs old.now.schema was.schema).there refl refl (keeps_number load_terms (Text meeting ∷ [])) old new r refl was inside h)
 
 pub opens : (m meeting : List ℕ) (n : ℤ) (moment : ℕ) → meeting_of meeting ≡ Some m → moment_of_number n ≡ Some moment → (old new : State) (r : Result ℕ Error) → IsDesk old → IsTrue old.in_transaction
     → ExecutesInside 0 open_text (Text meeting ∷ Int n ∷ []) old new r → OnOk r (Sets meetings (opened_at m moment) old new)
 opens m meeting n moment is at old new r was inside h =
     sets meetings (λ cells. if passes named (Text meeting ∷ Int n ∷ []) cells then new_row (record table { tree = 5 }) open_terms (Text meeting ∷ Int n ∷ []) cells else cells) (opened_at m moment) (open_sets m meeting n moment is at) layout_one old new r
-    (changes_rows ones_apart 3 (record table { tree = 5 }) named open_terms open_text (Text meeting ∷ Int n ∷ []) open_is open_plain refl refl refl (keeps_number open_terms (Text meeting ∷ Int n ∷ [])) old new r was inside h)
+    (changes_rows (ones_apart old.now.schema was.schema) 3 (record table { tree = 5 }) named open_terms open_text (Text meeting ∷ Int n ∷ []) (open_runs old.now.schema was.schema).is (open_runs old.now.schema was.schema).plain (open_runs old.now.schema was.schema).there refl refl (keeps_number open_terms (Text meeting ∷ Int n ∷ [])) old new r refl was inside h)

@@ -11,7 +11,6 @@ use Rattle.sqlite_tied.specs.Compute.{everything}
 use Rattle.sqlite.specs.declared.error.Error.{Error}
 use Rattle.sqlite.specs.Listing.{understood}
 use Rattle.sqlite.specs.State.{State, ExecutesInside}
-use Rattle.sqlite.proofs.Callers.{IsPlain, command_of}
 use Rattle.desk_rows.specs.declared.kept.InMeeting.{InMeeting}
 use Rattle.desk_words.specs.declared.records.RegisterRow.{RegisterRow}
 use Rattle.desk_rows.specs.Columns.{natural_of, number_in, read_word, spelled, plain_text_of, worded}
@@ -21,29 +20,30 @@ use Rattle.desk_terms.specs.Names.{meeting_of, party_of, same_name}
 use Rattle.desk_schema.specs.Tables.{desk_schema, up_to_resolutions, register_table as table}
 use Rattle.desk_schema.specs.Texts.{adding_text, once_text}
 use Rattle.desk_schema.specs.Contents.{register}
-use Rattle.desk_schema.specs.Statements.{IsDesk, TakesOut, columns_of, layout_one}
+use Rattle.desk_schema.specs.Statements.{IsDesk, TakesOut, columns_of, layout_one, HasTables}
 use Rattle.desk_statements.proofs.Adding.{AddsBy, AddsGiven, adds_given}
 use Rattle.desk_statements.proofs.Deleting.{chosen, passes}
 use Rattle.desk_statements.proofs.Emptying.{takes_out, leaves_rows}
-use Rattle.desk_statements.proofs.Listing.{ListsTable}
+use Rattle.desk_statements.proofs.Listing.{ListsTable, ListsAs}
 use Rattle.desk_statements.proofs.Making.{MakesTable}
 use Rattle.desk_rows.proofs.MeaningLemmas.{bound, option_ap}
 use Rattle.desk_statements.proofs.Tests.{names_tell}
 use Rattle.std.proofs.Math.Bool.{and-true}
 use Rattle.desk_statements.proofs.Values.{cast_int, cast_null}
-use Rattle.desk_statements.proofs.Frames.{ones_apart}
+use Rattle.desk_statements.proofs.Frames.{ones_apart, wide, RunsOn}
+use Rattle.sqlite.specs.Schema.{Schema}
 
 pub makes : MakesTable up_to_resolutions (once_text table) table
 unfolding understood everything Rattle.sqlite_schema.specs.Names.same_name
 makes = record { is = refl; alone = refl; plain = (refl, refl); defined = refl; full = refl }
 
-adds : AddsGiven layout_one register table
+adds : (s : Schema) → HasTables layout_one s → AddsGiven layout_one s register table
 unfolding understood everything
-adds = record { place = 6; is = refl; plain = (refl, refl); there = refl; numbered = refl }
+adds = wide (λ s. AddsGiven layout_one s register table) (λ others apart indexes views. record { place = 6; is = refl; plain = (refl, refl); there = refl; numbered = refl })
 
 pub lists : ListsTable layout_one register table
 unfolding understood everything
-lists = record { is = refl; plain = (refl, refl); unlisted = refl; none = refl; numbered = refl }
+lists = record { asks = wide (ListsAs register table) (λ others apart indexes views. record { is = refl; plain = (refl, refl); unlisted = refl }); none = refl; numbered = refl }
 
 module _ (m : List ℕ) (x : RegisterRow) (meeting : List ℕ) (member : List ℕ) (kind : List ℕ) (name : List ℕ) (shares : ℤ) (paid : ℤ) where
   abbrev pub values : Row
@@ -58,13 +58,9 @@ module _ (m : List ℕ) (x : RegisterRow) (meeting : List ℕ) (member : List �
 abbrev empty_text : List ℕ
 empty_text = codes "DELETE FROM register WHERE meeting = ?1"
 
-empty_is : command_of (understood desk_schema empty_text) ≡ Delete 6 (record { lets = []; body = chosen 10 (op2 (Compare Eq Binary) (col 1 1) (col 0 0) ∷ []) })
+empty_runs : (s : Schema) → HasTables layout_one s → RunsOn s empty_text (Delete 6 (record { lets = []; body = chosen 10 (op2 (Compare Eq Binary) (col 1 1) (col 0 0) ∷ []) })) 6 (record table { tree = 10 })
 unfolding understood everything
-empty_is = refl
-
-empty_plain : IsPlain (understood desk_schema empty_text)
-unfolding understood everything
-empty_plain = (refl, refl)
+empty_runs = wide (λ s. RunsOn s empty_text (Delete 6 (record { lets = []; body = chosen 10 (op2 (Compare Eq Binary) (col 1 1) (col 0 0) ∷ []) })) 6 (record table { tree = 10 })) (λ others apart indexes views. record { is = refl; plain = (refl, refl); there = refl })
 
 -- the meeting of a holding
 meeting_is : (cells : Row) (x : InMeeting RegisterRow) → holding_in cells ≡ Some x → spelled meeting_of cells 0 ≡ Some x.meeting
@@ -87,4 +83,4 @@ pub empties_meeting : (m meeting : List ℕ) → meeting_of meeting ≡ Some m �
     → ExecutesInside 0 empty_text (Text meeting ∷ []) old new r → OnOk r (TakesOut register (λ x. same_name x.meeting m) old new)
 empties_meeting m meeting is old new r was inside h =
     takes_out register (passes (op2 (Compare Eq Binary) (col 1 1) (col 0 0) ∷ []) (Text meeting ∷ [])) (λ x. same_name x.meeting m) (chosen_so m meeting is) layout_one old new r
-    (leaves_rows ones_apart 6 (record table { tree = 10 }) (op2 (Compare Eq Binary) (col 1 1) (col 0 0) ∷ []) empty_text (Text meeting ∷ []) empty_is empty_plain refl refl refl old new r was inside h)
+    (leaves_rows (ones_apart old.now.schema was.schema) 6 (record table { tree = 10 }) (op2 (Compare Eq Binary) (col 1 1) (col 0 0) ∷ []) empty_text (Text meeting ∷ []) (empty_runs old.now.schema was.schema).is (empty_runs old.now.schema was.schema).plain (empty_runs old.now.schema was.schema).there refl refl old new r refl was inside h)

@@ -1,6 +1,7 @@
 //! Whether the columns that are read stand.
 ghost use Rattle.std.specs.Prelude.{◌≡◌, ◌++◌, ◌∷◌, [], false};
-ghost use Rattle.desk_schema.specs.Tables.{desk_schema};
+ghost use Rattle.desk_schema.specs.Statements.{HasTables, layout_one};
+ghost use Rattle.sqlite.specs.Schema.{Schema};
 ghost use Rattle.desk_tables.specs.Columns.{AsksFor, HasColumns};
 ghost use Rattle.desk_tables.specs.Columns.{meeting_columns, paper_columns, poll_columns};
 ghost use Rattle.desk_tables.specs.Versions.{version_text};
@@ -122,7 +123,8 @@ pub fn ask_columns<S: Alter>(conn: &mut Connection<S>) -> Result<(), ColumnFault
     ask_polls(conn)
 }
 
-/// Over the tables of a desk each column that is read stands.
+/// Over the tables of a desk each column that is read stands, whatever other tables, indexes and
+/// views stand beside them.
 pub fn desk_has_columns()
-    ensures { HasColumns desk_schema }
+    ensures { (declared : Schema) → HasTables layout_one declared → HasColumns declared }
 {}

@@ -3,10 +3,8 @@ use Rattle.std.proofs.Common.{◌≡◌, ℕ, ℤ, ◌==◌, List, [], ◌∷◌
 use Rattle.sqlite.specs.declared.types.Value.TheVariants.{Int, Text}
 use Rattle.sqlite.specs.Order.{Row}
 use Rattle.sqlite.specs.Term.{Term, col}
-use Rattle.sqlite.specs.Command.TheVariants.{Select}
 use Rattle.sqlite_tied.specs.Compute.{everything}
-use Rattle.sqlite.specs.Listing.{understood, reads_listing}
-use Rattle.sqlite.proofs.Callers.{IsPlain, command_of}
+use Rattle.sqlite.specs.Listing.{understood}
 use Rattle.desk_rows.specs.declared.kept.InMeeting.{InMeeting}
 use Rattle.desk_words.specs.declared.records.CastMark.{CastMark}
 use Rattle.desk_rows.specs.Columns.{spelled, natural_of, number_in, moment_in}
@@ -15,9 +13,11 @@ use Rattle.desk_rows.proofs.MeaningLemmas.{bound, option_ap}
 use Rattle.desk_terms.specs.Names.{meeting_of, party_of, same_name}
 use Rattle.desk_schema.specs.Tables.{desk_schema}
 use Rattle.desk_schema.specs.Contents.{casts}
-use Rattle.desk_schema.specs.Statements.{columns_of}
-use Rattle.desk_statements.proofs.Reading.{sought}
+use Rattle.desk_schema.specs.Statements.{columns_of, HasTables, layout_one}
+use Rattle.desk_statements.proofs.Reading.{sought, AsksAs}
 use Rattle.found_rows.proofs.Queries.{IsQuery, names_both, both_tell, names_meeting, names_three, numbered_tell, one_tells}
+use Rattle.desk_statements.proofs.Frames.{wide}
+use Rattle.sqlite.specs.Schema.{Schema}
 
 abbrev shows : List Term
 shows = col 1 2 ∷ col 1 3 ∷ col 1 4 ∷ col 1 5 ∷ col 1 6 ∷ col 1 7 ∷ col 1 8 ∷ col 1 9 ∷ col 1 10 ∷ []
@@ -39,9 +39,9 @@ names_in cells x h =
 abbrev cast_by_text : List ℕ
 cast_by_text = codes "SELECT meeting, resolution, voter, capacity, member, first, last, way, moment FROM casts WHERE meeting = ?1 AND voter = ?2 ORDER BY seq"
 
-cast_by_is : (command_of (understood desk_schema cast_by_text) ≡ Select (record { lets = []; body = sought 24 (names_both 2 4) shows }) names) × (reads_listing desk_schema cast_by_text ≡ false) × IsPlain (understood desk_schema cast_by_text)
+cast_by_asks : (s : Schema) → HasTables layout_one s → AsksAs s cast_by_text (sought 24 (names_both 2 4) shows) names
 unfolding understood everything
-cast_by_is = (refl, refl, (refl, refl))
+cast_by_asks = wide (λ s. AsksAs s cast_by_text (sought 24 (names_both 2 4) shows) names) (λ others apart indexes views. record { is = refl; plain = (refl, refl); unlisted = refl })
 
 -- the rows of the meeting and of the voter
 pub cast_by : (m meeting n party : List ℕ) → meeting_of meeting ≡ Some m → party_of party ≡ Some n
@@ -51,9 +51,7 @@ cast_by m meeting n party meeting_is party_is = record {
   tests = names_both 2 4;
   project = shows;
   names = names;
-  is = cast_by_is.0;
-  plain = cast_by_is.2;
-  unlisted = cast_by_is.1;
+  asks = cast_by_asks;
   none = refl;
   numbered = refl;
   columns = λ cells. refl;
@@ -63,9 +61,9 @@ cast_by m meeting n party meeting_is party_is = record {
 abbrev of_meeting_text : List ℕ
 of_meeting_text = codes "SELECT meeting, resolution, voter, capacity, member, first, last, way, moment FROM casts WHERE meeting = ?1 ORDER BY seq"
 
-of_meeting_is : (command_of (understood desk_schema of_meeting_text) ≡ Select (record { lets = []; body = sought 24 (names_meeting 2) shows }) names) × (reads_listing desk_schema of_meeting_text ≡ false) × IsPlain (understood desk_schema of_meeting_text)
+of_meeting_asks : (s : Schema) → HasTables layout_one s → AsksAs s of_meeting_text (sought 24 (names_meeting 2) shows) names
 unfolding understood everything
-of_meeting_is = (refl, refl, (refl, refl))
+of_meeting_asks = wide (λ s. AsksAs s of_meeting_text (sought 24 (names_meeting 2) shows) names) (λ others apart indexes views. record { is = refl; plain = (refl, refl); unlisted = refl })
 
 -- the rows of the meeting
 pub of_meeting : (m meeting : List ℕ) → meeting_of meeting ≡ Some m → IsQuery casts of_meeting_text (Text meeting ∷ []) (λ x. same_name x.meeting m)
@@ -74,9 +72,7 @@ of_meeting m meeting meeting_is = record {
   tests = names_meeting 2;
   project = shows;
   names = names;
-  is = of_meeting_is.0;
-  plain = of_meeting_is.2;
-  unlisted = of_meeting_is.1;
+  asks = of_meeting_asks;
   none = refl;
   numbered = refl;
   columns = λ cells. refl;
@@ -86,9 +82,9 @@ of_meeting m meeting meeting_is = record {
 abbrev cast_on_text : List ℕ
 cast_on_text = codes "SELECT meeting, resolution, voter, capacity, member, first, last, way, moment FROM casts WHERE meeting = ?1 AND voter = ?2 AND resolution = ?3 ORDER BY seq"
 
-cast_on_is : (command_of (understood desk_schema cast_on_text) ≡ Select (record { lets = []; body = sought 24 (names_three 2 4 3) shows }) names) × (reads_listing desk_schema cast_on_text ≡ false) × IsPlain (understood desk_schema cast_on_text)
+cast_on_asks : (s : Schema) → HasTables layout_one s → AsksAs s cast_on_text (sought 24 (names_three 2 4 3) shows) names
 unfolding understood everything
-cast_on_is = (refl, refl, (refl, refl))
+cast_on_asks = wide (λ s. AsksAs s cast_on_text (sought 24 (names_three 2 4 3) shows) names) (λ others apart indexes views. record { is = refl; plain = (refl, refl); unlisted = refl })
 
 -- the rows of the meeting, of the voter and on the resolution
 pub cast_on : (m meeting n party : List ℕ) (z : ℤ) (k : ℕ) → meeting_of meeting ≡ Some m → party_of party ≡ Some n → natural_of z ≡ Some k
@@ -98,9 +94,7 @@ cast_on m meeting n party z k meeting_is party_is number_is = record {
   tests = names_three 2 4 3;
   project = shows;
   names = names;
-  is = cast_on_is.0;
-  plain = cast_on_is.2;
-  unlisted = cast_on_is.1;
+  asks = cast_on_asks;
   none = refl;
   numbered = refl;
   columns = λ cells. refl;

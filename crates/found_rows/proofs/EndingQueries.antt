@@ -3,10 +3,8 @@ use Rattle.std.proofs.Common.{◌≡◌, ℕ, List, [], ◌∷◌, codes, false,
 use Rattle.sqlite.specs.declared.types.Value.TheVariants.{Text}
 use Rattle.sqlite.specs.Order.{Row}
 use Rattle.sqlite.specs.Term.{Term, col}
-use Rattle.sqlite.specs.Command.TheVariants.{Select}
 use Rattle.sqlite_tied.specs.Compute.{everything}
-use Rattle.sqlite.specs.Listing.{understood, reads_listing}
-use Rattle.sqlite.proofs.Callers.{IsPlain, command_of}
+use Rattle.sqlite.specs.Listing.{understood}
 use Rattle.desk_rows.specs.declared.kept.InMeeting.{InMeeting}
 use Rattle.desk_words.specs.declared.records.Ending.{Ending}
 use Rattle.desk_rows.specs.Columns.{spelled, number_in, moment_in}
@@ -15,9 +13,11 @@ use Rattle.desk_rows.proofs.MeaningLemmas.{bound, option_ap}
 use Rattle.desk_terms.specs.Names.{meeting_of, party_of, same_name}
 use Rattle.desk_schema.specs.Tables.{desk_schema}
 use Rattle.desk_schema.specs.Contents.{endings}
-use Rattle.desk_schema.specs.Statements.{columns_of}
-use Rattle.desk_statements.proofs.Reading.{sought}
+use Rattle.desk_schema.specs.Statements.{columns_of, HasTables, layout_one}
+use Rattle.desk_statements.proofs.Reading.{sought, AsksAs}
 use Rattle.found_rows.proofs.Queries.{IsQuery, names_both, both_tell, names_meeting, one_tells}
+use Rattle.desk_statements.proofs.Frames.{wide}
+use Rattle.sqlite.specs.Schema.{Schema}
 
 abbrev shows : List Term
 shows = col 1 2 ∷ col 1 3 ∷ col 1 4 ∷ col 1 5 ∷ []
@@ -38,9 +38,9 @@ names_in cells x h =
 abbrev made_by_text : List ℕ
 made_by_text = codes "SELECT meeting, member, number, moment FROM endings WHERE meeting = ?1 AND member = ?2 ORDER BY seq"
 
-made_by_is : (command_of (understood desk_schema made_by_text) ≡ Select (record { lets = []; body = sought 14 (names_both 2 3) shows }) names) × (reads_listing desk_schema made_by_text ≡ false) × IsPlain (understood desk_schema made_by_text)
+made_by_asks : (s : Schema) → HasTables layout_one s → AsksAs s made_by_text (sought 14 (names_both 2 3) shows) names
 unfolding understood everything
-made_by_is = (refl, refl, (refl, refl))
+made_by_asks = wide (λ s. AsksAs s made_by_text (sought 14 (names_both 2 3) shows) names) (λ others apart indexes views. record { is = refl; plain = (refl, refl); unlisted = refl })
 
 -- the rows of the meeting and of the member
 pub made_by : (m meeting n party : List ℕ) → meeting_of meeting ≡ Some m → party_of party ≡ Some n
@@ -50,9 +50,7 @@ made_by m meeting n party meeting_is party_is = record {
   tests = names_both 2 3;
   project = shows;
   names = names;
-  is = made_by_is.0;
-  plain = made_by_is.2;
-  unlisted = made_by_is.1;
+  asks = made_by_asks;
   none = refl;
   numbered = refl;
   columns = λ cells. refl;
@@ -62,9 +60,9 @@ made_by m meeting n party meeting_is party_is = record {
 abbrev of_meeting_text : List ℕ
 of_meeting_text = codes "SELECT meeting, member, number, moment FROM endings WHERE meeting = ?1 ORDER BY seq"
 
-of_meeting_is : (command_of (understood desk_schema of_meeting_text) ≡ Select (record { lets = []; body = sought 14 (names_meeting 2) shows }) names) × (reads_listing desk_schema of_meeting_text ≡ false) × IsPlain (understood desk_schema of_meeting_text)
+of_meeting_asks : (s : Schema) → HasTables layout_one s → AsksAs s of_meeting_text (sought 14 (names_meeting 2) shows) names
 unfolding understood everything
-of_meeting_is = (refl, refl, (refl, refl))
+of_meeting_asks = wide (λ s. AsksAs s of_meeting_text (sought 14 (names_meeting 2) shows) names) (λ others apart indexes views. record { is = refl; plain = (refl, refl); unlisted = refl })
 
 -- the rows of the meeting
 pub of_meeting : (m meeting : List ℕ) → meeting_of meeting ≡ Some m → IsQuery endings of_meeting_text (Text meeting ∷ []) (λ x. same_name x.meeting m)
@@ -73,9 +71,7 @@ of_meeting m meeting meeting_is = record {
   tests = names_meeting 2;
   project = shows;
   names = names;
-  is = of_meeting_is.0;
-  plain = of_meeting_is.2;
-  unlisted = of_meeting_is.1;
+  asks = of_meeting_asks;
   none = refl;
   numbered = refl;
   columns = λ cells. refl;

@@ -3,10 +3,8 @@ use Rattle.std.proofs.Common.{◌≡◌, ℕ, List, [], ◌∷◌, codes, false,
 use Rattle.sqlite.specs.declared.types.Value.TheVariants.{Text}
 use Rattle.sqlite.specs.Order.{Row}
 use Rattle.sqlite.specs.Term.{Term, col}
-use Rattle.sqlite.specs.Command.TheVariants.{Select}
 use Rattle.sqlite_tied.specs.Compute.{everything}
-use Rattle.sqlite.specs.Listing.{understood, reads_listing}
-use Rattle.sqlite.proofs.Callers.{IsPlain, command_of}
+use Rattle.sqlite.specs.Listing.{understood}
 use Rattle.desk_rows.specs.declared.kept.MeetingRow.{MeetingRow}
 use Rattle.desk_rows.specs.Columns.{spelled, worded, flag_in, day_in, moment_in, some_moment_in}
 use Rattle.desk_rows.specs.Meetings.{meeting_in}
@@ -15,9 +13,11 @@ use Rattle.desk_rows.proofs.MeaningLemmas.{bound, option_ap}
 use Rattle.desk_terms.specs.Names.{meeting_of, same_name}
 use Rattle.desk_schema.specs.Tables.{desk_schema}
 use Rattle.desk_schema.specs.Contents.{meetings}
-use Rattle.desk_schema.specs.Statements.{columns_of}
-use Rattle.desk_statements.proofs.Reading.{sought}
+use Rattle.desk_schema.specs.Statements.{columns_of, HasTables, layout_one}
+use Rattle.desk_statements.proofs.Reading.{sought, AsksAs}
 use Rattle.found_rows.proofs.Queries.{IsQuery, names_meeting, one_tells}
+use Rattle.desk_statements.proofs.Frames.{wide}
+use Rattle.sqlite.specs.Schema.{Schema}
 
 abbrev shows : List Term
 shows = col 1 2 ∷ col 1 3 ∷ col 1 4 ∷ col 1 5 ∷ col 1 6 ∷ col 1 7 ∷ col 1 8 ∷ col 1 9 ∷ []
@@ -42,9 +42,9 @@ names_in cells x h =
 abbrev named_text : List ℕ
 named_text = codes "SELECT meeting, company, kind, given, appointed, record, loaded, opened FROM meetings WHERE meeting = ?1 ORDER BY seq"
 
-named_is : (command_of (understood desk_schema named_text) ≡ Select (record { lets = []; body = sought 5 (names_meeting 2) shows }) names) × (reads_listing desk_schema named_text ≡ false) × IsPlain (understood desk_schema named_text)
+named_asks : (s : Schema) → HasTables layout_one s → AsksAs s named_text (sought 5 (names_meeting 2) shows) names
 unfolding understood everything
-named_is = (refl, refl, (refl, refl))
+named_asks = wide (λ s. AsksAs s named_text (sought 5 (names_meeting 2) shows) names) (λ others apart indexes views. record { is = refl; plain = (refl, refl); unlisted = refl })
 
 -- the rows of the meeting
 pub named : (m meeting : List ℕ) → meeting_of meeting ≡ Some m → IsQuery meetings named_text (Text meeting ∷ []) (λ x. same_name x.id m)
@@ -53,9 +53,7 @@ named m meeting meeting_is = record {
   tests = names_meeting 2;
   project = shows;
   names = names;
-  is = named_is.0;
-  plain = named_is.2;
-  unlisted = named_is.1;
+  asks = named_asks;
   none = refl;
   numbered = refl;
   columns = λ cells. refl;

@@ -12,6 +12,7 @@ use Rattle.sqlite.specs.Term.{Term, col, op2, eval_all}
 use Rattle.sqlite.specs.Command.TheVariants.{Select}
 use Rattle.sqlite.specs.Program.{given_at}
 use Rattle.sqlite.specs.Listing.{understood, reads_listing}
+use Rattle.sqlite.specs.Schema.{Schema}
 use Rattle.sqlite.specs.Held.{Held, state}
 use Rattle.sqlite.specs.State.{HasCleanDisk, Shown, FailsToQuery, IsTooLate, Survives}
 use Rattle.sqlite.proofs.Callers.{IsPlain, command_of}
@@ -20,11 +21,10 @@ use Rattle.sqlite_sql.specs.declared.ops.CompareOp.TheVariants.{Eq}
 use Rattle.sqlite_trees.specs.declared.store.Store as store
 use Rattle.desk_terms.specs.Names.{in_places, is_name, is_party, meeting_of, party_of, same_name}
 use Rattle.desk_rows.specs.Columns.{natural_of, natural_value, spelled_of}
-use Rattle.desk_schema.specs.Tables.{desk_schema}
-use Rattle.desk_schema.specs.Statements.{ChangesNothing, FindsRecords, IsRead, TableOf, columns_of, has_table, layout_one}
+use Rattle.desk_schema.specs.Statements.{ChangesNothing, FindsRecords, HasTables, IsRead, TableOf, columns_of, has_table, layout_one}
 use Rattle.desk_statements.proofs.Commits.{query_keeps, query_opened}
 use Rattle.desk_statements.proofs.Deleting.{passes}
-use Rattle.desk_statements.proofs.Reading.{finds, sought}
+use Rattle.desk_statements.proofs.Reading.{AsksAs, finds, sought}
 use Rattle.desk_statements.proofs.Tests.{names_tell, numbers_tell}
 
 -- ---- the tests of WHERE
@@ -80,9 +80,7 @@ pub record IsQuery {A : Type 0} (it : TableOf A) (sql : List ℕ) (params : Row)
   pub tests : List Term
   pub project : List Term
   pub names : List (List ℕ)
-  pub is : command_of (understood desk_schema sql) ≡ Select (record { lets = []; body = sought it.number tests project }) names
-  pub plain : IsPlain (understood desk_schema sql)
-  pub unlisted : reads_listing desk_schema sql ≡ false
+  pub asks : (s : Schema) → HasTables layout_one s → AsksAs s sql (sought it.number tests project) names
   pub none : given_at [] it.number ≡ None
   pub numbered : IsTrue (has_table layout_one it.number)
   pub columns : (row : Row) → eval_all project (params ∷ row ∷ []) ≡ columns_of it row
@@ -92,12 +90,12 @@ module _ {S V A : Type 0} (g : store.Ghosts S) (a b : Held S) (items : V → Lis
     (ok : HasCleanDisk (state g b) → IfOk r (λ v. Shown sql params (state g a) (state g b) (items v))) where
   pub finds_rows : IsRead g a b → IfOk r (λ v. FindsRecords g a b it test (items v))
   finds_rows read =
-      finds layout_one items it q.tests q.project q.names sql params test q.is q.plain q.unlisted q.none q.numbered q.columns q.same (state g a) (state g b) r read.1 (ok read.0)
+      finds layout_one items it q.tests q.project q.names sql params test q.asks q.none q.numbered q.columns q.same (state g a) (state g b) r read.1 (ok read.0)
 
   pub nothing_changed : (HasCleanDisk (state g b) → IfErr r (λ e. FailsToQuery sql params (state g a) (state g b) e ⊎ IsTooLate sql params (state g a) (state g b) e))
       → Survives (state g a) (state g b) (λ _. ⊥) → ChangesNothing g a b
   nothing_changed err crash = record {
-    kept = λ read. query_keeps items sql params (state g a) (state g b) desk_schema q.plain r read.1.schema (ok read.0) (err read.0);
+    kept = λ read. query_keeps items sql params (state g a) (state g b) (state g a).now.schema (q.asks (state g a).now.schema read.1.schema).plain r refl (ok read.0) (err read.0);
     was_open = λ clean. query_opened items sql params (state g a) (state g b) r (ok clean) (err clean);
     crash = crash;
   }

@@ -12,24 +12,25 @@ use Rattle.desk_terms.specs.Names.{meeting_of, party_of}
 use Rattle.desk_schema.specs.Tables.{up_to_polls, casts_table as table}
 use Rattle.desk_schema.specs.Texts.{adding_text, filed_text}
 use Rattle.desk_schema.specs.Contents.{casts}
-use Rattle.desk_schema.specs.Statements.{layout_one}
+use Rattle.desk_schema.specs.Statements.{layout_one, HasTables}
 use Rattle.desk_statements.proofs.Adding.{AddsBy, AddsGiven, adds_given}
-use Rattle.desk_statements.proofs.Listing.{ListsTable}
+use Rattle.desk_statements.proofs.Listing.{ListsTable, ListsAs}
 use Rattle.desk_statements.proofs.Making.{MakesTable}
 use Rattle.desk_statements.proofs.Values.{cast_int, cast_null, cast_some, cast_some_text, some_text}
-use Rattle.desk_statements.proofs.Frames.{ones_apart}
+use Rattle.desk_statements.proofs.Frames.{ones_apart, wide}
+use Rattle.sqlite.specs.Schema.{Schema}
 
 pub makes : MakesTable up_to_polls (filed_text table) table
 unfolding understood everything Rattle.sqlite_schema.specs.Names.same_name
 makes = record { is = refl; alone = refl; plain = (refl, refl); defined = refl; full = refl }
 
-adds : AddsGiven layout_one casts table
+adds : (s : Schema) → HasTables layout_one s → AddsGiven layout_one s casts table
 unfolding understood everything
-adds = record { place = 13; is = refl; plain = (refl, refl); there = refl; numbered = refl }
+adds = wide (λ s. AddsGiven layout_one s casts table) (λ others apart indexes views. record { place = 13; is = refl; plain = (refl, refl); there = refl; numbered = refl })
 
 pub lists : ListsTable layout_one casts table
 unfolding understood everything
-lists = record { is = refl; plain = (refl, refl); unlisted = refl; none = refl; numbered = refl }
+lists = record { asks = wide (ListsAs casts table) (λ others apart indexes views. record { is = refl; plain = (refl, refl); unlisted = refl }); none = refl; numbered = refl }
 
 module _ (m : List ℕ) (x : CastMark) (meeting : List ℕ) (resolution : ℤ) (voter : List ℕ) (capacity : List ℕ) (member : Option (Bor (List ℕ))) (first : Option ℤ) (last : Option ℤ) (way : Option (Bor (List ℕ))) (moment : ℤ) where
   abbrev pub values : Row

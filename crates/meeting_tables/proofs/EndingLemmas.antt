@@ -11,24 +11,25 @@ use Rattle.desk_terms.specs.Names.{meeting_of, party_of}
 use Rattle.desk_schema.specs.Tables.{up_to_appointments, endings_table as table}
 use Rattle.desk_schema.specs.Texts.{adding_text, filed_text}
 use Rattle.desk_schema.specs.Contents.{endings}
-use Rattle.desk_schema.specs.Statements.{layout_one}
+use Rattle.desk_schema.specs.Statements.{layout_one, HasTables}
 use Rattle.desk_statements.proofs.Adding.{AddsBy, AddsGiven, adds_given}
-use Rattle.desk_statements.proofs.Listing.{ListsTable}
+use Rattle.desk_statements.proofs.Listing.{ListsTable, ListsAs}
 use Rattle.desk_statements.proofs.Making.{MakesTable}
 use Rattle.desk_statements.proofs.Values.{cast_int, cast_null}
-use Rattle.desk_statements.proofs.Frames.{ones_apart}
+use Rattle.desk_statements.proofs.Frames.{ones_apart, wide}
+use Rattle.sqlite.specs.Schema.{Schema}
 
 pub makes : MakesTable up_to_appointments (filed_text table) table
 unfolding understood everything Rattle.sqlite_schema.specs.Names.same_name
 makes = record { is = refl; alone = refl; plain = (refl, refl); defined = refl; full = refl }
 
-adds : AddsGiven layout_one endings table
+adds : (s : Schema) → HasTables layout_one s → AddsGiven layout_one s endings table
 unfolding understood everything
-adds = record { place = 8; is = refl; plain = (refl, refl); there = refl; numbered = refl }
+adds = wide (λ s. AddsGiven layout_one s endings table) (λ others apart indexes views. record { place = 8; is = refl; plain = (refl, refl); there = refl; numbered = refl })
 
 pub lists : ListsTable layout_one endings table
 unfolding understood everything
-lists = record { is = refl; plain = (refl, refl); unlisted = refl; none = refl; numbered = refl }
+lists = record { asks = wide (ListsAs endings table) (λ others apart indexes views. record { is = refl; plain = (refl, refl); unlisted = refl }); none = refl; numbered = refl }
 
 module _ (m : List ℕ) (x : Ending) (meeting : List ℕ) (member : List ℕ) (number : ℤ) (moment : ℤ) where
   abbrev pub values : Row

@@ -13,7 +13,6 @@ use Rattle.sqlite_tied.specs.Compute.{everything}
 use Rattle.sqlite.specs.declared.error.Error.{Error}
 use Rattle.sqlite.specs.Listing.{understood}
 use Rattle.sqlite.specs.State.{State, ExecutesInside}
-use Rattle.sqlite.proofs.Callers.{IsPlain, command_of}
 use Rattle.desk_words.specs.declared.records.Poll.{Poll}
 use Rattle.desk_rows.specs.Columns.{flag_in, flag_of, integer_of, moment_in, moment_of_number, natural_of, number_in, natural_value, some_moment_in, some_moment_of, spelled, spelled_of}
 use Rattle.desk_rows.specs.Marks.{declared_in, declared_of, poll_in}
@@ -21,10 +20,10 @@ use Rattle.desk_terms.specs.Names.{meeting_of}
 use Rattle.desk_schema.specs.Tables.{desk_schema, up_to_demands, polls_table as table}
 use Rattle.desk_schema.specs.Texts.{adding_text, once_text}
 use Rattle.desk_schema.specs.Contents.{polls, is_poll_named, started_at, closed_at, declared_as}
-use Rattle.desk_schema.specs.Statements.{IsDesk, Sets, columns_of, layout_one}
+use Rattle.desk_schema.specs.Statements.{IsDesk, Sets, columns_of, layout_one, HasTables}
 use Rattle.desk_statements.proofs.Adding.{AddsBy, AddsGiven, adds_given}
 use Rattle.desk_statements.proofs.Deleting.{picked, passes}
-use Rattle.desk_statements.proofs.Listing.{ListsTable}
+use Rattle.desk_statements.proofs.Listing.{ListsTable, ListsAs}
 use Rattle.desk_statements.proofs.Making.{MakesTable}
 use Rattle.sqlite.specs.Kind.TheVariants.{Integer, Text as Texts}
 use Rattle.sqlite.specs.Cast.{cast}
@@ -41,19 +40,20 @@ use Rattle.desk_statements.proofs.Tests.{names_tell, numbers_tell, kept_spelled,
 use Rattle.std.proofs.Math.Bool.{and-true}
 use Rattle.desk_statements.proofs.Updating.{new_row, changes_rows, sets}
 use Rattle.desk_statements.proofs.Values.{cast_flag, cast_int, cast_null, cast_some, flag, flag_kept}
-use Rattle.desk_statements.proofs.Frames.{ones_apart}
+use Rattle.desk_statements.proofs.Frames.{ones_apart, wide, RunsOn}
+use Rattle.sqlite.specs.Schema.{Schema}
 
 pub makes : MakesTable up_to_demands (once_text table) table
 unfolding understood everything Rattle.sqlite_schema.specs.Names.same_name
 makes = record { is = refl; alone = refl; plain = (refl, refl); defined = refl; full = refl }
 
-adds : AddsGiven layout_one polls table
+adds : (s : Schema) → HasTables layout_one s → AddsGiven layout_one s polls table
 unfolding understood everything
-adds = record { place = 12; is = refl; plain = (refl, refl); there = refl; numbered = refl }
+adds = wide (λ s. AddsGiven layout_one s polls table) (λ others apart indexes views. record { place = 12; is = refl; plain = (refl, refl); there = refl; numbered = refl })
 
 pub lists : ListsTable layout_one polls table
 unfolding understood everything
-lists = record { is = refl; plain = (refl, refl); unlisted = refl; none = refl; numbered = refl }
+lists = record { asks = wide (ListsAs polls table) (λ others apart indexes views. record { is = refl; plain = (refl, refl); unlisted = refl }); none = refl; numbered = refl }
 
 module _ (m : List ℕ) (x : Poll) (meeting : List ℕ) (resolution : ℤ) (ordered : ℤ) (take : ℤ) (started : Option ℤ) (closed : Option ℤ) (votes_for : Option ℤ) (votes_against : Option ℤ) (withheld : Option ℤ) (eligible : Option ℤ) where
   abbrev pub values : Row
@@ -74,13 +74,9 @@ start_text = codes "UPDATE polls SET started = ?3 WHERE meeting = ?1 AND resolut
 abbrev start_terms : List Term
 start_terms = col 1 0 ∷ col 1 1 ∷ col 1 2 ∷ col 1 3 ∷ col 1 4 ∷ col 1 5 ∷ col 0 2 ∷ col 1 7 ∷ col 1 8 ∷ col 1 9 ∷ col 1 10 ∷ col 1 11 ∷ []
 
-start_is : command_of (understood desk_schema start_text) ≡ Update 12 (record { lets = []; body = picked 22 named start_terms })
+start_runs : (s : Schema) → HasTables layout_one s → RunsOn s start_text (Update 12 (record { lets = []; body = picked 22 named start_terms })) 12 (record table { tree = 22 })
 unfolding understood everything
-start_is = refl
-
-start_plain : IsPlain (understood desk_schema start_text)
-unfolding understood everything
-start_plain = (refl, refl)
+start_runs = wide (λ s. RunsOn s start_text (Update 12 (record { lets = []; body = picked 22 named start_terms })) 12 (record table { tree = 22 })) (λ others apart indexes views. record { is = refl; plain = (refl, refl); there = refl })
 
 abbrev close_text : List ℕ
 close_text = codes "UPDATE polls SET closed = ?3 WHERE meeting = ?1 AND resolution = ?2"
@@ -88,13 +84,9 @@ close_text = codes "UPDATE polls SET closed = ?3 WHERE meeting = ?1 AND resoluti
 abbrev close_terms : List Term
 close_terms = col 1 0 ∷ col 1 1 ∷ col 1 2 ∷ col 1 3 ∷ col 1 4 ∷ col 1 5 ∷ col 1 6 ∷ col 0 2 ∷ col 1 8 ∷ col 1 9 ∷ col 1 10 ∷ col 1 11 ∷ []
 
-close_is : command_of (understood desk_schema close_text) ≡ Update 12 (record { lets = []; body = picked 22 named close_terms })
+close_runs : (s : Schema) → HasTables layout_one s → RunsOn s close_text (Update 12 (record { lets = []; body = picked 22 named close_terms })) 12 (record table { tree = 22 })
 unfolding understood everything
-close_is = refl
-
-close_plain : IsPlain (understood desk_schema close_text)
-unfolding understood everything
-close_plain = (refl, refl)
+close_runs = wide (λ s. RunsOn s close_text (Update 12 (record { lets = []; body = picked 22 named close_terms })) 12 (record table { tree = 22 })) (λ others apart indexes views. record { is = refl; plain = (refl, refl); there = refl })
 
 abbrev declare_text : List ℕ
 declare_text = codes "UPDATE polls SET votes_for = ?3, votes_against = ?4, withheld = ?5, eligible = ?6 WHERE meeting = ?1 AND resolution = ?2"
@@ -102,13 +94,9 @@ declare_text = codes "UPDATE polls SET votes_for = ?3, votes_against = ?4, withh
 abbrev declare_terms : List Term
 declare_terms = col 1 0 ∷ col 1 1 ∷ col 1 2 ∷ col 1 3 ∷ col 1 4 ∷ col 1 5 ∷ col 1 6 ∷ col 1 7 ∷ col 0 2 ∷ col 0 3 ∷ col 0 4 ∷ col 0 5 ∷ []
 
-declare_is : command_of (understood desk_schema declare_text) ≡ Update 12 (record { lets = []; body = picked 22 named declare_terms })
+declare_runs : (s : Schema) → HasTables layout_one s → RunsOn s declare_text (Update 12 (record { lets = []; body = picked 22 named declare_terms })) 12 (record table { tree = 22 })
 unfolding understood everything
-declare_is = refl
-
-declare_plain : IsPlain (understood desk_schema declare_text)
-unfolding understood everything
-declare_plain = (refl, refl)
+declare_runs = wide (λ s. RunsOn s declare_text (Update 12 (record { lets = []; body = picked 22 named declare_terms })) 12 (record table { tree = 22 })) (λ others apart indexes views. record { is = refl; plain = (refl, refl); there = refl })
 
 -- what the columns of a row give, where it is that of a poll
 record IsPollRow (cells : Row) (x : InMeeting Poll) : Type 0 where
@@ -224,7 +212,7 @@ module _ (name : PollName) (meeting : List ℕ) (n : ℤ) (is : meeting_of meeti
       → ExecutesInside 0 start_text (Text meeting ∷ Int n ∷ Int z ∷ []) old new r → OnOk r (Sets polls (started_at name moment) old new)
   starts z moment at old new r was inside h =
       sets polls (λ cells. if passes named (Text meeting ∷ Int n ∷ Int z ∷ []) cells then new_row (record table { tree = 22 }) start_terms (Text meeting ∷ Int n ∷ Int z ∷ []) cells else cells) (started_at name moment) (start_sets z moment at) layout_one old new r
-      (changes_rows ones_apart 12 (record table { tree = 22 }) named start_terms start_text (Text meeting ∷ Int n ∷ Int z ∷ []) start_is start_plain refl refl refl (keeps_number start_terms (Text meeting ∷ Int n ∷ Int z ∷ [])) old new r was inside h)
+      (changes_rows (ones_apart old.now.schema was.schema) 12 (record table { tree = 22 }) named start_terms start_text (Text meeting ∷ Int n ∷ Int z ∷ []) (start_runs old.now.schema was.schema).is (start_runs old.now.schema was.schema).plain (start_runs old.now.schema was.schema).there refl refl (keeps_number start_terms (Text meeting ∷ Int n ∷ Int z ∷ [])) old new r refl was inside h)
 
   close_sets : (z : ℤ) (moment : ℕ) → moment_of_number z ≡ Some moment → (cells : Row) (x : InMeeting Poll) → polls.means (columns_of polls cells) ≡ Some x
       → polls.means (columns_of polls (if passes named (Text meeting ∷ Int n ∷ Int z ∷ []) cells then new_row (record table { tree = 22 }) close_terms (Text meeting ∷ Int n ∷ Int z ∷ []) cells else cells)) ≡ Some (closed_at name moment x)
@@ -246,7 +234,7 @@ module _ (name : PollName) (meeting : List ℕ) (n : ℤ) (is : meeting_of meeti
       → ExecutesInside 0 close_text (Text meeting ∷ Int n ∷ Int z ∷ []) old new r → OnOk r (Sets polls (closed_at name moment) old new)
   closes z moment at old new r was inside h =
       sets polls (λ cells. if passes named (Text meeting ∷ Int n ∷ Int z ∷ []) cells then new_row (record table { tree = 22 }) close_terms (Text meeting ∷ Int n ∷ Int z ∷ []) cells else cells) (closed_at name moment) (close_sets z moment at) layout_one old new r
-      (changes_rows ones_apart 12 (record table { tree = 22 }) named close_terms close_text (Text meeting ∷ Int n ∷ Int z ∷ []) close_is close_plain refl refl refl (keeps_number close_terms (Text meeting ∷ Int n ∷ Int z ∷ [])) old new r was inside h)
+      (changes_rows (ones_apart old.now.schema was.schema) 12 (record table { tree = 22 }) named close_terms close_text (Text meeting ∷ Int n ∷ Int z ∷ []) (close_runs old.now.schema was.schema).is (close_runs old.now.schema was.schema).plain (close_runs old.now.schema was.schema).there refl refl (keeps_number close_terms (Text meeting ∷ Int n ∷ Int z ∷ [])) old new r refl was inside h)
 
   abbrev figures : ℤ → ℤ → ℤ → ℤ → Row
   figures a b c d = Text meeting ∷ Int n ∷ Int a ∷ Int b ∷ Int c ∷ Int d ∷ []
@@ -271,4 +259,4 @@ module _ (name : PollName) (meeting : List ℕ) (n : ℤ) (is : meeting_of meeti
       → ExecutesInside 0 declare_text (figures a b c d) old new r → OnOk r (Sets polls (declared_as name tally) old new)
   declares a b c d tally at old new r was inside h =
       sets polls (λ cells. if passes named (figures a b c d) cells then new_row (record table { tree = 22 }) declare_terms (figures a b c d) cells else cells) (declared_as name tally) (declare_sets a b c d tally at) layout_one old new r
-      (changes_rows ones_apart 12 (record table { tree = 22 }) named declare_terms declare_text (figures a b c d) declare_is declare_plain refl refl refl (keeps_number declare_terms (figures a b c d)) old new r was inside h)
+      (changes_rows (ones_apart old.now.schema was.schema) 12 (record table { tree = 22 }) named declare_terms declare_text (figures a b c d) (declare_runs old.now.schema was.schema).is (declare_runs old.now.schema was.schema).plain (declare_runs old.now.schema was.schema).there refl refl (keeps_number declare_terms (figures a b c d)) old new r refl was inside h)
