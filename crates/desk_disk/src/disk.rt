@@ -4,7 +4,7 @@ ghost use Rattle.desk_disk.specs.Disks.{EndsCreating, EndsOpening, tables_of};
 ghost use Rattle.desk_endings.specs.Endings.{ended_view};
 ghost use Rattle.desk_opening.specs.Rising.{RowsRise};
 ghost use Rattle.desk_records.specs.Standing.{Stands};
-ghost use Rattle.desk_schema.specs.Tables.{desk_schema};
+ghost use Rattle.desk_schema.specs.Statements.{IsDeclared};
 ghost use Rattle.desk_words.specs.declared.office.OfficeLists.{OfficeLists};
 ghost use Rattle.sqlite.specs.Files.{file_state};
 ghost use Rattle.sqlite.specs.State.{HasCleanDisk};
@@ -107,7 +107,7 @@ impl DiskDesk {
     /// the log of a desk it is `Store`, and the log is left as it is too.
     pub fn open(rt: &HostRuntime, file: &str) -> Result<DiskDesk, Ended>
         ensures stands { IfOk result (λ disk. HasCleanDisk (tables_of disk)
-            → (tables_of disk).now.schema ≡ desk_schema
+            → IsDeclared (tables_of disk)
             → (office : OfficeLists) × Stands (tables_of disk) office) }
         ensures fault { IfErr result (λ ended. EndsOpening (ended_view ended)) }
     {

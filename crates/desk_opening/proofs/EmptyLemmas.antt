@@ -7,7 +7,7 @@ use Rattle.desk_schema.specs.Contents as contents
 use Rattle.desk_records.specs.Office.{flat_in, office_in, office_of_records}
 use Rattle.desk_schema.specs.Statements.{AddsFirst, AreEmpty, has_table, layout_one, records_in}
 use Rattle.desk_schema.specs.Tables.{desk_schema}
-use Rattle.desk_statements.proofs.Frames.{of_tables, ones_apart}
+use Rattle.desk_statements.proofs.Frames.{ones_declared, of_tables, ones_apart}
 use Rattle.desk_words.specs.Changes.{empty_office}
 use Rattle.desk_records.specs.Standing.{version_one}
 use Rattle.desk_records.specs.Standing.{Stands}
@@ -24,7 +24,7 @@ held trees a b c d e f g h i j k l = rw (a, b, c, d, e, f, g, h, i, j, k, l) ref
 -- and with the version noted they are the empty office
 pub noted : (old new : State) → AreEmpty desk_schema old → AddsFirst contents.desk version_one old new → Stands new empty_office × IsDatabase new.now × IsTrue new.in_transaction
 noted old new empty adds =
-    let was = of_tables ones_apart (λ n. old.now.trees n ≡ []) empty.1 in
+    let was = of_tables (ones_apart desk_schema ones_declared) (λ n. old.now.trees n ≡ []) empty.1 in
     let none : records_in contents.desk old.now.trees ≡ Some [] = rw (was 0 refl) refl in
     let added = adds [] none refl in
     let is : (number : ℕ) → IsTrue (has_table layout_one number) → nat_lt 0 number ≡ true → new.now.trees number ≡ [] = λ number table above. added.others number table (above_none number above) ∙ was number table in (

@@ -8,7 +8,7 @@ use Rattle.sqlite.specs.declared.error.ErrorCode.TheVariants.{OutOfMemory}
 use Rattle.desk_tables.specs.declared.columns.ColumnFault.{ColumnFault}
 use Rattle.desk_tables.specs.declared.columns.ColumnFault.TheVariants.{Missing, Refused}
 use Rattle.desk_records.specs.Standing.{HasNoOffice, HasNoVersion, IsNewer, IsVersionOne}
-use Rattle.desk_schema.specs.Tables.{desk_schema}
+use Rattle.desk_schema.specs.Statements.{IsDeclared}
 use Rattle.desk_tables.specs.Columns.{HasColumns}
 use Rattle.desk_opening.specs.Opening.{IsOpenCause, IsFaultOf, IsNoDesk, creating_fault, fault_of_columns, opening_fault}
 use Rattle.desk_opening.specs.declared.fault.OpenFault.{OpenFault}
@@ -54,7 +54,7 @@ by_columns Store s one other h = tt
 by_columns Memory s one other h = tt
 
 -- it is the first, and what is held is no office
-pub by_office : (fault : OpenFault) (s : State) → IsVersionOne s → fault ≢ NewerVersion → (fault ≡ NotADesk → s.now.schema ≡ desk_schema → HasNoOffice s) → IsOpenCause fault s
+pub by_office : (fault : OpenFault) (s : State) → IsVersionOne s → fault ≢ NewerVersion → (fault ≡ NotADesk → IsDeclared s → HasNoOffice s) → IsOpenCause fault s
 by_office NotADesk s one other h = inr (one, inr (h refl))
 by_office NewerVersion s one other h = absurd (other refl)
 by_office Store s one other h = tt

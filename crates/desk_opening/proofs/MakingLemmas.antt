@@ -8,7 +8,7 @@ use Rattle.desk_records.specs.Standing.{version_one}
 use Rattle.desk_schema.specs.Contents as contents
 use Rattle.desk_schema.specs.Statements.{AddsFirst, CommitsNothing, Does}
 use Rattle.desk_schema.specs.Tables.{desk_schema, no_schema}
-use Rattle.desk_statements.proofs.Frames.{empty_is_desk, ones_apart}
+use Rattle.desk_statements.proofs.Frames.{ones_declared, empty_is_desk, ones_apart}
 use Rattle.desk_opening.specs.Making.{IsMaking, LeavesEmptyDesk}
 use Rattle.desk_opening.proofs.EmptyLemmas.{noted}
 
@@ -22,7 +22,7 @@ made_and_noted g a b c t u v one added commits = record {
   made = λ clean inside empty.
       let early : HasCleanDisk (state g b) = omega (arith, commits.crash.clean, clean) in
       let done = one.made early inside empty in
-      noted (state g b) (state g c) done.0 (added clean done.1 (empty_is_desk ones_apart (state g b) done.0));
+      noted (state g b) (state g c) done.0 (added clean done.1 (empty_is_desk (ones_apart desk_schema ones_declared) (state g b) done.0 ones_declared));
   kept = λ clean inside empty.
       let early : HasCleanDisk (state g b) = omega (arith, commits.crash.clean, clean) in
       let done = one.made early inside empty in

@@ -12,7 +12,7 @@ use Rattle.sqlite.specs.Tree.{Trees}
 use Rattle.sqlite_catalog.specs.Listing.{AreListed}
 use Rattle.sqlite_trees.specs.Objects.{catalog_tree}
 use Rattle.sqlite.specs.Effect.{Database}
-use Rattle.desk_schema.specs.Statements.{IsDesk, IsRising}
+use Rattle.desk_schema.specs.Statements.{HasTables, IsDesk, IsRising, layout_one}
 use Rattle.desk_tables.specs.Versions.{AreNoted, NotesVersion}
 use Rattle.desk_opening.proofs.OneSchema.{one_schema}
 use Rattle.sqlite_trees.specs.declared.store.Store as store
@@ -106,7 +106,7 @@ same_database old new same was is =
 -- what is so of tables is so of the same tables
 pub desk_same : (s t : State) → s.now ≡ t.now → IsDesk s → IsDesk t
 desk_same s t same desk = record {
-  schema = ap (λ (d : Database). d.schema) (sym same) ∙ desk.schema;
+  schema = subst (λ (d : Database). HasTables layout_one d.schema) same desk.schema;
   rising = λ number is. subst (λ (d : Database). IsRising (d.trees number)) same (desk.rising number is);
 }
 

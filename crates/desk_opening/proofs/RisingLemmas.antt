@@ -11,8 +11,7 @@ use Rattle.sqlite_trees.specs.declared.store.Shape.{Shape}
 use Rattle.sqlite_trees.specs.declared.store.Shape.TheVariants as shape
 use Rattle.sqlite_catalog.specs.Listing.{AreListed}
 use Rattle.sqlite_catalog.proofs.LayoutLemmas.{laid_out}
-use Rattle.desk_schema.specs.Statements.{IsDesk, IsRising}
-use Rattle.desk_schema.specs.Tables.{desk_schema}
+use Rattle.desk_schema.specs.Statements.{IsDeclared, IsDesk, IsRising}
 use Rattle.desk_statements.proofs.Frames.{of_tables, of_tree, ones_apart}
 use Rattle.desk_tables.specs.Versions.{AreNoted, NotesVersion}
 use Rattle.desk_opening.specs.Rising.{Rise, RowsRise}
@@ -36,10 +35,10 @@ risen v s same listed ordered are =
     subst (Rise s.now.schema) (sym same) (risen_by v.shape v.reals v.trees s.now.schema listed ordered (subst (λ (t : Trees). AreListed (t catalog_tree) s.now.schema) same are))
 
 -- tables that are declared as a desk's, and whose rows rise, are a desk's
-pub are_a_desk : (s : State) → s.now.schema ≡ desk_schema → RowsRise s → IsDesk s
+pub are_a_desk : (s : State) → IsDeclared s → RowsRise s → IsDesk s
 are_a_desk s has rise = record {
   schema = has;
-  rising = of_tables ones_apart (λ n. IsRising (s.now.trees n)) (subst (λ (made : Schema). AllByRecursion (λ (t : Table). IsRising (s.now.trees t.tree)) made.tables) has rise);
+  rising = of_tables (ones_apart s.now.schema has) (λ n. IsRising (s.now.trees n)) rise;
 }
 
 -- so do those of the table that notes the version

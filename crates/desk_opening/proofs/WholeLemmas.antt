@@ -8,7 +8,7 @@ use Rattle.sqlite_trees.specs.Objects.{catalog_tree}
 use Rattle.desk_words.specs.Office.{is_office}
 use Rattle.desk_words.specs.declared.office.OfficeLists.{OfficeLists}
 use Rattle.desk_rows.specs.declared.kept.Version.{Version}
-use Rattle.desk_schema.specs.Tables.{desk_schema}
+use Rattle.desk_schema.specs.Statements.{HasTables, IsDeclared, layout_one}
 use Rattle.desk_records.specs.Office.{office_in}
 use Rattle.desk_records.specs.Standing.{HasNoOffice, Stands, version_one}
 use Rattle.desk_tables.specs.Columns.{HasColumns}
@@ -25,13 +25,15 @@ use Rattle.desk_opening.proofs.OneSchema.{one_schema}
 use Rattle.desk_opening.proofs.RisingLemmas.{are_noted}
 
 -- a database whose tables are whole is declared as a desk's
-pub declared_so : (d : Database) (office : OfficeLists) → IsWhole d.trees office → IsDatabase d → d.schema ≡ desk_schema
-declared_so d office whole is = one_schema (d.trees catalog_tree) desk_schema d.schema whole.declared is.lists.listed
+pub declared_so : (d : Database) (office : OfficeLists) → IsWhole d.trees office → IsDatabase d → HasTables layout_one d.schema
+declared_so d office whole is = subst (HasTables layout_one) (sym (one_schema (d.trees catalog_tree) whole.schema d.schema whole.listed is.lists.listed)) whole.declared
 
 -- the tables of a database that stand for an office are whole
 pub whole_of : (s : State) (office : OfficeLists) → Stands s office → IsDatabase s.now → IsWhole s.now.trees office
 whole_of s office stands is = record {
-  declared = subst (AreListed (s.now.trees catalog_tree)) stands.desk.schema is.lists.listed;
+  schema = s.now.schema;
+  listed = is.lists.listed;
+  declared = stands.desk.schema;
   version = stands.version;
   holds = stands.holds;
   kept = stands.kept;
@@ -49,9 +51,9 @@ stands_for s told office stands whole =
     subst (Stands s) same stands
 
 -- tables that are whole are refused by no fault but the store's and want of memory
-pub no_other_fault : (fault : OpenFault) (s : State) (office : OfficeLists) → IsWhole s.now.trees office → s.now.schema ≡ desk_schema → IsOpenCause fault s → (fault ≡ Store) ⊎ (fault ≡ Memory)
+pub no_other_fault : (fault : OpenFault) (s : State) (office : OfficeLists) → IsWhole s.now.trees office → IsDeclared s → IsOpenCause fault s → (fault ≡ Store) ⊎ (fault ≡ Memory)
 no_other_fault NotADesk s office whole has (inl none) = absurd (let zero : version_one.number ≡ 0 = none version_one whole.version in cc)
-no_other_fault NotADesk s office whole has (inr (one, inl missing)) = absurd (missing (subst HasColumns (sym has) columns_stand))
+no_other_fault NotADesk s office whole has (inr (one, inl missing)) = absurd (missing (columns_stand s.now.schema has))
 no_other_fault NotADesk s office whole has (inr (one, inr none)) = absurd (true≢false (sym whole.kept ∙ none has office whole.holds))
 no_other_fault NewerVersion s office whole has (version, noted, later) =
     let both : ◌≡◌ {A = Option _} (Some (version ∷ [])) (Some (version_one ∷ [])) = sym noted ∙ whole.version in
@@ -68,7 +70,7 @@ no_fault_of_whole fault s office whole live rise opened cause = go fault refl
     of_desk : IsTrue s.is_open → (fault ≡ Store) ⊎ (fault ≡ Memory)
     of_desk is_open =
         let has = declared_so s.now office whole (live is_open).0 in
-        no_other_fault fault s office whole has (cause (are_noted s (subst NotesVersion (sym has) desk_notes) rise))
+        no_other_fault fault s office whole has (cause (are_noted s (desk_notes s.now.schema has) rise))
 
     go : (f : OpenFault) → fault ≡ f → (fault ≡ Store) ⊎ (fault ≡ Memory)
     go NotADesk is = of_desk (opened (inl is))

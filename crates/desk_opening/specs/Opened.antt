@@ -6,7 +6,7 @@ use Rattle.sqlite.specs.State.{HasCleanDisk, Survives}
 use Rattle.sqlite_trees.specs.declared.store.Store as store
 use Rattle.desk_words.specs.Changes.{empty_office}
 use Rattle.desk_words.specs.declared.office.OfficeLists.{OfficeLists}
-use Rattle.desk_schema.specs.Tables.{desk_schema}
+use Rattle.desk_schema.specs.Statements.{IsDeclared}
 use Rattle.desk_records.specs.Standing.{IsVersionOne, Stands}
 use Rattle.desk_tables.specs.Columns.{HasColumns}
 use Rattle.desk_tables.specs.Versions.{NotesVersion}
@@ -49,7 +49,7 @@ KeepsOpenRows g old new =
 -- where the tables were declared as a desk's are, this holds
 abbrev pub IfDeclared : {S : Type 0} → store.Ghosts S → Held S → Held S → Type 0 → Type 0
 IfDeclared g old new Holds =
-    HasCleanDisk (state g new) → (state g old).now.schema ≡ desk_schema → Holds
+    HasCleanDisk (state g new) → IsDeclared (state g old) → Holds
 
 -- tables that noted their version were of version 1
 abbrev pub HadVersionOne : {S : Type 0} → store.Ghosts S → Held S → Held S → Type 0

@@ -17,8 +17,7 @@ use Rattle.desk_rows.specs.Meanings.{all_mean}
 use Rattle.desk_rows.specs.declared.kept.Version.{Version}
 use Rattle.desk_records.specs.Office.{office_in}
 use Rattle.desk_schema.specs.Contents.{desk}
-use Rattle.desk_schema.specs.Statements.{ChangesNothing, IsDesk, IsRead, WasOpen}
-use Rattle.desk_schema.specs.Tables.{desk_schema}
+use Rattle.desk_schema.specs.Statements.{ChangesNothing, IsDeclared, IsDesk, IsRead, WasOpen}
 use Rattle.desk_tables.specs.Columns.{HasColumns}
 use Rattle.desk_tables.specs.Versions.{AreNoted, ShowsVersions}
 use Rattle.desk_records.specs.Standing.{IsVersionOne}
@@ -59,7 +58,7 @@ abbrev pub IsNoDesk : State → Type 0
 IsNoDesk s =
     HasNoVersion s
     ⊎ (IsVersionOne s
-    × (¬ HasColumns s.now.schema ⊎ (s.now.schema ≡ desk_schema → HasNoOffice s)))
+    × (¬ HasColumns s.now.schema ⊎ (IsDeclared s → HasNoOffice s)))
 
 -- why tables that note their version are not opened as a desk
 abbrev pub IsOpenCause : OpenFault → State → Type 0

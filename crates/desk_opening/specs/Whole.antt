@@ -2,6 +2,7 @@
 use Rattle.std.specs.Prelude.{◌≡◌, [], ◌∷◌, Some, Result, OnOk, IsTrue}
 use Rattle.sqlite.specs.Effect.{IsDatabase}
 use Rattle.sqlite.specs.Held.{Held, state}
+use Rattle.sqlite.specs.Schema.{Schema}
 use Rattle.sqlite.specs.State.{State, HasCleanDisk, IsUnchanged, Survives}
 use Rattle.sqlite.specs.Tree.{Trees}
 use Rattle.sqlite_catalog.specs.Listing.{AreListed}
@@ -10,15 +11,16 @@ use Rattle.sqlite_trees.specs.declared.store.Store as store
 use Rattle.desk_words.specs.declared.office.OfficeLists.{OfficeLists}
 use Rattle.desk_words.specs.Office.{is_office}
 use Rattle.desk_schema.specs.Contents.{desk}
-use Rattle.desk_schema.specs.Statements.{records_in}
-use Rattle.desk_schema.specs.Tables.{desk_schema}
+use Rattle.desk_schema.specs.Statements.{HasTables, layout_one, records_in}
 use Rattle.desk_records.specs.Office.{office_in}
 use Rattle.desk_records.specs.Standing.{Stands, version_one}
 
--- these tables are whole, and they are this office: the database lists them as a desk's are
--- declared, they note version 1, and what they hold is the office
+-- these tables are whole, and they are this office: the database lists a desk's tables as they are
+-- declared, whatever stands beside them, they note version 1, and what they hold is the office
 pub record IsWhole (db : Trees) (office : OfficeLists) : Type 0 where
-  pub declared : AreListed (db catalog_tree) desk_schema
+  pub schema : Schema
+  pub listed : AreListed (db catalog_tree) schema
+  pub declared : HasTables layout_one schema
   pub version : records_in desk db ≡ Some (version_one ∷ [])
   pub holds : office_in db ≡ Some office
   pub kept : IsTrue (is_office office)

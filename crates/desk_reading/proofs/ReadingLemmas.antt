@@ -15,7 +15,7 @@ use Rattle.desk_rows.specs.Meanings.{IsFault, all_mean}
 use Rattle.desk_rows.specs.declared.fault.RowFault.{RowFault}
 use Rattle.desk_rows.specs.declared.fault.RowFault.TheVariants as row
 use Rattle.sqlite.specs.Order.{Row}
-use Rattle.desk_schema.specs.Statements.{ChangesNothing, IsDesk, IsRead, IsRising, TableOf, records_in, table_rows}
+use Rattle.desk_schema.specs.Statements.{ChangesNothing, HasTables, IsDesk, IsRead, IsRising, TableOf, layout_one, records_in, table_rows}
 use Rattle.desk_rows.proofs.MeaningLemmas.{bound}
 use Rattle.office_lists.specs.declared.fault.ReadFault.{ReadFault}
 use Rattle.office_lists.specs.declared.fault.ReadFault.TheVariants.{NoOffice, Store, Memory}
@@ -26,7 +26,7 @@ pub desk_same : (old new : State) → IsUnchanged old new → IsDesk old → IsD
 desk_same old new h desk =
     let same = h.0.now_is in
     record {
-      schema = ap (λ (d : Database). d.schema) same ∙ desk.schema;
+      schema = subst (λ (d : Database). HasTables layout_one d.schema) (sym same) desk.schema;
       rising = λ number is. subst (λ (d : Database). IsRising (d.trees number)) (sym same) (desk.rising number is);
     }
 

@@ -1,5 +1,5 @@
 -- What the statements do to the rows of the tables.
-use Rattle.std.specs.Prelude.{◌≡◌, ◌≢◌, ℕ, Bool, false, ◌==◌, List, [], ◌∷◌, ◌++◌, map, filter, not, true, ◌&&◌, ◌||◌, Option, Some, Result, OnOk, IsTrue}
+use Rattle.std.specs.Prelude.{◌≡◌, ◌≢◌, ℕ, Bool, false, ◌==◌, List, [], ◌∷◌, ◌++◌, map, filter, not, Option, Some, Result, OnOk, IsTrue}
 use Rattle.std.specs.List.{AllByRecursion, list_all, list_any}
 use Rattle.sqlite.specs.declared.error.Error.{Error}
 use Rattle.sqlite.specs.Effect.{IsDatabase}
@@ -7,9 +7,6 @@ use Rattle.sqlite.specs.Order.{Row, column}
 use Rattle.sqlite.specs.Tree.{Trees}
 use Rattle.sqlite.specs.Table.{Table}
 use Rattle.sqlite.specs.Schema.{Schema}
-use Rattle.sqlite_schema.specs.declared.schema.Action.{Action}
-use Rattle.sqlite_schema.specs.declared.schema.Action.TheVariants.{NoAction}
-use Rattle.sqlite_schema.specs.declared.schema.Reference.{Reference}
 use Rattle.sqlite.specs.View.{IsShaped}
 use Rattle.sqlite.specs.State.{State, HasCleanDisk, Survives, KeepsCommit, IsUnchanged}
 use Rattle.sqlite.specs.Held.{Held, state}
@@ -39,24 +36,12 @@ has_table layout number = list_any (λ n. n == number) layout.numbers
 abbrev pub IsRising : List Row → Type 0
 IsRising = IsShaped shape.Table
 
--- ---- no reference acts
-
-abbrev pub is_none : Action → Bool
-is_none NoAction = true
-is_none _ = false
-
-abbrev pub is_still : Reference → Bool
-is_still ref = is_none ref.on_delete && is_none ref.on_update
-
--- the number is no table's of the desk
+-- the table has the number of no table of the desk
 abbrev pub is_other : Layout → Table → Bool
 is_other layout t = not (has_table layout t.tree)
 
--- each table of which a reference acts is no table of the desk
-abbrev pub act_on_others : Layout → List Table → Bool
-act_on_others layout tables = list_all (λ (t : Table). list_all is_still t.references || is_other layout t) tables
-
--- the tables of the version stand first, as they are declared
+-- the tables of this version stand first, as they are declared; others may stand behind them, and
+-- any indexes and views beside
 pub record HasTables (layout : Layout) (s : Schema) : Type 0 where
   pub others : List Table
   pub tables : s.tables ≡ layout.schema.tables ++ others
@@ -163,6 +148,10 @@ Makes g old new result before after =
     → OnOk result (AreEmpty after (state g new) × IsTrue (state g new).in_transaction)
 
 -- ---- of version 1
+
+-- the tables of version 1 are declared, whatever stands beside them
+abbrev pub IsDeclared : State → Type 0
+IsDeclared s = HasTables layout_one s.now.schema
 
 abbrev pub IsDesk : State → Type 0
 IsDesk = IsDeskOf layout_one

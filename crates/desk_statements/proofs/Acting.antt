@@ -18,8 +18,8 @@ use Rattle.sqlite_schema.specs.declared.schema.Reference.{Reference}
 use Rattle.sqlite_schema.specs.declared.schema.Keys.TheVariants.{Enforced}
 use Rattle.sqlite_schema.specs.Rules.{ParentKey, parent_key}
 use Rattle.sqlite_trees.proofs.ListLemmas.{all-slice_get, all-append, all-flat_map}
-use Rattle.desk_schema.specs.Statements.{Layout, act_on_others, has_table, is_none, is_other, is_still}
-use Rattle.desk_statements.proofs.Frames.{AreApart, declared_so, listed_in}
+use Rattle.desk_schema.specs.Statements.{Layout, has_table, is_other}
+use Rattle.desk_statements.proofs.Frames.{AreApart, act_on_others, declared_so, is_none, is_still, listed_in}
 
 -- ---- no reference acts
 

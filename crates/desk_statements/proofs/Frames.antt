@@ -5,6 +5,9 @@ use Rattle.std.proofs.lemmas.Bool.{and_parts}
 use Rattle.std.proofs.lemmas.Bool.Decides.{eqb_tells}
 use Rattle.sqlite.specs.Table.{Table}
 use Rattle.sqlite.specs.Schema.{Schema}
+use Rattle.sqlite_schema.specs.declared.schema.Action.{Action}
+use Rattle.sqlite_schema.specs.declared.schema.Action.TheVariants.{NoAction}
+use Rattle.sqlite_schema.specs.declared.schema.Reference.{Reference}
 use Rattle.sqlite_schema.specs.declared.schema.Index.{Index}
 use Rattle.sqlite_schema.specs.declared.schema.View.{View as Stored}
 use Rattle.sqlite.specs.Command.{Command}
@@ -13,7 +16,7 @@ use Rattle.sqlite.specs.Rows.{sequence}
 use Rattle.sqlite.specs.State.{State}
 use Rattle.sqlite.proofs.Callers.{IsPlain, command_of}
 use Rattle.desk_schema.specs.Tables.{sequence as counts_of_numbers}
-use Rattle.desk_schema.specs.Statements.{Layout, layout_one, has_table, AreEmpty, HasTables, act_on_others, is_other, is_still, IsDeskOf, IsRising, KeepsOthersIn}
+use Rattle.desk_schema.specs.Statements.{Layout, layout_one, has_table, AreEmpty, HasTables, is_other, IsDeskOf, IsRising, KeepsOthersIn}
 use Rattle.sqlite_trees.proofs.ListLemmas.{all-slice_get}
 
 -- a schema whose tables are these of the version and others beside, with any indexes and views
@@ -29,6 +32,19 @@ pub record RunsOn (schema : Schema) (text : List ℕ) (command : Command) (at : 
   pub is : command_of (understood schema text) ≡ command
   pub plain : IsPlain (understood schema text)
   pub there : slice_get schema.tables at ≡ Some table
+
+-- ---- which references act
+
+abbrev pub is_none : Action → Bool
+is_none NoAction = true
+is_none _ = false
+
+abbrev pub is_still : Reference → Bool
+is_still ref = is_none ref.on_delete && is_none ref.on_update
+
+-- only a table that is none of the desk's may have references that act
+abbrev pub act_on_others : Layout → List Table → Bool
+act_on_others layout tables = list_all (λ (t : Table). list_all is_still t.references || is_other layout t) tables
 
 -- no reference of a table of the desk acts, one table counts the numbers given so far, and each number of a table of the
 -- desk is that of another one that is declared
@@ -49,6 +65,10 @@ apart_act layout (t ∷ others) h = let both = and_parts (is_other layout t) (li
 pub ones_apart : (schema : Schema) → HasTables layout_one schema → AreApart layout_one schema
 unfolding Rattle.sqlite_schema.specs.Names.same_name
 ones_apart = wide (AreApart layout_one) (λ others apart indexes views. record { acts = apart_act layout_one others apart; counts = record counts_of_numbers { tree = 7 }; counted = refl; declared = refl })
+
+-- the tables that the desk makes are those of the version
+pub ones_declared : HasTables layout_one layout_one.schema
+ones_declared = record { others = []; tables = refl; apart = refl }
 
 -- a table with this number, and its place in the list
 pub record IsListed (tables : List Table) (number : ℕ) : Type 0 where

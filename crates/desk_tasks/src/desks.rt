@@ -5,7 +5,7 @@ ghost use Rattle.desk_opening.specs.Opened.{HadColumns, HadVersionOne, KeepsOpen
 ghost use Rattle.desk_opening.specs.Opened.{KeepsTables, StaysOpen};
 ghost use Rattle.desk_opening.specs.Rising.{RowsRise};
 ghost use Rattle.desk_records.specs.Standing.{Stands};
-ghost use Rattle.desk_schema.specs.Tables.{desk_schema};
+ghost use Rattle.desk_schema.specs.Statements.{IsDeclared};
 ghost use Rattle.desk_tasks.specs.Desks.{Creates, IsUnopened, create_fault, file_fault, open_fault};
 ghost use Rattle.desk_words.specs.declared.office.OfficeLists.{OfficeLists};
 ghost use Rattle.sqlite.specs.Held.{state};
@@ -67,7 +67,7 @@ pub fn open<S: Alter + Drop>(
     requires none { conn.in_transaction ≡ false }
     requires rising { HasCleanDisk (state S.Store conn) → RowsRise (state S.Store conn) }
     ensures stands { IfOk result (λ desk. HasCleanDisk (state S.Store desk)
-        → (state S.Store desk).now.schema ≡ desk_schema
+        → IsDeclared (state S.Store desk)
         → (office : OfficeLists) × Stands (state S.Store desk) office) }
     ensures same { IfOk result (λ desk. KeepsTables S.Store conn desk) }
     ensures is_open { IfOk result (λ desk. StaysOpen S.Store desk) }

@@ -18,7 +18,7 @@ use Rattle.party_reading.proofs.FoundLemmas.{error_tells}
 module _ {S X : Type 0} (g : store.Ghosts S) (a b : Held S) (kept : HasCleanDisk (state g b) → NotesVersion (state g a).now.schema → KeepsCommit (state g a) (state g b))
     (was_open : WasOpen (state g a) (state g b)) (crash : Survives (state g a) (state g b) (λ _. ⊥)) (R : OfficeLists → X → Type 0) where
   noted : IsRead g a b → AreNoted (state g a)
-  noted read = record { noted = subst NotesVersion (sym read.1.schema) desk_notes; rising = read.1.rising 0 refl }
+  noted read = record { noted = desk_notes (state g a).now.schema read.1.schema; rising = read.1.rising 0 refl }
 
   changes : ChangesNothing g a b
   changes = record { kept = λ read. kept read.0 (noted read).noted; was_open = was_open; crash = crash }

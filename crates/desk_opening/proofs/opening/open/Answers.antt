@@ -5,7 +5,7 @@ use Rattle.sqlite.specs.State.{HasCleanDisk}
 use Rattle.desk_words.specs.declared.office.OfficeLists.{OfficeLists}
 use Rattle.desk_records.specs.Office.{office_in}
 use Rattle.desk_records.specs.Standing.{IsVersionOne, Stands}
-use Rattle.desk_schema.specs.Tables.{desk_schema}
+use Rattle.desk_schema.specs.Statements.{HasTables, layout_one}
 use Rattle.desk_tables.proofs.DeskLemmas.{desk_notes}
 use Rattle.desk_tables.specs.Columns.{HasColumns}
 use Rattle.desk_tables.specs.Versions.{NotesVersion}
@@ -24,11 +24,11 @@ returns-in-Ok-kept_office-clause-stands g c = λ clean has.
     let opened = state g.S.Store c.in-Ok.conn in
     let kept = state g.S.Store c.kept_office.new.conn in
     let early : HasCleanDisk opened = omega (arith, c.kept_office.ensures.crash.clean, clean) in
-    let is : opened.now.schema ≡ desk_schema = ap (λ (d : Database). d.schema) (c.in-Ok.ensures.same early) ∙ has in
+    let is = subst (λ (d : Database). HasTables layout_one d.schema) (sym (c.in-Ok.ensures.same early)) has in
     let rise = c.in-Ok.ensures.rising early in
     let desk = are_a_desk opened is rise in
     let holds = c.in-Ok-kept_office.ensures.holds clean desk in
-    let one = c.in-Ok-kept_office.ensures.version clean (are_noted opened (subst NotesVersion (sym is) desk_notes) rise) in
+    let one = c.in-Ok-kept_office.ensures.version clean (are_noted opened (desk_notes opened.now.schema is) rise) in
     let same = sym (c.in-Ok-kept_office.ensures.same clean) in
     let stands : Stands kept c.in-Ok-kept_office.office = record {
       desk = desk_same opened kept same desk;
@@ -46,7 +46,7 @@ returns-in-Ok-kept_office-clause-whole g c = λ clean office whole.
     let early : HasCleanDisk opened = omega (arith, c.kept_office.ensures.crash.clean, clean) in
     let same : kept.now ≡ conn.now = c.in-Ok-kept_office.ensures.same clean ∙ c.in-Ok.ensures.same early in
     let there : IsWhole kept.now.trees office = subst (λ (d : Database). IsWhole d.trees office) (sym same) whole in
-    let is : opened.now.schema ≡ desk_schema = ap (λ (d : Database). d.schema) (sym (c.in-Ok-kept_office.ensures.same clean)) ∙ declared_so kept.now office there (c.in-Ok-kept_office.ensures.sound clean) in
+    let is = subst (λ (d : Database). HasTables layout_one d.schema) (c.in-Ok-kept_office.ensures.same clean) (declared_so kept.now office there (c.in-Ok-kept_office.ensures.sound clean)) in
     let rise = c.in-Ok.ensures.rising early in
     let desk = are_a_desk opened is rise in
     let back = sym (c.in-Ok-kept_office.ensures.same clean) in

@@ -5,7 +5,7 @@ use Rattle.sqlite.specs.State.{HasCleanDisk}
 use Rattle.desk_words.specs.declared.office.OfficeLists.{OfficeLists}
 use Rattle.desk_records.specs.Office.{office_in}
 use Rattle.desk_records.specs.Standing.{IsVersionOne, Stands}
-use Rattle.desk_schema.specs.Tables.{desk_schema}
+use Rattle.desk_schema.specs.Statements.{HasTables, layout_one}
 use Rattle.desk_tables.proofs.DeskLemmas.{desk_notes}
 use Rattle.desk_tables.specs.Versions.{NotesVersion}
 use Rattle.desk_opening.proofs.OpeningLemmas.{desk_same}
@@ -25,7 +25,7 @@ returns-in-Ok-clause-stands g c = λ clean has.
     let rise = c.requires.rising early in
     let desk = are_a_desk opened has rise in
     let holds = c.in-Ok.ensures.holds clean desk in
-    let one = c.in-Ok.ensures.version clean (are_noted opened (subst NotesVersion (sym has) desk_notes) rise) in
+    let one = c.in-Ok.ensures.version clean (are_noted opened (desk_notes opened.now.schema has) rise) in
     let same = sym (c.in-Ok.ensures.same clean) in
     let stands : Stands kept c.in-Ok.office = record {
       desk = desk_same opened kept same desk;
@@ -42,7 +42,7 @@ returns-in-Ok-clause-whole g c = λ clean office whole.
     let early : HasCleanDisk opened = omega (arith, c.kept_office.ensures.crash.clean, clean) in
     let back = sym (c.in-Ok.ensures.same clean) in
     let there : IsWhole kept.now.trees office = subst (λ (d : Database). IsWhole d.trees office) back whole in
-    let is : opened.now.schema ≡ desk_schema = ap (λ (d : Database). d.schema) back ∙ declared_so kept.now office there (c.in-Ok.ensures.sound clean) in
+    let is = subst (λ (d : Database). HasTables layout_one d.schema) (sym back) (declared_so kept.now office there (c.in-Ok.ensures.sound clean)) in
     let desk = are_a_desk opened is (c.requires.rising early) in
     record { desk = desk_same opened kept back desk; version = there.version; holds = there.holds; kept = there.kept }
 
