@@ -202,8 +202,9 @@ fn kept_office<S: Alter>(conn: &mut Connection<S>, alloc: Global) -> Result<Offi
 }
 
 /// Opens the tables of the desk that the database holds, and gives the office that they hold,
-/// where they are declared as `create` declares them, indexes included. Whatever tables it holds, it
-/// is opened only where each column that is read stands. The version is asked before the other
+/// where they stand first and are declared as `create` declares them; other tables, indexes and
+/// views may stand beside them. Whatever tables it holds, it is opened only where each column that
+/// is read stands. The version is asked before the other
 /// tables are read. The fault is `NewerVersion` only where the database understands the text that
 /// reads the version, and it shows a later one. Of tables that note their version, as those of
 /// version 1 do, it is `NotADesk` only where they note none, or the first and a column that is read

@@ -63,9 +63,10 @@ module _ (layout : Layout) (schema : Schema) (depth tree : ℕ) (olds news : Lis
       added : (o : Option Work) → work_for schema Enforced depth tree olds news child ref ≡ o → AllByRecursion (IsOnOther layout) (filter_map (work_for schema Enforced depth tree olds news child) refs)
           → AllByRecursion (IsOnOther layout) (filter_map (work_for schema Enforced depth tree olds news child) (ref ∷ refs))
       added None e rest = rw e rest
-      added (Some w) e rest = rw e
-        ( subst (λ (t : Table). is_other layout t ≡ true) (sym (work_of_child layout depth tree (pairs olds news) child ref (deed_for Enforced (length news == 0) ref) (parent_key schema.tables ref) w e)) other
-        , rest)
+      added (Some w) e rest = rw e (
+        subst (λ (t : Table). is_other layout t ≡ true) (sym (work_of_child layout depth tree (pairs olds news) child ref (deed_for Enforced (length news == 0) ref) (parent_key schema.tables ref) w e)) other,
+        rest,
+      )
 
   works_of : (tables : List Table) → act_on_others layout tables ≡ true
       → AllByRecursion (λ (child : Table). AllByRecursion (IsOnOther layout) (filter_map (work_for schema Enforced depth tree olds news child) child.references)) tables

@@ -38,7 +38,7 @@ module _ {layout : Layout} {schema : Schema} (apart : AreApart layout schema) (a
       let w = runs_as text params old new schema has command is plain count h.0 in
       let up = was.rising table.tree numbered_so in
       let d = deleted apart old new at table tests (statement_of text (understood schema text)) params count has there none up numbered_so w in
-            record {
+      record {
         rows = d.left;
         others = d.kept;
         desk = still_desk table.tree old new was (d.same_schema ∙ sym has) d.kept (subst IsRising (sym d.left) (IsShaped-filter shape.Table (λ row. not (passes tests params row)) (old.now.trees table.tree) up));

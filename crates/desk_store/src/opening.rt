@@ -57,10 +57,11 @@ impl<S: Alter + Drop> Desk<S> {
         }
     }
 
-    /// Opens the desk that the database holds, where its tables are declared as `create` declares
-    /// them, indexes included. Whatever tables it holds, it is opened only where each column that is
-    /// read stands. So a desk also opens after another program ran `ANALYZE`, made a further table,
-    /// index, view or column, or dropped an index; of such a desk no clause says more.
+    /// Opens the desk that the database holds, where the tables that `create` makes stand first and
+    /// are declared as it declares them. Other tables, indexes and views may stand beside them, as
+    /// after `ANALYZE`, and the indexes of the desk may be missing. Whatever tables the database
+    /// holds, it is opened only where each column that is read stands. So a desk also opens after
+    /// another program added a column; of such a desk no clause says more.
     ///
     /// The version is asked before the other tables are read. The fault is `NewerVersion` only where
     /// the database understands the text that reads the version, and it shows a later one. Of tables
