@@ -24,8 +24,8 @@ use Rattle.proxy_rules.specs.Uses.{Votes}
 use Rattle.caller_view.specs.declared.views.OwnView.{OwnView}
 use Rattle.caller_view.specs.Public.{PublicRecord}
 
--- the last moment at which an appointment counts for votes at the meeting, by the closed days as they
--- stand (section 327)
+-- the last moment at which an appointment counts for votes at the meeting, by the closed days as
+-- they stand (section 327)
 abbrev pub cutoff_in : PublicRecord → Meeting → Moment → Moment
 cutoff_in public meeting now = (cutoffs_of meeting Votes public.closed now).appointments
 

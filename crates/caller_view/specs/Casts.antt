@@ -33,8 +33,8 @@ has_cast_enough own resolution = nat_le MOST_CASTS (cast_count own.casts resolut
 abbrev pub use_on : PublicRecord → Number → Use
 use_on public resolution = vote_on (poll_on public.polls resolution)
 
--- when a vote on places is not the party's to cast for a use of appointments (sections 284, 323, 324
--- and 324A)
+-- when a vote on places is not the party's to cast, by what appointments govern for a use (sections
+-- 284, 323, 324 and 324A)
 abbrev pub right_cases : OwnView → List Day → Use → NewCast → List Case
 right_cases own closed purpose new =
     record { refusal = NotYours; holds = is_not_own own closed purpose new new.capacity }

@@ -94,8 +94,8 @@ known_to_proxy a governs polls = record {
   polls = polls;
 }
 
--- an appointment as its proxy knows it, with what it governs for votes at the meeting, and for those
--- on each late poll, by the closed days as they stand (section 324)
+-- an appointment as its proxy knows it, with what it governs for votes at the meeting, and for
+-- those on each late poll, by the closed days as they stand (section 324)
 abbrev pub received_by : List MemberRows → List Day → Meeting → List Poll → Moment → Appointment
     → Received
 received_by members closed meeting polls now a =

@@ -185,8 +185,8 @@ fn all_known(
 }
 
 /// The appointments as their proxy knows them, each with what it governs by the rows of its member:
-/// for votes on the polls that are not late, and for those on each of these polls that is late. Where
-/// there are none, nothing is worked out.
+/// for votes at the meeting, and for those on each of these polls that is late. Where there are
+/// none, nothing is worked out.
 pub(crate) fn received_from(
     alloc: Global,
     received: Listing<Appointment>,

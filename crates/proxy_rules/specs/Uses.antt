@@ -4,8 +4,8 @@ use Rattle.desk_words.specs.declared.records.Poll.{Poll}
 use Rattle.proxy_rules.specs.declared.cutoff.Use.{Use as LentUse}
 use Rattle.proxy_rules.specs.declared.cutoff.Use.TheVariants as lent
 
--- for the acts of those who are present at the meeting, by which its quorum and the demands of polls
--- go (sections 318, 321 and 329); for votes on the polls that are not late; or for votes on one poll,
+-- for the acts of those who are present at the meeting, by which its quorum and demands of polls go
+-- (sections 318, 321 and 329); for votes on the polls that are not late; or for votes on one poll,
 -- late or not
 pub data Use : Type 0 where
   Acts : Use
