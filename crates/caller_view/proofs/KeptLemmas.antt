@@ -2,7 +2,7 @@
 use Rattle.std.proofs.Common.{◌≡◌, ℕ, ◌+◌, ◌<◌, Bool, true, false, cond, List, [], ◌∷◌, ◌++◌, length, get_or, take, map, refl, sym, ap, ◌∙◌, arith}
 use Rattle.std.proofs.lemmas.Bool.{eqb-true}
 use Rattle.std.proofs.lemmas.Option.{slice_get-get_or}
-use Rattle.std.specs.Prelude.{◌==◌, Option, Some, None, filter, find, option_and_then, reverse}
+use Rattle.std.specs.Prelude.{◌==◌, Option, Some, filter, find, option_and_then, reverse}
 use Rattle.std.specs.List.{slice_get}
 use Rattle.std.specs.Cmp.Lexicographic.{texts_ties}
 use Rattle.std.specs.Ordering.{is_eq}
@@ -13,6 +13,7 @@ use Rattle.desk_words.specs.declared.records.Appointment.{Appointment}
 use Rattle.desk_words.specs.declared.records.Meeting.{Meeting}
 use Rattle.desk_words.specs.declared.records.Poll.{Poll}
 use Rattle.proxy_rules.specs.Cutoffs.{cutoffs_of, is_late_poll}
+use Rattle.proxy_rules.specs.Uses.{Votes}
 use Rattle.proxy_rules.specs.declared.papers.Cutoffs.{Cutoffs}
 use Rattle.caller_view.specs.Kept.{late_in_rows, late_of, received_with}
 use Rattle.caller_view.specs.Own.{governed_by, known_to_proxy, poll_governed, received_by, rows_by}
@@ -40,22 +41,23 @@ place-put members i rows member before after h is put kept =
     ∙ both (same_name rows.member member)
     ∙ sym (rows_by-more members i rows member h is)
 
--- what is governed for late polls, by their own cutoffs
-pub late-governed : (members : List MemberRows) (closed : List ℕ) (member : List ℕ) (number : ℕ) (polls : List Poll)
-    → map (late_in_rows members member number) (map (late_of closed) polls) ≡ map (poll_governed members closed member number) polls
-late-governed members closed member number [] = refl
-late-governed members closed member number (poll ∷ polls) = ap (λ l. poll_governed members closed member number poll ∷ l) (late-governed members closed member number polls)
+-- what is governed for late polls, by the cutoffs for votes on them
+pub late-governed : (members : List MemberRows) (closed : List ℕ) (meeting : Meeting) (now : ℕ) (member : List ℕ) (number : ℕ) (polls : List Poll)
+    → map (late_in_rows members member number) (map (late_of meeting closed now) polls) ≡ map (poll_governed members closed meeting now member number) polls
+late-governed members closed meeting now member number [] = refl
+late-governed members closed meeting now member number (poll ∷ polls) =
+    ap (λ l. poll_governed members closed meeting now member number poll ∷ l) (late-governed members closed meeting now member number polls)
 
 -- what is known of appointments is what their members' rows give
 pub received-alike : (members : List MemberRows) (closed : List ℕ) (meeting : Meeting) (polls : List Poll) (now : ℕ) (cutoffs : Cutoffs) (late : List LatePoll) (received : List Appointment)
-    → cutoffs ≡ cutoffs_of meeting None closed now → late ≡ map (late_of closed) (filter (is_late_poll closed) polls)
+    → cutoffs ≡ cutoffs_of meeting Votes closed now → late ≡ map (late_of meeting closed now) (filter (is_late_poll closed) polls)
     → map (received_with members cutoffs late) received ≡ map (received_by members closed meeting polls now) received
 received-alike members closed meeting polls now cutoffs late [] by_cutoffs are_late = refl
 received-alike members closed meeting polls now cutoffs late (a ∷ received) by_cutoffs are_late =
-    let polls_too = ap (map (late_in_rows members a.member a.number)) are_late ∙ late-governed members closed a.member a.number (filter (is_late_poll closed) polls) in
+    let polls_too = ap (map (late_in_rows members a.member a.number)) are_late ∙ late-governed members closed meeting now a.member a.number (filter (is_late_poll closed) polls) in
     ap (λ first. first ∷ map (received_with members cutoffs late) received)
     (ap (λ c. known_to_proxy a (governed_by members c a.member a.number) (map (late_in_rows members a.member a.number) late)) by_cutoffs
-    ∙ ap (known_to_proxy a (governed_by members (cutoffs_of meeting None closed now) a.member a.number)) polls_too)
+    ∙ ap (known_to_proxy a (governed_by members (cutoffs_of meeting Votes closed now) a.member a.number)) polls_too)
     ∙ ap (λ rest. received_by members closed meeting polls now a ∷ rest) (received-alike members closed meeting polls now cutoffs late received by_cutoffs are_late)
 
 -- of no appointments nothing is known

@@ -1,5 +1,6 @@
 pub mod Numbering
 pub mod ReadLemmas
+mod CastLemmas
 mod RightsLemmas
 pub mod KeptLemmas
 pub mod OwnLemmas

@@ -1,6 +1,6 @@
 -- What of a party's own things the answer to a request reads is made of what it reads of the rows.
 use Rattle.std.proofs.Common.{◌≡◌, ℕ, Bool, true, false, cond, List, [], ◌∷◌, find, filter, map, refl, sym, ap, subst, ◌∙◌}
-use Rattle.std.specs.Prelude.{◌==◌, reverse, Option, None}
+use Rattle.std.specs.Prelude.{◌==◌, reverse, Option}
 use Rattle.std.specs.Option.{option_map_or}
 use Rattle.std.proofs.lemmas.Simd.{map-map}
 use Rattle.desk_terms.specs.Names.{same_name}
@@ -15,8 +15,9 @@ use Rattle.desk_words.specs.declared.records.Meeting.{Meeting}
 use Rattle.desk_words.specs.declared.records.Poll.{Poll}
 use Rattle.desk_words.specs.declared.request.NewCast.{NewCast}
 use Rattle.desk_words.specs.declared.request.PartyRequest.{PartyRequest}
-use Rattle.proxy_rules.specs.Cutoffs.{cutoffs_of, is_late_poll, late_cutoffs}
+use Rattle.proxy_rules.specs.Cutoffs.{cutoffs_of, is_late_poll}
 use Rattle.proxy_rules.specs.Holdings.{is_given_by}
+use Rattle.proxy_rules.specs.Uses as uses
 use Rattle.proxy_rules.specs.declared.papers.Cutoffs.{Cutoffs}
 use Rattle.proxy_rules.proofs.ListLemmas.{reverse-filter}
 use Rattle.caller_view.specs.Own.{authorised_in_rows, governed_by, governed_kept, known_to_proxy, own_by, poll_governed, received_by, rows_by}
@@ -80,20 +81,20 @@ module _ (members : List MemberRows) (closed : List ℕ) (meeting : Meeting) (po
   known-by_member : (member : List ℕ) (on : List Poll) (a : Appointment) → is_given_by member a ≡ true
       → received_by (filter (of_member member) members) closed meeting on now a ≡ received_by members closed meeting on now a
   known-by_member member on a own =
-      let governs = governed-by_member members (cutoffs_of meeting None closed now) member a.member a.number own in
-      let late : map (poll_governed (filter (of_member member) members) closed a.member a.number) (filter (is_late_poll closed) on)
-      ≡ map (poll_governed members closed a.member a.number) (filter (is_late_poll closed) on) =
+      let governs = governed-by_member members (cutoffs_of meeting uses.Votes closed now) member a.member a.number own in
+      let late : map (poll_governed (filter (of_member member) members) closed meeting now a.member a.number) (filter (is_late_poll closed) on)
+      ≡ map (poll_governed members closed meeting now a.member a.number) (filter (is_late_poll closed) on) =
       ap (λ f. map f (filter (is_late_poll closed) on))
-      (λ i (poll : Poll). record { resolution = poll.resolution; governs = governed-by_member members (late_cutoffs poll closed) member a.member a.number own i }) in
+      (λ i (poll : Poll). record { resolution = poll.resolution; governs = governed-by_member members (cutoffs_of meeting (uses.Vote poll) closed now) member a.member a.number own i }) in
       λ i. known_to_proxy a (governs i) (late i)
 
   -- what an appointment governs for the poll on the resolution
   for_poll-alike : (resolution : ℕ) (a : Appointment)
       → received_by members closed meeting (polls_on resolution polls) now a ≡ for_poll resolution (received_by members closed meeting polls now a)
   for_poll-alike resolution a =
-      ap (λ late. known_to_proxy a (governed_by members (cutoffs_of meeting None closed now) a.member a.number) late)
-      (ap (map (poll_governed members closed a.member a.number)) (filter-swap (is_late_poll closed) (λ (p : Poll). p.resolution == resolution) polls)
-      ∙ sym (filter-map (λ (p : PollGoverned). p.resolution == resolution) (poll_governed members closed a.member a.number) (filter (is_late_poll closed) polls)))
+      ap (λ late. known_to_proxy a (governed_by members (cutoffs_of meeting uses.Votes closed now) a.member a.number) late)
+      (ap (map (poll_governed members closed meeting now a.member a.number)) (filter-swap (is_late_poll closed) (λ (p : Poll). p.resolution == resolution) polls)
+      ∙ sym (filter-map (λ (p : PollGoverned). p.resolution == resolution) (poll_governed members closed meeting now a.member a.number) (filter (is_late_poll closed) polls)))
 
   -- and so of each of them
   all_for_poll : (resolution : ℕ) (given : List Appointment)

@@ -1,9 +1,11 @@
 -- The answer to a request reads no more of the party's own things than is said.
-use Rattle.std.proofs.Common.{◌≡◌, ℕ, Bool, true, false, not, ◌&&◌, ◌||◌, cond, List, [], ◌∷◌, find, filter, map, length, Some, refl, sym, ap, ◌∙◌}
-use Rattle.std.specs.Prelude.{◌==◌, count_by, is_none, is_some, nat_le, nat_lt}
+use Rattle.std.proofs.Common.{◌≡◌, ℕ, Bool, true, false, not, ◌&&◌, ◌||◌, cond, List, [], ◌∷◌, find, filter, map, length, Some, None, refl, sym, ap, subst, ◌∙◌}
+use Rattle.std.specs.Prelude.{◌==◌, Option, count_by, is_none, is_some, nat_le, nat_lt}
 use Rattle.std.specs.List.{list_any}
 use Rattle.std.specs.Option.{option_map_or}
+use Rattle.std.proofs.lemmas.Bool.{eqb-true}
 use Rattle.std.proofs.lemmas.List.Sums.{length-filter}
+use Rattle.desk_lists.proofs.Kept.{found-passes}
 use Rattle.desk_terms.specs.Names.{same_name}
 use Rattle.desk_terms.specs.Places.{Places, holds, is_range}
 use Rattle.desk_terms.specs.Refusals.{Case}
@@ -19,14 +21,17 @@ use Rattle.desk_words.specs.declared.own.PollGoverned.{PollGoverned}
 use Rattle.desk_words.specs.declared.own.Received.{Received}
 use Rattle.desk_words.specs.declared.records.CastMark.{CastMark}
 use Rattle.desk_words.specs.declared.records.Meeting.{Meeting}
+use Rattle.desk_words.specs.declared.records.Poll.{Poll}
 use Rattle.desk_words.specs.declared.request.NewCast.{NewCast}
 use Rattle.desk_words.specs.declared.request.PartyRequest.{PartyRequest}
 use Rattle.desk_words.specs.declared.request.PartyRequest.TheVariants.{Mine, Cast, Instructed}
 use Rattle.caller_view.specs.Answers.{party_ruling, ruling_for}
-use Rattle.caller_view.specs.Casts.{cast_ruling, cast_count, has_cast_enough, instructed_ruling, is_late_on}
+use Rattle.caller_view.specs.Casts.{cast_ruling, cast_count, has_cast_enough, instructed_ruling, use_on}
+use Rattle.proxy_rules.specs.Cutoffs.{is_late_poll}
 use Rattle.proxy_rules.specs.Instructions.{allows, instructed_on}
+use Rattle.proxy_rules.specs.Uses.{Use, vote_on}
 use Rattle.caller_view.specs.Reads.{authorised_read, cast_on, for_poll, own_read, received_read}
-use Rattle.caller_view.specs.Rights.{forbids, governed_for, governs_at, instructs, is_against, is_governed, is_not_own, may_vote_for, meets, no_runs, some_fail}
+use Rattle.caller_view.specs.Rights.{forbids, governed_for, governed_late, governs_at, instructs, is_against, is_governed, is_not_own, may_vote_for, meets, no_runs, some_fail}
 use Rattle.caller_view.specs.Own.{nothing_of}
 use Rattle.caller_view.specs.declared.views.OwnView.{OwnView}
 use Rattle.caller_view.specs.Public.{PublicRecord}
@@ -77,23 +82,22 @@ and-twice : (a b c : Bool) → (a && ((a && b) && c)) ≡ ((a && b) && c)
 and-twice true b c = refl
 and-twice false b c = refl
 
--- what an appointment governs for a poll is read from that poll
-governed-alike : (late : Bool) (resolution : ℕ) (r : Received) → governed_for late resolution (for_poll resolution r) ≡ governed_for late resolution r
-governed-alike true resolution r = ap (λ found. option_map_or (λ (p : PollGoverned). p.governs) found []) (find-filter (λ (p : PollGoverned). p.resolution == resolution) r.polls)
-governed-alike false resolution r = refl
+-- the poll that is found on a resolution is of that resolution
+found-on : (polls : List Poll) (resolution : ℕ) (poll : Poll) → poll_on polls resolution ≡ Some poll → poll.resolution ≡ resolution
+found-on polls resolution poll there = eqb-true poll.resolution resolution (found-passes (λ (p : Poll). p.resolution == resolution) polls poll there)
+
+-- what an appointment governs for a late poll is read from that poll
+late-alike : (resolution number : ℕ) (r : Received) → number ≡ resolution → governed_late (for_poll resolution r).polls number ≡ governed_late r.polls number
+late-alike resolution number r is =
+    subst (λ (n : ℕ). governed_late (for_poll n r).polls number ≡ governed_late r.polls number) is
+    (ap (λ found. option_map_or (λ (p : PollGoverned). p.governs) found []) (find-filter (λ (p : PollGoverned). p.resolution == number) r.polls))
+
+governed-found : (closed : List ℕ) (resolution : ℕ) (r : Received) (found : Option Poll) → ((poll : Poll) → found ≡ Some poll → poll.resolution ≡ resolution)
+    → governed_for closed (vote_on found) (for_poll resolution r) ≡ governed_for closed (vote_on found) r
+governed-found closed resolution r None on = refl
+governed-found closed resolution r (Some poll) on = ap (λ runs. cond (is_late_poll closed poll) runs r.governs) (late-alike resolution poll.resolution r (on poll refl))
 
 -- ---- rights
-
-governs-alike : (late : Bool) (new : NewCast) (place : ℕ) (r : Received) → governs_at late new place (for_poll new.resolution r) ≡ governs_at late new place r
-governs-alike late new place r = ap (λ runs. same_name r.member new.member && list_any (λ (run : Places). holds run place) runs) (governed-alike late new.resolution r)
-
-forbids-alike : (late : Bool) (new : NewCast) (r : Received) → forbids late new (for_poll new.resolution r) ≡ forbids late new r
-forbids-alike late new r =
-    ap (λ runs. same_name r.member new.member && not (allows (instructed_on new.resolution r.instructions) new.way) && list_any (meets new.from new.to) runs)
-    (governed-alike late new.resolution r)
-
-instructs-alike : (late : Bool) (resolution : ℕ) (r : Received) → instructs late resolution (for_poll resolution r) ≡ instructs late resolution r
-instructs-alike late resolution r = ap (λ runs. is_some (instructed_on resolution r.instructions) && not (no_runs runs)) (governed-alike late resolution r)
 
 -- of the member's appointments some pass where some of all do, if only the member's can
 any-read : (new : NewCast) (passes : Received → Bool) (received : List Received)
@@ -110,26 +114,45 @@ may-alike own new Member casts = refl
 may-alike own new Rep casts = ap (λ found. nat_lt 0 (option_map_or (λ (a : Authorised). a.shares) found 0)) (find-filter (λ (a : Authorised). same_name a.corporation new.member) own.authorised)
 may-alike own new Proxy casts = refl
 
-own-alike : (own : OwnView) (late : Bool) (new : NewCast) (capacity : Capacity) (casts : List CastMark)
-    → is_not_own (record (nothing_of own.party) { row = own.row; received = received_read new own.received capacity; authorised = authorised_read new own.authorised capacity; casts = casts }) late new capacity
-    ≡ is_not_own own late new capacity
-own-alike own late new Member casts = refl
-own-alike own late new Rep casts = ap (λ found. nat_lt (option_map_or (λ (a : Authorised). a.shares) found 0) new.to) (find-filter (λ (a : Authorised). same_name a.corporation new.member) own.authorised)
-own-alike own late new Proxy casts =
-    let governed : (place : ℕ) → is_governed (received_read new own.received Proxy) late new place ≡ is_governed own.received late new place =
-    λ place. any-read new (governs_at late new place) own.received (governs-alike late new place)
-    (λ r. and-again (same_name r.member new.member) (list_any (λ (run : Places). holds run place) (governed_for late new.resolution r))) in
-    λ i. some_fail (λ place. governed place i) new.from new.to
+module _ (closed : List ℕ) (polls : List Poll) where
+  -- the use for votes on a resolution
+  abbrev use_for : ℕ → Use
+  use_for resolution = vote_on (poll_on polls resolution)
 
-against-alike : (own : OwnView) (late : Bool) (new : NewCast) (capacity : Capacity) (casts : List CastMark)
-    → is_against (record (nothing_of own.party) { row = own.row; received = received_read new own.received capacity; authorised = authorised_read new own.authorised capacity; casts = casts }) late new capacity
-    ≡ is_against own late new capacity
-against-alike own late new Member casts = refl
-against-alike own late new Rep casts = refl
-against-alike own late new Proxy casts =
-    any-read new (forbids late new) own.received (forbids-alike late new)
-    (λ r. and-twice (same_name r.member new.member) (not (allows (instructed_on new.resolution r.instructions) new.way))
-    (list_any (meets new.from new.to) (governed_for late new.resolution r)))
+  governed-alike : (resolution : ℕ) (r : Received) → governed_for closed (use_for resolution) (for_poll resolution r) ≡ governed_for closed (use_for resolution) r
+  governed-alike resolution r = governed-found closed resolution r (poll_on polls resolution) (found-on polls resolution)
+
+  governs-alike : (new : NewCast) (place : ℕ) (r : Received) → governs_at closed (use_for new.resolution) new place (for_poll new.resolution r) ≡ governs_at closed (use_for new.resolution) new place r
+  governs-alike new place r = ap (λ runs. same_name r.member new.member && list_any (λ (run : Places). holds run place) runs) (governed-alike new.resolution r)
+
+  forbids-alike : (new : NewCast) (r : Received) → forbids closed (use_for new.resolution) new (for_poll new.resolution r) ≡ forbids closed (use_for new.resolution) new r
+  forbids-alike new r =
+      ap (λ runs. same_name r.member new.member && not (allows (instructed_on new.resolution r.instructions) new.way) && list_any (meets new.from new.to) runs)
+      (governed-alike new.resolution r)
+
+  instructs-alike : (resolution : ℕ) (r : Received) → instructs closed (use_for resolution) resolution (for_poll resolution r) ≡ instructs closed (use_for resolution) resolution r
+  instructs-alike resolution r = ap (λ runs. is_some (instructed_on resolution r.instructions) && not (no_runs runs)) (governed-alike resolution r)
+
+  own-alike : (own : OwnView) (new : NewCast) (capacity : Capacity) (casts : List CastMark)
+      → is_not_own (record (nothing_of own.party) { row = own.row; received = received_read new own.received capacity; authorised = authorised_read new own.authorised capacity; casts = casts }) closed (use_for new.resolution) new capacity
+      ≡ is_not_own own closed (use_for new.resolution) new capacity
+  own-alike own new Member casts = refl
+  own-alike own new Rep casts = ap (λ found. nat_lt (option_map_or (λ (a : Authorised). a.shares) found 0) new.to) (find-filter (λ (a : Authorised). same_name a.corporation new.member) own.authorised)
+  own-alike own new Proxy casts =
+      let governed : (place : ℕ) → is_governed (received_read new own.received Proxy) closed (use_for new.resolution) new place ≡ is_governed own.received closed (use_for new.resolution) new place =
+      λ place. any-read new (governs_at closed (use_for new.resolution) new place) own.received (governs-alike new place)
+      (λ r. and-again (same_name r.member new.member) (list_any (λ (run : Places). holds run place) (governed_for closed (use_for new.resolution) r))) in
+      λ i. some_fail (λ place. governed place i) new.from new.to
+
+  against-alike : (own : OwnView) (new : NewCast) (capacity : Capacity) (casts : List CastMark)
+      → is_against (record (nothing_of own.party) { row = own.row; received = received_read new own.received capacity; authorised = authorised_read new own.authorised capacity; casts = casts }) closed (use_for new.resolution) new capacity
+      ≡ is_against own closed (use_for new.resolution) new capacity
+  against-alike own new Member casts = refl
+  against-alike own new Rep casts = refl
+  against-alike own new Proxy casts =
+      any-read new (forbids closed (use_for new.resolution) new) own.received (forbids-alike new)
+      (λ r. and-twice (same_name r.member new.member) (not (allows (instructed_on new.resolution r.instructions) new.way))
+      (list_any (meets new.from new.to) (governed_for closed (use_for new.resolution) r)))
 
 enough-alike : (own : OwnView) (resolution : ℕ) → nat_le MOST_CASTS (cast_count (cast_on resolution own.casts) resolution) ≡ has_cast_enough own resolution
 enough-alike own resolution = ap (nat_le MOST_CASTS) (count_by-filter (λ (c : CastMark). c.resolution == resolution) own.casts)
@@ -153,11 +176,10 @@ cast_cases_by public meeting new enough may not_own against =
 cast-alike : (public : PublicRecord) (meeting : Meeting) (own : OwnView) (now : ℕ) (new : NewCast)
     → cast_ruling public meeting (own_read (Cast new) own) now new ≡ cast_ruling public meeting own now new
 cast-alike public meeting own now new =
-    let late = is_late_on public new.resolution in
     let casts = cast_on new.resolution own.casts in
     λ i. record {
       cases = cast_cases_by public meeting new (enough-alike own new.resolution i) (may-alike own new new.capacity casts i)
-          (own-alike own late new new.capacity casts i) (against-alike own late new new.capacity casts i);
+          (own-alike public.closed public.polls own new new.capacity casts i) (against-alike public.closed public.polls own new new.capacity casts i);
       accepted = (cast_ruling public meeting own now new).accepted;
     }
 
@@ -176,10 +198,9 @@ instructed_cases_by public meeting resolution enough uninstructed =
 instructed-alike : (public : PublicRecord) (meeting : Meeting) (own : OwnView) (now resolution : ℕ)
     → instructed_ruling public meeting (own_read (Instructed resolution) own) now resolution ≡ instructed_ruling public meeting own now resolution
 instructed-alike public meeting own now resolution =
-    let late = is_late_on public resolution in
     λ i. record {
       cases = instructed_cases_by public meeting resolution (enough-alike own resolution i)
-          (not (any-map (instructs late resolution) (for_poll resolution) own.received (instructs-alike late resolution) i));
+          (not (any-map (instructs public.closed (use_on public resolution) resolution) (for_poll resolution) own.received (instructs-alike public.closed public.polls resolution) i));
       accepted = (instructed_ruling public meeting own now resolution).accepted;
     }
 

@@ -20,13 +20,14 @@ use Rattle.desk_words.specs.declared.reply.GivenUse.{GivenUse}
 use Rattle.desk_words.specs.declared.reply.Reply.TheVariants as reply
 use Rattle.desk_words.specs.declared.request.NewAppointment.{NewAppointment}
 use Rattle.proxy_rules.specs.Cutoffs.{cutoffs_of}
+use Rattle.proxy_rules.specs.Uses.{Votes}
 use Rattle.caller_view.specs.declared.views.OwnView.{OwnView}
 use Rattle.caller_view.specs.Public.{PublicRecord}
 
--- the last moment at which an appointment counts for the meeting, by the closed days as they stand
--- (section 327)
+-- the last moment at which an appointment counts for votes at the meeting, by the closed days as
+-- they stand (section 327)
 abbrev pub cutoff_in : PublicRecord → Meeting → Moment → Moment
-cutoff_in public meeting now = (cutoffs_of meeting None public.closed now).appointments
+cutoff_in public meeting now = (cutoffs_of meeting Votes public.closed now).appointments
 
 -- what an appointment of a moment counts for, where the meeting has that cutoff (section 327)
 abbrev pub use_by : Moment → Moment → AppointmentUse

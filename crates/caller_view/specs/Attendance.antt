@@ -62,7 +62,8 @@ attend_ruling own now = record {
 abbrev pub represents : OwnView → Bool
 represents own = list_any (λ (a : Authorised). nat_lt 0 a.shares) own.authorised
 
--- the party governs at least one share for the meeting (section 324)
+-- the party governs at least one share for acts at the meeting, as it does for votes there (section
+-- 324)
 abbrev pub governs_any : OwnView → Bool
 governs_any own = list_any (λ (r : Received). not (no_runs r.governs)) own.received
 

@@ -5,7 +5,7 @@ use Rattle.desk_words.specs.Places.{is_range}
 use Rattle.desk_words.specs.Polls.{is_closed, is_waiting, there_is}
 use Rattle.desk_words.specs.Refusals.{Case}
 use Rattle.desk_words.specs.Rulings.{Ruling, no_resolution}
-use Rattle.desk_words.specs.Seen.{Moment, Number}
+use Rattle.desk_words.specs.Seen.{Day, Moment, Number}
 use Rattle.desk_terms.specs.declared.refusal.Refusal.TheVariants.{BadRange, TooMany, NoRegister, NoRight, NoPoll, PollNotOpen, PollClosed, NotYours, AgainstInstruction}
 use Rattle.desk_words.specs.declared.limits.TheConstants.{MOST_CASTS}
 use Rattle.desk_words.specs.declared.change.Entry.{Entry}
@@ -16,7 +16,7 @@ use Rattle.desk_words.specs.declared.records.CastMark.{CastMark}
 use Rattle.desk_words.specs.declared.records.Meeting.{Meeting}
 use Rattle.desk_words.specs.declared.reply.Reply.TheVariants as reply
 use Rattle.desk_words.specs.declared.request.NewCast.{NewCast}
-use Rattle.proxy_rules.specs.Cutoffs.{is_late_poll}
+use Rattle.proxy_rules.specs.Uses.{Use, vote_on}
 use Rattle.caller_view.specs.Rights.{is_against, is_not_own, is_uninstructed, may_vote_for}
 use Rattle.caller_view.specs.declared.views.OwnView.{OwnView}
 use Rattle.caller_view.specs.Public.{PublicRecord}
@@ -29,25 +29,32 @@ cast_count casts resolution = count_by (λ (c : CastMark). c.resolution == resol
 abbrev pub has_cast_enough : OwnView → Number → Bool
 has_cast_enough own resolution = nat_le MOST_CASTS (cast_count own.casts resolution)
 
--- the poll on the resolution is late, by the closed days as they stand (section 327)
-abbrev pub is_late_on : PublicRecord → Number → Bool
-is_late_on public resolution =
-    there_is (is_late_poll public.closed) (poll_on public.polls resolution)
+-- the use of appointments for votes on a resolution: for those on its poll (section 327)
+abbrev pub use_on : PublicRecord → Number → Use
+use_on public resolution = vote_on (poll_on public.polls resolution)
+
+-- when a vote on places is not the party's to cast, by what appointments govern for a use (sections
+-- 284, 323, 324 and 324A)
+abbrev pub right_cases : OwnView → List Day → Use → NewCast → List Case
+right_cases own closed purpose new =
+    record { refusal = NotYours; holds = is_not_own own closed purpose new new.capacity }
+    ∷ record {
+      refusal = AgainstInstruction;
+      holds = is_against own closed purpose new new.capacity;
+    }
+    ∷ []
 
 -- when a vote on a range of places is not recorded (sections 284, 323, 324 and 324A)
 abbrev pub cast_range_cases : PublicRecord → Meeting → OwnView → NewCast → List Case
 cast_range_cases public meeting own new =
     let poll = poll_on public.polls new.resolution in
-    let late = is_late_on public new.resolution in
     record { refusal = TooMany; holds = has_cast_enough own new.resolution }
     ∷ record { refusal = NoRegister; holds = not meeting.loaded }
     ∷ record { refusal = NoRight; holds = not (may_vote_for own new.member new.capacity) }
     ∷ record { refusal = NoPoll; holds = is_none poll }
     ∷ record { refusal = PollNotOpen; holds = there_is is_waiting poll }
     ∷ record { refusal = PollClosed; holds = there_is is_closed poll }
-    ∷ record { refusal = NotYours; holds = is_not_own own late new new.capacity }
-    ∷ record { refusal = AgainstInstruction; holds = is_against own late new new.capacity }
-    ∷ []
+    ∷ right_cases own public.closed (use_on public new.resolution) new
 
 -- when a vote is not recorded: on no resolution of the meeting, on no range, or as above
 abbrev pub cast_cases : PublicRecord → Meeting → OwnView → NewCast → List Case
@@ -67,7 +74,7 @@ instructed_cases public meeting own resolution =
     ∷ record { refusal = PollClosed; holds = there_is is_closed poll }
     ∷ record {
       refusal = NotYours;
-      holds = is_uninstructed own (is_late_on public resolution) resolution;
+      holds = is_uninstructed own public.closed (use_on public resolution) resolution;
     }
     ∷ []
 

@@ -10,8 +10,10 @@ use Rattle.desk_words.specs.declared.own.Given.{Given}
 use Rattle.desk_words.specs.declared.own.PollGoverned.{PollGoverned}
 use Rattle.desk_words.specs.declared.own.Received.{Received}
 use Rattle.desk_words.specs.declared.records.Appointment.{Appointment}
+use Rattle.desk_words.specs.declared.records.Meeting.{Meeting}
 use Rattle.desk_words.specs.declared.records.Poll.{Poll}
-use Rattle.proxy_rules.specs.Cutoffs.{late_cutoffs}
+use Rattle.proxy_rules.specs.Cutoffs.{cutoffs_of}
+use Rattle.proxy_rules.specs.Uses.{Vote}
 use Rattle.proxy_rules.specs.declared.papers.Cutoffs.{Cutoffs}
 use Rattle.caller_view.specs.Own.{governed_by, known_to_proxy, rows_by}
 use Rattle.caller_view.specs.declared.governed.LatePoll.{LatePoll}
@@ -23,11 +25,11 @@ AreByMember members places =
     (member : Party)
     → option_and_then (slice_get members) (get name_cmp places member) ≡ rows_by members member
 
--- a late poll with its own cutoffs (section 327)
-abbrev pub late_of : List Day → Poll → LatePoll
-late_of closed poll = record {
+-- a late poll with the cutoffs for votes on it (section 327)
+abbrev pub late_of : Meeting → List Day → Moment → Poll → LatePoll
+late_of meeting closed now poll = record {
   resolution = poll.resolution;
-  cutoffs = late_cutoffs poll closed;
+  cutoffs = cutoffs_of meeting (Vote poll) closed now;
 }
 
 -- what a member's appointment of a number governs for a late poll

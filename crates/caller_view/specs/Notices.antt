@@ -1,5 +1,5 @@
 -- What the notice of a meeting shows.
-use Rattle.std.specs.Prelude.{ℕ, suc, List, [], ◌∷◌, Some, None, option_map}
+use Rattle.std.specs.Prelude.{ℕ, suc, List, [], ◌∷◌, option_map}
 use Rattle.desk_terms.specs.declared.kinds.ResKind.{ResKind}
 use Rattle.desk_words.specs.Finding.{poll_on}
 use Rattle.desk_words.specs.Seen.{Day, Moment, Number}
@@ -10,6 +10,7 @@ use Rattle.desk_words.specs.declared.reply.Notice.{Notice}
 use Rattle.desk_words.specs.declared.reply.NoticedPoll.{NoticedPoll}
 use Rattle.desk_words.specs.declared.reply.NoticedResolution.{NoticedResolution}
 use Rattle.proxy_rules.specs.Cutoffs.{cutoffs_of, is_late_poll}
+use Rattle.proxy_rules.specs.Uses.{Votes, Vote}
 use Rattle.desk_words.specs.Majority.{result_of}
 
 -- a poll, with its lateness and its cutoff by the closed days as they stand, and its result once it
@@ -22,7 +23,7 @@ noticed_poll meeting closed now kind poll = record {
   started = poll.started;
   closed = poll.closed;
   late = is_late_poll closed poll;
-  cutoff = (cutoffs_of meeting (Some poll) closed now).appointments;
+  cutoff = (cutoffs_of meeting (Vote poll) closed now).appointments;
   result = option_map (result_of kind) poll.declared;
 }
 
@@ -49,7 +50,7 @@ notice_of meeting polls closed now = record {
   kind = meeting.kind;
   given = meeting.given;
   appointed = meeting.appointed;
-  cutoff = (cutoffs_of meeting None closed now).appointments;
+  cutoff = (cutoffs_of meeting Votes closed now).appointments;
   record_moment = meeting.record_moment;
   loaded = meeting.loaded;
   opened = meeting.opened;

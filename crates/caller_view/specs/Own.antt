@@ -15,9 +15,10 @@ use Rattle.desk_words.specs.declared.records.RegisterRow.{RegisterRow}
 use Rattle.desk_terms.specs.Places.{Places}
 use Rattle.desk_terms.specs.declared.kinds.HolderKind.{HolderKind}
 use Rattle.desk_terms.specs.declared.kinds.HolderKind.TheVariants.{Individual, Corporation, Treasury}
-use Rattle.proxy_rules.specs.Cutoffs.{cutoffs_of, is_late_poll, late_cutoffs}
+use Rattle.proxy_rules.specs.Cutoffs.{cutoffs_of, is_late_poll}
 use Rattle.proxy_rules.specs.Governing.{governed_in}
 use Rattle.proxy_rules.specs.Holdings.{is_kept}
+use Rattle.proxy_rules.specs.Uses.{Votes, Vote}
 use Rattle.proxy_rules.specs.declared.holdings.Holding.{Holding}
 use Rattle.proxy_rules.specs.declared.papers.Cutoffs.{Cutoffs}
 use Rattle.caller_view.specs.declared.rows.AuthorityRows.{AuthorityRows}
@@ -73,11 +74,12 @@ governed_by members cutoffs member number =
     option_map_or (λ (rows : MemberRows). governed_kept cutoffs rows.holding number)
     (rows_by members member) []
 
--- what it governs for a late poll (section 327)
-abbrev pub poll_governed : List MemberRows → List Day → Party → Number → Poll → PollGoverned
-poll_governed members closed member number poll = record {
+-- what it governs for votes on a poll (section 327)
+abbrev pub poll_governed : List MemberRows → List Day → Meeting → Moment → Party → Number → Poll
+    → PollGoverned
+poll_governed members closed meeting now member number poll = record {
   resolution = poll.resolution;
-  governs = governed_by members (late_cutoffs poll closed) member number;
+  governs = governed_by members (cutoffs_of meeting (Vote poll) closed now) member number;
 }
 
 -- an appointment as its proxy knows it, with the places that it governs: without its number, which
@@ -92,13 +94,14 @@ known_to_proxy a governs polls = record {
   polls = polls;
 }
 
--- an appointment as its proxy knows it, with what it governs for the meeting and for each late
--- poll, by the closed days as they stand (section 324)
+-- an appointment as its proxy knows it, with what it governs for votes at the meeting, and for
+-- those on each late poll, by the closed days as they stand (section 324)
 abbrev pub received_by : List MemberRows → List Day → Meeting → List Poll → Moment → Appointment
     → Received
 received_by members closed meeting polls now a =
-    known_to_proxy a (governed_by members (cutoffs_of meeting None closed now) a.member a.number)
-    (map (poll_governed members closed a.member a.number) (filter (is_late_poll closed) polls))
+    known_to_proxy a (governed_by members (cutoffs_of meeting Votes closed now) a.member a.number)
+    (map (poll_governed members closed meeting now a.member a.number)
+    (filter (is_late_poll closed) polls))
 
 -- the own things of a party where there is no meeting
 abbrev pub nothing_of : Party → OwnView

@@ -5,7 +5,7 @@ use Rattle.std.specs.List.{list_any}
 use Rattle.std.specs.Option.{option_map_or}
 use Rattle.desk_words.specs.Names.{same_name}
 use Rattle.desk_words.specs.Places.{Places, holds, places_that}
-use Rattle.desk_words.specs.Seen.{Number, Party, Place}
+use Rattle.desk_words.specs.Seen.{Day, Number, Party, Place}
 use Rattle.desk_terms.specs.declared.kinds.Capacity.{Capacity}
 use Rattle.desk_terms.specs.declared.kinds.Capacity.TheVariants.{Member, Rep, Proxy}
 use Rattle.desk_words.specs.declared.own.Authorised.{Authorised}
@@ -13,8 +13,10 @@ use Rattle.desk_words.specs.declared.own.PollGoverned.{PollGoverned}
 use Rattle.desk_words.specs.declared.own.Received.{Received}
 use Rattle.desk_words.specs.declared.records.RegisterRow.{RegisterRow}
 use Rattle.desk_words.specs.declared.request.NewCast.{NewCast}
+use Rattle.proxy_rules.specs.Cutoffs.{is_late_poll}
 use Rattle.proxy_rules.specs.Shares.{is_individual}
 use Rattle.proxy_rules.specs.Instructions.{allows, instructed_on}
+use Rattle.proxy_rules.specs.Uses.{Use, Acts, Votes, Vote}
 use Rattle.caller_view.specs.declared.views.OwnView.{OwnView}
 
 -- the party holds shares as an individual
@@ -40,10 +42,15 @@ governed_late polls resolution =
     option_map_or (λ (p : PollGoverned). p.governs)
     (find (λ (p : PollGoverned). p.resolution == resolution) polls) []
 
--- what an appointment governs for the poll on a resolution: where that is late, what it governs for
--- that poll, and else what it governs for the meeting (section 327)
-abbrev pub governed_for : Bool → Number → Received → List Places
-governed_for late resolution r = if late then governed_late r.polls resolution else r.governs
+-- what an appointment governs for a use, as its proxy knows it: for votes on a late poll what it
+-- governs for that poll, and else what it governs for the meeting (section 327)
+abbrev pub governed_for : List Day → Use → Received → List Places
+governed_for closed Acts r = r.governs
+governed_for closed Votes r = r.governs
+governed_for closed (Vote poll) r =
+    if is_late_poll closed poll
+    then governed_late r.polls poll.resolution
+    else r.governs
 
 -- the party may vote for the member in the capacity: as the member itself where it holds shares as
 -- an individual, as a representative of a corporation of the register that authorised it; of a
@@ -53,15 +60,16 @@ may_vote_for own member Member = same_name member own.party && holds_as_individu
 may_vote_for own member Rep = nat_lt 0 (represented own.authorised member)
 may_vote_for own member Proxy = true
 
--- the appointment is the member's, and governs the place for the poll (section 324)
-abbrev pub governs_at : Bool → NewCast → Place → Received → Bool
-governs_at late new place r =
+-- the appointment is the member's, and governs the place for the use (section 324)
+abbrev pub governs_at : List Day → Use → NewCast → Place → Received → Bool
+governs_at closed purpose new place r =
     same_name r.member new.member
-    && list_any (λ (run : Places). holds run place) (governed_for late new.resolution r)
+    && list_any (λ (run : Places). holds run place) (governed_for closed purpose r)
 
--- the party governs the place of the member's for the poll (section 324)
-abbrev pub is_governed : List Received → Bool → NewCast → Place → Bool
-is_governed received late new place = list_any (governs_at late new place) received
+-- the party governs the place of the member's for the use (section 324)
+abbrev pub is_governed : List Received → List Day → Use → NewCast → Place → Bool
+is_governed received closed purpose new place =
+    list_any (governs_at closed purpose new place) received
 
 -- some place from the first to the last fails a test
 abbrev pub some_fail : (Place → Bool) → Place → Place → Bool
@@ -73,43 +81,47 @@ is_past None place = false
 is_past (Some row) place = nat_lt row.shares place
 
 -- some place is not the party's to vote on in the capacity: it is past the holding, or, for a
--- proxy, the party does not govern it for the poll (sections 284, 323 and 324)
-abbrev pub is_not_own : OwnView → Bool → NewCast → Capacity → Bool
-is_not_own own late new Member = is_past own.row new.to
-is_not_own own late new Rep = nat_lt (represented own.authorised new.member) new.to
-is_not_own own late new Proxy = some_fail (is_governed own.received late new) new.from new.to
+-- proxy, the party does not govern it for the use (sections 284, 323 and 324)
+abbrev pub is_not_own : OwnView → List Day → Use → NewCast → Capacity → Bool
+is_not_own own closed purpose new Member = is_past own.row new.to
+is_not_own own closed purpose new Rep = nat_lt (represented own.authorised new.member) new.to
+is_not_own own closed purpose new Proxy =
+    some_fail (is_governed own.received closed purpose new) new.from new.to
 
 -- a run has a place from the first to the last
 abbrev pub meets : Place → Place → Places → Bool
 meets from to run = nat_le run.from to && nat_le from run.to
 
--- the appointment is the member's, governs some of the places for the poll, and instructs otherwise
+-- the appointment is the member's, governs some of the places for the use, and instructs otherwise
 -- (section 324A)
-abbrev pub forbids : Bool → NewCast → Received → Bool
-forbids late new r =
+abbrev pub forbids : List Day → Use → NewCast → Received → Bool
+forbids closed purpose new r =
     same_name r.member new.member
     && not (allows (instructed_on new.resolution r.instructions) new.way)
-    && list_any (meets new.from new.to) (governed_for late new.resolution r)
+    && list_any (meets new.from new.to) (governed_for closed purpose r)
 
 -- cast as proxy, against an instruction of an appointment that governs some of the places (section
 -- 324A)
-abbrev pub is_against : OwnView → Bool → NewCast → Capacity → Bool
-is_against own late new Member = false
-is_against own late new Rep = false
-is_against own late new Proxy = list_any (forbids late new) own.received
+abbrev pub is_against : OwnView → List Day → Use → NewCast → Capacity → Bool
+is_against own closed purpose new Member = false
+is_against own closed purpose new Rep = false
+is_against own closed purpose new Proxy = list_any (forbids closed purpose new) own.received
 
--- the appointment governs a share for the poll, and instructs its proxy on it (section 324A)
-abbrev pub instructs : Bool → Number → Received → Bool
-instructs late resolution r =
+-- the appointment governs a share for the use, and instructs its proxy on the resolution (section
+-- 324A)
+abbrev pub instructs : List Day → Use → Number → Received → Bool
+instructs closed purpose resolution r =
     is_some (instructed_on resolution r.instructions)
-    && not (no_runs (governed_for late resolution r))
+    && not (no_runs (governed_for closed purpose r))
 
--- the party governs no share for the poll on which it is instructed (section 324A)
-abbrev pub is_uninstructed : OwnView → Bool → Number → Bool
-is_uninstructed own late resolution = not (list_any (instructs late resolution) own.received)
+-- the party governs no share for the use on which it is instructed (section 324A)
+abbrev pub is_uninstructed : OwnView → List Day → Use → Number → Bool
+is_uninstructed own closed purpose resolution =
+    not (list_any (instructs closed purpose resolution) own.received)
 
--- a run that has the place, each place of which the party governs for the poll
-pub record IsRunAt (received : List Received) (late : Bool) (new : NewCast) (place : Place)
-    (run : Places) : Type 0 where
+-- a run that has the place, each place of which the party governs for the use
+pub record IsRunAt (received : List Received) (closed : List Day) (purpose : Use) (new : NewCast)
+    (place : Place) (run : Places) : Type 0 where
   pub there : holds run place ≡ true
-  pub governed : (other : ℕ) → holds run other ≡ true → is_governed received late new other ≡ true
+  pub governed : (other : ℕ) → holds run other ≡ true
+      → is_governed received closed purpose new other ≡ true

@@ -13,7 +13,7 @@ use desk_words::{
     Answer, AppointmentUse, Entry, Given, GivenUse, Listing, Meeting, Mine, Moment, PartyRequest,
     Refusal, Reply, refuse, tell,
 };
-use proxy_rules::cutoffs;
+use proxy_rules::{Use, cutoffs};
 use std::alloc::{AllocError, Global};
 
 /// What an appointment that a party gave counts for.
@@ -35,11 +35,11 @@ fn given_uses(alloc: Global, given: Vec<Given>, cutoff: Moment) -> Result<Vec<Gi
     Ok(uses)
 }
 
-/// The last moment at which an appointment counts for the meeting.
+/// The last moment at which an appointment counts for votes at the meeting.
 pub(crate) fn cutoff_in(public: &PublicRecord, meeting: &Meeting, now: Moment) -> Moment
     ensures { result ≡ cutoff_in public.now meeting.now now }
 {
-    cutoffs(meeting, None, public.closed, now).appointments
+    cutoffs(meeting, Use::Votes, public.closed, now).appointments
 }
 
 /// What a party is told of its own things.

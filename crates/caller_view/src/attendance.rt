@@ -70,7 +70,7 @@ fn represents(own: &OwnView) -> bool
     authorised.iter().any(|authority| authority.shares > 0)
 }
 
-/// Whether the party governs at least one share for the meeting.
+/// Whether the party governs at least one share for acts at the meeting, as for votes there.
 fn governs_any(own: &OwnView) -> bool
     ensures { result ≡ governs_any own.now }
 {

@@ -4,16 +4,17 @@ ghost use Rattle.desk_words.specs.Refusals.{first_refusal};
 ghost use Rattle.desk_words.specs.Rulings.{settled};
 ghost use Rattle.desk_words.specs.declared.change.Entry.TheVariants as entry;
 ghost use Rattle.desk_words.specs.declared.reply.Reply.TheVariants as reply;
-ghost use Rattle.caller_view.specs.Casts.{block_of, cast_of, cast_range_cases, cast_ruling, cast_count, has_cast_enough, instructed_cases, instructed_ruling};
+ghost use Rattle.caller_view.specs.Casts.{block_of, cast_of, cast_range_cases, cast_ruling, cast_count, has_cast_enough, instructed_cases, instructed_ruling, right_cases};
+ghost use Rattle.proxy_rules.specs.Uses.{Vote};
 
 use crate::rights::{is_against, is_not_own, is_uninstructed, may_vote_for};
 use crate::views::{OwnView, PublicRecord};
 use desk_words::limits::MOST_CASTS;
 use desk_words::{
-    Answer, Block, CastKind, CastMark, Entry, Meeting, Moment, NewCast, Range, Refusal, Reply,
-    find_poll, refuse,
+    Answer, Block, CastKind, CastMark, Entry, Meeting, Moment, NewCast, Poll, Range, Refusal,
+    Reply, find_poll, refuse,
 };
-use proxy_rules::is_late_poll;
+use office_days::Closed;
 
 fn cast_count(casts: &[CastMark], resolution: u64) -> usize
     ensures { result ≡ cast_count casts.now resolution }
@@ -25,6 +26,19 @@ fn has_cast_enough(own: &OwnView, resolution: u64) -> bool
     ensures { result ≡ has_cast_enough own.now resolution }
 {
     cast_count(own.casts.as_slice(), resolution) >= MOST_CASTS
+}
+
+/// Why a vote on places is not the party's to cast on a poll.
+fn right_refusal(own: &OwnView, closed: &Closed, poll: &Poll, new: &NewCast) -> Option<Refusal>
+    ensures { result ≡ first_refusal (right_cases own.now closed.now (Vote poll.now) new.now) }
+{
+    if is_not_own(own, closed, poll, new, new.capacity) {
+        return Some(Refusal::NotYours);
+    }
+    if is_against(own, closed, poll, new, new.capacity) {
+        return Some(Refusal::AgainstInstruction);
+    }
+    None
 }
 
 /// Why a vote on a range of places is not recorded, on a resolution of the meeting.
@@ -54,14 +68,7 @@ fn range_refusal(
     if poll.closed.is_some() {
         return Some(Refusal::PollClosed);
     }
-    let late = is_late_poll(public.closed, &poll);
-    if is_not_own(own, late, new, new.capacity) {
-        return Some(Refusal::NotYours);
-    }
-    if is_against(own, late, new, new.capacity) {
-        return Some(Refusal::AgainstInstruction);
-    }
-    None
+    right_refusal(own, public.closed, &poll, new)
 }
 
 /// What is cast on some of a member's shares.
@@ -154,7 +161,7 @@ fn instructed_refusal(
     if poll.closed.is_some() {
         return Some(Refusal::PollClosed);
     }
-    if is_uninstructed(own, is_late_poll(public.closed, &poll), resolution) {
+    if is_uninstructed(own, public.closed, &poll, resolution) {
         return Some(Refusal::NotYours);
     }
     None

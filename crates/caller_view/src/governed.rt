@@ -14,11 +14,11 @@ use desk_words::{
     Appointment, Listing, Meeting, Moment, Party, Poll, PollGoverned, Range, Received,
 };
 use office_days::Closed;
-use proxy_rules::{Cutoffs, Holding, cutoffs, is_late_poll, late_cutoffs};
+use proxy_rules::{Cutoffs, Holding, Use, cutoffs, is_late_poll};
 use std::alloc::{AllocError, Global};
 use std::collections::BTreeMap;
 
-/// A late poll, with its own cutoffs.
+/// A late poll, with the cutoffs for votes on it.
 #[derive(Clone, Copy)]
 pub(crate) struct LatePoll {
     /// The number of the poll's resolution, from 1.
@@ -50,17 +50,23 @@ fn places_by_member(
     Ok(places)
 }
 
-/// Those of the polls that are late, each with its own cutoffs.
-fn late_polls(alloc: Global, closed: &Closed, polls: &[Poll]) -> Result<Vec<LatePoll>, AllocError>
+/// Those of the polls that are late, each with the cutoffs for votes on it.
+fn late_polls(
+    alloc: Global,
+    meeting: &Meeting,
+    closed: &Closed,
+    polls: &[Poll],
+    now: Moment,
+) -> Result<Vec<LatePoll>, AllocError>
     ensures { IfOk result (λ late. late.items
-        ≡ map (late_of closed.now) (filter (is_late_poll closed.now) polls.now)) }
+        ≡ map (late_of meeting.now closed.now now) (filter (is_late_poll closed.now) polls.now)) }
 {
     let mut late = Vec::new(alloc);
     for poll in polls {
         if is_late_poll(closed, poll) {
             late.push(LatePoll {
                 resolution: poll.resolution,
-                cutoffs: late_cutoffs(poll, closed),
+                cutoffs: cutoffs(meeting, Use::Vote(poll), closed, now),
             })?;
         }
     }
@@ -179,8 +185,8 @@ fn all_known(
 }
 
 /// The appointments as their proxy knows them, each with what it governs by the rows of its member:
-/// for the meeting and the polls that are not late, and for each of these polls that is late. Where
-/// there are none, nothing is worked out.
+/// for votes at the meeting, and for those on each of these polls that is late. Where there are
+/// none, nothing is worked out.
 pub(crate) fn received_from(
     alloc: Global,
     received: Listing<Appointment>,
@@ -201,8 +207,8 @@ pub(crate) fn received_from(
         rows: members,
         places: &places,
     };
-    let late = late_polls(alloc, closed, polls)?;
-    let cutoffs = cutoffs(meeting, None, closed, now);
+    let late = late_polls(alloc, meeting, closed, polls, now)?;
+    let cutoffs = cutoffs(meeting, Use::Votes, closed, now);
     let all = all_known(
         alloc,
         &members,

@@ -10,7 +10,7 @@ use desk_words::{
     Resolution, Tally, find_poll, result_of,
 };
 use office_days::Closed;
-use proxy_rules::{cutoffs, is_late_poll};
+use proxy_rules::{Use, cutoffs, is_late_poll};
 use std::alloc::{AllocError, Global};
 
 fn declared_result(kind: ResKind, declared: Option<Tally>) -> Option<Declaration>
@@ -38,7 +38,7 @@ fn noticed_poll(
         started: poll.started,
         closed: poll.closed,
         late: is_late_poll(closed, &poll),
-        cutoff: cutoffs(meeting, Some(&poll), closed, now).appointments,
+        cutoff: cutoffs(meeting, Use::Vote(&poll), closed, now).appointments,
         result: declared_result(kind, poll.declared),
     }
 }
@@ -109,7 +109,7 @@ pub(crate) fn notice_in(
         kind: meeting.kind,
         given: meeting.given,
         appointed: meeting.appointed,
-        cutoff: cutoffs(meeting, None, public.closed, now).appointments,
+        cutoff: cutoffs(meeting, Use::Votes, public.closed, now).appointments,
         record_moment: meeting.record_moment,
         loaded: meeting.loaded,
         opened: meeting.opened,

@@ -6,13 +6,16 @@ ghost use Rattle.desk_words.specs.Names.{same_name};
 ghost use Rattle.desk_words.specs.Places.{Places, holds};
 ghost use Rattle.desk_words.specs.declared.own.Authorised.{Authorised};
 ghost use Rattle.desk_words.specs.declared.own.PollGoverned.{PollGoverned};
+ghost use Rattle.proxy_rules.specs.Uses.{Vote};
 ghost use Rattle.caller_view.specs.Rights.{IsRunAt, forbids, governed_for, governed_late, governs_at, holds_as_individual, instructs, is_against, is_governed, is_not_own, is_past, is_uninstructed, may_vote_for, meets, represented, some_fail};
 
 use crate::views::OwnView;
 use desk_words::{
-    Authorised, Capacity, HolderKind, NewCast, Party, PollGoverned, Range, Received, RegisterRow,
+    Authorised, Capacity, HolderKind, NewCast, Party, Poll, PollGoverned, Range, Received,
+    RegisterRow,
 };
-use proxy_rules::{allows, instructed_on};
+use office_days::Closed;
+use proxy_rules::{allows, instructed_on, is_late_poll};
 
 /// Whether a row is an individual's.
 pub(crate) fn holds_as_individual(row: &Option<RegisterRow>) -> bool
@@ -62,12 +65,13 @@ fn governed_late(polls: &[PollGoverned], resolution: u64) -> &[Range]
     }
 }
 
-/// What an appointment governs for the poll on a resolution.
-fn governed_for(received: &Received, late: bool, resolution: u64) -> &[Range]
-    ensures { result.now ≡ governed_for late resolution received.now }
+/// What an appointment governs for votes on a poll: where it is late, for that poll, and else for
+/// the meeting.
+fn governed_for<'a>(received: &'a Received, closed: &Closed, poll: &Poll) -> &'a [Range]
+    ensures { result.now ≡ governed_for closed.now (Vote poll.now) received.now }
 {
-    if late {
-        governed_late(received.polls.as_slice(), resolution)
+    if is_late_poll(closed, poll) {
+        governed_late(received.polls.as_slice(), poll.resolution)
     } else {
         received.governs.as_slice()
     }
@@ -92,22 +96,26 @@ fn any_has(runs: &[Range], place: u64) -> bool
 }
 
 /// Whether an appointment is the member's, and governs the place for the poll.
-fn governs_at(received: &Received, late: bool, new: &NewCast, place: u64) -> bool
-    ensures { result ≡ governs_at late new.now place received.now }
+fn governs_at(received: &Received, closed: &Closed, poll: &Poll, new: &NewCast, place: u64) -> bool
+    ensures { result ≡ governs_at closed.now (Vote poll.now) new.now place received.now }
 {
-    received.member.is(new.member) && any_has(governed_for(received, late, new.resolution), place)
+    received.member.is(new.member) && any_has(governed_for(received, closed, poll), place)
 }
 
 /// An appointment of the member that governs the place for the poll.
 fn appointment_at<'a>(
     received: &'a [Received],
-    late: bool,
+    closed: &Closed,
+    poll: &Poll,
     new: &NewCast,
     place: u64,
 ) -> Option<&'a Received>
-    ensures { option_copied result ≡ find (governs_at late new.now place) received.now }
+    ensures { option_copied result
+        ≡ find (governs_at closed.now (Vote poll.now) new.now place) received.now }
 {
-    received.iter().find(|r| governs_at(r, late, new, place))
+    received
+        .iter()
+        .find(|r| governs_at(r, closed, poll, new, place))
 }
 
 /// The run that has the place.
@@ -118,23 +126,33 @@ fn run_with(runs: &[Range], place: u64) -> Option<Range>
 }
 
 /// A run that has the place, of what the party governs of the member's shares for the poll.
-fn run_at(received: &[Received], late: bool, new: &NewCast, place: u64) -> Option<Range>
-    ensures some { IfSome result (λ run. IsRunAt received.now late new.now place run) }
-    ensures none { result ≡ None → is_governed received.now late new.now place ≡ false }
+fn run_at(
+    received: &[Received],
+    closed: &Closed,
+    poll: &Poll,
+    new: &NewCast,
+    place: u64,
+) -> Option<Range>
+    ensures some { IfSome result
+        (λ run. IsRunAt received.now closed.now (Vote poll.now) new.now place run) }
+    ensures none { result ≡ None
+        → is_governed received.now closed.now (Vote poll.now) new.now place ≡ false }
 {
-    match appointment_at(received, late, new, place) {
-        Some(found) => run_with(governed_for(found, late, new.resolution), place),
+    match appointment_at(received, closed, poll, new, place) {
+        Some(found) => run_with(governed_for(found, closed, poll), place),
         None => None,
     }
 }
 
 /// Whether the party does not govern, for the poll, some of the places. It goes from run to run.
-fn some_ungoverned(received: &[Received], late: bool, new: &NewCast) -> bool
-    ensures { result ≡ some_fail (is_governed received.now late new.now) new.now.from new.now.to }
+fn some_ungoverned(received: &[Received], closed: &Closed, poll: &Poll, new: &NewCast) -> bool
+    ensures { result
+        ≡ some_fail (is_governed received.now closed.now (Vote poll.now) new.now) new.now.from
+        new.now.to }
 {
     let mut next = new.from.max(1);
     while next <= new.to {
-        match run_at(received, late, new, next) {
+        match run_at(received, closed, poll, new, next) {
             Some(run) => next = run.to() + 1,
             None => return true,
         }
@@ -152,13 +170,19 @@ fn is_past(row: &Option<RegisterRow>, place: u64) -> bool
 }
 
 /// Whether some place is not the party's to vote on in the capacity.
-pub(crate) fn is_not_own(own: &OwnView, late: bool, new: &NewCast, capacity: Capacity) -> bool
-    ensures { result ≡ is_not_own own.now late new.now capacity }
+pub(crate) fn is_not_own(
+    own: &OwnView,
+    closed: &Closed,
+    poll: &Poll,
+    new: &NewCast,
+    capacity: Capacity,
+) -> bool
+    ensures { result ≡ is_not_own own.now closed.now (Vote poll.now) new.now capacity }
 {
     match capacity {
         Capacity::Member => is_past(&own.row, new.to),
         Capacity::Rep => represented(own.authorised.as_slice(), new.member) < new.to,
-        Capacity::Proxy => some_ungoverned(own.received.as_slice(), late, new),
+        Capacity::Proxy => some_ungoverned(own.received.as_slice(), closed, poll, new),
     }
 }
 
@@ -177,55 +201,59 @@ fn any_meets(runs: &[Range], from: u64, to: u64) -> bool
 
 /// Whether an appointment of the member governs some of the places for the poll, and instructs
 /// otherwise.
-fn forbids(received: &Received, late: bool, new: &NewCast) -> bool
-    ensures { result ≡ forbids late new.now received.now }
+fn forbids(received: &Received, closed: &Closed, poll: &Poll, new: &NewCast) -> bool
+    ensures { result ≡ forbids closed.now (Vote poll.now) new.now received.now }
 {
     received.member.is(new.member)
         && !allows(
             instructed_on(received.instructions.as_slice(), new.resolution),
             new.way,
         )
-        && any_meets(
-            governed_for(received, late, new.resolution),
-            new.from,
-            new.to,
-        )
+        && any_meets(governed_for(received, closed, poll), new.from, new.to)
 }
 
-fn any_forbids(received: &[Received], late: bool, new: &NewCast) -> bool
-    ensures { result ≡ list_any (forbids late new.now) received.now }
+fn any_forbids(received: &[Received], closed: &Closed, poll: &Poll, new: &NewCast) -> bool
+    ensures { result ≡ list_any (forbids closed.now (Vote poll.now) new.now) received.now }
 {
-    received.iter().any(|r| forbids(r, late, new))
+    received.iter().any(|r| forbids(r, closed, poll, new))
 }
 
 /// Whether a vote is cast as proxy against an instruction of an appointment that governs some of
 /// the places.
-pub(crate) fn is_against(own: &OwnView, late: bool, new: &NewCast, capacity: Capacity) -> bool
-    ensures { result ≡ is_against own.now late new.now capacity }
+pub(crate) fn is_against(
+    own: &OwnView,
+    closed: &Closed,
+    poll: &Poll,
+    new: &NewCast,
+    capacity: Capacity,
+) -> bool
+    ensures { result ≡ is_against own.now closed.now (Vote poll.now) new.now capacity }
 {
     match capacity {
         Capacity::Member | Capacity::Rep => false,
-        Capacity::Proxy => any_forbids(own.received.as_slice(), late, new),
+        Capacity::Proxy => any_forbids(own.received.as_slice(), closed, poll, new),
     }
 }
 
-/// Whether an appointment governs a share for the poll, and instructs its proxy on it.
-fn instructs(received: &Received, late: bool, resolution: u64) -> bool
-    ensures { result ≡ instructs late resolution received.now }
+/// Whether an appointment governs a share for the poll, and instructs its proxy on the resolution.
+fn instructs(received: &Received, closed: &Closed, poll: &Poll, resolution: u64) -> bool
+    ensures { result ≡ instructs closed.now (Vote poll.now) resolution received.now }
 {
     instructed_on(received.instructions.as_slice(), resolution).is_some()
-        && !governed_for(received, late, resolution).is_empty()
+        && !governed_for(received, closed, poll).is_empty()
 }
 
-fn any_instructs(received: &[Received], late: bool, resolution: u64) -> bool
-    ensures { result ≡ list_any (instructs late resolution) received.now }
+fn any_instructs(received: &[Received], closed: &Closed, poll: &Poll, resolution: u64) -> bool
+    ensures { result ≡ list_any (instructs closed.now (Vote poll.now) resolution) received.now }
 {
-    received.iter().any(|r| instructs(r, late, resolution))
+    received
+        .iter()
+        .any(|r| instructs(r, closed, poll, resolution))
 }
 
 /// Whether the party governs no share for the poll on which it is instructed.
-pub(crate) fn is_uninstructed(own: &OwnView, late: bool, resolution: u64) -> bool
-    ensures { result ≡ is_uninstructed own.now late resolution }
+pub(crate) fn is_uninstructed(own: &OwnView, closed: &Closed, poll: &Poll, resolution: u64) -> bool
+    ensures { result ≡ is_uninstructed own.now closed.now (Vote poll.now) resolution }
 {
-    !any_instructs(own.received.as_slice(), late, resolution)
+    !any_instructs(own.received.as_slice(), closed, poll, resolution)
 }

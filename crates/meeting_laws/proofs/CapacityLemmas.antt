@@ -23,6 +23,7 @@ use Rattle.desk_words.specs.declared.records.RegisterRow.{RegisterRow}
 use Rattle.desk_words.specs.declared.own.Authorised.{Authorised}
 use Rattle.desk_words.specs.declared.own.Received.{Received}
 use Rattle.proxy_rules.specs.Cutoffs.{cutoffs_of}
+use Rattle.proxy_rules.specs.Uses.{Acts}
 use Rattle.proxy_rules.specs.Governing.{governed_in, governing_in, governs}
 use Rattle.proxy_rules.specs.Holdings.{are_tags, holding_by, holding_of, holding_with, is_kept}
 use Rattle.proxy_rules.specs.Shares.{is_corporation, is_individual, row_of, shares_of, shares_by}
@@ -280,9 +281,9 @@ kept_in m member f = kept-is (holding_of m.register m.appointments m.endings mem
 
 -- whether a party governs shares, by its own things, is whether some appointment that names it does
 own_governs : (m : MeetingLists) (closed party : List ℕ) (now : ℕ) → Facts m → governs_any (own_in m closed party now)
-    ≡ list_any (λ a. names party a && governs_some (cutoffs_of m.meeting None closed now) m party a) m.appointments
+    ≡ list_any (λ a. names party a && governs_some (cutoffs_of m.meeting Acts closed now) m party a) m.appointments
 own_governs m closed party now f =
-    let cutoffs = cutoffs_of m.meeting None closed now in
+    let cutoffs = cutoffs_of m.meeting Acts closed now in
     let received = filter (names party) m.appointments in
     let members = map (member_in m) (givers received) in
     list_any-map (λ (r : Received). not (no_runs r.governs)) (received_by members closed m.meeting m.polls now) received
@@ -293,10 +294,10 @@ own_governs m closed party now f =
 -- a party may demand a poll exactly where it has a capacity
 pub may_demand-qualifies : (m : MeetingLists) (closed party : List ℕ) (now : ℕ) → is_meeting m ≡ true
     → may_demand (own_in m closed party now)
-    ≡ qualifies (roles_of (cutoffs_of m.meeting None closed now) m.register m.appointments m.endings m.authorities party)
+    ≡ qualifies (roles_of (cutoffs_of m.meeting Acts closed now) m.register m.appointments m.endings m.authorities party)
 may_demand-qualifies m closed party now h =
     let f = facts m h in
-    let cutoffs = cutoffs_of m.meeting None closed now in
+    let cutoffs = cutoffs_of m.meeting Acts closed now in
     let member = as_member m.register party f.rows in
     let representative = as_representative m party f.rows in
     let proxy = own_governs m closed party now f ∙ as_proxy cutoffs m party f.rows f.numbered in

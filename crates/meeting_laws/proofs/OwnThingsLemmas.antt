@@ -14,7 +14,8 @@ use Rattle.desk_words.specs.declared.records.Appointment.{Appointment}
 use Rattle.desk_words.specs.declared.records.Authority.{Authority}
 use Rattle.desk_words.specs.declared.records.Poll.{Poll}
 use Rattle.desk_words.specs.declared.records.RegisterRow.{RegisterRow}
-use Rattle.proxy_rules.specs.Cutoffs.{cutoffs_of, is_late_poll, late_cutoffs}
+use Rattle.proxy_rules.specs.Cutoffs.{cutoffs_of, is_late_poll}
+use Rattle.proxy_rules.specs.Uses.{Votes, Vote}
 use Rattle.proxy_rules.specs.Holdings.{is_ended_of, is_given_by}
 use Rattle.proxy_rules.specs.Parties.{authorises, is_authority_of, is_cast_by, is_demanded_by, is_presence_of, names}
 use Rattle.proxy_rules.specs.Shares.{row_of, shares_of}
@@ -199,5 +200,5 @@ what_governs m closed party now h =
     let members = map (member_in m) (givers received) in
     map-alike (received_by members closed m.meeting m.polls now) (known_in m closed now) received (λ a here.
     let governs : (cutoffs : Cutoffs) → governed_by members cutoffs a.member a.number ≡ shares_governed m cutoffs a = λ cutoffs. governed-alike m party a cutoffs h here in
-    λ i. known_to_proxy a (governs (cutoffs_of m.meeting None closed now) i)
-    (map (λ (poll : Poll). record { resolution = poll.resolution; governs = governs (late_cutoffs poll closed) i }) (filter (is_late_poll closed) m.polls)))
+    λ i. known_to_proxy a (governs (cutoffs_of m.meeting Votes closed now) i)
+    (map (λ (poll : Poll). record { resolution = poll.resolution; governs = governs (cutoffs_of m.meeting (Vote poll) closed now) i }) (filter (is_late_poll closed) m.polls)))

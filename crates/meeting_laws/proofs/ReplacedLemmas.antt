@@ -7,13 +7,15 @@ use Rattle.std.proofs.lemmas.Bool.{or_right}
 use Rattle.std.proofs.lemmas.List.Elements.{All-head, All-tail}
 use Rattle.desk_terms.specs.Names.{same_name}
 use Rattle.desk_words.specs.declared.office.MeetingLists.{MeetingLists}
+use Rattle.desk_words.specs.declared.own.PollGoverned.{PollGoverned}
 use Rattle.desk_words.specs.declared.own.Received.{Received}
 use Rattle.desk_words.specs.declared.records.Appointment.{Appointment}
 use Rattle.desk_words.specs.declared.records.Authority.{Authority}
 use Rattle.desk_words.specs.declared.records.Meeting.{Meeting}
 use Rattle.desk_words.specs.declared.records.Poll.{Poll}
 use Rattle.desk_words.specs.declared.records.RegisterRow.{RegisterRow}
-use Rattle.proxy_rules.specs.Cutoffs.{cutoffs_of, is_late_poll, late_cutoffs}
+use Rattle.proxy_rules.specs.Cutoffs.{cutoffs_of, is_late_poll}
+use Rattle.proxy_rules.specs.Uses.{Votes, Vote}
 use Rattle.proxy_rules.specs.Governing.{governed_in}
 use Rattle.proxy_rules.specs.Holdings.{holding_with, is_ended_of, is_given_by}
 use Rattle.proxy_rules.specs.Parties.{authorises, is_authority_of, is_presence_of, names}
@@ -22,7 +24,7 @@ use Rattle.proxy_rules.specs.declared.papers.Cutoffs.{Cutoffs}
 use Rattle.caller_view.specs.Own.{authorised_in_rows, given_in, known_to_proxy, shares_in}
 use Rattle.caller_view.specs.Rows.{authority_rows_in}
 use Rattle.caller_view.specs.Views.{own_in}
-use Rattle.meeting_laws.specs.Laws.{governed_for_poll, shares_governed}
+use Rattle.meeting_laws.specs.Laws.{shares_governed}
 use Rattle.meeting_laws.specs.OwnThings.{authority_concerns}
 use Rattle.meeting_laws.specs.Replaced.{AreOneToTheProxy, HoldsTheSame, TellsNoNameOrPence, TellsWhatIsLeft, all_cutoffs, without_name_and_pence}
 use Rattle.meeting_laws.proofs.OwnThingsLemmas.{any-kept, or-left, what_governs}
@@ -31,34 +33,38 @@ use Rattle.meeting_laws.proofs.SecrecyLemmas.{filter-within}
 -- ---- appointments that name the party
 
 module _ (one other : MeetingLists) (closed : List ℕ) (now : ℕ) where
-  -- what two appointments govern for late polls
-  late-alike : (a b : Appointment) (polls : List Poll)
-      → All (λ cutoffs. shares_governed one cutoffs a ≡ shares_governed other cutoffs b) (map (λ (poll : Poll). late_cutoffs poll closed) polls)
-      → map (governed_for_poll one closed a) polls ≡ map (governed_for_poll other closed b) polls
-  late-alike a b [] all = refl
-  late-alike a b (poll ∷ polls) all =
+  -- what an appointment governs for votes on a poll, by this notice
+  abbrev for_poll_by : Meeting → MeetingLists → Appointment → Poll → PollGoverned
+  for_poll_by meeting m a poll = record { resolution = poll.resolution; governs = shares_governed m (cutoffs_of meeting (Vote poll) closed now) a }
+
+  -- what two appointments govern for polls
+  late-alike : (meeting : Meeting) (a b : Appointment) (polls : List Poll)
+      → All (λ cutoffs. shares_governed one cutoffs a ≡ shares_governed other cutoffs b) (map (λ (poll : Poll). cutoffs_of meeting (Vote poll) closed now) polls)
+      → map (for_poll_by meeting one a) polls ≡ map (for_poll_by meeting other b) polls
+  late-alike meeting a b [] all = refl
+  late-alike meeting a b (poll ∷ polls) all =
       let alike : Cutoffs → Type 0 = λ cutoffs. shares_governed one cutoffs a ≡ shares_governed other cutoffs b in
-      let rest = map (λ (p : Poll). late_cutoffs p closed) polls in
-      let governs = All-head alike (late_cutoffs poll closed) rest all in
-      let head : governed_for_poll one closed a poll ≡ governed_for_poll other closed b poll = λ i. record { resolution = poll.resolution; governs = governs i } in
-      let tail = late-alike a b polls (All-tail alike (late_cutoffs poll closed) rest all) in
+      let rest = map (λ (p : Poll). cutoffs_of meeting (Vote p) closed now) polls in
+      let governs = All-head alike (cutoffs_of meeting (Vote poll) closed now) rest all in
+      let head : for_poll_by meeting one a poll ≡ for_poll_by meeting other b poll = λ i. record { resolution = poll.resolution; governs = governs i } in
+      let tail = late-alike meeting a b polls (All-tail alike (cutoffs_of meeting (Vote poll) closed now) rest all) in
       λ i. head i ∷ tail i
 
   -- an appointment as its proxy is to know it, by this notice and these polls
   abbrev known_by : Meeting → List Poll → MeetingLists → Appointment → Received
   known_by meeting polls m a =
-      known_to_proxy a (shares_governed m (cutoffs_of meeting None closed now) a)
-      (map (governed_for_poll m closed a) (filter (is_late_poll closed) polls))
+      known_to_proxy a (shares_governed m (cutoffs_of meeting Votes closed now) a)
+      (map (for_poll_by meeting m a) (filter (is_late_poll closed) polls))
 
   -- two appointments that are one to their proxy are known alike
   known-alike : (a b : Appointment) → AreOneToTheProxy one other closed now a b → known_by one.meeting one.polls one a ≡ known_by one.meeting one.polls other b
   known-alike a b alike =
       let same : Cutoffs → Type 0 = λ cutoffs. shares_governed one cutoffs a ≡ shares_governed other cutoffs b in
       let late = filter (is_late_poll closed) one.polls in
-      let cutoffs = cutoffs_of one.meeting None closed now in
-      let rest = map (λ (p : Poll). late_cutoffs p closed) late in
+      let cutoffs = cutoffs_of one.meeting Votes closed now in
+      let rest = map (λ (p : Poll). cutoffs_of one.meeting (Vote p) closed now) late in
       let governs = All-head same cutoffs rest alike.governs in
-      let polls = late-alike a b late (All-tail same cutoffs rest alike.governs) in
+      let polls = late-alike one.meeting a b late (All-tail same cutoffs rest alike.governs) in
       λ i. known_to_proxy (alike.same i) (governs i) (polls i)
 
   all-alike : (xs ys : List Appointment) → AllZip (AreOneToTheProxy one other closed now) xs ys

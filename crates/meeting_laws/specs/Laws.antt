@@ -1,5 +1,5 @@
 -- Laws of a party's own things.
-use Rattle.std.specs.Prelude.{◌≡◌, true, List, filter, map, None}
+use Rattle.std.specs.Prelude.{◌≡◌, true, List, filter, map}
 use Rattle.desk_words.specs.Office.{is_meeting}
 use Rattle.desk_words.specs.Seen.{Day, Moment, Party}
 use Rattle.desk_words.specs.declared.office.MeetingLists.{MeetingLists}
@@ -8,10 +8,11 @@ use Rattle.desk_words.specs.declared.own.Received.{Received}
 use Rattle.desk_words.specs.declared.records.Appointment.{Appointment}
 use Rattle.desk_words.specs.declared.records.Poll.{Poll}
 use Rattle.desk_terms.specs.Places.{Places}
-use Rattle.proxy_rules.specs.Cutoffs.{cutoffs_of, is_late_poll, late_cutoffs}
+use Rattle.proxy_rules.specs.Cutoffs.{cutoffs_of, is_late_poll}
 use Rattle.proxy_rules.specs.Governing.{governed_in}
 use Rattle.proxy_rules.specs.Holdings.{holding_of}
 use Rattle.proxy_rules.specs.Parties.{names}
+use Rattle.proxy_rules.specs.Uses.{Acts, Votes, Vote}
 use Rattle.proxy_rules.specs.declared.papers.Cutoffs.{Cutoffs}
 use Rattle.poll_rules.specs.Quorum.{qualifies}
 use Rattle.poll_rules.specs.Roles.{roles_of}
@@ -27,7 +28,7 @@ DemandsByCapacity =
     (m : MeetingLists) (closed : List Day) (party : Party) (now : Moment) → is_meeting m ≡ true
     → may_demand (own_in m closed party now)
     ≡ qualifies
-    (roles_of (cutoffs_of m.meeting None closed now) m.register m.appointments m.endings
+    (roles_of (cutoffs_of m.meeting Acts closed now) m.register m.appointments m.endings
     m.authorities party)
 
 -- the shares that an appointment governs in a meeting, in runs, by what the meeting keeps of the
@@ -36,19 +37,19 @@ abbrev pub shares_governed : MeetingLists → Cutoffs → Appointment → List P
 shares_governed m cutoffs a =
     governed_in cutoffs (holding_of m.register m.appointments m.endings a.member) a.number
 
--- those that it governs for a late poll (section 327)
-abbrev pub governed_for_poll : MeetingLists → List Day → Appointment → Poll → PollGoverned
-governed_for_poll m closed a poll = record {
+-- those that it governs for votes on a poll (section 327)
+abbrev pub governed_for_poll : MeetingLists → List Day → Moment → Appointment → Poll → PollGoverned
+governed_for_poll m closed now a poll = record {
   resolution = poll.resolution;
-  governs = shares_governed m (late_cutoffs poll closed) a;
+  governs = shares_governed m (cutoffs_of m.meeting (Vote poll) closed now) a;
 }
 
--- an appointment as its proxy is to know it: with what it governs for the meeting, and for each
--- late poll
+-- an appointment as its proxy is to know it: with what it governs for votes at the meeting, and for
+-- those on each late poll
 abbrev pub known_in : MeetingLists → List Day → Moment → Appointment → Received
 known_in m closed now a =
-    known_to_proxy a (shares_governed m (cutoffs_of m.meeting None closed now) a)
-    (map (governed_for_poll m closed a) (filter (is_late_poll closed) m.polls))
+    known_to_proxy a (shares_governed m (cutoffs_of m.meeting Votes closed now) a)
+    (map (governed_for_poll m closed now a) (filter (is_late_poll closed) m.polls))
 
 -- own things tell a proxy of each appointment that names it what it governs by the rules
 abbrev pub OwnThingsTellWhatGoverns : Type 0

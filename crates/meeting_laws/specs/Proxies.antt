@@ -17,20 +17,22 @@ use Rattle.proxy_rules.specs.Governing.{governing_in}
 use Rattle.proxy_rules.specs.Holdings.{holding_by, holding_of}
 use Rattle.proxy_rules.specs.Instructions.{allows, instructed_on}
 use Rattle.proxy_rules.specs.Parties.{names}
+use Rattle.proxy_rules.specs.Uses.{Use, vote_on}
 use Rattle.proxy_rules.specs.declared.papers.Cutoffs.{Cutoffs}
-use Rattle.caller_view.specs.Casts.{is_late_on}
+use Rattle.caller_view.specs.Casts.{use_on}
 use Rattle.caller_view.specs.Rights.{is_against, is_governed, is_uninstructed}
 use Rattle.caller_view.specs.Views.{own_in, public_in}
 
--- the poll on a resolution is late, as the public record of the meeting tells (section 327)
-abbrev pub is_late_in : MeetingLists → List Day → Number → Bool
-is_late_in m closed resolution = is_late_on (public_in (Some m) closed) resolution
+-- the use of appointments for votes on a resolution, as the public record of the meeting tells
+-- (section 327)
+abbrev pub use_in : MeetingLists → List Day → Number → Use
+use_in m closed resolution = use_on (public_in (Some m) closed) resolution
 
 -- until when appointments and endings count for the poll on a resolution, late or not (sections 327
 -- and 330)
 abbrev pub cutoffs_on : MeetingLists → List Day → Moment → Number → Cutoffs
 cutoffs_on m closed now resolution =
-    cutoffs_of m.meeting (poll_on m.polls resolution) closed now
+    cutoffs_of m.meeting (vote_on (poll_on m.polls resolution)) closed now
 
 -- the appointment that governs a share of the member for the poll of a vote, by what the meeting
 -- keeps of the member (section 324)
@@ -51,8 +53,8 @@ some_pass test from to = nat_lt 0 (places_that (λ place. nat_le from place && t
 -- the party governs a member's share for the poll of a vote, as is read from its own things
 abbrev pub is_told_to_govern : MeetingLists → List Day → Party → Moment → NewCast → Place → Bool
 is_told_to_govern m closed party now new place =
-    let late = is_late_in m closed new.resolution in
-    is_governed (own_in m closed party now).received late new place
+    let purpose = use_in m closed new.resolution in
+    is_governed (own_in m closed party now).received closed purpose new place
 
 -- a party governs a member's share for the poll of a vote, as is read from its own things, exactly
 -- where the appointment that governs the share by the rules names the party (sections 324 and 327)
@@ -70,7 +72,7 @@ abbrev pub InstructionsBindByTheRules : Type 0
 InstructionsBindByTheRules =
     (m : MeetingLists) (closed : List Day) (party : Party) (now : Moment) (new : NewCast)
     → is_meeting m ≡ true → is_range new.from new.to ≡ true
-    → is_against (own_in m closed party now) (is_late_in m closed new.resolution) new Proxy
+    → is_against (own_in m closed party now) closed (use_in m closed new.resolution) new Proxy
     ≡ some_pass
     (λ place. option_map_or (binds_otherwise party new) (governing_for m closed now new place)
     false)
@@ -97,5 +99,5 @@ abbrev pub InstructedByTheRules : Type 0
 InstructedByTheRules =
     (m : MeetingLists) (closed : List Day) (party : Party) (now : Moment) (resolution : Number)
     → is_meeting m ≡ true
-    → is_uninstructed (own_in m closed party now) (is_late_in m closed resolution) resolution
+    → is_uninstructed (own_in m closed party now) closed (use_in m closed resolution) resolution
     ≡ not (list_any (is_instructed_in m closed now party resolution) m.register)

@@ -1,6 +1,6 @@
 -- A proxy learns of its member's other appointments what they leave to it, and nothing else
 -- (sections 324 and 330).
-use Rattle.std.specs.Prelude.{◌≡◌, true, List, [], ◌∷◌, All, filter, map, None, option_map}
+use Rattle.std.specs.Prelude.{◌≡◌, true, List, [], ◌∷◌, All, filter, map, option_map}
 use Rattle.std.specs.List.{AllZip}
 use Rattle.desk_words.specs.Office.{is_meeting}
 use Rattle.desk_words.specs.Seen.{Day, Moment, Party}
@@ -9,19 +9,22 @@ use Rattle.desk_words.specs.declared.records.Appointment.{Appointment}
 use Rattle.desk_words.specs.declared.records.Authority.{Authority}
 use Rattle.desk_words.specs.declared.records.Poll.{Poll}
 use Rattle.desk_words.specs.declared.records.RegisterRow.{RegisterRow}
-use Rattle.proxy_rules.specs.Cutoffs.{cutoffs_of, is_late_poll, late_cutoffs}
+use Rattle.proxy_rules.specs.Cutoffs.{cutoffs_of, is_late_poll}
 use Rattle.proxy_rules.specs.Holdings.{is_ended_of, is_given_by}
 use Rattle.proxy_rules.specs.Parties.{authorises, names}
 use Rattle.proxy_rules.specs.Shares.{row_of}
+use Rattle.proxy_rules.specs.Uses.{Votes, Vote}
 use Rattle.proxy_rules.specs.declared.papers.Cutoffs.{Cutoffs}
 use Rattle.meeting_laws.specs.Laws.{shares_governed}
 use Rattle.meeting_laws.specs.OwnThings.{Telling, what_concerns}
 
--- the cutoffs for a meeting, and those for each of its late polls (sections 327 and 330)
+-- the cutoffs for votes at a meeting, and those for votes on each of its late polls (sections 327
+-- and 330)
 abbrev pub all_cutoffs : MeetingLists → List Day → Moment → List Cutoffs
 all_cutoffs m closed now =
-    cutoffs_of m.meeting None closed now
-    ∷ map (λ (poll : Poll). late_cutoffs poll closed) (filter (is_late_poll closed) m.polls)
+    cutoffs_of m.meeting Votes closed now
+    ∷ map (λ (poll : Poll). cutoffs_of m.meeting (Vote poll) closed now)
+    (filter (is_late_poll closed) m.polls)
 
 -- an appointment without its number, which counts what the member gave to others
 abbrev pub without_number : Appointment → Appointment

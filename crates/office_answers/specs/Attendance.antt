@@ -1,5 +1,5 @@
 -- Who is present, whether they make a quorum, and whether enough shares demand a poll.
-use Rattle.std.specs.Prelude.{Bool, List, [], None}
+use Rattle.std.specs.Prelude.{Bool, List, []}
 use Rattle.std.specs.List.{list_any}
 use Rattle.desk_words.specs.Names.{same_name}
 use Rattle.desk_words.specs.Rulings.{Ruling, noted}
@@ -13,6 +13,7 @@ use Rattle.poll_rules.specs.Demands.{demand_of}
 use Rattle.poll_rules.specs.Quorum.{quorum_of}
 use Rattle.poll_rules.specs.declared.demand.Demand.{Demand}
 use Rattle.proxy_rules.specs.Cutoffs.{cutoffs_of}
+use Rattle.proxy_rules.specs.Uses.{Acts}
 
 -- the party's presence is marked
 abbrev pub is_marked : List PresenceMark → Party → Bool
@@ -31,11 +32,11 @@ presence_ruling m now party =
 -- whether those who are present make a quorum, by the closed days as they stand (section 318)
 abbrev pub quorum_in : MeetingLists → List Day → Moment → Bool
 quorum_in m closed now =
-    let cutoffs = cutoffs_of m.meeting None closed now in
+    let cutoffs = cutoffs_of m.meeting Acts closed now in
     quorum_of cutoffs m.register m.appointments m.endings m.authorities m.presences
 
 -- the demand of a poll on a resolution, by the closed days as they stand (section 321)
 abbrev pub demand_noted : MeetingLists → List Day → Moment → Number → Demand
 demand_noted m closed now resolution =
-    let cutoffs = cutoffs_of m.meeting None closed now in
+    let cutoffs = cutoffs_of m.meeting Acts closed now in
     demand_of cutoffs m.register m.appointments m.endings m.authorities m.demands resolution

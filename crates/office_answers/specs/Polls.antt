@@ -20,6 +20,7 @@ use Rattle.desk_words.specs.declared.reply.Reply.TheVariants as reply
 use Rattle.desk_words.specs.declared.request.NewPoll.{NewPoll}
 use Rattle.office_answers.specs.Attendance.{demand_noted, quorum_in}
 use Rattle.proxy_rules.specs.Cutoffs.{cutoffs_of}
+use Rattle.proxy_rules.specs.Uses.{vote_on}
 use Rattle.vote_rules.specs.Tallies.{tally_of}
 use Rattle.desk_words.specs.Majority.{result_of}
 
@@ -133,11 +134,11 @@ abbrev pub result_on : Option Resolution → Tally → Declaration
 result_on None tally = record { tally = tally; carried = false }
 result_on (Some resolution) tally = result_of resolution.kind tally
 
--- the count of the votes on a resolution, by the cutoffs of its poll as the closed days stand
--- (sections 284 and 327)
+-- the count of the votes on a resolution, by the cutoffs for votes on its poll as the closed days
+-- stand (sections 284 and 327)
 abbrev pub tally_in : MeetingLists → List Day → Moment → Number → Tally
 tally_in m closed now resolution =
-    tally_of (cutoffs_of m.meeting (poll_on m.polls resolution) closed now) m.register
+    tally_of (cutoffs_of m.meeting (vote_on (poll_on m.polls resolution)) closed now) m.register
     m.appointments m.endings m.authorities m.casts resolution
 
 -- that count, and whether it carries the resolution (sections 282 to 284)

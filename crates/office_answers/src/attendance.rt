@@ -9,7 +9,7 @@ use desk_words::{
     Answer, Entry, Filed, MeetingChange, MeetingLists, Moment, Party, PresenceMark, noted,
 };
 use office_days::Closed;
-use poll_rules::{Demand, Papers, cutoffs, demand_reached, quorum};
+use poll_rules::{Demand, Papers, Use, cutoffs, demand_reached, quorum};
 use std::alloc::{AllocError, Global};
 
 /// Whether the party's presence is marked.
@@ -67,7 +67,7 @@ pub(crate) fn quorum_in(
     requires { is_meeting lists.now ≡ true }
     ensures { IfOk result (λ is_quorum. is_quorum ≡ quorum_in lists.now closed.now now) }
 {
-    let cutoffs = cutoffs(&lists.meeting, None, closed, now);
+    let cutoffs = cutoffs(&lists.meeting, Use::Acts, closed, now);
     quorum(alloc, &cutoffs, &papers_of(lists))
 }
 
@@ -82,6 +82,6 @@ pub(crate) fn demand_in(
     requires { is_meeting lists.now ≡ true }
     ensures { IfOk result (λ demand. demand ≡ demand_noted lists.now closed.now now resolution) }
 {
-    let cutoffs = cutoffs(&lists.meeting, None, closed, now);
+    let cutoffs = cutoffs(&lists.meeting, Use::Acts, closed, now);
     demand_reached(alloc, &cutoffs, &papers_of(lists), resolution)
 }

@@ -17,7 +17,7 @@ use desk_words::{
     Refusal, Reply, Tally, find_poll, refuse,
 };
 use office_days::Closed;
-use poll_rules::{cutoffs, result_of};
+use poll_rules::{Use, cutoffs, result_of};
 use std::alloc::{AllocError, Global};
 use vote_rules::tally;
 
@@ -296,7 +296,7 @@ fn tally_in(
     ensures value { IfOk result (λ t. t ≡ tally_in lists.now closed.now now number) }
     ensures limits { IfOk result (λ t. IsTrue (is_tally t)) }
 {
-    let cutoffs = cutoffs(&lists.meeting, Some(poll), closed, now);
+    let cutoffs = cutoffs(&lists.meeting, Use::Vote(poll), closed, now);
     tally(alloc, &cutoffs, &papers_of(lists), number)
 }
 

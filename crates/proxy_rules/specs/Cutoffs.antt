@@ -1,11 +1,12 @@
 -- Cutoffs: until when appointments and endings count (own, after sections 327 and 330).
-use Rattle.std.specs.Prelude.{ℕ, Bool, List, Option, Some, None, if◌then◌else◌}
+use Rattle.std.specs.Prelude.{ℕ, Bool, List, if◌then◌else◌}
 use Rattle.std.specs.Option.{unwrap_or}
 use Rattle.desk_words.specs.Seen.{Day, Moment}
 use Rattle.desk_words.specs.declared.limits.TheConstants.{HOURS_BEFORE_LATE_POLL, HOURS_BEFORE_MEETING}
 use Rattle.desk_words.specs.declared.records.Meeting.{Meeting}
 use Rattle.desk_words.specs.declared.records.Poll.{Poll}
 use Rattle.office_days.specs.Days.{back, is_late}
+use Rattle.proxy_rules.specs.Uses.{Use, Acts, Votes, Vote}
 use Rattle.proxy_rules.specs.declared.papers.Cutoffs.{Cutoffs}
 
 -- the moment so many hours of working time before another, or the first moment of all where there
@@ -34,10 +35,13 @@ late_cutoffs poll closed = record {
   endings = poll.take;
 }
 
--- the cutoffs for the meeting, or for a poll; all rules name cutoffs by this alone
-abbrev pub cutoffs_of : Meeting → Option Poll → List Day → Moment → Cutoffs
-cutoffs_of meeting None closed now = meeting_cutoffs meeting closed now
-cutoffs_of meeting (Some poll) closed now =
+-- the cutoffs for each use; all rules name cutoffs by this alone. The articles want appointments as
+-- early as section 327(2) lets them, (a) for the meeting and (b) for a late poll. Endings count by
+-- section 330(2) for acts, by 330(3)(a) for votes, and by 330(3)(b) for votes on a late poll
+abbrev pub cutoffs_of : Meeting → Use → List Day → Moment → Cutoffs
+cutoffs_of meeting Acts closed now = meeting_cutoffs meeting closed now
+cutoffs_of meeting Votes closed now = meeting_cutoffs meeting closed now
+cutoffs_of meeting (Vote poll) closed now =
     if is_late_poll closed poll
     then late_cutoffs poll closed
     else meeting_cutoffs meeting closed now

@@ -9,3 +9,4 @@ pub mod Runs
 pub mod Shares
 pub mod Tagging
 pub mod Tiles
+pub mod Uses

@@ -15,7 +15,7 @@ mod rows;
 mod runs;
 
 pub use authorities::authorised_by;
-pub use cutoff::{cutoffs, is_late_poll, late_cutoffs};
+pub use cutoff::{Use, cutoffs, is_late_poll};
 pub use governor::governing;
 pub use holdings::{Holding, copies_at, given_by};
 pub use instructions::{allows, instructed_on};

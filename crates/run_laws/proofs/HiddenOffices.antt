@@ -36,6 +36,7 @@ use Rattle.desk_words.specs.declared.request.Request.{Request}
 use Rattle.desk_words.specs.declared.request.Request.TheVariants as asked
 use Rattle.office_days.specs.Notice.{is_enough_notice}
 use Rattle.proxy_rules.specs.Cutoffs.{cutoffs_of}
+use Rattle.proxy_rules.specs.Uses.{vote_on}
 use Rattle.vote_rules.specs.Tallies.{tally_of}
 use Rattle.caller_view.specs.Views.{meeting_at, polls_in, public_in, public_of}
 use Rattle.office_answers.specs.Answers.{desk_ruling, office_ruling, ruling_on}
@@ -162,7 +163,7 @@ declare-uncounted resolution m number =
 
 tally-uncounted : (resolution : ℕ) (m : MeetingLists) (closed : List ℕ) (now number : ℕ) → declaration_of (uncounted_in resolution m) closed now number ≡ declaration_of m closed now number
 tally-uncounted resolution m closed now number =
-    poll-seen (λ found. result_on (slice_get m.meeting.resolutions (number - 1)) (tally_of (cutoffs_of m.meeting found closed now) m.register m.appointments m.endings m.authorities m.casts number))
+    poll-seen (λ found. result_on (slice_get m.meeting.resolutions (number - 1)) (tally_of (cutoffs_of m.meeting (vote_on found) closed now) m.register m.appointments m.endings m.authorities m.casts number))
     resolution number m.polls (λ p a b. refl)
 
 ruling-uncounted : (resolution : ℕ) (m : MeetingLists) (closed : List ℕ) (now : ℕ) (what : OfficeRequest) → ruling_on closed now what (uncounted_in resolution m) ≡ ruling_on closed now what m

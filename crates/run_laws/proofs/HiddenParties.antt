@@ -23,6 +23,7 @@ use Rattle.desk_words.specs.declared.office.OfficeLists.{OfficeLists}
 use Rattle.desk_words.specs.declared.records.Appointment.{Appointment}
 use Rattle.desk_words.specs.declared.records.CastKind.TheVariants.{AsInstructed}
 use Rattle.desk_words.specs.declared.records.CastMark.{CastMark}
+use Rattle.desk_words.specs.declared.records.Meeting.{Meeting}
 use Rattle.desk_words.specs.declared.records.Poll.{Poll}
 use Rattle.desk_words.specs.declared.reply.Reply.TheVariants as reply
 use Rattle.desk_words.specs.declared.request.Call.{Call}
@@ -32,6 +33,7 @@ use Rattle.desk_words.specs.declared.request.Request.{Request}
 use Rattle.desk_words.specs.declared.request.Request.TheVariants as asked
 use Rattle.proxy_rules.specs.Cutoffs.{cutoffs_of, is_late_poll}
 use Rattle.proxy_rules.specs.Parties.{is_cast_by}
+use Rattle.proxy_rules.specs.Uses.{Votes, vote_on}
 use Rattle.caller_view.proofs.OwnLemmas.{filter-swap}
 use Rattle.caller_view.specs.Answers.{ruling_for}
 use Rattle.caller_view.specs.Attendance.{demand_mark, own_demanded, may_demand}
@@ -65,12 +67,14 @@ map-kept f test seen (p ∷ ps) tested made =
       | false ↦ rest
     ])
 
-late-uncounted : (resolution : ℕ) (members : List MemberRows) (closed member : List ℕ) (number : ℕ) (polls : List Poll)
-    → map (poll_governed members closed member number) (filter (is_late_poll closed) (map (uncounted resolution) polls)) ≡ map (poll_governed members closed member number) (filter (is_late_poll closed) polls)
-late-uncounted resolution members closed member number polls =
-    map-kept (poll_governed members closed member number) (is_late_poll closed) (uncounted resolution) polls
+late-uncounted : (resolution : ℕ) (members : List MemberRows) (closed : List ℕ) (meeting : Meeting) (now : ℕ) (member : List ℕ) (number : ℕ) (polls : List Poll)
+    → map (poll_governed members closed meeting now member number) (filter (is_late_poll closed) (map (uncounted resolution) polls))
+    ≡ map (poll_governed members closed meeting now member number) (filter (is_late_poll closed) polls)
+late-uncounted resolution members closed meeting now member number polls =
+    let governs = poll_governed members closed meeting now member number in
+    map-kept governs (is_late_poll closed) (uncounted resolution) polls
     (λ p. elim (p.resolution == resolution) as (λ b. is_late_poll closed (cond b (without_count p) p) ≡ is_late_poll closed p) [ true ↦ refl | false ↦ refl ])
-    (λ p. elim (p.resolution == resolution) as (λ b. poll_governed members closed member number (cond b (without_count p) p) ≡ poll_governed members closed member number p) [ true ↦ refl | false ↦ refl ])
+    (λ p. elim (p.resolution == resolution) as (λ b. governs (cond b (without_count p) p) ≡ governs p) [ true ↦ refl | false ↦ refl ])
 
 -- a meeting without what was counted on a resolution
 abbrev uncounted_in : ℕ → MeetingLists → MeetingLists
@@ -81,7 +85,7 @@ own-uncounted : (resolution : ℕ) (m : MeetingLists) (closed : List ℕ) (rows 
 own-uncounted resolution m closed rows now =
     λ i. record (own_from rows (public_in (Some m) closed) now) {
       received = map (λ (a : Appointment).
-          known_to_proxy a (governed_by rows.members (cutoffs_of m.meeting None closed now) a.member a.number) (late-uncounted resolution rows.members closed a.member a.number m.polls i))
+          known_to_proxy a (governed_by rows.members (cutoffs_of m.meeting Votes closed now) a.member a.number) (late-uncounted resolution rows.members closed m.meeting now a.member a.number m.polls i))
           rows.received;
     }
 
@@ -112,8 +116,8 @@ ruling-uncounted resolution m closed own now (Cast new) h =
           ∷ record { refusal = NoPoll; holds = is_none found }
           ∷ record { refusal = PollNotOpen; holds = there_is is_waiting found }
           ∷ record { refusal = PollClosed; holds = there_is is_closed found }
-          ∷ record { refusal = NotYours; holds = is_not_own own (there_is (is_late_poll closed) found) new new.capacity }
-          ∷ record { refusal = AgainstInstruction; holds = is_against own (there_is (is_late_poll closed) found) new new.capacity } ∷ [];
+          ∷ record { refusal = NotYours; holds = is_not_own own closed (vote_on found) new new.capacity }
+          ∷ record { refusal = AgainstInstruction; holds = is_against own closed (vote_on found) new new.capacity } ∷ [];
       accepted = record { reply = reply.Recorded; change = Some (entry.Cast (cast_of own now new.resolution (block_of new))) };
     }) resolution new.resolution m.polls (λ p a b. refl)
 ruling-uncounted resolution m closed own now (Instructed number) h =
@@ -124,7 +128,7 @@ ruling-uncounted resolution m closed own now (Instructed number) h =
           ∷ record { refusal = NoPoll; holds = is_none found }
           ∷ record { refusal = PollNotOpen; holds = there_is is_waiting found }
           ∷ record { refusal = PollClosed; holds = there_is is_closed found }
-          ∷ record { refusal = NotYours; holds = is_uninstructed own (there_is (is_late_poll closed) found) number } ∷ [];
+          ∷ record { refusal = NotYours; holds = is_uninstructed own closed (vote_on found) number } ∷ [];
       accepted = record { reply = reply.Recorded; change = Some (entry.Cast (cast_of own now number AsInstructed)) };
     }) resolution number m.polls (λ p a b. refl)
 ruling-uncounted resolution m closed own now what h = refl

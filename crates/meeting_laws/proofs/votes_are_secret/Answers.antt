@@ -7,6 +7,7 @@ use Rattle.desk_words.specs.declared.records.Tally.{Tally}
 use Rattle.desk_words.specs.declared.reply.Reply.TheVariants as reply
 use Rattle.desk_words.specs.declared.request.OfficeRequest.TheVariants.{LoadRegister, Declare}
 use Rattle.proxy_rules.specs.Cutoffs.{cutoffs_of}
+use Rattle.proxy_rules.specs.Uses.{vote_on}
 use Rattle.vote_rules.specs.Laws.{casts_on}
 use Rattle.office_answers.specs.Polls.{declare_cases, result_on}
 use Rattle.meeting_laws.proofs.SecrecyLemmas.{on-off}
@@ -18,7 +19,7 @@ alike : TalliesReadTheirOwnCasts → TheOfficeIsToldOfNoVotes
 alike law m casts resolution closed now (LoadRegister new) same other = refl
 alike law m casts resolution closed now (Declare asked) same other =
     let on = sym (on-off asked resolution casts other) ∙ ap (casts_on asked) same ∙ on-off asked resolution m.casts other in
-    let counted = law (cutoffs_of m.meeting (poll_on m.polls asked) closed now) m.register m.appointments m.endings m.authorities casts m.casts asked on in
+    let counted = law (cutoffs_of m.meeting (vote_on (poll_on m.polls asked)) closed now) m.register m.appointments m.endings m.authorities casts m.casts asked on in
     let declared = λ (tally : Tally). result_on (slice_get m.meeting.resolutions (asked - 1)) tally in
     ap (λ (tally : Tally). record {
       cases = declare_cases m asked;

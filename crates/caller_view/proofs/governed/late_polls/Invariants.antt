@@ -5,4 +5,4 @@ use Rattle.caller_view.proofs.governed.late_polls.Given as goal
 
 -- the late ones of the first polls
 abbrev pub invariant-loop-poll : goal.invariant-loop-poll
-invariant-loop-poll l = l.late.items ≡ map (late_of l.closed) (filter (is_late_poll l.closed) (take l.poll-index l.polls))
+invariant-loop-poll l = l.late.items ≡ map (late_of l.meeting l.closed l.now) (filter (is_late_poll l.closed) (take l.poll-index l.polls))

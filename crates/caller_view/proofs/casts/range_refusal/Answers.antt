@@ -1,0 +1,24 @@
+use Rattle.std.proofs.Common.{rules, ◌≡◌, ℕ, List, Some, true, false, ap, ◌∙◌}
+use Rattle.desk_terms.specs.Refusals.{first_refusal}
+use Rattle.desk_words.specs.Finding.{poll_on}
+use Rattle.desk_words.specs.Polls.{is_closed, is_waiting}
+use Rattle.proxy_rules.specs.Uses.{Vote}
+use Rattle.caller_view.specs.Casts.{has_cast_enough, right_cases}
+use Rattle.caller_view.specs.Rights.{may_vote_for}
+use Rattle.caller_view.proofs.CastLemmas.{refused_on}
+use Rattle.caller_view.proofs.casts.range_refusal.Goals as goal
+
+pub returns : goal.returns
+returns c =
+    let a = c.args in
+    let poll = c.in-Some.poll in
+    let found : poll_on a.public.now.polls a.new.now.resolution ≡ Some poll = search rules in
+    let enough : has_cast_enough a.own.now a.new.now.resolution ≡ false = search rules in
+    let loaded : a.meeting.now.loaded ≡ true = search rules in
+    let may : may_vote_for a.own.now a.new.now.member a.new.now.capacity ≡ true = search rules in
+    let waiting : is_waiting poll ≡ false = search rules in
+    let closed : is_closed poll ≡ false = search rules in
+    let days : c.public.inside.closed.now ≡ a.public.now.closed = search rules in
+    c.right_refusal.ensures
+    ∙ ap (λ (days : List ℕ). first_refusal (right_cases a.own.now days (Vote poll) a.new.now)) days
+    ∙ refused_on a.public.now a.meeting.now a.own.now a.new.now poll found enough loaded may waiting closed
