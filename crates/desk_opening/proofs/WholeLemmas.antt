@@ -1,20 +1,16 @@
 -- Tables that are whole: how they are known, and as what they are opened.
-use Rattle.std.proofs.Common.{◌≡◌, ◌⊎◌, ◌≤◌, false, true, [], ◌∷◌, Option, Some, IsTrue, refl, sym, subst, ◌∙◌, inl, inr, true≢false, arith}
+use Rattle.std.proofs.Common.{◌≡◌, ◌⊎◌, ◌≤◌, [], ◌∷◌, Option, Some, IsTrue, refl, sym, subst, ◌∙◌, inl, inr, true≢false, arith}
 use Rattle.sqlite.specs.Effect.{Database, IsDatabase}
 use Rattle.sqlite.specs.State.{State, IsLive}
 use Rattle.sqlite.specs.Tree.{Trees}
-use Rattle.sqlite_catalog.specs.Listing.{AreListed}
 use Rattle.sqlite_trees.specs.Objects.{catalog_tree}
-use Rattle.desk_words.specs.Office.{is_office}
 use Rattle.desk_words.specs.declared.office.OfficeLists.{OfficeLists}
 use Rattle.desk_rows.specs.declared.kept.Version.{Version}
 use Rattle.desk_schema.specs.Statements.{HasTables, IsDeclared, layout_one}
-use Rattle.desk_records.specs.Office.{office_in}
-use Rattle.desk_records.specs.Standing.{HasNoOffice, Stands, version_one}
-use Rattle.desk_tables.specs.Columns.{HasColumns}
+use Rattle.desk_records.specs.Standing.{Stands, version_one}
 use Rattle.desk_tables.proofs.ColumnLemmas.{columns_stand}
 use Rattle.desk_tables.proofs.DeskLemmas.{desk_notes}
-use Rattle.desk_tables.specs.Versions.{AreNoted, NotesVersion}
+use Rattle.desk_tables.specs.Versions.{AreNoted}
 use Rattle.desk_opening.specs.Crashes.{LeavesItself}
 use Rattle.desk_opening.specs.Opening.{IsOpenCause}
 use Rattle.desk_opening.specs.Rising.{RowsRise}

@@ -1,5 +1,5 @@
 -- One reading of the tables after another.
-use Rattle.std.proofs.Common.{◌≡◌, ◌≢◌, List, Bool, Option, Some, None, Ok, Err, Result, OnOk, sym, ap, subst, ◌∙◌, arith, true≢false}
+use Rattle.std.proofs.Common.{◌≡◌, List, Bool, Option, Some, None, Ok, Err, Result, OnOk, sym, ap, subst, ◌∙◌, arith, true≢false}
 use Rattle.std.proofs.lemmas.Result.{on_ok_weaker}
 use Rattle.desk_terms.specs.Options.{◌>>=◌}
 use Rattle.sqlite.specs.declared.error.Error.{Error}

@@ -1,6 +1,6 @@
 -- What the actions of references leave: where each table whose references act is no table of the desk, a write changes
 -- no table of the desk but its own.
-use Rattle.std.proofs.Common.{◌≡◌, ◌≢◌, ℕ, zero, suc, ◌+◌, ℤ, ◌⊎◌, inl, inr, List, [], ◌∷◌, ◌++◌, length, ◌==◌, nat_lt, Bool, true, false, not, ◌&&◌, ◌||◌, if◌then◌else◌, Option, Some, None, Ok, Err, Result, refl, sym, ap, subst, ◌∙◌, IsTrue, true≢false, flat_map}
+use Rattle.std.proofs.Common.{◌≡◌, ◌≢◌, ℕ, zero, suc, ◌+◌, ℤ, ◌⊎◌, inl, inr, List, [], ◌∷◌, ◌++◌, length, ◌==◌, nat_lt, Bool, true, false, ◌&&◌, ◌||◌, Option, Some, None, Ok, Err, refl, sym, ap, subst, ◌∙◌, IsTrue, true≢false}
 use Rattle.std.specs.List.{AllByRecursion, list_all, list_any, filter_map}
 use Rattle.std.proofs.lemmas.Bool.{cases_Bool, and_parts}
 use Rattle.sqlite.specs.Order.{Row}

@@ -1,6 +1,5 @@
 -- What a write does, for any schema.
-use Rattle.std.proofs.Common.{◌≡◌, ◌≢◌, IsTrue, ◌⊎◌, inl, inr, ℕ, ◌/◌, ℤ, List, [], ◌∷◌, length, ◌==◌, fold, slice_get, Bool, true, false, cond, if◌then◌else◌, ◌&&◌, Some, None, Ok, Err, Result, refl, sym, ap, subst, ◌∙◌, Option, true≢false, flat_map}
-use Rattle.std.specs.List.{list_all, filter_map}
+use Rattle.std.proofs.Common.{◌≡◌, ◌≢◌, IsTrue, ◌⊎◌, inl, inr, ℕ, ◌/◌, ℤ, List, [], length, fold, slice_get, Bool, true, false, cond, if◌then◌else◌, Some, None, Ok, Err, Result, refl, ap, subst, ◌∙◌, Option}
 use Rattle.std.specs.Ordering.{int_cmp, is_lt}
 use Rattle.std.proofs.lemmas.Bool.{cases_Bool}
 use Rattle.sqlite.specs.declared.types.Value.{Value}
@@ -16,16 +15,11 @@ use Rattle.sqlite.specs.Rows.{Written, Task, count_of, rowids_for, stamped, Coun
 use Rattle.sqlite.specs.Effect.{Database, value_rows}
 use Rattle.sqlite.specs.Tree.{Trees}
 use Rattle.sqlite.specs.State.{State, mode_of, Writes}
-use Rattle.sqlite_rules.specs.Action.{work_for, deed_for, Writes as Leaves}
-use Rattle.sqlite_schema.specs.declared.schema.Action.{Action}
-use Rattle.sqlite_schema.specs.declared.schema.Action.TheVariants.{NoAction, Restrict, Cascade, SetNull, SetDefault}
-use Rattle.sqlite_schema.specs.declared.schema.Reference.{Reference}
+use Rattle.sqlite_rules.specs.Action.{Writes as Leaves}
 use Rattle.sqlite_schema.specs.declared.schema.Keys.TheVariants.{Enforced}
-use Rattle.sqlite.proofs.Callers.{one_step}
 use Rattle.desk_schema.specs.Statements.{Layout, has_table}
 use Rattle.desk_statements.proofs.Frames.{AreApart}
 use Rattle.desk_statements.proofs.Acting.{first_step, step}
-use Rattle.sqlite_trees.proofs.ListLemmas.{all-slice_get}
 
 -- ---- the parts of a statement
 

@@ -8,11 +8,10 @@ use Rattle.sqlite_tied.specs.Compute.{everything}
 use Rattle.sqlite.specs.declared.error.Error.{Error}
 use Rattle.sqlite.specs.Listing.{understood}
 use Rattle.sqlite.specs.State.{State, ExecutesInside}
-use Rattle.sqlite.proofs.Callers.{IsPlain, command_of}
 use Rattle.desk_rows.specs.Columns.{unix_day, day_in}
 use Rattle.desk_rows.specs.Office.{closed_in}
 use Rattle.desk_statements.proofs.GivenNumbers.{days_below}
-use Rattle.desk_schema.specs.Tables.{desk_schema, up_to_keys, closed_table as table}
+use Rattle.desk_schema.specs.Tables.{up_to_keys, closed_table as table}
 use Rattle.desk_schema.specs.Texts.{adding_text, making_text}
 use Rattle.desk_schema.specs.Contents.{closed}
 use Rattle.desk_schema.specs.Statements.{IsDesk, Empties, AddsAfter, layout_one, HasTables}

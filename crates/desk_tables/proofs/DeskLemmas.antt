@@ -23,7 +23,7 @@ use Rattle.desk_tables.specs.Versions.{IsAnsweredBy, AreNoted, NotesVersion, Sho
 use Rattle.desk_rows.specs.Columns.{number_in}
 use Rattle.desk_rows.specs.Office.{version_in}
 use Rattle.desk_statements.proofs.GivenNumbers.{none_below}
-use Rattle.desk_schema.specs.Tables.{desk_schema, no_schema, desk_table as table}
+use Rattle.desk_schema.specs.Tables.{no_schema, desk_table as table}
 use Rattle.desk_schema.specs.Texts.{given_names, inserting_text, making_text}
 use Rattle.desk_schema.specs.Contents.{desk}
 use Rattle.desk_schema.specs.Statements.{IsDesk, AddsFirst, table_rows, HasTables, layout_one}

@@ -1,23 +1,22 @@
 -- What the statements on `keys` do.
-use Rattle.std.proofs.Common.{◌≡◌, ℕ, List, [], ◌∷◌, codes, false, Some, Result, OnOk, IfOk, IfErr, IsTrue, ◌⊎◌, refl, ◌∙◌, filter}
+use Rattle.std.proofs.Common.{◌≡◌, ℕ, List, [], ◌∷◌, codes, Some, Result, OnOk, IfOk, IfErr, IsTrue, ◌⊎◌, refl, ◌∙◌, filter}
 use Rattle.sqlite.specs.declared.types.Value.TheVariants.{Text}
 use Rattle.sqlite.specs.Order.{Row, column}
 use Rattle.sqlite.specs.Term.{Term, col, op2}
 use Rattle.sqlite.specs.Collation.TheVariants.{Binary}
 use Rattle.sqlite_sql.specs.declared.ops.BinaryOp.TheVariants.{Compare}
 use Rattle.sqlite_sql.specs.declared.ops.CompareOp.TheVariants.{Eq}
-use Rattle.sqlite.specs.Command.TheVariants.{Select, Delete}
+use Rattle.sqlite.specs.Command.TheVariants.{Delete}
 use Rattle.sqlite_tied.specs.Compute.{everything}
 use Rattle.sqlite.specs.declared.error.Error.{Error}
-use Rattle.sqlite.specs.Listing.{understood, reads_listing}
+use Rattle.sqlite.specs.Listing.{understood}
 use Rattle.sqlite.specs.State.{State, ExecutesInside, Shown, IsUnchanged, FailsToQuery, IsTooLate, KeepsCommit}
-use Rattle.sqlite.proofs.Callers.{IsPlain, command_of}
 use Rattle.desk_words.specs.declared.caller.KeyRow.{KeyRow}
 use Rattle.desk_rows.specs.Columns.{spelled}
 use Rattle.desk_rows.specs.Office.{key_row_in}
 use Rattle.desk_terms.specs.Names.{key_of, same_name}
 use Rattle.desk_words.specs.Callers.{caller_of}
-use Rattle.desk_schema.specs.Tables.{desk_schema, up_to_desk, keys_table as table}
+use Rattle.desk_schema.specs.Tables.{up_to_desk, keys_table as table}
 use Rattle.desk_schema.specs.Texts.{adding_text, finding_text, given_names, making_text}
 use Rattle.desk_schema.specs.Contents.{keys}
 use Rattle.desk_schema.specs.Statements.{IsDesk, columns_of, records_in, Empties, layout_one, HasTables}

@@ -22,7 +22,7 @@ use Rattle.desk_rows.specs.Columns.{day_in, unix_day, flag_in, flag_of, integer_
 use Rattle.desk_rows.specs.Meetings.{meeting_in}
 use Rattle.desk_terms.specs.Kinds.{company_of, meeting_kind_of}
 use Rattle.desk_terms.specs.Names.{meeting_of, same_name}
-use Rattle.desk_schema.specs.Tables.{desk_schema, up_to_closed, up_to_meetings, meetings_table as table, sequence}
+use Rattle.desk_schema.specs.Tables.{up_to_closed, up_to_meetings, meetings_table as table, sequence}
 use Rattle.desk_schema.specs.Texts.{adding_text, making_text, seq_column}
 use Rattle.desk_schema.specs.Contents.{meetings, without_resolutions, loaded_at, opened_at}
 use Rattle.desk_schema.specs.Statements.{IsDesk, Sets, columns_of, AreEmpty, layout_one, HasTables}

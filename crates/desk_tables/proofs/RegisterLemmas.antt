@@ -17,7 +17,7 @@ use Rattle.desk_rows.specs.Columns.{natural_of, number_in, read_word, spelled, p
 use Rattle.desk_rows.specs.Meetings.{holding_in}
 use Rattle.desk_terms.specs.Kinds.{holder_kind_of}
 use Rattle.desk_terms.specs.Names.{meeting_of, party_of, same_name}
-use Rattle.desk_schema.specs.Tables.{desk_schema, up_to_resolutions, register_table as table}
+use Rattle.desk_schema.specs.Tables.{up_to_resolutions, register_table as table}
 use Rattle.desk_schema.specs.Texts.{adding_text, once_text}
 use Rattle.desk_schema.specs.Contents.{register}
 use Rattle.desk_schema.specs.Statements.{IsDesk, TakesOut, columns_of, layout_one, HasTables}

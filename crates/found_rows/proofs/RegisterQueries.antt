@@ -1,5 +1,5 @@
 -- What is found in `register`.
-use Rattle.std.proofs.Common.{◌≡◌, ℕ, List, [], ◌∷◌, codes, false, Some, refl, ◌∙◌, ◌&&◌}
+use Rattle.std.proofs.Common.{◌≡◌, ℕ, List, [], ◌∷◌, codes, Some, refl, ◌∙◌, ◌&&◌}
 use Rattle.sqlite.specs.declared.types.Value.TheVariants.{Text}
 use Rattle.sqlite.specs.Order.{Row}
 use Rattle.sqlite.specs.Term.{Term, col}
@@ -12,7 +12,6 @@ use Rattle.desk_rows.specs.Meetings.{holding_in}
 use Rattle.desk_terms.specs.Kinds.{holder_kind_of}
 use Rattle.desk_rows.proofs.MeaningLemmas.{bound, option_ap}
 use Rattle.desk_terms.specs.Names.{meeting_of, party_of, same_name}
-use Rattle.desk_schema.specs.Tables.{desk_schema}
 use Rattle.desk_schema.specs.Contents.{register}
 use Rattle.desk_schema.specs.Statements.{columns_of, HasTables, layout_one}
 use Rattle.desk_statements.proofs.Reading.{sought, AsksAs}

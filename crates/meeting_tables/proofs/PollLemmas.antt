@@ -17,7 +17,7 @@ use Rattle.desk_words.specs.declared.records.Poll.{Poll}
 use Rattle.desk_rows.specs.Columns.{flag_in, flag_of, integer_of, moment_in, moment_of_number, natural_of, number_in, natural_value, some_moment_in, some_moment_of, spelled, spelled_of}
 use Rattle.desk_rows.specs.Marks.{declared_in, declared_of, poll_in}
 use Rattle.desk_terms.specs.Names.{meeting_of}
-use Rattle.desk_schema.specs.Tables.{desk_schema, up_to_demands, polls_table as table}
+use Rattle.desk_schema.specs.Tables.{up_to_demands, polls_table as table}
 use Rattle.desk_schema.specs.Texts.{adding_text, once_text}
 use Rattle.desk_schema.specs.Contents.{polls, is_poll_named, started_at, closed_at, declared_as}
 use Rattle.desk_schema.specs.Statements.{IsDesk, Sets, columns_of, layout_one, HasTables}

@@ -1,4 +1,4 @@
-use Rattle.std.proofs.Common.{◌≡◌, Some, Err, Result, arith, ap, sym, subst, ◌∙◌}
+use Rattle.std.proofs.Common.{◌≡◌, Some, Err, Result, arith, ap, sym, subst}
 use Rattle.sqlite.specs.Effect.{Database}
 use Rattle.sqlite.specs.Held.{state}
 use Rattle.sqlite.specs.State.{HasCleanDisk}
@@ -7,7 +7,6 @@ use Rattle.desk_records.specs.Office.{office_in}
 use Rattle.desk_records.specs.Standing.{IsVersionOne, Stands}
 use Rattle.desk_schema.specs.Statements.{HasTables, layout_one}
 use Rattle.desk_tables.proofs.DeskLemmas.{desk_notes}
-use Rattle.desk_tables.specs.Versions.{NotesVersion}
 use Rattle.desk_opening.proofs.OpeningLemmas.{desk_same}
 use Rattle.desk_opening.specs.Rising.{RowsRise}
 use Rattle.desk_opening.specs.Whole.{IsWhole}
