@@ -13,7 +13,7 @@ use Rattle.desk_words.specs.declared.change.Change.TheVariants.{AddMeeting, InMe
 use Rattle.desk_words.specs.declared.change.Entry.{Entry}
 use Rattle.desk_words.specs.declared.change.Entry.TheVariants as entry
 use Rattle.desk_words.specs.declared.change.MeetingChange.{MeetingChange}
-use Rattle.desk_words.specs.declared.change.MeetingChange.TheVariants.{AddPoll, Enter, SetOpened, SetPoll, SetRegister}
+use Rattle.desk_words.specs.declared.change.MeetingChange.TheVariants.{AddPoll, Enter, SetPoll}
 use Rattle.desk_words.specs.declared.change.PollChange.{PollChange}
 use Rattle.desk_words.specs.declared.change.PollChange.TheVariants as poll
 use Rattle.desk_words.specs.declared.office.MeetingLists.{MeetingLists}

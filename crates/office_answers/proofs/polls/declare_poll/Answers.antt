@@ -1,4 +1,4 @@
-use Rattle.std.proofs.Common.{◌≡◌, ◌-◌, true, refl, ap, sym, ◌∙◌, rules}
+use Rattle.std.proofs.Common.{◌≡◌, ◌-◌, true, ap, sym, ◌∙◌, rules}
 use Rattle.std.specs.Prelude.{None}
 use Rattle.std.specs.List.{slice_get}
 use Rattle.desk_words.specs.Office.{is_tally}
@@ -6,7 +6,6 @@ use Rattle.desk_words.specs.Refusals.{first_refusal}
 use Rattle.desk_words.specs.Rulings.{unless}
 use Rattle.desk_words.specs.declared.answer.Answer.{Answer}
 use Rattle.desk_words.specs.declared.change.MeetingChange.{MeetingChange}
-use Rattle.desk_words.specs.declared.records.Tally.{Tally}
 use Rattle.office_answers.specs.Limits.{if_any, is_within_limits}
 use Rattle.office_answers.specs.Polls.{declare_cases, declared_as, declaration_of, result_on}
 use Rattle.office_answers.proofs.CountLemmas.{handed_on, kept_count}
