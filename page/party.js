@@ -134,7 +134,8 @@ export class Party {
 
   blockWords(block) {
     const number = sharesWords(countRuns(block.runs));
-    if (block.as === "member") return `Your own ${number}`;
+    if (block.as === "member" && block.part === "kept") return `Your own ${number} that no proxy has`;
+    if (block.as === "member") return block.part === "all" ? `All your own ${number}: your vote comes before your proxy’s` : `Your own ${number}`;
     if (block.as === "rep") return `${number} of ${block.member}, as its representative`;
     return `${number} of ${block.member}, as proxy` + (block.way === "free" ? "" : `, instructed: ${WORDS[block.way].toLowerCase()}`);
   }
@@ -185,7 +186,7 @@ export class Party {
     const { casts } = this.mine;
     const own = casts.filter((cast) => cast.resolution === resolution.number);
     if (own.length === 0) return stageOf(resolution) === "open" && blocks.length > 0 ? [el("p", { class: "recorded" }, "You have recorded nothing yet.")] : [];
-    return [el("h3", {}, "What you have recorded"), el("ul", { class: "recorded" }, ...blocks.map((block) =>
+    return [el("h3", {}, "What you have recorded"), el("ul", { class: "recorded" }, ...blocks.filter((block) => block.part !== "kept").map((block) =>
       el("li", {}, `${this.blockWords(block)}: ${recordedWords(recordedFor(block, casts, resolution.number))}`)))];
   }
 

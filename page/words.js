@@ -132,12 +132,28 @@ export function takeRuns(runs, number) {
 
 export const WAYS = ["for", "against", "withheld"];
 
-// The blocks of shares on which the caller may vote: {as, member, runs, way}, where `way` is an instruction or "free".
+// The shares of the caller's own that its proxies govern for a poll: of each share the last appointment that counts governs it,
+// and where that one is ended none does.
+export function givenAway(given, late) {
+  let runs = [];
+  for (const item of given) {
+    if (!late && item.use !== "meeting") continue;
+    runs = item.ended === null ? plusRuns(runs, [item.from, item.to]) : minusRuns(runs, [item.from, item.to]);
+  }
+  return runs;
+}
+
+// The blocks of shares on which the caller may vote: {as, member, runs, way}, where `way` is an instruction or "free". A member
+// whose proxies govern some of its shares has two blocks: `part` "kept" for those that no proxy has, and "all".
 export function blocksOf(mine, resolution) {
   const blocks = [];
   const { number, poll } = resolution;
   if (mine.row !== null && mine.row.kind === "individual") {
-    blocks.push({ as: "member", member: null, runs: [[1, mine.row.shares]], way: "free" });
+    const all = [[1, mine.row.shares]];
+    const kept = givenAway(mine.given, poll !== null && poll.late).reduce(minusRuns, all);
+    const own = { as: "member", member: null, way: "free" };
+    if (kept.length > 0 && countRuns(kept) < mine.row.shares) blocks.push({ ...own, runs: kept, part: "kept" });
+    blocks.push({ ...own, runs: all, part: countRuns(kept) < mine.row.shares ? "all" : null });
   }
   for (const { corporation, shares } of mine.authorised) {
     if (shares > 0) blocks.push({ as: "rep", member: corporation, runs: [[1, shares]], way: "free" });
