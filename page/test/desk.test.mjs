@@ -33,7 +33,7 @@ test("a request has one header, its method and no key in its address; one is sen
     await new Promise((done) => setTimeout(done, 5));
     running -= 1;
     sent.push([url, options.method, options.headers, options.body === undefined ? null : new TextDecoder().decode(options.body)]);
-    if (url.endsWith("end")) throw new TypeError("network");
+    if (url.endsWith("/end")) throw new TypeError("network");
     return { status: 200, text: async () => '{"ok":"noted"}' };
   });
   const replies = await Promise.all([desk.ask("k", "G1", "mine"), desk.ask("k", "G1", "end", { number: 1 }), desk.ask("k", "G1", "attend")]);
