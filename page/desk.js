@@ -29,11 +29,15 @@ export class Desk {
   #last = Promise.resolve();
   #fetch;
   #seconds;
+  // How far the front's clock is ahead of this machine's, in milliseconds. The front stands on the desk's machine.
+  ahead = 0;
 
   constructor(fetcher = (...words) => fetch(...words), seconds = 75) {
     this.#fetch = fetcher;
     this.#seconds = seconds;
   }
+
+  now() { return Date.now() + this.ahead; }
 
   // Sends a request once all before it were answered.
   ask(key, meeting, verb, body = null) {
@@ -53,6 +57,8 @@ export class Desk {
         body: body === null ? undefined : new TextEncoder().encode(JSON.stringify(body)),
         cache: "no-store", credentials: "omit", redirect: "error", referrerPolicy: "no-referrer", signal: end.signal,
       });
+      const told = Date.parse(reply.headers?.get("date") ?? "");
+      if (!Number.isNaN(told)) this.ahead = told - Date.now();
       return readReply(reply.status, await reply.text());
     } catch {
       return { is: "fault", what: "none" };

@@ -1,6 +1,6 @@
 // Pieces of the page. All text goes in as text: no string is ever read as HTML.
 
-import { numberWords, sharesWords, resultBar, momentWords } from "./words.js";
+import { numberWords, sharesWords, resultBar, momentWords, cutoffWords } from "./words.js";
 
 const SVG = "http://www.w3.org/2000/svg";
 
@@ -96,18 +96,18 @@ export function resultFigure(number, title, kind, result) {
   const bar = resultBar(kind, result);
   const votes = [["For", result.for], ["Against", result.against]];
   const rest = [["Withheld", result.withheld], ["Not voted", bar.unvoted], ["All shares", result.eligible]];
-  const row = ([name, shares]) => el("tr", {}, el("th", { scope: "row" }, name), el("td", {}, numberWords(shares)));
+  const row = ([name, shares]) => el("tr", { class: name.toLowerCase() }, el("th", { scope: "row" }, name), el("td", {}, numberWords(shares)));
   const picture = svg("svg", { class: "bar", viewBox: "0 0 1000 120", preserveAspectRatio: "none", "aria-hidden": "true" },
     svg("rect", { class: "against", x: 0, y: 20, width: bar.votes === 0 ? 0 : 1000, height: 80 }),
     svg("rect", { class: "for", x: 0, y: 20, width: bar.yes, height: 80 }),
     svg("rect", { class: "frame", x: 0, y: 20, width: 1000, height: 80 }),
-    ...(kind === null ? [] : [svg("line", { class: "line", x1: bar.line, x2: bar.line, y1: 0, y2: 120 })]));
+    ...(kind === null ? [] : ["halo", "line"].map((name) => svg("line", { class: name, x1: bar.line, x2: bar.line, y1: 0, y2: 120 }))));
   return el("figure", { class: `result ${result.carried ? "carried" : "lost"}`, "data-number": String(number) },
     el("figcaption", {}, `Resolution ${number}: ${title}`),
     el("p", { class: "outcome" }, result.carried ? "Carried" : "Lost"),
     el("table", { class: "votes" }, el("tbody", {}, ...votes.map(row))),
     picture,
-    kind === null ? null : el("p", { class: "need" }, `${bar.need} The line shows where that is.`),
+    kind === null ? null : el("p", { class: "need" }, `${bar.need} The dashed line is there.`),
     el("table", { class: "rest" }, el("tbody", {}, ...rest.map(row))));
 }
 
@@ -129,12 +129,12 @@ export function resultWithButton(number, title, kind, result) {
 export const kindWords = (kind) => kind === "special" ? "Special resolution: three quarters of the votes are needed."
   : "Ordinary resolution: more than half of the votes is needed.";
 
-// What the notice says of a meeting, as a list of terms. `left` is filled with how long the cutoff still is.
-export function noticeList(notice) {
+// What the notice says of a meeting, as a list of terms. The page's timer keeps `left` to how long the cutoff still is.
+export function noticeList(notice, now) {
   const name = notice.kind === "annual" ? "Annual general meeting" : "General meeting";
   const rows = [["Meeting", `${name} of a ${notice.company} company, called ${notice.meeting}`],
     ["When", momentWords(notice.appointed)], ["Notice given", momentWords(`${notice.given}T00:00:00`).replace(/ at .*/, "")],
-    ["Last moment for proxies", [momentWords(notice.cutoff) + ". ", el("span", { class: "left", "data-until": notice.cutoff })]],
+    ["Last moment for proxies", [momentWords(notice.cutoff) + ". ", el("span", { class: "left", "data-until": notice.cutoff }, cutoffWords(notice.cutoff, now))]],
     ["Register taken as of", `${momentWords(notice.record)}. ${notice.register ? "It is loaded." : "It is not loaded yet."}`],
     ["Opened", notice.opened === null ? "Not yet" : momentWords(notice.opened)]];
   return el("dl", {}, ...rows.flatMap(([term, words]) => [el("dt", {}, term), el("dd", {}, ...[words].flat())]));

@@ -32,7 +32,7 @@ async function enter(key, meeting, self, second = null) {
     return;
   }
   keep({ key, meeting, self });
-  person = office ? new Office(desk, key, meeting, second, zone, (found) => keep({ second: found })) : new Party(desk, key, meeting, self, reply.value);
+  person = office ? new Office(desk, key, meeting, second, zone, (found) => keep({ second: found })) : new Party(desk, key, meeting, self, zone, reply.value);
   at("enter").hidden = true;
   at("leave").hidden = false;
   at("key").value = "";
@@ -69,7 +69,7 @@ at("leave").addEventListener("click", () => {
 // The countdown of the cutoff, and the questions that the page asks by itself.
 setInterval(async () => {
   if (person === null) return;
-  const now = wallClock(zone);
+  const now = wallClock(zone, desk.now());
   for (const left of document.querySelectorAll(".left")) {
     const words = cutoffWords(left.dataset.until, now);
     if (left.textContent !== words) left.textContent = words;

@@ -22,7 +22,7 @@ export class Office {
       told: new Map() });
   }
 
-  now() { return wallClock(this.zone); }
+  now() { return wallClock(this.zone, this.desk.now()); }
 
   ask(verb, body = null) { return this.desk.ask(this.key, this.meeting, verb, body); }
 
@@ -108,13 +108,15 @@ export class Office {
   }
 
   show() {
-    const sections = [{ id: "second", title: "Second key", sign: [this.second !== null, this.seen], build: () => this.secondKey() }];
+    const second = { id: "second", title: "Second key", sign: [this.second !== null, this.seen], build: () => this.secondKey() };
+    const known = this.seen === "yes" || this.seen === "none";
+    const sections = known ? [] : [second];
     const { notice } = this;
     if (this.seen === "none" || this.second === null || this.seen === "bad") {
       sections.push({ id: "call", title: `Call the meeting ${this.meeting}`, sign: this.seen, build: () => this.call() });
     }
     if (this.seen === "yes") {
-      sections.push({ id: "notice", title: "Notice of the meeting", sign: notice, build: () => [noticeList(notice)] });
+      sections.push({ id: "notice", title: "Notice of the meeting", sign: { ...notice, resolutions: null }, build: () => [noticeList(notice, this.now())] });
     }
     if (this.seen !== "none") {
       sections.push({ id: "presence", title: "Who is present", sign: [this.names, this.marked], build: () => this.presence() });
@@ -131,6 +133,7 @@ export class Office {
     } else if (this.seen !== "none") {
       sections.push({ id: "blind", title: "Steps of the meeting", sign: [...this.told], build: () => this.blind() });
     }
+    if (known) sections.push(second);
     showSections(document.getElementById("view"), sections);
   }
 

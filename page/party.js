@@ -1,7 +1,7 @@
 // The page of a member, proxy or representative.
 
 import { MOST, WAYS, blocksOf, castsOf, recordedFor, recordedWords, countRuns, runsWords, sharesWords, numberWords, momentWords,
-  readNumber, stageOf } from "./words.js";
+  readNumber, stageOf, wallClock } from "./words.js";
 import { stands, isName } from "./desk.js";
 import { sentence, isUnknown } from "./refusals.js";
 import { el, field, nameText, numberText, radios, value, button, form, select, showSections, say, resultWithButton, kindWords,
@@ -10,18 +10,19 @@ import { el, field, nameText, numberText, radios, value, button, form, select, s
 const WORDS = { for: "For", against: "Against", withheld: "Withhold the vote", free: "As the proxy thinks fit" };
 
 export class Party {
-  constructor(desk, key, meeting, self, notice) {
-    Object.assign(this, { desk, key, meeting, self, notice, mine: null, busy: false, pending: null });
+  constructor(desk, key, meeting, self, zone, notice) {
+    Object.assign(this, { desk, key, meeting, self, zone, notice, mine: null, busy: false, pending: null });
   }
 
   ask(verb, body = null) { return this.desk.ask(this.key, this.meeting, verb, body); }
 
-  // Asks for the notice and, unless `lightly`, for the caller's own things, and shows both.
+  // Asks for the notice and, unless `lightly` and the notice is as it was, for the caller's own things, and shows both.
   async refresh(lightly = false) {
     const notice = await this.ask("notice");
+    const same = notice.is === "ok" && JSON.stringify(notice.value) === JSON.stringify(this.notice);
     if (notice.is === "ok") this.notice = notice.value;
     let mine = null;
-    if (!lightly || this.mine === null) {
+    if (!(lightly && same) || this.mine === null) {
       mine = await this.ask("mine");
       if (mine.is === "ok") this.mine = mine.value;
     }
@@ -85,7 +86,7 @@ export class Party {
     const mine = await this.ask("mine");
     this.busy = false;
     if (mine.is !== "ok") {
-      say(`${said} The desk does not answer. The page goes on asking, and sends nothing else.`, "unknown", button("Ask now", () => this.check()));
+      say(`${said} The page goes on asking what stands, and sends nothing else.`, "unknown", button("Ask now", () => this.check()));
       return;
     }
     this.mine = mine.value;
@@ -99,8 +100,8 @@ export class Party {
 
   show() {
     const { notice, mine } = this;
-    const sections = [{ id: "notice", title: "Notice of the meeting", sign: notice,
-      build: () => [noticeList(notice)] }];
+    const sections = [{ id: "notice", title: "Notice of the meeting", sign: { ...notice, resolutions: null },
+      build: () => [noticeList(notice, wallClock(this.zone, this.desk.now()))] }];
     for (const resolution of notice.resolutions) sections.push(this.resolution(resolution));
     sections.push({ id: "you", title: "You at this meeting", sign: [mine.row, mine.present, notice.register], build: () => this.you() });
     sections.push({ id: "given", title: "Your proxies", sign: [mine.given, mine.row], build: () => this.given() });
@@ -157,7 +158,7 @@ export class Party {
     const free = block.as !== "proxy" || block.way === "free";
     const ways = free ? WAYS : [block.way];
     const choice = radios(`${id}-way`, "Your vote", [...ways.map((way) => [way, `${WORDS[way]}: all ${numberWords(all)}`]),
-      ...(free && all > 1 ? [["split", "Split between these"]] : [])], null);
+      ...(free && all > 1 ? [["split", "Split between these"]] : [])], free ? null : block.way);
     const numbers = Object.fromEntries(WAYS.map((way) => [way, numberText()]));
     const split = el("div", { class: "split", hidden: true }, ...WAYS.map((way) => field(`${id}-${way}-shares`, `Shares: ${WORDS[way].toLowerCase()}`, numbers[way])));
     choice.addEventListener("change", () => { split.hidden = value(choice) !== "split"; });
@@ -179,7 +180,7 @@ export class Party {
       const casts = castsOf(block, this.self, number, shares);
       this.act("cast", casts, () => `Your vote is recorded: ${WAYS.filter((each) => shares[each] > 0)
         .map((each) => `${each} on ${sharesWords(shares[each])}`).join(", ")}.`);
-    }, el("h3", {}, this.blockWords(block)), choice, split, el("button", { type: "submit", id: `${id}-send` }, "Send this vote"));
+    }, el("h3", {}, this.blockWords(block)), choice, split, el("button", { type: "submit", id: `${id}-send` }, `Send this vote on resolution ${number}`));
   }
 
   recorded(resolution, blocks) {

@@ -275,10 +275,11 @@ export function checkCall(form, now) {
   return { errors, warnings };
 }
 
-// The names of parties in a file: the first field of each line. null for a file of keys, which does not belong here.
+// The names of parties in a file: the first field of each line, without the holder of treasury shares. null for a file of keys, which does not belong here.
 export function namesIn(text) {
   const lines = text.replace(/^\uFEFF/, "").split(/\r?\n/);
   if (/^party,key/.test(lines[0])) return null;
-  const names = lines.map((line) => line.split(",")[0].trim()).filter((name) => /^[A-Z0-9]{1,16}$/.test(name) && name !== "OFFICE");
+  const names = lines.map((line) => line.split(",")).filter(([, kind]) => kind !== "treasury").map(([name]) => name.trim())
+    .filter((name) => /^[A-Z0-9]{1,16}$/.test(name) && name !== "OFFICE");
   return [...new Set(names)];
 }

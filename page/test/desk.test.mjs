@@ -3,6 +3,8 @@ import { test } from "node:test";
 import assert from "node:assert/strict";
 import { readFileSync } from "node:fs";
 import { Desk, readReply, readKey, isName, stands, stoodByNotice } from "../desk.js";
+import { hindrance } from "../office.js";
+import { momentNumber } from "../words.js";
 import { REFUSALS, FAULTS, sentence, isUnknown, meansDone } from "../refusals.js";
 
 test("replies of the desk and of a front", () => {
@@ -74,6 +76,22 @@ test("refusals that each verb may get, by HTTP.md, have a sentence; a repeated s
   assert.match(sentence({ is: "refused", code: 99 }, "cast"), /\(99\)/);
   assert.match(sentence({ is: "fault", what: 503 }, "cast"), /unknown/);
   assert.ok(!isUnknown({ is: "fault", what: "Memory" }) && !isUnknown({ is: "fault", what: 413 }) && isUnknown({ is: "fault", what: "Store" }) && isUnknown({ is: "fault", what: 502 }));
+});
+
+test("the clock is that of the front", async () => {
+  const desk = new Desk(async () => ({ status: 200, text: async () => '{"ok":"noted"}', headers: new Headers({ date: "Thu, 18 Jun 2026 09:00:00 GMT" }) }));
+  await desk.ask("k", "G1", "attend");
+  assert.ok(Math.abs(desk.now() - Date.UTC(2026, 5, 18, 9)) < 2000);
+});
+
+test("what stands in the way of opening and starting", () => {
+  const notice = { register: true, appointed: "2026-06-18T10:00:00" };
+  const now = momentNumber("2026-06-18T10:00:00");
+  assert.equal(hindrance("open", notice, null, now), null);
+  assert.match(hindrance("open", notice, null, now - 1), /can be opened on Thursday 18 June 2026 at 10:00/);
+  assert.match(hindrance("open", { ...notice, register: false }, null, now), /register is not loaded/);
+  assert.equal(hindrance("start", notice, { poll: { take: "2026-06-18T10:00:00" } }, now), null);
+  assert.match(hindrance("start", notice, { poll: { take: "2026-06-18T10:10:00" } }, now), /can be started/);
 });
 
 test("whether a party's request stands", () => {

@@ -1,9 +1,10 @@
 #!/usr/bin/python3
 """page/test/meeting.py PROGRAM: holds the officer's day by clicking, with three browsers, on a desk of its own.
 
-It starts PROGRAM's `serve`, and page/open in front of it. The desk's clock is six days behind, by libfaketime, until the
-register is loaded, so that a proxy who is appointed then counts at the meeting; the browsers' clocks are moved likewise. From
-the loading on both go by the machine's clock. Pictures of the views are kept in page/test/out.
+It starts PROGRAM's `serve`, and page/open in front of it. Their clocks are six days behind, by libfaketime, until the register is
+loaded, so that a proxy who is appointed then counts at the meeting. From the loading on they go by the machine's clock. Between
+front and desk stands a relay of this test's, which loses a reply where it is told to. Pictures of the views are kept in
+page/test/out.
 """
 import glob
 import json
@@ -15,6 +16,7 @@ import string
 import subprocess
 import sys
 import tempfile
+import threading
 import time
 from datetime import datetime, timedelta
 from zoneinfo import ZoneInfo
@@ -78,9 +80,61 @@ class Served:
                 self.process.wait()
 
 
+def clock(behind):
+    """The environment of a process whose clock is so many seconds behind."""
+    env = dict(os.environ)
+    if behind:
+        found = glob.glob("/usr/lib/*/faketime/libfaketime.so.1")
+        check(found, "libfaketime is not installed")
+        env.update(LD_PRELOAD=found[0], FAKETIME=f"-{behind}s")
+    return env
+
+
+class Relay:
+    """Hands each connection on to the desk, and loses the replies to the next `lose` requests by POST."""
+
+    def __init__(self, port):
+        self.to, self.lose = port, 0
+        self.socket = socket.create_server(("127.0.0.1", 0))
+        self.port = self.socket.getsockname()[1]
+        threading.Thread(target=self.run, daemon=True).start()
+
+    def run(self):
+        while True:
+            client, _ = self.socket.accept()
+            threading.Thread(target=self.hand_on, args=(client,), daemon=True).start()
+
+    def hand_on(self, client):
+        with client:
+            try:
+                desk = socket.create_connection(("127.0.0.1", self.to))
+            except ConnectionRefusedError:
+                return
+            with desk:
+                head = client.recv(65536)
+                desk.sendall(head)
+                threading.Thread(target=self.pump, args=(client, desk), daemon=True).start()
+                reply = b""
+                while part := desk.recv(65536):
+                    reply += part
+                if head.startswith(b"POST") and self.lose > 0:
+                    self.lose -= 1
+                    return
+                client.sendall(reply)
+
+    @staticmethod
+    def pump(client, desk):
+        try:
+            while part := client.recv(65536):
+                desk.sendall(part)
+        except OSError:
+            pass
+
+
 class Desk:
     def __init__(self, program, room):
-        self.program, self.room, self.port, self.served = program, room, free_port(), None
+        self.program, self.room, self.port, self.served, self.fronted = program, room, free_port(), None, None
+        self.relay = Relay(self.port)
         self.keys = {party: "".join(random.SystemRandom().choices(string.ascii_letters + string.digits, k=24)) for party in PARTIES}
         self.write("keys.csv", "party,key\n" + "".join(f"{party},{key}\n" for party, key in self.keys.items()))
         self.write("days.txt", "")
@@ -104,11 +158,7 @@ class Desk:
         return done.stdout
 
     def serve(self, behind):
-        env = dict(os.environ)
-        if behind:
-            found = glob.glob("/usr/lib/*/faketime/libfaketime.so.1")
-            check(found, "libfaketime is not installed")
-            env.update(LD_PRELOAD=found[0], FAKETIME=f"-{behind}s")
+        env = clock(behind)
         words = [self.program, "serve", self.path("gm.desk"), "--port", str(self.port), "--requests", "1000000000"]
         self.served = Served(words, "listening", env)
 
@@ -120,22 +170,13 @@ class Person:
     """A browser, and what is done in it."""
 
     def __init__(self, name, address, desk):
-        self.name, self.address, self.desk, self.moved = name, address, desk, None
+        self.name, self.address, self.desk = name, address, desk
         options = Options()
         for word in ["--headless=new", "--no-sandbox", "--disable-gpu", "--disable-dev-shm-usage", "--window-size=1100,900", "--lang=en-GB", "--disable-background-networking"]:
             options.add_argument(word)
         options.set_capability("goog:loggingPrefs", {"browser": "ALL"})
         self.driver = webdriver.Chrome(service=Service("/usr/bin/chromedriver"), options=options)
         self.driver.set_page_load_timeout(60)
-
-    def move_clock(self, behind):
-        if self.moved:
-            self.driver.execute_cdp_cmd("Page.removeScriptToEvaluateOnNewDocument", {"identifier": self.moved})
-            self.moved = None
-        if behind:
-            script = ("{ const Real = Date, behind = %d; globalThis.Date = class extends Real { constructor(...given) {"
-                      " if (given.length > 0) super(...given); else super(Real.now() - behind); } static now() { return Real.now() - behind; } }; }" % (behind * 1000))
-            self.moved = self.driver.execute_cdp_cmd("Page.addScriptToEvaluateOnNewDocument", {"source": script})["identifier"]
 
     def load(self):
         self.driver.get(self.address)
@@ -293,22 +334,24 @@ def hold(program):
     for old in glob.glob(os.path.join(OUT, "*.png")):
         os.remove(old)
     zone = ZoneInfo("Europe/London")
-    people, front, desk = [], None, None
+    people, desk = [], None
     with tempfile.TemporaryDirectory() as room:
         try:
             desk = Desk(program, room)
             at = free_port()
-            front = Served([os.path.join(HERE, "..", "open"), "--port", str(desk.port), "--at", str(at)], "http://")
-            tell(f"the page is at {front.line}")
-            secretary, member, proxy = people = [Person(name, front.line, desk) for name in ["secretary", "member", "proxy"]]
+            desk.front = lambda behind: Served([os.path.join(HERE, "..", "open"), "--port", str(desk.relay.port), "--at", str(at)], "http://", clock(behind))
+            desk.fronted = desk.front(BEHIND)
+            tell(f"the page is at {desk.fronted.line}")
+            for name in ["secretary", "member", "proxy"]:
+                people.append(Person(name, desk.fronted.line, desk))
             tell("three browsers are open")
-            day(desk, secretary, member, proxy, at, zone)
+            day(desk, *people, at, zone)
             tell(f"{checks} checks held; {len(glob.glob(os.path.join(OUT, '*.png')))} pictures in page/test/out")
         finally:
             for person in people:
                 person.driver.quit()
-            if front:
-                front.end()
+            if desk and desk.fronted:
+                desk.fronted.end()
             if desk and desk.served:
                 desk.stop()
 
@@ -317,8 +360,6 @@ def day(desk, secretary, member, proxy, at, zone):
     begun = datetime.now(zone).replace(microsecond=0, tzinfo=None)
     appointed = (begun + timedelta(seconds=LEAD)).replace(microsecond=0)
     given, record = (appointed - timedelta(days=21)).date(), begun - timedelta(days=1)
-    for person in (secretary, member, proxy):
-        person.move_clock(BEHIND)
 
     tell("with the desk stopped, the page says so")
     member.load()
@@ -373,7 +414,7 @@ def day(desk, secretary, member, proxy, at, zone):
     secretary.shot("04-call")
     secretary.click("#call-send")
     secretary.said("The meeting G1 is called.")
-    secretary.reads("#notice", "Special" if False else "It is not loaded yet")
+    secretary.reads("#notice", "It is not loaded yet")
 
     tell("members appoint proxies, end one, and authorise")
     member.enter("M1")
@@ -408,11 +449,11 @@ def day(desk, secretary, member, proxy, at, zone):
     tell("the register is loaded while the desk is stopped")
     desk.stop()
     member.click("#attend")
-    member.said("The page goes on asking")
+    member.said("The page goes on asking what stands")
     member.shot("06-unknown")
     desk.run("register", "gm.desk", "G1", record.isoformat(), "register.csv")
-    for person in (secretary, member, proxy):
-        person.move_clock(0)
+    desk.fronted.end()
+    desk.fronted = desk.front(0)
     desk.serve(0)
     member.said("it was not done. You can send it again.")
 
@@ -440,13 +481,13 @@ def day(desk, secretary, member, proxy, at, zone):
     secretary.click("#presence-send")
     secretary.said("R is marked as present.")
     secretary.shot("07-presence")
-    secretary.click_after = None
     secretary.wait("#open-send", seconds=LEAD + 60)
     secretary.click("#open-send")
     secretary.said("The meeting is opened.")
 
     tell("a poll on a demand, and one by the chair")
-    member.reads("#notice", "Opened", 40)
+    # The member's page shows by itself that the meeting is opened.
+    member.until(lambda: "Not yet" not in member.find("#notice").text, "sees that the meeting is opened")
     member.click("#demand-1")
     member.said("Your demand is noted.")
     secretary.click("#by-1-demand")
@@ -464,8 +505,10 @@ def day(desk, secretary, member, proxy, at, zone):
     proxy.wait("#vote-2-1")
     proxy.look_over("proxy during the poll")
     proxy.shot("09-proxy-poll")
+    desk.relay.lose = 1
     proxy.click("#instructed-1")
-    proxy.said("Your vote as instructed is recorded.")
+    proxy.said("No reply came, but it was done: the desk has it.")
+    check(desk.relay.lose == 0, "a reply was lost")
     proxy.reads("#resolution-1 .recorded", "for on 60 shares (1 to 60)")
     proxy.click("#vote-2-1-way-for")
     proxy.click("#vote-2-1-send")
@@ -515,8 +558,9 @@ def day(desk, secretary, member, proxy, at, zone):
     tell("close and declare; the pages of the others show it by themselves")
     secretary.shot("12-secretary-poll")
     for number in "12":
+        desk.relay.lose = 1
         secretary.click(f"#close-{number}")
-        secretary.said(f"The voting is closed on resolution {number}.")
+        secretary.said(f"No reply came, but it was done. The voting is closed on resolution {number}.")
         secretary.click(f"#declare-{number}")
         secretary.said(f"The result is declared of resolution {number}.")
     expected = {"1": ("Carried", [110, 80, 0, 0, 190]), "2": ("Lost", [60, 50, 40, 40, 190])}
@@ -556,6 +600,15 @@ def day(desk, secretary, member, proxy, at, zone):
     member.wait("#resolution-1 .result")
     member.leave()
     check(member.driver.execute_script("return sessionStorage.length") == 0, "leaving forgets the key")
+
+    tell("without a second key a step whose reply was lost is sent again")
+    secretary.enter("OFFICE")
+    desk.relay.lose = 1
+    secretary.click("#open-send")
+    secretary.said("Sending the same again does no harm")
+    secretary.click("#reply button")
+    secretary.said("It was done the first time. The meeting is opened.")
+    secretary.look_over("without a second key")
 
     desk.stop()
     printed = desk.run("results", "gm.desk", "G1")

@@ -137,6 +137,6 @@ test("a call is checked before it is sent", () => {
 
 test("names from a file, and not from the keys", () => {
   assert.deepEqual(w.namesIn("OFFICE\nM1\r\nM2\n\nM1\n"), ["M1", "M2"]);
-  assert.deepEqual(w.namesIn("member,kind,name,shares,paid\nM1,individual,Ada,100,100\n"), ["M1"]);
+  assert.deepEqual(w.namesIn("member,kind,name,shares,paid\nM1,individual,Ada,100,100\nT1,treasury,Own,1,1\n"), ["M1"]);
   assert.equal(w.namesIn("party,key\nM1,zzzzzzzzzzzzzzzz\n"), null);
 });
