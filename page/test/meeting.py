@@ -86,7 +86,8 @@ def clock(behind):
     if behind:
         found = glob.glob("/usr/lib/*/faketime/libfaketime.so.1")
         check(found, "libfaketime is not installed")
-        env.update(LD_PRELOAD=found[0], FAKETIME=f"-{behind}s")
+        # nginx drops its environment, which libfaketime would else read again after ten seconds.
+        env.update(LD_PRELOAD=found[0], FAKETIME=f"-{behind}s", FAKETIME_CACHE_DURATION="1000000")
     return env
 
 
@@ -109,7 +110,7 @@ class Relay:
             try:
                 desk = socket.create_connection(("127.0.0.1", self.to))
             except ConnectionRefusedError:
-                return
+                return  # The desk is stopped.
             with desk:
                 head = client.recv(65536)
                 desk.sendall(head)
@@ -119,8 +120,10 @@ class Relay:
                     reply += part
                 if head.startswith(b"POST") and self.lose > 0:
                     self.lose -= 1
-                    return
-                client.sendall(reply)
+                else:
+                    client.sendall(reply)
+                # The other thread may still wait in it, and then closing alone would say nothing to the front.
+                client.shutdown(socket.SHUT_RDWR)
 
     @staticmethod
     def pump(client, desk):
