@@ -342,7 +342,7 @@ def hold(program):
         try:
             desk = Desk(program, room)
             at = free_port()
-            desk.front = lambda behind: Served([os.path.join(HERE, "..", "open"), "--port", str(desk.relay.port), "--at", str(at)], "http://", clock(behind))
+            desk.front = lambda behind: Served([os.path.join(HERE, "..", "open"), "--port", str(desk.relay.port), "--at", str(at)], "http://", dict(clock(behind), TMPDIR=room))
             desk.fronted = desk.front(BEHIND)
             tell(f"the page is at {desk.fronted.line}")
             for name in ["secretary", "member", "proxy"]:
@@ -588,7 +588,7 @@ def day(desk, secretary, member, proxy, at, zone):
     secretary.shot("16-printed", 794)
     secretary.driver.execute_cdp_cmd("Emulation.setEmulatedMedia", {"media": ""})
 
-    tell("nothing is kept beyond the tab, and peers that sent a part of a request were cut off")
+    tell("nothing is kept beyond the tab, no key is logged, and peers that sent a part of a request were cut off")
     for person in (secretary, member, proxy):
         kept = person.driver.execute_script("return [localStorage.length, sessionStorage.length, document.cookie.length]")
         check(kept == [0, 0, 0], f"{person.name} kept {kept}")
@@ -603,6 +603,12 @@ def day(desk, secretary, member, proxy, at, zone):
     member.wait("#resolution-1 .result")
     member.leave()
     check(member.driver.execute_script("return sessionStorage.length") == 0, "leaving forgets the key")
+
+    logs = glob.glob(desk.path("*/access.log"))
+    check(len(logs) == 1, f"one log of the front's: {logs}")
+    with open(logs[0]) as file:
+        logged = file.read()
+    check("/m/G1/cast" in logged and not any(key in logged for key in desk.keys.values()), "the front logs requests, and no key")
 
     tell("without a second key a step whose reply was lost is sent again")
     secretary.enter("OFFICE")
