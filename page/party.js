@@ -162,7 +162,7 @@ export class Party {
     const numbers = Object.fromEntries(WAYS.map((way) => [way, numberText()]));
     const split = el("div", { class: "split", hidden: true }, ...WAYS.map((way) => field(`${id}-${way}-shares`, `Shares: ${WORDS[way].toLowerCase()}`, numbers[way])));
     choice.addEventListener("change", () => { split.hidden = value(choice) !== "split"; });
-    return form(id, () => {
+    const ballot = form(id, () => {
       const way = value(choice);
       if (way === null) return say("Choose how you vote.", "bad");
       if (block.as === "member" && !isName(this.self)) {
@@ -180,7 +180,9 @@ export class Party {
       const casts = castsOf(block, this.self, number, shares);
       this.act("cast", casts, () => `Your vote is recorded: ${WAYS.filter((each) => shares[each] > 0)
         .map((each) => `${each} on ${sharesWords(shares[each])}`).join(", ")}.`);
-    }, el("h3", {}, this.blockWords(block)), choice, split, el("button", { type: "submit", id: `${id}-send` }, `Send this vote on resolution ${number}`));
+    }, el("h3", { id: `${id}-title` }, this.blockWords(block)), choice, split, el("button", { type: "submit", id: `${id}-send` }, `Send this vote on resolution ${number}`));
+    ballot.setAttribute("aria-labelledby", `${id}-title`);
+    return ballot;
   }
 
   recorded(resolution, blocks) {
@@ -188,7 +190,7 @@ export class Party {
     const own = casts.filter((cast) => cast.resolution === resolution.number);
     if (own.length === 0) return stageOf(resolution) === "open" && blocks.length > 0 ? [el("p", { class: "recorded" }, "You have recorded nothing yet.")] : [];
     return [el("h3", {}, "What you have recorded"), el("ul", { class: "recorded" }, ...blocks.filter((block) => block.part !== "kept").map((block) =>
-      el("li", {}, `${this.blockWords(block)}: ${recordedWords(recordedFor(block, casts, resolution.number))}`)))];
+      el("li", {}, `${this.blockWords({ ...block, part: null })}: ${recordedWords(recordedFor(block, casts, resolution.number))}`)))];
   }
 
   you() {

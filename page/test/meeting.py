@@ -156,7 +156,8 @@ class Desk:
 
     def run(self, *words):
         done = subprocess.run([self.program, *words], cwd=self.room, capture_output=True, text=True)
-        tell(f"$ desk {' '.join(words)}: {(done.stdout + done.stderr).strip() if len(done.stdout) < 80 else ''}")
+        said = (done.stdout + done.stderr).strip()
+        tell(f"$ desk {' '.join(words)}: {said if len(said) < 80 else 'printed'}")
         check(done.returncode == 0, f"desk {words}: status {done.returncode}")
         return done.stdout
 
