@@ -7,6 +7,7 @@ front and desk stands a relay of this test's, which loses a reply where it is to
 page/test/out.
 """
 import glob
+import http.client
 import json
 import os
 import random
@@ -321,6 +322,26 @@ def slow_peers(port):
     return peers
 
 
+def front_takes(desk, at):
+    """What the front hands on and what it keeps from the desk."""
+
+    def ask(method, target, body=None, more=None, chunked=False):
+        front = http.client.HTTPConnection("127.0.0.1", at, timeout=30)
+        front.request(method, target, body, {"Desk-Key": desk.keys["M1"], **(more or {})}, encode_chunked=chunked)
+        reply = front.getresponse()
+        return reply.status, reply.read()
+
+    many = {f"X-{number}": "y" for number in range(40)}
+    check(ask("GET", "/m/G1/mine", more=many)[0] == 200, "of 40 headers only the key is handed on")
+    status, reply = ask("POST", "/m/G1/end", iter([b'{"number"', b":9}"]), {"Transfer-Encoding": "chunked"}, True)
+    check((status, json.loads(reply)["code"]) == (409, 16), "a body in chunks is handed on whole")
+    check(ask("POST", "/m/G1/end", b" " * 65537)[0] == 413, "a body of 65,537 bytes is not handed on")
+    status, reply = ask("POST", "/m/G1/end", b" " * 65536)
+    check((status, json.loads(reply)["code"]) == (400, 5), "a body of 65,536 bytes is")
+    for target in ["/README.md", "/open", "/package.json", "/test/run", "/test/meeting.py"]:
+        check(ask("GET", target)[0] == 404, f"{target} is not served")
+
+
 def cut_off(peer):
     peer.settimeout(30)
     try:
@@ -597,6 +618,7 @@ def day(desk, secretary, member, proxy, at, zone):
     for person in (secretary, member, proxy):
         kept = person.driver.execute_script("return [localStorage.length, sessionStorage.length, document.cookie.length]")
         check(kept == [0, 0, 0], f"{person.name} kept {kept}")
+    front_takes(desk, at)
     check(all(cut_off(peer) for peer in peers), "slow peers are cut off")
     member.load()
     member.click("#keep")
