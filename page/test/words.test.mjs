@@ -1,0 +1,142 @@
+// The page's functions that do not touch the page, under Node: node --test page/test/*.test.mjs
+import { test } from "node:test";
+import assert from "node:assert/strict";
+import * as w from "../words.js";
+
+test("days and moments are those of the calendar from 1900 to 2999", () => {
+  assert.equal(w.dayNumber("1970-01-01"), 0);
+  assert.equal(w.dayNumber("2026-02-29"), null);
+  assert.equal(w.dayNumber("2024-02-29"), 19782);
+  assert.equal(w.dayNumber("1899-12-31"), null);
+  assert.equal(w.dayNumber("3000-01-01"), null);
+  assert.equal(w.momentNumber("1900-01-01T00:00:00"), -2208988800);
+  assert.equal(w.momentNumber("2999-12-31T23:59:59"), 32503679999);
+  assert.equal(w.momentNumber("2026-06-18T24:00:00"), null);
+  assert.equal(w.fullMoment("2026-06-18T10:00"), "2026-06-18T10:00:00");
+  assert.equal(w.fullMoment("T10:00"), null);
+  assert.equal(w.momentText(w.momentNumber("2026-06-18T10:00:05")), "2026-06-18T10:00:05");
+});
+
+test("moments and lengths in words", () => {
+  assert.equal(w.momentWords("2026-06-18T10:00:00"), "Thursday 18 June 2026 at 10:00");
+  assert.equal(w.momentWords("2026-06-18T10:00:07"), "Thursday 18 June 2026 at 10:00:07");
+  assert.equal(w.lengthWords(2 * 86400 + 3 * 3600 + 59), "2 days 3 hours");
+  assert.equal(w.lengthWords(3600), "1 hour");
+  assert.equal(w.lengthWords(0), "no time");
+  const now = w.momentNumber("2026-06-16T09:00:00");
+  assert.equal(w.cutoffWords("2026-06-16T10:00:00", now), "That is in 1 hour.");
+  assert.equal(w.cutoffWords("2026-06-16T08:59:00", now), "That was 1 minute ago.");
+  assert.match(w.cutoffWords("1900-01-01T00:00:00", now), /no time for proxies/);
+});
+
+test("the wall clock of the United Kingdom has summer time", () => {
+  assert.equal(w.momentText(w.wallClock("Europe/London", Date.UTC(2026, 5, 18, 9, 0, 0))), "2026-06-18T10:00:00");
+  assert.equal(w.momentText(w.wallClock("Europe/London", Date.UTC(2026, 11, 18, 9, 0, 0))), "2026-12-18T09:00:00");
+});
+
+test("numbers up to 10^12 are exact", () => {
+  assert.equal(w.readNumber("1,000,000,000,000"), 1000000000000);
+  assert.equal(w.readNumber("999 999 999 999"), 999999999999);
+  assert.equal(w.readNumber("1000000000001"), null);
+  for (const bad of ["", "-1", "1.5", "1e3", "0x10", "١", "99999999999999"]) assert.equal(w.readNumber(bad), null);
+  assert.equal(w.numberWords(1000000000000), "1,000,000,000,000");
+  assert.equal(JSON.stringify({ to: w.MOST }), '{"to":1000000000000}');
+  assert.equal(w.sharesWords(1), "1 share");
+});
+
+test("runs of shares", () => {
+  assert.deepEqual(w.minusRuns([[1, 100]], [41, 60]), [[1, 40], [61, 100]]);
+  assert.deepEqual(w.minusRuns([[1, 100]], [1, 100]), []);
+  assert.deepEqual(w.plusRuns([[1, 40], [61, 100]], [41, 60]), [[1, 100]]);
+  assert.deepEqual(w.plusRuns([[10, 20]], [1, 5]), [[1, 5], [10, 20]]);
+  assert.deepEqual(w.takeRuns([[1, 3], [7, 9]], 4), [[[1, 3], [7, 7]], [[8, 9]]]);
+  assert.deepEqual(w.takeRuns([[1, 3]], 0), [[], [[1, 3]]]);
+  assert.equal(w.countRuns([[1, w.MOST]]), w.MOST);
+  assert.equal(w.runsWords([[1, 40], [50, 50]]), "1 to 40, 50");
+  // Against a plain set of places.
+  let seed = 7;
+  const next = (most) => (seed = seed * 48271 % 2147483647) % most;
+  for (let round = 0; round < 300; round += 1) {
+    let runs = [];
+    const set = new Set();
+    for (let step = 0; step < 8; step += 1) {
+      const from = 1 + next(20), to = from + next(6), more = next(2) === 1;
+      runs = more ? w.plusRuns(runs, [from, to]) : w.minusRuns(runs, [from, to]);
+      for (let place = from; place <= to; place += 1) more ? set.add(place) : set.delete(place);
+    }
+    assert.deepEqual(runs.flatMap(([from, to]) => Array.from({ length: to - from + 1 }, (_, place) => from + place)), [...set].sort((a, b) => a - b));
+    assert.ok(runs.every(([from], place) => place === 0 || runs[place - 1][1] + 1 < from));
+  }
+});
+
+const mine = (more) => ({ authorised: [], casts: [], demands: [], given: [], persons: [], present: true, received: [], row: null, ...more });
+const open = { number: 2, kind: "special", text: "x", poll: { late: false, result: null, closed: null, started: "x" } };
+
+test("the blocks that may be voted", () => {
+  const row = { kind: "individual", name: "Ada", paid: 100, shares: 100 };
+  assert.deepEqual(w.blocksOf(mine({ row }), open).map(({ as, runs, part }) => [as, runs, part]), [["member", [[1, 100]], null]]);
+  const given = [{ from: 1, to: 60, ended: null, use: "meeting" }, { from: 50, to: 90, ended: "x", use: "meeting" }, { from: 1, to: 100, ended: null, use: "later polls only" }];
+  assert.deepEqual(w.blocksOf(mine({ row, given }), open).map(({ runs, part }) => [runs, part]), [[[[50, 100]], "kept"], [[[1, 100]], "all"]]);
+  const late = { ...open, poll: { ...open.poll, late: true } };
+  assert.deepEqual(w.blocksOf(mine({ row, given }), late).map(({ runs, part }) => [runs, part]), [[[[1, 100]], "all"]]);
+  assert.deepEqual(w.blocksOf(mine({ row: { ...row, kind: "corporation" } }), open), []);
+  assert.deepEqual(w.blocksOf(mine({ authorised: [{ corporation: "C1", shares: 50 }, { corporation: "T1", shares: 0 }] }), open).map(({ member, runs }) => [member, runs]), [["C1", [[1, 50]]]]);
+  const received = [{ member: "M1", governs: [[1, 60]], instructions: ["for", "free"], polls: [{ governs: [[2, 3]], resolution: 2 }] },
+    { member: "M1", governs: [[61, 70]], instructions: ["for", "free"], polls: [] }, { member: "M2", governs: [], instructions: ["free", "free"], polls: [] }];
+  assert.deepEqual(w.blocksOf(mine({ received }), open), [{ as: "proxy", member: "M1", runs: [[1, 70]], way: "free" }]);
+  assert.deepEqual(w.blocksOf(mine({ received }), late), [{ as: "proxy", member: "M1", runs: [[2, 3]], way: "free" }]);
+});
+
+test("casts for a block, in parts and split, and what was recorded", () => {
+  const block = { as: "proxy", member: "M1", runs: [[1, 40], [61, 100]], way: "free" };
+  assert.deepEqual(w.castsOf(block, "P", 1, { for: 80 }), [
+    { resolution: 1, as: "proxy", member: "M1", from: 1, to: 40, way: "for" }, { resolution: 1, as: "proxy", member: "M1", from: 61, to: 100, way: "for" }]);
+  const casts = w.castsOf(block, "P", 1, { for: 50, against: 20, withheld: 1 });
+  assert.deepEqual(casts.map(({ from, to, way }) => [from, to, way]), [[1, 40, "for"], [61, 70, "for"], [71, 90, "against"], [91, 91, "withheld"]]);
+  const told = w.recordedFor(block, [...casts, { resolution: 1, as: "proxy", member: "M1", from: 30, to: 65, way: "withheld" }, { resolution: 2, as: "proxy", member: "M1", from: 1, to: 100, way: "against" }], 1);
+  assert.deepEqual(told, { for: [[1, 29], [66, 70]], against: [[71, 90]], withheld: [[30, 40], [61, 65], [91, 91]] });
+  assert.equal(w.recordedWords({ for: [[1, 29], [66, 70]], against: [], withheld: [] }), "for on 34 shares (1 to 29, 66 to 70)");
+  const own = { as: "member", member: null, runs: [[1, 100]], way: "free" };
+  assert.deepEqual(w.castsOf(own, "M1", 1, { against: 100 }), [{ resolution: 1, as: "member", member: "M1", from: 1, to: 100, way: "against" }]);
+  const bound = { ...block, way: "for" };
+  assert.deepEqual(w.recordedFor(bound, [{ as: "instructed", resolution: 1 }], 1).for, block.runs);
+});
+
+test("stages, asking again and the bar", () => {
+  const stage = (poll) => w.stageOf({ poll });
+  const poll = { result: null, closed: null, started: null };
+  assert.deepEqual([null, poll, { ...poll, started: "x" }, { ...poll, started: "x", closed: "x" }, { ...poll, result: {} }].map(stage), ["no poll", "ordered", "open", "closed", "declared"]);
+  const notice = (polls) => ({ appointed: "2026-06-18T10:00:00", resolutions: polls.map((each) => ({ poll: each })) });
+  const now = w.momentNumber("2026-06-01T10:00:00");
+  assert.equal(w.askAgain(notice([null, { ...poll, started: "x" }]), now), 5);
+  assert.equal(w.askAgain(notice([null, poll]), now), 15);
+  assert.equal(w.askAgain(notice([null]), now), 0);
+  assert.equal(w.askAgain(notice([null]), w.momentNumber("2026-06-18T09:30:00")), 15);
+  assert.equal(w.askAgain(notice([{ ...poll, result: {} }]), w.momentNumber("2026-06-18T09:30:00")), 0);
+  const bar = w.resultBar("special", { for: 60, against: 50, withheld: 40, eligible: 190, carried: false });
+  assert.deepEqual([bar.yes, bar.line, bar.votes, bar.unvoted], [545, 750, 110, 40]);
+  assert.equal(w.resultBar("ordinary", { for: 0, against: 0, withheld: 0, eligible: 5, carried: false }).yes, 0);
+});
+
+test("a call is checked before it is sent", () => {
+  const now = w.momentNumber("2026-06-01T09:00:00");
+  const call = { meeting: "G1", company: "private", kind: "general", given: "2026-06-01", appointed: "2026-06-18T10:00:00", record: "2026-06-16T18:00:00", resolutions: [["ordinary", "To receive the accounts"]] };
+  const told = (more) => { const { errors, warnings } = w.checkCall({ ...call, ...more }, now); return [errors.map((error) => error.field), warnings.length]; };
+  assert.deepEqual(told({}), [[], 0]);
+  assert.deepEqual(told({ appointed: "2026-06-16T10:00:00", record: "2026-06-15T18:00:00" }), [[], 0]);
+  assert.deepEqual(told({ appointed: "2026-06-15T10:00:00", record: "2026-06-14T18:00:00" })[0], ["call-appointed"]);
+  assert.deepEqual(told({ company: "public", kind: "annual" })[0], ["call-appointed"]);
+  assert.deepEqual(told({ company: "public", kind: "annual", appointed: "2026-06-23T10:00:00" })[0], []);
+  assert.match(w.checkCall({ ...call, record: "2026-06-18T10:00:01" }, now).warnings[0], /record moment is after/);
+  assert.match(w.checkCall({ ...call, given: "2025-06-01" }, now).warnings[0], /different years/);
+  assert.deepEqual(told({ given: "", appointed: "", record: "", meeting: "g1", resolutions: [] })[0], ["call-name", "call-given", "call-appointed", "call-record", "call-add"]);
+  assert.deepEqual(told({ resolutions: [["special", ""]] })[0], ["call-text-1"]);
+  assert.deepEqual(told({ resolutions: [["special", "é".repeat(101)]] })[0], ["call-text-1"]);
+  assert.deepEqual(told({ resolutions: [["special", "é".repeat(100)]] })[0], []);
+});
+
+test("names from a file, and not from the keys", () => {
+  assert.deepEqual(w.namesIn("OFFICE\nM1\r\nM2\n\nM1\n"), ["M1", "M2"]);
+  assert.deepEqual(w.namesIn("member,kind,name,shares,paid\nM1,individual,Ada,100,100\nT1,treasury,Own,1,1\n"), ["M1"]);
+  assert.equal(w.namesIn("party,key\nM1,zzzzzzzzzzzzzzzz\n"), null);
+});
