@@ -76,14 +76,19 @@ KeepsOthersIn layout changed old new =
     (number : ℕ) → IsTrue (has_table layout number) → number ≢ changed
     → new.now.trees number ≡ old.now.trees number
 
--- what the rows of a table mean is changed, and nothing else; the database lists its tables and
--- obeys their declarations
+-- no table, index or view is made, changed or dropped
+abbrev pub DeclaresNothing : State → State → Type 0
+DeclaresNothing old new = new.now.schema ≡ old.now.schema
+
+-- what the rows of a table mean is changed, and nothing else: nothing is declared; the database
+-- lists its tables and obeys their declarations
 pub record ChangesIn {A : Type 0} (layout : Layout) (table : TableOf A) (change : List A → List A)
     (old new : State) : Type 0 where
   pub records : (was : List A)
       → records_in table old.now.trees ≡ Some was
       → records_in table new.now.trees ≡ Some (change was)
   pub others : KeepsOthersIn layout table.number old new
+  pub schema : DeclaresNothing old new
   pub desk : IsDeskOf layout new
   pub inside : IsTrue new.in_transaction
   pub sound : IsDatabase new.now

@@ -16,7 +16,7 @@ use Rattle.sqlite.specs.Listing.{understood}
 use Rattle.sqlite.specs.State.{State, ExecutesInside}
 use Rattle.sqlite.proofs.Callers.{IsPlain, command_of, statement_of, runs_as}
 use Rattle.sqlite_trees.proofs.TreeLemmas.{IsShaped-put_row}
-use Rattle.desk_schema.specs.Statements.{Layout, HasTables, TableOf, columns_of, has_table, IsDeskOf, IsRising, KeepsOthersIn, ChangesIn}
+use Rattle.desk_schema.specs.Statements.{Layout, HasTables, TableOf, columns_of, has_table, IsDeskOf, IsRising, KeepsOthersIn, ChangesIn, DeclaresNothing}
 use Rattle.desk_schema.specs.Texts.{adding_text, given_names}
 use Rattle.std.specs.List.{AllByRecursion, range_with_len}
 use Rattle.desk_statements.proofs.Seq.{IsBelow, chosen_by, put_last, below_chosen}
@@ -30,6 +30,7 @@ pub record AddsRow (layout : Layout) (number : ℕ) (cells : Row) (old new : Sta
   pub id : ℤ
   pub rows : new.now.trees number ≡ old.now.trees number ++ (Int id ∷ cells) ∷ []
   pub others : KeepsOthersIn layout number old new
+  pub schema : DeclaresNothing old new
   pub desk : IsDeskOf layout new
   pub inside : IsTrue new.in_transaction
   pub sound : IsDatabase new.now
@@ -60,7 +61,7 @@ module _ {layout : Layout} {schema : Schema} (apart : AreApart layout schema) (a
       let kept = λ (number : ℕ) (is_one : IsTrue (has_table layout number)) (other : number ≢ table.tree). i.kept apart.counts apart.counted number is_one (no_count apart number is_one) ∙ step apart db i.mid (insert_edit db table i.counter (rows_of_values table params width terms)) i.put number is_one other in
       let last_is = put_last row (db table.tree) (below_chosen table.is_counted last (db table.tree) up) in
       let rises : IsRising (new.now.trees table.tree) = subst IsRising (sym (mine ∙ sym last_is)) (IsShaped-put_row row (db table.tree) refl up) in
-      record { id = id; rows = mine; others = kept; desk = still_desk table.tree old new was (i.same_schema ∙ sym has) kept rises; inside = w.shown.mode ∙ inside; sound = w.sound }
+      record { id = id; rows = mine; others = kept; schema = i.same_schema ∙ sym has; desk = still_desk table.tree old new was (i.same_schema ∙ sym has) kept rises; inside = w.shown.mode ∙ inside; sound = w.sound }
 
 -- a row with a number of its own, above the others, keeps it and stands last
 placed_so : (counts : Bool) (last : ℤ) (rows : List Row) (id : ℤ) (cells : Row) → AllByRecursion (IsBelow id) rows
@@ -86,13 +87,14 @@ module _ {layout : Layout} {schema : Schema} (apart : AreApart layout schema) (a
       let mine : new.now.trees table.tree ≡ db table.tree ++ row ∷ [] = i.kept apart.counts apart.counted table.tree numbered_so (no_count apart table.tree numbered_so) ∙ i.put.rows ∙ put in
       let kept = λ (number : ℕ) (is_one : IsTrue (has_table layout number)) (other : number ≢ table.tree). i.kept apart.counts apart.counted number is_one (no_count apart number is_one) ∙ step apart db i.mid (insert_edit db table i.counter (rows_of_values table params width terms)) i.put number is_one other in
       let rises : IsRising (new.now.trees table.tree) = subst IsRising (sym (mine ∙ sym (put_last row (db table.tree) below))) (IsShaped-put_row row (db table.tree) refl (was.rising table.tree numbered_so)) in
-      (record { id = id; rows = mine; others = kept; desk = still_desk table.tree old new was (i.same_schema ∙ sym has) kept rises; inside = w.shown.mode ∙ inside; sound = w.sound }, refl)
+      (record { id = id; rows = mine; others = kept; schema = i.same_schema ∙ sym has; desk = still_desk table.tree old new was (i.same_schema ∙ sym has) kept rises; inside = w.shown.mode ∙ inside; sound = w.sound }, refl)
 
 -- what the new row means is added to what the rows mean
 pub means_more : {A : Type 0} {layout : Layout} (it : TableOf A) (cells : Row) (added : A) (old new : State) (h : AddsRow layout it.number cells old new) → it.means (columns_of it (Int h.id ∷ cells)) ≡ Some added → ChangesIn layout it (λ was. was ++ added ∷ []) old new
 means_more it cells added old new h means = record {
   records = λ was known. rw h.rows (records_added it (old.now.trees it.number) (Int h.id ∷ cells) was added known means);
   others = h.others;
+  schema = h.schema;
   desk = h.desk;
   inside = h.inside;
   sound = h.sound;

@@ -14,7 +14,7 @@ use Rattle.sqlite.proofs.Callers.{IsPlain, command_of, statement_of, runs_as}
 use Rattle.sqlite_trees.proofs.TreeLemmas.{IsShaped-filter}
 use Rattle.sqlite_trees.specs.declared.store.Shape.TheVariants as shape
 use Rattle.desk_rows.specs.Meanings.{all_mean}
-use Rattle.desk_schema.specs.Statements.{Layout, TableOf, columns_of, has_table, IsDeskOf, IsRising, KeepsOthersIn, ChangesIn}
+use Rattle.desk_schema.specs.Statements.{Layout, TableOf, columns_of, has_table, IsDeskOf, IsRising, KeepsOthersIn, ChangesIn, DeclaresNothing}
 use Rattle.desk_statements.proofs.Deleting.{chosen, passes, deleted}
 use Rattle.desk_statements.proofs.Frames.{AreApart, still_desk}
 use Rattle.desk_statements.proofs.GivenNumbers.{each_means}
@@ -23,6 +23,7 @@ use Rattle.desk_statements.proofs.GivenNumbers.{each_means}
 pub record LeavesRows (layout : Layout) (number : ℕ) (left : Row → Bool) (old new : State) : Type 0 where
   pub rows : new.now.trees number ≡ filter left (old.now.trees number)
   pub others : KeepsOthersIn layout number old new
+  pub schema : DeclaresNothing old new
   pub desk : IsDeskOf layout new
   pub inside : IsTrue new.in_transaction
   pub sound : IsDatabase new.now
@@ -41,6 +42,7 @@ module _ {layout : Layout} {schema : Schema} (apart : AreApart layout schema) (a
       record {
         rows = d.left;
         others = d.kept;
+        schema = d.same_schema ∙ sym has;
         desk = still_desk table.tree old new was (d.same_schema ∙ sym has) d.kept (subst IsRising (sym d.left) (IsShaped-filter shape.Table (λ row. not (passes tests params row)) (old.now.trees table.tree) up));
         inside = w.shown.mode ∙ inside;
         sound = w.sound;
@@ -56,6 +58,7 @@ empties layout it old new (Err e) h = tt
 empties layout it old new (Ok count) h = record {
   records = λ was known. rw (h.rows, none_left (old.now.trees it.number)) refl;
   others = h.others;
+  schema = h.schema;
   desk = h.desk;
   inside = h.inside;
   sound = h.sound;
@@ -84,6 +87,7 @@ module _ {A : Type 0} (it : TableOf A) (chooses : Row → Bool) (test : A → Bo
   takes_out layout old new (Ok count) h = record {
     records = λ was known. rw h.rows (taken_out (old.now.trees it.number) was known);
     others = h.others;
+    schema = h.schema;
     desk = h.desk;
     inside = h.inside;
     sound = h.sound;

@@ -32,7 +32,7 @@ use Rattle.sqlite_trees.specs.View.{is_int}
 use Rattle.sqlite_trees.proofs.TreeLemmas.{IsTable-put_row}
 use Rattle.sqlite_trees.proofs.ListLemmas.{all-permutation, ascending-filter}
 use Rattle.desk_rows.specs.Meanings.{all_mean}
-use Rattle.desk_schema.specs.Statements.{Layout, TableOf, columns_of, has_table, IsDeskOf, IsRising, KeepsOthersIn, ChangesIn}
+use Rattle.desk_schema.specs.Statements.{Layout, TableOf, columns_of, has_table, IsDeskOf, IsRising, KeepsOthersIn, ChangesIn, DeclaresNothing}
 use Rattle.desk_statements.proofs.Deleting.{picked, picked_rows, left_are, passes, stays_in}
 use Rattle.desk_statements.proofs.Frames.{AreApart, still_desk}
 use Rattle.desk_statements.proofs.Acting.{first_step, step}
@@ -141,6 +141,7 @@ module _ (table : Table) (tests new : List Term) (params : Row) (keeps : (row : 
 pub record ChangesRows (layout : Layout) (number : ℕ) (change : Row → Row) (old new : State) : Type 0 where
   pub rows : new.now.trees number ≡ map change (old.now.trees number)
   pub others : KeepsOthersIn layout number old new
+  pub schema : DeclaresNothing old new
   pub desk : IsDeskOf layout new
   pub inside : IsTrue new.in_transaction
   pub sound : IsDatabase new.now
@@ -176,6 +177,7 @@ module _ {layout : Layout} {schema : Schema} (apart : AreApart layout schema) (a
       record {
         rows = rows;
         others = kept;
+        schema = ap (λ (d : Database). d.schema) now_is ∙ sym has;
         desk = still_desk table.tree old now was (ap (λ (d : Database). d.schema) now_is ∙ sym has) kept (subst IsRising (sym rows) (still_table table tests new params keeps db up.0 up.1, still_keyed table tests new params keeps db up.1));
         inside = w.shown.mode ∙ inside;
         sound = w.sound;
@@ -194,6 +196,7 @@ module _ {A : Type 0} (it : TableOf A) (change : Row → Row) (set : A → A) (s
   sets layout old new (Ok count) h = record {
     records = λ was known. rw h.rows (all_set (old.now.trees it.number) was known);
     others = h.others;
+    schema = h.schema;
     desk = h.desk;
     inside = h.inside;
     sound = h.sound;
