@@ -22,7 +22,7 @@ unfolding flat_in office_of_records
 held trees a b c d e f g h i j k l = rw (a, b, c, d, e, f, g, h, i, j, k, l) refl
 
 -- and with the version noted they are the empty office
-pub noted : (old new : State) → AreEmpty desk_schema old → AddsFirst contents.desk version_one old new → Stands new empty_office × IsDatabase new.now × IsTrue new.in_transaction
+pub noted : (old new : State) → AreEmpty desk_schema old → AddsFirst contents.desk version_one old new → Stands new empty_office × (new.now.schema ≡ desk_schema) × IsDatabase new.now × IsTrue new.in_transaction
 noted old new empty adds =
     let was = of_tables (ones_apart desk_schema ones_declared) (λ n. old.now.trees n ≡ []) empty.1 in
     let none : records_in contents.desk old.now.trees ≡ Some [] = rw (was 0 refl) refl in
@@ -35,6 +35,7 @@ noted old new empty adds =
             (is 24 refl refl);
         kept = refl;
       },
+      added.schema ∙ empty.0,
       added.sound,
       added.inside,
     )

@@ -9,9 +9,9 @@ use Rattle.sqlite.specs.Tree.{Trees}
 use Rattle.sqlite_trees.specs.declared.store.Store as store
 use Rattle.desk_words.specs.Changes.{empty_office}
 use Rattle.desk_schema.specs.Statements.{AreEmpty, Makes}
-use Rattle.desk_schema.specs.Tables.{no_schema}
+use Rattle.desk_schema.specs.Tables.{desk_schema, no_schema}
 use Rattle.desk_records.specs.Standing.{Stands}
-use Rattle.desk_opening.specs.Whole.{IsWhole}
+use Rattle.desk_opening.specs.Whole.{IsNewDesk}
 
 -- in a transaction the empty tables of the first schema become those of the second, and nothing is
 -- committed
@@ -22,18 +22,20 @@ pub record IsMaking {S T : Type 0} (g : store.Ghosts S) (old new : Held S) (resu
       → AreEmpty before (state g old) → KeepsCommit (state g old) (state g new)
   pub crash : Survives (state g old) (state g new) (λ _. ⊥)
 
--- in a transaction over a database without tables, the tables of a desk that holds nothing are
--- made, and nothing is committed
+-- in a transaction over a database without tables, the tables of a desk that holds nothing and their
+-- indexes are made, and no others, and nothing is committed
 pub record LeavesEmptyDesk {S T : Type 0} (g : store.Ghosts S) (old new : Held S)
     (result : Result T Error) : Type 0 where
   pub made : HasCleanDisk (state g new) → IsTrue (state g old).in_transaction
       → AreEmpty no_schema (state g old)
-      → OnOk result (Stands (state g new) empty_office × IsDatabase (state g new).now
+      → OnOk result (Stands (state g new) empty_office
+      × ((state g new).now.schema ≡ desk_schema)
+      × IsDatabase (state g new).now
       × IsTrue (state g new).in_transaction)
   pub kept : HasCleanDisk (state g new) → IsTrue (state g old).in_transaction
       → AreEmpty no_schema (state g old) → KeepsCommit (state g old) (state g new)
   pub crash : Survives (state g old) (state g new) (λ _. ⊥)
 
--- in a database that had no table, these are whole the tables of a desk that holds nothing
+-- in a database that had no table, these are the tables of a new desk
 abbrev pub AreMade : State → Trees → Type 0
-AreMade old db = old.now.schema ≡ no_schema → IsWhole db empty_office
+AreMade old db = old.now.schema ≡ no_schema → IsNewDesk db

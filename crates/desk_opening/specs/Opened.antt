@@ -3,17 +3,19 @@
 use Rattle.std.specs.Prelude.{◌≡◌, ◌⊎◌, Result, OnOk, IsTrue}
 use Rattle.sqlite.specs.Held.{Held, state}
 use Rattle.sqlite.specs.State.{HasCleanDisk, Survives}
+use Rattle.sqlite.specs.Tree.{Trees}
 use Rattle.sqlite_trees.specs.declared.store.Store as store
 use Rattle.desk_words.specs.Changes.{empty_office}
 use Rattle.desk_words.specs.declared.office.OfficeLists.{OfficeLists}
 use Rattle.desk_schema.specs.Statements.{IsDeclared}
+use Rattle.desk_schema.specs.Tables.{desk_schema}
 use Rattle.desk_records.specs.Standing.{IsVersionOne, Stands}
 use Rattle.desk_tables.specs.Columns.{HasColumns}
 use Rattle.desk_tables.specs.Versions.{NotesVersion}
 use Rattle.desk_opening.specs.Crashes.{LeavesItself}
 use Rattle.desk_opening.specs.Making.{AreMade}
 use Rattle.desk_opening.specs.Opening.{IsCleanBack, IsOpenCause, ShowsLater}
-use Rattle.desk_opening.specs.Whole.{IsWhole, LeavesWhole}
+use Rattle.desk_opening.specs.Whole.{IsNewDesk, IsWhole, LeavesWhole}
 use Rattle.desk_opening.specs.declared.fault.OpenFault.{OpenFault}
 use Rattle.desk_opening.specs.declared.fault.OpenFault.TheVariants.{NewerVersion, Store, Memory}
 use Rattle.desk_opening.specs.declared.opening.HandedBack.{HandedBack}
@@ -72,11 +74,14 @@ pub record IsWhyUnopened {S : Type 0} (g : store.Ghosts S) (old : Held S) (why :
   pub whole : IsCleanBack g it → (office : OfficeLists) → IsWhole (state g old).now.trees office
       → (why ≡ Store) ⊎ (why ≡ Memory)
 
--- the tables are those of a desk that holds nothing, and a crash leaves that office whole
+-- the tables are those of a desk that holds nothing; the database has the desk's tables and indexes,
+-- and no others; and a crash leaves the tables of a new desk
 abbrev pub HoldsNothing : {S : Type 0} → store.Ghosts S → Held S → Type 0
 HoldsNothing g made =
     HasCleanDisk (state g made)
-    → Stands (state g made) empty_office × LeavesWhole (state g made) empty_office
+    → Stands (state g made) empty_office
+    × ((state g made).now.schema ≡ desk_schema)
+    × ((db : Trees) → (state g made).may_leave db → IsNewDesk db)
 
 -- where the tables were declared as a desk's are, they stand for an office, and a crash leaves that
 -- office whole

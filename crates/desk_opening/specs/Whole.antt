@@ -8,10 +8,12 @@ use Rattle.sqlite.specs.Tree.{Trees}
 use Rattle.sqlite_catalog.specs.Listing.{AreListed}
 use Rattle.sqlite_trees.specs.Objects.{catalog_tree}
 use Rattle.sqlite_trees.specs.declared.store.Store as store
+use Rattle.desk_words.specs.Changes.{empty_office}
 use Rattle.desk_words.specs.declared.office.OfficeLists.{OfficeLists}
 use Rattle.desk_words.specs.Office.{is_office}
 use Rattle.desk_schema.specs.Contents.{desk}
 use Rattle.desk_schema.specs.Statements.{HasTables, layout_one, records_in}
+use Rattle.desk_schema.specs.Tables.{desk_schema}
 use Rattle.desk_records.specs.Office.{office_in}
 use Rattle.desk_records.specs.Standing.{Stands, version_one}
 
@@ -24,6 +26,12 @@ pub record IsWhole (db : Trees) (office : OfficeLists) : Type 0 where
   pub version : records_in desk db ≡ Some (version_one ∷ [])
   pub holds : office_in db ≡ Some office
   pub kept : IsTrue (is_office office)
+
+-- these tables are those of a new desk: whole, they hold nothing, and the database lists the desk's
+-- tables and indexes, and no others
+pub record IsNewDesk (db : Trees) : Type 0 where
+  pub listed : AreListed (db catalog_tree) desk_schema
+  pub whole : IsWhole db empty_office
 
 -- whether the store is open is asked: nothing is changed, and a crash leaves what it left before
 pub record AsksOpen {S T E : Type 0} (g : store.Ghosts S) (old new : Held S) (result : Result T E)

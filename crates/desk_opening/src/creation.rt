@@ -7,7 +7,7 @@ ghost use Rattle.desk_opening.specs.Opened.{HoldsNothing, IsSettled, KeepsOpenTa
 ghost use Rattle.desk_opening.specs.Opened.{OnDone, StaysOpen, SurvivesMaking};
 ghost use Rattle.desk_opening.specs.declared.fault.CreateFault.TheVariants.{NotEmpty};
 ghost use Rattle.desk_opening.specs.declared.fault.CreateFault.TheVariants as creating;
-ghost use Rattle.desk_schema.specs.Tables.{no_schema};
+ghost use Rattle.desk_schema.specs.Tables.{desk_schema, no_schema};
 ghost use Rattle.desk_words.specs.Changes.{empty_office};
 ghost use Rattle.sqlite.specs.Held.{state};
 ghost use Rattle.sqlite.specs.State.{HasCleanDisk, IsLive};
@@ -43,7 +43,8 @@ fn make_desk<S: Alter>(conn: &mut Connection<S>) -> Result<(), Error>
     ensures ended { conn.new.in_transaction ≡ false }
     ensures made { HasCleanDisk (state S.Store conn.new)
         → (state S.Store conn.old).now.schema ≡ no_schema
-        → OnOk result (Stands (state S.Store conn.new) empty_office) }
+        → OnOk result (Stands (state S.Store conn.new) empty_office
+        × ((state S.Store conn.new).now.schema ≡ desk_schema)) }
     ensures same { HasCleanDisk (state S.Store conn.new) → IsTrue (state S.Store conn.new).is_open
         → (state S.Store conn.old).now.schema ≡ no_schema
         → OnErr result ((state S.Store conn.new).now ≡ (state S.Store conn.old).now) }
@@ -56,11 +57,12 @@ fn make_desk<S: Alter>(conn: &mut Connection<S>) -> Result<(), Error>
     tx.commit()
 }
 
-/// Makes the tables of a desk that holds nothing, in one transaction. The store is then open. The
-/// fault is `NotEmpty` exactly where the database has a table, an index or a view. A refusal hands the connection back,
-/// its tables as they were. A connection in a transaction is refused, as `NotEmpty` or `Store`, and
-/// is handed back as it was. Of a desk that is made a crash leaves the tables that are read, and
-/// nothing else; after a refusal it leaves what it left before, or the tables that are made, whole.
+/// Makes the tables of a desk that holds nothing and their indexes, and no others, in one
+/// transaction. The store is then open. The fault is `NotEmpty` exactly where the database has a
+/// table, an index or a view. A refusal hands the connection back, its tables as they were. A
+/// connection in a transaction is refused, as `NotEmpty` or `Store`, and is handed back as it was.
+/// Of a desk that is made a crash leaves the tables that are read, and nothing else; after a refusal
+/// it leaves what it left before, or the tables that are made, whole.
 #[tactic(auto, using(crate::proofs::FaultLemmas::never_not_empty))]
 pub fn create<S: Alter + Drop>(
     conn: Connection<S>,
