@@ -85,7 +85,7 @@ pub written_by : {S A : Type 0} (g : store.Ghosts S) (old new : Held S) (change 
 written_by g old new change table effect n apart does commits next = record {
   written = λ clean office h can.
       let done = does clean h.inside h.desk in
-      record { desk = done.desk; version = version_kept table.number (state g old) (state g new) apart done.others h.version; inside = done.inside; sound = done.sound; means = becomes change (state g old) (state g new) office h can (next done) };
+      (record { desk = done.desk; version = version_kept table.number (state g old) (state g new) apart done.others h.version; inside = done.inside; sound = done.sound; means = becomes change (state g old) (state g new) office h can (next done) }, done.schema);
   kept = commits.kept;
   crash = commits.crash;
 }

@@ -69,7 +69,7 @@ module _ {S : Type 0} (g : store.Ghosts S) where
   -- nothing is done yet
   pub nothing_turned : (held : Held S) (test : FlatLists → Bool) (change : FlatLists → FlatLists) → ((flat : FlatLists) → change flat ≡ flat) → Rewrites {T = Unit {0}} g held held (Ok tt) test change
   nothing_turned held test change same = record {
-    done = λ clean flat has good. subst (λ f. HoldsRecords f (state g held)) (sym (same flat)) has;
+    done = λ clean flat has good. (subst (λ f. HoldsRecords f (state g held)) (sym (same flat)) has, refl);
     kept = λ clean. record { was_open = λ o. o; committed = λ o. refl };
     crash = record {
       clean = omega arith;
@@ -87,7 +87,8 @@ module _ {S : Type 0} (g : store.Ghosts S) where
     turns_then r later second two fits = record {
       done = λ clean flat has good.
           let early : HasCleanDisk (state g b) = omega (arith, two.crash.clean) in
-          two.done clean (first flat) (one.done early flat has good) (fits flat good);
+          let mid = one.done early flat has good in
+          on_ok r (two.done clean (first flat) mid.0 (fits flat good)) (λ it. (it.0, it.1 ∙ mid.1));
       kept = λ clean.
           let early : HasCleanDisk (state g b) = omega (arith, two.crash.clean) in
           let before = one.kept early in
@@ -117,7 +118,7 @@ module _ {S : Type 0} (g : store.Ghosts S) where
       → ((flat : FlatLists) → flat_in (state g a).now.trees ≡ Some flat → Changes its effect (state g a) (state g b) → flat_in (state g b).now.trees ≡ Some (change flat))
       → Rewrites {T = Unit {0}} g a b (Ok tt) any_records change
   turns_by a b n its effect change apart does commits flatly = record {
-    done = λ clean flat has good. let it = does clean has.inside has.desk in record { desk = it.desk; version = version_kept its.number (state g a) (state g b) apart it.others has.version; inside = it.inside; sound = it.sound; means = flatly flat has.means it };
+    done = λ clean flat has good. let it = does clean has.inside has.desk in (record { desk = it.desk; version = version_kept its.number (state g a) (state g b) apart it.others has.version; inside = it.inside; sound = it.sound; means = flatly flat has.means it }, it.schema);
     kept = commits.kept;
     crash = commits.crash;
   }
@@ -132,7 +133,7 @@ module _ {S : Type 0} (g : store.Ghosts S) where
     written = λ clean office h can.
         let flat = bound (flat_in (state g a).now.trees) office_of_records office h.means in
         on_ok r (turns.done clean flat.0 (record { desk = h.desk; version = h.version; inside = h.inside; sound = h.sound; means = flat.1 }) refl) (λ has.
-        record { desk = has.desk; version = has.version; inside = has.inside; sound = has.sound; means = ap (λ (o : Option FlatLists). o >>= office_of_records) has.means ∙ next flat.0 office (are_of flat.0 office flat.2) (possible office change can) });
+        (record { desk = has.0.desk; version = has.0.version; inside = has.0.inside; sound = has.0.sound; means = ap (λ (o : Option FlatLists). o >>= office_of_records) has.0.means ∙ next flat.0 office (are_of flat.0 office flat.2) (possible office change can) }, has.1));
     kept = turns.kept;
     crash = turns.crash;
   }
@@ -183,18 +184,21 @@ module _ {S : Type 0} (g : store.Ghosts S) where
     day_more days day behind turns does = record {
       done = λ clean flat has good.
           let early : HasCleanDisk (state g b) = omega (arith, commits.crash.clean) in
-          let mid = turns.done early flat has good in
+          let turned = turns.done early flat has good in
+          let mid = turned.0 in
           let none : flat.closed ≡ [] = no_values flat.closed good in
           let all_earlier : list_all (λ earlier. nat_lt earlier day) (flat.closed ++ days) ≡ true = subst (λ l. list_all (λ earlier. nat_lt earlier day) (l ++ days) ≡ true) (sym none) behind in
-          let it = does clean mid.inside mid.desk (flat.closed ++ days) (closed_held (state g b).now.trees (days_added days flat) mid.means) all_earlier in
-          record {
-            desk = it.desk;
-            version = version_kept table.closed.number (state g b) (state g c) refl it.others mid.version;
-            inside = it.inside;
-            sound = it.sound;
-            means = table_changed (state g b) (state g c) (days_added days flat) mid.means Closed (λ was. was ++ day ∷ []) it
-                ∙ ap (λ l. Some (record flat { closed = l })) (append_assoc flat.closed days (day ∷ []));
-          };
+          let it = does clean mid.inside mid.desk (flat.closed ++ days) (closed_held (state g b).now.trees (days_added days flat) mid.means) all_earlier in (
+            record {
+              desk = it.desk;
+              version = version_kept table.closed.number (state g b) (state g c) refl it.others mid.version;
+              inside = it.inside;
+              sound = it.sound;
+              means = table_changed (state g b) (state g c) (days_added days flat) mid.means Closed (λ was. was ++ day ∷ []) it
+                  ∙ ap (λ l. Some (record flat { closed = l })) (append_assoc flat.closed days (day ∷ []));
+            },
+            it.schema ∙ turned.1,
+          );
       kept = λ clean.
           let early : HasCleanDisk (state g b) = omega (arith, commits.crash.clean) in
           let before = turns.kept early in

@@ -14,7 +14,7 @@ use Rattle.desk_rows.specs.declared.kept.InMeeting.{InMeeting}
 use Rattle.desk_rows.specs.declared.kept.NumberedResolution.{NumberedResolution}
 use Rattle.desk_records.specs.Office.{FlatLists, flat_in, office_in}
 use Rattle.desk_records.specs.Standing.{IsVersionOne}
-use Rattle.desk_schema.specs.Statements.{IsDesk}
+use Rattle.desk_schema.specs.Statements.{DeclaresNothing, IsDesk}
 use Rattle.desk_words.specs.Changes.{after, can_make}
 
 -- in a transaction the tables are those of a desk, of version 1, listed as they are declared, and
@@ -30,9 +30,11 @@ pub record StandsIn (office : OfficeLists) (s : State) : Type 0 where
 pub record Writes {S T : Type 0} (g : store.Ghosts S) (old new : Held S) (result : Result T Error)
     (change : Change) : Type 0 where
   -- where the office can make the change, and the disk returned what was written, they are then the
-  -- office that it leaves
+  -- office that it leaves, and nothing is declared
   pub written : HasCleanDisk (state g new) → (office : OfficeLists) → StandsIn office (state g old)
-      → IsTrue (can_make office change) → OnOk result (StandsIn (after office change) (state g new))
+      → IsTrue (can_make office change)
+      → OnOk result (StandsIn (after office change) (state g new)
+      × DeclaresNothing (state g old) (state g new))
   -- whatever is answered, nothing is committed
   pub kept : HasCleanDisk (state g new) → KeepsCommit (state g old) (state g new)
   -- and a crash leaves what it left before
@@ -52,9 +54,11 @@ pub record HoldsRecords (flat : FlatLists) (s : State) : Type 0 where
 -- what statements ensure of tables whose records pass a test
 pub record Rewrites {S T : Type 0} (g : store.Ghosts S) (old new : Held S) (result : Result T Error)
     (test : FlatLists → Bool) (change : FlatLists → FlatLists) : Type 0 where
-  -- where the disk returned what was written, the records are then changed
+  -- where the disk returned what was written, the records are then changed, and nothing is declared
   pub done : HasCleanDisk (state g new) → (flat : FlatLists) → HoldsRecords flat (state g old)
-      → IsTrue (test flat) → OnOk result (HoldsRecords (change flat) (state g new))
+      → IsTrue (test flat)
+      → OnOk result (HoldsRecords (change flat) (state g new)
+      × DeclaresNothing (state g old) (state g new))
   -- whatever is answered, nothing is committed
   pub kept : HasCleanDisk (state g new) → KeepsCommit (state g old) (state g new)
   -- and a crash leaves what it left before

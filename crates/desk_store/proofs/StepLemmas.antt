@@ -1,7 +1,7 @@
 -- A call that is decided, and written.
 use Rattle.std.proofs.Common.{◌≡◌, true, Option, Some, None, Ok, Err, Result, IsErr, IsTrue, sym, ap, subst, ◌∙◌, arith}
 use Rattle.sqlite.specs.declared.error.Error.{Error}
-use Rattle.sqlite.specs.Effect.{IsDatabase}
+use Rattle.sqlite.specs.Effect.{Database, IsDatabase}
 use Rattle.sqlite.specs.Held.{Held, state}
 use Rattle.sqlite.specs.State.{HasCleanDisk, IsUnchanged, KeepsCommit}
 use Rattle.sqlite_trees.specs.declared.store.Store as store
@@ -16,7 +16,7 @@ use Rattle.desk_words.specs.Changes.{after_some}
 use Rattle.meeting_core.specs.Decisions.{DecidedChangesCanBeMade}
 use Rattle.meeting_core.specs.Step.{decided, stepped}
 use Rattle.desk_changes.specs.Writes.{StandsIn}
-use Rattle.desk_schema.specs.Statements.{WasOpen}
+use Rattle.desk_schema.specs.Statements.{DeclaresNothing, WasOpen}
 use Rattle.desk_store.specs.Reads.{IsDecided, IsTold, WritesIfAny, can_make_if_any}
 use Rattle.desk_records.specs.Standing.{Stands}
 use Rattle.desk_store.proofs.KeepingLemmas.{stands_same}
@@ -63,12 +63,14 @@ module _ {S : Type 0} (g : store.Ghosts S) (a b c : Held S) (call : Call) (answe
 
   -- where it is written, the tables are the office after the step
   pub step_holds : {T : Type 0} (x : T) → DecidedChangesCanBeMade → WritesIfAny g b c (Ok x) answer.change → HasCleanDisk (state g c) → IsTrue (state g a).in_transaction → IsDatabase (state g a).now → (office : OfficeLists) → Stands (state g a) office
-      → (Stands (state g c) (stepped office call) × IsDatabase (state g c).now) × IsTrue (state g c).in_transaction × ((decided office call).reply ≡ answer.reply)
+      → (Stands (state g c) (stepped office call) × IsDatabase (state g c).now) × IsTrue (state g c).in_transaction × ((decided office call).reply ≡ answer.reply) × DeclaresNothing (state g a) (state g c)
   step_holds x law writes clean inside sound office stands =
       let before = early (Ok x) writes clean in
       let is = told.told before office stands in
       let change = ap (λ (it : Answer Change). it.change) is.is in
-      let there = writes.written clean office (holds before inside sound office stands) (decided_makes law office call answer.change (sym change) stands.kept is.kept) in
+      let written = writes.written clean office (holds before inside sound office stands) (decided_makes law office call answer.change (sym change) stands.kept is.kept) in
+      let there = written.0 in
+      let same = told.same (before, stands.desk) in
       let left = ap (after_some office) change in (
         (
           record {
@@ -81,4 +83,5 @@ module _ {S : Type 0} (g : store.Ghosts S) (a b c : Held S) (call : Call) (answe
         ),
         there.inside,
         sym (ap (λ (it : Answer Change). it.reply) is.is),
+        written.1 ∙ ap (λ (d : Database). d.schema) same.0.now_is,
       )

@@ -18,7 +18,7 @@ use Rattle.desk_words.specs.Seen.{MeetingName, Moment, Party}
 use Rattle.caller_view.specs.Public.{PublicRecord}
 use Rattle.caller_view.specs.Views.{own_of, public_of}
 use Rattle.caller_view.specs.declared.views.OwnView.{OwnView}
-use Rattle.desk_schema.specs.Statements.{ChangesNothing, IsRead}
+use Rattle.desk_schema.specs.Statements.{ChangesNothing, DeclaresNothing, IsRead}
 use Rattle.office_lists.specs.declared.fault.ReadFault.{ReadFault}
 use Rattle.desk_words.specs.Changes.{after_some, can_make}
 use Rattle.meeting_core.specs.Decisions.{desk_call}
@@ -90,7 +90,8 @@ pub record WritesIfAny {S T : Type 0} (g : store.Ghosts S) (old new : Held S)
     (result : Result T Error) (change : Option Change) : Type 0 where
   pub written : HasCleanDisk (state g new) → (office : OfficeLists) → StandsIn office (state g old)
       → IsTrue (can_make_if_any office change)
-      → OnOk result (StandsIn (after_some office change) (state g new))
+      → OnOk result (StandsIn (after_some office change) (state g new)
+      × DeclaresNothing (state g old) (state g new))
   pub still : change ≡ None → new ≡ old
   pub kept : HasCleanDisk (state g new) → KeepsCommit (state g old) (state g new)
   pub crash : Survives (state g old) (state g new) (λ _. ⊥)

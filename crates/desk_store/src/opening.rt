@@ -24,7 +24,8 @@ use sqlite::{Alter, Connection};
 use std::alloc::Global;
 
 impl<S: Alter + Drop> Desk<S> {
-    /// Makes the tables of a desk that holds nothing, in one transaction. The store is then open.
+    /// Makes the tables of a desk that holds nothing and their indexes, and no others, in one
+    /// transaction. The store is then open.
     /// The fault is `NotEmpty` exactly where the database has a table, an index or a view. A refusal
     /// hands the connection back, its tables as they were. A connection in a transaction is refused,
     /// as `NotEmpty` or `Store`, and is handed back as it was. Of a desk that is made a crash leaves

@@ -4,7 +4,7 @@ ghost use Rattle.std.specs.Fn.{FnOnceReturnsAt};
 ghost use Rattle.desk_opening.specs.Crashes.{LeavesItself};
 ghost use Rattle.desk_opening.specs.Opened.{OnDone};
 ghost use Rattle.desk_opening.specs.Whole.{LeavesWhole};
-ghost use Rattle.desk_schema.specs.Statements.{WasOpen};
+ghost use Rattle.desk_schema.specs.Statements.{DeclaresNothing, WasOpen};
 ghost use Rattle.desk_store.specs.Joins.{AreAfter, IsAsItWas, Leaves, made_by};
 ghost use Rattle.desk_store.specs.Reads.{OfOffice, OfOfficeInside, WritesIfAny};
 ghost use Rattle.desk_records.specs.Standing.{Stands};
@@ -53,6 +53,9 @@ fn step<S: Alter, T: Drop, F: FnOnce(&Reply) -> Result<T, AllocError>>(
         × IsDatabase (state S.Store tx.new.conn.now).now)) }
     ensures inside { OfOfficeInside S.Store tx.old.conn.now tx.new.conn.now
         (λ _. OnOk result (IsTrue (state S.Store tx.new.conn.now).in_transaction)) }
+    ensures declares { OfOfficeInside S.Store tx.old.conn.now tx.new.conn.now
+        (λ _. OnOk result (DeclaresNothing (state S.Store tx.old.conn.now)
+        (state S.Store tx.new.conn.now))) }
     ensures kept { OfOffice S.Store tx.old.conn.now tx.new.conn.now
         (λ _. KeepsCommit (state S.Store tx.old.conn.now) (state S.Store tx.new.conn.now)) }
     ensures was_open { WasOpen (state S.Store tx.old.conn.now) (state S.Store tx.new.conn.now) }
@@ -70,9 +73,9 @@ fn step<S: Alter, T: Drop, F: FnOnce(&Reply) -> Result<T, AllocError>>(
 
 impl<S: Alter> Desk<S> {
     /// Makes one call, in one transaction with one commit: the tables are then the office after the
-    /// step. `show` is asked once for what is answered of the reply, before the commit. After a
-    /// failure, that of `show` included, the tables are as they were; a call that changes nothing
-    /// writes nothing. After an answer a crash leaves the tables that are read, whole, and nothing
+    /// step, and no table, index or view is made, changed or dropped. `show` is asked once for what is
+    /// answered of the reply, before the commit. After a failure, that of `show` included, the tables
+    /// are as they were; a call that changes nothing writes nothing. After an answer a crash leaves the tables that are read, whole, and nothing
     /// else. After a failure it leaves what it left before, or whole the office after the step. A
     /// store that is shut commits nothing.
     pub fn perform<T: Drop, F: FnOnce(&Reply) -> Result<T, AllocError>>(
@@ -84,6 +87,8 @@ impl<S: Alter> Desk<S> {
         ensures done { OfOffice S.Store self.old self.new (λ office. IfOk result
             (λ t. FnOnceReturnsAt F.FnOnce show (decided office call).reply (Ok t)
             × Stands (state S.Store self.new) (stepped office call))) }
+        ensures declares { OfOffice S.Store self.old self.new (λ _. OnOk result
+            (DeclaresNothing (state S.Store self.old) (state S.Store self.new))) }
         ensures leaves { Leaves (made_by result call) (state S.Store self.old)
             (state S.Store self.new) }
         ensures stays_open { OnDone S.Store self.new result

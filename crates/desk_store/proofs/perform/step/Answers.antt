@@ -21,6 +21,10 @@ pub returns-clause-inside : goal.returns-clause-inside
 returns-clause-inside g c = λ clean inside sound office stands.
     (step_holds g.S.Store c.args.tx.now.conn.now c.decide.new.tx.conn.now c.write_if_any.new.tx.conn.now c.args.call.now c.in_ok-answer.answer c.in_ok-answer.ensures.tells c.in_ok-write_if_any.field-0 c.decided_changes_can_be_made.ensures c.in_ok-write_if_any.ensures.writes clean inside sound office stands).1
 
+pub returns-clause-declares : goal.returns-clause-declares
+returns-clause-declares g c = λ clean inside sound office stands.
+    (step_holds g.S.Store c.args.tx.now.conn.now c.decide.new.tx.conn.now c.write_if_any.new.tx.conn.now c.args.call.now c.in_ok-answer.answer c.in_ok-answer.ensures.tells c.in_ok-write_if_any.field-0 c.decided_changes_can_be_made.ensures c.in_ok-write_if_any.ensures.writes clean inside sound office stands).3
+
 pub returns-clause-kept : goal.returns-clause-kept
 returns-clause-kept g c =
     step_keeps g.S.Store c.args.tx.now.conn.now c.decide.new.tx.conn.now c.write_if_any.new.tx.conn.now c.args.call.now c.in_ok-answer.answer c.in_ok-answer.ensures.tells _ c.in_ok-write_if_any.ensures.writes
