@@ -114,7 +114,7 @@ export class Party {
     const { mine, notice } = this;
     const { number, kind, poll } = resolution;
     const stage = stageOf(resolution);
-    const blocks = blocksOf(mine, resolution);
+    const blocks = blocksOf(mine, resolution, notice.opened);
     const casts = mine.casts.filter((cast) => cast.resolution === number);
     const demanded = mine.demands.includes(number);
     return { id: `resolution-${number}`, title: `Resolution ${number}: ${resolution.text}`,

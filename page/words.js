@@ -133,24 +133,28 @@ export function takeRuns(runs, number) {
 export const WAYS = ["for", "against", "withheld"];
 
 // The shares of the caller's own that its proxies govern for a poll: of each share the last appointment that counts governs it,
-// and where that one is ended none does.
-export function givenAway(given, late) {
+// and where that one is ended none does. For a late poll appointments count until the poll's cutoff and endings before its
+// taking, else until the meeting's cutoff and before its opening. Moments are compared as texts, which are all of one length.
+export function givenAway(given, poll, opened) {
+  const late = poll !== null && poll.late;
+  const before = late ? poll.take : opened;
   let runs = [];
   for (const item of given) {
-    if (!late && item.use !== "meeting") continue;
-    runs = item.ended === null ? plusRuns(runs, [item.from, item.to]) : minusRuns(runs, [item.from, item.to]);
+    if (late ? item.received > poll.cutoff : item.use !== "meeting") continue;
+    const ended = item.ended !== null && (before === null || item.ended < before);
+    runs = ended ? minusRuns(runs, [item.from, item.to]) : plusRuns(runs, [item.from, item.to]);
   }
   return runs;
 }
 
 // The blocks of shares on which the caller may vote: {as, member, runs, way}, where `way` is an instruction or "free". A member
 // whose proxies govern some of its shares has two blocks: `part` "kept" for those that no proxy has, and "all".
-export function blocksOf(mine, resolution) {
+export function blocksOf(mine, resolution, opened) {
   const blocks = [];
   const { number, poll } = resolution;
   if (mine.row !== null && mine.row.kind === "individual") {
     const all = [[1, mine.row.shares]];
-    const kept = givenAway(mine.given, poll !== null && poll.late).reduce(minusRuns, all);
+    const kept = givenAway(mine.given, poll, opened).reduce(minusRuns, all);
     const own = { as: "member", member: null, way: "free" };
     if (kept.length > 0 && countRuns(kept) < mine.row.shares) blocks.push({ ...own, runs: kept, part: "kept" });
     blocks.push({ ...own, runs: all, part: countRuns(kept) < mine.row.shares ? "all" : null });

@@ -1,6 +1,7 @@
 // The page's functions that do not touch the page, under Node: node --test page/test/*.test.mjs
 import { test } from "node:test";
 import assert from "node:assert/strict";
+import { readFileSync } from "node:fs";
 import * as w from "../words.js";
 
 test("days and moments are those of the calendar from 1900 to 2999", () => {
@@ -74,17 +75,71 @@ const open = { number: 2, kind: "special", text: "x", poll: { late: false, resul
 
 test("the blocks that may be voted", () => {
   const row = { kind: "individual", name: "Ada", paid: 100, shares: 100 };
-  assert.deepEqual(w.blocksOf(mine({ row }), open).map(({ as, runs, part }) => [as, runs, part]), [["member", [[1, 100]], null]]);
-  const given = [{ from: 1, to: 60, ended: null, use: "meeting" }, { from: 50, to: 90, ended: "x", use: "meeting" }, { from: 1, to: 100, ended: null, use: "later polls only" }];
-  assert.deepEqual(w.blocksOf(mine({ row, given }), open).map(({ runs, part }) => [runs, part]), [[[[50, 100]], "kept"], [[[1, 100]], "all"]]);
-  const late = { ...open, poll: { ...open.poll, late: true } };
-  assert.deepEqual(w.blocksOf(mine({ row, given }), late).map(({ runs, part }) => [runs, part]), [[[[1, 100]], "all"]]);
-  assert.deepEqual(w.blocksOf(mine({ row: { ...row, kind: "corporation" } }), open), []);
-  assert.deepEqual(w.blocksOf(mine({ authorised: [{ corporation: "C1", shares: 50 }, { corporation: "T1", shares: 0 }] }), open).map(({ member, runs }) => [member, runs]), [["C1", [[1, 50]]]]);
+  const opened = "2026-06-18T10:00:00";
+  assert.deepEqual(w.blocksOf(mine({ row }), open, opened).map(({ as, runs, part }) => [as, runs, part]), [["member", [[1, 100]], null]]);
+  const given = [{ from: 1, to: 60, received: "2026-06-02T10:00:00", ended: null, use: "meeting" },
+    { from: 50, to: 90, received: "2026-06-02T10:00:01", ended: "2026-06-18T09:59:59", use: "meeting" },
+    { from: 1, to: 100, received: "2026-06-17T10:00:00", ended: null, use: "later polls only" }];
+  assert.deepEqual(w.blocksOf(mine({ row, given }), open, opened).map(({ runs, part }) => [runs, part]), [[[[50, 100]], "kept"], [[[1, 100]], "all"]]);
+  const late = { ...open, poll: { ...open.poll, late: true, cutoff: "2026-06-22T09:00:00", take: "2026-06-23T09:00:00" } };
+  assert.deepEqual(w.blocksOf(mine({ row, given }), late, opened).map(({ runs, part }) => [runs, part]), [[[[1, 100]], "all"]]);
+  assert.deepEqual(w.blocksOf(mine({ row: { ...row, kind: "corporation" } }), open, opened), []);
+  assert.deepEqual(w.blocksOf(mine({ authorised: [{ corporation: "C1", shares: 50 }, { corporation: "T1", shares: 0 }] }), open, opened).map(({ member, runs }) => [member, runs]), [["C1", [[1, 50]]]]);
   const received = [{ member: "M1", governs: [[1, 60]], instructions: ["for", "free"], polls: [{ governs: [[2, 3]], resolution: 2 }] },
     { member: "M1", governs: [[61, 70]], instructions: ["for", "free"], polls: [] }, { member: "M2", governs: [], instructions: ["free", "free"], polls: [] }];
-  assert.deepEqual(w.blocksOf(mine({ received }), open), [{ as: "proxy", member: "M1", runs: [[1, 70]], way: "free" }]);
-  assert.deepEqual(w.blocksOf(mine({ received }), late), [{ as: "proxy", member: "M1", runs: [[2, 3]], way: "free" }]);
+  assert.deepEqual(w.blocksOf(mine({ received }), open, opened), [{ as: "proxy", member: "M1", runs: [[1, 70]], way: "free" }]);
+  assert.deepEqual(w.blocksOf(mine({ received }), late, opened), [{ as: "proxy", member: "M1", runs: [[2, 3]], way: "free" }]);
+});
+
+test("what the caller's own proxies have, to the second", () => {
+  const own = (given, late) => {
+    const poll = { late, cutoff: late ? "2026-06-22T09:00:00" : "2026-06-16T10:00:00", take: "2026-06-23T09:00:00", result: null, closed: null, started: "x" };
+    const row = { kind: "individual", name: "Ada", paid: 100, shares: 100 };
+    return w.blocksOf(mine({ row, given }), { ...open, poll }, "2026-06-18T10:00:00").map(({ runs, part }) => [runs, part]);
+  };
+  const whole = [[[[1, 100]], null]], split = [[[[1, 40], [61, 100]], "kept"], [[[1, 100]], "all"]];
+  const item = (received, ended) => [{ from: 41, to: 60, received, ended, use: received <= "2026-06-16T10:00:00" ? "meeting" : "later polls only" }];
+  // For the meeting: received until its cutoff, ended before its opening.
+  assert.deepEqual(own(item("2026-06-16T10:00:00", null), false), split);
+  assert.deepEqual(own(item("2026-06-16T10:00:01", null), false), whole);
+  assert.deepEqual(own(item("2026-06-02T10:00:00", "2026-06-18T09:59:59"), false), whole);
+  assert.deepEqual(own(item("2026-06-02T10:00:00", "2026-06-18T10:00:00"), false), split);
+  // For a late poll: received until its cutoff, ended before its taking.
+  assert.deepEqual(own(item("2026-06-22T09:00:00", null), true), split);
+  assert.deepEqual(own(item("2026-06-22T09:00:01", null), true), whole);
+  assert.deepEqual(own(item("2026-06-02T10:00:00", "2026-06-23T08:59:59"), true), whole);
+  assert.deepEqual(own(item("2026-06-02T10:00:00", "2026-06-23T09:00:00"), true), split);
+  // One that is ended does not give its shares back to an earlier one.
+  const covered = [...item("2026-06-02T10:00:00", null), { from: 1, to: 50, received: "2026-06-03T10:00:00", ended: "2026-06-09T10:00:00", use: "meeting" }];
+  assert.deepEqual(own(covered, false), [[[[1, 50], [61, 100]], "kept"], [[[1, 100]], "all"]]);
+});
+
+test("a holding in parts, as replies of the cases tell it", () => {
+  const told = (name, verb) => readFileSync(new URL(`../../cases/${name}.case`, import.meta.url), "utf8").split("\n")
+    .filter((line) => line.startsWith("< ") && line.includes(`"ok":"${verb}"`)).map((line) => JSON.parse(line.slice(2)));
+  const late = { number: 1, kind: "ordinary", text: "x", poll: { late: true, cutoff: "2026-06-22T09:00:00", take: "2026-06-23T09:00:00", result: null, closed: null, started: "x" } };
+  const opened = "2026-06-18T10:00:00";
+  const [first, second, third] = told("proxies-late-poll", "mine");
+  assert.deepEqual(w.blocksOf(first, late, opened), [{ as: "proxy", member: "M1", runs: [[1, 40], [61, 100]], way: "free" }]);
+  assert.deepEqual(w.blocksOf(first, { ...late, number: 2, poll: { ...late.poll, late: false } }, opened), [{ as: "proxy", member: "M1", runs: [[1, 100]], way: "free" }]);
+  assert.deepEqual(w.blocksOf(second, late, opened).map(({ runs }) => runs), [[[41, 60]]]);
+  assert.deepEqual(w.blocksOf(third, late, opened), []);
+  // Votes on both parts, and one that is split across the gap.
+  const [block] = w.blocksOf(first, late, opened);
+  assert.deepEqual(w.castsOf(block, "P", 1, { for: 80 }).map(({ from, to }) => [from, to]), [[1, 40], [61, 100]]);
+  const casts = w.castsOf(block, "P", 1, { for: 41, withheld: 39 });
+  assert.deepEqual(casts.map(({ from, to, way }) => [from, to, way]), [[1, 40, "for"], [61, 61, "for"], [62, 100, "withheld"]]);
+  assert.deepEqual(w.recordedFor(block, casts, 1), { for: [[1, 40], [61, 61]], against: [], withheld: [[62, 100]] });
+
+  // A member, proxy and representative in one: the first resolution as the meeting has it, the second by a late poll.
+  const [full] = told("own-things-full", "mine");
+  const blocks = (number, poll) => w.blocksOf(full, { ...late, number, poll: { ...late.poll, ...poll } }, opened).map(({ as, member, runs, way, part }) => [as, member, runs, way, part]);
+  const own = [["member", null, [[11, 40]], "free", "kept"], ["member", null, [[1, 40]], "free", "all"], ["rep", "C1", [[1, 50]], "free", undefined]];
+  assert.deepEqual(blocks(1, { late: false }), [...own, ["proxy", "M1", [[1, 60]], "for", undefined]]);
+  assert.deepEqual(blocks(2, {}), [...own, ["proxy", "M1", [[1, 40]], "free", undefined]]);
+  const [kept, , rep, proxy] = w.blocksOf(full, { ...late, poll: { ...late.poll, late: false } }, opened);
+  assert.deepEqual([kept, rep, proxy].map((each) => w.recordedFor(each, full.casts, 1)), [{ for: [], against: [[11, 40]], withheld: [] },
+    { for: [[1, 50]], against: [], withheld: [] }, { for: [[1, 60]], against: [], withheld: [] }]);
 });
 
 test("casts for a block, in parts and split, and what was recorded", () => {
