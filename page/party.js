@@ -54,7 +54,7 @@ export class Party {
         if (isUnknown(reply)) {
           const rest = bodies.length - count - 1;
           this.pending = { verb, body: body ?? {}, before, said: some + sentence(reply, verb),
-            more: rest > 0 ? ` ${rest} further parts were not sent: vote again on all.` : "" };
+            more: rest > 0 ? ` ${rest === 1 ? "One further part was" : `${rest} further parts were`} not sent: vote again on all.` : "" };
           this.busy = false;
           return this.check();
         }
