@@ -1,6 +1,6 @@
 -- What is known of the lists of an office, test by test.
 use Rattle.std.proofs.Common.{◌≡◌, ℕ, Bool, true, false, ◌&&◌, cond, List, [], ◌∷◌, length, refl, ap, sym, ◌∙◌}
-use Rattle.std.specs.Prelude.{Some, None, IfSome, find, is_some, nat_le}
+use Rattle.std.specs.Prelude.{Some, None, IfSome, find, nat_le}
 use Rattle.std.specs.List.{list_all}
 use Rattle.std.specs.Cmp.{first_so, second_so}
 use Rattle.std.specs.Cmp.Derive.{both_true}
@@ -9,7 +9,8 @@ use Rattle.desk_terms.specs.Names.{same_name}
 use Rattle.desk_lists.specs.Ordered.{ascends_by, differ_by}
 use Rattle.desk_words.specs.Registers.{is_register, keep_limits, member_before}
 use Rattle.desk_words.specs.Lists.{is_key_list, is_day_list, are_resolutions}
-use Rattle.desk_words.specs.Office.{are_numbered_after, is_appointment, implies, no_rows, is_loaded_right, are_appointments, are_endings, are_authorities, same_presence, are_demands, are_polls, are_casts, is_meeting, same_meeting, are_meetings, is_office}
+use Rattle.desk_words.specs.Office.{are_numbered_after, is_appointment, implies, no_rows, is_loaded_right, are_appointments, are_endings, are_authorities, are_presences, are_demands, are_polls, are_casts, is_meeting, same_meeting, are_meetings, is_office}
+use Rattle.desk_words.specs.Sessions.{are_sessions, is_opened}
 use Rattle.desk_words.specs.declared.office.OfficeLists.{OfficeLists}
 use Rattle.desk_words.specs.declared.office.MeetingLists.{MeetingLists}
 use Rattle.desk_words.specs.declared.records.RegisterRow.{RegisterRow}
@@ -41,49 +42,57 @@ office_from_facts o f = both_true (both_true f.keys f.closed) (both_true (both_t
 -- the tests of a meeting, by name
 pub record MeetingFacts (m : MeetingLists) : Type 0 where
   pub resolutions : are_resolutions m.meeting.resolutions ≡ true
+  pub sessions : are_sessions m.meeting ≡ true
   pub loaded : is_loaded_right m ≡ true
   pub appointments : are_appointments (length m.meeting.resolutions) m.appointments ≡ true
   pub endings : are_endings m.appointments m.endings ≡ true
   pub authorities : are_authorities m.authorities ≡ true
-  pub presences : differ_by same_presence m.presences ≡ true
-  pub demands : are_demands (length m.meeting.resolutions) m.demands ≡ true
-  pub polls : are_polls (is_some m.meeting.opened) (length m.meeting.resolutions) m.polls ≡ true
+  pub presences : are_presences m.meeting m.presences ≡ true
+  pub demands : are_demands m.meeting m.demands ≡ true
+  pub polls : are_polls m.meeting m.polls ≡ true
   pub casts : are_casts m.polls m.casts ≡ true
 
 pub meeting_facts : (m : MeetingLists) → is_meeting m ≡ true → MeetingFacts m
 meeting_facts m h =
     let n = length m.meeting.resolutions in
     let a = are_resolutions m.meeting.resolutions in
+    let s = are_sessions m.meeting in
     let b = is_loaded_right m in
     let c = are_appointments n m.appointments in
     let d = are_endings m.appointments m.endings in
     let e = are_authorities m.authorities in
-    let f = differ_by same_presence m.presences in
-    let g = are_demands n m.demands in
-    let p = are_polls (is_some m.meeting.opened) n m.polls in
+    let f = are_presences m.meeting m.presences in
+    let g = are_demands m.meeting m.demands in
+    let p = are_polls m.meeting m.polls in
     let q = are_casts m.polls m.casts in
-    let h8 = first_so (a && b && c && d && e && f && g && p) q h in
-    let h7 = first_so (a && b && c && d && e && f && g) p h8 in
-    let h6 = first_so (a && b && c && d && e && f) g h7 in
-    let h5 = first_so (a && b && c && d && e) f h6 in
-    let h4 = first_so (a && b && c && d) e h5 in
-    let h3 = first_so (a && b && c) d h4 in
-    let h2 = first_so (a && b) c h3 in
+    let h9 = first_so (a && s && b && c && d && e && f && g && p) q h in
+    let h8 = first_so (a && s && b && c && d && e && f && g) p h9 in
+    let h7 = first_so (a && s && b && c && d && e && f) g h8 in
+    let h6 = first_so (a && s && b && c && d && e) f h7 in
+    let h5 = first_so (a && s && b && c && d) e h6 in
+    let h4 = first_so (a && s && b && c) d h5 in
+    let h3 = first_so (a && s && b) c h4 in
+    let h2 = first_so (a && s) b h3 in
     record {
-      resolutions = first_so a b h2;
-      loaded = second_so a b h2;
-      appointments = second_so (a && b) c h3;
-      endings = second_so (a && b && c) d h4;
-      authorities = second_so (a && b && c && d) e h5;
-      presences = second_so (a && b && c && d && e) f h6;
-      demands = second_so (a && b && c && d && e && f) g h7;
-      polls = second_so (a && b && c && d && e && f && g) p h8;
-      casts = second_so (a && b && c && d && e && f && g && p) q h;
+      resolutions = first_so a s h2;
+      sessions = second_so a s h2;
+      loaded = second_so (a && s) b h3;
+      appointments = second_so (a && s && b) c h4;
+      endings = second_so (a && s && b && c) d h5;
+      authorities = second_so (a && s && b && c && d) e h6;
+      presences = second_so (a && s && b && c && d && e) f h7;
+      demands = second_so (a && s && b && c && d && e && f) g h8;
+      polls = second_so (a && s && b && c && d && e && f && g) p h9;
+      casts = second_so (a && s && b && c && d && e && f && g && p) q h;
     }
 
 pub meeting_from_facts : (m : MeetingLists) → MeetingFacts m → is_meeting m ≡ true
 meeting_from_facts m f =
-    both_true (both_true (both_true (both_true (both_true (both_true (both_true (both_true f.resolutions f.loaded) f.appointments) f.endings) f.authorities) f.presences) f.demands) f.polls) f.casts
+    both_true
+    (both_true
+    (both_true (both_true (both_true (both_true (both_true (both_true (both_true f.resolutions f.sessions) f.loaded) f.appointments) f.endings) f.authorities) f.presences) f.demands)
+    f.polls)
+    f.casts
 
 -- what is found passes the test that all pass
 pub find-passes : {X : Type 0} (p q : X → Bool) (xs : List X) (x : X) → list_all q xs ≡ true → find p xs ≡ Some x → q x ≡ true
@@ -110,7 +119,7 @@ register_ascends_if false rows h = no_rows_ascend rows h
 pub register_ascends : (m : MeetingLists) → MeetingFacts m → ascends_by member_before m.register ≡ true
 register_ascends m f =
     register_ascends_if m.meeting.loaded m.register
-    (first_so (cond m.meeting.loaded (is_register m.register) (no_rows m.register)) (implies (is_some m.meeting.opened) m.meeting.loaded) f.loaded)
+    (first_so (cond m.meeting.loaded (is_register m.register) (no_rows m.register)) (implies (is_opened m.meeting.first) m.meeting.loaded) f.loaded)
 
 -- the appointments of a meeting are numbered from 1 for each member
 pub meeting_numbered : (m : MeetingLists) → is_meeting m ≡ true → are_numbered_after [] m.appointments ≡ true

@@ -7,6 +7,7 @@ use Rattle.desk_terms.specs.Names.{same_name}
 use Rattle.desk_words.specs.Finding.{meeting_named}
 use Rattle.desk_words.specs.Office.{is_office, poll_before}
 use Rattle.desk_words.specs.Seen.{MeetingName, Number}
+use Rattle.desk_words.specs.Sessions.{open_last}
 use Rattle.desk_words.specs.declared.change.Change.{Change}
 use Rattle.desk_words.specs.declared.change.Change.TheVariants.{AddMeeting, SetClosedDays, SetKeys, InMeeting}
 use Rattle.desk_words.specs.declared.change.Entry.{Entry}
@@ -67,7 +68,7 @@ changed (SetRegister rows) m = record m {
   meeting = record m.meeting { loaded = true };
   register = rows;
 }
-changed (SetOpened moment) m = record m { meeting = record m.meeting { opened = Some moment } }
+changed (SetOpened moment) m = record m { meeting = open_last moment m.meeting }
 changed (AddPoll poll) m = record m { polls = insert_by poll_before poll m.polls }
 changed (SetPoll resolution change) m = change_poll (moved change) resolution m
 changed (Enter entry) m = entered entry m

@@ -12,6 +12,7 @@ pub mod Registers
 pub mod Rows
 pub mod Rulings
 pub mod Seen
+pub mod Sessions
 pub use Rattle.desk_lists.specs.Lists as Edits
 pub use Rattle.desk_lists.specs.Ordered
 pub use Rattle.desk_terms.specs.Kinds

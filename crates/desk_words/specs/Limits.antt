@@ -1,12 +1,13 @@
 -- The limits of a desk, by their numbers.
 use Rattle.std.specs.Prelude.{◌≡◌}
-use Rattle.desk_words.specs.declared.limits.TheConstants.{MOST_MEETINGS, MOST_RESOLUTIONS, MOST_ROWS, MOST_SHARES, MOST_PENCE}
+use Rattle.desk_words.specs.declared.limits.TheConstants.{MOST_MEETINGS, MOST_SESSIONS, MOST_RESOLUTIONS, MOST_ROWS, MOST_SHARES, MOST_PENCE}
 use Rattle.desk_words.specs.declared.limits.TheConstants.{MOST_APPOINTMENTS, MOST_AUTHORITIES, MOST_CASTS, MOST_CLOSED_DAYS, MOST_KEYS}
 use Rattle.desk_words.specs.declared.limits.TheConstants.{HOURS_BEFORE_MEETING, HOURS_BEFORE_LATE_POLL, HOURS_UNTIL_LATE}
 
 -- what each limit of lists and of holdings is
 pub record LimitsAre : Type 0 where
   pub meetings : MOST_MEETINGS ≡ 100
+  pub sessions : MOST_SESSIONS ≡ 10
   pub resolutions : MOST_RESOLUTIONS ≡ 50
   pub rows : MOST_ROWS ≡ 20000
   pub shares : MOST_SHARES ≡ 1000000000000

@@ -7,6 +7,7 @@ use Rattle.desk_terms.specs.declared.range.TheConstants.{MOST_PLACES}
 use Rattle.desk_words.specs.declared.limits.TheConstants.{MOST_APPOINTMENTS, MOST_AUTHORITIES, MOST_CASTS, MOST_MEETINGS}
 use Rattle.desk_words.specs.declared.office.OfficeLists.{OfficeLists}
 use Rattle.desk_words.specs.declared.office.MeetingLists.{MeetingLists}
+use Rattle.desk_words.specs.declared.records.Meeting.{Meeting}
 use Rattle.desk_words.specs.declared.records.RegisterRow.{RegisterRow}
 use Rattle.desk_words.specs.declared.records.Appointment.{Appointment}
 use Rattle.desk_words.specs.declared.records.Ending.{Ending}
@@ -17,6 +18,7 @@ use Rattle.desk_words.specs.declared.records.Poll.{Poll}
 use Rattle.desk_words.specs.declared.records.Tally.{Tally}
 use Rattle.desk_words.specs.declared.records.CastMark.{CastMark}
 use Rattle.desk_words.specs.Registers.{is_register}
+use Rattle.desk_words.specs.Sessions.{are_sessions, is_opened, is_opened_session, is_session}
 use Rattle.desk_words.specs.Lists.{is_key_list, is_day_list, are_resolutions}
 
 -- where the first holds, the second does
@@ -37,11 +39,12 @@ no_rows (row ∷ rows) = false
 abbrev pub are_rows : List RegisterRow → Bool
 are_rows rows = no_rows rows || is_register rows
 
--- rows stand exactly where a register is loaded, and an opened meeting is loaded
+-- rows stand exactly where a register is loaded, and a meeting whose first session is opened is
+-- loaded
 abbrev pub is_loaded_right : MeetingLists → Bool
 is_loaded_right m =
     (if m.meeting.loaded then is_register m.register else no_rows m.register)
-    && implies (is_some m.meeting.opened) m.meeting.loaded
+    && implies (is_opened m.meeting.first) m.meeting.loaded
 
 -- after the earlier ones, the appointments of each member are numbered on, 1, 2, .. in order of
 -- receipt
@@ -88,19 +91,29 @@ are_authorities given =
     given
     && differ_by same_authority given
 
--- both are marks of one party
+-- both are marks of one party in one session
 abbrev pub same_presence : PresenceMark → PresenceMark → Bool
-same_presence a b = same_name a.party b.party
+same_presence a b = a.session == b.session && same_name a.party b.party
 
--- both are one party's demands on one resolution (sections 321 and 329)
+-- marks in sessions of the meeting, none of them twice
+abbrev pub are_presences : Meeting → List PresenceMark → Bool
+are_presences m presences =
+    list_all (λ (p : PresenceMark). is_session m p.session) presences
+    && differ_by same_presence presences
+
+-- both are one party's demands on one resolution, in one session (sections 321 and 329)
 abbrev pub same_demand : DemandMark → DemandMark → Bool
-same_demand a b = a.resolution == b.resolution && same_name a.party b.party
+same_demand a b =
+    a.session == b.session && a.resolution == b.resolution && same_name a.party b.party
 
--- demands of resolutions of the meeting, none of them twice (sections 321 and 329)
-abbrev pub are_demands : ℕ → List DemandMark → Bool
-are_demands resolutions demands =
-    list_all (λ (d : DemandMark). is_resolution resolutions d.resolution) demands
-    && differ_by same_demand demands
+-- in a session of the meeting, of one of its resolutions
+abbrev pub is_demand : Meeting → DemandMark → Bool
+is_demand m d =
+    is_session m d.session && is_resolution (length m.resolutions) d.resolution
+
+-- demands in the meeting, none of them twice (sections 321 and 329)
+abbrev pub are_demands : Meeting → List DemandMark → Bool
+are_demands m demands = list_all (is_demand m) demands && differ_by same_demand demands
 
 -- the votes are those of some shares, and the shares are at most `MOST_PLACES` (section 284)
 abbrev pub is_tally : Tally → Bool
@@ -112,22 +125,21 @@ abbrev pub is_declared_right : Option Tally → Bool
 is_declared_right None = true
 is_declared_right (Some t) = is_tally t
 
--- on a resolution of the meeting; closed only if started, declared only if closed (section 321)
-abbrev pub is_poll : ℕ → Poll → Bool
-is_poll resolutions p =
-    is_resolution resolutions p.resolution && implies (is_some p.closed) (is_some p.started)
+-- in a session that is opened, on a resolution of the meeting; closed only if started, declared
+-- only if closed (section 321)
+abbrev pub is_poll : Meeting → Poll → Bool
+is_poll m p =
+    is_opened_session m p.session && is_resolution (length m.resolutions) p.resolution
+    && implies (is_some p.closed) (is_some p.started)
     && implies (is_some p.declared) (is_some p.closed) && is_declared_right p.declared
 
 -- the first poll is on an earlier resolution
 abbrev pub poll_before : Poll → Poll → Bool
 poll_before a b = nat_lt a.resolution b.resolution
 
--- polls of an opened meeting, at most one on a resolution, in the order of resolutions (section
--- 321)
-abbrev pub are_polls : Bool → ℕ → List Poll → Bool
-are_polls opened resolutions [] = true
-are_polls opened resolutions (p ∷ ps) =
-    opened && list_all (is_poll resolutions) (p ∷ ps) && ascends_by poll_before (p ∷ ps)
+-- polls of the meeting, at most one on a resolution, in the order of resolutions (section 321)
+abbrev pub are_polls : Meeting → List Poll → Bool
+are_polls m polls = list_all (is_poll m) polls && ascends_by poll_before polls
 
 -- the cast is on that poll, and the poll is started
 abbrev pub is_cast_on : CastMark → Poll → Bool
@@ -146,11 +158,11 @@ are_casts polls casts =
 -- the lists of a meeting
 abbrev pub is_meeting : MeetingLists → Bool
 is_meeting m =
-    let resolutions = length m.meeting.resolutions in are_resolutions m.meeting.resolutions
-    && is_loaded_right m && are_appointments resolutions m.appointments
+    are_resolutions m.meeting.resolutions && are_sessions m.meeting && is_loaded_right m
+    && are_appointments (length m.meeting.resolutions) m.appointments
     && are_endings m.appointments m.endings && are_authorities m.authorities
-    && differ_by same_presence m.presences && are_demands resolutions m.demands
-    && are_polls (is_some m.meeting.opened) resolutions m.polls && are_casts m.polls m.casts
+    && are_presences m.meeting m.presences && are_demands m.meeting m.demands
+    && are_polls m.meeting m.polls && are_casts m.polls m.casts
 
 -- both meetings have one name
 abbrev pub same_meeting : MeetingLists → MeetingLists → Bool

@@ -21,6 +21,10 @@ Moment = ℕ
 abbrev pub Place : Type 0
 Place = ℕ
 
+-- a session of a meeting, numbered from 1
+abbrev pub SessionNumber : Type 0
+SessionNumber = ℕ
+
 -- a resolution of a meeting, numbered from 1
 abbrev pub Number : Type 0
 Number = ℕ

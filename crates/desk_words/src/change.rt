@@ -31,7 +31,7 @@ pub enum PollChange {
 pub enum MeetingChange {
     /// It gets a register.
     SetRegister(Register),
-    /// It is opened at that moment.
+    /// Its last session is opened at that moment.
     SetOpened(Moment),
     /// A poll is ordered.
     AddPoll(Poll),

@@ -15,6 +15,7 @@ mod records;
 mod register;
 mod reply;
 mod request;
+mod sessions;
 
 pub use answer::{Answer, noted, refuse, tell};
 pub use caller::{Caller, KeyRow, read_caller};
@@ -31,15 +32,15 @@ pub use finding::{find_meeting, find_poll};
 pub use lists::{DayList, KeyRows, ListFault, Resolutions, same_keys};
 pub use majority::{carried, result_of};
 pub use office::{MeetingLists, OfficeLists};
-pub use own::{Authorised, Given, PollGoverned, Received};
+pub use own::{Authorised, Given, PollGoverned, Received, SessionGoverned};
 pub use records::{
     Appointment, Authority, Block, CastKind, CastMark, DemandMark, Ending, Meeting, Poll,
-    PresenceMark, RegisterRow, Resolution, Tally,
+    PresenceMark, RegisterRow, Resolution, Session, Tally,
 };
 pub use register::{Register, same_rows};
 pub use reply::{
     AppointmentReceipt, AppointmentUse, Declaration, Failure, GivenUse, Mine, Notice, NoticedPoll,
-    NoticedResolution, Reply,
+    NoticedResolution, NoticedSession, Reply,
 };
 pub use request::{
     Call, DeskRequest, NewAppointment, NewCast, NewMeeting, NewPoll, NewRegister, OfficeRequest,

@@ -3,6 +3,9 @@
 /// The most meetings of a desk.
 pub const MOST_MEETINGS: usize = 100;
 
+/// The most sessions of a meeting, which are numbered from 1.
+pub const MOST_SESSIONS: usize = 10;
+
 /// The most resolutions of a meeting, which are numbered from 1.
 pub const MOST_RESOLUTIONS: usize = 50;
 

@@ -19,6 +19,15 @@ pub struct PollGoverned {
     pub governs: Listing<Range>,
 }
 
+/// The places that an appointment governs in a session, in runs in order.
+#[derive(Clone, Drop)]
+pub struct SessionGoverned {
+    /// For the quorum and the demands of the session.
+    pub acts: Listing<Range>,
+    /// For its votes: those on each poll of the session that is not late.
+    pub votes: Listing<Range>,
+}
+
 /// What a party knows of an appointment that names it as the proxy, with the places of the member's
 /// shares that the appointment governs, in runs in order. The member's own number of it is left
 /// out, since it counts what the member gave to others.
@@ -31,8 +40,8 @@ pub struct Received {
     pub instructions: Listing<Instr>,
     /// When it was received.
     pub moment: Moment,
-    /// What it governs for the meeting, and for each poll that is not late.
-    pub governs: Listing<Range>,
+    /// What it governs in each session, in order.
+    pub sessions: Listing<SessionGoverned>,
     /// What it governs for each late poll, in the order of resolutions.
     pub polls: Listing<PollGoverned>,
 }

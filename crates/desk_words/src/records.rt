@@ -18,7 +18,16 @@ pub struct Resolution {
     pub text: Text,
 }
 
-/// A meeting as it is called (section 307), whether its register is loaded, and when it opened.
+/// A session of a meeting: the time for which it is appointed, and when it opened.
+#[derive(Clone, Copy, PartialEq, Eq)]
+pub struct Session {
+    /// The appointed time.
+    pub appointed: Moment,
+    /// When it opened; none until then.
+    pub opened: Option<Moment>,
+}
+
+/// A meeting as it is called (section 307), its sessions, and whether its register is loaded.
 #[derive(Clone, Drop)]
 pub struct Meeting {
     pub id: MeetingId,
@@ -26,13 +35,14 @@ pub struct Meeting {
     pub kind: MeetingKind,
     /// The day on which notice is given.
     pub given: Day,
-    /// The appointed time.
-    pub appointed: Moment,
+    /// The session for which the meeting is called.
+    pub first: Session,
+    /// The sessions to which it was adjourned, in order.
+    pub later: Listing<Session>,
     /// The moment as of which the register is taken.
     pub record_moment: Moment,
     pub resolutions: Resolutions,
     pub loaded: bool,
-    pub opened: Option<Moment>,
 }
 
 /// A holding in the register of members (section 113).
@@ -149,9 +159,11 @@ impl FiledBy for Authority {
     }
 }
 
-/// A mark that a party is present.
+/// A mark that a party is present in a session.
 #[derive(Clone, Copy, PartialEq, Eq)]
 pub struct PresenceMark {
+    /// The session's number, from 1.
+    pub session: u64,
     pub party: Party,
     pub moment: Moment,
 }
@@ -172,9 +184,11 @@ impl FiledBy for PresenceMark {
     }
 }
 
-/// A party's demand of a poll on a resolution (sections 321 and 329).
+/// A party's demand, in a session, of a poll on a resolution (sections 321 and 329).
 #[derive(Clone, Copy, PartialEq, Eq)]
 pub struct DemandMark {
+    /// The session's number, from 1.
+    pub session: u64,
     /// The resolution's number, from 1.
     pub resolution: u64,
     pub party: Party,
@@ -210,6 +224,8 @@ pub struct Tally {
 /// A poll on a resolution (section 321).
 #[derive(Clone, Copy, PartialEq, Eq)]
 pub struct Poll {
+    /// The number of the session in which it was ordered, from 1.
+    pub session: u64,
     /// The resolution's number, from 1.
     pub resolution: u64,
     /// When it was ordered.

@@ -5,12 +5,12 @@ use desk_calendar::{Day, Moment};
 use desk_lists::Listing;
 use desk_terms::{Company, MeetingId, MeetingKind, Refusal, ResKind, Text};
 
-/// What an appointment counts for, by the cutoff of the meeting as it stands (section 327).
+/// What an appointment counts for, by the cutoff of the last session as it stands (section 327).
 #[derive(Clone, Copy, PartialEq, Eq)]
 pub enum AppointmentUse {
-    /// It counts for the meeting, and for each poll that is not late.
+    /// It counts for the last session, and for each of its polls that is not late.
     Meeting,
-    /// It came too late for the meeting, and counts for late polls at most.
+    /// It came too late for the last session, and counts for late polls at most.
     LaterPolls,
 }
 
@@ -41,7 +41,10 @@ pub struct Mine {
     /// The appointments that name the party.
     pub received: Listing<Received>,
     pub authorised: Listing<Authorised>,
-    pub present: bool,
+    /// The number of the meeting's last session, from 1.
+    pub session: u64,
+    /// The sessions in which the party is present, by their numbers, in order.
+    pub presences: Listing<u64>,
     pub demands: Listing<DemandMark>,
     pub casts: Listing<CastMark>,
 }
@@ -54,9 +57,21 @@ pub struct Declaration {
     pub carried: bool,
 }
 
+/// A session as a notice shows it.
+#[derive(Clone, Copy, PartialEq, Eq)]
+pub struct NoticedSession {
+    /// The appointed time.
+    pub appointed: Moment,
+    /// The last moment at which an appointment for the session counts (section 327).
+    pub cutoff: Moment,
+    pub opened: Option<Moment>,
+}
+
 /// A poll as a notice shows it.
 #[derive(Clone, Copy, PartialEq, Eq)]
 pub struct NoticedPoll {
+    /// The number of the session in which it was ordered, from 1.
+    pub session: u64,
     /// When it was ordered.
     pub ordered: Moment,
     /// When it is to be taken.
@@ -92,15 +107,14 @@ pub struct Notice {
     pub kind: MeetingKind,
     /// The day on which notice is given.
     pub given: Day,
-    /// The appointed time.
-    pub appointed: Moment,
-    /// The last moment at which an appointment for the meeting counts (section 327).
-    pub cutoff: Moment,
+    /// The session for which the meeting is called.
+    pub first: NoticedSession,
+    /// The sessions to which it was adjourned, in order.
+    pub later: Listing<NoticedSession>,
     /// The moment as of which the register is taken.
     pub record_moment: Moment,
     /// Whether a register is loaded.
     pub loaded: bool,
-    pub opened: Option<Moment>,
     /// In the order of their numbers.
     pub resolutions: Listing<NoticedResolution>,
 }

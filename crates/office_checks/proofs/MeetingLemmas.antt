@@ -6,6 +6,7 @@ use Rattle.std.proofs.lemmas.Bool.{cases_Bool}
 use Rattle.std.proofs.lemmas.List.{take_all}
 use Rattle.std.proofs.lemmas.List.Folds.{list_all-map, list_all_at, list_all_more}
 use Rattle.std.specs.Cmp.Derive.{both_true}
+use Rattle.desk_words.specs.Sessions.{is_opened}
 use Rattle.desk_words.specs.Office.{implies, is_loaded_right, is_meeting, no_rows}
 use Rattle.desk_words.specs.Registers.{is_register}
 use Rattle.desk_words.specs.declared.office.MeetingLists.{MeetingLists}
@@ -27,17 +28,17 @@ and_false true = refl
 and_false false = refl
 
 -- a meeting that is opened without a register is not loaded as it should be
-pub loaded-opened : (m : MeetingLists) → implies (is_some m.meeting.opened) m.meeting.loaded ≡ false → is_loaded_right (in_order m) ≡ false
+pub loaded-opened : (m : MeetingLists) → implies (is_opened m.meeting.first) m.meeting.loaded ≡ false → is_loaded_right (in_order m) ≡ false
 loaded-opened m early =
     let rows = cond m.meeting.loaded (is_register (in_order m).register) (no_rows (in_order m).register) in ap (λ b. rows && b) early ∙ and_false rows
 
 pub loaded-none : (m : MeetingLists) → rows_checked m.meeting.loaded m.register ≡ None → is_loaded_right (in_order m) ≡ false
 loaded-none m none =
-    ap (λ b. b && implies (is_some m.meeting.opened) m.meeting.loaded)
+    ap (λ b. b && implies (is_opened m.meeting.first) m.meeting.loaded)
     (given-none (cond m.meeting.loaded (is_register (in_order m).register) (no_rows (in_order m).register)) (in_order m).register none)
 
 -- rows that are loaded as they should be, and stand in order
-pub loaded-some : (m : MeetingLists) (rows : List RegisterRow) → implies (is_some m.meeting.opened) m.meeting.loaded ≡ true → rows_checked m.meeting.loaded m.register ≡ Some rows
+pub loaded-some : (m : MeetingLists) (rows : List RegisterRow) → implies (is_opened m.meeting.first) m.meeting.loaded ≡ true → rows_checked m.meeting.loaded m.register ≡ Some rows
     → (is_loaded_right (in_order m) ≡ true) × (record m { register = rows } ≡ in_order m)
 loaded-some m rows right some =
     let both = given-some (cond m.meeting.loaded (is_register (in_order m).register) (no_rows (in_order m).register)) (in_order m).register rows some in

@@ -1,9 +1,9 @@
 -- Keys that the order does not tell apart are those of records that are alike.
-use Rattle.std.proofs.Common.{◌≡◌, ℕ, Bool, true, ◌&&◌, ◌==◌, List, refl, ap, sym, ◌∙◌}
+use Rattle.std.proofs.Common.{◌≡◌, ℕ, Bool, true, ◌&&◌, ◌==◌, List, Ordering, Less, Equal, Greater, refl, ap, sym, ◌∙◌}
 use Rattle.std.specs.Cmp.{both_ways}
 use Rattle.std.specs.Cmp.Derive.{both_true}
 use Rattle.std.specs.Cmp.Lexicographic.{texts_ties}
-use Rattle.std.specs.Ordering.{is_eq, nat_cmp}
+use Rattle.std.specs.Ordering.{is_eq, nat_cmp, ordering_then}
 use Rattle.std.proofs.lemmas.Bool.{eq-eqb, eqb-true}
 use Rattle.std.proofs.Math.Bool.{and_comm}
 use Rattle.desk_lists.proofs.Numbers.{is_eq-nat_cmp}
@@ -31,8 +31,22 @@ authority-ties a b =
     ∙ ap (λ x. same_name a.person b.person && x) (name-ties a.corporation b.corporation)
     ∙ and_comm (same_name a.person b.person) (same_name a.corporation b.corporation)
 
-pub demand-ties : (d e : DemandMark) → (is_eq (nat_cmp d.resolution e.resolution) && is_eq (name_cmp d.party e.party)) ≡ same_demand d e
-demand-ties d e = number_and_name d.resolution e.resolution d.party e.party
+pub presence-ties : (m n : PresenceMark) → (is_eq (nat_cmp m.session n.session) && is_eq (name_cmp m.party n.party)) ≡ same_presence m n
+presence-ties m n = number_and_name m.session n.session m.party n.party
+
+-- two numbers are compared one after the other
+both_numbers : (m n k l : ℕ) → is_eq (ordering_then (nat_cmp m n) (nat_cmp k l)) ≡ (m == n && k == l)
+both_numbers m n k l = go (nat_cmp m n) (nat_cmp k l) ∙ (λ i. is_eq-nat_cmp m n i && is_eq-nat_cmp k l i)
+  where
+    go : (a b : Ordering) → is_eq (ordering_then a b) ≡ (is_eq a && is_eq b)
+    go Less b = refl
+    go Equal b = refl
+    go Greater b = refl
+
+pub demand-ties : (d e : DemandMark) → (is_eq (ordering_then (nat_cmp d.session e.session) (nat_cmp d.resolution e.resolution)) && is_eq (name_cmp d.party e.party)) ≡ same_demand d e
+demand-ties d e =
+    ap (λ x. x && is_eq (name_cmp d.party e.party)) (both_numbers d.session e.session d.resolution e.resolution)
+    ∙ ap (λ x. (d.session == e.session && d.resolution == e.resolution) && x) (name-ties d.party e.party)
 
 -- ---- a likeness is reflexive and symmetric
 
@@ -64,16 +78,16 @@ pub authority-turned : (a b : Authority) → same_authority a b ≡ same_authori
 authority-turned a b = λ i. name-turned a.corporation b.corporation i && name-turned a.person b.person i
 
 pub presence-self : (m : PresenceMark) → same_presence m m ≡ true
-presence-self m = same_name-refl m.party
+presence-self m = both_true (number-self m.session) (same_name-refl m.party)
 
 pub presence-turned : (m n : PresenceMark) → same_presence m n ≡ same_presence n m
-presence-turned m n = name-turned m.party n.party
+presence-turned m n = λ i. number-turned m.session n.session i && name-turned m.party n.party i
 
 pub demand-self : (d : DemandMark) → same_demand d d ≡ true
-demand-self d = both_true (number-self d.resolution) (same_name-refl d.party)
+demand-self d = both_true (both_true (number-self d.session) (number-self d.resolution)) (same_name-refl d.party)
 
 pub demand-turned : (d e : DemandMark) → same_demand d e ≡ same_demand e d
-demand-turned d e = λ i. number-turned d.resolution e.resolution i && name-turned d.party e.party i
+demand-turned d e = λ i. (number-turned d.session e.session i && number-turned d.resolution e.resolution i) && name-turned d.party e.party i
 
 pub meeting-self : (m : MeetingLists) → same_meeting m m ≡ true
 meeting-self m = same_name-refl m.meeting.id

@@ -1,5 +1,5 @@
 //! Whether authorities, presences and demands are those of a meeting.
-ghost use Rattle.std.specs.Prelude.{◌≡◌, count_by, length, nat_le};
+ghost use Rattle.std.specs.Prelude.{◌≡◌, count_by, nat_le};
 ghost use Rattle.std.specs.List.{list_all};
 ghost use Rattle.desk_lists.specs.Ordered.{differ_by};
 ghost use Rattle.desk_terms.specs.Names.{same_name};
@@ -7,8 +7,10 @@ ghost use Rattle.desk_words.specs.declared.records.Authority.{Authority};
 ghost use Rattle.desk_words.specs.declared.records.DemandMark.{DemandMark};
 ghost use Rattle.desk_words.specs.declared.records.PresenceMark.{PresenceMark};
 ghost use Rattle.desk_words.specs.declared.limits.TheConstants.{MOST_AUTHORITIES};
-ghost use Rattle.desk_words.specs.Office.{are_authorities, same_authority, same_presence};
-ghost use Rattle.desk_words.specs.Office.{are_demands, is_resolution, same_demand};
+ghost use Rattle.desk_words.specs.Office.{are_authorities, same_authority};
+ghost use Rattle.desk_words.specs.Office.{are_demands, are_presences, is_demand, same_demand};
+ghost use Rattle.desk_words.specs.Office.{same_presence};
+ghost use Rattle.desk_words.specs.Sessions.{is_session};
 
 use crate::keys::{Marked, stand_once};
 use desk_words::limits::MOST_AUTHORITIES;
@@ -56,61 +58,71 @@ pub(crate) fn are_authorities(given: &Filed<Authority>) -> bool
     all_gave_few(given) && authorities_differ(given)
 }
 
-/// Whether the party is marked present once at most.
-fn is_marked_once(marks: &Filed<PresenceMark>, mark: &PresenceMark) -> bool
-    ensures { result ≡ nat_le (count_by (λ (other : PresenceMark). same_presence other mark.now)
-        marks.now) 1 }
-{
-    marks.places_by_first(mark.party).len() <= 1
-}
-
-fn are_marked_once(marks: &Filed<PresenceMark>) -> bool
-    ensures { result ≡ list_all (λ (mark : PresenceMark). nat_le (count_by
-        (λ (other : PresenceMark). same_presence other mark) marks.now) 1) marks.now }
-{
-    marks
-        .as_slice()
-        .iter()
-        .all(|mark| is_marked_once(marks, mark))
-}
-
-/// Whether no party is marked present twice.
-pub(crate) fn presences_differ(marks: &Filed<PresenceMark>) -> bool
-    ensures { result ≡ differ_by same_presence marks.now }
-{
-    are_marked_once(marks)
-}
-
-impl Marked for DemandMark {
+impl Marked for PresenceMark {
     type Mark = u64;
 
-    ghost mark_of = { λ demand. demand.resolution };
+    ghost mark_of = { λ presence. presence.session };
 
     fn mark(&self) -> u64 {
-        self.resolution
+        self.session
     }
 }
 
-/// Whether no party demands a poll on a resolution twice.
+/// Whether no party is marked present twice in a session.
+fn presences_differ(marks: &Filed<PresenceMark>) -> bool
+    ensures { result ≡ differ_by same_presence marks.now }
+{
+    stand_once(marks)
+}
+
+/// Whether each party is marked present in a session of the meeting.
+fn name_sessions(meeting: &Meeting, marks: &[PresenceMark]) -> bool
+    ensures { result ≡ list_all (λ (p : PresenceMark). is_session meeting.now p.session)
+        marks.now }
+{
+    marks.iter().all(|mark| meeting.has_session(mark.session))
+}
+
+/// Whether they are presences in the meeting.
+pub(crate) fn are_presences(meeting: &Meeting, marks: &Filed<PresenceMark>) -> bool
+    ensures { result ≡ are_presences meeting.now marks.now }
+{
+    name_sessions(meeting, marks.as_slice()) && presences_differ(marks)
+}
+
+impl Marked for DemandMark {
+    type Mark = (u64, u64);
+
+    ghost mark_of = { λ demand. (demand.session, demand.resolution) };
+
+    fn mark(&self) -> (u64, u64) {
+        (self.session, self.resolution)
+    }
+}
+
+/// Whether no party demands a poll on a resolution twice in a session.
 fn demands_differ(demands: &Filed<DemandMark>) -> bool
     ensures { result ≡ differ_by same_demand demands.now }
 {
     stand_once(demands)
 }
 
-/// Whether each demand is of a poll on a resolution of the meeting.
-fn name_resolutions(meeting: &Meeting, demands: &[DemandMark]) -> bool
-    ensures { result ≡ list_all (λ (d : DemandMark).
-        is_resolution (length meeting.now.resolutions) d.resolution) demands.now }
+/// Whether it is a demand, in a session of the meeting, of a poll on one of its resolutions.
+fn is_demand(meeting: &Meeting, demand: &DemandMark) -> bool
+    ensures { result ≡ is_demand meeting.now demand.now }
 {
-    demands
-        .iter()
-        .all(|demand| meeting.has_resolution(demand.resolution))
+    meeting.has_session(demand.session) && meeting.has_resolution(demand.resolution)
+}
+
+fn are_each_demands(meeting: &Meeting, demands: &[DemandMark]) -> bool
+    ensures { result ≡ list_all (is_demand meeting.now) demands.now }
+{
+    demands.iter().all(|demand| is_demand(meeting, demand))
 }
 
 /// Whether they are demands of polls in the meeting (sections 321 and 329).
 pub(crate) fn are_demands(meeting: &Meeting, demands: &Filed<DemandMark>) -> bool
-    ensures { result ≡ are_demands (length meeting.now.resolutions) demands.now }
+    ensures { result ≡ are_demands meeting.now demands.now }
 {
-    name_resolutions(meeting, demands.as_slice()) && demands_differ(demands)
+    are_each_demands(meeting, demands.as_slice()) && demands_differ(demands)
 }

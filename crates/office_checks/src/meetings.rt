@@ -1,17 +1,18 @@
 //! The lists of meetings. A register is a set of rows: it is put in order before anything is asked.
-ghost use Rattle.std.specs.Prelude.{◌≡◌, ◌&&◌, count_by, is_some, length, map, nat_le, true};
+ghost use Rattle.std.specs.Prelude.{◌≡◌, ◌&&◌, count_by, length, map, nat_le, true};
 ghost use Rattle.std.specs.List.{list_all};
 ghost use Rattle.desk_lists.specs.Ordered.{differ_by};
 ghost use Rattle.desk_words.specs.declared.office.MeetingLists.{MeetingLists};
 ghost use Rattle.desk_words.specs.Office.{are_appointments, are_authorities};
 ghost use Rattle.desk_words.specs.Office.{are_demands, are_endings};
 ghost use Rattle.desk_words.specs.Office.{are_casts, are_polls, implies, is_loaded_right};
-ghost use Rattle.desk_words.specs.Office.{is_meeting, same_meeting, same_presence};
+ghost use Rattle.desk_words.specs.Office.{are_presences, is_meeting, same_meeting};
+ghost use Rattle.desk_words.specs.Sessions.{is_opened};
 ghost use Rattle.desk_terms.specs.Names.{same_name};
 ghost use Rattle.office_checks.specs.InOrder.{in_order, meeting_checked, meetings_of, rows_checked};
 
 use crate::appointments::{are_appointments, are_endings};
-use crate::attendance::{are_authorities, are_demands, presences_differ};
+use crate::attendance::{are_authorities, are_demands, are_presences};
 use crate::polls::{are_casts, are_polls};
 use desk_words::limits::MOST_MEETINGS;
 use desk_words::{
@@ -35,9 +36,9 @@ fn rows_checked(loaded: bool, rows: Listing<RegisterRow>) -> Option<Listing<Regi
 }
 
 fn is_loaded_once_opened(meeting: &Meeting) -> bool
-    ensures { result ≡ implies (is_some meeting.now.opened) meeting.now.loaded }
+    ensures { result ≡ implies (is_opened meeting.now.first) meeting.now.loaded }
 {
-    meeting.opened.is_none() || meeting.loaded
+    !meeting.first.is_opened() || meeting.loaded
 }
 
 /// Puts the register in order, and says whether it is loaded as it should be. Where it is not, the
@@ -74,19 +75,18 @@ fn are_papers(
 /// Whether the authorities, the presences and the demands are those of the meeting.
 fn is_attended(lists: &MeetingLists) -> bool
     ensures { result
-        ≡ (are_authorities lists.now.authorities && differ_by same_presence lists.now.presences
-        && are_demands (length lists.now.meeting.resolutions) lists.now.demands) }
+        ≡ (are_authorities lists.now.authorities && are_presences lists.now.meeting lists.now.presences
+        && are_demands lists.now.meeting lists.now.demands) }
 {
     are_authorities(&lists.authorities)
-        && presences_differ(&lists.presences)
+        && are_presences(&lists.meeting, &lists.presences)
         && are_demands(&lists.meeting, &lists.demands)
 }
 
 /// Whether the polls and the casts are those of the meeting.
 fn is_polled(lists: &MeetingLists) -> bool
     ensures { result
-        ≡ (are_polls (is_some lists.now.meeting.opened) (length lists.now.meeting.resolutions)
-        lists.now.polls
+        ≡ (are_polls lists.now.meeting lists.now.polls
         && are_casts lists.now.polls lists.now.casts) }
 {
     let polls = lists.polls.as_slice();
@@ -99,7 +99,8 @@ fn is_meeting(lists: &MeetingLists) -> bool
     ensures { result ≡ is_meeting lists.now }
 {
     let resolutions = lists.meeting.resolutions.as_slice().len();
-    are_papers(resolutions, &lists.appointments, &lists.endings)
+    lists.meeting.has_sessions()
+        && are_papers(resolutions, &lists.appointments, &lists.endings)
         && is_attended(lists)
         && is_polled(lists)
 }

@@ -1,5 +1,5 @@
 //! Whether polls and casts are those of a meeting.
-ghost use Rattle.std.specs.Prelude.{◌≡◌, ◌&&◌, ◌==◌, Some, count_by, is_some, length, nat_le, not, take, true};
+ghost use Rattle.std.specs.Prelude.{◌≡◌, ◌&&◌, ◌==◌, Some, count_by, nat_le, not, take, true};
 ghost use Rattle.std.specs.List.{list_all, list_any, slice_get};
 ghost use Rattle.std.specs.Option.{option_copied};
 ghost use Rattle.desk_lists.specs.Ordered.{ascends_by};
@@ -35,19 +35,20 @@ fn is_declared_right(declared: Option<&Tally>) -> bool
     }
 }
 
-/// Whether it is a poll on a resolution of the meeting that came no further than it may (section
-/// 321).
+/// Whether it is a poll in an opened session, on a resolution of the meeting, that came no further
+/// than it may (section 321).
 fn is_poll(meeting: &Meeting, poll: &Poll) -> bool
-    ensures { result ≡ is_poll (length meeting.now.resolutions) poll.now }
+    ensures { result ≡ is_poll meeting.now poll.now }
 {
-    meeting.has_resolution(poll.resolution)
+    meeting.has_opened(poll.session)
+        && meeting.has_resolution(poll.resolution)
         && (poll.closed.is_none() || poll.started.is_some())
         && (poll.declared.is_none() || poll.closed.is_some())
         && is_declared_right(poll.declared.as_ref())
 }
 
 fn are_each_right(meeting: &Meeting, polls: &[Poll]) -> bool
-    ensures { result ≡ list_all (is_poll (length meeting.now.resolutions)) polls.now }
+    ensures { result ≡ list_all (is_poll meeting.now) polls.now }
 {
     polls.iter().all(|poll| is_poll(meeting, poll))
 }
@@ -61,11 +62,9 @@ fn stand_in_order(polls: &[Poll]) -> bool
 
 /// Whether they are the polls of the meeting (section 321).
 pub(crate) fn are_polls(meeting: &Meeting, polls: &[Poll]) -> bool
-    ensures { result ≡ are_polls (is_some meeting.now.opened)
-        (length meeting.now.resolutions) polls.now }
+    ensures { result ≡ are_polls meeting.now polls.now }
 {
-    polls.is_empty()
-        || (meeting.opened.is_some() && are_each_right(meeting, polls) && stand_in_order(polls))
+    are_each_right(meeting, polls) && stand_in_order(polls)
 }
 
 fn is_cast_on(cast: &CastMark, poll: &Poll) -> bool
