@@ -1,21 +1,22 @@
 //! Cutoffs: until when appointments and endings count.
 ghost use Rattle.std.specs.Prelude.{◌≡◌};
-ghost use Rattle.proxy_rules.specs.Cutoffs.{back_or_first, is_late_poll, meeting_cutoffs, late_cutoffs, cutoffs_of};
+ghost use Rattle.proxy_rules.specs.Cutoffs.{back_or_first, is_late_poll, session_cutoffs, late_cutoffs, cutoffs_of};
+ghost use Rattle.desk_words.specs.Sessions.{session_of};
 ghost use Rattle.proxy_rules.specs.Uses.{use_of};
 
 use crate::papers::Cutoffs;
 use desk_words::limits::{HOURS_BEFORE_LATE_POLL, HOURS_BEFORE_MEETING};
-use desk_words::{Meeting, Moment, Poll};
+use desk_words::{Meeting, Moment, Poll, Session};
 use office_days::Closed;
 
 /// For what an appointment and its ending are asked to count (sections 327 and 330).
 #[derive(Clone, Copy)]
 pub enum Use<'a> {
-    /// For the acts of those who are present at the meeting: its quorum, and demands of polls
-    /// (sections 318, 321 and 329).
-    Acts,
-    /// For votes on the polls that are not late.
-    Votes,
+    /// For the acts of those who are present in the session of this number: its quorum, and demands
+    /// of polls (sections 318, 321 and 329).
+    Acts(u64),
+    /// For votes on those polls of the session of this number that are not late.
+    Votes(u64),
     /// For votes on this poll, late or not.
     Vote(&'a Poll),
 }
@@ -37,13 +38,23 @@ pub fn is_late_poll(closed: &Closed, poll: &Poll) -> bool
     closed.is_late(poll.ordered, poll.take)
 }
 
-fn meeting_cutoffs(meeting: &Meeting, closed: &Closed, now: Moment) -> Cutoffs
-    ensures { result ≡ meeting_cutoffs meeting.now closed.now now }
+/// The cutoffs of a session, where endings count until another session opened.
+fn session_cutoffs(session: &Session, ended_by: &Session, closed: &Closed, now: Moment) -> Cutoffs
+    ensures { result ≡ session_cutoffs session.now ended_by.now closed.now now }
 {
     Cutoffs {
-        appointments: back_or_first(closed, HOURS_BEFORE_MEETING, meeting.appointed),
-        endings: meeting.opened.unwrap_or(now),
+        appointments: back_or_first(closed, HOURS_BEFORE_MEETING, session.appointed),
+        endings: ended_by.opened.unwrap_or(now),
     }
+}
+
+/// The cutoffs for votes in the session of a number.
+fn votes_cutoffs(meeting: &Meeting, number: u64, closed: &Closed, now: Moment) -> Cutoffs
+    ensures { result ≡ session_cutoffs (session_of meeting.now number)
+        (session_of meeting.now number) closed.now now }
+{
+    let session = meeting.session_or_first(number);
+    session_cutoffs(&session, &session, closed, now)
 }
 
 fn late_cutoffs(poll: &Poll, closed: &Closed) -> Cutoffs
@@ -55,14 +66,20 @@ fn late_cutoffs(poll: &Poll, closed: &Closed) -> Cutoffs
     }
 }
 
-/// The cutoffs for a use of appointments in a meeting, by the closed days as they stand: those of
-/// the meeting for its quorum, for demands, and for votes on polls that are not late, and a late
-/// poll's own for votes on it (sections 327 and 330). It takes no memory.
+/// The cutoffs for a use of appointments in a meeting, by the closed days as they stand: those of a
+/// session for its quorum, for its demands, and for votes on its polls that are not late, and a late
+/// poll's own for votes on it (sections 327 and 330). For the quorum and demands of each session an
+/// ending counts only before the meeting first opened. It takes no memory.
 pub fn cutoffs(meeting: &Meeting, purpose: Use<'_>, closed: &Closed, now: Moment) -> Cutoffs
     ensures { result ≡ cutoffs_of meeting.now (use_of purpose.entry) closed.now now }
 {
     match purpose {
         Use::Vote(poll) if is_late_poll(closed, poll) => late_cutoffs(poll, closed),
-        Use::Acts | Use::Votes | Use::Vote(_) => meeting_cutoffs(meeting, closed, now),
+        Use::Acts(number) => {
+            let session = meeting.session_or_first(number);
+            session_cutoffs(&session, &meeting.first, closed, now)
+        }
+        Use::Votes(number) => votes_cutoffs(meeting, number, closed, now),
+        Use::Vote(poll) => votes_cutoffs(meeting, poll.session, closed, now),
     }
 }
