@@ -4,7 +4,7 @@ use Rattle.std.specs.List.{list_any}
 use Rattle.std.specs.Option.{option_map_or}
 use Rattle.desk_terms.specs.Names.{same_name}
 use Rattle.desk_terms.specs.Places.{places_that}
-use Rattle.desk_words.specs.Seen.{Number, Party, Place}
+use Rattle.desk_words.specs.Seen.{Number, Party, Place, SessionNumber}
 use Rattle.desk_words.specs.declared.records.Appointment.{Appointment}
 use Rattle.desk_words.specs.declared.records.Authority.{Authority}
 use Rattle.desk_words.specs.declared.records.DemandMark.{DemandMark}
@@ -16,10 +16,16 @@ use Rattle.proxy_rules.specs.Shares.{is_corporation, is_individual, shares_of}
 use Rattle.proxy_rules.specs.declared.papers.Cutoffs.{Cutoffs}
 use Rattle.poll_rules.specs.declared.demand.Demand.{Demand}
 
--- the person demanded a poll on the resolution
-abbrev pub has_demanded : List DemandMark → Number → Party → Bool
-has_demanded demands resolution person =
-    list_any (λ (d : DemandMark). d.resolution == resolution && same_name d.party person) demands
+-- the demand was made in the session, of a poll on the resolution
+abbrev pub is_demand_in : SessionNumber → Number → DemandMark → Bool
+is_demand_in session resolution d = d.session == session && d.resolution == resolution
+
+-- the person demanded a poll on the resolution in the session
+abbrev pub has_demanded : List DemandMark → SessionNumber → Number → Party → Bool
+has_demanded demands session resolution person =
+    list_any
+    (λ (d : DemandMark). is_demand_in session resolution d && same_name d.party person)
+    demands
 
 -- the individual who holds the row demanded it
 abbrev pub holder_demanded : (Party → Bool) → RegisterRow → Bool
@@ -37,7 +43,7 @@ abbrev pub names_one : (Party → Bool) → Option Appointment → Bool
 names_one demanded by = option_map_or (λ (a : Appointment). demanded a.proxy) by false
 
 -- the share of the row at that place demands it: its holder did, or a representative, or the proxy
--- who governs it for the meeting (section 329)
+-- who governs it by these cutoffs (section 329)
 abbrev pub share_demands : (Party → Bool) → Cutoffs → List Appointment → List Ending
     → List Authority → RegisterRow → Place → Bool
 share_demands demanded cutoffs given ended authorities row place =
@@ -73,9 +79,10 @@ demand_by demanding rows =
           is_enough members shares paid (sum_by shares_of rows) (sum_by (paid_on shares_of) rows);
     }
 
--- the demand of a poll on a resolution, by its shares one by one
+-- the demand in a session of a poll on a resolution, by its shares one by one
 abbrev pub demand_of : Cutoffs → List RegisterRow → List Appointment → List Ending → List Authority
-    → List DemandMark → Number → Demand
-demand_of cutoffs register given ended authorities demands resolution =
-    demand_by (shares_demanding (has_demanded demands resolution) cutoffs given ended authorities)
+    → List DemandMark → SessionNumber → Number → Demand
+demand_of cutoffs register given ended authorities demands session resolution =
+    demand_by
+    (shares_demanding (has_demanded demands session resolution) cutoffs given ended authorities)
     register

@@ -1,8 +1,8 @@
--- The quorum of a meeting (section 318).
-use Rattle.std.specs.Prelude.{Bool, true, false, not, ◌&&◌, List, [], ◌∷◌, map, filter}
+-- The quorum of a session of a meeting (section 318).
+use Rattle.std.specs.Prelude.{Bool, true, false, not, ◌&&◌, ◌==◌, List, [], ◌∷◌, map, filter}
 use Rattle.std.specs.List.{list_any}
 use Rattle.desk_terms.specs.Names.{same_name}
-use Rattle.desk_words.specs.Seen.{Party}
+use Rattle.desk_words.specs.Seen.{Party, SessionNumber}
 use Rattle.desk_words.specs.declared.records.Appointment.{Appointment}
 use Rattle.desk_words.specs.declared.records.Authority.{Authority}
 use Rattle.desk_words.specs.declared.records.Ending.{Ending}
@@ -52,9 +52,13 @@ is_quorum (first ∷ second ∷ rows) roles present =
     (λ other. not (same_name person other) && are_two (roles person) (roles other)) present)
     present
 
--- whether those who are present make a quorum
+-- the marks of those who are present in the session
+abbrev pub present_in : SessionNumber → List PresenceMark → List PresenceMark
+present_in session presences = filter (λ (mark : PresenceMark). mark.session == session) presences
+
+-- whether those who are present in the session make a quorum
 abbrev pub quorum_of : Cutoffs → List RegisterRow → List Appointment → List Ending → List Authority
-    → List PresenceMark → Bool
-quorum_of cutoffs register given ended authorities presences =
+    → List PresenceMark → SessionNumber → Bool
+quorum_of cutoffs register given ended authorities presences session =
     is_quorum (filter is_counted register) (roles_of cutoffs register given ended authorities)
-    (map (λ (mark : PresenceMark). mark.party) presences)
+    (map (λ (mark : PresenceMark). mark.party) (present_in session presences))

@@ -6,7 +6,7 @@ ghost use Rattle.desk_words.specs.Office.{are_numbered_after, are_rows};
 ghost use Rattle.proxy_rules.specs.Holdings.{are_tags};
 ghost use Rattle.proxy_rules.specs.Tiles.{shares_if};
 ghost use Rattle.poll_rules.specs.DemandSums.{FitsRow, demand_from, is_one_of, sums_by, with_row};
-ghost use Rattle.poll_rules.specs.Demands.{by_a_representative, holder_demanded, demand_of, has_demanded, is_enough, names_one, shares_demanding};
+ghost use Rattle.poll_rules.specs.Demands.{by_a_representative, holder_demanded, demand_of, has_demanded, is_demand_in, is_enough, names_one, shares_demanding};
 
 use desk_words::{Appointment, Authority, DemandMark, Filed, HolderKind, Party, RegisterRow};
 use proxy_rules::{Cutoffs, GovernedPiece, Holding, Papers, authorised_by, shares};
@@ -48,19 +48,27 @@ const NOTHING: Sums = Sums {
     all_paid: 0,
 };
 
-/// Those who demanded a poll on the resolution.
+/// Whether the demand was made in the session, of a poll on the resolution.
+fn is_demand_in(demand: &DemandMark, session: u64, resolution: u64) -> bool
+    ensures { result ≡ is_demand_in session resolution demand.now }
+{
+    demand.session == session && demand.resolution == resolution
+}
+
+/// Those who demanded a poll on the resolution in the session.
 fn demanders(
     alloc: Global,
     demands: &[DemandMark],
+    session: u64,
     resolution: u64,
 ) -> Result<BTreeSet<Party>, AllocError>
     ensures { IfOk result
         (λ persons. (person : List ℕ)
-        → is_one_of persons person ≡ has_demanded demands.now resolution person) }
+        → is_one_of persons person ≡ has_demanded demands.now session resolution person) }
 {
     let mut persons = BTreeSet::new(alloc);
     for demand in demands {
-        if demand.resolution == resolution {
+        if is_demand_in(demand, session, resolution) {
             persons.insert(demand.party)?;
         }
     }
@@ -211,14 +219,15 @@ fn is_enough(sums: &Sums) -> bool
             || 10 * sums.paid >= sums.all_paid)
 }
 
-/// The demand of a poll on a resolution: a share demands it if the individual who holds it, a
-/// representative of the corporation that holds it, or the proxy who governs it by these cutoffs
-/// has demanded it (sections 321, 323 and 329). Treasury shares are none. The error is want of
-/// memory.
+/// The demand, in the session of that number, of a poll on a resolution: a share demands it if the
+/// individual who holds it, a representative of the corporation that holds it, or the proxy who
+/// governs it by these cutoffs has demanded it in this session (sections 321, 323 and 329). Treasury
+/// shares are none. The error is want of memory.
 pub fn demand_reached(
     alloc: Global,
     cutoffs: &Cutoffs,
     papers: &Papers,
+    session: u64,
     resolution: u64,
 ) -> Result<Demand, AllocError>
     requires rows { are_rows papers.now.register.now ≡ true }
@@ -227,10 +236,10 @@ pub fn demand_reached(
     ensures { IfOk result
         (λ demand. demand
         ≡ demand_of cutoffs.now papers.now.register.now papers.now.appointments.now
-        papers.now.endings.now papers.now.authorities.now papers.now.demands.now
+        papers.now.endings.now papers.now.authorities.now papers.now.demands.now session
         resolution) }
 {
-    let demanders = demanders(alloc, papers.demands.as_slice(), resolution)?;
+    let demanders = demanders(alloc, papers.demands.as_slice(), session, resolution)?;
     let sums = sums_over(alloc, cutoffs, papers, &demanders)?;
     Ok(Demand {
         members: sums.members,

@@ -1,4 +1,4 @@
-//! The quorum of a meeting.
+//! The quorum of a session of a meeting.
 ghost use Rattle.std.specs.Prelude.{◌≡◌, [], true, IfOk, filter, length, map};
 ghost use Rattle.std.specs.List.{list_any};
 ghost use Rattle.desk_lists.specs.Ordered.{differ_by};
@@ -7,7 +7,7 @@ ghost use Rattle.desk_words.specs.declared.records.PresenceMark.{PresenceMark};
 ghost use Rattle.proxy_rules.specs.Holdings.{are_tags};
 ghost use Rattle.poll_rules.specs.Pairs.{first_qualifying, is_second, two_with_the_first};
 ghost use Rattle.poll_rules.specs.Gathered.{items_at};
-ghost use Rattle.poll_rules.specs.Quorum.{are_as_one, are_two, is_counted, is_quorum, qualifies, quorum_of};
+ghost use Rattle.poll_rules.specs.Quorum.{are_as_one, are_two, is_counted, is_quorum, present_in, qualifies, quorum_of};
 
 use crate::gathered::items_of;
 use crate::roles::{Role, roles_by_person};
@@ -56,6 +56,21 @@ fn are_two(one: &[Role], other: &[Role]) -> bool
     ensures { result ≡ are_two one.now other.now }
 {
     qualifies(one) && qualifies(other) && !are_as_one(one, other)
+}
+
+/// The marks of those who are present in the session.
+fn present_in(
+    alloc: Global,
+    presences: &[PresenceMark],
+    session: u64,
+) -> Result<Vec<PresenceMark>, AllocError>
+    ensures { IfOk result (λ present. present.items ≡ present_in session presences.now) }
+{
+    presences
+        .iter()
+        .copied()
+        .filter(|mark| mark.session == session)
+        .collect(alloc)
 }
 
 /// Whether someone who is present qualifies.
@@ -128,15 +143,20 @@ fn make_quorum(
     }
 }
 
-/// Whether those who are present make a quorum (section 318).
+/// Whether those who are present in the session of that number make a quorum (section 318).
 ///
-/// A person who is present qualifies as an individual member, as a representative of a corporation
+/// A person who is present then qualifies as an individual member, as a representative of a corporation
 /// of the register (section 323), or as a proxy who governs at least one share of a member by these
 /// cutoffs (section 324). Where one row alone is no treasury row, one such person makes the quorum;
 /// where there are more, two different ones do, but not two who both act for one corporation alone
 /// or both for one member as proxies alone. With no such row there is no quorum. The error is want
 /// of memory.
-pub fn quorum(alloc: Global, cutoffs: &Cutoffs, papers: &Papers) -> Result<bool, AllocError>
+pub fn quorum(
+    alloc: Global,
+    cutoffs: &Cutoffs,
+    papers: &Papers,
+    session: u64,
+) -> Result<bool, AllocError>
     requires rows { are_rows papers.now.register.now ≡ true }
     requires tags { are_tags papers.now.appointments.now ≡ true }
     requires numbered { are_numbered_after [] papers.now.appointments.now ≡ true }
@@ -144,8 +164,9 @@ pub fn quorum(alloc: Global, cutoffs: &Cutoffs, papers: &Papers) -> Result<bool,
     ensures { IfOk result
         (λ is_quorum. is_quorum
         ≡ quorum_of cutoffs.now papers.now.register.now papers.now.appointments.now
-        papers.now.endings.now papers.now.authorities.now papers.now.presences.now) }
+        papers.now.endings.now papers.now.authorities.now papers.now.presences.now session) }
 {
     let roles = roles_by_person(alloc, cutoffs, papers)?;
-    Ok(make_quorum(papers.register, papers.presences.as_slice(), &roles))
+    let present = present_in(alloc, papers.presences.as_slice(), session)?;
+    Ok(make_quorum(papers.register, present.as_slice(), &roles))
 }

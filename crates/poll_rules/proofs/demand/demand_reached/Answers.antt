@@ -28,4 +28,4 @@ returns c =
     let made : (record { members = s.members; shares = s.shares; paid = s.paid; reached = c.is_enough.result }) ≡ demand_from s = λ k. record { members = s.members; shares = s.shares; paid = s.paid; reached = c.is_enough.ensures k } in
     made
     ∙ ap demand_from c.in_ok-sums.ensures
-    ∙ ap (λ demanded. demand_by (shares_demanding demanded c.args.cutoffs.now papers.appointments.now papers.endings.now papers.authorities.now) papers.register.now) (λ k person. (c.in_ok-demanders.ensures person ∙ ap (λ all. has_demanded all c.args.resolution person) c.as_slice.ensures) k)
+    ∙ ap (λ demanded. demand_by (shares_demanding demanded c.args.cutoffs.now papers.appointments.now papers.endings.now papers.authorities.now) papers.register.now) (λ k person. (c.in_ok-demanders.ensures person ∙ ap (λ all. has_demanded all c.args.session c.args.resolution person) c.as_slice.ensures) k)

@@ -5,4 +5,4 @@ use Rattle.poll_rules.proofs.demand.demanders.Given as goal
 
 -- those who made the first demands
 abbrev pub invariant-loop-demand : goal.invariant-loop-demand
-invariant-loop-demand l = (person : List ℕ) → is_one_of l.persons person ≡ has_demanded (take l.demand-index l.demands) l.resolution person
+invariant-loop-demand l = (person : List ℕ) → is_one_of l.persons person ≡ has_demanded (take l.demand-index l.demands) l.session l.resolution person

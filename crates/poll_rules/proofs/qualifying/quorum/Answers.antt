@@ -3,7 +3,7 @@ use Rattle.std.specs.Prelude.{filter}
 use Rattle.desk_words.specs.declared.records.PresenceMark.{PresenceMark}
 use Rattle.proxy_rules.proofs.ShareLemmas.{all_shares-le}
 use Rattle.poll_rules.specs.Gathered.{items_at}
-use Rattle.poll_rules.specs.Quorum.{is_counted, is_quorum}
+use Rattle.poll_rules.specs.Quorum.{is_counted, is_quorum, present_in}
 use Rattle.poll_rules.proofs.qualifying.quorum.Goals as goal
 
 pub roles_by_person-requires-clause-few : goal.roles_by_person-requires-clause-few
@@ -13,5 +13,5 @@ pub returns : goal.returns
 returns c =
     let papers = c.args.papers.now in
     c.make_quorum.ensures
-    ∙ ap (λ presences. is_quorum (filter is_counted papers.register.now) (items_at c.in_ok-roles.roles) (map (λ (mark : PresenceMark). mark.party) presences)) c.as_slice.ensures
-    ∙ ap (λ roles. is_quorum (filter is_counted papers.register.now) roles (map (λ (mark : PresenceMark). mark.party) papers.presences.now)) (λ k person. c.in_ok-roles.ensures person k)
+    ∙ ap (λ presences. is_quorum (filter is_counted papers.register.now) (items_at c.in_ok-roles.roles) (map (λ (mark : PresenceMark). mark.party) presences)) (c.as_slice-2.ensures.value ∙ c.in_ok-present.ensures ∙ ap (present_in c.args.session) c.as_slice.ensures)
+    ∙ ap (λ roles. is_quorum (filter is_counted papers.register.now) roles (map (λ (mark : PresenceMark). mark.party) (present_in c.args.session papers.presences.now))) (λ k person. c.in_ok-roles.ensures person k)
