@@ -4,6 +4,7 @@ use Rattle.std.proofs.lemmas.Bool.{eqb-true}
 use Rattle.std.proofs.lemmas.Option.{slice_get-get_or}
 use Rattle.std.specs.Prelude.{◌==◌, Option, Some, filter, find, option_and_then, reverse}
 use Rattle.std.specs.List.{slice_get}
+use Rattle.std.specs.Cmp.{first_so, second_so}
 use Rattle.std.specs.Cmp.Lexicographic.{texts_ties}
 use Rattle.std.specs.Ordering.{is_eq}
 use Rattle.std.proofs.lemmas.List.{reverse-append, take_more}
@@ -12,12 +13,16 @@ use Rattle.desk_words.specs.declared.own.Received.{Received}
 use Rattle.desk_words.specs.declared.records.Appointment.{Appointment}
 use Rattle.desk_words.specs.declared.records.Meeting.{Meeting}
 use Rattle.desk_words.specs.declared.records.Poll.{Poll}
-use Rattle.proxy_rules.specs.Cutoffs.{cutoffs_of, is_late_poll}
-use Rattle.proxy_rules.specs.Uses.{Votes}
+use Rattle.desk_words.specs.declared.records.Session.{Session}
+use Rattle.desk_words.specs.Sessions.{sessions_of}
+use Rattle.proxy_rules.specs.Cutoffs.{is_late_poll}
 use Rattle.proxy_rules.specs.declared.papers.Cutoffs.{Cutoffs}
-use Rattle.caller_view.specs.Kept.{late_in_rows, late_of, received_with}
-use Rattle.caller_view.specs.Own.{governed_by, known_to_proxy, poll_governed, received_by, rows_by}
+use Rattle.caller_view.specs.Kept.{late_in_rows, late_of, received_with, same_cutoffs, session_cutoffs, session_in_rows}
+use Rattle.caller_view.specs.Own.{known_to_proxy, poll_governed, received_by, rows_by, session_governed}
+use Rattle.caller_view.specs.Sessions.{each_session}
 use Rattle.caller_view.specs.declared.governed.LatePoll.{LatePoll}
+use Rattle.caller_view.specs.declared.governed.SessionCutoffs.{SessionCutoffs}
+use Rattle.caller_view.proofs.Numbering.{map-numbered}
 use Rattle.caller_view.specs.declared.rows.MemberRows.{MemberRows}
 
 -- one member's rows more, which are the last of its name
@@ -48,17 +53,29 @@ late-governed members closed meeting now member number [] = refl
 late-governed members closed meeting now member number (poll ∷ polls) =
     ap (λ l. poll_governed members closed meeting now member number poll ∷ l) (late-governed members closed meeting now member number polls)
 
+-- cutoffs that pass the test are the same
+pub same_cutoffs-true : (a b : Cutoffs) → same_cutoffs a b ≡ true → a ≡ b
+same_cutoffs-true a b h =
+    let appointments = eqb-true a.appointments b.appointments (first_so (a.appointments == b.appointments) (a.endings == b.endings) h) in
+    let endings = eqb-true a.endings b.endings (second_so (a.appointments == b.appointments) (a.endings == b.endings) h) in
+    λ i. record { appointments = appointments i; endings = endings i }
+
+-- what is governed in each session, by its cutoffs
+pub sessions-governed : (members : List MemberRows) (closed : List ℕ) (meeting : Meeting) (now : ℕ) (member : List ℕ) (number : ℕ)
+    → map (session_in_rows members member number) (each_session (session_cutoffs meeting closed now) meeting) ≡ each_session (session_governed members closed meeting now member number) meeting
+sessions-governed members closed meeting now member number =
+    map-numbered (session_in_rows members member number) (λ at (s : Session). session_cutoffs meeting closed now at) 1 (sessions_of meeting)
+
 -- what is known of appointments is what their members' rows give
-pub received-alike : (members : List MemberRows) (closed : List ℕ) (meeting : Meeting) (polls : List Poll) (now : ℕ) (cutoffs : Cutoffs) (late : List LatePoll) (received : List Appointment)
-    → cutoffs ≡ cutoffs_of meeting Votes closed now → late ≡ map (late_of meeting closed now) (filter (is_late_poll closed) polls)
-    → map (received_with members cutoffs late) received ≡ map (received_by members closed meeting polls now) received
-received-alike members closed meeting polls now cutoffs late [] by_cutoffs are_late = refl
-received-alike members closed meeting polls now cutoffs late (a ∷ received) by_cutoffs are_late =
+pub received-alike : (members : List MemberRows) (closed : List ℕ) (meeting : Meeting) (polls : List Poll) (now : ℕ) (sessions : List SessionCutoffs) (late : List LatePoll) (received : List Appointment)
+    → sessions ≡ each_session (session_cutoffs meeting closed now) meeting → late ≡ map (late_of meeting closed now) (filter (is_late_poll closed) polls)
+    → map (received_with members sessions late) received ≡ map (received_by members closed meeting polls now) received
+received-alike members closed meeting polls now sessions late [] by_cutoffs are_late = refl
+received-alike members closed meeting polls now sessions late (a ∷ received) by_cutoffs are_late =
+    let sessions_too = ap (map (session_in_rows members a.member a.number)) by_cutoffs ∙ sessions-governed members closed meeting now a.member a.number in
     let polls_too = ap (map (late_in_rows members a.member a.number)) are_late ∙ late-governed members closed meeting now a.member a.number (filter (is_late_poll closed) polls) in
-    ap (λ first. first ∷ map (received_with members cutoffs late) received)
-    (ap (λ c. known_to_proxy a (governed_by members c a.member a.number) (map (late_in_rows members a.member a.number) late)) by_cutoffs
-    ∙ ap (known_to_proxy a (governed_by members (cutoffs_of meeting Votes closed now) a.member a.number)) polls_too)
-    ∙ ap (λ rest. received_by members closed meeting polls now a ∷ rest) (received-alike members closed meeting polls now cutoffs late received by_cutoffs are_late)
+    ap (λ first. first ∷ map (received_with members sessions late) received) (λ i. known_to_proxy a (sessions_too i) (polls_too i))
+    ∙ ap (λ rest. received_by members closed meeting polls now a ∷ rest) (received-alike members closed meeting polls now sessions late received by_cutoffs are_late)
 
 -- of no appointments nothing is known
 pub none-received : (known : Appointment → Received) (received : List Appointment) → (length received == 0) ≡ true → [] ≡ map known received

@@ -1,6 +1,6 @@
 -- Values with their numbers.
-use Rattle.std.proofs.Common.{◌≡◌, ℕ, suc, ◌+◌, List, [], ◌∷◌, ◌++◌, length, refl, ap, ◌∙◌, arith}
-use Rattle.caller_view.specs.Notices.{numbered}
+use Rattle.std.proofs.Common.{◌≡◌, ℕ, suc, ◌+◌, List, [], ◌∷◌, ◌++◌, length, map, refl, ap, ◌∙◌, arith}
+use Rattle.caller_view.specs.Sessions.{numbered}
 
 -- there are as many
 pub length-numbered : {X Y : Type 0} (f : ℕ → X → Y) (n : ℕ) (xs : List X) → length (numbered f n xs) ≡ length xs
@@ -15,3 +15,8 @@ numbered-more f n [] x =
 numbered-more f n (y ∷ ys) x =
     let same : suc n + length ys ≡ n + suc (length ys) = omega arith in
     ap (λ zs. f n y ∷ zs) (numbered-more f (suc n) ys x ∙ ap (λ k. numbered f (suc n) ys ++ f k x ∷ []) same)
+
+-- what is made of each
+pub map-numbered : {X Y Z : Type 0} (g : Y → Z) (f : ℕ → X → Y) (n : ℕ) (xs : List X) → map g (numbered f n xs) ≡ numbered (λ k x. g (f k x)) n xs
+map-numbered g f n [] = refl
+map-numbered g f n (x ∷ xs) = ap (λ zs. g (f n x) ∷ zs) (map-numbered g f (suc n) xs)

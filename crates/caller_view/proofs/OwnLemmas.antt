@@ -20,7 +20,8 @@ use Rattle.proxy_rules.specs.Holdings.{is_given_by}
 use Rattle.proxy_rules.specs.Uses as uses
 use Rattle.proxy_rules.specs.declared.papers.Cutoffs.{Cutoffs}
 use Rattle.proxy_rules.proofs.ListLemmas.{reverse-filter}
-use Rattle.caller_view.specs.Own.{authorised_in_rows, governed_by, governed_kept, known_to_proxy, own_by, poll_governed, received_by, rows_by}
+use Rattle.caller_view.specs.Own.{authorised_in_rows, governed_by, governed_kept, known_to_proxy, own_by, poll_governed, received_by, rows_by, session_governed}
+use Rattle.caller_view.specs.Sessions.{each_session}
 use Rattle.caller_view.specs.declared.reads.Reads.{Reads}
 use Rattle.caller_view.specs.declared.reads.Reads.TheVariants.{Vote, AsInstructed}
 use Rattle.caller_view.specs.Reads.{appointments_read, authorised_read, authorities_read, cast_on, for_poll, members_read, own_kept, own_read, polls_kept, polls_on, polls_read, reads_of, received_read, rows_kept, rows_read}
@@ -81,18 +82,23 @@ module _ (members : List MemberRows) (closed : List ℕ) (meeting : Meeting) (po
   known-by_member : (member : List ℕ) (on : List Poll) (a : Appointment) → is_given_by member a ≡ true
       → received_by (filter (of_member member) members) closed meeting on now a ≡ received_by members closed meeting on now a
   known-by_member member on a own =
-      let governs = governed-by_member members (cutoffs_of meeting uses.Votes closed now) member a.member a.number own in
+      let sessions : each_session (session_governed (filter (of_member member) members) closed meeting now a.member a.number) meeting
+      ≡ each_session (session_governed members closed meeting now a.member a.number) meeting =
+      λ i. each_session (λ session. record {
+        acts = governed-by_member members (cutoffs_of meeting (uses.Acts session) closed now) member a.member a.number own i;
+        votes = governed-by_member members (cutoffs_of meeting (uses.Votes session) closed now) member a.member a.number own i;
+      }) meeting in
       let late : map (poll_governed (filter (of_member member) members) closed meeting now a.member a.number) (filter (is_late_poll closed) on)
       ≡ map (poll_governed members closed meeting now a.member a.number) (filter (is_late_poll closed) on) =
       ap (λ f. map f (filter (is_late_poll closed) on))
       (λ i (poll : Poll). record { resolution = poll.resolution; governs = governed-by_member members (cutoffs_of meeting (uses.Vote poll) closed now) member a.member a.number own i }) in
-      λ i. known_to_proxy a (governs i) (late i)
+      λ i. known_to_proxy a (sessions i) (late i)
 
   -- what an appointment governs for the poll on the resolution
   for_poll-alike : (resolution : ℕ) (a : Appointment)
       → received_by members closed meeting (polls_on resolution polls) now a ≡ for_poll resolution (received_by members closed meeting polls now a)
   for_poll-alike resolution a =
-      ap (λ late. known_to_proxy a (governed_by members (cutoffs_of meeting uses.Votes closed now) a.member a.number) late)
+      ap (λ late. known_to_proxy a (each_session (session_governed members closed meeting now a.member a.number) meeting) late)
       (ap (map (poll_governed members closed meeting now a.member a.number)) (filter-swap (is_late_poll closed) (λ (p : Poll). p.resolution == resolution) polls)
       ∙ sym (filter-map (λ (p : PollGoverned). p.resolution == resolution) (poll_governed members closed meeting now a.member a.number) (filter (is_late_poll closed) polls)))
 
@@ -135,7 +141,7 @@ own-kept (Vote new) all closed meeting polls now =
       persons = [];
       received = received i;
       authorised = authorised i;
-      present = false;
+      presences = [];
       demands = [];
       casts = cast_on new.resolution all.casts;
     }

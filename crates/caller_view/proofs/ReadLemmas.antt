@@ -16,6 +16,7 @@ use Rattle.desk_words.specs.declared.limits.TheConstants.{MOST_CASTS}
 use Rattle.desk_words.specs.Finding.{poll_on}
 use Rattle.desk_words.specs.Polls.{is_closed, is_waiting, there_is}
 use Rattle.desk_words.specs.Rulings.{in_found, no_resolution}
+use Rattle.desk_words.specs.Sessions.{last_number}
 use Rattle.desk_words.specs.declared.own.Authorised.{Authorised}
 use Rattle.desk_words.specs.declared.own.PollGoverned.{PollGoverned}
 use Rattle.desk_words.specs.declared.own.Received.{Received}
@@ -26,12 +27,12 @@ use Rattle.desk_words.specs.declared.request.NewCast.{NewCast}
 use Rattle.desk_words.specs.declared.request.PartyRequest.{PartyRequest}
 use Rattle.desk_words.specs.declared.request.PartyRequest.TheVariants.{Mine, Cast, Instructed}
 use Rattle.caller_view.specs.Answers.{party_ruling, ruling_for}
-use Rattle.caller_view.specs.Casts.{cast_ruling, cast_count, has_cast_enough, instructed_ruling, use_on}
+use Rattle.caller_view.specs.Casts.{cast_ruling, cast_count, governed_on, has_cast_enough, instructed_ruling}
 use Rattle.proxy_rules.specs.Cutoffs.{is_late_poll}
 use Rattle.proxy_rules.specs.Instructions.{allows, instructed_on}
-use Rattle.proxy_rules.specs.Uses.{Use, vote_on}
+use Rattle.proxy_rules.specs.Uses.{vote_on}
 use Rattle.caller_view.specs.Reads.{authorised_read, cast_on, for_poll, own_read, received_read}
-use Rattle.caller_view.specs.Rights.{forbids, governed_for, governed_late, governs_at, instructs, is_against, is_governed, is_not_own, may_vote_for, meets, no_runs, some_fail}
+use Rattle.caller_view.specs.Rights.{forbids, governed_for, governed_late, governed_votes, governs_at, instructs, is_against, is_governed, is_not_own, may_vote_for, meets, no_runs, some_fail}
 use Rattle.caller_view.specs.Own.{nothing_of}
 use Rattle.caller_view.specs.declared.views.OwnView.{OwnView}
 use Rattle.caller_view.specs.Public.{PublicRecord}
@@ -92,10 +93,11 @@ late-alike resolution number r is =
     subst (λ (n : ℕ). governed_late (for_poll n r).polls number ≡ governed_late r.polls number) is
     (ap (λ found. option_map_or (λ (p : PollGoverned). p.governs) found []) (find-filter (λ (p : PollGoverned). p.resolution == number) r.polls))
 
-governed-found : (closed : List ℕ) (resolution : ℕ) (r : Received) (found : Option Poll) → ((poll : Poll) → found ≡ Some poll → poll.resolution ≡ resolution)
-    → governed_for closed (vote_on found) (for_poll resolution r) ≡ governed_for closed (vote_on found) r
-governed-found closed resolution r None on = refl
-governed-found closed resolution r (Some poll) on = ap (λ runs. cond (is_late_poll closed poll) runs r.governs) (late-alike resolution poll.resolution r (on poll refl))
+governed-found : (closed : List ℕ) (resolution session : ℕ) (r : Received) (found : Option Poll) → ((poll : Poll) → found ≡ Some poll → poll.resolution ≡ resolution)
+    → governed_for closed (vote_on session found) (for_poll resolution r) ≡ governed_for closed (vote_on session found) r
+governed-found closed resolution session r None on = refl
+governed-found closed resolution session r (Some poll) on =
+    ap (λ runs. cond (is_late_poll closed poll) runs (governed_votes poll.session r)) (late-alike resolution poll.resolution r (on poll refl))
 
 -- ---- rights
 
@@ -114,45 +116,41 @@ may-alike own new Member casts = refl
 may-alike own new Rep casts = ap (λ found. nat_lt 0 (option_map_or (λ (a : Authorised). a.shares) found 0)) (find-filter (λ (a : Authorised). same_name a.corporation new.member) own.authorised)
 may-alike own new Proxy casts = refl
 
-module _ (closed : List ℕ) (polls : List Poll) where
-  -- the use for votes on a resolution
-  abbrev use_for : ℕ → Use
-  use_for resolution = vote_on (poll_on polls resolution)
+module _ (public : PublicRecord) (meeting : Meeting) where
+  governed-alike : (resolution : ℕ) (r : Received) → governed_on public meeting resolution (for_poll resolution r) ≡ governed_on public meeting resolution r
+  governed-alike resolution r = governed-found public.closed resolution (last_number meeting) r (poll_on public.polls resolution) (found-on public.polls resolution)
 
-  governed-alike : (resolution : ℕ) (r : Received) → governed_for closed (use_for resolution) (for_poll resolution r) ≡ governed_for closed (use_for resolution) r
-  governed-alike resolution r = governed-found closed resolution r (poll_on polls resolution) (found-on polls resolution)
-
-  governs-alike : (new : NewCast) (place : ℕ) (r : Received) → governs_at closed (use_for new.resolution) new place (for_poll new.resolution r) ≡ governs_at closed (use_for new.resolution) new place r
+  governs-alike : (new : NewCast) (place : ℕ) (r : Received) → governs_at (governed_on public meeting new.resolution) new place (for_poll new.resolution r) ≡ governs_at (governed_on public meeting new.resolution) new place r
   governs-alike new place r = ap (λ runs. same_name r.member new.member && list_any (λ (run : Places). holds run place) runs) (governed-alike new.resolution r)
 
-  forbids-alike : (new : NewCast) (r : Received) → forbids closed (use_for new.resolution) new (for_poll new.resolution r) ≡ forbids closed (use_for new.resolution) new r
+  forbids-alike : (new : NewCast) (r : Received) → forbids (governed_on public meeting new.resolution) new (for_poll new.resolution r) ≡ forbids (governed_on public meeting new.resolution) new r
   forbids-alike new r =
       ap (λ runs. same_name r.member new.member && not (allows (instructed_on new.resolution r.instructions) new.way) && list_any (meets new.from new.to) runs)
       (governed-alike new.resolution r)
 
-  instructs-alike : (resolution : ℕ) (r : Received) → instructs closed (use_for resolution) resolution (for_poll resolution r) ≡ instructs closed (use_for resolution) resolution r
+  instructs-alike : (resolution : ℕ) (r : Received) → instructs (governed_on public meeting resolution) resolution (for_poll resolution r) ≡ instructs (governed_on public meeting resolution) resolution r
   instructs-alike resolution r = ap (λ runs. is_some (instructed_on resolution r.instructions) && not (no_runs runs)) (governed-alike resolution r)
 
   own-alike : (own : OwnView) (new : NewCast) (capacity : Capacity) (casts : List CastMark)
-      → is_not_own (record (nothing_of own.party) { row = own.row; received = received_read new own.received capacity; authorised = authorised_read new own.authorised capacity; casts = casts }) closed (use_for new.resolution) new capacity
-      ≡ is_not_own own closed (use_for new.resolution) new capacity
+      → is_not_own (record (nothing_of own.party) { row = own.row; received = received_read new own.received capacity; authorised = authorised_read new own.authorised capacity; casts = casts }) (governed_on public meeting new.resolution) new capacity
+      ≡ is_not_own own (governed_on public meeting new.resolution) new capacity
   own-alike own new Member casts = refl
   own-alike own new Rep casts = ap (λ found. nat_lt (option_map_or (λ (a : Authorised). a.shares) found 0) new.to) (find-filter (λ (a : Authorised). same_name a.corporation new.member) own.authorised)
   own-alike own new Proxy casts =
-      let governed : (place : ℕ) → is_governed (received_read new own.received Proxy) closed (use_for new.resolution) new place ≡ is_governed own.received closed (use_for new.resolution) new place =
-      λ place. any-read new (governs_at closed (use_for new.resolution) new place) own.received (governs-alike new place)
-      (λ r. and-again (same_name r.member new.member) (list_any (λ (run : Places). holds run place) (governed_for closed (use_for new.resolution) r))) in
+      let governed : (place : ℕ) → is_governed (received_read new own.received Proxy) (governed_on public meeting new.resolution) new place ≡ is_governed own.received (governed_on public meeting new.resolution) new place =
+      λ place. any-read new (governs_at (governed_on public meeting new.resolution) new place) own.received (governs-alike new place)
+      (λ r. and-again (same_name r.member new.member) (list_any (λ (run : Places). holds run place) (governed_on public meeting new.resolution r))) in
       λ i. some_fail (λ place. governed place i) new.from new.to
 
   against-alike : (own : OwnView) (new : NewCast) (capacity : Capacity) (casts : List CastMark)
-      → is_against (record (nothing_of own.party) { row = own.row; received = received_read new own.received capacity; authorised = authorised_read new own.authorised capacity; casts = casts }) closed (use_for new.resolution) new capacity
-      ≡ is_against own closed (use_for new.resolution) new capacity
+      → is_against (record (nothing_of own.party) { row = own.row; received = received_read new own.received capacity; authorised = authorised_read new own.authorised capacity; casts = casts }) (governed_on public meeting new.resolution) new capacity
+      ≡ is_against own (governed_on public meeting new.resolution) new capacity
   against-alike own new Member casts = refl
   against-alike own new Rep casts = refl
   against-alike own new Proxy casts =
-      any-read new (forbids closed (use_for new.resolution) new) own.received (forbids-alike new)
+      any-read new (forbids (governed_on public meeting new.resolution) new) own.received (forbids-alike new)
       (λ r. and-twice (same_name r.member new.member) (not (allows (instructed_on new.resolution r.instructions) new.way))
-      (list_any (meets new.from new.to) (governed_for closed (use_for new.resolution) r)))
+      (list_any (meets new.from new.to) (governed_on public meeting new.resolution r)))
 
 enough-alike : (own : OwnView) (resolution : ℕ) → nat_le MOST_CASTS (cast_count (cast_on resolution own.casts) resolution) ≡ has_cast_enough own resolution
 enough-alike own resolution = ap (nat_le MOST_CASTS) (count_by-filter (λ (c : CastMark). c.resolution == resolution) own.casts)
@@ -179,7 +177,7 @@ cast-alike public meeting own now new =
     let casts = cast_on new.resolution own.casts in
     λ i. record {
       cases = cast_cases_by public meeting new (enough-alike own new.resolution i) (may-alike own new new.capacity casts i)
-          (own-alike public.closed public.polls own new new.capacity casts i) (against-alike public.closed public.polls own new new.capacity casts i);
+          (own-alike public meeting own new new.capacity casts i) (against-alike public meeting own new new.capacity casts i);
       accepted = (cast_ruling public meeting own now new).accepted;
     }
 
@@ -200,7 +198,7 @@ instructed-alike : (public : PublicRecord) (meeting : Meeting) (own : OwnView) (
 instructed-alike public meeting own now resolution =
     λ i. record {
       cases = instructed_cases_by public meeting resolution (enough-alike own resolution i)
-          (not (any-map (instructs public.closed (use_on public resolution) resolution) (for_poll resolution) own.received (instructs-alike public.closed public.polls resolution) i));
+          (not (any-map (instructs (governed_on public meeting resolution) resolution) (for_poll resolution) own.received (instructs-alike public meeting resolution) i));
       accepted = (instructed_ruling public meeting own now resolution).accepted;
     }
 

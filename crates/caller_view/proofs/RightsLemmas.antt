@@ -9,8 +9,7 @@ use Rattle.std.proofs.lemmas.Bool.Decides.{nat_tests}
 use Rattle.desk_terms.specs.Places.{Places, holds, places_that}
 use Rattle.desk_words.specs.declared.own.Received.{Received}
 use Rattle.desk_words.specs.declared.request.NewCast.{NewCast}
-use Rattle.proxy_rules.specs.Uses.{Use}
-use Rattle.caller_view.specs.Rights.{IsRunAt, governed_for, governs_at, is_governed, some_fail}
+use Rattle.caller_view.specs.Rights.{Governs, IsRunAt, governs_at, is_governed, some_fail}
 
 -- ---- places
 
@@ -58,32 +57,32 @@ none_fails test from to all =
 -- ---- what is found
 
 -- a run that has the place, of an appointment that governs it
-pub run_found : (received : List Received) (closed : List ℕ) (purpose : Use) (new : NewCast) (place : ℕ) (r : Received) (found : Option Places)
-    → find (governs_at closed purpose new place) received ≡ Some r → found ≡ find (λ (run : Places). holds run place) (governed_for closed purpose r)
-    → IfSome found (λ run. IsRunAt received closed purpose new place run)
-run_found received closed purpose new place r None there is = search
-run_found received closed purpose new place r (Some run) there is =
-    let runs = governed_for closed purpose r in
-    let of_member = and_parts (same_name r.member new.member) (list_any (λ (run : Places). holds run place) runs) (found-passes (governs_at closed purpose new place) received r there) in
+pub run_found : (received : List Received) (governs : Governs) (new : NewCast) (place : ℕ) (r : Received) (found : Option Places)
+    → find (governs_at governs new place) received ≡ Some r → found ≡ find (λ (run : Places). holds run place) (governs r)
+    → IfSome found (λ run. IsRunAt received governs new place run)
+run_found received governs new place r None there is = search
+run_found received governs new place r (Some run) there is =
+    let runs = governs r in
+    let of_member = and_parts (same_name r.member new.member) (list_any (λ (run : Places). holds run place) runs) (found-passes (governs_at governs new place) received r there) in
     record {
       there = found-passes (λ (run : Places). holds run place) runs run (sym is);
       governed = λ other has.
           let some : list_any (λ (run : Places). holds run other) runs ≡ true = found-any (λ (run : Places). holds run place) (λ (run : Places). holds run other) runs run (sym is) has in
-          let here : governs_at closed purpose new other r ≡ true = rw (of_member.0, some) refl in
-          found-any (governs_at closed purpose new place) (governs_at closed purpose new other) received r there here;
+          let here : governs_at governs new other r ≡ true = rw (of_member.0, some) refl in
+          found-any (governs_at governs new place) (governs_at governs new other) received r there here;
     }
 
 -- an appointment that governs the place has a run that has it
-pub run_lacks : (received : List Received) (closed : List ℕ) (purpose : Use) (new : NewCast) (place : ℕ) (r : Received)
-    → find (governs_at closed purpose new place) received ≡ Some r → find (λ (run : Places). holds run place) (governed_for closed purpose r) ≡ None → ⊥
-run_lacks received closed purpose new place r there none =
-    let runs = governed_for closed purpose r in
-    let of_member = and_parts (same_name r.member new.member) (list_any (λ (run : Places). holds run place) runs) (found-passes (governs_at closed purpose new place) received r there) in
+pub run_lacks : (received : List Received) (governs : Governs) (new : NewCast) (place : ℕ) (r : Received)
+    → find (governs_at governs new place) received ≡ Some r → find (λ (run : Places). holds run place) (governs r) ≡ None → ⊥
+run_lacks received governs new place r there none =
+    let runs = governs r in
+    let of_member = and_parts (same_name r.member new.member) (list_any (λ (run : Places). holds run place) runs) (found-passes (governs_at governs new place) received r there) in
     let lacks : list_any (λ (run : Places). holds run place) runs ≡ false = none-found (λ (run : Places). holds run place) runs none in
     absurd (cc)
 
 -- all places from the first to the next are governed
-pub record IsGovernedTo (received : List Received) (closed : List ℕ) (purpose : Use) (new : NewCast) (next : ℕ) : Type 0 where
+pub record IsGovernedTo (received : List Received) (governs : Governs) (new : NewCast) (next : ℕ) : Type 0 where
   pub begun : 1 ≤ next
   pub after : new.from ≤ next
-  pub governed : (place : ℕ) → 1 ≤ place → new.from ≤ place → place < next → is_governed received closed purpose new place ≡ true
+  pub governed : (place : ℕ) → 1 ≤ place → new.from ≤ place → place < next → is_governed received governs new place ≡ true

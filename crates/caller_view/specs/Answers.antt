@@ -2,6 +2,7 @@
 use Rattle.std.specs.Prelude.{Bool, true, false, map}
 use Rattle.desk_words.specs.Rulings.{Ruling, in_found, told}
 use Rattle.desk_words.specs.Seen.{Moment}
+use Rattle.desk_words.specs.Sessions.{last_number}
 use Rattle.desk_words.specs.declared.change.Entry.{Entry}
 use Rattle.desk_words.specs.declared.records.Meeting.{Meeting}
 use Rattle.desk_words.specs.declared.reply.Mine.{Mine}
@@ -24,7 +25,8 @@ mine_of public meeting own now = record {
   persons = own.persons;
   received = own.received;
   authorised = own.authorised;
-  present = own.present;
+  session = last_number meeting;
+  presences = own.presences;
   demands = own.demands;
   casts = own.casts;
 }
@@ -37,7 +39,7 @@ ruling_for public own now OwnThings meeting = told (reply.Mine (mine_of public m
 ruling_for public own now (Appoint new) meeting = appoint_ruling public meeting own now new
 ruling_for public own now (End number) meeting = end_ruling own now number
 ruling_for public own now (Authorise person) meeting = authorise_ruling own now person
-ruling_for public own now Attend meeting = attend_ruling own now
+ruling_for public own now Attend meeting = attend_ruling meeting own now
 ruling_for public own now (Demand resolution) meeting =
     demand_ruling public meeting own now resolution
 ruling_for public own now (Cast new) meeting = cast_ruling public meeting own now new

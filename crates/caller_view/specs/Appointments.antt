@@ -5,6 +5,7 @@ use Rattle.desk_words.specs.Places.{is_range}
 use Rattle.desk_words.specs.Refusals.{Case}
 use Rattle.desk_words.specs.Rulings.{Ruling}
 use Rattle.desk_words.specs.Seen.{Moment, Number}
+use Rattle.desk_words.specs.Sessions.{last_number}
 use Rattle.desk_terms.specs.declared.refusal.Refusal.TheVariants.{BadRange, SelfNamed, BadInstructions, TooMany, NoSuchNumber, AlreadyEnded}
 use Rattle.desk_words.specs.declared.limits.TheConstants.{MOST_APPOINTMENTS}
 use Rattle.desk_words.specs.declared.records.Appointment.{Appointment}
@@ -24,12 +25,13 @@ use Rattle.proxy_rules.specs.Uses.{Votes}
 use Rattle.caller_view.specs.declared.views.OwnView.{OwnView}
 use Rattle.caller_view.specs.Public.{PublicRecord}
 
--- the last moment at which an appointment counts for votes at the meeting, by the closed days as
--- they stand (section 327)
+-- the last moment at which an appointment counts for votes in the last session, by the closed days
+-- as they stand (section 327)
 abbrev pub cutoff_in : PublicRecord → Meeting → Moment → Moment
-cutoff_in public meeting now = (cutoffs_of meeting Votes public.closed now).appointments
+cutoff_in public meeting now =
+    (cutoffs_of meeting (Votes (last_number meeting)) public.closed now).appointments
 
--- what an appointment of a moment counts for, where the meeting has that cutoff (section 327)
+-- what an appointment of a moment counts for, where the last session has that cutoff (section 327)
 abbrev pub use_by : Moment → Moment → AppointmentUse
 use_by cutoff moment = if nat_le moment cutoff then ForTheMeeting else LaterPolls
 

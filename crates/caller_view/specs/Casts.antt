@@ -5,7 +5,8 @@ use Rattle.desk_words.specs.Places.{is_range}
 use Rattle.desk_words.specs.Polls.{is_closed, is_waiting, there_is}
 use Rattle.desk_words.specs.Refusals.{Case}
 use Rattle.desk_words.specs.Rulings.{Ruling, no_resolution}
-use Rattle.desk_words.specs.Seen.{Day, Moment, Number}
+use Rattle.desk_words.specs.Seen.{Moment, Number}
+use Rattle.desk_words.specs.Sessions.{last_number}
 use Rattle.desk_terms.specs.declared.refusal.Refusal.TheVariants.{BadRange, TooMany, NoRegister, NoRight, NoPoll, PollNotOpen, PollClosed, NotYours, AgainstInstruction}
 use Rattle.desk_words.specs.declared.limits.TheConstants.{MOST_CASTS}
 use Rattle.desk_words.specs.declared.change.Entry.{Entry}
@@ -17,7 +18,7 @@ use Rattle.desk_words.specs.declared.records.Meeting.{Meeting}
 use Rattle.desk_words.specs.declared.reply.Reply.TheVariants as reply
 use Rattle.desk_words.specs.declared.request.NewCast.{NewCast}
 use Rattle.proxy_rules.specs.Uses.{Use, vote_on}
-use Rattle.caller_view.specs.Rights.{is_against, is_not_own, is_uninstructed, may_vote_for}
+use Rattle.caller_view.specs.Rights.{Governs, governed_for, is_against, is_not_own, is_uninstructed, may_vote_for}
 use Rattle.caller_view.specs.declared.views.OwnView.{OwnView}
 use Rattle.caller_view.specs.Public.{PublicRecord}
 
@@ -29,20 +30,23 @@ cast_count casts resolution = count_by (λ (c : CastMark). c.resolution == resol
 abbrev pub has_cast_enough : OwnView → Number → Bool
 has_cast_enough own resolution = nat_le MOST_CASTS (cast_count own.casts resolution)
 
--- the use of appointments for votes on a resolution: for those on its poll (section 327)
-abbrev pub use_on : PublicRecord → Number → Use
-use_on public resolution = vote_on (poll_on public.polls resolution)
+-- the use of appointments for votes on a resolution: for those on its poll, or, where there is
+-- none, for those in the last session (section 327)
+abbrev pub use_on : PublicRecord → Meeting → Number → Use
+use_on public meeting resolution =
+    vote_on (last_number meeting) (poll_on public.polls resolution)
 
--- when a vote on places is not the party's to cast, by what appointments govern for a use (sections
--- 284, 323, 324 and 324A)
-abbrev pub right_cases : OwnView → List Day → Use → NewCast → List Case
-right_cases own closed purpose new =
-    record { refusal = NotYours; holds = is_not_own own closed purpose new new.capacity }
-    ∷ record {
-      refusal = AgainstInstruction;
-      holds = is_against own closed purpose new new.capacity;
-    }
-    ∷ []
+-- what each appointment governs for votes on a resolution
+abbrev pub governed_on : PublicRecord → Meeting → Number → Governs
+governed_on public meeting resolution =
+    governed_for public.closed (use_on public meeting resolution)
+
+-- when a vote on places is not the party's to cast, by what each appointment governs (sections 284,
+-- 323, 324 and 324A)
+abbrev pub right_cases : OwnView → Governs → NewCast → List Case
+right_cases own governs new =
+    record { refusal = NotYours; holds = is_not_own own governs new new.capacity }
+    ∷ record { refusal = AgainstInstruction; holds = is_against own governs new new.capacity } ∷ []
 
 -- when a vote on a range of places is not recorded (sections 284, 323, 324 and 324A)
 abbrev pub cast_range_cases : PublicRecord → Meeting → OwnView → NewCast → List Case
@@ -54,7 +58,7 @@ cast_range_cases public meeting own new =
     ∷ record { refusal = NoPoll; holds = is_none poll }
     ∷ record { refusal = PollNotOpen; holds = there_is is_waiting poll }
     ∷ record { refusal = PollClosed; holds = there_is is_closed poll }
-    ∷ right_cases own public.closed (use_on public new.resolution) new
+    ∷ right_cases own (governed_on public meeting new.resolution) new
 
 -- when a vote is not recorded: on no resolution of the meeting, on no range, or as above
 abbrev pub cast_cases : PublicRecord → Meeting → OwnView → NewCast → List Case
@@ -74,7 +78,7 @@ instructed_cases public meeting own resolution =
     ∷ record { refusal = PollClosed; holds = there_is is_closed poll }
     ∷ record {
       refusal = NotYours;
-      holds = is_uninstructed own public.closed (use_on public resolution) resolution;
+      holds = is_uninstructed own (governed_on public meeting resolution) resolution;
     }
     ∷ []
 

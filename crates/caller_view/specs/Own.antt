@@ -1,12 +1,13 @@
 -- A party's own things, from its rows in a meeting and the public record of the meeting.
-use Rattle.std.specs.Prelude.{ℕ, false, ◌==◌, List, [], map, filter, find, reverse, Option, Some, None, option_map, if◌then◌else◌}
+use Rattle.std.specs.Prelude.{ℕ, ◌==◌, List, [], map, filter, find, reverse, Option, Some, None, option_map, if◌then◌else◌}
 use Rattle.std.specs.Option.{option_map_or}
 use Rattle.desk_words.specs.Names.{same_name}
-use Rattle.desk_words.specs.Seen.{Day, Moment, Number, Party}
+use Rattle.desk_words.specs.Seen.{Day, Moment, Number, Party, SessionNumber}
 use Rattle.desk_words.specs.declared.own.Authorised.{Authorised}
 use Rattle.desk_words.specs.declared.own.Given.{Given}
 use Rattle.desk_words.specs.declared.own.PollGoverned.{PollGoverned}
 use Rattle.desk_words.specs.declared.own.Received.{Received}
+use Rattle.desk_words.specs.declared.own.SessionGoverned.{SessionGoverned}
 use Rattle.desk_words.specs.declared.records.Appointment.{Appointment}
 use Rattle.desk_words.specs.declared.records.Ending.{Ending}
 use Rattle.desk_words.specs.declared.records.Meeting.{Meeting}
@@ -18,7 +19,7 @@ use Rattle.desk_terms.specs.declared.kinds.HolderKind.TheVariants.{Individual, C
 use Rattle.proxy_rules.specs.Cutoffs.{cutoffs_of, is_late_poll}
 use Rattle.proxy_rules.specs.Governing.{governed_in}
 use Rattle.proxy_rules.specs.Holdings.{is_kept}
-use Rattle.proxy_rules.specs.Uses.{Votes, Vote}
+use Rattle.proxy_rules.specs.Uses.{Acts, Votes, Vote}
 use Rattle.proxy_rules.specs.declared.holdings.Holding.{Holding}
 use Rattle.proxy_rules.specs.declared.papers.Cutoffs.{Cutoffs}
 use Rattle.caller_view.specs.declared.rows.AuthorityRows.{AuthorityRows}
@@ -26,6 +27,7 @@ use Rattle.caller_view.specs.declared.rows.MemberRows.{MemberRows}
 use Rattle.caller_view.specs.declared.rows.OwnRows.{OwnRows}
 use Rattle.caller_view.specs.declared.views.OwnView.{OwnView}
 use Rattle.caller_view.specs.Public.{PublicRecord}
+use Rattle.caller_view.specs.Sessions.{each_session}
 
 -- the moment at which the party ended its appointment of a number, of whose endings there is one at
 -- most (section 330)
@@ -74,6 +76,14 @@ governed_by members cutoffs member number =
     option_map_or (λ (rows : MemberRows). governed_kept cutoffs rows.holding number)
     (rows_by members member) []
 
+-- what it governs in the session of a number: for acts, and for votes (sections 327 and 330)
+abbrev pub session_governed : List MemberRows → List Day → Meeting → Moment → Party → Number
+    → SessionNumber → SessionGoverned
+session_governed members closed meeting now member number session = record {
+  acts = governed_by members (cutoffs_of meeting (Acts session) closed now) member number;
+  votes = governed_by members (cutoffs_of meeting (Votes session) closed now) member number;
+}
+
 -- what it governs for votes on a poll (section 327)
 abbrev pub poll_governed : List MemberRows → List Day → Meeting → Moment → Party → Number → Poll
     → PollGoverned
@@ -84,22 +94,23 @@ poll_governed members closed meeting now member number poll = record {
 
 -- an appointment as its proxy knows it, with the places that it governs: without its number, which
 -- counts what the member gave to others (sections 324 and 324A)
-abbrev pub known_to_proxy : Appointment → List Places → List PollGoverned → Received
-known_to_proxy a governs polls = record {
+abbrev pub known_to_proxy : Appointment → List SessionGoverned → List PollGoverned → Received
+known_to_proxy a sessions polls = record {
   member = a.member;
   range = a.range;
   instructions = a.instructions;
   moment = a.moment;
-  governs = governs;
+  sessions = sessions;
   polls = polls;
 }
 
--- an appointment as its proxy knows it, with what it governs for votes at the meeting, and for
--- those on each late poll, by the closed days as they stand (section 324)
+-- an appointment as its proxy knows it, with what it governs in each session, and for votes on each
+-- late poll, by the closed days as they stand (section 324)
 abbrev pub received_by : List MemberRows → List Day → Meeting → List Poll → Moment → Appointment
     → Received
 received_by members closed meeting polls now a =
-    known_to_proxy a (governed_by members (cutoffs_of meeting Votes closed now) a.member a.number)
+    known_to_proxy a
+    (each_session (session_governed members closed meeting now a.member a.number) meeting)
     (map (poll_governed members closed meeting now a.member a.number)
     (filter (is_late_poll closed) polls))
 
@@ -112,7 +123,7 @@ nothing_of party = record {
   persons = [];
   received = [];
   authorised = [];
-  present = false;
+  presences = [];
   demands = [];
   casts = [];
 }
@@ -127,7 +138,7 @@ own_by rows closed meeting polls now = record {
   persons = rows.persons;
   received = map (received_by rows.members closed meeting polls now) rows.received;
   authorised = map authorised_in_rows rows.authorised;
-  present = rows.present;
+  presences = rows.presences;
   demands = rows.demands;
   casts = rows.casts;
 }

@@ -31,8 +31,8 @@ cast_on resolution casts = filter (λ (c : CastMark). c.resolution == resolution
 abbrev pub polls_on : Number → List Poll → List Poll
 polls_on resolution polls = filter (λ (p : Poll). p.resolution == resolution) polls
 
--- an appointment, with what it governs for the meeting and for the late poll on a resolution, and
--- for no other
+-- an appointment, with what it governs in each session and for the late poll on a resolution, and
+-- for no other poll
 abbrev pub for_poll : Number → Received → Received
 for_poll resolution r = record r {
   polls = filter (λ (p : PollGoverned). p.resolution == resolution) r.polls;
@@ -70,7 +70,7 @@ own_kept Nothing own = nothing_of own.party
 own_kept Everything own = own
 own_kept Given own = record (nothing_of own.party) { given = own.given }
 own_kept Persons own = record (nothing_of own.party) { persons = own.persons }
-own_kept Presence own = record (nothing_of own.party) { present = own.present }
+own_kept Presence own = record (nothing_of own.party) { presences = own.presences }
 own_kept Standing own = record own { given = []; persons = []; casts = [] }
 own_kept (Vote new) own = record (nothing_of own.party) {
   row = own.row;
@@ -115,7 +115,7 @@ rows_kept Nothing rows = no_rows_of rows.party
 rows_kept Everything rows = rows
 rows_kept Given rows = given_read rows
 rows_kept Persons rows = record (no_rows_of rows.party) { persons = rows.persons }
-rows_kept Presence rows = record (no_rows_of rows.party) { present = rows.present }
+rows_kept Presence rows = record (no_rows_of rows.party) { presences = rows.presences }
 rows_kept Standing rows = record rows { given = []; ended = []; persons = []; casts = [] }
 rows_kept (Vote new) rows = record (no_rows_of rows.party) {
   row = rows.row;

@@ -5,18 +5,21 @@ use Rattle.std.specs.List.{list_any}
 use Rattle.std.specs.Option.{option_map_or}
 use Rattle.desk_words.specs.Names.{same_name}
 use Rattle.desk_words.specs.Places.{Places, holds, places_that}
-use Rattle.desk_words.specs.Seen.{Day, Number, Party, Place}
+use Rattle.desk_words.specs.Seen.{Day, Number, Party, Place, SessionNumber}
 use Rattle.desk_terms.specs.declared.kinds.Capacity.{Capacity}
 use Rattle.desk_terms.specs.declared.kinds.Capacity.TheVariants.{Member, Rep, Proxy}
 use Rattle.desk_words.specs.declared.own.Authorised.{Authorised}
 use Rattle.desk_words.specs.declared.own.PollGoverned.{PollGoverned}
 use Rattle.desk_words.specs.declared.own.Received.{Received}
+use Rattle.desk_words.specs.declared.own.SessionGoverned.{SessionGoverned}
+use Rattle.desk_words.specs.declared.records.Poll.{Poll}
 use Rattle.desk_words.specs.declared.records.RegisterRow.{RegisterRow}
 use Rattle.desk_words.specs.declared.request.NewCast.{NewCast}
 use Rattle.proxy_rules.specs.Cutoffs.{is_late_poll}
 use Rattle.proxy_rules.specs.Shares.{is_individual}
 use Rattle.proxy_rules.specs.Instructions.{allows, instructed_on}
 use Rattle.proxy_rules.specs.Uses.{Use, Acts, Votes, Vote}
+use Rattle.caller_view.specs.Sessions.{at_session}
 use Rattle.caller_view.specs.declared.views.OwnView.{OwnView}
 
 -- the party holds shares as an individual
@@ -42,15 +45,31 @@ governed_late polls resolution =
     option_map_or (λ (p : PollGoverned). p.governs)
     (find (λ (p : PollGoverned). p.resolution == resolution) polls) []
 
--- what an appointment governs for a use, as its proxy knows it: for votes on a late poll what it
--- governs for that poll, and else what it governs for the meeting (section 327)
-abbrev pub governed_for : List Day → Use → Received → List Places
-governed_for closed Acts r = r.governs
-governed_for closed Votes r = r.governs
-governed_for closed (Vote poll) r =
-    if is_late_poll closed poll
-    then governed_late r.polls poll.resolution
-    else r.governs
+-- what each appointment governs for a use, as its proxy knows it
+abbrev pub Governs : Type 0
+Governs = Received → List Places
+
+-- for the quorum and the demands of a session
+abbrev pub governed_acts : SessionNumber → Governs
+governed_acts session r =
+    option_map_or (λ (s : SessionGoverned). s.acts) (at_session r.sessions session) []
+
+-- for votes in a session, on its polls that are not late
+abbrev pub governed_votes : SessionNumber → Governs
+governed_votes session r =
+    option_map_or (λ (s : SessionGoverned). s.votes) (at_session r.sessions session) []
+
+-- for votes on a poll: where it is late, for that poll, and else for votes in its session (section
+-- 327)
+abbrev pub governed_at_poll : Bool → Poll → Governs
+governed_at_poll late poll r =
+    if late then governed_late r.polls poll.resolution else governed_votes poll.session r
+
+-- for each use
+abbrev pub governed_for : List Day → Use → Governs
+governed_for closed (Acts session) = governed_acts session
+governed_for closed (Votes session) = governed_votes session
+governed_for closed (Vote poll) = governed_at_poll (is_late_poll closed poll) poll
 
 -- the party may vote for the member in the capacity: as the member itself where it holds shares as
 -- an individual, as a representative of a corporation of the register that authorised it; of a
@@ -61,15 +80,15 @@ may_vote_for own member Rep = nat_lt 0 (represented own.authorised member)
 may_vote_for own member Proxy = true
 
 -- the appointment is the member's, and governs the place for the use (section 324)
-abbrev pub governs_at : List Day → Use → NewCast → Place → Received → Bool
-governs_at closed purpose new place r =
+abbrev pub governs_at : Governs → NewCast → Place → Received → Bool
+governs_at governs new place r =
     same_name r.member new.member
-    && list_any (λ (run : Places). holds run place) (governed_for closed purpose r)
+    && list_any (λ (run : Places). holds run place) (governs r)
 
 -- the party governs the place of the member's for the use (section 324)
-abbrev pub is_governed : List Received → List Day → Use → NewCast → Place → Bool
-is_governed received closed purpose new place =
-    list_any (governs_at closed purpose new place) received
+abbrev pub is_governed : List Received → Governs → NewCast → Place → Bool
+is_governed received governs new place =
+    list_any (governs_at governs new place) received
 
 -- some place from the first to the last fails a test
 abbrev pub some_fail : (Place → Bool) → Place → Place → Bool
@@ -82,11 +101,11 @@ is_past (Some row) place = nat_lt row.shares place
 
 -- some place is not the party's to vote on in the capacity: it is past the holding, or, for a
 -- proxy, the party does not govern it for the use (sections 284, 323 and 324)
-abbrev pub is_not_own : OwnView → List Day → Use → NewCast → Capacity → Bool
-is_not_own own closed purpose new Member = is_past own.row new.to
-is_not_own own closed purpose new Rep = nat_lt (represented own.authorised new.member) new.to
-is_not_own own closed purpose new Proxy =
-    some_fail (is_governed own.received closed purpose new) new.from new.to
+abbrev pub is_not_own : OwnView → Governs → NewCast → Capacity → Bool
+is_not_own own governs new Member = is_past own.row new.to
+is_not_own own governs new Rep = nat_lt (represented own.authorised new.member) new.to
+is_not_own own governs new Proxy =
+    some_fail (is_governed own.received governs new) new.from new.to
 
 -- a run has a place from the first to the last
 abbrev pub meets : Place → Place → Places → Bool
@@ -94,34 +113,34 @@ meets from to run = nat_le run.from to && nat_le from run.to
 
 -- the appointment is the member's, governs some of the places for the use, and instructs otherwise
 -- (section 324A)
-abbrev pub forbids : List Day → Use → NewCast → Received → Bool
-forbids closed purpose new r =
+abbrev pub forbids : Governs → NewCast → Received → Bool
+forbids governs new r =
     same_name r.member new.member
     && not (allows (instructed_on new.resolution r.instructions) new.way)
-    && list_any (meets new.from new.to) (governed_for closed purpose r)
+    && list_any (meets new.from new.to) (governs r)
 
 -- cast as proxy, against an instruction of an appointment that governs some of the places (section
 -- 324A)
-abbrev pub is_against : OwnView → List Day → Use → NewCast → Capacity → Bool
-is_against own closed purpose new Member = false
-is_against own closed purpose new Rep = false
-is_against own closed purpose new Proxy = list_any (forbids closed purpose new) own.received
+abbrev pub is_against : OwnView → Governs → NewCast → Capacity → Bool
+is_against own governs new Member = false
+is_against own governs new Rep = false
+is_against own governs new Proxy = list_any (forbids governs new) own.received
 
 -- the appointment governs a share for the use, and instructs its proxy on the resolution (section
 -- 324A)
-abbrev pub instructs : List Day → Use → Number → Received → Bool
-instructs closed purpose resolution r =
+abbrev pub instructs : Governs → Number → Received → Bool
+instructs governs resolution r =
     is_some (instructed_on resolution r.instructions)
-    && not (no_runs (governed_for closed purpose r))
+    && not (no_runs (governs r))
 
 -- the party governs no share for the use on which it is instructed (section 324A)
-abbrev pub is_uninstructed : OwnView → List Day → Use → Number → Bool
-is_uninstructed own closed purpose resolution =
-    not (list_any (instructs closed purpose resolution) own.received)
+abbrev pub is_uninstructed : OwnView → Governs → Number → Bool
+is_uninstructed own governs resolution =
+    not (list_any (instructs governs resolution) own.received)
 
 -- a run that has the place, each place of which the party governs for the use
-pub record IsRunAt (received : List Received) (closed : List Day) (purpose : Use) (new : NewCast)
-    (place : Place) (run : Places) : Type 0 where
+pub record IsRunAt (received : List Received) (governs : Governs) (new : NewCast) (place : Place)
+    (run : Places) : Type 0 where
   pub there : holds run place ≡ true
   pub governed : (other : ℕ) → holds run other ≡ true
-      → is_governed received closed purpose new other ≡ true
+      → is_governed received governs new other ≡ true

@@ -1,11 +1,11 @@
 -- The rows of a meeting from which a party's own things are made: look-ups and filters alone.
-use Rattle.std.specs.Prelude.{false, not, List, [], ◌∷◌, map, filter, Option, Some, None}
-use Rattle.std.specs.List.{list_any}
+use Rattle.std.specs.Prelude.{not, List, [], ◌∷◌, map, filter, Option, Some, None}
 use Rattle.desk_words.specs.Names.{same_name}
-use Rattle.desk_words.specs.Seen.{Party}
+use Rattle.desk_words.specs.Seen.{Party, SessionNumber}
 use Rattle.desk_words.specs.declared.office.MeetingLists.{MeetingLists}
 use Rattle.desk_words.specs.declared.records.Appointment.{Appointment}
 use Rattle.desk_words.specs.declared.records.Authority.{Authority}
+use Rattle.desk_words.specs.declared.records.PresenceMark.{PresenceMark}
 use Rattle.proxy_rules.specs.Holdings.{holding_of, is_ended_of, is_given_by}
 use Rattle.proxy_rules.specs.Parties.{authorises, is_authority_of, is_cast_by, is_demanded_by, is_presence_of, names}
 use Rattle.proxy_rules.specs.Shares.{row_of}
@@ -34,6 +34,11 @@ member_in m member = record {
 abbrev pub authority_rows_in : MeetingLists → Authority → AuthorityRows
 authority_rows_in m a = record { authority = a; row = row_of m.register a.corporation }
 
+-- the sessions in which a party is marked present, in order of receipt
+abbrev pub presences_of : Party → List PresenceMark → List SessionNumber
+presences_of party presences =
+    map (λ (mark : PresenceMark). mark.session) (filter (is_presence_of party) presences)
+
 -- the rows of a party in a meeting
 abbrev pub rows_of : MeetingLists → Party → OwnRows
 rows_of m party = record {
@@ -45,7 +50,7 @@ rows_of m party = record {
   received = filter (names party) m.appointments;
   members = map (member_in m) (givers (filter (names party) m.appointments));
   authorised = map (authority_rows_in m) (filter (authorises party) m.authorities);
-  present = list_any (is_presence_of party) m.presences;
+  presences = presences_of party m.presences;
   demands = filter (is_demanded_by party) m.demands;
   casts = filter (is_cast_by party) m.casts;
 }
@@ -61,7 +66,7 @@ no_rows_of party = record {
   received = [];
   members = [];
   authorised = [];
-  present = false;
+  presences = [];
   demands = [];
   casts = [];
 }

@@ -35,11 +35,12 @@ fn given_uses(alloc: Global, given: Vec<Given>, cutoff: Moment) -> Result<Vec<Gi
     Ok(uses)
 }
 
-/// The last moment at which an appointment counts for votes at the meeting.
+/// The last moment at which an appointment counts for votes in the last session.
 pub(crate) fn cutoff_in(public: &PublicRecord, meeting: &Meeting, now: Moment) -> Moment
     ensures { result ≡ cutoff_in public.now meeting.now now }
 {
-    cutoffs(meeting, Use::Votes, public.closed, now).appointments
+    let last = Use::Votes(meeting.last_number());
+    cutoffs(meeting, last, public.closed, now).appointments
 }
 
 /// What a party is told of its own things.
@@ -61,7 +62,8 @@ fn mine(
         persons: own.persons,
         received: own.received,
         authorised: own.authorised,
-        present: own.present,
+        session: meeting.last_number(),
+        presences: own.presences,
         demands: own.demands,
         casts: own.casts,
     })
@@ -92,7 +94,7 @@ pub fn answer(
         PartyRequest::Appoint(new) => appoint(public, meeting, &own, now, new),
         PartyRequest::End(number) => Ok(end(&own, now, *number)),
         PartyRequest::Authorise(person) => Ok(authorise(&own, now, *person)),
-        PartyRequest::Attend => Ok(attend(&own, now)),
+        PartyRequest::Attend => Ok(attend(meeting, &own, now)),
         PartyRequest::Demand(resolution) => Ok(demand(public, meeting, &own, now, *resolution)),
         PartyRequest::Cast(new) => Ok(cast(public, meeting, &own, now, new)),
         PartyRequest::Instructed(resolution) => {

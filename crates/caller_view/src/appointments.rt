@@ -15,7 +15,7 @@ use desk_words::{
 };
 use std::alloc::AllocError;
 
-/// What an appointment of a moment counts for, where the meeting has that cutoff.
+/// What an appointment of a moment counts for, where the last session has that cutoff.
 pub(crate) fn use_by(cutoff: Moment, moment: Moment) -> AppointmentUse
     ensures { result ≡ use_by cutoff moment }
 {

@@ -2,9 +2,9 @@
 ghost use Rattle.std.specs.Prelude.{◌≡◌};
 ghost use Rattle.desk_words.specs.Refusals.{first_refusal};
 ghost use Rattle.desk_words.specs.Rulings.{settled};
-ghost use Rattle.caller_view.specs.Attendance.{attend_ruling, authorise_cases, authorise_ruling, demand_cases, demand_ruling, gave_authority, governs_any, own_demanded, may_demand, represents};
+ghost use Rattle.caller_view.specs.Attendance.{attend_ruling, authorise_cases, authorise_ruling, demand_cases, demand_ruling, gave_authority, governs_any, is_demand_now, is_present, own_demanded, may_demand, represents};
 
-use crate::rights::holds_as_individual;
+use crate::rights::{governed_acts, holds_as_individual};
 use crate::views::{OwnView, PublicRecord};
 use desk_words::limits::MOST_AUTHORITIES;
 use desk_words::{
@@ -50,16 +50,27 @@ pub(crate) fn authorise(own: &OwnView, now: Moment, person: Party) -> Answer<Ent
     noted(gave_authority(own, person), Entry::Authority(authority))
 }
 
-/// The answer to a party that notes its own presence (section 318): `Noted`, which enters the mark
-/// unless it stands already. A party that has no right to be present is noted too.
-pub(crate) fn attend(own: &OwnView, now: Moment) -> Answer<Entry>
-    ensures { result ≡ settled (attend_ruling own.now now) }
+/// Whether the party is marked present in the last session.
+fn is_present(meeting: &Meeting, own: &OwnView) -> bool
+    ensures { result ≡ is_present meeting.now own.now }
+{
+    let last = meeting.last_number();
+    let presences = own.presences.as_slice();
+    presences.iter().any(|session| *session == last)
+}
+
+/// The answer to a party that notes its own presence in the last session (section 318): `Noted`,
+/// which enters the mark unless it stands already. A party that has no right to be present is noted
+/// too.
+pub(crate) fn attend(meeting: &Meeting, own: &OwnView, now: Moment) -> Answer<Entry>
+    ensures { result ≡ settled (attend_ruling meeting.now own.now now) }
 {
     let presence = PresenceMark {
+        session: meeting.last_number(),
         party: own.party,
         moment: now,
     };
-    noted(own.present, Entry::Presence(presence))
+    noted(is_present(meeting, own), Entry::Presence(presence))
 }
 
 /// Whether the party may act for a corporation of the register.
@@ -70,27 +81,39 @@ fn represents(own: &OwnView) -> bool
     authorised.iter().any(|authority| authority.shares > 0)
 }
 
-/// Whether the party governs at least one share for acts at the meeting, as for votes there.
-fn governs_any(own: &OwnView) -> bool
-    ensures { result ≡ governs_any own.now }
+/// Whether the party governs at least one share for acts in the last session.
+fn governs_any(meeting: &Meeting, own: &OwnView) -> bool
+    ensures { result ≡ governs_any meeting.now own.now }
 {
+    let last = meeting.last_number();
     let received = own.received.as_slice();
-    received.iter().any(|received| !received.governs.is_empty())
+    received
+        .iter()
+        .any(|received| !governed_acts(last, received).is_empty())
 }
 
-/// Whether the party is a member, a representative or a proxy at the meeting.
-fn may_demand(own: &OwnView) -> bool
-    ensures { result ≡ may_demand own.now }
+/// Whether the party is a member, a representative or a proxy in the last session.
+fn may_demand(meeting: &Meeting, own: &OwnView) -> bool
+    ensures { result ≡ may_demand meeting.now own.now }
 {
-    holds_as_individual(&own.row) || represents(own) || governs_any(own)
+    holds_as_individual(&own.row) || represents(own) || governs_any(meeting, own)
 }
 
-/// Whether the party has demanded a poll on the resolution already.
-fn has_demanded(own: &OwnView, resolution: u64) -> bool
-    ensures { result ≡ own_demanded own.now resolution }
+/// Whether the demand was made in the last session, of a poll on the resolution.
+fn is_demand_now(meeting: &Meeting, resolution: u64, demand: &DemandMark) -> bool
+    ensures { result ≡ is_demand_now meeting.now resolution demand.now }
+{
+    demand.session == meeting.last_number() && demand.resolution == resolution
+}
+
+/// Whether the party has demanded a poll on the resolution already, in the last session.
+fn has_demanded(meeting: &Meeting, own: &OwnView, resolution: u64) -> bool
+    ensures { result ≡ own_demanded meeting.now own.now resolution }
 {
     let demands = own.demands.as_slice();
-    demands.iter().any(|demand| demand.resolution == resolution)
+    demands
+        .iter()
+        .any(|demand| is_demand_now(meeting, resolution, demand))
 }
 
 fn demand_refusal(
@@ -107,13 +130,13 @@ fn demand_refusal(
     if !meeting.loaded {
         return Some(Refusal::NoRegister);
     }
-    if meeting.opened.is_none() {
+    if !meeting.last_session().is_opened() {
         return Some(Refusal::NotOpened);
     }
-    if !own.present {
+    if !is_present(meeting, own) {
         return Some(Refusal::NotPresent);
     }
-    if !may_demand(own) {
+    if !may_demand(meeting, own) {
         return Some(Refusal::NoRight);
     }
     if find_poll(public.polls, resolution).is_some() {
@@ -123,10 +146,11 @@ fn demand_refusal(
 }
 
 /// The answer to a party that demands a poll (sections 321 and 329): the first that holds of
-/// `NoResolution`, `NoRegister`, `NotOpened`, `NotPresent` where its presence is not marked,
-/// `NoRight` where it is no individual member of the register, no representative of a corporation
-/// there, and governs no share as a proxy for the meeting, and `PollOrdered`; and else `Noted`,
-/// which enters the demand unless it stands already. Whether the demands are enough is not said.
+/// `NoResolution`, `NoRegister`, `NotOpened` where the last session is not opened, `NotPresent` where
+/// its presence in it is not marked, `NoRight` where it is no individual member of the register, no
+/// representative of a corporation there, and governs no share as a proxy for acts in this session,
+/// and `PollOrdered`; and else `Noted`, which enters the demand unless it stands already in this
+/// session. Whether the demands are enough is not said.
 pub(crate) fn demand(
     public: &PublicRecord,
     meeting: &Meeting,
@@ -140,9 +164,13 @@ pub(crate) fn demand(
         return refuse(refusal);
     }
     let demand = DemandMark {
+        session: meeting.last_number(),
         resolution,
         party: own.party,
         moment: now,
     };
-    noted(has_demanded(own, resolution), Entry::Demand(demand))
+    noted(
+        has_demanded(meeting, own, resolution),
+        Entry::Demand(demand),
+    )
 }

@@ -5,7 +5,7 @@ ghost use Rattle.desk_words.specs.Rulings.{settled};
 ghost use Rattle.desk_words.specs.declared.change.Entry.TheVariants as entry;
 ghost use Rattle.desk_words.specs.declared.reply.Reply.TheVariants as reply;
 ghost use Rattle.caller_view.specs.Casts.{block_of, cast_of, cast_range_cases, cast_ruling, cast_count, has_cast_enough, instructed_cases, instructed_ruling, right_cases};
-ghost use Rattle.proxy_rules.specs.Uses.{Vote};
+ghost use Rattle.caller_view.specs.Rights.{governed_at_poll};
 
 use crate::rights::{is_against, is_not_own, is_uninstructed, may_vote_for};
 use crate::views::{OwnView, PublicRecord};
@@ -14,7 +14,7 @@ use desk_words::{
     Answer, Block, CastKind, CastMark, Entry, Meeting, Moment, NewCast, Poll, Range, Refusal,
     Reply, find_poll, refuse,
 };
-use office_days::Closed;
+use proxy_rules::is_late_poll;
 
 fn cast_count(casts: &[CastMark], resolution: u64) -> usize
     ensures { result ≡ cast_count casts.now resolution }
@@ -28,14 +28,15 @@ fn has_cast_enough(own: &OwnView, resolution: u64) -> bool
     cast_count(own.casts.as_slice(), resolution) >= MOST_CASTS
 }
 
-/// Why a vote on places is not the party's to cast on a poll.
-fn right_refusal(own: &OwnView, closed: &Closed, poll: &Poll, new: &NewCast) -> Option<Refusal>
-    ensures { result ≡ first_refusal (right_cases own.now closed.now (Vote poll.now) new.now) }
+/// Why a vote on places is not the party's to cast on a poll, which is late or not.
+fn right_refusal(own: &OwnView, late: bool, poll: &Poll, new: &NewCast) -> Option<Refusal>
+    ensures { result
+        ≡ first_refusal (right_cases own.now (governed_at_poll late poll.now) new.now) }
 {
-    if is_not_own(own, closed, poll, new, new.capacity) {
+    if is_not_own(own, late, poll, new, new.capacity) {
         return Some(Refusal::NotYours);
     }
-    if is_against(own, closed, poll, new, new.capacity) {
+    if is_against(own, late, poll, new, new.capacity) {
         return Some(Refusal::AgainstInstruction);
     }
     None
@@ -68,7 +69,8 @@ fn range_refusal(
     if poll.closed.is_some() {
         return Some(Refusal::PollClosed);
     }
-    right_refusal(own, public.closed, &poll, new)
+    let late = is_late_poll(public.closed, &poll);
+    right_refusal(own, late, &poll, new)
 }
 
 /// What is cast on some of a member's shares.
@@ -161,7 +163,8 @@ fn instructed_refusal(
     if poll.closed.is_some() {
         return Some(Refusal::PollClosed);
     }
-    if is_uninstructed(own, public.closed, &poll, resolution) {
+    let late = is_late_poll(public.closed, &poll);
+    if is_uninstructed(own, late, &poll, resolution) {
         return Some(Refusal::NotYours);
     }
     None

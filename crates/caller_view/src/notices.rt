@@ -1,13 +1,14 @@
 //! The notice of a meeting.
 ghost use Rattle.std.specs.Prelude.{◌≡◌, IfOk, option_map};
-ghost use Rattle.caller_view.specs.Notices.{noticed_poll, noticed_resolution, numbered, notice_of};
+ghost use Rattle.caller_view.specs.Notices.{noticed_poll, noticed_resolution, noticed_session, notice_of};
+ghost use Rattle.caller_view.specs.Sessions.{numbered};
 ghost use Rattle.desk_words.specs.Finding.{poll_on};
 ghost use Rattle.desk_words.specs.Majority.{result_of};
 
 use crate::views::PublicRecord;
 use desk_words::{
-    Declaration, Listing, Meeting, Moment, Notice, NoticedPoll, NoticedResolution, Poll, ResKind,
-    Resolution, Tally, find_poll, result_of,
+    Declaration, Listing, Meeting, Moment, Notice, NoticedPoll, NoticedResolution, NoticedSession,
+    Poll, ResKind, Resolution, Session, Tally, find_poll, result_of,
 };
 use office_days::Closed;
 use proxy_rules::{Use, cutoffs, is_late_poll};
@@ -32,6 +33,7 @@ fn noticed_poll(
     ensures { result ≡ noticed_poll meeting.now closed.now now kind poll }
 {
     NoticedPoll {
+        session: poll.session,
         ordered: poll.ordered,
         take: poll.take,
         chair: poll.chair,
@@ -93,6 +95,40 @@ fn noticed_resolutions(
     Ok(noticed)
 }
 
+fn noticed_session(
+    meeting: &Meeting,
+    closed: &Closed,
+    now: Moment,
+    number: u64,
+    session: &Session,
+) -> NoticedSession
+    ensures { result ≡ noticed_session meeting.now closed.now now number session.now }
+{
+    NoticedSession {
+        appointed: session.appointed,
+        cutoff: cutoffs(meeting, Use::Votes(number), closed, now).appointments,
+        opened: session.opened,
+    }
+}
+
+/// The sessions to which the meeting was adjourned, which are numbered from 2.
+fn noticed_sessions(
+    alloc: Global,
+    meeting: &Meeting,
+    closed: &Closed,
+    now: Moment,
+) -> Result<Vec<NoticedSession>, AllocError>
+    ensures { IfOk result (λ v. v.items ≡ numbered
+        (noticed_session meeting.now closed.now now) 2 meeting.now.later) }
+{
+    let mut noticed = Vec::new(alloc);
+    for session in meeting.later.as_slice() {
+        let number = noticed.as_slice().len() as u64 + 2;
+        noticed.push(noticed_session(meeting, closed, now, number, session))?;
+    }
+    Ok(noticed)
+}
+
 /// The notice of a meeting, with its polls and cutoffs by the closed days as they stand (sections
 /// 307 and 327). The error is want of memory.
 pub(crate) fn notice_in(
@@ -108,11 +144,10 @@ pub(crate) fn notice_in(
         company: meeting.company,
         kind: meeting.kind,
         given: meeting.given,
-        appointed: meeting.appointed,
-        cutoff: cutoffs(meeting, Use::Votes, public.closed, now).appointments,
+        first: noticed_session(meeting, public.closed, now, 1, &meeting.first),
+        later: Listing::from_vec(noticed_sessions(alloc, meeting, public.closed, now)?),
         record_moment: meeting.record_moment,
         loaded: meeting.loaded,
-        opened: meeting.opened,
         resolutions: Listing::from_vec(noticed_resolutions(alloc, public, meeting, now)?),
     })
 }

@@ -27,7 +27,7 @@ fn nothing_of(alloc: Global, party: Party) -> OwnView
         persons: Listing::new(alloc),
         received: Listing::new(alloc),
         authorised: Listing::new(alloc),
-        present: false,
+        presences: Listing::new(alloc),
         demands: Listing::new(alloc),
         casts: Listing::new(alloc),
     }
@@ -53,7 +53,7 @@ fn own_by(
         received,
         members,
         authorised,
-        present,
+        presences,
         demands,
         casts,
     } = rows;
@@ -67,7 +67,7 @@ fn own_by(
         persons,
         received,
         authorised: Listing::from_vec(authorised),
-        present,
+        presences,
         demands,
         casts,
     })

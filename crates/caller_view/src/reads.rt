@@ -15,7 +15,7 @@ pub enum Reads {
     Given,
     /// The persons whom it authorised.
     Persons,
-    /// Whether it is present.
+    /// The sessions in which it is present.
     Presence,
     /// What a demand of a poll stands on: all but what it gave and cast.
     Standing,

@@ -6,16 +6,15 @@ ghost use Rattle.desk_words.specs.Names.{same_name};
 ghost use Rattle.desk_words.specs.Places.{Places, holds};
 ghost use Rattle.desk_words.specs.declared.own.Authorised.{Authorised};
 ghost use Rattle.desk_words.specs.declared.own.PollGoverned.{PollGoverned};
-ghost use Rattle.proxy_rules.specs.Uses.{Vote};
-ghost use Rattle.caller_view.specs.Rights.{IsRunAt, forbids, governed_for, governed_late, governs_at, holds_as_individual, instructs, is_against, is_governed, is_not_own, is_past, is_uninstructed, may_vote_for, meets, represented, some_fail};
+ghost use Rattle.caller_view.specs.Rights.{IsRunAt, forbids, governed_acts, governed_at_poll, governed_late, governed_votes, governs_at, holds_as_individual, instructs, is_against, is_governed, is_not_own, is_past, is_uninstructed, may_vote_for, meets, represented, some_fail};
+ghost use Rattle.caller_view.specs.Sessions.{at_number, at_session};
 
 use crate::views::OwnView;
 use desk_words::{
     Authorised, Capacity, HolderKind, NewCast, Party, Poll, PollGoverned, Range, Received,
-    RegisterRow,
+    RegisterRow, SessionGoverned,
 };
-use office_days::Closed;
-use proxy_rules::{allows, instructed_on, is_late_poll};
+use proxy_rules::{allows, instructed_on};
 
 /// Whether a row is an individual's.
 pub(crate) fn holds_as_individual(row: &Option<RegisterRow>) -> bool
@@ -65,15 +64,55 @@ fn governed_late(polls: &[PollGoverned], resolution: u64) -> &[Range]
     }
 }
 
-/// What an appointment governs for votes on a poll: where it is late, for that poll, and else for
-/// the meeting.
-fn governed_for<'a>(received: &'a Received, closed: &Closed, poll: &Poll) -> &'a [Range]
-    ensures { result.now ≡ governed_for closed.now (Vote poll.now) received.now }
+/// What is governed in the session of a number, if there is one.
+fn at_number(sessions: &[SessionGoverned], number: u64) -> Option<&SessionGoverned>
+    ensures { option_copied result ≡ at_number sessions.now number }
 {
-    if is_late_poll(closed, poll) {
+    match number {
+        0 => None,
+        further => sessions.get(further as usize - 1),
+    }
+}
+
+/// What is governed in the session of a number, or in the first where there is none of it.
+fn at_session(sessions: &[SessionGoverned], number: u64) -> Option<&SessionGoverned>
+    ensures { option_copied result ≡ at_session sessions.now number }
+{
+    match at_number(sessions, number) {
+        Some(governed) => Some(governed),
+        None => sessions.first(),
+    }
+}
+
+/// What an appointment governs for the quorum and the demands of a session.
+pub(crate) fn governed_acts(session: u64, received: &Received) -> &[Range]
+    ensures { result.now ≡ governed_acts session received.now }
+{
+    match at_session(received.sessions.as_slice(), session) {
+        Some(governed) => governed.acts.as_slice(),
+        None => &[],
+    }
+}
+
+/// What an appointment governs for votes in a session, on its polls that are not late.
+fn governed_votes(session: u64, received: &Received) -> &[Range]
+    ensures { result.now ≡ governed_votes session received.now }
+{
+    match at_session(received.sessions.as_slice(), session) {
+        Some(governed) => governed.votes.as_slice(),
+        None => &[],
+    }
+}
+
+/// What an appointment governs for votes on a poll: where it is late, for that poll, and else for
+/// votes in its session.
+fn governed_at_poll<'a>(late: bool, poll: &Poll, received: &'a Received) -> &'a [Range]
+    ensures { result.now ≡ governed_at_poll late poll.now received.now }
+{
+    if late {
         governed_late(received.polls.as_slice(), poll.resolution)
     } else {
-        received.governs.as_slice()
+        governed_votes(poll.session, received)
     }
 }
 
@@ -96,26 +135,26 @@ fn any_has(runs: &[Range], place: u64) -> bool
 }
 
 /// Whether an appointment is the member's, and governs the place for the poll.
-fn governs_at(received: &Received, closed: &Closed, poll: &Poll, new: &NewCast, place: u64) -> bool
-    ensures { result ≡ governs_at closed.now (Vote poll.now) new.now place received.now }
+fn governs_at(received: &Received, late: bool, poll: &Poll, new: &NewCast, place: u64) -> bool
+    ensures { result ≡ governs_at (governed_at_poll late poll.now) new.now place received.now }
 {
-    received.member.is(new.member) && any_has(governed_for(received, closed, poll), place)
+    received.member.is(new.member) && any_has(governed_at_poll(late, poll, received), place)
 }
 
 /// An appointment of the member that governs the place for the poll.
 fn appointment_at<'a>(
     received: &'a [Received],
-    closed: &Closed,
+    late: bool,
     poll: &Poll,
     new: &NewCast,
     place: u64,
 ) -> Option<&'a Received>
     ensures { option_copied result
-        ≡ find (governs_at closed.now (Vote poll.now) new.now place) received.now }
+        ≡ find (governs_at (governed_at_poll late poll.now) new.now place) received.now }
 {
     received
         .iter()
-        .find(|r| governs_at(r, closed, poll, new, place))
+        .find(|r| governs_at(r, late, poll, new, place))
 }
 
 /// The run that has the place.
@@ -128,31 +167,31 @@ fn run_with(runs: &[Range], place: u64) -> Option<Range>
 /// A run that has the place, of what the party governs of the member's shares for the poll.
 fn run_at(
     received: &[Received],
-    closed: &Closed,
+    late: bool,
     poll: &Poll,
     new: &NewCast,
     place: u64,
 ) -> Option<Range>
     ensures some { IfSome result
-        (λ run. IsRunAt received.now closed.now (Vote poll.now) new.now place run) }
+        (λ run. IsRunAt received.now (governed_at_poll late poll.now) new.now place run) }
     ensures none { result ≡ None
-        → is_governed received.now closed.now (Vote poll.now) new.now place ≡ false }
+        → is_governed received.now (governed_at_poll late poll.now) new.now place ≡ false }
 {
-    match appointment_at(received, closed, poll, new, place) {
-        Some(found) => run_with(governed_for(found, closed, poll), place),
+    match appointment_at(received, late, poll, new, place) {
+        Some(found) => run_with(governed_at_poll(late, poll, found), place),
         None => None,
     }
 }
 
 /// Whether the party does not govern, for the poll, some of the places. It goes from run to run.
-fn some_ungoverned(received: &[Received], closed: &Closed, poll: &Poll, new: &NewCast) -> bool
+fn some_ungoverned(received: &[Received], late: bool, poll: &Poll, new: &NewCast) -> bool
     ensures { result
-        ≡ some_fail (is_governed received.now closed.now (Vote poll.now) new.now) new.now.from
+        ≡ some_fail (is_governed received.now (governed_at_poll late poll.now) new.now) new.now.from
         new.now.to }
 {
     let mut next = new.from.max(1);
     while next <= new.to {
-        match run_at(received, closed, poll, new, next) {
+        match run_at(received, late, poll, new, next) {
             Some(run) => next = run.to() + 1,
             None => return true,
         }
@@ -172,17 +211,17 @@ fn is_past(row: &Option<RegisterRow>, place: u64) -> bool
 /// Whether some place is not the party's to vote on in the capacity.
 pub(crate) fn is_not_own(
     own: &OwnView,
-    closed: &Closed,
+    late: bool,
     poll: &Poll,
     new: &NewCast,
     capacity: Capacity,
 ) -> bool
-    ensures { result ≡ is_not_own own.now closed.now (Vote poll.now) new.now capacity }
+    ensures { result ≡ is_not_own own.now (governed_at_poll late poll.now) new.now capacity }
 {
     match capacity {
         Capacity::Member => is_past(&own.row, new.to),
         Capacity::Rep => represented(own.authorised.as_slice(), new.member) < new.to,
-        Capacity::Proxy => some_ungoverned(own.received.as_slice(), closed, poll, new),
+        Capacity::Proxy => some_ungoverned(own.received.as_slice(), late, poll, new),
     }
 }
 
@@ -201,59 +240,59 @@ fn any_meets(runs: &[Range], from: u64, to: u64) -> bool
 
 /// Whether an appointment of the member governs some of the places for the poll, and instructs
 /// otherwise.
-fn forbids(received: &Received, closed: &Closed, poll: &Poll, new: &NewCast) -> bool
-    ensures { result ≡ forbids closed.now (Vote poll.now) new.now received.now }
+fn forbids(received: &Received, late: bool, poll: &Poll, new: &NewCast) -> bool
+    ensures { result ≡ forbids (governed_at_poll late poll.now) new.now received.now }
 {
     received.member.is(new.member)
         && !allows(
             instructed_on(received.instructions.as_slice(), new.resolution),
             new.way,
         )
-        && any_meets(governed_for(received, closed, poll), new.from, new.to)
+        && any_meets(governed_at_poll(late, poll, received), new.from, new.to)
 }
 
-fn any_forbids(received: &[Received], closed: &Closed, poll: &Poll, new: &NewCast) -> bool
-    ensures { result ≡ list_any (forbids closed.now (Vote poll.now) new.now) received.now }
+fn any_forbids(received: &[Received], late: bool, poll: &Poll, new: &NewCast) -> bool
+    ensures { result ≡ list_any (forbids (governed_at_poll late poll.now) new.now) received.now }
 {
-    received.iter().any(|r| forbids(r, closed, poll, new))
+    received.iter().any(|r| forbids(r, late, poll, new))
 }
 
 /// Whether a vote is cast as proxy against an instruction of an appointment that governs some of
 /// the places.
 pub(crate) fn is_against(
     own: &OwnView,
-    closed: &Closed,
+    late: bool,
     poll: &Poll,
     new: &NewCast,
     capacity: Capacity,
 ) -> bool
-    ensures { result ≡ is_against own.now closed.now (Vote poll.now) new.now capacity }
+    ensures { result ≡ is_against own.now (governed_at_poll late poll.now) new.now capacity }
 {
     match capacity {
         Capacity::Member | Capacity::Rep => false,
-        Capacity::Proxy => any_forbids(own.received.as_slice(), closed, poll, new),
+        Capacity::Proxy => any_forbids(own.received.as_slice(), late, poll, new),
     }
 }
 
 /// Whether an appointment governs a share for the poll, and instructs its proxy on the resolution.
-fn instructs(received: &Received, closed: &Closed, poll: &Poll, resolution: u64) -> bool
-    ensures { result ≡ instructs closed.now (Vote poll.now) resolution received.now }
+fn instructs(received: &Received, late: bool, poll: &Poll, resolution: u64) -> bool
+    ensures { result ≡ instructs (governed_at_poll late poll.now) resolution received.now }
 {
     instructed_on(received.instructions.as_slice(), resolution).is_some()
-        && !governed_for(received, closed, poll).is_empty()
+        && !governed_at_poll(late, poll, received).is_empty()
 }
 
-fn any_instructs(received: &[Received], closed: &Closed, poll: &Poll, resolution: u64) -> bool
-    ensures { result ≡ list_any (instructs closed.now (Vote poll.now) resolution) received.now }
+fn any_instructs(received: &[Received], late: bool, poll: &Poll, resolution: u64) -> bool
+    ensures { result ≡ list_any (instructs (governed_at_poll late poll.now) resolution) received.now }
 {
     received
         .iter()
-        .any(|r| instructs(r, closed, poll, resolution))
+        .any(|r| instructs(r, late, poll, resolution))
 }
 
 /// Whether the party governs no share for the poll on which it is instructed.
-pub(crate) fn is_uninstructed(own: &OwnView, closed: &Closed, poll: &Poll, resolution: u64) -> bool
-    ensures { result ≡ is_uninstructed own.now closed.now (Vote poll.now) resolution }
+pub(crate) fn is_uninstructed(own: &OwnView, late: bool, poll: &Poll, resolution: u64) -> bool
+    ensures { result ≡ is_uninstructed own.now (governed_at_poll late poll.now) resolution }
 {
-    !any_instructs(own.received.as_slice(), closed, poll, resolution)
+    !any_instructs(own.received.as_slice(), late, poll, resolution)
 }

@@ -38,8 +38,8 @@ pub struct OwnRows {
     pub members: Listing<MemberRows>,
     /// The authorities that were given to it (section 323).
     pub authorised: Listing<AuthorityRows>,
-    /// Whether it is marked present (section 318).
-    pub present: bool,
+    /// The sessions in which it is marked present, by their numbers from 1 (section 318).
+    pub presences: Listing<u64>,
     /// The polls that it demanded (sections 321 and 329).
     pub demands: Listing<DemandMark>,
     /// The votes that it cast.

@@ -10,7 +10,7 @@ use office_days::Closed;
 use std::marker::Model;
 
 /// What everyone may know of a meeting: the closed days (section 1173), and, where the meeting
-/// exists, its notice and resolutions, whether a register is loaded, the opening, and its polls
+/// exists, its notice and resolutions, its sessions, whether a register is loaded, and its polls
 /// with what is declared of them. It is lent by what keeps these.
 #[derive(Drop)]
 pub struct PublicRecord<'a> {
@@ -80,8 +80,8 @@ pub struct OwnView {
     pub received: Listing<Received>,
     /// The corporations that authorised it, with their shares.
     pub authorised: Listing<Authorised>,
-    /// Whether it is marked present.
-    pub present: bool,
+    /// The sessions in which it is marked present, by their numbers from 1 (section 318).
+    pub presences: Listing<u64>,
     /// The polls that it demanded (sections 321 and 329).
     pub demands: Listing<DemandMark>,
     /// The votes that it cast.

@@ -8,7 +8,7 @@ ghost use Rattle.caller_view.specs.Rows.{rows_of};
 
 use crate::members::{naming, naming_by};
 use crate::own::{
-    casts_of, casts_on, demands_of, ended_by, is_present, persons_of, row_of, trusting,
+    casts_of, casts_on, demands_of, ended_by, persons_of, presences_of, row_of, trusting,
     trusting_for,
 };
 use caller_view::{OwnRows, Reads, reads_of};
@@ -85,8 +85,9 @@ impl RowSource for InLists<'_> {
         Ok(Listing::from_vec(found))
     }
 
-    fn is_present(&mut self, party: Party) -> Result<bool, AllocError> {
-        Ok(is_present(&self.lists.presences, party))
+    fn presences_of(&mut self, party: Party) -> Result<Listing<u64>, AllocError> {
+        let found = presences_of(self.alloc, &self.lists.presences, party)?;
+        Ok(Listing::from_vec(found))
     }
 
     fn demands_of(&mut self, party: Party) -> Result<Listing<DemandMark>, AllocError> {

@@ -1,12 +1,12 @@
 //! The records of a party, looked up by the names that they are filed under.
 ghost use Rattle.std.specs.Prelude.{◌≡◌, ◌==◌, IfOk, filter, true};
-ghost use Rattle.std.specs.List.{list_any};
 ghost use Rattle.std.specs.Option.{option_copied};
 ghost use Rattle.desk_words.specs.Ordered.{ascends_by};
 ghost use Rattle.desk_words.specs.Registers.{member_before};
 ghost use Rattle.caller_view.specs.Reads.{cast_on};
+ghost use Rattle.caller_view.specs.Rows.{presences_of};
 ghost use Rattle.proxy_rules.specs.Holdings.{is_ended_of};
-ghost use Rattle.proxy_rules.specs.Parties.{authorises, is_authority_of, is_cast_by, is_demanded_by, is_presence_of};
+ghost use Rattle.proxy_rules.specs.Parties.{authorises, is_authority_of, is_cast_by, is_demanded_by};
 ghost use Rattle.proxy_rules.specs.Shares.{row_of};
 
 use desk_words::limits::MOST_CASTS;
@@ -90,10 +90,21 @@ pub(crate) fn trusting_for(
     of_corporation(alloc, given.as_slice(), corporation)
 }
 
-pub(crate) fn is_present(presences: &Filed<PresenceMark>, party: Party) -> bool
-    ensures { result ≡ list_any (is_presence_of party) presences.now }
+/// The sessions in which a party is marked present, in order of receipt.
+pub(crate) fn presences_of(
+    alloc: Global,
+    presences: &Filed<PresenceMark>,
+    party: Party,
+) -> Result<Vec<u64>, AllocError>
+    ensures { IfOk result (λ sessions. sessions.items ≡ presences_of party presences.now) }
 {
-    presences.has_first(party)
+    let all = presences.as_slice();
+    let places = presences.places_by_first(party);
+    let mut sessions = Vec::with_capacity(alloc, places.len())?;
+    for place in places {
+        sessions.push(all[*place].session)?;
+    }
+    Ok(sessions)
 }
 
 /// The polls that a party demanded, in order of receipt.

@@ -1,6 +1,5 @@
 -- A party's rows, from what was told of each list.
 use Rattle.std.proofs.Common.{◌≡◌, ◌+◌, ◌<◌, ℕ, List, [], ◌∷◌, ◌++◌, length, get_or, map, take, filter, Option, Some, None, sym, ap, ◌∙◌, refl}
-use Rattle.std.specs.List.{list_any}
 use Rattle.std.proofs.lemmas.List.{map-append, take_more}
 use Rattle.desk_terms.specs.Names.{same_name}
 use Rattle.desk_terms.specs.declared.kinds.Capacity.{Capacity}
@@ -9,13 +8,13 @@ use Rattle.desk_words.specs.Seen.{Party}
 use Rattle.desk_words.specs.declared.office.MeetingLists.{MeetingLists}
 use Rattle.desk_words.specs.declared.request.NewCast.{NewCast}
 use Rattle.caller_view.specs.Reads.{rows_kept}
-use Rattle.caller_view.specs.Rows.{authority_rows_in, no_rows_of, rows_in}
+use Rattle.caller_view.specs.Rows.{authority_rows_in, no_rows_of, presences_of, rows_in}
 use Rattle.caller_view.specs.declared.reads.Reads.TheVariants as reads
 use Rattle.caller_view.specs.declared.rows.AuthorityRows.{AuthorityRows}
 use Rattle.caller_view.specs.declared.rows.OwnRows.{OwnRows}
 use Rattle.caller_view.proofs.OwnLemmas.{filter-map}
 use Rattle.proxy_rules.specs.Holdings.{is_ended_of, is_given_by}
-use Rattle.proxy_rules.specs.Parties.{is_authority_of, is_demanded_by, is_presence_of}
+use Rattle.proxy_rules.specs.Parties.{is_authority_of, is_demanded_by}
 use Rattle.proxy_rules.specs.Shares.{row_of}
 use Rattle.row_source.specs.Lists.{appointments_in, authorities_in, authority_at, cast_in, demands_in, endings_in, for_member, naming_by_in, naming_in, presences_in, register_in, trusting_for_in, trusting_in, with_members}
 use Rattle.row_source.proofs.MemberLemmas.{members-read}
@@ -46,7 +45,7 @@ pub standing_are : (found : Option MeetingLists) (party : Party)
       received = naming_in found party;
       members = (with_members found (naming_in found party)).members;
       authorised = map (authority_at found) (trusting_in found party);
-      present = list_any (is_presence_of party) (presences_in found);
+      presences = presences_of party (presences_in found);
       demands = filter (is_demanded_by party) (demands_in found);
     } ≡ rows_kept reads.Standing (rows_in found party)
 standing_are None party = refl
@@ -75,7 +74,7 @@ persons_are None party = refl
 persons_are (Some m) party = refl
 
 pub presence_is : (found : Option MeetingLists) (party : Party)
-    → record (no_rows_of party) { present = list_any (is_presence_of party) (presences_in found) } ≡ rows_kept reads.Presence (rows_in found party)
+    → record (no_rows_of party) { presences = presences_of party (presences_in found) } ≡ rows_kept reads.Presence (rows_in found party)
 presence_is None party = refl
 presence_is (Some m) party = refl
 

@@ -26,7 +26,7 @@ pub fn no_rows_of(alloc: Global, party: Party) -> OwnRows
         received: Listing::new(alloc),
         members: Listing::new(alloc),
         authorised: Listing::new(alloc),
-        present: false,
+        presences: Listing::new(alloc),
         demands: Listing::new(alloc),
         casts: Listing::new(alloc),
     }
@@ -44,14 +44,14 @@ fn standing_of<R: RowSource>(
     let named = named(source, alloc, None, party)?;
     let row = source.row_of(party)?;
     let authorised = authorised(source, alloc, None, party)?;
-    let present = source.is_present(party)?;
+    let presences = source.presences_of(party)?;
     let demands = source.demands_of(party)?;
     Ok(OwnRows {
         row,
         received: named.received,
         members: named.members,
         authorised,
-        present,
+        presences,
         demands,
         ..no_rows_of(alloc, party)
     })
@@ -110,7 +110,7 @@ fn persons_alone<R: RowSource>(
     })
 }
 
-/// Whether a party is present, alone.
+/// The sessions in which a party is present, alone.
 fn presence_alone<R: RowSource>(
     source: &mut R,
     alloc: Global,
@@ -119,9 +119,9 @@ fn presence_alone<R: RowSource>(
     ensures { Tells R.trusted R.shows R.keeps R.leaves R.may_fail source.old source.new result
         (λ found rows. rows ≡ rows_kept reads.Presence (rows_in found party)) }
 {
-    let present = source.is_present(party)?;
+    let presences = source.presences_of(party)?;
     Ok(OwnRows {
-        present,
+        presences,
         ..no_rows_of(alloc, party)
     })
 }
@@ -135,7 +135,7 @@ fn none_of_them<R: RowSource>(
     ensures { Tells R.trusted R.shows R.keeps R.leaves R.may_fail source.old source.new result
         (λ found rows. rows ≡ rows_kept reads.Nothing (rows_in found party)) }
 {
-    source.is_present(party)?;
+    source.presences_of(party)?;
     Ok(no_rows_of(alloc, party))
 }
 

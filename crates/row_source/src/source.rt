@@ -1,10 +1,10 @@
 //! Look-ups of a meeting's records.
 ghost use Rattle.std.specs.Prelude.{◌≡◌, Option, alloc_error, filter};
-ghost use Rattle.std.specs.List.{list_any};
 ghost use Rattle.caller_view.specs.Reads.{cast_on};
+ghost use Rattle.caller_view.specs.Rows.{presences_of};
 ghost use Rattle.desk_words.specs.declared.office.MeetingLists.{MeetingLists};
 ghost use Rattle.proxy_rules.specs.Holdings.{is_ended_of, is_given_by};
-ghost use Rattle.proxy_rules.specs.Parties.{is_authority_of, is_demanded_by, is_presence_of};
+ghost use Rattle.proxy_rules.specs.Parties.{is_authority_of, is_demanded_by};
 ghost use Rattle.proxy_rules.specs.Shares.{row_of};
 ghost use Rattle.row_source.specs.Lists.{appointments_in, authorities_in, cast_in, demands_in};
 ghost use Rattle.row_source.specs.Lists.{endings_in, naming_by_in, naming_in, presences_in, register_in};
@@ -84,10 +84,10 @@ pub trait RowSource {
         ensures { Tells trusted shows keeps leaves may_fail self.old self.new result
             (λ found given. given ≡ trusting_for_in found corporation party) };
 
-    /// Whether a party is marked present (section 318).
-    fn is_present(&mut self, party: Party) -> Result<bool, Self::Error>
+    /// The sessions in which a party is marked present, by their numbers from 1 (section 318).
+    fn presences_of(&mut self, party: Party) -> Result<Listing<u64>, Self::Error>
         ensures { Tells trusted shows keeps leaves may_fail self.old self.new result
-            (λ found present. present ≡ list_any (is_presence_of party) (presences_in found)) };
+            (λ found sessions. sessions ≡ presences_of party (presences_in found)) };
 
     /// The polls that a party demanded (sections 321 and 329).
     fn demands_of(&mut self, party: Party) -> Result<Listing<DemandMark>, Self::Error>

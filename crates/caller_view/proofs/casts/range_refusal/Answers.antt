@@ -2,9 +2,9 @@ use Rattle.std.proofs.Common.{rules, ◌≡◌, ℕ, List, Some, true, false, ap
 use Rattle.desk_terms.specs.Refusals.{first_refusal}
 use Rattle.desk_words.specs.Finding.{poll_on}
 use Rattle.desk_words.specs.Polls.{is_closed, is_waiting}
-use Rattle.proxy_rules.specs.Uses.{Vote}
+use Rattle.proxy_rules.specs.Cutoffs.{is_late_poll}
 use Rattle.caller_view.specs.Casts.{has_cast_enough, right_cases}
-use Rattle.caller_view.specs.Rights.{may_vote_for}
+use Rattle.caller_view.specs.Rights.{governed_at_poll, may_vote_for}
 use Rattle.caller_view.proofs.CastLemmas.{refused_on}
 use Rattle.caller_view.proofs.casts.range_refusal.Goals as goal
 
@@ -20,5 +20,5 @@ returns c =
     let closed : is_closed poll ≡ false = search rules in
     let days : c.public.inside.closed.now ≡ a.public.now.closed = search rules in
     c.right_refusal.ensures
-    ∙ ap (λ (days : List ℕ). first_refusal (right_cases a.own.now days (Vote poll) a.new.now)) days
+    ∙ ap (λ late. first_refusal (right_cases a.own.now (governed_at_poll late poll) a.new.now)) (c.is_late_poll-late.ensures ∙ ap (λ (days : List ℕ). is_late_poll days poll) days)
     ∙ refused_on a.public.now a.meeting.now a.own.now a.new.now poll found enough loaded may waiting closed

@@ -1,6 +1,7 @@
 use Rattle.std.proofs.Common.{◌≡◌, ◌+◌, ◌∷◌, ◌++◌, [], length, take, ap, sym, ◌∙◌, arith}
 use Rattle.std.proofs.lemmas.List.{take_more}
-use Rattle.caller_view.specs.Notices.{noticed_resolution, numbered}
+use Rattle.caller_view.specs.Notices.{noticed_resolution}
+use Rattle.caller_view.specs.Sessions.{numbered}
 use Rattle.caller_view.proofs.Numbering.{length-numbered, numbered-more}
 use Rattle.caller_view.proofs.notices.noticed_resolutions.Goals as goal
 

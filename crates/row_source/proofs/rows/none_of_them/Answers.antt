@@ -6,5 +6,5 @@ use Rattle.row_source.proofs.rows.none_of_them.Goals as goal
 pub returns : goal.returns
 returns g c =
     let w = g.met.R.RowSource in
-    told_so _ _ _ _ _ _ _ c.in_ok-is_present.field-0 _ _ _ c.in_ok-is_present.ensures
+    told_so _ _ _ _ _ _ _ c.in_ok-presences_of.field-0 _ _ _ c.in_ok-presences_of.ensures
     (λ found p. c.no_rows_of.ensures ∙ nothing_is found c.args.party)

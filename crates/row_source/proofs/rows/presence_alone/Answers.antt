@@ -6,5 +6,5 @@ use Rattle.row_source.proofs.rows.presence_alone.Goals as goal
 pub returns : goal.returns
 returns g c =
     let w = g.met.R.RowSource in
-    told_so _ _ _ _ _ _ _ c.in_ok-present.present _ _ _ c.in_ok-present.ensures
-    (λ found p. (λ i. record (c.no_rows_of.ensures i) { present = p i }) ∙ presence_is found c.args.party)
+    told_so _ _ _ _ _ _ _ c.in_ok-presences.presences _ _ _ c.in_ok-presences.ensures
+    (λ found p. (λ i. record (c.no_rows_of.ensures i) { presences = p i }) ∙ presence_is found c.args.party)
