@@ -1,6 +1,6 @@
 -- An authority more, a presence more, and a demand more keep the lists of a meeting.
-use Rattle.std.proofs.Common.{◌≡◌, ℕ, ◌+◌, Bool, true, false, not, ◌&&◌, ◌==◌, cond, List, [], ◌∷◌, ◌++◌, length, refl, ap, sym, ◌∙◌, arith, add-zero}
-use Rattle.std.specs.Prelude.{filter, nat_le, count_by}
+use Rattle.std.proofs.Common.{◌≡◌, ℕ, ◌+◌, Bool, true, false, not, ◌&&◌, ◌||◌, ◌==◌, cond, List, [], ◌∷◌, ◌++◌, length, refl, ap, sym, ◌∙◌, arith, add-zero}
+use Rattle.std.specs.Prelude.{filter, map, nat_le, count_by}
 use Rattle.std.specs.List.{list_all, list_any}
 use Rattle.std.specs.Cmp.{first_so, second_so}
 use Rattle.std.specs.Cmp.Derive.{both_true}
@@ -13,7 +13,8 @@ use Rattle.desk_lists.proofs.Differing.{all_weaker, count_snoc, differ_snoc}
 use Rattle.desk_lists.specs.Ordered.{differ_by}
 use Rattle.desk_words.proofs.RowLemmas.{same_name-true}
 use Rattle.desk_words.specs.Names.{same_name}
-use Rattle.desk_words.specs.Office.{are_authorities, are_demands, is_meeting, is_resolution, same_authority, same_demand, same_presence}
+use Rattle.desk_words.specs.Office.{are_authorities, are_demands, are_presences, is_demand, is_meeting, same_authority, same_demand, same_presence}
+use Rattle.desk_words.specs.Sessions.{is_session}
 use Rattle.desk_words.specs.declared.change.Entry.TheVariants as entry
 use Rattle.desk_words.specs.declared.office.MeetingLists.{MeetingLists}
 use Rattle.desk_words.specs.declared.records.Authority.{Authority}
@@ -80,30 +81,59 @@ not_given party person given h =
 
 -- ---- a presence more
 
--- a party may be marked that is not marked yet
-pub presence_kept : (p : PresenceMark) (m : MeetingLists) → is_meeting m ≡ true → list_any (λ q. same_presence q p) m.presences ≡ false → is_meeting (entered (entry.Presence p) m) ≡ true
-presence_kept p m h fresh =
+-- a party may be marked that is not marked yet in that session of the meeting
+pub presence_kept : (p : PresenceMark) (m : MeetingLists) → is_meeting m ≡ true → is_session m.meeting p.session ≡ true → list_any (λ q. same_presence q p) m.presences ≡ false
+    → is_meeting (entered (entry.Presence p) m) ≡ true
+presence_kept p m h there fresh =
     let f = meeting_facts m h in
-    meeting_from_facts (entered (entry.Presence p) m) (assumption (differ_snoc same_presence m.presences p f.presences fresh, f))
+    let on = λ (q : PresenceMark). is_session m.meeting q.session in
+    let apart = differ_by same_presence m.presences in
+    let good : are_presences m.meeting (m.presences ++ p ∷ []) ≡ true = both_true
+    (list_all-append on m.presences (p ∷ []) ∙ both_true (first_so (list_all on m.presences) apart f.presences) (both_true there refl))
+    (differ_snoc same_presence m.presences p (second_so (list_all on m.presences) apart f.presences) fresh) in
+    meeting_from_facts (entered (entry.Presence p) m) (assumption (good, f))
+
+-- who is not marked by name and session is not marked
+pub not_marked : (session : ℕ) (party : List ℕ) (presences : List PresenceMark)
+    → list_any (λ (q : PresenceMark). same_name q.party party && q.session == session) presences ≡ false
+    → list_any (λ (q : PresenceMark). q.session == session && same_name q.party party) presences ≡ false
+not_marked session party presences h =
+    ap (λ test. list_any test presences) (λ i (q : PresenceMark). and_comm (q.session == session) (same_name q.party party) i) ∙ h
+
+-- some of what is made of values pass where the values pass so
+any_made : {X Y : Type 0} (passes : Y → Bool) (make : X → Y) (xs : List X) → list_any passes (map make xs) ≡ list_any (λ x. passes (make x)) xs
+any_made passes make [] = refl
+any_made passes make (x ∷ xs) = ap (λ b. passes (make x) || b) (any_made passes make xs)
+
+-- nor is who has no such session among its own
+pub not_present : (session : ℕ) (party : List ℕ) (presences : List PresenceMark)
+    → list_any (λ (s : ℕ). s == session) (map (λ (q : PresenceMark). q.session) (filter (λ (q : PresenceMark). same_name q.party party) presences)) ≡ false
+    → list_any (λ (q : PresenceMark). q.session == session && same_name q.party party) presences ≡ false
+not_present session party presences h =
+    not_marked session party presences
+    (sym (any-filter (λ (q : PresenceMark). q.session == session) (λ (q : PresenceMark). same_name q.party party) presences)
+    ∙ sym (any_made (λ (s : ℕ). s == session) (λ (q : PresenceMark). q.session) (filter (λ (q : PresenceMark). same_name q.party party) presences))
+    ∙ h)
 
 -- ---- a demand more
 
--- a demand of a resolution of the meeting may be added that does not stand yet
-pub demand_kept : (d : DemandMark) (m : MeetingLists) → is_meeting m ≡ true → is_resolution (length m.meeting.resolutions) d.resolution ≡ true
+-- a demand in a session of the meeting, of one of its resolutions, may be added that does not stand
+-- yet
+pub demand_kept : (d : DemandMark) (m : MeetingLists) → is_meeting m ≡ true → is_demand m.meeting d ≡ true
     → list_any (λ e. same_demand e d) m.demands ≡ false → is_meeting (entered (entry.Demand d) m) ≡ true
-demand_kept d m h number fresh =
+demand_kept d m h right fresh =
     let f = meeting_facts m h in
-    let on = λ (e : DemandMark). is_resolution (length m.meeting.resolutions) e.resolution in
+    let on = is_demand m.meeting in
     let apart = differ_by same_demand m.demands in
-    let good : are_demands (length m.meeting.resolutions) (m.demands ++ d ∷ []) ≡ true = both_true
-    (list_all-append on m.demands (d ∷ []) ∙ both_true (first_so (list_all on m.demands) apart f.demands) (both_true number refl))
+    let good : are_demands m.meeting (m.demands ++ d ∷ []) ≡ true = both_true
+    (list_all-append on m.demands (d ∷ []) ∙ both_true (first_so (list_all on m.demands) apart f.demands) (both_true right refl))
     (differ_snoc same_demand m.demands d (second_so (list_all on m.demands) apart f.demands) fresh) in
     meeting_from_facts (entered (entry.Demand d) m) (assumption (good, f))
 
 -- what is not among a party's own demands is not among all
-pub not_demanded : (party : List ℕ) (resolution : ℕ) (demands : List DemandMark)
-    → list_any (λ (e : DemandMark). e.resolution == resolution) (filter (λ (e : DemandMark). same_name e.party party) demands) ≡ false
-    → list_any (λ (e : DemandMark). e.resolution == resolution && same_name e.party party) demands ≡ false
-not_demanded party resolution demands h =
-    ap (λ test. list_any test demands) (λ i (e : DemandMark). and_comm (e.resolution == resolution) (same_name e.party party) i)
-    ∙ sym (any-filter (λ (e : DemandMark). e.resolution == resolution) (λ (e : DemandMark). same_name e.party party) demands) ∙ h
+pub not_demanded : (party : List ℕ) (session resolution : ℕ) (demands : List DemandMark)
+    → list_any (λ (e : DemandMark). e.session == session && e.resolution == resolution) (filter (λ (e : DemandMark). same_name e.party party) demands) ≡ false
+    → list_any (λ (e : DemandMark). (e.session == session && e.resolution == resolution) && same_name e.party party) demands ≡ false
+not_demanded party session resolution demands h =
+    ap (λ test. list_any test demands) (λ i (e : DemandMark). and_comm (e.session == session && e.resolution == resolution) (same_name e.party party) i)
+    ∙ sym (any-filter (λ (e : DemandMark). e.session == session && e.resolution == resolution) (λ (e : DemandMark). same_name e.party party) demands) ∙ h

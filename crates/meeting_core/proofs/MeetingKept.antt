@@ -1,25 +1,33 @@
 -- Each change of a meeting keeps the lists of a meeting.
-use Rattle.std.proofs.Common.{◌≡◌, ℕ, ◌+◌, Bool, true, false, ◌&&◌, ◌||◌, ◌==◌, cond, List, [], ◌∷◌, ◌++◌, length, refl, ap, sym, ◌∙◌, arith, add-zero}
-use Rattle.std.specs.Prelude.{Some, None, find, filter, is_some, nat_le, nat_lt, count_by}
-use Rattle.std.specs.List.{list_all, list_any}
+use Rattle.std.proofs.Common.{◌≡◌, ℕ, zero, suc, ◌+◌, ◌-◌, Bool, true, false, ◌&&◌, ◌||◌, ◌==◌, cond, List, [], ◌∷◌, ◌++◌, length, slice_set, take, refl, ap, sym, ◌∙◌, arith, add-zero}
+use Rattle.std.specs.Prelude.{Option, Some, None, filter, is_some, unwrap_or, nat_le, nat_lt, count_by}
+use Rattle.std.specs.List.{list_all, list_any, slice_get}
 use Rattle.std.specs.Cmp.{first_so, second_so}
 use Rattle.std.specs.Cmp.Derive.{both_true}
 use Rattle.std.proofs.lemmas.Bool.{eqb-true}
 use Rattle.std.proofs.lemmas.Bool.Decides.{nat_tests}
+use Rattle.std.proofs.lemmas.List.{length-set}
 use Rattle.std.proofs.lemmas.List.Folds.{list_all-append}
+use Rattle.std.proofs.lemmas.Option.{slice_get-get_or}
 use Rattle.desk_lists.proofs.Kept.{found-any, found-passes}
 use Rattle.desk_lists.proofs.Ascending.{ascends_by-change_first}
 use Rattle.desk_lists.proofs.Differing.{all_changed_found, all_weaker, any_kept, count_filter, count_snoc}
 use Rattle.desk_lists.proofs.Inserting.{all-insert, any-insert, ascends-insert}
 use Rattle.desk_words.proofs.RowLemmas.{same_name-true}
 use Rattle.desk_words.specs.Names.{same_name}
-use Rattle.desk_words.specs.Ordered.{ascends_by}
+use Rattle.desk_words.specs.Ordered.{ascends_by, differ_by}
 use Rattle.desk_words.specs.Registers.{is_register}
-use Rattle.desk_words.specs.Office.{implies, is_loaded_right, no_rows, is_resolution, is_declared_right, is_poll, is_tally, poll_before, are_polls, is_cast_on, same_ballot, are_casts, is_meeting}
+use Rattle.desk_words.specs.Office.{implies, is_loaded_right, no_rows, is_resolution, is_declared_right, is_poll, is_tally, poll_before, are_demands, are_polls, are_presences, is_cast_on, same_ballot, same_demand, same_presence, are_casts, is_meeting}
+use Rattle.desk_words.specs.Sessions.{are_sessions, is_opened, is_opened_session, is_session, is_there, last_later, last_number, last_session, open_there, opened_at, sessions_of}
+use Rattle.desk_words.specs.declared.limits.TheConstants.{MOST_SESSIONS}
 use Rattle.desk_words.specs.declared.change.Entry.TheVariants as entry
 use Rattle.desk_words.specs.declared.office.MeetingLists.{MeetingLists}
 use Rattle.desk_words.specs.declared.records.RegisterRow.{RegisterRow}
 use Rattle.desk_words.specs.declared.records.CastMark.{CastMark}
+use Rattle.desk_words.specs.declared.records.DemandMark.{DemandMark}
+use Rattle.desk_words.specs.declared.records.Meeting.{Meeting}
+use Rattle.desk_words.specs.declared.records.PresenceMark.{PresenceMark}
+use Rattle.desk_words.specs.declared.records.Session.{Session}
 use Rattle.desk_words.specs.declared.records.Poll.{Poll}
 use Rattle.desk_words.specs.declared.records.Tally.{Tally}
 use Rattle.desk_words.specs.Finding.{poll_on}
@@ -39,38 +47,124 @@ implies_true false = refl
 pub register_kept : (rows : List RegisterRow) (m : MeetingLists) → is_register rows ≡ true → is_meeting m ≡ true → is_meeting (changed (SetRegister rows) m) ≡ true
 register_kept rows m good h =
     let f = meeting_facts m h in
-    let loaded : is_loaded_right (changed (SetRegister rows) m) ≡ true = both_true good (implies_true (is_some m.meeting.opened)) in
+    let loaded : is_loaded_right (changed (SetRegister rows) m) ≡ true = both_true good (implies_true (is_opened m.meeting.first)) in
     meeting_from_facts (changed (SetRegister rows) m) (assumption (loaded, f))
 
-polls_from : (opened : Bool) (n : ℕ) (polls : List Poll) → opened ≡ true → list_all (is_poll n) polls ≡ true → ascends_by poll_before polls ≡ true → are_polls opened n polls ≡ true
-polls_from opened n [] o all up = refl
-polls_from opened n (p ∷ ps) o all up = both_true (both_true o all) up
+-- what a poll is, taken apart
+record PollFacts (m : Meeting) (p : Poll) : Type 0 where
+  session : is_opened_session m p.session ≡ true
+  number : is_resolution (length m.resolutions) p.resolution ≡ true
+  closed : implies (is_some p.closed) (is_some p.started) ≡ true
+  declared : implies (is_some p.declared) (is_some p.closed) ≡ true
+  tally : is_declared_right p.declared ≡ true
 
-polls_all : (opened : Bool) (n : ℕ) (polls : List Poll) → are_polls opened n polls ≡ true → list_all (is_poll n) polls ≡ true
-polls_all opened n [] h = refl
-polls_all opened n (p ∷ ps) h =
-    second_so opened (list_all (is_poll n) (p ∷ ps)) (first_so (opened && list_all (is_poll n) (p ∷ ps)) (ascends_by poll_before (p ∷ ps)) h)
+poll_facts : (m : Meeting) (p : Poll) → is_poll m p ≡ true → PollFacts m p
+poll_facts m p h =
+    let s = is_opened_session m p.session in
+    let a = is_resolution (length m.resolutions) p.resolution in
+    let b = implies (is_some p.closed) (is_some p.started) in
+    let c = implies (is_some p.declared) (is_some p.closed) in
+    let d = is_declared_right p.declared in
+    let four = first_so (s && a && b && c) d h in
+    let three = first_so (s && a && b) c four in
+    let two = first_so (s && a) b three in
+    record {
+      session = first_so s a two;
+      number = second_so s a two;
+      closed = second_so (s && a) b three;
+      declared = second_so (s && a && b) c four;
+      tally = second_so (s && a && b && c) d h;
+    }
 
-polls_ascend : (opened : Bool) (n : ℕ) (polls : List Poll) → are_polls opened n polls ≡ true → ascends_by poll_before polls ≡ true
-polls_ascend opened n [] h = refl
-polls_ascend opened n (p ∷ ps) h = second_so (opened && list_all (is_poll n) (p ∷ ps)) (ascends_by poll_before (p ∷ ps)) h
+-- ---- sessions
 
--- a meeting with a poll is opened
-polls_opened : (opened : Bool) (n : ℕ) (test : Poll → Bool) (polls : List Poll) (p : Poll) → are_polls opened n polls ≡ true → find test polls ≡ Some p → opened ≡ true
-polls_opened opened n test [] p h found = absurd (cc)
-polls_opened opened n test (q ∷ qs) p h found =
-    first_so opened (list_all (is_poll n) (q ∷ qs)) (first_so (opened && list_all (is_poll n) (q ∷ qs)) (ascends_by poll_before (q ∷ qs)) h)
+-- the session of the last number is the last session
+last_at : (first : Session) (later : List Session) → slice_get (first ∷ later) (length later) ≡ Some (unwrap_or (slice_get later (length later - 1)) first)
+last_at first [] = refl
+last_at first (s ∷ later) =
+    let there = slice_get-get_or (s ∷ later) (length later) s (omega arith) in
+    let last : length later ≡ suc (length later) - 1 = omega arith in
+    there ∙ ap (λ found. Some (unwrap_or found first)) (sym there ∙ ap (slice_get (s ∷ later)) last)
 
--- a loaded meeting may be opened
-pub opening_kept : (moment : ℕ) (m : MeetingLists) → is_meeting m ≡ true → m.meeting.loaded ≡ true → is_meeting (changed (SetOpened moment) m) ≡ true
-opening_kept moment m h loaded =
+-- where the last session is opened, its number is that of a session that is
+pub last_opened : (m : Meeting) → is_opened (last_session m) ≡ true → is_opened_session m (last_number m) ≡ true
+last_opened m opened = ap (is_there is_opened) (last_at m.first m.later) ∙ opened
+
+-- the last number is that of a session
+pub last_there : (m : Meeting) → is_session m (last_number m) ≡ true
+last_there m = grind (arith, nat_tests)
+
+-- one more session opened, each that is opened stays so
+opened_all : (sessions : List Session) (k : ℕ) (s : Session) (n : ℕ) → is_opened s ≡ true → list_all is_opened (take n sessions) ≡ true → list_all is_opened (take n (slice_set sessions k s)) ≡ true
+opened_all [] k s n o h = h
+opened_all (x ∷ xs) zero s zero o h = refl
+opened_all (x ∷ xs) zero s (suc n) o h = both_true o (second_so (is_opened x) (list_all is_opened (take n xs)) h)
+opened_all (x ∷ xs) (suc k) s zero o h = refl
+opened_all (x ∷ xs) (suc k) s (suc n) o h =
+    both_true (first_so (is_opened x) (list_all is_opened (take n xs)) h) (opened_all xs k s n o (second_so (is_opened x) (list_all is_opened (take n xs)) h))
+
+opened_there : (sessions : List Session) (k : ℕ) (s : Session) (at : ℕ) → is_opened s ≡ true → is_there is_opened (slice_get sessions at) ≡ true
+    → is_there is_opened (slice_get (slice_set sessions k s) at) ≡ true
+opened_there [] k s at o h = h
+opened_there (x ∷ xs) zero s zero o h = o
+opened_there (x ∷ xs) zero s (suc at) o h = h
+opened_there (x ∷ xs) (suc k) s zero o h = h
+opened_there (x ∷ xs) (suc k) s (suc at) o h = opened_there xs k s at o h
+
+-- so a poll's session stays opened
+stays_opened : (one other : Meeting) (k : ℕ) (s : Session) → sessions_of other ≡ slice_set (sessions_of one) k s → is_opened s ≡ true → (number : ℕ) → is_opened_session one number ≡ true
+    → is_opened_session other number ≡ true
+stays_opened one other k s is o zero h = h
+stays_opened one other k s is o (suc at) h = ap (λ sessions. is_there is_opened (slice_get sessions at)) is ∙ opened_there (sessions_of one) k s at o h
+
+-- and the polls stay polls of the meeting
+polls_stay : (one other : Meeting) (polls : List Poll) → length one.resolutions ≡ length other.resolutions → ((number : ℕ) → is_opened_session one number ≡ true → is_opened_session other number ≡ true)
+    → are_polls one polls ≡ true → are_polls other polls ≡ true
+polls_stay one other polls same opened h =
+    both_true
+    (all_weaker (is_poll one) (is_poll other) polls (λ p good.
+    let f = poll_facts one p good in
+    both_true (both_true (both_true (both_true (opened p.session f.session) (ap (λ n. is_resolution n p.resolution) (sym same) ∙ f.number)) f.closed) f.declared) f.tally)
+    (first_so (list_all (is_poll one) polls) (ascends_by poll_before polls) h))
+    (second_so (list_all (is_poll one) polls) (ascends_by poll_before polls) h)
+
+-- a loaded meeting whose first session is opened, or another
+open_there_kept : (moment : ℕ) (m : MeetingLists) (found : Option Session) → is_meeting m ≡ true → m.meeting.loaded ≡ true → is_meeting (record m { meeting = open_there moment m.meeting found }) ≡ true
+open_there_kept moment m None h loaded =
     let f = meeting_facts m h in
-    let n = length m.meeting.resolutions in
-    let opened = is_some m.meeting.opened in
-    let right : is_loaded_right (changed (SetOpened moment) m) ≡ true =
-    both_true (first_so (cond m.meeting.loaded (is_register m.register) (no_rows m.register)) (implies opened m.meeting.loaded) f.loaded) loaded in
-    let stand : are_polls true n m.polls ≡ true = polls_from true n m.polls refl (polls_all opened n m.polls f.polls) (polls_ascend opened n m.polls f.polls) in
-    meeting_from_facts (changed (SetOpened moment) m) (assumption (right, stand, f))
+    let one = m.meeting in
+    let other = open_there moment one None in
+    let s = opened_at moment one.first in
+    let few = nat_le (last_number one) MOST_SESSIONS in
+    let before = list_all is_opened (take (length one.later) (sessions_of one)) in
+    let sessions : are_sessions other ≡ true = both_true (first_so few before f.sessions) (opened_all (sessions_of one) 0 s (length one.later) refl (second_so few before f.sessions)) in
+    let right : is_loaded_right (record m { meeting = other }) ≡ true =
+    both_true (first_so (cond one.loaded (is_register m.register) (no_rows m.register)) (implies (is_opened one.first) one.loaded) f.loaded) loaded in
+    let polls : are_polls other m.polls ≡ true = polls_stay one other m.polls refl (stays_opened one other 0 s refl refl) f.polls in
+    meeting_from_facts (record m { meeting = other }) (assumption (sessions, right, polls, f))
+open_there_kept moment m (Some session) h loaded =
+    let f = meeting_facts m h in
+    let one = m.meeting in
+    let other = open_there moment one (Some session) in
+    let s = opened_at moment session in
+    let at = length one.later - 1 in
+    let count : length other.later ≡ length one.later = length-set one.later at s in
+    let number : last_number other ≡ last_number one = ap suc count in
+    let few = nat_le (last_number one) MOST_SESSIONS in
+    let before = list_all is_opened (take (length one.later) (sessions_of one)) in
+    let sessions : are_sessions other ≡ true = both_true
+    (ap (λ n. nat_le n MOST_SESSIONS) number ∙ first_so few before f.sessions)
+    (ap (λ n. list_all is_opened (take n (sessions_of other))) count ∙ opened_all (sessions_of one) (suc at) s (length one.later) refl (second_so few before f.sessions)) in
+    let presences : are_presences other m.presences ≡ true =
+    ap (λ n. list_all (λ (p : PresenceMark). nat_le 1 p.session && nat_le p.session n) m.presences && differ_by same_presence m.presences) number ∙ f.presences in
+    let demands : are_demands other m.demands ≡ true =
+    ap (λ n. list_all (λ (d : DemandMark). (nat_le 1 d.session && nat_le d.session n) && is_resolution (length one.resolutions) d.resolution) m.demands && differ_by same_demand m.demands) number ∙ f.demands in
+    let polls : are_polls other m.polls ≡ true = polls_stay one other m.polls refl (stays_opened one other (suc at) s refl refl) f.polls in
+    meeting_from_facts (record m { meeting = other }) (assumption (sessions, presences, demands, polls, f))
+
+-- the last session of a loaded meeting may be opened
+pub opening_kept : (moment : ℕ) (m : MeetingLists) → is_meeting m ≡ true → m.meeting.loaded ≡ true → is_meeting (changed (SetOpened moment) m) ≡ true
+opening_kept moment m h loaded = open_there_kept moment m (last_later m.meeting) h loaded
 
 -- ---- polls
 
@@ -84,7 +178,7 @@ casts_stay polls others casts stay h =
     (second_so (list_all (λ c. list_any (is_cast_on c) polls) casts) few h)
 
 -- a meeting with other polls, on which the votes stand
-polls_kept : (polls : List Poll) (m : MeetingLists) → is_meeting m ≡ true → are_polls (is_some m.meeting.opened) (length m.meeting.resolutions) polls ≡ true
+polls_kept : (polls : List Poll) (m : MeetingLists) → is_meeting m ≡ true → are_polls m.meeting polls ≡ true
     → are_casts polls m.casts ≡ true → is_meeting (record m { polls = polls }) ≡ true
 polls_kept polls m h good stand =
     meeting_from_facts (record m { polls = polls }) (assumption (good, stand, meeting_facts m h))
@@ -102,16 +196,16 @@ apart (q ∷ qs) poll =
       | false ↦ λ e h. both_true (nat_apart q.resolution poll.resolution e) (apart qs poll h)
     ]) refl
 
--- an opened meeting may be given a poll on another resolution
-pub poll_kept : (poll : Poll) (m : MeetingLists) → is_meeting m ≡ true → is_some m.meeting.opened ≡ true → is_poll (length m.meeting.resolutions) poll ≡ true
+-- a meeting may be given a poll in a session that is opened, on another resolution
+pub poll_kept : (poll : Poll) (m : MeetingLists) → is_meeting m ≡ true → is_poll m.meeting poll ≡ true
     → poll_on m.polls poll.resolution ≡ None → is_meeting (changed (AddPoll poll) m) ≡ true
-poll_kept poll m h opened good none =
+poll_kept poll m h good none =
     let f = meeting_facts m h in
-    let n = length m.meeting.resolutions in
-    let o = is_some m.meeting.opened in
-    let all = all-insert (is_poll n) poll_before poll m.polls good (polls_all o n m.polls f.polls) in
-    let up = ascends-insert poll_before poll m.polls (apart m.polls poll none) (polls_ascend o n m.polls f.polls) in
-    polls_kept (changed (AddPoll poll) m).polls m h (polls_from o n (changed (AddPoll poll) m).polls opened all up)
+    let each = list_all (is_poll m.meeting) m.polls in
+    let ascend = ascends_by poll_before m.polls in
+    let all = all-insert (is_poll m.meeting) poll_before poll m.polls good (first_so each ascend f.polls) in
+    let up = ascends-insert poll_before poll m.polls (apart m.polls poll none) (second_so each ascend f.polls) in
+    polls_kept (changed (AddPoll poll) m).polls m h (both_true all up)
     (casts_stay m.polls (changed (AddPoll poll) m).polls m.casts (λ c. any-insert (is_cast_on c) poll_before poll m.polls) f.casts)
 
 started_stays : (f : Poll → Poll) → ((q : Poll) → (f q).resolution ≡ q.resolution) → ((q : Poll) → is_some q.started ≡ true → is_some (f q).started ≡ true)
@@ -122,59 +216,42 @@ started_stays f same stays c q h =
 -- a poll may be changed to one on the same resolution that stays started
 pub changed_kept : (f : Poll → Poll) (r : ℕ) (m : MeetingLists) (p : Poll) → ((q : Poll) → (f q).resolution ≡ q.resolution)
     → ((q : Poll) → is_some q.started ≡ true → is_some (f q).started ≡ true) → is_meeting m ≡ true → poll_on m.polls r ≡ Some p
-    → is_poll (length m.meeting.resolutions) (f p) ≡ true → is_meeting (change_poll f r m) ≡ true
+    → is_poll m.meeting (f p) ≡ true → is_meeting (change_poll f r m) ≡ true
 changed_kept f r m p same stays h found good =
     let facts = meeting_facts m h in
-    let n = length m.meeting.resolutions in
-    let o = is_some m.meeting.opened in
+    let each = list_all (is_poll m.meeting) m.polls in
+    let ascend = ascends_by poll_before m.polls in
     let test = λ (q : Poll). q.resolution == r in
-    let all = all_changed_found (is_poll n) test f m.polls p (polls_all o n m.polls facts.polls) found good in
-    let up = ascends_by-change_first poll_before test f (λ a b. ap (λ x. nat_lt x b.resolution) (same a)) (λ a b. ap (λ x. nat_lt a.resolution x) (same b)) m.polls ∙ polls_ascend o n m.polls facts.polls in
-    polls_kept (change_poll f r m).polls m h (polls_from o n (change_poll f r m).polls (polls_opened o n test m.polls p facts.polls found) all up)
+    let all = all_changed_found (is_poll m.meeting) test f m.polls p (first_so each ascend facts.polls) found good in
+    let up = ascends_by-change_first poll_before test f (λ a b. ap (λ x. nat_lt x b.resolution) (same a)) (λ a b. ap (λ x. nat_lt a.resolution x) (same b)) m.polls ∙ second_so each ascend facts.polls in
+    polls_kept (change_poll f r m).polls m h (both_true all up)
     (casts_stay m.polls (change_poll f r m).polls m.casts (λ c. any_kept (is_cast_on c) test f m.polls (started_stays f same stays c)) facts.casts)
 
 -- a poll that is found is one of the meeting
-poll_found : (m : MeetingLists) (r : ℕ) (p : Poll) → is_meeting m ≡ true → poll_on m.polls r ≡ Some p → is_poll (length m.meeting.resolutions) p ≡ true
+poll_found : (m : MeetingLists) (r : ℕ) (p : Poll) → is_meeting m ≡ true → poll_on m.polls r ≡ Some p → is_poll m.meeting p ≡ true
 poll_found m r p h found =
-    find-passes (λ (q : Poll). q.resolution == r) (is_poll (length m.meeting.resolutions)) m.polls p
-    (polls_all (is_some m.meeting.opened) (length m.meeting.resolutions) m.polls (meeting_facts m h).polls) found
-
--- what a poll is, taken apart
-record PollFacts (n : ℕ) (p : Poll) : Type 0 where
-  number : is_resolution n p.resolution ≡ true
-  closed : implies (is_some p.closed) (is_some p.started) ≡ true
-  declared : implies (is_some p.declared) (is_some p.closed) ≡ true
-  tally : is_declared_right p.declared ≡ true
-
-poll_facts : (n : ℕ) (p : Poll) → is_poll n p ≡ true → PollFacts n p
-poll_facts n p h =
-    let a = is_resolution n p.resolution in
-    let b = implies (is_some p.closed) (is_some p.started) in
-    let c = implies (is_some p.declared) (is_some p.closed) in
-    let d = is_declared_right p.declared in
-    let three = first_so (a && b && c) d h in
-    let two = first_so (a && b) c three in
-    record { number = first_so a b two; closed = second_so a b two; declared = second_so (a && b) c three; tally = second_so (a && b && c) d h }
+    find-passes (λ (q : Poll). q.resolution == r) (is_poll m.meeting) m.polls p
+    (first_so (list_all (is_poll m.meeting) m.polls) (ascends_by poll_before m.polls) (meeting_facts m h).polls) found
 
 -- a poll may be started
 pub start_kept : (moment r : ℕ) (m : MeetingLists) (p : Poll) → is_meeting m ≡ true → poll_on m.polls r ≡ Some p → is_meeting (changed (SetPoll r (Started moment)) m) ≡ true
 start_kept moment r m p h found =
-    let f = poll_facts (length m.meeting.resolutions) p (poll_found m r p h found) in
-    changed_kept (moved (Started moment)) r m p (λ q. refl) (λ q k. refl) h found (both_true (both_true (both_true f.number (implies_true (is_some p.closed))) f.declared) f.tally)
+    let f = poll_facts m.meeting p (poll_found m r p h found) in
+    changed_kept (moved (Started moment)) r m p (λ q. refl) (λ q k. refl) h found (both_true (both_true (both_true (both_true f.session f.number) (implies_true (is_some p.closed))) f.declared) f.tally)
 
 -- a started poll may be closed
 pub close_kept : (moment r : ℕ) (m : MeetingLists) (p : Poll) → is_meeting m ≡ true → poll_on m.polls r ≡ Some p → is_some p.started ≡ true
     → is_meeting (changed (SetPoll r (Closed moment)) m) ≡ true
 close_kept moment r m p h found started =
-    let f = poll_facts (length m.meeting.resolutions) p (poll_found m r p h found) in
-    changed_kept (moved (Closed moment)) r m p (λ q. refl) (λ q k. k) h found (both_true (both_true (both_true f.number started) (implies_true (is_some p.declared))) f.tally)
+    let f = poll_facts m.meeting p (poll_found m r p h found) in
+    changed_kept (moved (Closed moment)) r m p (λ q. refl) (λ q k. k) h found (both_true (both_true (both_true (both_true f.session f.number) started) (implies_true (is_some p.declared))) f.tally)
 
 -- of a closed poll a count may be declared
 pub declare_kept : (tally : Tally) (r : ℕ) (m : MeetingLists) (p : Poll) → is_meeting m ≡ true → poll_on m.polls r ≡ Some p → is_some p.closed ≡ true
     → is_tally tally ≡ true → is_meeting (changed (SetPoll r (Declared tally)) m) ≡ true
 declare_kept tally r m p h found closed good =
-    let f = poll_facts (length m.meeting.resolutions) p (poll_found m r p h found) in
-    changed_kept (moved (Declared tally)) r m p (λ q. refl) (λ q k. k) h found (both_true (both_true (both_true f.number f.closed) closed) good)
+    let f = poll_facts m.meeting p (poll_found m r p h found) in
+    changed_kept (moved (Declared tally)) r m p (λ q. refl) (λ q k. k) h found (both_true (both_true (both_true (both_true f.session f.number) f.closed) closed) good)
 
 -- ---- votes
 

@@ -15,6 +15,7 @@ use Rattle.desk_words.specs.Office.{is_resolution, is_meeting, is_poll, same_mee
 use Rattle.desk_words.specs.Polls.{there_is, is_waiting, is_unclosed}
 use Rattle.desk_words.specs.Refusals.{first_refusal}
 use Rattle.desk_words.specs.Rows.{same_rows}
+use Rattle.desk_words.specs.Sessions.{is_opened, last_number, last_later, last_session, open_there}
 use Rattle.desk_words.specs.Rulings.{Ruling, in_found, loaded, noted, ruled_within, settled}
 use Rattle.desk_words.specs.declared.caller.Caller.{Caller}
 use Rattle.desk_words.specs.declared.caller.Caller.TheVariants as caller
@@ -24,12 +25,14 @@ use Rattle.desk_words.specs.declared.change.Change.TheVariants.{SetClosedDays, S
 use Rattle.desk_words.specs.declared.change.Entry.{Entry}
 use Rattle.desk_words.specs.declared.change.Entry.TheVariants as entry
 use Rattle.desk_words.specs.declared.change.MeetingChange.{MeetingChange}
-use Rattle.desk_words.specs.declared.change.MeetingChange.TheVariants.{SetRegister, Enter}
+use Rattle.desk_words.specs.declared.change.MeetingChange.TheVariants.{SetRegister, SetOpened, Enter}
 use Rattle.desk_words.specs.declared.office.OfficeLists.{OfficeLists}
 use Rattle.desk_words.specs.declared.records.CastKind.TheVariants.{AsInstructed}
 use Rattle.desk_words.specs.declared.office.MeetingLists.{MeetingLists}
 use Rattle.desk_words.specs.declared.records.Meeting.{Meeting}
 use Rattle.desk_words.specs.declared.records.Poll.{Poll}
+use Rattle.desk_words.specs.declared.records.PresenceMark.{PresenceMark}
+use Rattle.desk_words.specs.declared.records.Session.{Session}
 use Rattle.desk_words.specs.declared.request.DeskRequest.{DeskRequest}
 use Rattle.desk_words.specs.declared.request.DeskRequest.TheVariants as desk
 use Rattle.desk_words.specs.declared.request.NewMeeting.{NewMeeting}
@@ -42,7 +45,7 @@ use Rattle.desk_words.specs.declared.request.Request.TheVariants as asked
 use Rattle.desk_terms.specs.declared.refusal.Refusal.TheVariants.{Exists, TooMany, NoRegister, NotOpened, PollOrdered, NoPoll, NoResolution, PollNotOpen, NotClosed, BadInstructions, NoSuchNumber, AlreadyEnded}
 use Rattle.caller_view.specs.Answers.{party_ruling, ruling_for}
 use Rattle.caller_view.specs.Appointments.{appoint_cases, appointment_of, end_cases, ending_of}
-use Rattle.caller_view.specs.Attendance.{authorise_cases, authority_of, demand_cases, demand_mark, gave_authority, own_demanded, presence_of}
+use Rattle.caller_view.specs.Attendance.{authorise_cases, authority_of, demand_cases, demand_mark, gave_authority, is_present, own_demanded, presence_of}
 use Rattle.caller_view.specs.Casts.{block_of, cast_cases, cast_of, instructed_cases}
 use Rattle.caller_view.specs.Views.{meeting_at, own_in, own_in_some, public_in}
 use Rattle.proxy_rules.specs.Holdings.{is_ended_of}
@@ -56,8 +59,8 @@ use Rattle.desk_words.proofs.OfficeFacts.{OfficeFacts, office_facts, office_from
 use Rattle.desk_words.specs.Changes.{after_some, change_meeting, changed, entered, new_lists}
 use Rattle.meeting_core.specs.Step.{ruling}
 use Rattle.meeting_core.proofs.AppointmentsKept.{appointment_kept, ending_kept, given_count, numbered_given, unended_none}
-use Rattle.meeting_core.proofs.AttendanceKept.{authority_kept, demand_kept, not_demanded, not_given, presence_kept, room_left}
-use Rattle.meeting_core.proofs.MeetingKept.{register_kept, opening_kept, poll_kept, start_kept, close_kept, declare_kept, vote_kept}
+use Rattle.meeting_core.proofs.AttendanceKept.{authority_kept, demand_kept, not_demanded, not_given, not_marked, not_present, presence_kept, room_left}
+use Rattle.meeting_core.proofs.MeetingKept.{register_kept, opening_kept, last_opened, last_there, poll_kept, start_kept, close_kept, declare_kept, vote_kept}
 use Rattle.meeting_core.proofs.RulingLemmas.{change_of, fails}
 
 not_some : {X : Type 0} (o : Option X) → is_some o ≡ false → o ≡ None
@@ -144,16 +147,19 @@ office_stays : (m : MeetingLists) (closed : List ℕ) (now : ℕ) (what : Office
 office_stays m closed now (office.LoadRegister new) good none =
     loaded_stays m (same_rows m.register new.rows) (SetRegister new.rows) (λ limits. register_kept new.rows m limits good)
 office_stays m closed now (office.Presence who) good none =
-    noted_stays m (is_marked m.presences who) (Enter (entry.Presence (record { party = who; moment = now }))) (λ fresh limits.
-    presence_kept (record { party = who; moment = now }) m good fresh)
+    let last = last_number m.meeting in
+    let mark : PresenceMark = record { session = last; party = who; moment = now } in
+    noted_stays m (is_marked m.meeting m.presences who) (Enter (entry.Presence mark)) (λ fresh limits.
+    presence_kept mark m good (last_there m.meeting) (not_marked last who m.presences fresh))
 office_stays m closed now office.OpenMeeting good none = λ limits.
     opening_kept now m good (not-false m.meeting.loaded (fails NoRegister (open_cases m closed now) none))
 office_stays m closed now (office.Order new) good none = λ limits.
     let cases = order_cases m closed now new in
     let n = length m.meeting.resolutions in
     let number : is_resolution n new.resolution ≡ true = not-false (is_resolution n new.resolution) (fails NoResolution cases none) in
-    let fit : is_poll n (poll_of now new) ≡ true = both_true (both_true (both_true number refl) refl) refl in
-    poll_kept (poll_of now new) m good (not_none m.meeting.opened (fails NotOpened cases none)) fit (not_some (poll_on m.polls new.resolution) (fails PollOrdered cases none))
+    let opened = last_opened m.meeting (not-false (is_opened (last_session m.meeting)) (fails NotOpened cases none)) in
+    let fit : is_poll m.meeting (poll_of m.meeting now new) ≡ true = both_true (both_true (both_true (both_true opened number) refl) refl) refl in
+    poll_kept (poll_of m.meeting now new) m good fit (not_some (poll_on m.polls new.resolution) (fails PollOrdered cases none))
 office_stays m closed now (office.Start resolution) good none = λ limits.
     let p = some_poll (poll_on m.polls resolution) (fails NoPoll (start_cases m now resolution) none) in
     start_kept now resolution m p.0 good p.1
@@ -205,13 +211,16 @@ party_stays m closed who now (party.Authorise person) good none =
     (not_given who person m.authorities fresh))
 party_stays m closed who now party.Attend good none =
     let own = own_in m closed who now in
-    noted_entry m own.present (entry.Presence (presence_of own now)) (λ fresh. presence_kept (presence_of own now) m good fresh)
+    let mark = presence_of m.meeting own now in
+    noted_entry m (is_present m.meeting own) (entry.Presence mark) (λ fresh.
+    presence_kept mark m good (last_there m.meeting) (not_present (last_number m.meeting) who m.presences fresh))
 party_stays m closed who now (party.Demand resolution) good none =
     let own = own_in m closed who now in
     let cases = demand_cases (public_in (Some m) closed) m.meeting own resolution in
-    noted_entry m (own_demanded own resolution) (entry.Demand (demand_mark own now resolution)) (λ fresh.
-    demand_kept (demand_mark own now resolution) m good (not-false (is_resolution (length m.meeting.resolutions) resolution) (fails NoResolution cases none))
-    (not_demanded who resolution m.demands fresh))
+    let mark = demand_mark m.meeting own now resolution in
+    noted_entry m (own_demanded m.meeting own resolution) (entry.Demand mark) (λ fresh.
+    demand_kept mark m good (both_true (last_there m.meeting) (not-false (is_resolution (length m.meeting.resolutions) resolution) (fails NoResolution cases none)))
+    (not_demanded who (last_number m.meeting) resolution m.demands fresh))
 party_stays m closed who now (party.Cast new) good none =
     let own = own_in m closed who now in
     let cases = cast_cases (public_in (Some m) closed) m.meeting own new in
@@ -255,9 +264,15 @@ pub entered_polls : (entry : Entry) (m : MeetingLists) → (entered entry m).pol
 entered_polls (entry.Appointment appointment) m = refl
 entered_polls other m = refl
 
--- no change gives a meeting another name
+-- an opening gives a meeting no other name
+opened_name : (moment : ℕ) (m : Meeting) (found : Option Session) → (open_there moment m found).id ≡ m.id
+opened_name moment m None = refl
+opened_name moment m (Some s) = refl
+
+-- no change does
 changed_name : (change : MeetingChange) (m : MeetingLists) → (changed change m).meeting.id ≡ m.meeting.id
 changed_name (Enter entry) m = ap (λ (meeting : Meeting). meeting.id) (entered_meeting entry m)
+changed_name (SetOpened moment) m = opened_name moment m.meeting (last_later m.meeting)
 changed_name other m = refl
 
 change_kept : (o : OfficeLists) (id : List ℕ) (m : MeetingLists) (change : Option MeetingChange) → is_office o ≡ true → meeting_at o id ≡ Some m → Stays m change

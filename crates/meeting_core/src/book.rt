@@ -172,7 +172,7 @@ impl Book {
         match call.caller {
             Caller::Office => match &call.request {
                 Request::Desk(asked) => {
-                    desk_answer(&self.keys, &self.closed, &self.meetings, asked)
+                    desk_answer(self.alloc, &self.keys, &self.closed, &self.meetings, asked)
                 }
                 Request::Office { meeting, asked } => {
                     let answer = self.answer_to_office(*meeting, call.moment, asked)?;

@@ -114,7 +114,7 @@ fn change_lists(lists: &mut MeetingLists, change: MeetingChange) -> Result<(), A
             lists.register = rows.into_listing();
             lists.meeting.loaded = true;
         }
-        MeetingChange::SetOpened(moment) => lists.meeting.opened = Some(moment),
+        MeetingChange::SetOpened(moment) => lists.meeting.open_last(moment),
         MeetingChange::AddPoll(poll) => add_poll(&mut lists.polls, poll)?,
         MeetingChange::SetPoll { resolution, change } => move_poll(lists, resolution, change),
         MeetingChange::Enter(entry) => enter(lists, entry)?,

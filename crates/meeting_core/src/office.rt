@@ -109,6 +109,7 @@ pub fn decide_in_meeting(
 /// meetings there are: it is so in every office of which this is told, and what it changes leaves
 /// the lists of an office. The error is want of memory.
 pub fn decide_call(
+    alloc: Global,
     is_named: bool,
     held: usize,
     new: &NewMeeting,
@@ -120,7 +121,7 @@ pub fn decide_call(
         → AreMeetingsTold office new.now.meeting is_named held
         → IsTrue (is_office (after_some office a.change))) }
 {
-    call_meeting(is_named, held, new)
+    call_meeting(alloc, is_named, held, new)
 }
 
 /// What is decided of a list of closed days, from those that are held. The error is want of memory;

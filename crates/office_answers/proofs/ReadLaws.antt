@@ -1,10 +1,11 @@
 -- What is ruled in a meeting is ruled from what is read.
-use Rattle.std.proofs.Common.{◌≡◌, ℕ, Bool, true, false, not, cond, ◌||◌, List, [], ◌∷◌, filter, Option, Some, None, refl, sym, ap, ◌∙◌}
-use Rattle.std.specs.Prelude.{option_map}
+use Rattle.std.proofs.Common.{◌≡◌, ℕ, Bool, true, false, not, cond, ◌&&◌, ◌||◌, List, [], ◌∷◌, filter, Option, Some, None, refl, sym, ap, ◌∙◌}
+use Rattle.std.specs.Prelude.{◌==◌, option_map}
 use Rattle.std.specs.List.{list_any}
 use Rattle.desk_words.specs.Names.{same_name}
 use Rattle.desk_words.specs.Office.{is_meeting}
 use Rattle.desk_words.specs.Rulings.{Ruling, asked_first, noted}
+use Rattle.desk_words.specs.Sessions.{last_number}
 use Rattle.desk_words.specs.declared.change.Entry.TheVariants as entry
 use Rattle.desk_words.specs.declared.change.MeetingChange.{MeetingChange}
 use Rattle.desk_words.specs.declared.change.MeetingChange.TheVariants.{Enter}
@@ -18,13 +19,14 @@ use Rattle.office_answers.specs.Answers.{office_ruling, ruling_on}
 use Rattle.office_answers.specs.Polls.{order_ruling}
 use Rattle.office_answers.specs.Reads.{days_read, lists_read, polls_alone, RulingsReadNoMore, ReadMeetingsAreMeetings}
 
--- whether one passes is told from those that pass
-any_passing : {X : Type 0} (test : X → Bool) (xs : List X) → list_any test (filter test xs) ≡ list_any test xs
-any_passing test [] = refl
-any_passing test (x ∷ xs) = go (test x) refl (any_passing test xs)
+-- whether one that is kept passes is told from those that are kept
+any_passing : {X : Type 0} (keeps passes : X → Bool) (xs : List X) → list_any (λ x. keeps x && passes x) (filter keeps xs) ≡ list_any (λ x. keeps x && passes x) xs
+any_passing keeps passes [] = refl
+any_passing keeps passes (x ∷ xs) = go (keeps x) refl (any_passing keeps passes xs)
   where
-    go : (b : Bool) → test x ≡ b → list_any test (filter test xs) ≡ list_any test xs → list_any test (cond b (x ∷ filter test xs) (filter test xs)) ≡ (b || list_any test xs)
-    go true is rest = ap (λ b. b || list_any test (filter test xs)) is
+    go : (b : Bool) → keeps x ≡ b → list_any (λ x. keeps x && passes x) (filter keeps xs) ≡ list_any (λ x. keeps x && passes x) xs
+        → list_any (λ x. keeps x && passes x) (cond b (x ∷ filter keeps xs) (filter keeps xs)) ≡ ((b && passes x) || list_any (λ x. keeps x && passes x) xs)
+    go true is rest = λ i. (is i && passes x) || rest i
     go false is rest = rest
 
 -- a poll is ordered by the chair, or on demand
@@ -38,8 +40,8 @@ order_by false resolution take now closed m = refl
 ruled_so : (what : OfficeRequest) (now : ℕ) (closed : List ℕ) (m : MeetingLists) → ruling_on (days_read what closed) now what (lists_read what m) ≡ ruling_on closed now what m
 ruled_so (LoadRegister new) now closed m = refl
 ruled_so (Presence party) now closed m =
-    let ruled : Bool → Ruling MeetingChange = λ marked. record { cases = []; accepted = noted marked (Enter (entry.Presence (record { party = party; moment = now }))) } in
-    ap ruled (any_passing (λ (mark : PresenceMark). same_name mark.party party) m.presences)
+    let ruled : Bool → Ruling MeetingChange = λ marked. record { cases = []; accepted = noted marked (Enter (entry.Presence (record { session = last_number m.meeting; party = party; moment = now }))) } in
+    ap ruled (any_passing (λ (mark : PresenceMark). same_name mark.party party) (λ (mark : PresenceMark). mark.session == last_number m.meeting) m.presences)
 ruled_so OpenMeeting now closed m = refl
 ruled_so (Order new) now closed m = order_by new.chair new.resolution new.take now closed m
 ruled_so (Start resolution) now closed m = refl
@@ -63,6 +65,7 @@ ordered_meeting false m reads h =
     let f = meeting_facts m h in
     meeting_from_facts (record m { presences = []; casts = [] }) (record {
       resolutions = f.resolutions;
+      sessions = f.sessions;
       loaded = f.loaded;
       appointments = f.appointments;
       endings = f.endings;
@@ -78,6 +81,7 @@ read_meeting (LoadRegister new) m reads h =
     let f = meeting_facts m h in
     meeting_from_facts (lists_read (LoadRegister new) m) (record {
       resolutions = f.resolutions;
+      sessions = f.sessions;
       loaded = f.loaded;
       appointments = refl;
       endings = refl;
@@ -92,6 +96,7 @@ read_meeting OpenMeeting m reads h =
     let f = meeting_facts m h in
     meeting_from_facts (lists_read OpenMeeting m) (record {
       resolutions = f.resolutions;
+      sessions = f.sessions;
       loaded = f.loaded;
       appointments = f.appointments;
       endings = f.endings;
@@ -108,6 +113,7 @@ read_meeting (Declare resolution) m reads h =
     let f = meeting_facts m h in
     meeting_from_facts (lists_read (Declare resolution) m) (record {
       resolutions = f.resolutions;
+      sessions = f.sessions;
       loaded = f.loaded;
       appointments = f.appointments;
       endings = f.endings;

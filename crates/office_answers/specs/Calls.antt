@@ -5,6 +5,7 @@ use Rattle.desk_words.specs.Refusals.{Case}
 use Rattle.desk_words.specs.Rows.{same_rows}
 use Rattle.desk_words.specs.Rulings.{Ruling, loaded}
 use Rattle.desk_words.specs.Seen.{Day, Moment}
+use Rattle.desk_words.specs.Sessions.{is_opened}
 use Rattle.desk_words.specs.declared.limits.TheConstants.{MOST_MEETINGS}
 use Rattle.desk_words.specs.declared.change.Change.{Change}
 use Rattle.desk_words.specs.declared.change.Change.TheVariants.{AddMeeting}
@@ -38,18 +39,18 @@ abbrev pub call_cases : List MeetingLists → NewMeeting → List Case
 call_cases meetings new =
     cases_of_call (is_some (meeting_named meetings new.meeting)) (length meetings) new
 
--- the meeting that is called (sections 302 and 307)
+-- the meeting that is called, for one session (sections 302 and 307)
 abbrev pub new_meeting_of : NewMeeting → Meeting
 new_meeting_of new = record {
   id = new.meeting;
   company = new.company;
   kind = new.kind;
   given = new.given;
-  appointed = new.appointed;
+  first = record { appointed = new.appointed; opened = None };
+  later = [];
   record_moment = new.record_moment;
   resolutions = new.resolutions;
   loaded = false;
-  opened = None;
 }
 
 -- a meeting is called, which adds it
@@ -64,11 +65,11 @@ abbrev pub call_ruling : List MeetingLists → NewMeeting → Ruling Change
 call_ruling meetings new =
     ruling_of_call (is_some (meeting_named meetings new.meeting)) (length meetings) new
 
--- when a register is not loaded (section 113)
+-- when a register is not loaded: after the meeting first opened, among others (section 113)
 abbrev pub load_cases : Meeting → Moment → NewRegister → List Case
 load_cases meeting now new =
     record { refusal = OtherRecord; holds = not (meeting.record_moment == new.record_moment) }
-    ∷ record { refusal = Opened; holds = is_some meeting.opened }
+    ∷ record { refusal = Opened; holds = is_opened meeting.first }
     ∷ record { refusal = Early; holds = nat_lt now new.record_moment }
     ∷ []
 

@@ -6,12 +6,14 @@ use Rattle.desk_words.specs.Polls.{there_is, is_started, is_waiting, is_closed, 
 use Rattle.desk_words.specs.Refusals.{Case}
 use Rattle.desk_words.specs.Rulings.{Ruling, no_resolution}
 use Rattle.desk_words.specs.Seen.{Day, Moment, Number}
+use Rattle.desk_words.specs.Sessions.{is_opened, last_number, last_session}
 use Rattle.desk_terms.specs.declared.refusal.Refusal.TheVariants.{Exists, NoRegister, Opened, NotOpened, Early, NoQuorum, PollOrdered, NoPoll, DemandTooSmall, PollNotOpen, PollClosed, NotClosed, Declared}
 use Rattle.desk_words.specs.declared.answer.Answer.{Answer}
 use Rattle.desk_words.specs.declared.change.MeetingChange.{MeetingChange}
 use Rattle.desk_words.specs.declared.change.MeetingChange.TheVariants.{SetOpened, AddPoll, SetPoll}
 use Rattle.desk_words.specs.declared.change.PollChange.TheVariants as poll
 use Rattle.desk_words.specs.declared.office.MeetingLists.{MeetingLists}
+use Rattle.desk_words.specs.declared.records.Meeting.{Meeting}
 use Rattle.desk_words.specs.declared.records.Poll.{Poll}
 use Rattle.desk_words.specs.declared.records.Resolution.{Resolution}
 use Rattle.desk_words.specs.declared.records.Tally.{Tally}
@@ -24,16 +26,16 @@ use Rattle.proxy_rules.specs.Uses.{vote_on}
 use Rattle.vote_rules.specs.Tallies.{tally_of}
 use Rattle.desk_words.specs.Majority.{result_of}
 
--- when a meeting is not opened (section 318)
+-- when the last session of a meeting is not opened (section 318)
 abbrev pub open_cases : MeetingLists → List Day → Moment → List Case
 open_cases m closed now =
     record { refusal = NoRegister; holds = not m.meeting.loaded }
-    ∷ record { refusal = Opened; holds = is_some m.meeting.opened }
-    ∷ record { refusal = Early; holds = nat_lt now m.meeting.appointed }
+    ∷ record { refusal = Opened; holds = is_opened (last_session m.meeting) }
+    ∷ record { refusal = Early; holds = nat_lt now (last_session m.meeting).appointed }
     ∷ record { refusal = NoQuorum; holds = not (quorum_in m closed now) }
     ∷ []
 
--- a meeting is opened
+-- the last session of a meeting is opened
 abbrev pub open_ruling : MeetingLists → List Day → Moment → Ruling MeetingChange
 open_ruling m closed now = record {
   cases = open_cases m closed now;
@@ -44,7 +46,7 @@ open_ruling m closed now = record {
 abbrev pub order_cases : MeetingLists → List Day → Moment → NewPoll → List Case
 order_cases m closed now new =
     no_resolution m.meeting new.resolution
-    ∷ record { refusal = NotOpened; holds = is_none m.meeting.opened }
+    ∷ record { refusal = NotOpened; holds = not (is_opened (last_session m.meeting)) }
     ∷ record { refusal = Early; holds = nat_lt new.take now }
     ∷ record { refusal = PollOrdered; holds = is_some (poll_on m.polls new.resolution) }
     ∷ record {
@@ -53,9 +55,10 @@ order_cases m closed now new =
     }
     ∷ []
 
--- the poll that is ordered at a moment (section 321)
-abbrev pub poll_of : Moment → NewPoll → Poll
-poll_of now new = record {
+-- the poll that is ordered at a moment, in the last session (section 321)
+abbrev pub poll_of : Meeting → Moment → NewPoll → Poll
+poll_of meeting now new = record {
+  session = last_number meeting;
   resolution = new.resolution;
   ordered = now;
   take = new.take;
@@ -69,7 +72,7 @@ poll_of now new = record {
 abbrev pub order_ruling : MeetingLists → List Day → Moment → NewPoll → Ruling MeetingChange
 order_ruling m closed now new = record {
   cases = order_cases m closed now new;
-  accepted = record { reply = reply.Ordered; change = Some (AddPoll (poll_of now new)) };
+  accepted = record { reply = reply.Ordered; change = Some (AddPoll (poll_of m.meeting now new)) };
 }
 
 -- when a poll is not started
@@ -138,8 +141,9 @@ result_on (Some resolution) tally = result_of resolution.kind tally
 -- stand (sections 284 and 327)
 abbrev pub tally_in : MeetingLists → List Day → Moment → Number → Tally
 tally_in m closed now resolution =
-    tally_of (cutoffs_of m.meeting (vote_on (poll_on m.polls resolution)) closed now) m.register
-    m.appointments m.endings m.authorities m.casts resolution
+    let purpose = vote_on (last_number m.meeting) (poll_on m.polls resolution) in
+    tally_of (cutoffs_of m.meeting purpose closed now) m.register m.appointments m.endings
+    m.authorities m.casts resolution
 
 -- that count, and whether it carries the resolution (sections 282 to 284)
 abbrev pub declaration_of : MeetingLists → List Day → Moment → Number → Declaration

@@ -23,6 +23,7 @@ use std::alloc::{AllocError, Global};
 /// meetings. The error is want of memory; a refusal takes none, nor does a list that is held
 /// already.
 pub fn desk_answer(
+    alloc: Global,
     keys: &KeyRows,
     closed: &Closed,
     meetings: &[MeetingLists],
@@ -38,7 +39,7 @@ pub fn desk_answer(
     match asked {
         DeskRequest::CallMeeting(new) => {
             let is_named = find_meeting(meetings, new.meeting).is_some();
-            call_meeting(is_named, meetings.len(), new)
+            call_meeting(alloc, is_named, meetings.len(), new)
         }
         DeskRequest::ClosedDays(days) => load_days(closed, days),
         DeskRequest::Keys(rows) => load_keys(keys, rows),

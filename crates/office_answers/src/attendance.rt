@@ -1,26 +1,47 @@
 //! Who is present, whether they make a quorum, and whether enough shares demand a poll.
-ghost use Rattle.std.specs.Prelude.{◌≡◌, true, IfOk};
+ghost use Rattle.std.specs.Prelude.{◌≡◌, ◌==◌, true, IfOk};
+ghost use Rattle.std.specs.List.{filter_map, list_any, slice_get};
 ghost use Rattle.desk_words.specs.Office.{is_meeting};
 ghost use Rattle.desk_words.specs.Rulings.{settled};
+ghost use Rattle.desk_words.specs.declared.records.PresenceMark.{PresenceMark};
 ghost use Rattle.office_answers.specs.Attendance.{demand_noted, is_marked, presence_ruling, quorum_in};
 ghost use Rattle.office_answers.specs.Limits.{if_any, is_within_limits};
 
 use desk_words::{
-    Answer, Entry, Filed, MeetingChange, MeetingLists, Moment, Party, PresenceMark, noted,
+    Answer, Entry, Filed, Meeting, MeetingChange, MeetingLists, Moment, Party, PresenceMark, noted,
 };
 use office_days::Closed;
 use poll_rules::{Demand, Papers, Use, cutoffs, demand_reached, quorum};
 use std::alloc::{AllocError, Global};
 
-/// Whether the party's presence is marked.
-fn is_marked(presences: &Filed<PresenceMark>, party: Party) -> bool
-    ensures { result ≡ is_marked presences.now party }
+/// The mark at a place.
+fn mark_at(presences: &[PresenceMark], place: usize) -> Option<PresenceMark>
+    ensures { result ≡ slice_get presences.now place }
 {
-    presences.has_first(party)
+    presences.get(place).copied()
 }
 
-/// The answer to a presence that the office notes (section 318): `Noted`, which enters the mark
-/// unless it stands already. It takes no memory.
+/// Whether a mark at one of the places is of the session.
+fn any_in(presences: &[PresenceMark], places: &[usize], session: u64) -> bool
+    ensures { result ≡ list_any (λ (mark : PresenceMark). mark.session == session)
+        (filter_map (slice_get presences.now) places.now) }
+{
+    places
+        .iter()
+        .filter_map(|place| mark_at(presences, *place))
+        .any(|mark| mark.session == session)
+}
+
+/// Whether the party's presence in the last session is marked.
+fn is_marked(meeting: &Meeting, presences: &Filed<PresenceMark>, party: Party) -> bool
+    ensures { result ≡ is_marked meeting.now presences.now party }
+{
+    let places = presences.places_by_first(party);
+    any_in(presences.as_slice(), places, meeting.last_number())
+}
+
+/// The answer to a presence in the last session that the office notes (section 318): `Noted`, which
+/// enters the mark unless it stands already. It takes no memory.
 pub(crate) fn note_presence(
     lists: &MeetingLists,
     now: Moment,
@@ -29,9 +50,13 @@ pub(crate) fn note_presence(
     ensures answer { result ≡ settled (presence_ruling lists.now now party) }
     ensures limits { if_any is_within_limits result.change ≡ true }
 {
-    let presence = PresenceMark { party, moment: now };
+    let presence = PresenceMark {
+        session: lists.meeting.last_number(),
+        party,
+        moment: now,
+    };
     noted(
-        is_marked(&lists.presences, party),
+        is_marked(&lists.meeting, &lists.presences, party),
         MeetingChange::Enter(Entry::Presence(presence)),
     )
 }
@@ -57,7 +82,7 @@ pub(crate) fn papers_of(lists: &MeetingLists) -> Papers
     }
 }
 
-/// Whether those who are present make a quorum.
+/// Whether those who are present in the last session make a quorum.
 pub(crate) fn quorum_in(
     alloc: Global,
     closed: &Closed,
@@ -67,11 +92,12 @@ pub(crate) fn quorum_in(
     requires { is_meeting lists.now ≡ true }
     ensures { IfOk result (λ is_quorum. is_quorum ≡ quorum_in lists.now closed.now now) }
 {
-    let cutoffs = cutoffs(&lists.meeting, Use::Acts, closed, now);
-    quorum(alloc, &cutoffs, &papers_of(lists))
+    let last = lists.meeting.last_number();
+    let cutoffs = cutoffs(&lists.meeting, Use::Acts(last), closed, now);
+    quorum(alloc, &cutoffs, &papers_of(lists), last)
 }
 
-/// The demand of a poll on a resolution.
+/// The demand in the last session of a poll on a resolution.
 pub(crate) fn demand_in(
     alloc: Global,
     closed: &Closed,
@@ -82,6 +108,7 @@ pub(crate) fn demand_in(
     requires { is_meeting lists.now ≡ true }
     ensures { IfOk result (λ demand. demand ≡ demand_noted lists.now closed.now now resolution) }
 {
-    let cutoffs = cutoffs(&lists.meeting, Use::Acts, closed, now);
-    demand_reached(alloc, &cutoffs, &papers_of(lists), resolution)
+    let last = lists.meeting.last_number();
+    let cutoffs = cutoffs(&lists.meeting, Use::Acts(last), closed, now);
+    demand_reached(alloc, &cutoffs, &papers_of(lists), last, resolution)
 }

@@ -9,11 +9,11 @@ ghost use Rattle.office_answers.specs.Limits.{if_any, is_within_limits, keeps_li
 
 use desk_words::limits::MOST_MEETINGS;
 use desk_words::{
-    Answer, Change, Meeting, MeetingChange, MeetingLists, Moment, NewMeeting, NewRegister, Refusal,
-    Reply, refuse, same_rows, tell,
+    Answer, Change, Listing, Meeting, MeetingChange, MeetingLists, Moment, NewMeeting, NewRegister,
+    Refusal, Reply, Session, refuse, same_rows, tell,
 };
 use office_days::enough_notice;
-use std::alloc::AllocError;
+use std::alloc::{AllocError, Global};
 
 fn call_refusal(is_named: bool, held: usize, new: &NewMeeting) -> Option<Refusal>
     ensures { result ≡ first_refusal (cases_of_call is_named held new.now) }
@@ -30,7 +30,7 @@ fn call_refusal(is_named: bool, held: usize, new: &NewMeeting) -> Option<Refusal
     None
 }
 
-fn new_meeting(new: &NewMeeting) -> Result<Meeting, AllocError>
+fn new_meeting(alloc: Global, new: &NewMeeting) -> Result<Meeting, AllocError>
     ensures value { IfOk result (λ m. m ≡ new_meeting_of new.now) }
     ensures limits { IsTrue (are_resolutions new.now.resolutions) }
 {
@@ -39,11 +39,14 @@ fn new_meeting(new: &NewMeeting) -> Result<Meeting, AllocError>
         company: new.company,
         kind: new.kind,
         given: new.given,
-        appointed: new.appointed,
+        first: Session {
+            appointed: new.appointed,
+            opened: None,
+        },
+        later: Listing::new(alloc),
         record_moment: new.record_moment,
         resolutions: new.resolutions.copy()?,
         loaded: false,
-        opened: None,
     })
 }
 
@@ -53,6 +56,7 @@ fn new_meeting(new: &NewMeeting) -> Result<Meeting, AllocError>
 /// `MOST_MEETINGS`, and else `Called`, which adds the meeting. The error is want of memory; a
 /// refusal takes none.
 pub fn call_meeting(
+    alloc: Global,
     is_named: bool,
     held: usize,
     new: &NewMeeting,
@@ -66,7 +70,7 @@ pub fn call_meeting(
     }
     Ok(Answer {
         reply: Reply::Called,
-        change: Some(Change::AddMeeting(new_meeting(new)?)),
+        change: Some(Change::AddMeeting(new_meeting(alloc, new)?)),
     })
 }
 
@@ -76,7 +80,7 @@ fn load_refusal(meeting: &Meeting, now: Moment, new: &NewRegister) -> Option<Ref
     if meeting.record_moment != new.record_moment {
         return Some(Refusal::OtherRecord);
     }
-    if meeting.opened.is_some() {
+    if meeting.first.is_opened() {
         return Some(Refusal::Opened);
     }
     if now < new.record_moment {
@@ -86,9 +90,10 @@ fn load_refusal(meeting: &Meeting, now: Moment, new: &NewRegister) -> Option<Ref
 }
 
 /// The answer to a register for a meeting (section 113): the first that holds of `OtherRecord`
-/// where it is of another moment than the meeting's record moment, `Opened`, and `Early` before
-/// that moment; else `Same` where the rows are those that are held, and else `Loaded`, which sets
-/// the register. The error is want of memory; a refusal and `Same` take none.
+/// where it is of another moment than the meeting's record moment, `Opened` where the meeting's
+/// first session is, and `Early` before that moment; else `Same` where the rows are those that are
+/// held, and else `Loaded`, which sets the register. The error is want of memory; a refusal and
+/// `Same` take none.
 pub(crate) fn load_register(
     lists: &MeetingLists,
     now: Moment,

@@ -36,10 +36,11 @@ fn open_refusal(
     if !lists.meeting.loaded {
         return Ok(Some(Refusal::NoRegister));
     }
-    if lists.meeting.opened.is_some() {
+    let last = lists.meeting.last_session();
+    if last.is_opened() {
         return Ok(Some(Refusal::Opened));
     }
-    if now < lists.meeting.appointed {
+    if now < last.appointed {
         return Ok(Some(Refusal::Early));
     }
     if !quorum_in(alloc, closed, lists, now)? {
@@ -48,10 +49,10 @@ fn open_refusal(
     Ok(None)
 }
 
-/// The answer to the opening of a meeting: the first that holds of `NoRegister`, `Opened`, `Early`
-/// before the appointed time, and `NoQuorum` where those who are present make no quorum (section
-/// 318); and else `MeetingOpened`, which sets the moment. The error is want of memory; a refusal
-/// other than `NoQuorum` takes none. Its cost is that of `poll_rules::quorum`.
+/// The answer to the opening of the last session of a meeting: the first that holds of `NoRegister`,
+/// `Opened`, `Early` before its appointed time, and `NoQuorum` where those who are present in it
+/// make no quorum (section 318); and else `MeetingOpened`, which sets the moment. The error is want
+/// of memory; a refusal other than `NoQuorum` takes none. Its cost is that of `poll_rules::quorum`.
 pub(crate) fn open_meeting(
     alloc: Global,
     closed: &Closed,
@@ -108,7 +109,7 @@ fn order_refusal(
     if !lists.meeting.has_resolution(new.resolution) {
         return Ok(Some(Refusal::NoResolution));
     }
-    if lists.meeting.opened.is_none() {
+    if !lists.meeting.last_session().is_opened() {
         return Ok(Some(Refusal::NotOpened));
     }
     if new.take < now {
@@ -123,11 +124,12 @@ fn order_refusal(
     Ok(None)
 }
 
-/// The poll that is ordered.
-fn poll_of(now: Moment, new: &NewPoll) -> Poll
-    ensures { result ≡ poll_of now new.now }
+/// The poll that is ordered, in the last session.
+fn poll_of(meeting: &Meeting, now: Moment, new: &NewPoll) -> Poll
+    ensures { result ≡ poll_of meeting.now now new.now }
 {
     Poll {
+        session: meeting.last_number(),
         resolution: new.resolution,
         ordered: now,
         take: new.take,
@@ -139,10 +141,11 @@ fn poll_of(now: Moment, new: &NewPoll) -> Poll
 }
 
 /// The answer to the order of a poll (section 321): the first that holds of `NoResolution`,
-/// `NotOpened`, `Early` where the poll were taken before now, `PollOrdered`, and `DemandTooSmall`
-/// where neither the chair orders it nor enough shares demand it; and else `Ordered`, which adds
-/// the poll. The error is want of memory; an order by the chair takes none, nor does a refusal
-/// other than `DemandTooSmall`. Without the chair its cost is that of `poll_rules::demand_reached`.
+/// `NotOpened` where the last session is not opened, `Early` where the poll were taken before now,
+/// `PollOrdered`, and `DemandTooSmall` where neither the chair orders it nor enough shares demand
+/// it; and else `Ordered`, which adds the poll. The error is want of memory; an order by the chair
+/// takes none, nor does a refusal other than `DemandTooSmall`. Without the chair its cost is that of
+/// `poll_rules::demand_reached`.
 pub(crate) fn order_poll(
     alloc: Global,
     closed: &Closed,
@@ -163,7 +166,7 @@ pub(crate) fn order_poll(
     }
     Ok(Answer {
         reply: Reply::Ordered,
-        change: Some(MeetingChange::AddPoll(poll_of(now, new))),
+        change: Some(MeetingChange::AddPoll(poll_of(&lists.meeting, now, new))),
     })
 }
 

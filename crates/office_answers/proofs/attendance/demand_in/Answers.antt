@@ -1,7 +1,9 @@
 use Rattle.std.proofs.Common.{◌≡◌, [], ap, ◌∙◌}
 use Rattle.std.proofs.lemmas.Result.{IfOk-weaker}
 use Rattle.desk_words.specs.Office.{are_numbered_after, are_rows}
+use Rattle.proxy_rules.specs.Cutoffs.{cutoffs_of}
 use Rattle.proxy_rules.specs.Holdings.{are_tags}
+use Rattle.proxy_rules.specs.Uses.{Acts}
 use Rattle.poll_rules.specs.Demands.{demand_of}
 use Rattle.poll_rules.specs.declared.demand.Demand.{Demand}
 use Rattle.office_answers.specs.Attendance.{demand_noted}
@@ -24,7 +26,9 @@ returns c =
     let papers = c.papers_of.result in
     let is = c.papers_of.ensures in
     let number = c.args.resolution in
-    let read = demand_of c.cutoffs-cutoffs.result papers.register.now papers.appointments.now papers.endings.now papers.authorities.now papers.demands.now number in
+    let read = demand_of c.cutoffs-cutoffs.result papers.register.now papers.appointments.now papers.endings.now papers.authorities.now papers.demands.now c.last_number-last.result number in
     let due = demand_noted c.args.lists.now c.args.closed.now c.args.now number in
-    let same : read ≡ due = λ i. demand_of (c.cutoffs-cutoffs.ensures i) (is.register i) (is.appointments i) (is.endings i) (is.authorities i) (is.demands i) number in
+    let last = c.last_number-last.ensures in
+    let cutoffs = c.cutoffs-cutoffs.ensures ∙ ap (λ session. cutoffs_of c.args.lists.now.meeting (Acts session) c.args.closed.now c.args.now) last in
+    let same : read ≡ due = λ i. demand_of (cutoffs i) (is.register i) (is.appointments i) (is.endings i) (is.authorities i) (is.demands i) (last i) number in
     IfOk-weaker c.demand_reached.result (λ (demand : Demand). demand ≡ read) (λ (demand : Demand). demand ≡ due) (λ demand e. e ∙ same) c.demand_reached.ensures

@@ -3,6 +3,7 @@ use Rattle.std.proofs.lemmas.Result.{IfOk-weaker}
 use Rattle.desk_words.specs.Finding.{poll_on}
 use Rattle.desk_words.specs.Office.{are_numbered_after, are_rows, is_tally}
 use Rattle.desk_words.specs.declared.records.Tally.{Tally}
+use Rattle.desk_words.specs.Sessions.{last_number}
 use Rattle.proxy_rules.specs.Cutoffs.{cutoffs_of}
 use Rattle.proxy_rules.specs.Holdings.{are_tags}
 use Rattle.proxy_rules.specs.Uses.{vote_on}
@@ -31,7 +32,7 @@ returns-clause-value c =
     let number = c.args.number in
     let read = tally_of c.cutoffs-cutoffs.result papers.register.now papers.appointments.now papers.endings.now papers.authorities.now papers.casts.now number in
     let due = tally_in m c.args.closed.now c.args.now number in
-    let cutoffs = c.cutoffs-cutoffs.ensures ∙ ap (λ poll. cutoffs_of m.meeting (vote_on poll) c.args.closed.now c.args.now) (sym c.requires.poll) in
+    let cutoffs = c.cutoffs-cutoffs.ensures ∙ ap (λ poll. cutoffs_of m.meeting (vote_on (last_number m.meeting) poll) c.args.closed.now c.args.now) (sym c.requires.poll) in
     let same : read ≡ due = λ i. tally_of (cutoffs i) (is.register i) (is.appointments i) (is.endings i) (is.authorities i) (is.casts i) number in
     IfOk-weaker c.tally.result (λ (t : Tally). t ≡ read) (λ (t : Tally). t ≡ due) (λ t e. e ∙ same) c.tally.ensures
 
@@ -44,7 +45,7 @@ returns-clause-limits c =
     let number = c.args.number in
     let read = tally_of c.cutoffs-cutoffs.result papers.register.now papers.appointments.now papers.endings.now papers.authorities.now papers.casts.now number in
     let due = tally_in m c.args.closed.now c.args.now number in
-    let cutoffs = c.cutoffs-cutoffs.ensures ∙ ap (λ poll. cutoffs_of m.meeting (vote_on poll) c.args.closed.now c.args.now) (sym c.requires.poll) in
+    let cutoffs = c.cutoffs-cutoffs.ensures ∙ ap (λ poll. cutoffs_of m.meeting (vote_on (last_number m.meeting) poll) c.args.closed.now c.args.now) (sym c.requires.poll) in
     let same : read ≡ due = λ i. tally_of (cutoffs i) (is.register i) (is.appointments i) (is.endings i) (is.authorities i) (is.casts i) number in
-    let right = is_tally-tally_by (vote_at (cutoffs_of m.meeting (vote_on (poll_on m.polls number)) c.args.closed.now c.args.now) m.appointments m.endings m.authorities m.casts number) m.register (meeting_rows m c.requires.meeting) in
+    let right = is_tally-tally_by (vote_at (cutoffs_of m.meeting (vote_on (last_number m.meeting) (poll_on m.polls number)) c.args.closed.now c.args.now) m.appointments m.endings m.authorities m.casts number) m.register (meeting_rows m c.requires.meeting) in
     IfOk-weaker c.tally.result (λ (t : Tally). t ≡ read) (λ (t : Tally). is_tally t ≡ true) (λ t e. ap is_tally (e ∙ same) ∙ right) c.tally.ensures
