@@ -1,6 +1,6 @@
 -- The right to demand a poll, capacity by capacity.
 use Rattle.std.proofs.Common.{◌≡◌, ℕ, Bool, true, false, not, ◌&&◌, ◌||◌, cond, List, [], ◌∷◌, ◌++◌, map, filter, length, refl, sym, ap, ◌∙◌}
-use Rattle.std.specs.Prelude.{nat_le, nat_lt, Option, Some, None, is_some}
+use Rattle.std.specs.Prelude.{nat_le, nat_lt, Option, Some, None}
 use Rattle.std.specs.List.{list_all, list_any, flat_map}
 use Rattle.std.specs.Option.{option_map_or}
 use Rattle.std.proofs.lemmas.List.Concat.{flat_map-cons}
@@ -16,6 +16,7 @@ use Rattle.desk_terms.specs.declared.kinds.HolderKind.TheVariants.{Individual, C
 use Rattle.desk_words.specs.Lists.{are_resolutions}
 use Rattle.desk_words.specs.Office.{are_numbered_after, implies, is_appointment, is_loaded_right, is_meeting, no_rows, are_rows}
 use Rattle.desk_words.specs.Registers.{is_holding, is_register}
+use Rattle.desk_words.specs.Sessions.{are_sessions, is_opened, last_number}
 use Rattle.desk_words.specs.declared.office.MeetingLists.{MeetingLists}
 use Rattle.desk_words.specs.declared.records.Appointment.{Appointment}
 use Rattle.desk_words.specs.declared.records.Authority.{Authority}
@@ -38,7 +39,7 @@ use Rattle.poll_rules.specs.Roles.{has_authority, is_proxy_in, role_if, roles_by
 use Rattle.poll_rules.specs.declared.roles.Role.{Role}
 use Rattle.poll_rules.proofs.GatherLemmas.{list_any-map}
 use Rattle.caller_view.specs.Attendance.{governs_any, may_demand}
-use Rattle.caller_view.specs.Rights.{holds_as_individual, no_runs}
+use Rattle.caller_view.specs.Rights.{governed_acts, holds_as_individual, no_runs}
 use Rattle.caller_view.specs.Own.{authorised_in_rows, governed_by, received_by, shares_of_kind, shares_in}
 use Rattle.caller_view.specs.Rows.{authority_rows_in, givers, member_in}
 use Rattle.caller_view.specs.Views.{own_in}
@@ -48,6 +49,7 @@ use Rattle.meeting_laws.proofs.MemberRows.{row_of-any, rows_differ, rows_held}
 use Rattle.meeting_laws.proofs.GovernedLemmas.{any-among, governed-by_member, kept-is}
 use Rattle.meeting_laws.proofs.PlaceLemmas.{runs_that-some, some_place, some_place-and, some_place-any}
 use Rattle.meeting_laws.proofs.ProxyLemmas.{governing-passing}
+use Rattle.meeting_laws.proofs.SessionLemmas.{acts-told}
 
 -- ---- the capacities that a row gives
 
@@ -260,14 +262,14 @@ pub record Facts (m : MeetingLists) : Type 0 where
   pub numbered : are_numbered_after [] m.appointments ≡ true
   pub tags : are_tags m.appointments ≡ true
 
--- they are among the second and the third of the nine conditions of a meeting
+-- they are among the third and the fourth of the ten conditions of a meeting
 pub facts : (m : MeetingLists) → is_meeting m ≡ true → Facts m
 facts m h =
     let resolutions = length m.meeting.resolutions in
     let three = first_so _ _ (first_so _ _ (first_so _ _ (first_so _ _ (first_so _ _ (first_so _ _ h))))) in
-    let loaded = second_so (are_resolutions m.meeting.resolutions) (is_loaded_right m) (first_so _ _ three) in
+    let loaded = second_so (are_resolutions m.meeting.resolutions && are_sessions m.meeting) (is_loaded_right m) (first_so _ _ three) in
     let rows = cond m.meeting.loaded (is_register m.register) (no_rows m.register) in
-    let stand = first_so rows (implies (is_some m.meeting.opened) m.meeting.loaded) loaded in
+    let stand = first_so rows (implies (is_opened m.meeting.first) m.meeting.loaded) loaded in
     let given = second_so _ _ three in
     record {
       rows = register_if m.meeting.loaded m.register stand;
@@ -279,25 +281,32 @@ facts m h =
 pub kept_in : (m : MeetingLists) (member : List ℕ) → Facts m → is_kept (holding_of m.register m.appointments m.endings member) ≡ true
 kept_in m member f = kept-is (holding_of m.register m.appointments m.endings member) (kept_of m.register m.appointments m.endings member f.rows f.numbered f.tags)
 
+-- the cutoffs for acts in the last session
+abbrev acts_of : MeetingLists → List ℕ → ℕ → Cutoffs
+acts_of m closed now = cutoffs_of m.meeting (Acts (last_number m.meeting)) closed now
+
 -- whether a party governs shares, by its own things, is whether some appointment that names it does
-own_governs : (m : MeetingLists) (closed party : List ℕ) (now : ℕ) → Facts m → governs_any (own_in m closed party now)
-    ≡ list_any (λ a. names party a && governs_some (cutoffs_of m.meeting Acts closed now) m party a) m.appointments
+own_governs : (m : MeetingLists) (closed party : List ℕ) (now : ℕ) → Facts m → governs_any m.meeting (own_in m closed party now)
+    ≡ list_any (λ a. names party a && governs_some (acts_of m closed now) m party a) m.appointments
 own_governs m closed party now f =
-    let cutoffs = cutoffs_of m.meeting Acts closed now in
+    let cutoffs = acts_of m closed now in
+    let last = last_number m.meeting in
     let received = filter (names party) m.appointments in
     let members = map (member_in m) (givers received) in
-    list_any-map (λ (r : Received). not (no_runs r.governs)) (received_by members closed m.meeting m.polls now) received
-    ∙ any-among (λ a. not (no_runs (governed_by members cutoffs a.member a.number))) (governs_some cutoffs m party) received
-    (λ a among. ap (λ runs. not (no_runs runs)) (governed-by_member m cutoffs received a.member a.number (kept_in m a.member f) among))
+    list_any-map (λ (r : Received). not (no_runs (governed_acts last r))) (received_by members closed m.meeting m.polls now) received
+    ∙ any-among (λ a. not (no_runs (governed_acts last (received_by members closed m.meeting m.polls now a)))) (governs_some cutoffs m party) received
+    (λ a among. ap (λ runs. not (no_runs runs))
+    (acts-told m.meeting closed now (λ by. governed_by members by a.member a.number) last
+    ∙ governed-by_member m cutoffs received a.member a.number (kept_in m a.member f) among))
     ∙ any-filter (governs_some cutoffs m party) (names party) m.appointments
 
 -- a party may demand a poll exactly where it has a capacity
 pub may_demand-qualifies : (m : MeetingLists) (closed party : List ℕ) (now : ℕ) → is_meeting m ≡ true
-    → may_demand (own_in m closed party now)
-    ≡ qualifies (roles_of (cutoffs_of m.meeting Acts closed now) m.register m.appointments m.endings m.authorities party)
+    → may_demand m.meeting (own_in m closed party now)
+    ≡ qualifies (roles_of (acts_of m closed now) m.register m.appointments m.endings m.authorities party)
 may_demand-qualifies m closed party now h =
     let f = facts m h in
-    let cutoffs = cutoffs_of m.meeting Acts closed now in
+    let cutoffs = acts_of m closed now in
     let member = as_member m.register party f.rows in
     let representative = as_representative m party f.rows in
     let proxy = own_governs m closed party now f ∙ as_proxy cutoffs m party f.rows f.numbered in

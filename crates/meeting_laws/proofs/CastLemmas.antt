@@ -20,22 +20,24 @@ use Rattle.desk_words.specs.declared.own.Received.{Received}
 use Rattle.desk_words.specs.declared.records.Appointment.{Appointment}
 use Rattle.desk_words.specs.declared.records.Meeting.{Meeting}
 use Rattle.desk_words.specs.declared.records.Poll.{Poll}
+use Rattle.desk_words.specs.Sessions.{last_number, session_of}
 use Rattle.desk_words.specs.declared.request.NewCast.{NewCast}
-use Rattle.proxy_rules.specs.Cutoffs.{cutoffs_of, is_late_poll, late_cutoffs, meeting_cutoffs}
+use Rattle.proxy_rules.specs.Cutoffs.{cutoffs_of, is_late_poll, late_cutoffs, session_cutoffs}
 use Rattle.proxy_rules.specs.Governing.{governed_in, governs, has_share, last_over, unended}
 use Rattle.proxy_rules.specs.Holdings.{holding_of, holding_with}
 use Rattle.proxy_rules.specs.Instructions.{allows, instructed_on}
 use Rattle.proxy_rules.specs.Parties.{names}
 use Rattle.proxy_rules.specs.Runs.{are_parted}
 use Rattle.proxy_rules.specs.Shares.{shares_by}
-use Rattle.proxy_rules.specs.Uses.{Use, Votes, Vote, vote_on}
+use Rattle.proxy_rules.specs.Uses.{Vote, vote_on}
 use Rattle.proxy_rules.specs.declared.holdings.Holding.{Holding}
 use Rattle.proxy_rules.specs.declared.papers.Cutoffs.{Cutoffs}
 use Rattle.proxy_rules.proofs.NameLemmas.{same_name-sym}
 use Rattle.proxy_rules.proofs.RunLemmas.{are_in-runs_that, are_parted-runs_that}
 use Rattle.poll_rules.proofs.GatherLemmas.{list_any-map}
 use Rattle.caller_view.specs.Own.{known_to_proxy}
-use Rattle.caller_view.specs.Rights.{forbids, governed_for, governs_at, instructs, is_against, is_governed, is_uninstructed, meets, no_runs}
+use Rattle.caller_view.specs.Rights.{Governs, forbids, governed_for, governed_votes, governs_at, instructs, is_against, is_governed, is_uninstructed, meets, no_runs}
+use Rattle.caller_view.specs.Sessions.{each_session}
 use Rattle.caller_view.specs.Views.{own_in}
 use Rattle.meeting_laws.specs.Laws.{known_in, shares_governed}
 use Rattle.meeting_laws.specs.Proxies.{InstructedByTheRules, InstructionsBindByTheRules, ProxiesGovernByTheRules, binds_otherwise, cutoffs_on, governing_for, instructs_it, is_instructed_in, some_pass, use_in}
@@ -45,6 +47,7 @@ use Rattle.meeting_laws.proofs.NumberLemmas.{In}
 use Rattle.meeting_laws.proofs.OwnThingsLemmas.{what_governs}
 use Rattle.meeting_laws.proofs.PlaceLemmas.{some_place, some_place-and, some_place-any, some_place-found, some_place-is}
 use Rattle.meeting_laws.proofs.ProxyLemmas.{governing-passing}
+use Rattle.meeting_laws.proofs.SessionLemmas.{in_session, votes-told}
 
 -- ---- what is found
 
@@ -82,25 +85,30 @@ module _ (meeting : Meeting) (closed : List ℕ) (now : ℕ) (governed : Cutoffs
   abbrev for_late : Poll → PollGoverned
   for_late poll = record { resolution = poll.resolution; governs = governed (cutoffs_of meeting (Vote poll) closed now) }
 
-  -- what a proxy knows of an appointment for votes at the meeting, and on late polls, is by the cutoffs of the poll that is found
-  by_the_cutoffs : (a : Appointment) (polls : List Poll) (resolution : ℕ) (found : Option Poll) → poll_on polls resolution ≡ found
-      → governed_for closed (vote_on found) (known_to_proxy a (governed (cutoffs_of meeting Votes closed now)) (map for_late (filter (is_late_poll closed) polls)))
-      ≡ governed (cutoffs_of meeting (vote_on found) closed now)
-  by_the_cutoffs a polls resolution None e = refl
-  by_the_cutoffs a polls resolution (Some p) e =
+  -- what a proxy knows of an appointment
+  abbrev known : Appointment → List PollGoverned → Received
+  known a polls = known_to_proxy a (each_session (in_session meeting closed now governed) meeting) polls
+
+  -- what a proxy knows of an appointment in sessions, and on late polls, is by the cutoffs of the poll that is found
+  by_the_cutoffs : (a : Appointment) (polls : List Poll) (resolution session : ℕ) (found : Option Poll) → poll_on polls resolution ≡ found
+      → governed_for closed (vote_on session found) (known a (map for_late (filter (is_late_poll closed) polls)))
+      ≡ governed (cutoffs_of meeting (vote_on session found) closed now)
+  by_the_cutoffs a polls resolution session None e = votes-told meeting closed now governed session
+  by_the_cutoffs a polls resolution session (Some p) e =
       let on : p.resolution ≡ resolution = eqb-true p.resolution resolution (found-passes (λ (q : Poll). q.resolution == resolution) polls p e) in
       let there : poll_on polls p.resolution ≡ Some p = ap (poll_on polls) on ∙ e in
+      let own = session_of meeting p.session in
       (elim (is_late_poll closed p) as (λ b. is_late_poll closed p ≡ b
       → cond b
       (option_map_or (λ (q : PollGoverned). q.governs) (find (λ (q : PollGoverned). q.resolution == p.resolution) (map for_late (filter (is_late_poll closed) polls))) [])
-      (governed (meeting_cutoffs meeting closed now))
-      ≡ governed (cond b (late_cutoffs p closed) (meeting_cutoffs meeting closed now))) [
+      (governed_votes p.session (known a (map for_late (filter (is_late_poll closed) polls))))
+      ≡ governed (cond b (late_cutoffs p closed) (session_cutoffs own own closed now))) [
         | true ↦ λ late.
             ap (λ o. option_map_or (λ (q : PollGoverned). q.governs) o [])
             (found-made (λ (q : PollGoverned). q.resolution == p.resolution) for_late (filter (is_late_poll closed) polls)
             ∙ ap (option_map for_late) (found-kept (λ (q : Poll). q.resolution == p.resolution) (is_late_poll closed) polls p there late))
-            ∙ ap (λ b. governed (cond b (late_cutoffs p closed) (meeting_cutoffs meeting closed now))) late
-        | false ↦ λ timely. refl
+            ∙ ap (λ b. governed (cond b (late_cutoffs p closed) (session_cutoffs own own closed now))) late
+        | false ↦ λ timely. votes-told meeting closed now governed p.session
       ]) refl
 
 -- ---- runs
@@ -172,7 +180,7 @@ module _ (cutoffs : Cutoffs) (holding : Holding) (number : ℕ) where
 module _ (m : MeetingLists) (closed party : List ℕ) (now resolution : ℕ) where
   -- what a proxy knows of an appointment for the poll is what the appointment governs by the cutoffs of the poll
   known-governs : (a : Appointment) → governed_for closed (use_in m closed resolution) (known_in m closed now a) ≡ shares_governed m (cutoffs_on m closed now resolution) a
-  known-governs a = by_the_cutoffs m.meeting closed now (λ cutoffs. shares_governed m cutoffs a) a m.polls resolution (poll_on m.polls resolution) refl
+  known-governs a = by_the_cutoffs m.meeting closed now (λ cutoffs. shares_governed m cutoffs a) a m.polls resolution (last_number m.meeting) (poll_on m.polls resolution) refl
 
   -- whether any appointment that is known to the party passes, by all appointments
   known-any : (test : Received → Bool) → is_meeting m ≡ true
@@ -188,13 +196,13 @@ module _ (m : MeetingLists) (closed party : List ℕ) (now resolution : ℕ) whe
   joined-and false b c = refl
 
   instructed-rules : is_meeting m ≡ true
-      → is_uninstructed (own_in m closed party now) closed (use_in m closed resolution) resolution
+      → is_uninstructed (own_in m closed party now) (governed_for closed (use_in m closed resolution)) resolution
       ≡ not (list_any (is_instructed_in m closed now party resolution) m.register)
   instructed-rules h =
       let told : Appointment → Bool = λ a. is_some (instructed_on resolution a.instructions) in
       let f = facts m h in
       ap not
-      (known-any (instructs closed (use_in m closed resolution) resolution) h
+      (known-any (instructs (governed_for closed (use_in m closed resolution)) resolution) h
       ∙ ap (λ test. list_any test m.appointments)
       (λ i (a : Appointment).
       (ap (λ runs. names party a && (told a && not (no_runs runs))) (known-governs a)
@@ -202,8 +210,8 @@ module _ (m : MeetingLists) (closed party : List ℕ) (now resolution : ℕ) whe
       ∙ passing-rows (cutoffs_on m closed now resolution) m party (instructs_it party resolution) f.rows f.numbered)
 
 module _ (m : MeetingLists) (closed party : List ℕ) (now : ℕ) (new : NewCast) where
-  abbrev purpose : Use
-  purpose = use_in m closed new.resolution
+  abbrev told_governs : Governs
+  told_governs = governed_for closed (use_in m closed new.resolution)
 
   -- the cutoffs of the poll of the vote
   abbrev cutoffs_for : Cutoffs
@@ -232,16 +240,16 @@ module _ (m : MeetingLists) (closed party : List ℕ) (now : ℕ) (new : NewCast
       governing-passing cutoffs_for (shares_by m.register new.member) m.appointments m.endings new.member test place (facts m h).numbered
 
   -- an appointment governs the place by what is known of it
-  governs-known : (a : Appointment) (place : ℕ) → governs_at closed purpose new place (known_in m closed now a) ≡ own_governs a place
+  governs-known : (a : Appointment) (place : ℕ) → governs_at told_governs new place (known_in m closed now a) ≡ own_governs a place
   governs-known a place =
       ap (λ runs. same_name a.member new.member && list_any (λ (run : Places). holds run place) runs) (known-governs m closed party now new.resolution a)
       ∙ ap (λ b. same_name a.member new.member && b) (runs-hold cutoffs_for (holding_of m.register m.appointments m.endings a.member) a.number place)
       ∙ own-shares a place
 
   governed-rules : (place : ℕ) → is_meeting m ≡ true
-      → is_governed (own_in m closed party now).received closed purpose new place ≡ option_map_or (names party) (governing_for m closed now new place) false
+      → is_governed (own_in m closed party now).received told_governs new place ≡ option_map_or (names party) (governing_for m closed now new place) false
   governed-rules place h =
-      known-any m closed party now new.resolution (governs_at closed purpose new place) h
+      known-any m closed party now new.resolution (governs_at told_governs new place) h
       ∙ ap (λ test. list_any test m.appointments) (λ i (a : Appointment). names party a && governs-known a place i)
       ∙ passing (names party) place h
 
@@ -264,7 +272,7 @@ module _ (m : MeetingLists) (closed party : List ℕ) (now : ℕ) (new : NewCast
 
   -- an appointment forbids a vote by what is known of it where it governs some place of the range
   forbids-known : (a : Appointment) → 1 ≤ new.from → new.from ≤ new.to
-      → (names party a && forbids closed purpose new (known_in m closed now a))
+      → (names party a && forbids told_governs new (known_in m closed now a))
       ≡ some_place (λ place. names party a && ((same_name a.member new.member && otherwise a) && (nat_le new.from place && governs_there a place))) new.to
   forbids-known a one up =
       let own = same_name a.member new.member && otherwise a in
@@ -286,10 +294,10 @@ module _ (m : MeetingLists) (closed party : List ℕ) (now : ℕ) (new : NewCast
       ∙ ap (λ b. nat_le new.from place && b) (passing (binds_otherwise party new) place h)
 
   bound-rules : is_meeting m ≡ true → 1 ≤ new.from → new.from ≤ new.to
-      → is_against (own_in m closed party now) closed purpose new Proxy
+      → is_against (own_in m closed party now) told_governs new Proxy
       ≡ some_pass (λ place. option_map_or (binds_otherwise party new) (governing_for m closed now new place) false) new.from new.to
   bound-rules h one up =
-      known-any m closed party now new.resolution (forbids closed purpose new) h
+      known-any m closed party now new.resolution (forbids told_governs new) h
       ∙ ap (λ test. list_any test m.appointments) (λ i (a : Appointment). forbids-known a one up i)
       ∙ some_place-any
       (λ a place. names party a && ((same_name a.member new.member && otherwise a) && (nat_le new.from place && governs_there a place)))

@@ -1,3 +1,4 @@
+mod AdjournedLemmas
 mod AnyLemmas
 mod CapacityLemmas
 mod CastLemmas
@@ -7,6 +8,7 @@ mod MemberRows
 mod NamedLemmas
 mod NumberLemmas
 mod OfficeReadLemmas
+mod OneSessionLemmas
 mod OrderLemmas
 mod OwnThingsLemmas
 mod PlaceLemmas
@@ -15,7 +17,9 @@ pub mod ReadLemmas
 mod ReplacedLemmas
 mod RunLemmas
 mod SecrecyLemmas
+mod SessionLemmas
 mod WorldLemmas
+mod WrongAdjourned
 mod WrongAnswers
 mod WrongReplaced
 mod WrongTellings

@@ -76,7 +76,7 @@ later_none : (meeting : Meeting) (first again : ℕ) (new : NewRegister) → nat
 later_none meeting first again new turn none =
     let cases = load_cases meeting first new in
     let record_moment : not (meeting.record_moment == new.record_moment) ≡ false = fails OtherRecord cases none in
-    let opened : is_some meeting.opened ≡ false = fails Opened cases none in
+    let opened : is_some meeting.first.opened ≡ false = fails Opened cases none in
     let early : nat_lt first new.record_moment ≡ false = fails Early cases none in
     let later : nat_lt again new.record_moment ≡ false = grind (arith, nat_tests, early, turn) in
     rw (record_moment, opened, later) refl

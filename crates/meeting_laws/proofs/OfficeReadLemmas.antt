@@ -1,5 +1,5 @@
 -- What the office's calls read decides them.
-use Rattle.std.proofs.Common.{◌≡◌, true, false, refl, ap, true≢false}
+use Rattle.std.proofs.Common.{refl, ap, true≢false}
 use Rattle.std.specs.Prelude.{◌++◌, is_some}
 use Rattle.desk_words.specs.Rulings.{Ruling, ruled_within, settled}
 use Rattle.desk_words.specs.declared.answer.Answer.{Answer}

@@ -13,15 +13,17 @@ use Rattle.desk_words.specs.declared.office.MeetingLists.{MeetingLists}
 use Rattle.desk_words.specs.declared.records.Appointment.{Appointment}
 use Rattle.desk_words.specs.declared.records.Authority.{Authority}
 use Rattle.desk_words.specs.declared.records.Poll.{Poll}
+use Rattle.desk_words.specs.declared.records.PresenceMark.{PresenceMark}
 use Rattle.desk_words.specs.declared.records.RegisterRow.{RegisterRow}
 use Rattle.proxy_rules.specs.Cutoffs.{cutoffs_of, is_late_poll}
-use Rattle.proxy_rules.specs.Uses.{Votes, Vote}
+use Rattle.proxy_rules.specs.Uses.{Acts, Votes, Vote}
 use Rattle.proxy_rules.specs.Holdings.{is_ended_of, is_given_by}
 use Rattle.proxy_rules.specs.Parties.{authorises, is_authority_of, is_cast_by, is_demanded_by, is_presence_of, names}
 use Rattle.proxy_rules.specs.Shares.{row_of, shares_of}
 use Rattle.proxy_rules.specs.declared.papers.Cutoffs.{Cutoffs}
 use Rattle.caller_view.specs.Own.{governed_by, known_to_proxy, nothing_of, own_from, received_by}
 use Rattle.caller_view.specs.Rows.{authority_rows_in, givers, member_in, rows_in, rows_of}
+use Rattle.caller_view.specs.Sessions.{each_session}
 use Rattle.caller_view.specs.Views.{meeting_at, own_in, public_in}
 use Rattle.meeting_laws.specs.Laws.{OwnThingsTellWhatGoverns, known_in, shares_governed}
 use Rattle.meeting_laws.specs.OwnThings.{OwnThingsAreOfTheMeeting, TellsOwnAlone, appointment_concerns, authority_concerns, ending_concerns, has_authorised, has_named, row_concerns, what_concerns}
@@ -45,16 +47,8 @@ find-within test wider (x ∷ xs) within =
       ]) refl
     ]) refl
 
--- some value passes exactly where one of those that pass does
-pub any-kept : {X : Type 0} (test : X → Bool) (xs : List X) → list_any test (filter test xs) ≡ list_any test xs
-any-kept test xs = any-filter test test xs ∙ ap (λ t. list_any t xs) (λ i x. twice (test x) i)
-  where
-    twice : (b : Bool) → (b && b) ≡ b
-    twice true = refl
-    twice false = refl
-
 -- two functions that make the same of each value of a list
-map-alike : {X Y : Type 0} (f h : X → Y) (xs : List X) → ((x : X) → In x xs → f x ≡ h x) → map f xs ≡ map h xs
+pub map-alike : {X Y : Type 0} (f h : X → Y) (xs : List X) → ((x : X) → In x xs → f x ≡ h x) → map f xs ≡ map h xs
 map-alike f h [] same = refl
 map-alike f h (x ∷ xs) same =
     let head : f x ≡ h x = same x (inl refl) in
@@ -151,7 +145,8 @@ rows-alike m party =
     let authorised = ap (λ found. map (authority_rows_in about) found) mine
     ∙ map-alike (authority_rows_in about) (authority_rows_in m) (filter (authorises party) m.authorities)
     (λ a here. authority-alike m party a (authorities-given m party a here)) in
-    let present = any-kept (is_presence_of party) m.presences in
+    let presences = ap (map (λ (mark : PresenceMark). mark.session))
+    (filter-within (is_presence_of party) (is_presence_of party) m.presences (λ mark is. is)) in
     let demands = filter-within (is_demanded_by party) (is_demanded_by party) m.demands (λ d is. is) in
     let casts = filter-within (is_cast_by party) (is_cast_by party) m.casts (λ c is. is) in
     λ i. record {
@@ -163,7 +158,7 @@ rows-alike m party =
       received = received i;
       members = members i;
       authorised = authorised i;
-      present = present i;
+      presences = presences i;
       demands = demands i;
       casts = casts i;
     }
@@ -200,5 +195,9 @@ what_governs m closed party now h =
     let members = map (member_in m) (givers received) in
     map-alike (received_by members closed m.meeting m.polls now) (known_in m closed now) received (λ a here.
     let governs : (cutoffs : Cutoffs) → governed_by members cutoffs a.member a.number ≡ shares_governed m cutoffs a = λ cutoffs. governed-alike m party a cutoffs h here in
-    λ i. known_to_proxy a (governs (cutoffs_of m.meeting Votes closed now) i)
+    λ i. known_to_proxy a
+    (each_session (λ session. record {
+      acts = governs (cutoffs_of m.meeting (Acts session) closed now) i;
+      votes = governs (cutoffs_of m.meeting (Votes session) closed now) i;
+    }) m.meeting)
     (map (λ (poll : Poll). record { resolution = poll.resolution; governs = governs (cutoffs_of m.meeting (Vote poll) closed now) i }) (filter (is_late_poll closed) m.polls)))

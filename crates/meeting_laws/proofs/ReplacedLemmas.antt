@@ -1,34 +1,50 @@
 -- What is left to a party gives it the same own things.
-use Rattle.std.proofs.Common.{◌≡◌, ℕ, Bool, true, false, cond, List, [], ◌∷◌, map, filter, refl, ap, sym, ◌∙◌}
+use Rattle.std.proofs.Common.{◌≡◌, ℕ, suc, Bool, true, false, cond, List, [], ◌∷◌, ◌++◌, map, filter, refl, ap, sym, ◌∙◌}
 use Rattle.std.specs.Prelude.{All, None, Some, Option, option_map}
-use Rattle.std.specs.List.{AllZip, list_any, slice_index_or}
+use Rattle.std.specs.List.{AllZip, slice_index_or}
 use Rattle.std.specs.Option.{option_map_or}
 use Rattle.std.proofs.lemmas.Bool.{or_right}
-use Rattle.std.proofs.lemmas.List.Elements.{All-head, All-tail}
+use Rattle.std.proofs.lemmas.List.Elements.{All-cons, All-head, All-nil, All-tail}
 use Rattle.desk_terms.specs.Names.{same_name}
+use Rattle.desk_words.specs.Sessions.{sessions_of}
 use Rattle.desk_words.specs.declared.office.MeetingLists.{MeetingLists}
 use Rattle.desk_words.specs.declared.own.PollGoverned.{PollGoverned}
 use Rattle.desk_words.specs.declared.own.Received.{Received}
+use Rattle.desk_words.specs.declared.own.SessionGoverned.{SessionGoverned}
 use Rattle.desk_words.specs.declared.records.Appointment.{Appointment}
 use Rattle.desk_words.specs.declared.records.Authority.{Authority}
 use Rattle.desk_words.specs.declared.records.Meeting.{Meeting}
 use Rattle.desk_words.specs.declared.records.Poll.{Poll}
+use Rattle.desk_words.specs.declared.records.PresenceMark.{PresenceMark}
 use Rattle.desk_words.specs.declared.records.RegisterRow.{RegisterRow}
+use Rattle.desk_words.specs.declared.records.Session.{Session}
 use Rattle.proxy_rules.specs.Cutoffs.{cutoffs_of, is_late_poll}
-use Rattle.proxy_rules.specs.Uses.{Votes, Vote}
+use Rattle.proxy_rules.specs.Uses.{Acts, Votes, Vote}
 use Rattle.proxy_rules.specs.Governing.{governed_in}
 use Rattle.proxy_rules.specs.Holdings.{holding_with, is_ended_of, is_given_by}
-use Rattle.proxy_rules.specs.Parties.{authorises, is_authority_of, is_presence_of, names}
+use Rattle.proxy_rules.specs.Parties.{authorises, is_authority_of, names}
 use Rattle.proxy_rules.specs.Shares.{row_of, shares_of}
 use Rattle.proxy_rules.specs.declared.papers.Cutoffs.{Cutoffs}
 use Rattle.caller_view.specs.Own.{authorised_in_rows, given_in, known_to_proxy, shares_in}
 use Rattle.caller_view.specs.Rows.{authority_rows_in}
+use Rattle.caller_view.specs.Sessions.{each_session, numbered}
 use Rattle.caller_view.specs.Views.{own_in}
 use Rattle.meeting_laws.specs.Laws.{shares_governed}
 use Rattle.meeting_laws.specs.OwnThings.{authority_concerns}
 use Rattle.meeting_laws.specs.Replaced.{AreOneToTheProxy, HoldsTheSame, TellsNoNameOrPence, TellsWhatIsLeft, all_cutoffs, without_name_and_pence}
-use Rattle.meeting_laws.proofs.OwnThingsLemmas.{any-kept, or-left, what_governs}
+use Rattle.meeting_laws.proofs.OwnThingsLemmas.{or-left, what_governs}
 use Rattle.meeting_laws.proofs.SecrecyLemmas.{filter-within}
+use Rattle.meeting_laws.proofs.SessionLemmas.{in_session}
+
+-- what holds of two lists together holds of each
+
+all-first : {X : Type 0} (P : X → Type 0) (xs ys : List X) → All P (xs ++ ys) → All P xs
+all-first P [] ys all = All-nil P
+all-first P (x ∷ xs) ys all = All-cons P x xs (All-head P x (xs ++ ys) all) (all-first P xs ys (All-tail P x (xs ++ ys) all))
+
+all-last : {X : Type 0} (P : X → Type 0) (xs ys : List X) → All P (xs ++ ys) → All P ys
+all-last P [] ys all = all
+all-last P (x ∷ xs) ys all = all-last P xs ys (All-tail P x (xs ++ ys) all)
 
 -- ---- appointments that name the party
 
@@ -50,22 +66,47 @@ module _ (one other : MeetingLists) (closed : List ℕ) (now : ℕ) where
       let tail = late-alike meeting a b polls (All-tail alike (cutoffs_of meeting (Vote poll) closed now) rest all) in
       λ i. head i ∷ tail i
 
+  -- what it governs in a session, by this notice
+  abbrev in_session_by : Meeting → MeetingLists → Appointment → ℕ → SessionGoverned
+  in_session_by meeting m a = in_session meeting closed now (λ cutoffs. shares_governed m cutoffs a)
+
+  -- what two appointments govern in sessions
+  sessions-alike : (meeting : Meeting) (a b : Appointment) (n : ℕ) (sessions : List Session)
+      → All (λ cutoffs. shares_governed one cutoffs a ≡ shares_governed other cutoffs b) (numbered (λ number (s : Session). cutoffs_of meeting (Acts number) closed now) n sessions)
+      → All (λ cutoffs. shares_governed one cutoffs a ≡ shares_governed other cutoffs b) (numbered (λ number (s : Session). cutoffs_of meeting (Votes number) closed now) n sessions)
+      → numbered (λ number (s : Session). in_session_by meeting one a number) n sessions ≡ numbered (λ number (s : Session). in_session_by meeting other b number) n sessions
+  sessions-alike meeting a b n [] acts votes = refl
+  sessions-alike meeting a b n (s ∷ sessions) acts votes =
+      let alike : Cutoffs → Type 0 = λ cutoffs. shares_governed one cutoffs a ≡ shares_governed other cutoffs b in
+      let later_acts = numbered (λ number (s : Session). cutoffs_of meeting (Acts number) closed now) (suc n) sessions in
+      let later_votes = numbered (λ number (s : Session). cutoffs_of meeting (Votes number) closed now) (suc n) sessions in
+      let for_acts = All-head alike (cutoffs_of meeting (Acts n) closed now) later_acts acts in
+      let for_votes = All-head alike (cutoffs_of meeting (Votes n) closed now) later_votes votes in
+      let head : in_session_by meeting one a n ≡ in_session_by meeting other b n = λ i. record { acts = for_acts i; votes = for_votes i } in
+      let tail = sessions-alike meeting a b (suc n) sessions
+      (All-tail alike (cutoffs_of meeting (Acts n) closed now) later_acts acts)
+      (All-tail alike (cutoffs_of meeting (Votes n) closed now) later_votes votes) in
+      λ i. head i ∷ tail i
+
   -- an appointment as its proxy is to know it, by this notice and these polls
   abbrev known_by : Meeting → List Poll → MeetingLists → Appointment → Received
   known_by meeting polls m a =
-      known_to_proxy a (shares_governed m (cutoffs_of meeting Votes closed now) a)
+      known_to_proxy a (each_session (in_session_by meeting m a) meeting)
       (map (for_poll_by meeting m a) (filter (is_late_poll closed) polls))
 
   -- two appointments that are one to their proxy are known alike
   known-alike : (a b : Appointment) → AreOneToTheProxy one other closed now a b → known_by one.meeting one.polls one a ≡ known_by one.meeting one.polls other b
   known-alike a b alike =
       let same : Cutoffs → Type 0 = λ cutoffs. shares_governed one cutoffs a ≡ shares_governed other cutoffs b in
+      let meeting = one.meeting in
       let late = filter (is_late_poll closed) one.polls in
-      let cutoffs = cutoffs_of one.meeting Votes closed now in
-      let rest = map (λ (p : Poll). cutoffs_of one.meeting (Vote p) closed now) late in
-      let governs = All-head same cutoffs rest alike.governs in
-      let polls = late-alike one.meeting a b late (All-tail same cutoffs rest alike.governs) in
-      λ i. known_to_proxy (alike.same i) (governs i) (polls i)
+      let for_acts = each_session (λ number. cutoffs_of meeting (Acts number) closed now) meeting in
+      let for_votes = each_session (λ number. cutoffs_of meeting (Votes number) closed now) meeting in
+      let for_late = map (λ (p : Poll). cutoffs_of meeting (Vote p) closed now) late in
+      let in_time = all-first same (for_acts ++ for_votes) for_late alike.governs in
+      let sessions = sessions-alike meeting a b 1 (sessions_of meeting) (all-first same for_acts for_votes in_time) (all-last same for_acts for_votes in_time) in
+      let polls = late-alike meeting a b late (all-last same (for_acts ++ for_votes) for_late alike.governs) in
+      λ i. known_to_proxy (alike.same i) (sessions i) (polls i)
 
   all-alike : (xs ys : List Appointment) → AllZip (AreOneToTheProxy one other closed now) xs ys
       → map (known_by one.meeting one.polls one) xs ≡ map (known_by one.meeting one.polls other) ys
@@ -118,9 +159,7 @@ what_is_left one other closed party now h k left =
     ∙ sym (what_governs other closed party now k) in
     let authorised = authorised-alike one other (filter (authorises party) one.authorities) left.corporations
     ∙ ap (λ found. map authorised_in_rows (map (authority_rows_in other) found)) mine in
-    let present = sym (any-kept (is_presence_of party) one.presences)
-    ∙ ap (λ (m : MeetingLists). list_any (is_presence_of party) m.presences) left.rest
-    ∙ any-kept (is_presence_of party) other.presences in
+    let presences = ap (λ (m : MeetingLists). map (λ (mark : PresenceMark). mark.session) m.presences) left.rest in
     let demands = ap (λ (m : MeetingLists). m.demands) left.rest in
     let casts = ap (λ (m : MeetingLists). m.casts) left.rest in
     λ i. record {
@@ -130,7 +169,7 @@ what_is_left one other closed party now h k left =
       persons = persons i;
       received = received i;
       authorised = authorised i;
-      present = present i;
+      presences = presences i;
       demands = demands i;
       casts = casts i;
     }

@@ -1,5 +1,5 @@
 -- What is wrong with wrong tellings of own things is caught.
-use Rattle.std.proofs.Common.{◌≡◌, true, false, [], ◌∷◌, length, refl, ap, sym, arith, true≢false}
+use Rattle.std.proofs.Common.{◌≡◌, [], ◌∷◌, length, refl, ap, arith}
 use Rattle.desk_words.specs.declared.office.MeetingLists.{MeetingLists}
 use Rattle.caller_view.specs.declared.views.OwnView.{OwnView}
 use Rattle.meeting_laws.specs.OwnThings.{Telling, TellsOwnAlone}
@@ -19,7 +19,7 @@ presence_more = record {
   first = refl;
   second = refl;
   agree = refl;
-  apart = λ h. (let told : false ≡ true = ap (λ (own : OwnView). own.present) h in absurd (true≢false (sym told)));
+  apart = λ h. (let told : 0 ≡ 1 = ap (λ (own : OwnView). length own.presences) h in absurd (omega arith));
 }
 
 pub demands_more : TellsMore demands_of_all quiet_meeting meeting_with_demand a_member

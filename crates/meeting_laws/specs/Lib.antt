@@ -1,7 +1,9 @@
+pub mod Adjourned
 pub mod Laws
 pub mod Loads
 pub mod Names
 pub mod OfficeReads
+pub mod OneSession
 pub mod OwnThings
 pub mod Proxies
 pub mod Reads
@@ -10,6 +12,7 @@ pub mod Replaced
 pub mod Runs
 pub mod Secrecy
 pub mod Worlds
+pub mod WrongAdjourned
 pub mod WrongAnswers
 pub mod WrongLoads
 pub mod WrongOfficeReads

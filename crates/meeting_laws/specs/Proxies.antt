@@ -8,6 +8,7 @@ use Rattle.desk_terms.specs.declared.kinds.Capacity.TheVariants.{Proxy}
 use Rattle.desk_words.specs.Finding.{poll_on}
 use Rattle.desk_words.specs.Office.{is_meeting}
 use Rattle.desk_words.specs.Seen.{Day, Moment, Number, Party, Place}
+use Rattle.desk_words.specs.Sessions.{last_number}
 use Rattle.desk_words.specs.declared.office.MeetingLists.{MeetingLists}
 use Rattle.desk_words.specs.declared.records.Appointment.{Appointment}
 use Rattle.desk_words.specs.declared.records.RegisterRow.{RegisterRow}
@@ -20,19 +21,19 @@ use Rattle.proxy_rules.specs.Parties.{names}
 use Rattle.proxy_rules.specs.Uses.{Use, vote_on}
 use Rattle.proxy_rules.specs.declared.papers.Cutoffs.{Cutoffs}
 use Rattle.caller_view.specs.Casts.{use_on}
-use Rattle.caller_view.specs.Rights.{is_against, is_governed, is_uninstructed}
+use Rattle.caller_view.specs.Rights.{governed_for, is_against, is_governed, is_uninstructed}
 use Rattle.caller_view.specs.Views.{own_in, public_in}
 
 -- the use of appointments for votes on a resolution, as the public record of the meeting tells
 -- (section 327)
 abbrev pub use_in : MeetingLists → List Day → Number → Use
-use_in m closed resolution = use_on (public_in (Some m) closed) resolution
+use_in m closed resolution = use_on (public_in (Some m) closed) m.meeting resolution
 
 -- until when appointments and endings count for the poll on a resolution, late or not (sections 327
 -- and 330)
 abbrev pub cutoffs_on : MeetingLists → List Day → Moment → Number → Cutoffs
 cutoffs_on m closed now resolution =
-    cutoffs_of m.meeting (vote_on (poll_on m.polls resolution)) closed now
+    cutoffs_of m.meeting (vote_on (last_number m.meeting) (poll_on m.polls resolution)) closed now
 
 -- the appointment that governs a share of the member for the poll of a vote, by what the meeting
 -- keeps of the member (section 324)
@@ -53,8 +54,8 @@ some_pass test from to = nat_lt 0 (places_that (λ place. nat_le from place && t
 -- the party governs a member's share for the poll of a vote, as is read from its own things
 abbrev pub is_told_to_govern : MeetingLists → List Day → Party → Moment → NewCast → Place → Bool
 is_told_to_govern m closed party now new place =
-    let purpose = use_in m closed new.resolution in
-    is_governed (own_in m closed party now).received closed purpose new place
+    let governs = governed_for closed (use_in m closed new.resolution) in
+    is_governed (own_in m closed party now).received governs new place
 
 -- a party governs a member's share for the poll of a vote, as is read from its own things, exactly
 -- where the appointment that governs the share by the rules names the party (sections 324 and 327)
@@ -72,7 +73,8 @@ abbrev pub InstructionsBindByTheRules : Type 0
 InstructionsBindByTheRules =
     (m : MeetingLists) (closed : List Day) (party : Party) (now : Moment) (new : NewCast)
     → is_meeting m ≡ true → is_range new.from new.to ≡ true
-    → is_against (own_in m closed party now) closed (use_in m closed new.resolution) new Proxy
+    → is_against (own_in m closed party now) (governed_for closed (use_in m closed new.resolution))
+    new Proxy
     ≡ some_pass
     (λ place. option_map_or (binds_otherwise party new) (governing_for m closed now new place)
     false)
@@ -99,5 +101,6 @@ abbrev pub InstructedByTheRules : Type 0
 InstructedByTheRules =
     (m : MeetingLists) (closed : List Day) (party : Party) (now : Moment) (resolution : Number)
     → is_meeting m ≡ true
-    → is_uninstructed (own_in m closed party now) closed (use_in m closed resolution) resolution
+    → is_uninstructed (own_in m closed party now) (governed_for closed (use_in m closed resolution))
+    resolution
     ≡ not (list_any (is_instructed_in m closed now party resolution) m.register)

@@ -1,9 +1,9 @@
 -- A proxy learns of its member's other appointments what they leave to it, and nothing else
 -- (sections 324 and 330).
-use Rattle.std.specs.Prelude.{◌≡◌, true, List, [], ◌∷◌, All, filter, map, option_map}
+use Rattle.std.specs.Prelude.{◌≡◌, true, List, [], ◌++◌, All, filter, map, option_map}
 use Rattle.std.specs.List.{AllZip}
 use Rattle.desk_words.specs.Office.{is_meeting}
-use Rattle.desk_words.specs.Seen.{Day, Moment, Party}
+use Rattle.desk_words.specs.Seen.{Day, Moment, Party, SessionNumber}
 use Rattle.desk_words.specs.declared.office.MeetingLists.{MeetingLists}
 use Rattle.desk_words.specs.declared.records.Appointment.{Appointment}
 use Rattle.desk_words.specs.declared.records.Authority.{Authority}
@@ -13,17 +13,21 @@ use Rattle.proxy_rules.specs.Cutoffs.{cutoffs_of, is_late_poll}
 use Rattle.proxy_rules.specs.Holdings.{is_ended_of, is_given_by}
 use Rattle.proxy_rules.specs.Parties.{authorises, names}
 use Rattle.proxy_rules.specs.Shares.{row_of}
-use Rattle.proxy_rules.specs.Uses.{Votes, Vote}
+use Rattle.proxy_rules.specs.Uses.{Acts, Votes, Vote}
 use Rattle.proxy_rules.specs.declared.papers.Cutoffs.{Cutoffs}
+use Rattle.caller_view.specs.Sessions.{each_session}
 use Rattle.meeting_laws.specs.Laws.{shares_governed}
 use Rattle.meeting_laws.specs.OwnThings.{Telling, what_concerns}
 
--- the cutoffs for votes at a meeting, and those for votes on each of its late polls (sections 327
--- and 330)
+-- the cutoffs for acts in each session of a meeting, those for votes in each, and those for votes
+-- on each of its late polls (sections 327 and 330)
 abbrev pub all_cutoffs : MeetingLists → List Day → Moment → List Cutoffs
 all_cutoffs m closed now =
-    cutoffs_of m.meeting Votes closed now
-    ∷ map (λ (poll : Poll). cutoffs_of m.meeting (Vote poll) closed now)
+    each_session (λ (session : SessionNumber). cutoffs_of m.meeting (Acts session) closed now)
+    m.meeting
+    ++ each_session (λ (session : SessionNumber). cutoffs_of m.meeting (Votes session) closed now)
+    m.meeting
+    ++ map (λ (poll : Poll). cutoffs_of m.meeting (Vote poll) closed now)
     (filter (is_late_poll closed) m.polls)
 
 -- an appointment without its number, which counts what the member gave to others
@@ -31,7 +35,7 @@ abbrev pub without_number : Appointment → Appointment
 without_number a = record a { number = 0 }
 
 -- two appointments, each in its meeting, are one to the proxy whom they name: they are the same but
--- for their numbers, and govern the same shares, for the meeting and for each late poll (sections
+-- for their numbers, and govern the same shares, in each session and for each late poll (sections
 -- 324, 327 and 330)
 pub record AreOneToTheProxy (one other : MeetingLists) (closed : List Day) (now : Moment)
     (a b : Appointment) : Type 0 where

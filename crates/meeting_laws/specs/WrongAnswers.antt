@@ -68,16 +68,17 @@ opened_meeting = record {
   company = Private;
   kind = General;
   given = 0;
-  appointed = 0;
+  first = record { appointed = 0; opened = Some 0 };
+  later = [];
   record_moment = 0;
   resolutions = record { kind = Ordinary; text = codes "R" } ∷ [];
   loaded = true;
-  opened = Some 0;
 }
 
 -- a poll on that resolution, which is started
 abbrev pub started_poll : Poll
 started_poll = record {
+  session = 1;
   resolution = 1;
   ordered = 0;
   take = 0;

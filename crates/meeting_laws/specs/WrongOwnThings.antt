@@ -1,10 +1,11 @@
 -- Wrong tellings of own things, and for each two meetings that differ in another member's record
 -- alone, and that it tells apart.
-use Rattle.std.specs.Prelude.{◌≡◌, IsTrue, nat_lt, [], ◌∷◌, length, map}
+use Rattle.std.specs.Prelude.{◌≡◌, IsTrue, [], ◌∷◌, map}
 use Rattle.desk_words.specs.Office.{is_meeting}
 use Rattle.desk_words.specs.Seen.{Party}
 use Rattle.desk_words.specs.declared.office.MeetingLists.{MeetingLists}
 use Rattle.desk_words.specs.declared.records.DemandMark.{DemandMark}
+use Rattle.desk_words.specs.declared.records.PresenceMark.{PresenceMark}
 use Rattle.caller_view.specs.Views.{own_in}
 use Rattle.meeting_laws.specs.OwnThings.{Telling, what_concerns}
 use Rattle.meeting_laws.specs.WrongAnswers.{another, meeting_with_casts}
@@ -13,10 +14,10 @@ use Rattle.meeting_laws.specs.WrongAnswers.{another, meeting_with_casts}
 abbrev pub votes_of_all : Telling
 votes_of_all m closed party now = record (own_in m closed party now) { casts = m.casts }
 
--- the party is told that it is present where anybody is
+-- the party is told that it is present in each session in which anybody is
 abbrev pub presence_of_any : Telling
 presence_of_any m closed party now = record (own_in m closed party now) {
-  present = nat_lt 0 (length m.presences);
+  presences = map (λ (mark : PresenceMark). mark.session) m.presences;
 }
 
 -- a demand, as though the party had made it
@@ -37,13 +38,13 @@ quiet_meeting = meeting_with_casts []
 -- the same meeting, where the other member is present
 abbrev pub meeting_with_presence : MeetingLists
 meeting_with_presence = record quiet_meeting {
-  presences = record { party = another; moment = 0 } ∷ [];
+  presences = record { session = 1; party = another; moment = 0 } ∷ [];
 }
 
 -- the same meeting, where the other member demanded the poll
 abbrev pub meeting_with_demand : MeetingLists
 meeting_with_demand = record quiet_meeting {
-  demands = record { resolution = 1; party = another; moment = 0 } ∷ [];
+  demands = record { session = 1; resolution = 1; party = another; moment = 0 } ∷ [];
 }
 
 -- two meetings that agree in what concerns a party are told apart by what it is told as its own

@@ -9,6 +9,7 @@ mod proxies;
 mod reads;
 mod refusals;
 mod runs;
+mod sessions;
 mod worlds;
 
 ghost use Rattle.meeting_laws.specs.Laws.{DemandsByCapacity};
@@ -24,11 +25,14 @@ pub use proxies::proxies_cast_by_the_rules;
 pub use reads::{rows_give_own_things, too_little_read_is_caught, what_is_read_is_enough};
 pub use refusals::{lowest_refusal, refused_calls_change_nothing};
 pub use runs::runs_go_on;
+pub use sessions::{
+    capacities_by_votes_are_caught, later_endings_take_votes_alone, one_session_is_the_meeting,
+};
 use vote_rules::laws::tallies_read_their_own_casts;
 pub use worlds::{names, running_total_is_caught, two_worlds};
 
 /// A party may demand a poll, as is read from its own things alone, exactly where it has at least
-/// one of the capacities at the meeting by which the quorum counts persons.
+/// one of the capacities in the last session by which the quorum counts persons.
 pub fn demands_by_capacity()
     ensures { DemandsByCapacity }
 {}

@@ -31,7 +31,7 @@ pub fn others_things_are_caught()
 {}
 
 /// Own things tell a proxy of each appointment that names it the shares that it governs by the
-/// rules, for the meeting and for each late poll.
+/// rules: in each session, for acts and for votes, and for each late poll.
 pub fn own_things_tell_what_governs()
     ensures { OwnThingsTellWhatGoverns }
 {}
@@ -39,9 +39,10 @@ pub fn own_things_tell_what_governs()
 /// A proxy learns of its member's other appointments what they leave to it, and nothing else. What
 /// a party is told of a meeting as its own is the same in any two meetings that leave it the same,
 /// whatever the members who named it gave to others, ended, and hold. The appointments that name it
-/// are the same there but for their numbers, and govern the same shares, for the meeting and for
-/// each late poll (sections 324, 327 and 330). The rows of corporations that authorised it may
-/// differ in name and pence there. So may all rows but its own, where nothing else differs.
+/// are the same there but for their numbers, and govern the same shares: in each session, for acts
+/// and for votes, and for each late poll (sections 324, 327 and 330). The rows of corporations that
+/// authorised it may differ in name and pence there. So may all rows but its own, where nothing else
+/// differs.
 pub fn proxies_learn_what_is_left()
     ensures left { TellsWhatIsLeft own_in }
     ensures rows { TellsNoNameOrPence own_in }

@@ -5,10 +5,11 @@ use Rattle.desk_terms.specs.Names.{same_name}
 use Rattle.desk_words.proofs.RowLemmas.{same_name-true, same_name-refl}
 use Rattle.desk_words.specs.Changes.{after_some, change_at, change_meeting, changed, entered}
 use Rattle.desk_words.specs.Finding.{meeting_named}
+use Rattle.desk_words.specs.Sessions.{last_later, open_there}
 use Rattle.desk_words.specs.declared.change.Change.TheVariants.{InMeeting}
 use Rattle.desk_words.specs.declared.change.Entry.{Entry}
 use Rattle.desk_words.specs.declared.change.MeetingChange.{MeetingChange}
-use Rattle.desk_words.specs.declared.change.MeetingChange.TheVariants.{Enter}
+use Rattle.desk_words.specs.declared.change.MeetingChange.TheVariants.{Enter, SetOpened}
 use Rattle.desk_words.specs.declared.office.MeetingLists.{MeetingLists}
 use Rattle.desk_words.specs.declared.office.OfficeLists.{OfficeLists}
 use Rattle.desk_words.specs.declared.records.Meeting.{Meeting}
@@ -18,6 +19,7 @@ use Rattle.meeting_core.proofs.OfficeKept.{entered_meeting, entered_polls}
 -- no change gives a meeting another name
 pub changed-name : (change : MeetingChange) (m : MeetingLists) → (changed change m).meeting.id ≡ m.meeting.id
 changed-name (Enter entry) m = ap (λ (meeting : Meeting). meeting.id) (entered_meeting entry m)
+changed-name (SetOpened moment) m = elim (last_later m.meeting) as (λ found. (open_there moment m.meeting found).id ≡ m.meeting.id) [ None ↦ refl | Some s ↦ refl ]
 changed-name other m = refl
 
 -- of three names, the first of which is not the second, but the third, the second is not the third

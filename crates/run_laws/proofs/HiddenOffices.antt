@@ -13,6 +13,7 @@ use Rattle.desk_words.specs.Finding.{meeting_named, poll_on}
 use Rattle.desk_words.specs.Office.{implies}
 use Rattle.desk_words.specs.Polls.{is_closed, is_started, is_taken_after, is_waiting, there_is}
 use Rattle.desk_words.specs.Rulings.{asked_first, in_found, no_resolution, ruled_within, settled, unless}
+use Rattle.desk_words.specs.Sessions.{is_opened, last_number, last_session}
 use Rattle.desk_words.specs.declared.answer.Answer.{Answer}
 use Rattle.desk_words.specs.declared.caller.Caller.TheVariants as caller
 use Rattle.desk_words.specs.declared.change.Change.{Change}
@@ -163,7 +164,7 @@ declare-uncounted resolution m number =
 
 tally-uncounted : (resolution : ℕ) (m : MeetingLists) (closed : List ℕ) (now number : ℕ) → declaration_of (uncounted_in resolution m) closed now number ≡ declaration_of m closed now number
 tally-uncounted resolution m closed now number =
-    poll-seen (λ found. result_on (slice_get m.meeting.resolutions (number - 1)) (tally_of (cutoffs_of m.meeting (vote_on found) closed now) m.register m.appointments m.endings m.authorities m.casts number))
+    poll-seen (λ found. result_on (slice_get m.meeting.resolutions (number - 1)) (tally_of (cutoffs_of m.meeting (vote_on (last_number m.meeting) found) closed now) m.register m.appointments m.endings m.authorities m.casts number))
     resolution number m.polls (λ p a b. refl)
 
 ruling-uncounted : (resolution : ℕ) (m : MeetingLists) (closed : List ℕ) (now : ℕ) (what : OfficeRequest) → ruling_on closed now what (uncounted_in resolution m) ≡ ruling_on closed now what m
@@ -173,11 +174,11 @@ ruling-uncounted resolution m closed now OpenMeeting = refl
 ruling-uncounted resolution m closed now (Order new) =
     poll-seen (λ found. record {
       cases = no_resolution m.meeting new.resolution
-          ∷ record { refusal = NotOpened; holds = is_none m.meeting.opened }
+          ∷ record { refusal = NotOpened; holds = not (is_opened (last_session m.meeting)) }
           ∷ record { refusal = Early; holds = nat_lt new.take now }
           ∷ record { refusal = PollOrdered; holds = is_some found }
           ∷ record { refusal = DemandTooSmall; holds = not new.chair && not (demand_noted m closed now new.resolution).reached } ∷ [];
-      accepted = record { reply = reply.Ordered; change = Some (AddPoll (poll_of now new)) };
+      accepted = record { reply = reply.Ordered; change = Some (AddPoll (poll_of m.meeting now new)) };
     }) resolution new.resolution m.polls (λ p a b. refl)
 ruling-uncounted resolution m closed now (Start number) =
     poll-seen (λ found. record {

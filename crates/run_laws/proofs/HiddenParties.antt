@@ -11,6 +11,7 @@ use Rattle.desk_words.proofs.RowLemmas.{same_name-true}
 use Rattle.desk_words.specs.Office.{implies}
 use Rattle.desk_words.specs.Polls.{is_closed, is_waiting, there_is}
 use Rattle.desk_words.specs.Rulings.{Ruling, asked_first, no_resolution, noted, settled, within}
+use Rattle.desk_words.specs.Sessions.{is_opened, last_number, last_session}
 use Rattle.desk_words.specs.declared.answer.Answer.{Answer}
 use Rattle.desk_words.specs.declared.caller.Caller.TheVariants as caller
 use Rattle.desk_words.specs.declared.change.Change.{Change}
@@ -31,17 +32,18 @@ use Rattle.desk_words.specs.declared.request.PartyRequest.{PartyRequest}
 use Rattle.desk_words.specs.declared.request.PartyRequest.TheVariants.{Notice, Demand, Cast, Instructed}
 use Rattle.desk_words.specs.declared.request.Request.{Request}
 use Rattle.desk_words.specs.declared.request.Request.TheVariants as asked
-use Rattle.proxy_rules.specs.Cutoffs.{cutoffs_of, is_late_poll}
+use Rattle.proxy_rules.specs.Cutoffs.{is_late_poll}
 use Rattle.proxy_rules.specs.Parties.{is_cast_by}
-use Rattle.proxy_rules.specs.Uses.{Votes, vote_on}
+use Rattle.proxy_rules.specs.Uses.{vote_on}
 use Rattle.caller_view.proofs.OwnLemmas.{filter-swap}
 use Rattle.caller_view.specs.Answers.{ruling_for}
-use Rattle.caller_view.specs.Attendance.{demand_mark, own_demanded, may_demand}
+use Rattle.caller_view.specs.Attendance.{demand_mark, is_present, own_demanded, may_demand}
 use Rattle.caller_view.specs.Casts.{block_of, cast_of, has_cast_enough}
-use Rattle.caller_view.specs.Own.{governed_by, known_to_proxy, own_from, poll_governed}
+use Rattle.caller_view.specs.Own.{known_to_proxy, own_from, poll_governed, session_governed}
 use Rattle.caller_view.specs.Reads.{cast_on, own_read}
-use Rattle.caller_view.specs.Rights.{is_against, is_not_own, is_uninstructed, may_vote_for}
+use Rattle.caller_view.specs.Rights.{governed_for, is_against, is_not_own, is_uninstructed, may_vote_for}
 use Rattle.caller_view.specs.Rows.{rows_in, rows_of}
+use Rattle.caller_view.specs.Sessions.{each_session}
 use Rattle.caller_view.specs.Views.{meeting_at, own_of, public_in, public_of}
 use Rattle.caller_view.specs.declared.rows.MemberRows.{MemberRows}
 use Rattle.caller_view.specs.declared.rows.OwnRows.{OwnRows}
@@ -85,7 +87,7 @@ own-uncounted : (resolution : ℕ) (m : MeetingLists) (closed : List ℕ) (rows 
 own-uncounted resolution m closed rows now =
     λ i. record (own_from rows (public_in (Some m) closed) now) {
       received = map (λ (a : Appointment).
-          known_to_proxy a (governed_by rows.members (cutoffs_of m.meeting Votes closed now) a.member a.number) (late-uncounted resolution rows.members closed m.meeting now a.member a.number m.polls i))
+          known_to_proxy a (each_session (session_governed rows.members closed m.meeting now a.member a.number) m.meeting) (late-uncounted resolution rows.members closed m.meeting now a.member a.number m.polls i))
           rows.received;
     }
 
@@ -100,11 +102,11 @@ ruling-uncounted resolution m closed own now (Demand number) h =
     poll-seen (λ found. record {
       cases = no_resolution m.meeting number
           ∷ record { refusal = NoRegister; holds = not m.meeting.loaded }
-          ∷ record { refusal = NotOpened; holds = is_none m.meeting.opened }
-          ∷ record { refusal = NotPresent; holds = not own.present }
-          ∷ record { refusal = NoRight; holds = not (may_demand own) }
+          ∷ record { refusal = NotOpened; holds = not (is_opened (last_session m.meeting)) }
+          ∷ record { refusal = NotPresent; holds = not (is_present m.meeting own) }
+          ∷ record { refusal = NoRight; holds = not (may_demand m.meeting own) }
           ∷ record { refusal = PollOrdered; holds = is_some found } ∷ [];
-      accepted = noted (own_demanded own number) (entry.Demand (demand_mark own now number));
+      accepted = noted (own_demanded m.meeting own number) (entry.Demand (demand_mark m.meeting own now number));
     }) resolution number m.polls (λ p a b. refl)
 ruling-uncounted resolution m closed own now (Cast new) h =
     poll-seen (λ found. record {
@@ -116,8 +118,8 @@ ruling-uncounted resolution m closed own now (Cast new) h =
           ∷ record { refusal = NoPoll; holds = is_none found }
           ∷ record { refusal = PollNotOpen; holds = there_is is_waiting found }
           ∷ record { refusal = PollClosed; holds = there_is is_closed found }
-          ∷ record { refusal = NotYours; holds = is_not_own own closed (vote_on found) new new.capacity }
-          ∷ record { refusal = AgainstInstruction; holds = is_against own closed (vote_on found) new new.capacity } ∷ [];
+          ∷ record { refusal = NotYours; holds = is_not_own own (governed_for closed (vote_on (last_number m.meeting) found)) new new.capacity }
+          ∷ record { refusal = AgainstInstruction; holds = is_against own (governed_for closed (vote_on (last_number m.meeting) found)) new new.capacity } ∷ [];
       accepted = record { reply = reply.Recorded; change = Some (entry.Cast (cast_of own now new.resolution (block_of new))) };
     }) resolution new.resolution m.polls (λ p a b. refl)
 ruling-uncounted resolution m closed own now (Instructed number) h =
@@ -128,7 +130,7 @@ ruling-uncounted resolution m closed own now (Instructed number) h =
           ∷ record { refusal = NoPoll; holds = is_none found }
           ∷ record { refusal = PollNotOpen; holds = there_is is_waiting found }
           ∷ record { refusal = PollClosed; holds = there_is is_closed found }
-          ∷ record { refusal = NotYours; holds = is_uninstructed own closed (vote_on found) number } ∷ [];
+          ∷ record { refusal = NotYours; holds = is_uninstructed own (governed_for closed (vote_on (last_number m.meeting) found)) number } ∷ [];
       accepted = record { reply = reply.Recorded; change = Some (entry.Cast (cast_of own now number AsInstructed)) };
     }) resolution number m.polls (λ p a b. refl)
 ruling-uncounted resolution m closed own now what h = refl
@@ -253,12 +255,12 @@ entered-same enough secret o party now at what none =
 -- what is entered by one of them is secret
 secret-entry : (secret : Secret) (at : List ℕ) (own : OwnView) (now : ℕ) (what : PartyRequest)
     → secret.voters own.party ≡ true → same_name at secret.meeting ≡ true → is_vote_request secret.resolution what ≡ true
-    → hidden_some secret (option_map (λ e. InMeeting at (Enter e)) (the_entry own now what)) ≡ None
-secret-entry secret at own now (Cast new) voter is on =
+    → (meeting : Meeting) → hidden_some secret (option_map (λ e. InMeeting at (Enter e)) (the_entry meeting own now what)) ≡ None
+secret-entry secret at own now (Cast new) voter is on meeting =
     (λ i. cond (is i) (option_map (InMeeting at) (cond (on i && voter i) None (Some (Enter (entry.Cast (cast_of own now new.resolution (block_of new))))))) (Some (InMeeting at (Enter (entry.Cast (cast_of own now new.resolution (block_of new)))))))
-secret-entry secret at own now (Instructed number) voter is on =
+secret-entry secret at own now (Instructed number) voter is on meeting =
     (λ i. cond (is i) (option_map (InMeeting at) (cond (on i && voter i) None (Some (Enter (entry.Cast (cast_of own now number AsInstructed)))))) (Some (InMeeting at (Enter (entry.Cast (cast_of own now number AsInstructed))))))
-secret-entry secret at own now other voter is on = absurd (true≢false (sym on))
+secret-entry secret at own now other voter is on meeting = absurd (true≢false (sym on))
 
 -- a call of a party
 abbrev pub party_call : ℕ → List ℕ → Request → Call

@@ -1,11 +1,11 @@
 -- What is kept of a list, and of a list with one value more.
-use Rattle.std.proofs.Common.{◌≡◌, ℕ, Bool, true, false, ◌&&◌, ◌||◌, not, cond, List, [], ◌∷◌, ◌++◌, map, filter, refl, ap, ◌∙◌}
+use Rattle.std.proofs.Common.{◌≡◌, ℕ, Bool, true, false, ◌&&◌, not, cond, List, [], ◌∷◌, ◌++◌, map, filter, refl, ap, ◌∙◌}
 use Rattle.std.specs.Prelude.{Option, Some, None, find}
 use Rattle.std.specs.Cmp.{first_so, second_so}
 use Rattle.std.specs.Cmp.Derive.{both_true}
-use Rattle.std.specs.List.{list_all, list_any}
-use Rattle.std.proofs.Math.Bool.{or-false}
-use Rattle.std.proofs.lemmas.List.Folds.{list_all-append, list_any-append}
+use Rattle.std.specs.List.{list_all}
+use Rattle.std.proofs.lemmas.List.{map-append}
+use Rattle.std.proofs.lemmas.List.Folds.{list_all-append}
 use Rattle.desk_lists.proofs.Kept.{all-filter}
 use Rattle.desk_terms.specs.Names.{same_name}
 use Rattle.desk_words.specs.Office.{implies}
@@ -26,8 +26,15 @@ filter-more p (y ∷ ys) x =
     out true = refl
     out false = refl
 
-pub any-more : {X : Type 0} (p : X → Bool) (xs : List X) (x : X) → list_any p (xs ++ x ∷ []) ≡ (list_any p xs || p x)
-any-more p xs x = list_any-append p xs (x ∷ []) ∙ ap (λ b. list_any p xs || b) (or-false (p x))
+-- what is made of those that pass
+pub made-more : {X Y : Type 0} (make : X → Y) (p : X → Bool) (xs : List X) (x : X)
+    → map make (filter p (xs ++ x ∷ [])) ≡ cond (p x) (map make (filter p xs) ++ make x ∷ []) (map make (filter p xs))
+made-more make p xs x =
+    ap (map make) (filter-more p xs x)
+    ∙ elim (p x) as (λ b. map make (cond b (filter p xs ++ x ∷ []) (filter p xs)) ≡ cond b (map make (filter p xs) ++ make x ∷ []) (map make (filter p xs))) [
+      | true ↦ map-append make (filter p xs) (x ∷ [])
+      | false ↦ refl
+    ]
 
 pub all-more : {X : Type 0} (p : X → Bool) (xs : List X) (x : X) → list_all p xs ≡ true → p x ≡ true → list_all p (xs ++ x ∷ []) ≡ true
 all-more p xs x all good = list_all-append p xs (x ∷ []) ∙ both_true all (ap (λ b. b && true) good)

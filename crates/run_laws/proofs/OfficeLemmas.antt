@@ -1,8 +1,7 @@
 -- What a call of the office leaves near a viewer.
-use Rattle.std.proofs.Common.{◌≡◌, ℕ, Bool, true, false, ◌||◌, cond, List, [], refl, ap, sym, ◌∙◌, subst}
-use Rattle.std.specs.Prelude.{Option, Some, None, option_map, is_some}
+use Rattle.std.proofs.Common.{◌≡◌, ℕ, Bool, true, false, ◌&&◌, ◌||◌, cond, List, [], ◌∷◌, ◌++◌, filter, map, refl, ap, sym, ◌∙◌, subst}
+use Rattle.std.specs.Prelude.{◌==◌, Option, Some, None, option_map, is_some}
 use Rattle.std.specs.List.{list_any}
-use Rattle.std.proofs.Math.Bool.{or-false, or-true}
 use Rattle.desk_terms.specs.Names.{same_name}
 use Rattle.desk_terms.specs.Refusals.{first_refusal}
 use Rattle.desk_words.proofs.RowLemmas.{same_name-true, same_name-refl, same_rows-Decides}
@@ -10,6 +9,7 @@ use Rattle.desk_words.specs.Changes.{after_some, changed, new_lists}
 use Rattle.desk_words.specs.Keys.{same_keys}
 use Rattle.desk_words.specs.Rows.{same_rows}
 use Rattle.desk_words.specs.Rulings.{Ruling, in_found, loaded, noted, ruled_within, settled, unless, within}
+use Rattle.desk_words.specs.Sessions.{last_number}
 use Rattle.desk_words.specs.declared.answer.Answer.{Answer}
 use Rattle.desk_words.specs.declared.caller.Caller.TheVariants as caller
 use Rattle.desk_words.specs.declared.change.Change.{Change}
@@ -31,6 +31,7 @@ use Rattle.desk_words.specs.declared.request.OfficeRequest.TheVariants.{LoadRegi
 use Rattle.desk_words.specs.declared.request.Request.{Request}
 use Rattle.desk_words.specs.declared.request.Request.TheVariants as asked
 use Rattle.proxy_rules.specs.Parties.{is_presence_of}
+use Rattle.caller_view.specs.Rows.{presences_of}
 use Rattle.caller_view.specs.Views.{meeting_at, public_of}
 use Rattle.office_answers.specs.Answers.{desk_ruling, ruling_on}
 use Rattle.office_answers.specs.Attendance.{is_marked}
@@ -43,7 +44,7 @@ use Rattle.run_laws.specs.Parts.{IsSourced, Near, Viewer, is_sourced_in, near_in
 use Rattle.run_laws.specs.Traces.{Told, Register, Present, Public, told_of}
 use Rattle.run_laws.proofs.FoundLemmas.{changed-name, found-changed, public-entry, view-changed}
 use Rattle.run_laws.proofs.ListLemmas.{added-unseen}
-use Rattle.run_laws.proofs.PartLemmas.{near_at-stays, near_if, near-entry}
+use Rattle.run_laws.proofs.PartLemmas.{near-entry}
 use Rattle.run_laws.proofs.PartyLemmas.{noted-either}
 
 -- a call of the office
@@ -94,13 +95,13 @@ sourced-office viewer o now at id (LoadRegister new) =
     (unseen-change (is_sourced_in viewer) o at id (SetRegister new.rows) (λ x. refl)))
 sourced-office viewer o now at id (Presence who) =
     office-change (Unseen (is_sourced_in viewer) o id) (meeting_at o at) at (ruling_on o.closed now (Presence who)) refl
-    (λ m. noted-either (λ change. Unseen (is_sourced_in viewer) o id (option_map (InMeeting at) change)) (is_marked m.presences who) (Enter (entry.Presence (record { party = who; moment = now }))) refl
-    (unseen-change (is_sourced_in viewer) o at id (Enter (entry.Presence (record { party = who; moment = now }))) (λ x. refl)))
+    (λ m. noted-either (λ change. Unseen (is_sourced_in viewer) o id (option_map (InMeeting at) change)) (is_marked m.meeting m.presences who) (Enter (entry.Presence (record { session = last_number m.meeting; party = who; moment = now }))) refl
+    (unseen-change (is_sourced_in viewer) o at id (Enter (entry.Presence (record { session = last_number m.meeting; party = who; moment = now }))) (λ x. refl)))
 sourced-office viewer o now at id OpenMeeting =
     office-change (Unseen (is_sourced_in viewer) o id) (meeting_at o at) at (ruling_on o.closed now OpenMeeting) refl (λ m. unseen-change (is_sourced_in viewer) o at id (SetOpened now) (λ x. refl))
 sourced-office viewer o now at id (Order new) =
     office-change (Unseen (is_sourced_in viewer) o id) (meeting_at o at) at (ruling_on o.closed now (Order new)) refl
-    (λ m. unseen-change (is_sourced_in viewer) o at id (AddPoll (poll_of now new)) (λ x. refl))
+    (λ m. unseen-change (is_sourced_in viewer) o at id (AddPoll (poll_of m.meeting now new)) (λ x. refl))
 sourced-office viewer o now at id (Start resolution) =
     office-change (Unseen (is_sourced_in viewer) o id) (meeting_at o at) at (ruling_on o.closed now (Start resolution)) refl
     (λ m. unseen-change (is_sourced_in viewer) o at id (SetPoll resolution (poll.Started now)) (λ x. refl))
@@ -178,45 +179,82 @@ near-elsewhere viewer o at id f other =
 
 -- ---- a presence
 
--- who is marked, or is marked now, as present
-marked : (viewer : Viewer) (presences : List PresenceMark) (who : List ℕ) → is_marked presences who ≡ true
-    → list_any (is_presence_of viewer.party) presences ≡ (list_any (is_presence_of viewer.party) presences || same_name who viewer.party)
-marked viewer presences who h =
-    (elim (same_name who viewer.party) as (λ b. same_name who viewer.party ≡ b → list_any (is_presence_of viewer.party) presences ≡ (list_any (is_presence_of viewer.party) presences || b)) [
-      | true ↦ λ same. (
-          let there : list_any (is_presence_of viewer.party) presences ≡ true = ap (λ name. is_marked presences name) (sym (same_name-true who viewer.party same)) ∙ h in
-          there ∙ sym (or-true (list_any (is_presence_of viewer.party) presences)))
-      | false ↦ λ other. sym (or-false (list_any (is_presence_of viewer.party) presences))
+-- whether a party is marked in the last session, by the sessions in which it is
+marked-last : (meeting : Meeting) (presences : List PresenceMark) (party : List ℕ)
+    → list_any (λ session. session == last_number meeting) (presences_of party presences) ≡ is_marked meeting presences party
+marked-last meeting [] party = refl
+marked-last meeting (mark ∷ marks) party =
+    let rest = marked-last meeting marks party in
+    let last : ℕ → Bool = λ session. session == last_number meeting in
+    elim (same_name mark.party party) as (λ b. list_any last (map (λ (p : PresenceMark). p.session) (cond b (mark ∷ filter (is_presence_of party) marks) (filter (is_presence_of party) marks)))
+    ≡ ((b && last mark.session) || is_marked meeting marks party)) [
+      | true ↦ ap (λ c. last mark.session || c) rest
+      | false ↦ rest
+    ]
+
+-- the sessions in which a party is present, and the last among them
+abbrev with_last : Meeting → List ℕ → List ℕ
+with_last meeting sessions = cond (list_any (λ session. session == last_number meeting) sessions) sessions (sessions ++ last_number meeting ∷ [])
+
+-- who is marked, or is marked now, is present in the last session
+marked : (viewer : Viewer) (meeting : Meeting) (presences : List PresenceMark) (who : List ℕ) (stands : Bool) → is_marked meeting presences who ≡ stands
+    → let own = presences_of viewer.party presences in
+    cond (same_name who viewer.party) (cond stands own (own ++ last_number meeting ∷ [])) own ≡ cond (same_name who viewer.party) (with_last meeting own) own
+marked viewer meeting presences who stands h =
+    let own = presences_of viewer.party presences in
+    (elim (same_name who viewer.party) as (λ b. same_name who viewer.party ≡ b
+    → cond b (cond stands own (own ++ last_number meeting ∷ [])) own ≡ cond b (with_last meeting own) own) [
+      | true ↦ λ same.
+          ap (λ there. cond there own (own ++ last_number meeting ∷ []))
+          (sym h ∙ ap (is_marked meeting presences) (same_name-true who viewer.party same) ∙ sym (marked-last meeting presences viewer.party))
+      | false ↦ λ other. refl
     ]) refl
 
 -- what is near after a presence
-abbrev near_marked : Viewer → List ℕ → Near → Near
-near_marked viewer who n = record n { present = n.present || same_name who viewer.party }
+abbrev near_marked : Viewer → List ℕ → Meeting → Near → Near
+near_marked viewer who meeting n = record n { presences = cond (same_name who viewer.party) (with_last meeting n.presences) n.presences }
+
+-- where a meeting stands, what is near is changed by it
+abbrev near_by : Option Meeting → (Meeting → Near → Near) → Near → Near
+near_by None g n = n
+near_by (Some meeting) g n = g meeting n
 
 near-presence : (viewer : Viewer) (o : OfficeLists) (at : List ℕ) (now : ℕ) (who : List ℕ)
     → near_in viewer (meeting_at (office_after o now (asked.Office at (Presence who))) at)
-    ≡ near_if (public_of o at).meeting (near_marked viewer who) (near_in viewer (meeting_at o at))
+    ≡ near_by (public_of o at).meeting (near_marked viewer who) (near_in viewer (meeting_at o at))
 near-presence viewer o at now who =
     (elim (meeting_at o at) as (λ found. meeting_at o at ≡ found
     → near_in viewer (meeting_at (after_some o (settled (ruled_within (InMeeting at) (in_found found (ruling_on o.closed now (Presence who))))).change) at)
-    ≡ near_if (option_map (λ (m : MeetingLists). m.meeting) found) (near_marked viewer who) (near_in viewer found)) [
+    ≡ near_by (option_map (λ (m : MeetingLists). m.meeting) found) (near_marked viewer who) (near_in viewer found)) [
       | None ↦ λ found. ap (near_in viewer) found
       | Some m ↦ λ found. by_mark m found
     ]) refl
   where
-    mark : MeetingChange
-    mark = Enter (entry.Presence (record { party = who; moment = now }))
+    mark : Meeting → MeetingChange
+    mark meeting = Enter (entry.Presence (record { session = last_number meeting; party = who; moment = now }))
+
+    both : (b : Bool) (sessions : List ℕ) → sessions ≡ cond b sessions sessions
+    both true sessions = refl
+    both false sessions = refl
 
     by_mark : (m : MeetingLists) → meeting_at o at ≡ Some m
-        → near_in viewer (meeting_at (after_some o (option_map (InMeeting at) (noted (is_marked m.presences who) mark).change)) at) ≡ near_marked viewer who (near_in viewer (Some m))
+        → near_in viewer (meeting_at (after_some o (option_map (InMeeting at) (noted (is_marked m.meeting m.presences who) (mark m.meeting)).change)) at)
+        ≡ near_marked viewer who m.meeting (near_in viewer (Some m))
     by_mark m found =
-        (elim (is_marked m.presences who) as (λ b. is_marked m.presences who ≡ b
-        → near_in viewer (meeting_at (after_some o (option_map (InMeeting at) (noted b mark).change)) at) ≡ near_marked viewer who (near_in viewer (Some m))) [
-          | true ↦ λ stands. ap (near_in viewer) found ∙ (λ i. record (near_in viewer (Some m)) { present = marked viewer m.presences who stands i })
+        let near = near_in viewer (Some m) in
+        let last = last_number m.meeting in
+        (elim (is_marked m.meeting m.presences who) as (λ b. is_marked m.meeting m.presences who ≡ b
+        → near_in viewer (meeting_at (after_some o (option_map (InMeeting at) (noted b (mark m.meeting)).change)) at) ≡ near_marked viewer who m.meeting near) [
+          | true ↦ λ stands.
+              ap (near_in viewer) found
+              ∙ (λ i. record near { presences = both (same_name who viewer.party) near.presences i })
+              ∙ (λ i. record near { presences = marked viewer m.meeting m.presences who true stands i })
           | false ↦ λ fresh.
-              ap (near_in viewer) (found-changed (changed mark) at at o.meetings (changed-name mark))
-              ∙ (ap (λ b. near_in viewer (cond b (option_map (changed mark) (meeting_at o at)) (meeting_at o at))) (same_name-refl at)
-              ∙ (ap (λ x. near_in viewer (option_map (changed mark) x)) found ∙ near-entry viewer (entry.Presence (record { party = who; moment = now })) m))
+              ap (near_in viewer) (found-changed (changed (mark m.meeting)) at at o.meetings (changed-name (mark m.meeting)))
+              ∙ (ap (λ b. near_in viewer (cond b (option_map (changed (mark m.meeting)) (meeting_at o at)) (meeting_at o at))) (same_name-refl at)
+              ∙ (ap (λ x. near_in viewer (option_map (changed (mark m.meeting)) x)) found
+              ∙ near-entry viewer (entry.Presence (record { session = last; party = who; moment = now })) m
+              ∙ (λ i. record near { presences = marked viewer m.meeting m.presences who false fresh i })))
         ]) refl
 
 -- ---- what is told
@@ -226,7 +264,7 @@ abbrev pub near_told : Option Told → List ℕ → Option Meeting → Near → 
 near_told None id meeting n = n
 near_told (Some Public) id meeting n = n
 near_told (Some (Register at now record_moment rows)) id meeting n = cond (same_name at id) (near_loaded meeting now record_moment rows n) n
-near_told (Some (Present at)) id meeting n = cond (same_name at id) (near_if meeting (λ n. record n { present = true }) n) n
+near_told (Some (Present at)) id meeting n = cond (same_name at id) (near_by meeting (λ m n. record n { presences = with_last m n.presences }) n) n
 
 -- the meeting of the name, or another
 by-name : (viewer : Viewer) (o : OfficeLists) (at id : List ℕ) (f : MeetingLists → Ruling MeetingChange) (g : Option Meeting → Near → Near)
@@ -243,12 +281,15 @@ by-name viewer o at id f g here =
 
 -- a presence is told where it is the viewer's
 told-presence : (viewer : Viewer) (at id : List ℕ) (meeting : Option Meeting) (who : List ℕ) (n : Near)
-    → cond (same_name at id) (near_if meeting (near_marked viewer who) n) n ≡ near_told (cond (same_name who viewer.party) (Some (Present at)) None) id meeting n
+    → cond (same_name at id) (near_by meeting (near_marked viewer who) n) n ≡ near_told (cond (same_name who viewer.party) (Some (Present at)) None) id meeting n
 told-presence viewer at id meeting who n =
-    elim (same_name who viewer.party) as (λ b. cond (same_name at id) (near_if meeting (λ x. record x { present = x.present || b }) n) n ≡ near_told (cond b (Some (Present at)) None) id meeting n) [
-      | true ↦ elim (meeting) as (λ found. cond (same_name at id) (near_if found (λ x. record x { present = x.present || true }) n) n ≡ cond (same_name at id) (near_if found (λ x. record x { present = true }) n) n)
-          [ None ↦ refl | Some x ↦ ap (λ b. cond (same_name at id) (record n { present = b }) n) (or-true n.present) ]
-      | false ↦ near_at-stays at id meeting (λ x. record x { present = x.present || false }) n (λ i. record n { present = or-false n.present i })
+    elim (same_name who viewer.party) as (λ b. cond (same_name at id) (near_by meeting (λ m x. record x { presences = cond b (with_last m x.presences) x.presences }) n) n
+    ≡ near_told (cond b (Some (Present at)) None) id meeting n) [
+      | true ↦ refl
+      | false ↦ elim (same_name at id) as (λ b. cond b (near_by meeting (λ m x. x) n) n ≡ n) [
+        | true ↦ elim (meeting) as (λ found. near_by found (λ m x. x) n ≡ n) [ None ↦ refl | Some x ↦ refl ]
+        | false ↦ refl
+      ]
     ]
 
 pub near-office : (viewer : Viewer) (o : OfficeLists) (now : ℕ) (request : Request) (id : List ℕ)
@@ -259,12 +300,12 @@ near-office viewer o now (asked.Desk (desk.Keys rows)) id = desk-view (near_in v
 near-office viewer o now (asked.Office at (LoadRegister new)) id =
     by-name viewer o at id (λ m. load_ruling m now new) (λ meeting n. near_loaded meeting now new.record_moment (rows_near viewer new.rows) n) (near-register viewer o at now new)
 near-office viewer o now (asked.Office at (Presence who)) id =
-    by-name viewer o at id (ruling_on o.closed now (Presence who)) (λ meeting n. near_if meeting (near_marked viewer who) n) (near-presence viewer o at now who)
+    by-name viewer o at id (ruling_on o.closed now (Presence who)) (λ meeting n. near_by meeting (near_marked viewer who) n) (near-presence viewer o at now who)
     ∙ told-presence viewer at id (public_of o id).meeting who (near_in viewer (meeting_at o id))
 near-office viewer o now (asked.Office at OpenMeeting) id =
     office-change (Unseen (near_in viewer) o id) (meeting_at o at) at (ruling_on o.closed now OpenMeeting) refl (λ m. unseen-change (near_in viewer) o at id (SetOpened now) (λ x. refl))
 near-office viewer o now (asked.Office at (Order new)) id =
-    office-change (Unseen (near_in viewer) o id) (meeting_at o at) at (ruling_on o.closed now (Order new)) refl (λ m. unseen-change (near_in viewer) o at id (AddPoll (poll_of now new)) (λ x. refl))
+    office-change (Unseen (near_in viewer) o id) (meeting_at o at) at (ruling_on o.closed now (Order new)) refl (λ m. unseen-change (near_in viewer) o at id (AddPoll (poll_of m.meeting now new)) (λ x. refl))
 near-office viewer o now (asked.Office at (Start resolution)) id =
     office-change (Unseen (near_in viewer) o id) (meeting_at o at) at (ruling_on o.closed now (Start resolution)) refl
     (λ m. unseen-change (near_in viewer) o at id (SetPoll resolution (poll.Started now)) (λ x. refl))
@@ -285,8 +326,8 @@ public-office viewer o now (asked.Desk (desk.Keys rows)) id h =
     loaded-either (λ change. public_of (after_some o change) id ≡ public_of o id) (same_keys o.keys rows) (SetKeys rows) refl refl
 public-office viewer o now (asked.Office at (Presence who)) id h =
     office-change (λ change. public_of (after_some o change) id ≡ public_of o id) (meeting_at o at) at (ruling_on o.closed now (Presence who)) refl
-    (λ m. noted-either (λ change. public_of (after_some o (option_map (InMeeting at) change)) id ≡ public_of o id) (is_marked m.presences who) (Enter (entry.Presence (record { party = who; moment = now }))) refl
-    (public-entry o at (Some (entry.Presence (record { party = who; moment = now }))) id))
+    (λ m. noted-either (λ change. public_of (after_some o (option_map (InMeeting at) change)) id ≡ public_of o id) (is_marked m.meeting m.presences who) (Enter (entry.Presence (record { session = last_number m.meeting; party = who; moment = now }))) refl
+    (public-entry o at (Some (entry.Presence (record { session = last_number m.meeting; party = who; moment = now }))) id))
 public-office viewer o now (asked.Desk other) id h = absurd (cc)
 public-office viewer o now (asked.Office at other) id h = absurd (cc)
 public-office viewer o now (asked.Party at what) id h = absurd (cc)

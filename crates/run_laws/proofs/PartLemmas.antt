@@ -18,6 +18,7 @@ use Rattle.desk_words.specs.declared.records.Appointment.{Appointment}
 use Rattle.desk_words.specs.declared.records.Authority.{Authority}
 use Rattle.desk_words.specs.declared.records.Ending.{Ending}
 use Rattle.desk_words.specs.declared.records.Meeting.{Meeting}
+use Rattle.desk_words.specs.declared.records.PresenceMark.{PresenceMark}
 use Rattle.desk_words.specs.declared.records.RegisterRow.{RegisterRow}
 use Rattle.proxy_rules.specs.Holdings.{is_ended_of, is_given_by}
 use Rattle.proxy_rules.specs.Parties.{authorises, is_authority_of, is_cast_by, is_demanded_by, is_presence_of, names}
@@ -29,7 +30,7 @@ use Rattle.caller_view.specs.declared.rows.MemberRows.{MemberRows}
 use Rattle.caller_view.specs.declared.rows.OwnRows.{OwnRows}
 use Rattle.run_laws.specs.Parts.{IsSourced, Near, Viewer, is_near, is_source, is_sourced_in, near_in, rows_near}
 use Rattle.run_laws.proofs.FoundLemmas.{after_entry, entered-name, found-changed}
-use Rattle.run_laws.proofs.ListLemmas.{all-each_once, all-more, all-of, all-within, any-more, filter-among, filter-more, implied, map-among}
+use Rattle.run_laws.proofs.ListLemmas.{all-each_once, all-more, all-of, all-within, filter-among, filter-more, implied, made-more, map-among}
 
 -- ---- rows from what is near
 
@@ -69,7 +70,7 @@ rows_from viewer near = record {
   received = filter (names viewer.party) near.appointments;
   members = map (member_near near) (givers (filter (names viewer.party) near.appointments));
   authorised = map (authority_near near) (filter (authorises viewer.party) near.authorities);
-  present = near.present;
+  presences = near.presences;
   demands = near.demands;
   casts = near.casts;
 }
@@ -138,7 +139,7 @@ rows-of viewer m h =
       received = received i;
       members = members i;
       authorised = authorised i;
-      present = near.present;
+      presences = near.presences;
       demands = near.demands;
       casts = near.casts;
     }
@@ -173,7 +174,7 @@ abbrev pub near_entered : Viewer → Entry → Near → Near
 near_entered viewer (entry.Appointment a) n = record n { appointments = cond (is_near viewer a.member) (n.appointments ++ a ∷ []) n.appointments }
 near_entered viewer (entry.Ending e) n = record n { endings = cond (is_near viewer e.member) (n.endings ++ e ∷ []) n.endings }
 near_entered viewer (entry.Authority a) n = record n { authorities = cond (is_near viewer a.corporation) (n.authorities ++ a ∷ []) n.authorities }
-near_entered viewer (entry.Presence mark) n = record n { present = n.present || is_presence_of viewer.party mark }
+near_entered viewer (entry.Presence mark) n = record n { presences = cond (is_presence_of viewer.party mark) (n.presences ++ mark.session ∷ []) n.presences }
 near_entered viewer (entry.Demand demand) n = record n { demands = cond (is_demanded_by viewer.party demand) (n.demands ++ demand ∷ []) n.demands }
 near_entered viewer (entry.Cast cast) n = record n { casts = cond (is_cast_by viewer.party cast) (n.casts ++ cast ∷ []) n.casts }
 
@@ -181,7 +182,7 @@ pub near-entry : (viewer : Viewer) (e : Entry) (m : MeetingLists) → near_in vi
 near-entry viewer (entry.Appointment a) m = λ i. record (near_in viewer (Some m)) { appointments = filter-more (λ (b : Appointment). is_near viewer b.member) m.appointments a i }
 near-entry viewer (entry.Ending e) m = λ i. record (near_in viewer (Some m)) { endings = filter-more (λ (d : Ending). is_near viewer d.member) m.endings e i }
 near-entry viewer (entry.Authority a) m = λ i. record (near_in viewer (Some m)) { authorities = filter-more (λ (b : Authority). is_near viewer b.corporation) m.authorities a i }
-near-entry viewer (entry.Presence mark) m = λ i. record (near_in viewer (Some m)) { present = any-more (is_presence_of viewer.party) m.presences mark i }
+near-entry viewer (entry.Presence mark) m = λ i. record (near_in viewer (Some m)) { presences = made-more (λ (p : PresenceMark). p.session) (is_presence_of viewer.party) m.presences mark i }
 near-entry viewer (entry.Demand demand) m = λ i. record (near_in viewer (Some m)) { demands = filter-more (is_demanded_by viewer.party) m.demands demand i }
 near-entry viewer (entry.Cast cast) m = λ i. record (near_in viewer (Some m)) { casts = filter-more (is_cast_by viewer.party) m.casts cast i }
 

@@ -1,11 +1,11 @@
 -- What a party's call enters, and of which calls it is the same in two offices.
-use Rattle.std.proofs.Common.{◌≡◌, ℕ, Bool, true, false, ◌||◌, cond, List, [], ◌∷◌, ◌++◌, filter, refl, ap, sym, ◌∙◌}
+use Rattle.std.proofs.Common.{◌≡◌, ℕ, Bool, true, false, cond, List, [], ◌∷◌, ◌++◌, filter, refl, ap, sym, ◌∙◌}
 use Rattle.std.specs.Prelude.{Option, Some, None}
-use Rattle.std.proofs.Math.Bool.{or-false}
 use Rattle.desk_lists.proofs.Booleans.{neither_first}
 use Rattle.desk_terms.specs.Names.{same_name}
 use Rattle.desk_words.specs.Office.{implies}
 use Rattle.desk_words.specs.Rulings.{in_found, noted, settled, within}
+use Rattle.desk_words.specs.Sessions.{last_number}
 use Rattle.desk_words.specs.declared.answer.Answer.{Answer}
 use Rattle.desk_words.specs.declared.caller.Caller.TheVariants as caller
 use Rattle.desk_words.specs.declared.change.Change.TheVariants.{InMeeting}
@@ -23,7 +23,7 @@ use Rattle.proxy_rules.specs.Holdings.{is_ended_of, is_given_by}
 use Rattle.proxy_rules.specs.Parties.{is_authority_of}
 use Rattle.caller_view.specs.Answers.{party_ruling, ruling_for}
 use Rattle.caller_view.specs.Appointments.{appointment_of, ending_of}
-use Rattle.caller_view.specs.Attendance.{authority_of, demand_mark, gave_authority, own_demanded, presence_of}
+use Rattle.caller_view.specs.Attendance.{authority_of, demand_mark, gave_authority, is_present, own_demanded, presence_of}
 use Rattle.caller_view.specs.Casts.{block_of, cast_of}
 use Rattle.caller_view.specs.Own.{own_from}
 use Rattle.caller_view.specs.Public.{PublicRecord}
@@ -55,66 +55,66 @@ own-party o party at now =
 -- ---- what is entered
 
 -- what a party's request enters where it is accepted
-abbrev pub the_entry : OwnView → ℕ → PartyRequest → Option Entry
-the_entry own now Notice = None
-the_entry own now Mine = None
-the_entry own now (Appoint new) = Some (entry.Appointment (appointment_of own now new))
-the_entry own now (End number) = Some (entry.Ending (ending_of own now number))
-the_entry own now (Authorise person) = Some (entry.Authority (authority_of own now person))
-the_entry own now Attend = Some (entry.Presence (presence_of own now))
-the_entry own now (Demand resolution) = Some (entry.Demand (demand_mark own now resolution))
-the_entry own now (Cast new) = Some (entry.Cast (cast_of own now new.resolution (block_of new)))
-the_entry own now (Instructed resolution) = Some (entry.Cast (cast_of own now resolution AsInstructed))
+abbrev pub the_entry : Meeting → OwnView → ℕ → PartyRequest → Option Entry
+the_entry meeting own now Notice = None
+the_entry meeting own now Mine = None
+the_entry meeting own now (Appoint new) = Some (entry.Appointment (appointment_of own now new))
+the_entry meeting own now (End number) = Some (entry.Ending (ending_of own now number))
+the_entry meeting own now (Authorise person) = Some (entry.Authority (authority_of own now person))
+the_entry meeting own now Attend = Some (entry.Presence (presence_of meeting own now))
+the_entry meeting own now (Demand resolution) = Some (entry.Demand (demand_mark meeting own now resolution))
+the_entry meeting own now (Cast new) = Some (entry.Cast (cast_of own now new.resolution (block_of new)))
+the_entry meeting own now (Instructed resolution) = Some (entry.Cast (cast_of own now resolution AsInstructed))
 
 pub noted-either : {C : Type 0} (P : Option C → Type 0) (stands : Bool) (change : C) → P None → P (Some change) → P (noted stands change).change
 noted-either P true change none some = none
 noted-either P false change none some = some
 
 accepted-entry : (P : Option Entry → Type 0) (public : PublicRecord) (own : OwnView) (now : ℕ) (meeting : Meeting) (what : PartyRequest)
-    → P None → P (the_entry own now what) → P (ruling_for public own now what meeting).accepted.change
+    → P None → P (the_entry meeting own now what) → P (ruling_for public own now what meeting).accepted.change
 accepted-entry P public own now meeting Notice none some = none
 accepted-entry P public own now meeting Mine none some = none
 accepted-entry P public own now meeting (Authorise person) none some = noted-either P (gave_authority own person) (entry.Authority (authority_of own now person)) none some
-accepted-entry P public own now meeting Attend none some = noted-either P own.present (entry.Presence (presence_of own now)) none some
-accepted-entry P public own now meeting (Demand resolution) none some = noted-either P (own_demanded own resolution) (entry.Demand (demand_mark own now resolution)) none some
+accepted-entry P public own now meeting Attend none some = noted-either P (is_present meeting own) (entry.Presence (presence_of meeting own now)) none some
+accepted-entry P public own now meeting (Demand resolution) none some = noted-either P (own_demanded meeting own resolution) (entry.Demand (demand_mark meeting own now resolution)) none some
 accepted-entry P public own now meeting what none some = some
 
--- what holds of nothing, and of what is entered where the request is accepted, holds of what is entered
+-- what holds of nothing, and of what is entered in any meeting where the request is accepted, holds of what is entered
 pub entry-of : (P : Option Entry → Type 0) (public : PublicRecord) (own : OwnView) (now : ℕ) (what : PartyRequest)
-    → P None → P (the_entry own now what) → P (settled (party_ruling public own now what)).change
+    → P None → ((meeting : Meeting) → P (the_entry meeting own now what)) → P (settled (party_ruling public own now what)).change
 entry-of P public own now what none some =
     elim (public.meeting) as (λ found. P (settled (in_found found (ruling_for public own now what))).change) [
       | None ↦ none
-      | Some meeting ↦ change_of P (in_found (Some meeting) (ruling_for public own now what)) none (λ _. accepted-entry P public own now meeting what none some)
+      | Some meeting ↦ change_of P (in_found (Some meeting) (ruling_for public own now what)) none (λ _. accepted-entry P public own now meeting what none (some meeting))
     ]
 
 -- what is not shown to a viewer changes nothing near it
 pub unseen-entry : (viewer : Viewer) (own : OwnView) (now : ℕ) (at : List ℕ) (what : PartyRequest) (n : Near)
-    → is_shown viewer own.party (asked.Party at what) ≡ false → near_some viewer (the_entry own now what) n ≡ n
-unseen-entry viewer own now at Notice n h = refl
-unseen-entry viewer own now at Mine n h = refl
-unseen-entry viewer own now at (Appoint new) n h = ap (λ b. record n { appointments = cond b (n.appointments ++ appointment_of own now new ∷ []) n.appointments }) h
-unseen-entry viewer own now at (End number) n h = ap (λ b. record n { endings = cond b (n.endings ++ ending_of own now number ∷ []) n.endings }) h
-unseen-entry viewer own now at (Authorise person) n h = ap (λ b. record n { authorities = cond b (n.authorities ++ authority_of own now person ∷ []) n.authorities }) h
-unseen-entry viewer own now at Attend n h =
+    → is_shown viewer own.party (asked.Party at what) ≡ false → (meeting : Meeting) → near_some viewer (the_entry meeting own now what) n ≡ n
+unseen-entry viewer own now at Notice n h meeting = refl
+unseen-entry viewer own now at Mine n h meeting = refl
+unseen-entry viewer own now at (Appoint new) n h meeting = ap (λ b. record n { appointments = cond b (n.appointments ++ appointment_of own now new ∷ []) n.appointments }) h
+unseen-entry viewer own now at (End number) n h meeting = ap (λ b. record n { endings = cond b (n.endings ++ ending_of own now number ∷ []) n.endings }) h
+unseen-entry viewer own now at (Authorise person) n h meeting = ap (λ b. record n { authorities = cond b (n.authorities ++ authority_of own now person ∷ []) n.authorities }) h
+unseen-entry viewer own now at Attend n h meeting =
     let other = neither_first (same_name own.party viewer.party) false h in
-    ap (λ b. record n { present = n.present || b }) other ∙ (λ i. record n { present = or-false n.present i })
-unseen-entry viewer own now at (Demand resolution) n h =
+    ap (λ b. record n { presences = cond b (n.presences ++ last_number meeting ∷ []) n.presences }) other
+unseen-entry viewer own now at (Demand resolution) n h meeting =
     let other = neither_first (same_name own.party viewer.party) false h in
-    ap (λ b. record n { demands = cond b (n.demands ++ demand_mark own now resolution ∷ []) n.demands }) other
-unseen-entry viewer own now at (Cast new) n h =
+    ap (λ b. record n { demands = cond b (n.demands ++ demand_mark meeting own now resolution ∷ []) n.demands }) other
+unseen-entry viewer own now at (Cast new) n h meeting =
     let other = neither_first (same_name own.party viewer.party) false h in
     ap (λ b. record n { casts = cond b (n.casts ++ cast_of own now new.resolution (block_of new) ∷ []) n.casts }) other
-unseen-entry viewer own now at (Instructed resolution) n h =
+unseen-entry viewer own now at (Instructed resolution) n h meeting =
     let other = neither_first (same_name own.party viewer.party) false h in
     ap (λ b. record n { casts = cond b (n.casts ++ cast_of own now resolution AsInstructed ∷ []) n.casts }) other
 
 -- what names or authorises a viewer is of one who is near, where the call is
 pub sourced-what : (viewer : Viewer) (own : OwnView) (now : ℕ) (at : List ℕ) (what : PartyRequest)
-    → implies (names_party viewer.party (asked.Party at what)) (is_near viewer own.party) ≡ true → is_near_some viewer (the_entry own now what) ≡ true
-sourced-what viewer own now at (Appoint new) h = h
-sourced-what viewer own now at (Authorise person) h = h
-sourced-what viewer own now at what h = refl
+    → implies (names_party viewer.party (asked.Party at what)) (is_near viewer own.party) ≡ true → (meeting : Meeting) → is_near_some viewer (the_entry meeting own now what) ≡ true
+sourced-what viewer own now at (Appoint new) h meeting = h
+sourced-what viewer own now at (Authorise person) h meeting = h
+sourced-what viewer own now at what h meeting = refl
 
 -- ---- the same answer in two offices
 

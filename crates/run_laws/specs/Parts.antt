@@ -1,10 +1,10 @@
 -- What of an office concerns a party: the public record of each meeting, and there what is the
 -- party's own or of those who may name it.
-use Rattle.std.specs.Prelude.{Bool, true, false, ◌&&◌, ◌||◌, List, [], filter, Option, Some, None, if◌then◌else◌, IsTrue}
+use Rattle.std.specs.Prelude.{Bool, true, ◌&&◌, ◌||◌, List, [], filter, Option, Some, None, if◌then◌else◌, IsTrue}
 use Rattle.std.specs.List.{list_all, list_any}
 use Rattle.desk_terms.specs.Names.{same_name}
 use Rattle.desk_words.specs.Office.{implies}
-use Rattle.desk_words.specs.Seen.{MeetingName, Party}
+use Rattle.desk_words.specs.Seen.{MeetingName, Party, SessionNumber}
 use Rattle.desk_words.specs.declared.office.MeetingLists.{MeetingLists}
 use Rattle.desk_words.specs.declared.office.OfficeLists.{OfficeLists}
 use Rattle.desk_words.specs.declared.records.Appointment.{Appointment}
@@ -13,9 +13,10 @@ use Rattle.desk_words.specs.declared.records.CastMark.{CastMark}
 use Rattle.desk_words.specs.declared.records.DemandMark.{DemandMark}
 use Rattle.desk_words.specs.declared.records.Ending.{Ending}
 use Rattle.desk_words.specs.declared.records.RegisterRow.{RegisterRow}
-use Rattle.proxy_rules.specs.Parties.{authorises, is_cast_by, is_demanded_by, is_presence_of, names}
+use Rattle.proxy_rules.specs.Parties.{authorises, is_cast_by, is_demanded_by, names}
 use Rattle.proxy_rules.specs.Shares.{row_of}
 use Rattle.caller_view.specs.Public.{PublicRecord}
+use Rattle.caller_view.specs.Rows.{presences_of}
 use Rattle.caller_view.specs.Views.{meeting_at, public_of}
 
 -- a party, and its sources: the parties who may name it as proxy or authorise it (sections 323 and
@@ -44,7 +45,7 @@ pub record Near : Type 0 where
   pub appointments : List Appointment
   pub endings : List Ending
   pub authorities : List Authority
-  pub present : Bool
+  pub presences : List SessionNumber
   pub demands : List DemandMark
   pub casts : List CastMark
 
@@ -55,7 +56,7 @@ near_in viewer None = record {
   appointments = [];
   endings = [];
   authorities = [];
-  present = false;
+  presences = [];
   demands = [];
   casts = [];
 }
@@ -64,7 +65,7 @@ near_in viewer (Some m) = record {
   appointments = filter (λ (a : Appointment). is_near viewer a.member) m.appointments;
   endings = filter (λ (e : Ending). is_near viewer e.member) m.endings;
   authorities = filter (λ (a : Authority). is_near viewer a.corporation) m.authorities;
-  present = list_any (is_presence_of viewer.party) m.presences;
+  presences = presences_of viewer.party m.presences;
   demands = filter (is_demanded_by viewer.party) m.demands;
   casts = filter (is_cast_by viewer.party) m.casts;
 }

@@ -66,7 +66,8 @@ abbrev pub meeting_of_unequals : MeetingLists
 meeting_of_unequals = record (meeting_with_casts []) {
   register = record (one_share a_member) { paid = 1 }
       ∷ record (one_share another) { shares = 100; paid = 1 } ∷ [];
-  presences = record { party = a_member; moment = 0 } ∷ record { party = another; moment = 0 } ∷ [];
+  presences = record { session = 1; party = a_member; moment = 0 }
+      ∷ record { session = 1; party = another; moment = 0 } ∷ [];
   polls = [];
 }
 
@@ -204,7 +205,9 @@ tells_the_place = deciding_by place_of_row
 
 -- the meeting before its register is loaded
 abbrev pub meeting_unloaded : MeetingLists
-meeting_unloaded = new_lists (record opened_meeting { loaded = false; opened = None })
+meeting_unloaded =
+    new_lists
+    (record opened_meeting { loaded = false; first = record { appointed = 0; opened = None } })
 
 -- the other member, whom nobody names or authorises
 abbrev pub the_other : Viewer

@@ -1,6 +1,7 @@
 use Rattle.std.proofs.Common.{◌-◌, Some, refl, ap, sym, ◌∙◌}
 use Rattle.std.specs.List.{slice_get}
 use Rattle.desk_words.specs.Finding.{poll_on}
+use Rattle.desk_words.specs.Sessions.{last_number}
 use Rattle.desk_words.specs.declared.change.MeetingChange.TheVariants.{SetPoll}
 use Rattle.desk_words.specs.declared.change.PollChange.TheVariants as poll
 use Rattle.desk_words.specs.declared.records.Tally.{Tally}
@@ -19,7 +20,7 @@ alike : TalliesReadTheirOwnCasts → TheOfficeIsToldOfNoVotes
 alike law m casts resolution closed now (LoadRegister new) same other = refl
 alike law m casts resolution closed now (Declare asked) same other =
     let on = sym (on-off asked resolution casts other) ∙ ap (casts_on asked) same ∙ on-off asked resolution m.casts other in
-    let counted = law (cutoffs_of m.meeting (vote_on (poll_on m.polls asked)) closed now) m.register m.appointments m.endings m.authorities casts m.casts asked on in
+    let counted = law (cutoffs_of m.meeting (vote_on (last_number m.meeting) (poll_on m.polls asked)) closed now) m.register m.appointments m.endings m.authorities casts m.casts asked on in
     let declared = λ (tally : Tally). result_on (slice_get m.meeting.resolutions (asked - 1)) tally in
     ap (λ (tally : Tally). record {
       cases = declare_cases m asked;
