@@ -6,3 +6,4 @@ pub mod Names
 pub mod OfficeLemmas
 pub mod PollChanges
 pub mod RecordLemmas
+pub mod SessionLemmas

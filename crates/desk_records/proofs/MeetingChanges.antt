@@ -10,6 +10,7 @@ use Rattle.desk_terms.specs.Names.{same_name}
 use Rattle.desk_words.specs.Lists.{caller_before, day_before}
 use Rattle.desk_words.specs.Office.{same_meeting}
 use Rattle.desk_words.specs.Registers.{member_before}
+use Rattle.desk_words.specs.Sessions.{open_last}
 use Rattle.desk_words.specs.declared.caller.KeyRow.{KeyRow}
 use Rattle.desk_words.specs.declared.office.MeetingLists.{MeetingLists}
 use Rattle.desk_words.specs.declared.office.OfficeLists.{OfficeLists}
@@ -57,9 +58,9 @@ module _ (flat : FlatLists) (id : List ℕ) (office : OfficeLists) (of : AreOf f
     opened_named m = elim (same_name m.id id) as (λ b. (if b then record m { opened = Some moment } else m).id ≡ m.id) [ true ↦ refl | false ↦ refl ]
 
     -- a meeting is opened
-    pub meeting_opened : office_of_records (record flat { meetings = map (opened_at id moment) flat.meetings }) ≡ Some (with_changed id (λ x. record x { meeting = record x.meeting { opened = Some moment } }) office)
+    pub meeting_opened : office_of_records (record flat { meetings = map (opened_at id moment) flat.meetings }) ≡ Some (with_changed id (λ x. record x { meeting = open_last moment x.meeting }) office)
     meeting_opened =
-        office_changed flat (record flat { meetings = map (opened_at id moment) flat.meetings }) (opened_at id moment) id (λ x. record x { meeting = record x.meeting { opened = Some moment } }) (λ _. true) (record {
+        office_changed flat (record flat { meetings = map (opened_at id moment) flat.meetings }) (opened_at id moment) id (λ x. record x { meeting = open_last moment x.meeting }) (λ _. true) (record {
           meetings = refl;
           named = opened_named;
           resolutions = refl;

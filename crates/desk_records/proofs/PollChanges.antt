@@ -14,6 +14,7 @@ use Rattle.desk_terms.specs.Names.{same_name}
 use Rattle.desk_words.specs.Office.{are_polls, implies, is_poll, poll_before, same_meeting}
 use Rattle.desk_words.specs.declared.office.MeetingLists.{MeetingLists}
 use Rattle.desk_words.specs.declared.office.OfficeLists.{OfficeLists}
+use Rattle.desk_words.specs.declared.records.Meeting.{Meeting}
 use Rattle.desk_words.specs.declared.records.Poll.{Poll}
 use Rattle.desk_records.specs.Office.{FlatLists, of_meeting, office_of_records}
 use Rattle.desk_records.proofs.ListChanges.{list_changed, list_of}
@@ -29,9 +30,8 @@ by_resolution : poll_before ≡ key_before resolution_of nat_cmp
 by_resolution = λ i a b. sym (is_lt-nat_cmp a.resolution b.resolution) i
 
 -- polls of a meeting stand in the order of resolutions
-pub polls_ascend : (opened : Bool) (resolutions : ℕ) (ps : List Poll) → are_polls opened resolutions ps ≡ true → ascends_by poll_before ps ≡ true
-polls_ascend opened resolutions [] h = refl
-polls_ascend opened resolutions (p ∷ ps) h = second_so (opened && list_all (is_poll resolutions) (p ∷ ps)) (ascends_by poll_before (p ∷ ps)) h
+pub polls_ascend : (m : Meeting) (ps : List Poll) → are_polls m ps ≡ true → ascends_by poll_before ps ≡ true
+polls_ascend m ps h = second_so (list_all (is_poll m) ps) (ascends_by poll_before ps) h
 
 last_poll : (xs : List Poll) (p : Poll) → ascends_by poll_before (insert_by poll_before p (sort_by poll_before xs)) ≡ true → sort_by poll_before (xs ++ p ∷ []) ≡ insert_by poll_before p (sort_by poll_before xs)
 last_poll xs p =

@@ -98,18 +98,18 @@ numbered_from n (r ∷ rest) = do
 abbrev pub resolutions_of : List ℕ → List (InMeeting NumberedResolution) → Option (List Resolution)
 resolutions_of id records = numbered_from 1 (sort_by number_before (of_meeting id records))
 
--- a meeting with its resolutions
+-- a meeting of one session, with its resolutions
 abbrev pub whole_meeting : MeetingRow → List Resolution → Meeting
 whole_meeting m resolutions = record {
   id = m.id;
   company = m.company;
   kind = m.kind;
   given = m.given;
-  appointed = m.appointed;
+  first = record { appointed = m.appointed; opened = m.opened };
+  later = [];
   record_moment = m.record_moment;
   resolutions = resolutions;
   loaded = m.loaded;
-  opened = m.opened;
 }
 
 -- the lists of a meeting with these resolutions: the register in the order of members, the polls in

@@ -1,4 +1,5 @@
--- What a row of presences, demands, polls and casts means.
+-- What a row of presences, demands, polls and casts means. Presences, demands and polls are those of
+-- a meeting's first session.
 use Rattle.std.specs.Prelude.{ℕ, ◌+◌, ◌^◌, ◌≤◌, ◌⊎◌, Bool, ◌&&◌, List, Option, Some, None, bytes_eq, codes, if◌then◌else◌}
 use Rattle.sqlite.specs.declared.types.Value.{Value}
 use Rattle.sqlite.specs.Order.{Row, column}
@@ -23,7 +24,7 @@ presence_in cells = do
   meeting ← spelled meeting_of cells 0
   party ← spelled party_of cells 1
   moment ← moment_in cells 2
-  Some (record { meeting = meeting; item = record { party = party; moment = moment } })
+  Some (record { meeting = meeting; item = record { session = 1; party = party; moment = moment } })
 
 -- a demand of a poll: meeting, resolution, party, moment (sections 321 and 329)
 unfoldable pub demand_mark_in : Row → Option (InMeeting DemandMark)
@@ -35,7 +36,7 @@ demand_mark_in cells = do
   Some
       (record {
         meeting = meeting;
-        item = record { resolution = resolution; party = party; moment = moment };
+        item = record { session = 1; resolution = resolution; party = party; moment = moment };
       })
 
 -- the count in four columns, of which none is NULL
@@ -88,6 +89,7 @@ poll_in cells = do
       (record {
         meeting = meeting;
         item = record {
+          session = 1;
           resolution = resolution;
           ordered = ordered;
           take = take;

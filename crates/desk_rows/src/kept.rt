@@ -14,7 +14,7 @@ pub struct Version {
     pub number: u64,
 }
 
-/// A meeting (section 307) without its resolutions, which have rows of their own.
+/// A meeting (section 307) of one session, without its resolutions, which have rows of their own.
 #[derive(Clone, Copy, PartialEq, Eq)]
 pub struct MeetingRow {
     pub id: MeetingId,

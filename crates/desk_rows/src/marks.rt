@@ -1,4 +1,5 @@
-//! Rows of presences, demands, polls and casts.
+//! Rows of presences, demands, polls and casts. Presences, demands and polls are those of a
+//! meeting's first session.
 ghost use Rattle.std.specs.Prelude.{◌≡◌};
 ghost use Rattle.desk_terms.specs.Itself.{itself};
 ghost use Rattle.sqlite.specs.Order.{column};
@@ -29,7 +30,11 @@ impl FromRow for InMeeting<PresenceMark> {
         let moment = moment_in(row, 2)?;
         Ok(InMeeting {
             meeting,
-            item: PresenceMark { party, moment },
+            item: PresenceMark {
+                session: 1,
+                party,
+                moment,
+            },
         })
     }
 }
@@ -48,6 +53,7 @@ impl FromRow for InMeeting<DemandMark> {
         Ok(InMeeting {
             meeting,
             item: DemandMark {
+                session: 1,
                 resolution,
                 party,
                 moment,
@@ -101,6 +107,7 @@ impl FromRow for InMeeting<Poll> {
         Ok(InMeeting {
             meeting,
             item: Poll {
+                session: 1,
                 resolution,
                 ordered,
                 take,

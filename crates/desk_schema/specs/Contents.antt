@@ -83,17 +83,17 @@ polls = record {
 abbrev pub casts : TableOf (InMeeting CastMark)
 casts = record { number = 24; columns = 2 ∷ 3 ∷ 4 ∷ 5 ∷ 6 ∷ 7 ∷ 8 ∷ 9 ∷ 10 ∷ []; means = cast_in }
 
--- a meeting without its resolutions, as its row keeps it
+-- a meeting with its first session and without its resolutions, as its row keeps it
 abbrev pub without_resolutions : Meeting → MeetingRow
 without_resolutions m = record {
   id = m.id;
   company = m.company;
   kind = m.kind;
   given = m.given;
-  appointed = m.appointed;
+  appointed = m.first.appointed;
   record_moment = m.record_moment;
   loaded = m.loaded;
-  opened = m.opened;
+  opened = m.first.opened;
 }
 
 -- the meeting of a name with its register loaded, and the others as they are

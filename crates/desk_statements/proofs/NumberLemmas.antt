@@ -12,11 +12,13 @@ use Rattle.desk_words.specs.declared.records.RegisterRow.{RegisterRow}
 use Rattle.desk_words.specs.declared.records.Appointment.{Appointment}
 use Rattle.desk_words.specs.declared.records.Ending.{Ending}
 use Rattle.desk_words.specs.declared.records.DemandMark.{DemandMark}
+use Rattle.desk_words.specs.declared.records.Meeting.{Meeting}
 use Rattle.desk_words.specs.declared.records.Poll.{Poll}
 use Rattle.desk_words.specs.declared.records.Tally.{Tally}
 use Rattle.desk_words.specs.declared.records.CastMark.{CastMark}
 use Rattle.desk_words.specs.Registers.{all_shares, is_holding, is_register, keep_limits, member_before}
-use Rattle.desk_words.specs.Office.{are_numbered_after, are_polls, implies, is_appointment, is_cast_on, is_declared_right, is_ending_of, is_poll, is_resolution, is_tally, no_rows, poll_before, same_demand, same_ending}
+use Rattle.desk_words.specs.Office.{are_numbered_after, are_polls, implies, is_appointment, is_cast_on, is_declared_right, is_demand, is_ending_of, is_poll, is_resolution, is_tally, no_rows, poll_before, same_demand, same_ending}
+use Rattle.desk_words.specs.Sessions.{is_opened, is_opened_session, is_session}
 use Rattle.desk_words.proofs.OfficeFacts.{meeting_facts}
 use Rattle.desk_statements.specs.Numbers.{OfficesAreKept, fits_row, is_tally_kept}
 
@@ -91,20 +93,19 @@ declared : (t : Option Tally) → is_declared_right t ≡ true → is_tally_kept
 declared None h = refl
 declared (Some t) h = figures t h
 
-poll : (resolutions : ℕ) → nat_le resolutions MOST_RESOLUTIONS ≡ true → (p : Poll) → is_poll resolutions p ≡ true → (fits_row p.resolution && is_tally_kept p.declared) ≡ true
-poll resolutions few p h =
-    let a = is_resolution resolutions p.resolution in
+poll : (m : Meeting) → nat_le (length m.resolutions) MOST_RESOLUTIONS ≡ true → (p : Poll) → is_poll m p ≡ true → (fits_row p.resolution && is_tally_kept p.declared) ≡ true
+poll m few p h =
+    let s = is_opened_session m p.session in
+    let a = is_resolution (length m.resolutions) p.resolution in
     let b = implies (is_some p.closed) (is_some p.started) in
     let c = implies (is_some p.declared) (is_some p.closed) in
     let d = is_declared_right p.declared in
-    let on : a ≡ true = first_so a b (first_so (a && b) c (first_so (a && b && c) d h)) in
-    both_true (fits_row p.resolution) (is_tally_kept p.declared) (resolution resolutions p.resolution few on) (declared p.declared (second_so (a && b && c) d h))
+    let on : a ≡ true = second_so s a (first_so (s && a) b (first_so (s && a && b) c (first_so (s && a && b && c) d h))) in
+    both_true (fits_row p.resolution) (is_tally_kept p.declared) (resolution (length m.resolutions) p.resolution few on) (declared p.declared (second_so (s && a && b && c) d h))
 
-polls_are : (opened : Bool) (resolutions : ℕ) (ps : List Poll) → nat_le resolutions MOST_RESOLUTIONS ≡ true → are_polls opened resolutions ps ≡ true → list_all (λ (p : Poll). fits_row p.resolution && is_tally_kept p.declared) ps ≡ true
-polls_are opened resolutions [] few h = refl
-polls_are opened resolutions (p ∷ ps) few h =
-    let each = first_so (opened && list_all (is_poll resolutions) (p ∷ ps)) (ascends_by poll_before (p ∷ ps)) h in
-    all_so (is_poll resolutions) (λ (p : Poll). fits_row p.resolution && is_tally_kept p.declared) (p ∷ ps) (poll resolutions few) (second_so opened (list_all (is_poll resolutions) (p ∷ ps)) each)
+polls_are : (m : Meeting) (ps : List Poll) → nat_le (length m.resolutions) MOST_RESOLUTIONS ≡ true → are_polls m ps ≡ true → list_all (λ (p : Poll). fits_row p.resolution && is_tally_kept p.declared) ps ≡ true
+polls_are m ps few h =
+    all_so (is_poll m) (λ (p : Poll). fits_row p.resolution && is_tally_kept p.declared) ps (poll m few) (first_so (list_all (is_poll m) ps) (ascends_by poll_before ps) h)
 
 pub offices_are_kept : OfficesAreKept
 offices_are_kept m h =
@@ -113,18 +114,18 @@ offices_are_kept m h =
     let few : nat_le n MOST_RESOLUTIONS ≡ true = second_so (nat_le 1 n) (nat_le n MOST_RESOLUTIONS) f.resolutions in
     let given = all_so (is_appointment n) (λ (a : Appointment). fits_row a.number) m.appointments (λ a is. kept_below a.number MOST_APPOINTMENTS (first_so (nat_le a.number MOST_APPOINTMENTS) (length a.instructions == n) is) few_appointments)
     (second_so (are_numbered_after [] m.appointments) (list_all (is_appointment n) m.appointments) f.appointments) in
-    let held = polls_are (is_some m.meeting.opened) n m.polls few f.polls in
+    let held = polls_are m.meeting m.polls few f.polls in
     let ended = first_so (list_all (λ e. list_any (is_ending_of e) m.appointments) m.endings) (differ_by same_ending m.endings) f.endings in
     let cast_each = first_so (list_all (λ c. list_any (is_cast_on c) m.polls) m.casts) _ f.casts in
     record {
       resolutions = kept_below n MOST_RESOLUTIONS few few_resolutions;
-      register = rows_of m.meeting.loaded m.register (first_so (cond m.meeting.loaded (is_register m.register) (no_rows m.register)) (implies (is_some m.meeting.opened) m.meeting.loaded) f.loaded);
+      register = rows_of m.meeting.loaded m.register (first_so (cond m.meeting.loaded (is_register m.register) (no_rows m.register)) (implies (is_opened m.meeting.first) m.meeting.loaded) f.loaded);
       appointments = given;
       endings = all_so (λ e. list_any (is_ending_of e) m.appointments) (λ (e : Ending). fits_row e.number) m.endings
           (λ e some. from_any (is_ending_of e) (λ (a : Appointment). fits_row a.number) (fits_row e.number) m.appointments (λ a is kept. same_number a.number e.number (second_so (same_name a.member e.member) (a.number == e.number) is) kept) some given)
           ended;
-      demands = all_so (λ (d : DemandMark). is_resolution n d.resolution) (λ (d : DemandMark). fits_row d.resolution) m.demands (λ d on. resolution n d.resolution few on)
-          (first_so (list_all (λ (d : DemandMark). is_resolution n d.resolution) m.demands) (differ_by same_demand m.demands) f.demands);
+      demands = all_so (is_demand m.meeting) (λ (d : DemandMark). fits_row d.resolution) m.demands (λ d on. resolution n d.resolution few (second_so (is_session m.meeting d.session) (is_resolution n d.resolution) on))
+          (first_so (list_all (is_demand m.meeting) m.demands) (differ_by same_demand m.demands) f.demands);
       polls = held;
       casts = all_so (λ c. list_any (is_cast_on c) m.polls) (λ (c : CastMark). fits_row c.resolution) m.casts
           (λ c some. from_any (is_cast_on c) (λ (p : Poll). fits_row p.resolution && is_tally_kept p.declared) (fits_row c.resolution) m.polls

@@ -81,7 +81,7 @@ module _ (m : Meeting) (meeting : List ℕ) (company : List ℕ) (kind : List �
   abbrev pub values : Row
   values = Text meeting ∷ Text company ∷ Text kind ∷ Int given ∷ Int appointed ∷ Int recorded ∷ flag m.loaded ∷ or_null Int opened ∷ []
 
-  pub adds_meeting : meeting_of meeting ≡ Some m.id → read_word company_of company ≡ Some m.company → read_word meeting_kind_of kind ≡ Some m.kind → unix_day given ≡ Some m.given → moment_of_number appointed ≡ Some m.appointed → moment_of_number recorded ≡ Some m.record_moment → some_moment_of (or_null Int opened) ≡ Some m.opened
+  pub adds_meeting : meeting_of meeting ≡ Some m.id → read_word company_of company ≡ Some m.company → read_word meeting_kind_of kind ≡ Some m.kind → unix_day given ≡ Some m.given → moment_of_number appointed ≡ Some m.first.appointed → moment_of_number recorded ≡ Some m.record_moment → some_moment_of (or_null Int opened) ≡ Some m.first.opened
       → AddsBy layout_one meetings (adding_text table) values (without_resolutions m)
   unfolding meeting_in day_in flag_in moment_in number_in some_moment_in spelled worded
   adds_meeting meeting_is company_is kind_is given_is appointed_is recorded_is opened_is =

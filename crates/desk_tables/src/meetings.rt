@@ -37,10 +37,10 @@ pub fn add<S: Alter>(tx: &mut Transaction<'_, S>, meeting: &Meeting) -> Result<u
             company_text(meeting.company),
             meeting_kind_text(meeting.kind),
             day_number(meeting.given),
-            moment_number(meeting.appointed),
+            moment_number(meeting.first.appointed),
             moment_number(meeting.record_moment),
             meeting.loaded,
-            some_moment_number(meeting.opened)
+            some_moment_number(meeting.first.opened)
         ],
     )
 }

@@ -36,7 +36,7 @@ module _ (m : List ℕ) (x : DemandMark) (meeting : List ℕ) (resolution : ℤ)
   values = Text meeting ∷ Int resolution ∷ Text party ∷ Int moment ∷ []
 
   pub adds_demand : meeting_of meeting ≡ Some m → natural_of resolution ≡ Some x.resolution → party_of party ≡ Some x.party → moment_of_number moment ≡ Some x.moment
-      → AddsBy layout_one demands (adding_text table) values (record { meeting = m; item = x })
+      → AddsBy layout_one demands (adding_text table) values (record { meeting = m; item = record x { session = 1 } })
   unfolding demand_mark_in moment_in number_in spelled
   adds_demand meeting_is resolution_is party_is moment_is =
-      adds_given ones_apart adds values (Null ∷ values) (record { meeting = m; item = x }) (rw (cast_null, cast_int resolution, cast_int moment) refl) (λ id. rw (meeting_is, resolution_is, party_is, moment_is) refl)
+      adds_given ones_apart adds values (Null ∷ values) (record { meeting = m; item = record x { session = 1 } }) (rw (cast_null, cast_int resolution, cast_int moment) refl) (λ id. rw (meeting_is, resolution_is, party_is, moment_is) refl)

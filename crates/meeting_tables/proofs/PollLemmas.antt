@@ -60,10 +60,10 @@ module _ (m : List ℕ) (x : Poll) (meeting : List ℕ) (resolution : ℤ) (orde
   values = Text meeting ∷ Int resolution ∷ Int ordered ∷ Int take ∷ flag x.chair ∷ or_null Int started ∷ or_null Int closed ∷ or_null Int votes_for ∷ or_null Int votes_against ∷ or_null Int withheld ∷ or_null Int eligible ∷ []
 
   pub adds_poll : meeting_of meeting ≡ Some m → natural_of resolution ≡ Some x.resolution → moment_of_number ordered ≡ Some x.ordered → moment_of_number take ≡ Some x.take → some_moment_of (or_null Int started) ≡ Some x.started → some_moment_of (or_null Int closed) ≡ Some x.closed → declared_of (or_null Int votes_for) (or_null Int votes_against) (or_null Int withheld) (or_null Int eligible) ≡ Some x.declared
-      → AddsBy layout_one polls (adding_text table) values (record { meeting = m; item = x })
+      → AddsBy layout_one polls (adding_text table) values (record { meeting = m; item = record x { session = 1 } })
   unfolding poll_in declared_in flag_in moment_in number_in some_moment_in spelled
   adds_poll meeting_is resolution_is ordered_is take_is started_is closed_is declared_is =
-      adds_given ones_apart adds values values (record { meeting = m; item = x }) (rw (cast_null, cast_int resolution, cast_int ordered, cast_int take, cast_flag x.chair, cast_some started, cast_some closed, cast_some votes_for, cast_some votes_against, cast_some withheld, cast_some eligible) refl) (λ id. rw (meeting_is, resolution_is, ordered_is, take_is, started_is, closed_is, declared_is, flag_kept x.chair) refl)
+      adds_given ones_apart adds values values (record { meeting = m; item = record x { session = 1 } }) (rw (cast_null, cast_int resolution, cast_int ordered, cast_int take, cast_flag x.chair, cast_some started, cast_some closed, cast_some votes_for, cast_some votes_against, cast_some withheld, cast_some eligible) refl) (λ id. rw (meeting_is, resolution_is, ordered_is, take_is, started_is, closed_is, declared_is, flag_kept x.chair) refl)
 
 abbrev named : List Term
 named = op2 (Compare Eq Binary) (col 1 1) (col 0 0) ∷ op2 (Compare Eq Binary) (col 1 2) (col 0 1) ∷ []
@@ -101,6 +101,7 @@ declare_runs = wide (λ s. RunsOn s declare_text (Update 12 (record { lets = [];
 -- what the columns of a row give, where it is that of a poll
 record IsPollRow (cells : Row) (x : InMeeting Poll) : Type 0 where
   meeting : spelled meeting_of cells 0 ≡ Some x.meeting
+  session : 1 ≡ x.item.session
   resolution : number_in cells 1 ≡ Some x.item.resolution
   ordered : moment_in cells 2 ≡ Some x.item.ordered
   taken : moment_in cells 3 ≡ Some x.item.take
@@ -108,6 +109,9 @@ record IsPollRow (cells : Row) (x : InMeeting Poll) : Type 0 where
   started : some_moment_in cells 5 ≡ Some x.item.started
   closed : some_moment_in cells 6 ≡ Some x.item.closed
   declared : declared_in cells 7 ≡ Some x.item.declared
+
+some_is : (m n : ℕ) → ◌≡◌ {A = Option ℕ} (Some m) (Some n) → m ≡ n
+some_is m n h = cc
 
 parts : (cells : Row) (x : InMeeting Poll) → poll_in cells ≡ Some x → IsPollRow cells x
 unfolding poll_in
@@ -123,6 +127,7 @@ parts cells x h =
     let is = declared.2 in
     record {
       meeting = meeting.1 ∙ option_ap (λ (y : InMeeting Poll). y.meeting) is;
+      session = some_is 1 x.item.session (option_ap (λ (y : InMeeting Poll). y.item.session) is);
       resolution = resolution.1 ∙ option_ap (λ (y : InMeeting Poll). y.item.resolution) is;
       ordered = ordered.1 ∙ option_ap (λ (y : InMeeting Poll). y.item.ordered) is;
       taken = taken.1 ∙ option_ap (λ (y : InMeeting Poll). y.item.take) is;
@@ -134,11 +139,13 @@ parts cells x h =
 
 whole_row : (cells : Row) (x : InMeeting Poll) → IsPollRow cells x → poll_in cells ≡ Some x
 unfolding poll_in
-whole_row cells x p = rw (p.meeting, p.resolution, p.ordered, p.taken, p.chair, p.started, p.closed, p.declared) refl
+whole_row cells x p =
+    rw (p.meeting, p.resolution, p.ordered, p.taken, p.chair, p.started, p.closed, p.declared) (ap (λ n. Some (record x { item = record x.item { session = n } })) p.session)
 
 -- the columns of a row that is written again
 record IsKeptRow (cells : Row) (x : InMeeting Poll) : Type 0 where
   meeting : spelled_of meeting_of (cast Texts (column cells 1)) ≡ Some x.meeting
+  session : 1 ≡ x.item.session
   resolution : natural_value (cast Integer (column cells 2)) ≡ Some x.item.resolution
   ordered : (integer_of (cast Integer (column cells 3)) >>= moment_of_number) ≡ Some x.item.ordered
   taken : (integer_of (cast Integer (column cells 4)) >>= moment_of_number) ≡ Some x.item.take
@@ -155,6 +162,7 @@ kept_row cells x h =
     let stays = declared_stays (column cells 8) (column cells 9) (column cells 10) (column cells 11) x.item.declared p.declared in
     record {
       meeting = kept_spelled meeting_of (column cells 1) x.meeting p.meeting;
+      session = p.session;
       resolution = kept_integer natural_of (column cells 2) x.item.resolution p.resolution;
       ordered = kept_integer moment_of_number (column cells 3) x.item.ordered p.ordered;
       taken = kept_integer moment_of_number (column cells 4) x.item.take p.taken;
@@ -182,6 +190,7 @@ unfolding spelled moment_in flag_in number_in some_moment_in declared_in
 again cells x k started closed a b c d set same e f g =
     whole_row (cast Texts (column cells 1) ∷ cast Integer (column cells 2) ∷ cast Integer (column cells 3) ∷ cast Integer (column cells 4) ∷ cast Integer (column cells 5) ∷ started ∷ closed ∷ a ∷ b ∷ c ∷ d ∷ []) set (record {
       meeting = k.meeting ∙ ap (λ (y : InMeeting Poll). Some y.meeting) (sym same);
+      session = k.session ∙ ap (λ (y : InMeeting Poll). y.item.session) (sym same);
       resolution = k.resolution ∙ ap (λ (y : InMeeting Poll). Some y.item.resolution) (sym same);
       ordered = k.ordered ∙ ap (λ (y : InMeeting Poll). Some y.item.ordered) (sym same);
       taken = k.taken ∙ ap (λ (y : InMeeting Poll). Some y.item.take) (sym same);

@@ -36,7 +36,7 @@ module _ (m : List ℕ) (x : PresenceMark) (meeting : List ℕ) (party : List �
   values = Text meeting ∷ Text party ∷ Int moment ∷ []
 
   pub adds_presence : meeting_of meeting ≡ Some m → party_of party ≡ Some x.party → moment_of_number moment ≡ Some x.moment
-      → AddsBy layout_one presences (adding_text table) values (record { meeting = m; item = x })
+      → AddsBy layout_one presences (adding_text table) values (record { meeting = m; item = record x { session = 1 } })
   unfolding presence_in moment_in spelled
   adds_presence meeting_is party_is moment_is =
-      adds_given ones_apart adds values (Null ∷ values) (record { meeting = m; item = x }) (rw (cast_null, cast_int moment) refl) (λ id. rw (meeting_is, party_is, moment_is) refl)
+      adds_given ones_apart adds values (Null ∷ values) (record { meeting = m; item = record x { session = 1 } }) (rw (cast_null, cast_int moment) refl) (λ id. rw (meeting_is, party_is, moment_is) refl)

@@ -22,7 +22,7 @@ pub fn make<S: Alter>(tx: &mut Transaction<'_, S>) -> Result<usize, Error>
     )
 }
 
-/// Adds a party's demand of a poll in a meeting.
+/// Adds a party's demand of a poll in the first session of a meeting.
 pub fn add<S: Alter>(
     tx: &mut Transaction<'_, S>,
     meeting: MeetingId,
@@ -30,7 +30,7 @@ pub fn add<S: Alter>(
 ) -> Result<usize, Error>
     ensures same_reference { tx.new.conn.ghost_name ≡ tx.old.conn.ghost_name }
     ensures added { Does S.Store tx.old.conn.now tx.new.conn.now result
-        (Adds demands (record { meeting = meeting; item = demand.now })) }
+        (Adds demands (record { meeting = meeting; item = record demand.now { session = 1 } })) }
     ensures commits { CommitsNothing S.Store tx.old.conn.now tx.new.conn.now }
 {
     let resolution = whole(demand.resolution)?;

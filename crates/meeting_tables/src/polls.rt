@@ -22,7 +22,7 @@ pub fn make<S: Alter>(tx: &mut Transaction<'_, S>) -> Result<usize, Error>
     )
 }
 
-/// Adds a poll of a meeting.
+/// Adds a poll of the first session of a meeting.
 pub fn add<S: Alter>(
     tx: &mut Transaction<'_, S>,
     meeting: MeetingId,
@@ -30,7 +30,7 @@ pub fn add<S: Alter>(
 ) -> Result<usize, Error>
     ensures same_reference { tx.new.conn.ghost_name ≡ tx.old.conn.ghost_name }
     ensures added { Does S.Store tx.old.conn.now tx.new.conn.now result
-        (Adds polls (record { meeting = meeting; item = poll.now })) }
+        (Adds polls (record { meeting = meeting; item = record poll.now { session = 1 } })) }
     ensures commits { CommitsNothing S.Store tx.old.conn.now tx.new.conn.now }
 {
     let resolution = whole(poll.resolution)?;

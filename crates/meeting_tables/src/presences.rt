@@ -21,7 +21,7 @@ pub fn make<S: Alter>(tx: &mut Transaction<'_, S>) -> Result<usize, Error>
     )
 }
 
-/// Adds a party's presence at a meeting.
+/// Adds a party's presence at the first session of a meeting.
 pub fn add<S: Alter>(
     tx: &mut Transaction<'_, S>,
     meeting: MeetingId,
@@ -29,7 +29,7 @@ pub fn add<S: Alter>(
 ) -> Result<usize, Error>
     ensures same_reference { tx.new.conn.ghost_name ≡ tx.old.conn.ghost_name }
     ensures added { Does S.Store tx.old.conn.now tx.new.conn.now result
-        (Adds presences (record { meeting = meeting; item = presence.now })) }
+        (Adds presences (record { meeting = meeting; item = record presence.now { session = 1 } })) }
     ensures commits { CommitsNothing S.Store tx.old.conn.now tx.new.conn.now }
 {
     tx.execute(

@@ -1,6 +1,6 @@
 -- The lists of an office that rows are, and rows that are none.
 use Rattle.std.proofs.Common.{◌≡◌, ℕ, suc, ◌==◌, Bool, true, false, ◌&&◌, ◌||◌, if◌then◌else◌, nat_eq, ◌<◌, IsTrue, map, List, [], ◌∷◌, length, Option, Some, None, inl, inr, refl, sym, ap, subst, ◌∙◌, true≢false, arith}
-use Rattle.std.specs.Prelude.{◌↔◌, Contains, IsPermutation, Result, Err, nat_le, nat_lt, is_some}
+use Rattle.std.specs.Prelude.{◌↔◌, Contains, IsPermutation, Result, Err, nat_le, nat_lt}
 use Rattle.desk_words.specs.declared.lists.ListFault.{ListFault}
 use Rattle.desk_words.specs.declared.lists.ListFault.TheVariants.{Limit, Memory}
 use Rattle.std.specs.Cmp.{first_so, second_so}
@@ -20,12 +20,14 @@ use Rattle.desk_lists.proofs.SortingLemmas.{IsPermutation-sort_by}
 use Rattle.desk_words.specs.Callers.{party_in}
 use Rattle.desk_words.specs.declared.caller.KeyRow.{KeyRow}
 use Rattle.desk_words.specs.declared.office.MeetingLists.{MeetingLists}
+use Rattle.desk_words.specs.declared.records.Meeting.{Meeting}
 use Rattle.desk_words.specs.declared.records.Poll.{Poll}
 use Rattle.desk_words.specs.declared.records.RegisterRow.{RegisterRow}
 use Rattle.desk_words.specs.declared.records.Resolution.{Resolution}
 use Rattle.desk_words.specs.Lists.{are_keys, are_resolutions, caller_before, day_before, day_count, is_day_list, is_key_list, keep_keys, key_list_of, same_caller, same_secret}
 use Rattle.desk_words.specs.Office.{are_polls, implies, is_loaded_right, is_meeting, is_poll, no_rows, poll_before, are_rows}
 use Rattle.desk_words.specs.Registers.{are_holdings, is_register, keep_limits, member_before, register_of, same_member}
+use Rattle.desk_words.specs.Sessions.{are_sessions, is_opened}
 use Rattle.desk_words.proofs.OfficeFacts.{meeting_facts}
 use Rattle.desk_words.proofs.RegisterLimits.{keep_limits-permutation}
 use Rattle.desk_terms.specs.Options.{◌>>=◌, only}
@@ -187,7 +189,7 @@ resolutions_wrong own none m h =
 loaded_wrong : (m : MeetingLists) → are_rows m.register ≡ false → is_loaded_right m ≡ false
 loaded_wrong m none = go m.meeting.loaded (no_rows m.register) (is_register m.register) none
   where
-    go : (loaded none_there register : Bool) → (none_there || register) ≡ false → ((if loaded then register else none_there) && implies (is_some m.meeting.opened) m.meeting.loaded) ≡ false
+    go : (loaded none_there register : Bool) → (none_there || register) ≡ false → ((if loaded then register else none_there) && implies (is_opened m.meeting.first) m.meeting.loaded) ≡ false
     go loaded true register h = absurd (true≢false h)
     go loaded false true h = absurd (true≢false h)
     go true false false h = refl
@@ -199,11 +201,10 @@ rows_wrong own none m h =
     let it = bound (resolutions_own own.resolutions) (λ rs. Some (lists_own_with own rs)) m h in
     let lists = lists_own_with own it.0 in
     let same : lists ≡ m = cc in
-    subst (λ (x : MeetingLists). is_meeting x ≡ false) same (rw (second_false (are_resolutions it.0) (is_loaded_right lists) (loaded_wrong lists none)) refl)
+    subst (λ (x : MeetingLists). is_meeting x ≡ false) same (rw (second_false (are_resolutions it.0 && are_sessions lists.meeting) (is_loaded_right lists) (loaded_wrong lists none)) refl)
 
-polls_wrong_order : (opened : Bool) (count : ℕ) (polls : List Poll) → ascends_by poll_before polls ≡ false → are_polls opened count polls ≡ false
-polls_wrong_order opened count [] h = absurd (true≢false h)
-polls_wrong_order opened count (p ∷ ps) h = second_false (opened && list_all (is_poll count) (p ∷ ps)) (ascends_by poll_before (p ∷ ps)) h
+polls_wrong_order : (m : Meeting) (polls : List Poll) → ascends_by poll_before polls ≡ false → are_polls m polls ≡ false
+polls_wrong_order m polls h = second_false (list_all (is_poll m) polls) (ascends_by poll_before polls) h
 
 -- where a poll stands twice
 pub polls_wrong : (own : OwnRecords) → ascends_by poll_before (sort_by poll_before own.polls) ≡ false → (m : MeetingLists) → lists_own own ≡ Some m → is_meeting m ≡ false
@@ -213,7 +214,7 @@ polls_wrong own none m h =
     let same : lists ≡ m = cc in
     subst (λ (x : MeetingLists). is_meeting x ≡ false) same
     (elim (cases_Bool (is_meeting lists)) [
-      | inl good ↦ absurd (true≢false (sym (meeting_facts lists good).polls ∙ polls_wrong_order (is_some lists.meeting.opened) (length it.0) lists.polls none))
+      | inl good ↦ absurd (true≢false (sym (meeting_facts lists good).polls ∙ polls_wrong_order lists.meeting lists.polls none))
       | inr wrong ↦ wrong
     ])
 

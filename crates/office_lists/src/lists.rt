@@ -19,7 +19,7 @@ use desk_rows::NumberedResolution;
 use desk_words::limits::MOST_RESOLUTIONS;
 use desk_words::{
     Day, DayList, KeyRow, KeyRows, Listing, Meeting, MeetingLists, Poll, Register, RegisterRow,
-    Resolution, Resolutions,
+    Resolution, Resolutions, Session,
 };
 use std::alloc::{AllocError, Global};
 
@@ -164,11 +164,14 @@ impl OwnRecords {
             company: row.company,
             kind: row.kind,
             given: row.given,
-            appointed: row.appointed,
+            first: Session {
+                appointed: row.appointed,
+                opened: row.opened,
+            },
+            later: Listing::new(alloc),
             record_moment: row.record_moment,
             resolutions: resolution_list(alloc, self.resolutions)?,
             loaded: row.loaded,
-            opened: row.opened,
         };
         Ok(MeetingLists {
             meeting,
