@@ -1,4 +1,5 @@
 pub mod EntryLemmas
+pub mod FirstSession
 pub mod MeetingAdded
 pub mod MoveLemmas
 pub mod Possible

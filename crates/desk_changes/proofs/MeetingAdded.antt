@@ -78,7 +78,7 @@ module _ (flat : FlatLists) (meeting : Meeting) where
       neither true b h = absurd cc
       neither false b h = (refl, h)
 
-  module _ (office : OfficeLists) (of : AreOf flat office) (fresh : list_any (λ (x : MeetingLists). same_name x.meeting.id meeting.id) office.meetings ≡ false) where
+  module _ (office : OfficeLists) (of : AreOf flat office) (fresh : list_any (λ (x : MeetingLists). same_name x.meeting.id meeting.id) office.meetings ≡ false) (alone : meeting.later ≡ []) where
     none : stands meeting.id flat.meetings ≡ false
     none = sym (stands_there flat office meeting.id of) ∙ fresh
 
@@ -99,7 +99,7 @@ module _ (flat : FlatLists) (meeting : Meeting) where
 
     its_lists : lists_of with_meeting (without_resolutions meeting) ≡ Some (new_lists meeting)
     its_lists =
-        rw (its_resolutions, no_records Register, no_records Appointments, no_records Endings, no_records Authorities, no_records Presences, no_records Demands, no_records Polls, no_records Casts) refl
+        rw (its_resolutions, no_records Register, no_records Appointments, no_records Endings, no_records Authorities, no_records Presences, no_records Demands, no_records Polls, no_records Casts) (ap (λ later. Some (new_lists (record meeting { later = later }))) (sym alone))
 
     all_stand : have_meetings with_meeting ≡ true
     all_stand =
@@ -113,7 +113,7 @@ module _ (flat : FlatLists) (meeting : Meeting) where
           ];
         })
 
-    -- a meeting of a new name is called, with its resolutions
+    -- a meeting of a new name is called, for one session, with its resolutions
     pub meeting_added : office_of_records with_meeting ≡ Some (record office { meetings = office.meetings ++ new_lists meeting ∷ [] })
     meeting_added =
         office_is with_meeting (record office { meetings = office.meetings ++ new_lists meeting ∷ [] }) all_stand

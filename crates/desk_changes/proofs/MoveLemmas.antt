@@ -1,5 +1,5 @@
 -- A meeting that is opened, and a poll that is ordered or comes further.
-use Rattle.std.proofs.Common.{◌≡◌, inl, inr, ℕ, ◌==◌, true, ◌&&◌, List, [], ◌∷◌, ◌++◌, map, Ok, Option, is_some, length, refl, sym, ap, subst, ◌∙◌}
+use Rattle.std.proofs.Common.{◌≡◌, inl, inr, ℕ, ◌==◌, true, List, [], ◌∷◌, ◌++◌, map, Ok, Option, refl, sym, ap, subst, ◌∙◌}
 use Rattle.std.specs.List.{list_all}
 use Rattle.std.proofs.lemmas.Bool.{cases_Bool}
 use Rattle.sqlite.specs.Held.{Held, state}
@@ -34,12 +34,13 @@ use Rattle.desk_records.proofs.RecordLemmas.{change_in, in_meeting}
 use Rattle.std.proofs.lemmas.Bool.{and_parts}
 use Rattle.desk_words.specs.Changes.{moved}
 use Rattle.desk_changes.specs.Writes.{Writes}
+use Rattle.desk_changes.proofs.FirstSession.{poll_of_first}
 use Rattle.desk_changes.proofs.Possible.{placed_in, written_by}
 
 -- ---- polls stand in order
 
 in_order : (x : MeetingLists) → is_meeting x ≡ true → ascends_by poll_before x.polls ≡ true
-in_order x h = polls_ascend (is_some x.meeting.opened) (length x.meeting.resolutions) x.polls (meeting_facts x h).polls
+in_order x h = polls_ascend x.meeting x.polls (meeting_facts x h).polls
 
 all_in_order : (xs : List MeetingLists) → list_all is_meeting xs ≡ true → list_all (λ (x : MeetingLists). ascends_by poll_before x.polls) xs ≡ true
 all_in_order [] h = refl
@@ -76,10 +77,11 @@ module _ {S : Type 0} (g : store.Ghosts S) (old new : Held S) (id : List ℕ) (n
       ∙ meeting_opened flat id office of can.before.differ moment)
 
   -- a poll is ordered
-  pub ordered : (poll : Poll) → Does g old new (Ok n) (Adds table.polls (in_meeting id poll)) → Writes {T = Unit {0}} g old new (Ok tt) (InMeeting id (AddPoll poll))
+  pub ordered : (poll : Poll) → Does g old new (Ok n) (Adds table.polls (in_meeting id (record poll { session = 1 }))) → Writes {T = Unit {0}} g old new (Ok tt) (InMeeting id (AddPoll poll))
   ordered poll does =
-      written_by g old new (InMeeting id (AddPoll poll)) table.polls (λ was. was ++ in_meeting id poll ∷ []) n refl does commits (λ done flat office held of can.
-      ap (λ (o : Option FlatLists). o >>= office_of_records) (table_changed (state g old) (state g new) flat held (Each Polls) (λ was. was ++ in_meeting id poll ∷ []) done)
+      written_by g old new (InMeeting id (AddPoll poll)) table.polls (λ was. was ++ in_meeting id (record poll { session = 1 }) ∷ []) n refl does commits (λ done flat office held of can.
+      ap (λ (o : Option FlatLists). o >>= office_of_records) (table_changed (state g old) (state g new) flat held (Each Polls) (λ was. was ++ in_meeting id (record poll { session = 1 }) ∷ []) done)
+      ∙ ap (λ s. office_of_records (record flat { polls = flat.polls ++ in_meeting id (record poll { session = s }) ∷ [] })) (sym (poll_of_first flat office id poll of can))
       ∙ poll_added flat id poll office of can.before.differ (placed_in office id (AddPoll poll) can) (takes id poll office.meetings can.before.differ can.later.each))
 
   module _ (resolution : ℕ) where

@@ -13,7 +13,7 @@ use Rattle.std.proofs.lemmas.Bool.{not-true, or_parts}
 use Rattle.desk_terms.specs.Names.{same_name}
 use Rattle.desk_words.specs.Callers.{party_in}
 use Rattle.desk_words.specs.Lists.{caller_before, day_before, is_day_list, is_key_list, keep_keys}
-use Rattle.desk_words.specs.Office.{same_meeting}
+use Rattle.desk_words.specs.Office.{is_meeting, same_meeting}
 use Rattle.desk_words.specs.Registers.{is_register, keep_limits, member_before}
 use Rattle.desk_words.specs.declared.caller.KeyRow.{KeyRow}
 use Rattle.desk_words.specs.declared.change.Change.TheVariants as change
@@ -33,6 +33,7 @@ use Rattle.desk_records.proofs.RecordLemmas.{is_other}
 use Rattle.std.proofs.lemmas.Bool.{and_parts}
 use Rattle.desk_words.specs.Changes.{new_lists}
 use Rattle.desk_changes.specs.Writes.{Rewrites, Writes, any_records, no_days, days_added, keys_added, resolutions_added, rows_added}
+use Rattle.desk_changes.proofs.FirstSession.{called_with_one, last_passes}
 use Rattle.desk_changes.proofs.MeetingAdded.{meeting_added}
 use Rattle.desk_changes.proofs.Possible.{placed_in}
 use Rattle.desk_changes.proofs.TurnLemmas.{turns_by, turns_then, writes_failed, writes_from, turns_refused}
@@ -80,7 +81,7 @@ module _ {S : Type 0} (g : store.Ghosts S) where
         writes_from g a c r (change.AddMeeting m) (λ flat. resolutions_added m.id m.resolutions (more flat))
         (turns_then g a b c any_records more (turns_by g a b n table.meetings (λ was. was ++ without_resolutions m ∷ []) more refl does commits (λ flat held. table_changed (state g a) (state g b) flat held Meetings (λ was. was ++ without_resolutions m ∷ [])))
         r any_records (resolutions_added m.id m.resolutions) turns (λ flat good. refl))
-        (λ flat office of can. meeting_added flat m office of (differ_last same_meeting office.meetings (new_lists m) can.later.differ))
+        (λ flat office of can. meeting_added flat m office of (differ_last same_meeting office.meetings (new_lists m) can.later.differ) (called_with_one m (last_passes is_meeting office.meetings (new_lists m) can.later.each)))
 
     -- the rows of a meeting's register are emptied, and then added
     abbrev taken_out : List ℕ → FlatLists → FlatLists

@@ -22,8 +22,8 @@ pub record IsMaking {S T : Type 0} (g : store.Ghosts S) (old new : Held S) (resu
       → AreEmpty before (state g old) → KeepsCommit (state g old) (state g new)
   pub crash : Survives (state g old) (state g new) (λ _. ⊥)
 
--- in a transaction over a database without tables, the tables of a desk that holds nothing and their
--- indexes are made, and no others, and nothing is committed
+-- in a transaction over a database without tables, the tables of a desk that holds nothing are made
+-- with their indexes, and no others, and nothing is committed
 pub record LeavesEmptyDesk {S T : Type 0} (g : store.Ghosts S) (old new : Held S)
     (result : Result T Error) : Type 0 where
   pub made : HasCleanDisk (state g new) → IsTrue (state g old).in_transaction

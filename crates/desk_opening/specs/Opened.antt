@@ -74,8 +74,8 @@ pub record IsWhyUnopened {S : Type 0} (g : store.Ghosts S) (old : Held S) (why :
   pub whole : IsCleanBack g it → (office : OfficeLists) → IsWhole (state g old).now.trees office
       → (why ≡ Store) ⊎ (why ≡ Memory)
 
--- the tables are those of a desk that holds nothing; the database has the desk's tables and indexes,
--- and no others; and a crash leaves the tables of a new desk
+-- the tables are those of a desk that holds nothing; the database has the tables and the indexes of
+-- a desk, and no others; and a crash leaves the tables of a new desk
 abbrev pub HoldsNothing : {S : Type 0} → store.Ghosts S → Held S → Type 0
 HoldsNothing g made =
     HasCleanDisk (state g made)

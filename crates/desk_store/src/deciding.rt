@@ -69,7 +69,7 @@ fn decide_new_meeting<S: Alter>(
         (IsDecidedAlways (whole.CallMeeting new.now)) }
 {
     let count = read_count(tx, alloc, new.meeting)?;
-    let answer = decide_call(count.is_named, count.held, new)?;
+    let answer = decide_call(alloc, count.is_named, count.held, new)?;
     Ok(answer)
 }
 

@@ -1,10 +1,11 @@
 -- A meeting with some of its lists, from what was told of each.
 use Rattle.std.proofs.Common.{◌≡◌, ℕ, Bool, true, false, ◌||◌, cond, List, Option, Some, None, IsTrue, refl, ap, ◌∙◌}
 use Rattle.std.specs.Cmp.{first_so}
-use Rattle.std.specs.Prelude.{is_some, option_map}
+use Rattle.std.specs.Prelude.{option_map}
 use Rattle.desk_words.specs.Finding.{meeting_named}
 use Rattle.desk_words.specs.Office.{implies, is_office, no_rows, are_rows}
 use Rattle.desk_words.specs.Registers.{is_register}
+use Rattle.desk_words.specs.Sessions.{is_opened}
 use Rattle.desk_words.specs.declared.office.MeetingLists.{MeetingLists}
 use Rattle.desk_words.specs.declared.office.OfficeLists.{OfficeLists}
 use Rattle.desk_words.specs.declared.records.RegisterRow.{RegisterRow}
@@ -36,4 +37,4 @@ register_right office id kept = go (meeting_named office.meetings id) refl
     go None is = refl
     go (Some m) is =
         rows_right m.meeting.loaded m.register
-        (first_so (cond m.meeting.loaded (is_register m.register) (no_rows m.register)) (implies (is_some m.meeting.opened) m.meeting.loaded) (found_facts office id m kept is).loaded)
+        (first_so (cond m.meeting.loaded (is_register m.register) (no_rows m.register)) (implies (is_opened m.meeting.first) m.meeting.loaded) (found_facts office id m kept is).loaded)

@@ -1,6 +1,6 @@
 -- The public record, from what was told of its parts.
 use Rattle.std.proofs.Common.{◌≡◌, ℕ, true, List, [], filter, find, slice_get, Option, Some, None, Err, Result, IsTrue, refl, sym, ap, subst, ◌∙◌}
-use Rattle.std.specs.Prelude.{option_map, is_some}
+use Rattle.std.specs.Prelude.{option_map}
 use Rattle.std.specs.Option.{option_map_or}
 use Rattle.sqlite.specs.Held.{Held, state}
 use Rattle.sqlite.specs.Tree.{Trees}
@@ -17,7 +17,6 @@ use Rattle.desk_words.proofs.OfficeFacts.{found_facts}
 use Rattle.desk_rows.specs.declared.kept.MeetingRow.{MeetingRow}
 use Rattle.desk_rows.specs.declared.kept.NumberedResolution.{NumberedResolution}
 use Rattle.desk_rows.proofs.MeaningLemmas.{bound}
-use Rattle.desk_schema.specs.Contents.{without_resolutions}
 use Rattle.desk_records.specs.Office.{FlatLists, flat_in, of_meeting, office_of_records, whole_meeting}
 use Rattle.desk_records.proofs.ListChanges.{list_of}
 use Rattle.desk_records.proofs.Names.ListName.{Polls}
@@ -48,16 +47,23 @@ reading_told g a b said all held r reading R so = record {
 
 -- ---- the meeting
 
--- the row of the meeting, without its resolutions
-abbrev pub row_at : OfficeLists → List ℕ → Option MeetingRow
-row_at office id = option_map (λ (m : MeetingLists). without_resolutions m.meeting) (meeting_named office.meetings id)
+-- with the meeting's resolutions the row is the meeting, and where there is no meeting there is no row
+abbrev pub IsRowOf : Option MeetingLists → Option MeetingRow → Type 0
+IsRowOf None row = row ≡ None
+IsRowOf (Some m) row = option_map (λ (r : MeetingRow). whole_meeting r m.meeting.resolutions) row ≡ Some m.meeting
 
-pub meeting_row_so : (id : List ℕ) (flat : FlatLists) (office : OfficeLists) → AreOf flat office → slice_get (filter (has_name id) flat.meetings) 0 ≡ row_at office id
-meeting_row_so id flat office of = first_passing (has_name id) flat.meetings ∙ go (meeting_named office.meetings id) (meeting_found flat office id of)
+-- the first of the rows is the meeting's, if there is one
+abbrev pub IsRow : List ℕ → OfficeLists → List MeetingRow → Type 0
+IsRow id office rows = IsRowOf (meeting_named office.meetings id) (slice_get rows 0)
+
+pub meeting_row_so : (id : List ℕ) (flat : FlatLists) (office : OfficeLists) → AreOf flat office → IsRow id office (filter (has_name id) flat.meetings)
+meeting_row_so id flat office of =
+    subst (IsRowOf (meeting_named office.meetings id)) (sym (first_passing (has_name id) flat.meetings)) (go (meeting_named office.meetings id) (meeting_found flat office id of))
   where
-    go : (found : Option MeetingLists) → IsFoundAs flat id flat.meetings found → find (has_name id) flat.meetings ≡ option_map (λ (m : MeetingLists). without_resolutions m.meeting) found
+    go : (found : Option MeetingLists) → IsFoundAs flat id flat.meetings found → IsRowOf found (find (has_name id) flat.meetings)
     go None none = none
-    go (Some m) made = made.found ∙ ap (λ (x : MeetingLists). Some (without_resolutions x.meeting)) (sym made.is)
+    go (Some m) made =
+        ap (option_map (λ (r : MeetingRow). whole_meeting r m.meeting.resolutions)) made.found ∙ ap (λ (x : MeetingLists). Some (whole_meeting made.row x.meeting.resolutions)) made.is ∙ ap (λ (x : MeetingLists). Some x.meeting) (sym made.is)
 
 -- the records of a meeting's resolutions are its resolutions
 abbrev pub AreResolutions : List ℕ → OfficeLists → List NumberedResolution → Type 0
@@ -68,34 +74,37 @@ resolutions_so id flat office of m is =
     let made = subst (IsFoundAs flat id flat.meetings) is (meeting_found flat office id of) in
     ap (λ n. resolutions_own (of_meeting n flat.resolutions)) (sym made.named) ∙ made.numbered ∙ ap (λ (x : MeetingLists). Some x.meeting.resolutions) (sym made.is)
 
-module _ (id : List ℕ) (office : OfficeLists) (row : MeetingRow) (rows : List NumberedResolution) (one : Some row ≡ row_at office id) (are : AreResolutions id office rows) where
+module _ (id : List ℕ) (office : OfficeLists) (meetings : List MeetingRow) (row : MeetingRow) (first : Some row ≡ slice_get meetings 0) (one : IsRow id office meetings) (rows : List NumberedResolution)
+    (are : AreResolutions id office rows) where
+  its_row : IsRowOf (meeting_named office.meetings id) (Some row)
+  its_row = subst (IsRowOf (meeting_named office.meetings id)) (sym first) one
+
   -- the row with the resolutions is the meeting
   pub meeting_so : (resolutions : List Resolution) → resolutions_own rows ≡ Some resolutions → Some (whole_meeting row resolutions) ≡ option_map (λ (m : MeetingLists). m.meeting) (meeting_named office.meetings id)
-  meeting_so resolutions read = go (meeting_named office.meetings id) one are
+  meeting_so resolutions read = go (meeting_named office.meetings id) its_row are
     where
-      go : (found : Option MeetingLists) → Some row ≡ option_map (λ (m : MeetingLists). without_resolutions m.meeting) found → ((m : MeetingLists) → found ≡ Some m → resolutions_own rows ≡ Some m.meeting.resolutions)
+      go : (found : Option MeetingLists) → IsRowOf found (Some row) → ((m : MeetingLists) → found ≡ Some m → resolutions_own rows ≡ Some m.meeting.resolutions)
           → Some (whole_meeting row resolutions) ≡ option_map (λ (m : MeetingLists). m.meeting) found
-      go None e next = absurd cc
-      go (Some m) e next =
-          let same : row ≡ without_resolutions m.meeting = the_same e in
+      go None none next = absurd cc
+      go (Some m) is next =
           let its : resolutions ≡ m.meeting.resolutions = the_same (sym read ∙ next m refl) in
-          λ i. Some (whole_meeting (same i) (its i))
+          ap (λ rs. Some (whole_meeting row rs)) its ∙ is
 
   -- and where they are refused, it is not for want of a meeting
   pub resolutions_tell : {X : Type 0} (P : X → Type 0) (e : ReadFault) → IsTrue (is_office office) → IsCause are_resolutions e (resolutions_own rows) → TellsOnly P (Err e)
-  resolutions_tell P e kept cause = go (meeting_named office.meetings id) refl one
+  resolutions_tell P e kept cause = go (meeting_named office.meetings id) refl its_row
     where
-      go : (found : Option MeetingLists) → meeting_named office.meetings id ≡ found → Some row ≡ option_map (λ (m : MeetingLists). without_resolutions m.meeting) found → TellsOnly P (Err e)
-      go None is e = absurd cc
-      go (Some m) is e = cause_tells P are_resolutions _ m.meeting.resolutions (resolutions_own rows) (are m is) (found_facts office id m kept is).resolutions cause
+      go : (found : Option MeetingLists) → meeting_named office.meetings id ≡ found → IsRowOf found (Some row) → TellsOnly P (Err e)
+      go None is none = absurd cc
+      go (Some m) is its = cause_tells P are_resolutions _ m.meeting.resolutions (resolutions_own rows) (are m is) (found_facts office id m kept is).resolutions cause
 
 -- no row is no meeting
-pub no_meeting : (office : OfficeLists) (id : List ℕ) → None ≡ row_at office id → None ≡ option_map (λ (m : MeetingLists). m.meeting) (meeting_named office.meetings id)
-no_meeting office id = go (meeting_named office.meetings id)
+pub no_meeting : (office : OfficeLists) (id : List ℕ) (meetings : List MeetingRow) → None ≡ slice_get meetings 0 → IsRow id office meetings → None ≡ option_map (λ (m : MeetingLists). m.meeting) (meeting_named office.meetings id)
+no_meeting office id meetings none one = go (meeting_named office.meetings id) (subst (IsRowOf (meeting_named office.meetings id)) (sym none) one)
   where
-    go : (found : Option MeetingLists) → None ≡ option_map (λ (m : MeetingLists). without_resolutions m.meeting) found → None ≡ option_map (λ (m : MeetingLists). m.meeting) found
-    go None e = refl
-    go (Some m) e = absurd cc
+    go : (found : Option MeetingLists) → IsRowOf found None → None ≡ option_map (λ (m : MeetingLists). m.meeting) found
+    go None is = refl
+    go (Some m) is = absurd cc
 
 -- ---- the polls
 
@@ -111,4 +120,4 @@ polls_rise office id kept = go (meeting_named office.meetings id) refl
   where
     go : (found : Option MeetingLists) → meeting_named office.meetings id ≡ found → ascends_by poll_before (polls_in found) ≡ true
     go None is = refl
-    go (Some m) is = polls_ascend (is_some m.meeting.opened) _ m.polls (found_facts office id m kept is).polls
+    go (Some m) is = polls_ascend m.meeting m.polls (found_facts office id m kept is).polls

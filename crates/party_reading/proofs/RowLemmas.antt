@@ -1,11 +1,10 @@
 -- A party's rows, from what was told of each list.
-use Rattle.std.proofs.Common.{◌≡◌, ℕ, Bool, true, false, not, ◌&&◌, ◌||◌, ◌==◌, cond, List, [], ◌∷◌, length, map, filter, find, slice_get, Option, Some, None, IsTrue, inl, inr, refl, sym, ap, subst, ◌∙◌, true≢false, arith}
+use Rattle.std.proofs.Common.{◌≡◌, ℕ, Bool, true, false, not, ◌&&◌, cond, List, [], ◌∷◌, map, filter, find, slice_get, Option, Some, None, IsTrue, inl, inr, refl, sym, ap, subst, ◌∙◌, true≢false}
 use Rattle.std.specs.Cmp.{first_so, second_so}
 use Rattle.std.specs.Cmp.Lexicographic.{nat_list_cmp_total, texts_ties}
 use Rattle.std.specs.List.{list_any}
 use Rattle.std.specs.Option.{option_map_or}
 use Rattle.std.proofs.lemmas.Bool.{cases_Bool, not-true}
-use Rattle.std.proofs.lemmas.Bool.Decides.{nat_tests}
 use Rattle.desk_lists.specs.Ordered.{ascends_by, differ_by}
 use Rattle.desk_lists.specs.Sorting.{insert_by, sort_by}
 use Rattle.desk_lists.proofs.Ascending.{differ_by_key-IsPermutation, differs-from_ascends_by}
@@ -36,15 +35,6 @@ pub first_passing : {X : Type 0} (test : X → Bool) (xs : List X) → slice_get
 first_passing test [] = refl
 first_passing test (x ∷ xs) =
     elim (test x) as (λ b. slice_get (cond b (x ∷ filter test xs) (filter test xs)) 0 ≡ cond b (Some x) (find test xs)) [ true ↦ refl | false ↦ first_passing test xs ]
-
--- whether one passes
-pub some_pass : {X : Type 0} (test : X → Bool) (xs : List X) → not (length (filter test xs) == 0) ≡ list_any test xs
-some_pass test [] = refl
-some_pass test (x ∷ xs) = go (test x) (some_pass test xs)
-  where
-    go : (b : Bool) → not (length (filter test xs) == 0) ≡ list_any test xs → not (length (cond b (x ∷ filter test xs) (filter test xs)) == 0) ≡ (b || list_any test xs)
-    go true rest = grind (arith, nat_tests)
-    go false rest = rest
 
 -- where no two that pass stand in a list, its order is nothing to what is found
 module _ {X : Type 0} (alike : X → X → Bool) (test : X → Bool) (apart : (x y : X) → test x ≡ true → alike x y ≡ false → test y ≡ false) where

@@ -11,8 +11,8 @@ ghost use Rattle.party_reading.specs.Telling.{IsToldOf, MayFail};
 ghost use Rattle.party_reading.specs.HomeLaws as laws;
 
 use crate::rows::{
-    casts_of, casts_on, demands_of, ended_by, given_by, is_present, naming, naming_by, persons_of,
-    row_of, trusting, trusting_for,
+    casts_of, casts_on, demands_of, ended_by, given_by, naming, naming_by, persons_of,
+    presences_of, row_of, trusting, trusting_for,
 };
 use caller_view::{OwnRows, Reads, reads_of};
 use desk_words::{
@@ -89,8 +89,8 @@ impl<S: Alter> RowSource for InTables<'_, '_, S> {
         trusting_for(self.tx, self.alloc, self.meeting, corporation, party)
     }
 
-    fn is_present(&mut self, party: Party) -> Result<bool, ReadFault> {
-        is_present(self.tx, self.alloc, self.meeting, party)
+    fn presences_of(&mut self, party: Party) -> Result<Listing<u64>, ReadFault> {
+        presences_of(self.tx, self.alloc, self.meeting, party)
     }
 
     fn demands_of(&mut self, party: Party) -> Result<Listing<DemandMark>, ReadFault> {
@@ -152,8 +152,8 @@ pub fn read_rows<S: Alter>(
 
 /// Those of a party's rows in a meeting that the answer to its request reads, and nothing in place
 /// of the others; where there is no meeting of that name, none. What the party gave, whom it
-/// authorised and whether it is present are read alone where no more is asked, and a vote reads of
-/// others the member alone for whom it is cast.
+/// authorised and in which sessions it is present are read alone where no more is asked, and a vote
+/// reads of others the member alone for whom it is cast.
 pub fn read_asked<S: Alter>(
     tx: &mut Transaction<'_, S>,
     alloc: Global,

@@ -9,7 +9,7 @@ use crate::found::{first, found, items};
 use caller_view::PublicRecord;
 use desk_reading::listing;
 use desk_rows::MeetingRow;
-use desk_words::{Listing, Meeting, MeetingId, Poll, Resolutions};
+use desk_words::{Listing, Meeting, MeetingId, Poll, Resolutions, Session};
 use found_rows::{meetings, polls, resolutions};
 use office_days::Closed;
 use office_lists::{ReadFault, day_list, poll_list, resolution_list};
@@ -55,8 +55,8 @@ pub fn read_closed<S: Alter>(
     Ok(Closed::from_list(day_list(days)?))
 }
 
-/// A meeting with its resolutions.
-fn whole_meeting(row: MeetingRow, resolutions: Resolutions) -> Meeting
+/// A meeting of one session, with its resolutions.
+fn whole_meeting(alloc: Global, row: MeetingRow, resolutions: Resolutions) -> Meeting
     ensures { result ≡ whole_meeting row resolutions }
 {
     Meeting {
@@ -64,11 +64,14 @@ fn whole_meeting(row: MeetingRow, resolutions: Resolutions) -> Meeting
         company: row.company,
         kind: row.kind,
         given: row.given,
-        appointed: row.appointed,
+        first: Session {
+            appointed: row.appointed,
+            opened: row.opened,
+        },
+        later: Listing::new(alloc),
         record_moment: row.record_moment,
         resolutions,
         loaded: row.loaded,
-        opened: row.opened,
     }
 }
 
@@ -89,7 +92,7 @@ pub fn meeting_of<S: Alter>(
     };
     let rows = items(alloc, found(alloc, resolutions::of_meeting(tx, meeting)))?;
     let resolutions = resolution_list(alloc, rows)?;
-    Ok(Some(whole_meeting(row, resolutions)))
+    Ok(Some(whole_meeting(alloc, row, resolutions)))
 }
 
 /// The polls of a meeting (section 321), in the order of resolutions.

@@ -1,10 +1,12 @@
 //! The records of a party in a meeting, each looked up by the names that its row has.
-ghost use Rattle.std.specs.Prelude.{◌≡◌, filter};
-ghost use Rattle.std.specs.List.{list_any};
+ghost use Rattle.std.specs.Prelude.{◌≡◌, MatchResult, filter, map};
+ghost use Rattle.desk_words.specs.declared.records.PresenceMark.{PresenceMark};
+ghost use Rattle.office_lists.specs.declared.fault.ReadFault.TheVariants.{Memory};
 ghost use Rattle.proxy_rules.specs.Holdings.{is_ended_of, is_given_by};
 ghost use Rattle.proxy_rules.specs.Parties.{authorises, is_authority_of, is_cast_by, is_demanded_by, is_presence_of, names};
 ghost use Rattle.proxy_rules.specs.Shares.{row_of};
 ghost use Rattle.caller_view.specs.Reads.{cast_on};
+ghost use Rattle.caller_view.specs.Rows.{presences_of};
 ghost use Rattle.caller_view.specs.Views.{meeting_at};
 ghost use Rattle.row_source.specs.Lists.{appointments_in, authorities_in, cast_in, casts_in, naming_by_in, trusting_for_in};
 ghost use Rattle.row_source.specs.Lists.{demands_in, endings_in, presences_in, register_in};
@@ -169,23 +171,45 @@ pub(crate) fn trusting_for<S: Alter>(
     )
 }
 
-/// Whether a party is marked present (section 318).
-pub(crate) fn is_present<S: Alter>(
+/// The marks of a party's presence (section 318), in order of receipt.
+fn marks_of<S: Alter>(
     tx: &mut Transaction<'_, S>,
     alloc: Global,
     meeting: MeetingId,
     party: Party,
-) -> Result<bool, ReadFault>
+) -> Result<Listing<PresenceMark>, ReadFault>
     ensures same_reference { tx.new.conn.ghost_name ≡ tx.old.conn.ghost_name }
     ensures told { IsToldOf S.Store tx.old.conn.now tx.new.conn.now result
-        (λ office present. present
-        ≡ list_any (is_presence_of party) (presences_in (meeting_at office meeting))) }
+        (λ office marks. marks
+        ≡ filter (is_presence_of party) (presences_in (meeting_at office meeting))) }
 {
-    let marks: Listing<PresenceMark> = items(
-        alloc,
-        found(alloc, presences::of_party(tx, meeting, party)),
-    )?;
-    Ok(!marks.is_empty())
+    items(alloc, found(alloc, presences::of_party(tx, meeting, party)))
+}
+
+/// The sessions of these marks. The fault is want of memory.
+fn sessions_of(alloc: Global, marks: &[PresenceMark]) -> Result<Listing<u64>, ReadFault>
+    ensures { MatchResult result
+        (λ sessions. sessions ≡ map (λ (mark : PresenceMark). mark.session) marks.now)
+        (λ fault. fault ≡ Memory) }
+{
+    let sessions: Vec<u64> = marks.iter().map(|mark| mark.session).collect(alloc)?;
+    Ok(Listing::from_vec(sessions))
+}
+
+/// The sessions in which a party is marked present (section 318), in order of receipt.
+pub(crate) fn presences_of<S: Alter>(
+    tx: &mut Transaction<'_, S>,
+    alloc: Global,
+    meeting: MeetingId,
+    party: Party,
+) -> Result<Listing<u64>, ReadFault>
+    ensures same_reference { tx.new.conn.ghost_name ≡ tx.old.conn.ghost_name }
+    ensures told { IsToldOf S.Store tx.old.conn.now tx.new.conn.now result
+        (λ office sessions. sessions
+        ≡ presences_of party (presences_in (meeting_at office meeting))) }
+{
+    let marks = marks_of(tx, alloc, meeting, party)?;
+    sessions_of(alloc, marks.as_slice())
 }
 
 /// The polls that a party demanded (sections 321 and 329), in order of receipt.

@@ -1,19 +1,13 @@
-use Rattle.std.proofs.Common.{◌≡◌, ℕ, List, Err, Some, slice_get, ap, ◌∙◌, rules}
+use Rattle.std.proofs.Common.{◌≡◌, Err, Some, ap, ◌∙◌, rules}
 use Rattle.std.specs.Prelude.{Option, option_map}
 use Rattle.desk_words.specs.Finding.{meeting_named}
 use Rattle.desk_words.specs.declared.office.MeetingLists.{MeetingLists}
 use Rattle.desk_words.specs.declared.records.Meeting.{Meeting}
-use Rattle.desk_words.specs.declared.office.OfficeLists.{OfficeLists}
-use Rattle.desk_rows.specs.declared.kept.MeetingRow.{MeetingRow}
 use Rattle.desk_schema.specs.Contents as table
 use Rattle.party_reading.proofs.FoundLemmas.{found_told, items_told}
-use Rattle.party_reading.proofs.PublicLemmas.{AreResolutions, meeting_row_so, meeting_so, no_meeting, resolutions_so, resolutions_tell, row_at}
+use Rattle.party_reading.proofs.PublicLemmas.{AreResolutions, IsRow, meeting_row_so, meeting_so, no_meeting, resolutions_so, resolutions_tell}
 use Rattle.party_reading.proofs.TellingLemmas.{told_after, told_both, told_refused, told_so, told_stop}
 use Rattle.party_reading.proofs.public.meeting_of.Goals as goal
-
--- the first of the rows is the meeting's, if there is one
-abbrev IsRow : List ℕ → OfficeLists → List MeetingRow → Type 0
-IsRow id office rows = slice_get rows 0 ≡ row_at office id
 
 pub returns-in_err-rows-clause-told : goal.returns-in_err-rows-clause-told
 returns-in_err-rows-clause-told g c =
@@ -27,7 +21,7 @@ returns-in_default-clause-told g c =
     told_so g.S.Store _ _ (IsRow c.args.meeting) _ c.in_ok-rows.rows _
     (found_told g.S.Store c.args.tx.now.conn.now c.named.new.tx.conn.now (λ v. v.items) table.meetings (λ flat. flat.meetings) (λ trees flat held. held.meetings) _ c.named.result c.named.ensures.rows c.named.ensures.changes
     _ c.in_ok-rows.ensures (IsRow c.args.meeting) (λ flat office of kept. meeting_row_so c.args.meeting flat office of))
-    (λ office kept row. no_meeting office c.args.meeting (c.in_default.ensures ∙ row))
+    (λ office kept row. no_meeting office c.args.meeting c.in_ok-rows.rows c.in_default.ensures row)
 
 pub returns-in_err-rows-2-clause-told : goal.returns-in_err-rows-2-clause-told
 returns-in_err-rows-2-clause-told g c =
@@ -48,7 +42,7 @@ returns-in_err-resolutions-clause-told g c =
     _ c.in_ok-rows.ensures (IsRow c.args.meeting) (λ flat office of kept. meeting_row_so c.args.meeting flat office of))
     (items_told g.S.Store c.named.new.tx.conn.now c.of_meeting.new.tx.conn.now (λ v. v.items) table.resolutions (λ flat. flat.resolutions) (λ trees flat held. held.resolutions) _ c.of_meeting.result c.of_meeting.ensures.rows c.of_meeting.ensures.changes c.found-2.result c.found-2.ensures
     _ c.in_ok-rows-2.ensures (AreResolutions c.args.meeting) (λ flat office of kept. resolutions_so c.args.meeting flat office of)))
-    (λ office kept p. resolutions_tell c.args.meeting office c.in-Some.row c.in_ok-rows-2.rows (c.in-Some.ensures ∙ p.0) p.1 {X = Option Meeting}
+    (λ office kept p. resolutions_tell c.args.meeting office c.in_ok-rows.rows c.in-Some.row c.in-Some.ensures p.0 c.in_ok-rows-2.rows p.1 {X = Option Meeting}
     (λ found. found ≡ option_map (λ (m : MeetingLists). m.meeting) (meeting_named office.meetings c.args.meeting)) c.in_err-resolutions.field-0.0 kept c.in_err-resolutions.ensures)
 
 pub returns-clause-told : goal.returns-clause-told
@@ -59,4 +53,4 @@ returns-clause-told g c =
     _ c.in_ok-rows.ensures (IsRow c.args.meeting) (λ flat office of kept. meeting_row_so c.args.meeting flat office of))
     (items_told g.S.Store c.named.new.tx.conn.now c.of_meeting.new.tx.conn.now (λ v. v.items) table.resolutions (λ flat. flat.resolutions) (λ trees flat held. held.resolutions) _ c.of_meeting.result c.of_meeting.ensures.rows c.of_meeting.ensures.changes c.found-2.result c.found-2.ensures
     _ c.in_ok-rows-2.ensures (AreResolutions c.args.meeting) (λ flat office of kept. resolutions_so c.args.meeting flat office of)))
-    (λ office kept p. ap (λ m. Some m) c.whole_meeting.ensures ∙ meeting_so c.args.meeting office c.in-Some.row c.in_ok-rows-2.rows (c.in-Some.ensures ∙ p.0) p.1 c.in_ok-resolutions.resolutions c.in_ok-resolutions.ensures)
+    (λ office kept p. ap (λ m. Some m) c.whole_meeting.ensures ∙ meeting_so c.args.meeting office c.in_ok-rows.rows c.in-Some.row c.in-Some.ensures p.0 c.in_ok-rows-2.rows p.1 c.in_ok-resolutions.resolutions c.in_ok-resolutions.ensures)
