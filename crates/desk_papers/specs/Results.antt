@@ -7,6 +7,7 @@ use Rattle.desk_terms.specs.Names.{letters_of}
 use Rattle.desk_words.specs.declared.records.Meeting.{Meeting}
 use Rattle.desk_words.specs.declared.records.Poll.{Poll}
 use Rattle.desk_words.specs.declared.records.Resolution.{Resolution}
+use Rattle.desk_words.specs.declared.records.Session.{Session}
 use Rattle.desk_words.specs.declared.records.Tally.{Tally}
 use Rattle.desk_words.specs.Finding.{poll_on}
 use Rattle.caller_view.specs.Public.{PublicRecord}
@@ -71,19 +72,33 @@ abbrev pub opening : Option ℕ → List ℕ
 opening None = codes "-"
 opening (Some moment) = moment_text moment
 
--- what is known of a meeting itself
+-- a session: its number, its appointed time and its opening
+abbrev pub session_text : ℕ → Session → List ℕ
+session_text number session =
+    decimal number
+    ++ (codes " " ++ (moment_text session.appointed ++ (codes " " ++ opening session.opened)))
+
+-- sessions that are counted on from a number, a line each
+abbrev pub sessions_text : ℕ → List Session → List ℕ
+sessions_text number [] = []
+sessions_text number (session ∷ more) =
+    line (codes "session") (session_text number session) ++ sessions_text (suc number) more
+
+-- what is known of a meeting itself; `appointed` and `opened` are of its first session
 abbrev pub head_text : Meeting → List ℕ
 head_text meeting =
     line (codes "meeting") (letters_of meeting.id)
     ++ line (codes "company") (company_word meeting.company)
     ++ line (codes "kind") (meeting_kind_word meeting.kind)
     ++ line (codes "given") (day_text meeting.given)
-    ++ line (codes "appointed") (moment_text meeting.appointed)
-    ++ line (codes "opened") (opening meeting.opened)
+    ++ line (codes "appointed") (moment_text meeting.first.appointed)
+    ++ line (codes "opened") (opening meeting.first.opened)
 
--- the results of a meeting, with its polls
+-- the results of a meeting, with its sessions after the first and its polls
 abbrev pub meeting_text : Meeting → List Poll → List ℕ
-meeting_text meeting polls = head_text meeting ++ resolutions_text polls 1 meeting.resolutions
+meeting_text meeting polls =
+    head_text meeting
+    ++ sessions_text 2 meeting.later ++ resolutions_text polls 1 meeting.resolutions
 
 -- the results that a public record shows; nothing where there is no such meeting
 abbrev pub shown : Option Meeting → List Poll → List ℕ

@@ -1,11 +1,13 @@
 //! The text of the results.
 ghost use Rattle.std.specs.Prelude.{◌≡◌, ◌++◌, IfOk, OnOk, codes};
-ghost use Rattle.desk_papers.specs.Results.{line, not_voted, tally_text, figures, heading, resolution_text, resolutions_text, opening, head_text, meeting_text, results_of};
+ghost use Rattle.desk_papers.specs.Results.{line, not_voted, tally_text, figures, heading, resolution_text, resolutions_text, opening, session_text, sessions_text, head_text, meeting_text, results_of};
 
 use crate::number::{push_figure, push_number};
 use crate::state::{State, state_of, state_word};
 use caller_view::PublicRecord;
-use desk_words::{Meeting, Moment, Poll, Resolution, Tally, find_poll, write_day, write_moment};
+use desk_words::{
+    Meeting, Moment, Poll, Resolution, Session, Tally, find_poll, write_day, write_moment,
+};
 use std::alloc::{AllocError, Global};
 
 /// Adds a line with a label and a value.
@@ -91,6 +93,36 @@ fn push_opening(text: &mut Vec<u8>, opened: Option<Moment>) -> Result<(), AllocE
     }
 }
 
+/// The number, the appointed time and the opening of a session.
+fn session_text(alloc: Global, number: u64, session: &Session) -> Result<Vec<u8>, AllocError>
+    ensures { IfOk result (λ value. value.items ≡ session_text number session.now) }
+{
+    let mut value = Vec::new(alloc);
+    push_number(alloc, &mut value, number)?;
+    value.push(b' ')?;
+    value.extend_from_slice(&write_moment(session.appointed))?;
+    value.push(b' ')?;
+    match session.opened {
+        None => value.push(b'-')?,
+        Some(moment) => value.extend_from_slice(&write_moment(moment))?,
+    }
+    Ok(value)
+}
+
+/// Adds a line for each of the sessions to which the meeting was adjourned.
+fn push_sessions(alloc: Global, text: &mut Vec<u8>, sessions: &[Session]) -> Result<(), AllocError>
+    ensures { OnOk result
+        (text.new.items ≡ text.old.items ++ sessions_text 2 sessions.now) }
+{
+    let mut number = 2;
+    for session in sessions {
+        let value = session_text(alloc, number, session)?;
+        push_line(text, "session", &value)?;
+        number += 1;
+    }
+    Ok(())
+}
+
 fn push_head(text: &mut Vec<u8>, meeting: &Meeting) -> Result<(), AllocError>
     ensures { OnOk result (text.new.items ≡ text.old.items ++ head_text meeting.now) }
 {
@@ -98,8 +130,8 @@ fn push_head(text: &mut Vec<u8>, meeting: &Meeting) -> Result<(), AllocError>
     push_line(text, "company", meeting.company.word().as_bytes())?;
     push_line(text, "kind", meeting.kind.word().as_bytes())?;
     push_line(text, "given", &write_day(meeting.given))?;
-    push_line(text, "appointed", &write_moment(meeting.appointed))?;
-    push_opening(text, meeting.opened)
+    push_line(text, "appointed", &write_moment(meeting.first.appointed))?;
+    push_opening(text, meeting.first.opened)
 }
 
 fn push_resolutions(
@@ -127,6 +159,7 @@ pub(crate) fn results_text(alloc: Global, public: &PublicRecord<'_>) -> Result<V
     let mut text = Vec::new(alloc);
     if let Some(meeting) = public.meeting() {
         push_head(&mut text, meeting)?;
+        push_sessions(alloc, &mut text, meeting.later.as_slice())?;
         push_resolutions(
             alloc,
             &mut text,

@@ -1,9 +1,11 @@
 -- What is written one token after another is the tokens of a value, which is read back.
-use Rattle.std.proofs.Common.{◌≡◌, ◌∙◌, ◌≤◌, ◌<◌, ◌^◌, ℕ, suc, max, Bool, true, false, ◌&&◌, List, [], ◌∷◌, ◌++◌, Option, Some, Ordering, Less, Equal, Greater, refl, sym, ap, ap₂, subst, arith, append_assoc, append-nil}
+use Rattle.std.proofs.Common.{◌≡◌, ◌∙◌, ◌≤◌, ◌<◌, ◌+◌, ◌^◌, ℕ, suc, max, Bool, true, false, ◌&&◌, List, [], ◌∷◌, ◌++◌, length, map, take, get_or, Option, Some, Ordering, Less, Equal, Greater, refl, sym, ap, ap₂, subst, arith, append_assoc, append-nil}
 use Rattle.std.specs.Prelude.{⊤, decimal, option_map, option_and_then, Result, Ok, OnOk}
 use Rattle.std.specs.Cmp.{first_so, second_so}
+use Rattle.std.specs.Cmp.Derive.{both_true}
 use Rattle.std.specs.Cmp.Lexicographic.{slice_cmp}
 use Rattle.std.specs.Ordering.{match_ordering, nat_cmp}
+use Rattle.std.proofs.lemmas.List.{map-append, take_more}
 use Rattle.std.proofs.lemmas.Result.{on_ok_weaker}
 use Rattle.json.specs.Token.{Token, begin_array, begin_object, end_array, end_object, key}
 use Rattle.json.specs.Lex.{tokens}
@@ -16,8 +18,8 @@ use Rattle.serde_json.specs.Read.{read, max_depth, of_json, of_items, of_members
 use Rattle.serde_json.specs.View.{items_of}
 use Rattle.serde_json.specs.Written.{outline, items_outline, members_outline}
 use Rattle.serde_json.proofs.Numbers.{number_of-decimal}
-use Rattle.desk_replies.specs.Forms.{members, whole, with_members}
-use Rattle.desk_replies.specs.Writing.{Appends, ReadBack, ReadsBack, WritesMembers, WritesValue, data_tokens, named_tokens}
+use Rattle.desk_replies.specs.Forms.{members, numbered, only_if, whole, with_members}
+use Rattle.desk_replies.specs.Writing.{Appends, ReadBack, ReadsBack, ValuesRead, WritesMembers, WritesValue, WritesValues, data_tokens, named_tokens, values_tokens}
 
 -- ---- one after another
 
@@ -65,12 +67,26 @@ value_as f {x} {y} {a} {b} is w = subst (λ z. WritesValue (f z) a b) is w
 pub seen_as : {A : Type 0} (f : A → Data) {x y : A} {k : List ℕ} {a b : Written} → x ≡ y → WritesMembers ((k, f x) ∷ []) a b → WritesMembers ((k, f y) ∷ []) a b
 seen_as f {x} {y} {k} {a} {b} is w = subst (λ z. WritesMembers ((k, f z) ∷ []) a b) is w
 
+-- members, which are the members that were to be written
+pub members_as : {A : Type 0} (f : A → List (List ℕ × Data)) {x y : A} {a b : Written} → x ≡ y → WritesMembers (f x) a b → WritesMembers (f y) a b
+members_as f {x} {y} {a} {b} is w = subst (λ z. WritesMembers (f z) a b) is w
+
 -- members, and further members after them
 pub then : {ms ns : List (List ℕ × Data)} {a b c : Written} → WritesMembers ms a b → WritesMembers ns b c → WritesMembers (ms ++ ns) a c
 then {ms} {ns} {a} {b} {c} h k = record {
   appends = subst (λ ts. Appends ts a c) (named_after ms ns) (appended (named_tokens ms) (named_tokens ns) a b c h.appends k.appends);
   reads = both_read ms ns h.reads k.reads;
 }
+
+-- no member
+pub none_written : {a : Written} → WritesMembers [] a a
+none_written {a} = record { appends = record { tokens = sym (append-nil a.tokens); before = refl }; reads = tt }
+
+-- a member that is there where a test holds, and further members after it
+pub then_if : (holds : Bool) (m : List ℕ × Data) {ns : List (List ℕ × Data)} {a b c : Written}
+    → WritesMembers (only_if holds m []) a b → WritesMembers ns b c → WritesMembers (only_if holds m ns) a c
+then_if true m h k = then h k
+then_if false m h k = then h k
 
 -- a name, and its value after it
 pub member_written : {k : List ℕ} {a b : Written} → Appends (key k ∷ []) a b → {d : Data} {c : Written} → WritesValue d b c → WritesMembers ((k, d) ∷ []) a c
@@ -119,6 +135,30 @@ members_closed [] = refl
 members_closed (m ∷ ms) =
     ap (λ s. key m.0 ∷ s) (append_assoc (data_tokens m.1) (named_tokens ms) (end_object ∷ []) ∙ ap (λ s. data_tokens m.1 ++ s) (members_closed ms))
 
+after_fewer : (name : List ℕ) (before : List (List ℕ × Data)) (m : List ℕ × Data) (after : List (List ℕ × Data))
+    → is_after name (before ++ m ∷ after) ≡ true → is_after name (before ++ after) ≡ true
+after_fewer name [] m after h = second_so (is_greater (slice_cmp nat_cmp name m.0)) _ h
+after_fewer name (n ∷ ns) m after h =
+    let first = is_greater (slice_cmp nat_cmp name n.0) in
+    both_true (first_so first _ h) (after_fewer name ns m after (second_so first _ h))
+
+rises_fewer : (before : List (List ℕ × Data)) (m : List ℕ × Data) (after ms : List (List ℕ × Data))
+    → rises (before ++ m ∷ after) ms ≡ true → rises (before ++ after) ms ≡ true
+rises_fewer before m after [] h = refl
+rises_fewer before m after (n ∷ ns) h =
+    let first = is_after n.0 (before ++ m ∷ after) in
+    let more : rises (before ++ m ∷ (after ++ n ∷ [])) ns ≡ true =
+    ap (λ done. rises done ns) (sym (append_assoc before (m ∷ after) (n ∷ []))) ∙ second_so first _ h in
+    both_true (after_fewer n.0 before m after (first_so first _ h))
+    (ap (λ done. rises done ns) (append_assoc before after (n ∷ [])) ∙ rises_fewer before m (after ++ n ∷ []) ns more)
+
+-- names that rise do so without one of them
+pub rises_if : (holds : Bool) (m : List ℕ × Data) (done ms : List (List ℕ × Data)) → rises done (m ∷ ms) ≡ true → rises done (only_if holds m ms) ≡ true
+rises_if true m done ms h = h
+rises_if false m done ms h =
+    let fewer : rises (done ++ []) ms ≡ true = rises_fewer done m [] ms (second_so (is_after m.0 done) _ h) in
+    ap (λ all. rises all ms) (sym (append-nil done)) ∙ fewer
+
 -- the members of an object between its brackets, where their names rise
 pub object_written : {E : Type 0} {r : Result (Unit {0}) E} {ms : List (List ℕ × Data)} {a b c d : Written} → Appends (begin_object ∷ []) a b → WritesMembers ms b c
     → Writes r c d end_object → rises [] ms ≡ true → OnOk r (WritesValue (with_members ms) a d)
@@ -133,11 +173,6 @@ object_written {E} {r} {ms} {a} {b} {c} {d} begun w close rise =
 
 -- ---- lists
 
--- the tokens of values, one after another
-abbrev pub values_tokens : List Data → List Token
-values_tokens [] = []
-values_tokens (d ∷ ds) = data_tokens d ++ values_tokens ds
-
 values_more : (ds : List Data) (d : Data) → values_tokens ds ++ data_tokens d ≡ values_tokens (ds ++ d ∷ [])
 values_more [] d = sym (append-nil (data_tokens d))
 values_more (e ∷ ds) d = append_assoc (data_tokens e) (values_tokens ds) (data_tokens d) ∙ ap (λ s. data_tokens e ++ s) (values_more ds d)
@@ -146,13 +181,17 @@ values_closed : (ds : List Data) → values_tokens ds ++ end_array ∷ [] ≡ tr
 values_closed [] = refl
 values_closed (d ∷ ds) = append_assoc (data_tokens d) (values_tokens ds) (end_array ∷ []) ∙ ap (λ s. data_tokens d ++ s) (values_closed ds)
 
-abbrev ValuesRead : List Data → Type 0
-ValuesRead [] = ⊤
-ValuesRead (d ∷ ds) = ReadsBack d × ValuesRead ds
-
 more_read : (ds : List Data) (d : Data) → ValuesRead ds → ReadsBack d → ValuesRead (ds ++ d ∷ [])
 more_read [] d h k = (k, tt)
 more_read (e ∷ ds) d h k = (h.0, more_read ds d h.1 k)
+
+values_after : (ds es : List Data) → values_tokens ds ++ values_tokens es ≡ values_tokens (ds ++ es)
+values_after [] es = refl
+values_after (d ∷ ds) es = append_assoc (data_tokens d) (values_tokens ds) (values_tokens es) ∙ ap (λ s. data_tokens d ++ s) (values_after ds es)
+
+all_read : (ds es : List Data) → ValuesRead ds → ValuesRead es → ValuesRead (ds ++ es)
+all_read [] es h k = k
+all_read (d ∷ ds) es h k = (h.0, all_read ds es h.1 k)
 
 items_read : (ds : List Data) → ValuesRead ds → of_items (items_outline (items_of ds)) ≡ Some (items_of ds)
 items_read [] reads = refl
@@ -172,6 +211,45 @@ one_more {ds} {d} {a} {b} {c} h w = record {
   appends = subst (λ ts. Appends (begin_array ∷ ts) a c) (values_more ds d) (appended (begin_array ∷ values_tokens ds) (data_tokens d) a b c h.appends w.appends);
   reads = more_read ds d h.reads w.reads;
 }
+
+-- no value
+pub none_each : {a : Written} → WritesValues [] a a
+none_each {a} = record { appends = record { tokens = sym (append-nil a.tokens); before = refl }; reads = tt }
+
+-- values, and one more after them
+pub then_one : {ds : List Data} {d : Data} {a b c : Written} → WritesValues ds a b → WritesValue d b c → WritesValues (ds ++ d ∷ []) a c
+then_one {ds} {d} {a} {b} {c} h w = record {
+  appends = subst (λ ts. Appends ts a c) (values_more ds d) (appended (values_tokens ds) (data_tokens d) a b c h.appends w.appends);
+  reads = more_read ds d h.reads w.reads;
+}
+
+-- values, which are the values that were to be written
+pub values_as : {A : Type 0} (f : A → List Data) {x y : A} {a b : Written} → x ≡ y → WritesValues (f x) a b → WritesValues (f y) a b
+values_as f {x} {y} {a} {b} is w = subst (λ z. WritesValues (f z) a b) is w
+
+-- the values of a list, and further values after them
+pub then_each : {ds es : List Data} {a b c : Written} → WritesFirst ds a b → WritesValues es b c → WritesFirst (ds ++ es) a c
+then_each {ds} {es} {a} {b} {c} h w = record {
+  appends = subst (λ ts. Appends (begin_array ∷ ts) a c) (values_after ds es) (appended (begin_array ∷ values_tokens ds) (values_tokens es) a b c h.appends w.appends);
+  reads = all_read ds es h.reads w.reads;
+}
+
+-- a list as far as a place, and the value at the place
+pub next_written : {A : Type 0} (f : A → Data) (items : List A) (i : ℕ) (x : A) {a b c : Written} → i < length items → x ≡ get_or items i x
+    → WritesFirst (map f (take i items)) a b → WritesValue (f x) b c → WritesFirst (map f (take (i + 1) items)) a c
+next_written f items i x {a} {b} {c} below is h w =
+    let next : take (i + 1) items ≡ take i items ++ x ∷ [] = take_more items i x below ∙ ap (λ y. take i items ++ y ∷ []) (sym is) in
+    let all : map f (take (i + 1) items) ≡ map f (take i items) ++ f x ∷ [] = ap (map f) next ∙ map-append f (take i items) (x ∷ []) in
+    subst (λ ds. WritesFirst ds a c) (sym all) (one_more h w)
+
+-- one value more has the next number
+pub numbered_more : {A : Type 0} (f : ℕ → A → Data) (n : ℕ) (xs : List A) (x : A) → numbered f n (xs ++ x ∷ []) ≡ numbered f n xs ++ f (n + length xs) x ∷ []
+numbered_more f n [] x =
+    let same : n ≡ n + 0 = omega arith in
+    ap (λ k. f k x ∷ []) same
+numbered_more f n (y ∷ ys) x =
+    let same : suc n + length ys ≡ n + suc (length ys) = omega arith in
+    ap (λ zs. f n y ∷ zs) (numbered_more f (suc n) ys x ∙ ap (λ k. numbered f (suc n) ys ++ f k x ∷ []) same)
 
 pub list_written : {E : Type 0} {r : Result (Unit {0}) E} {ds : List Data} {a b c : Written} → WritesFirst ds a b → Writes r b c end_array → OnOk r (WritesValue (array (items_of ds)) a c)
 list_written {E} {r} {ds} {a} {b} {c} h close =

@@ -1,6 +1,7 @@
 -- Appointments of proxies as JSON. The members of an object stand in the order of the bytes of
 -- their keys.
-use Rattle.std.specs.Prelude.{ℕ, List, [], ◌∷◌, codes}
+use Rattle.std.specs.Prelude.{ℕ, List, [], ◌∷◌, length, ◌-◌, slice_get, codes}
+use Rattle.std.specs.Option.{option_map_or}
 use Rattle.serde_json.specs.Data.{Data, string, array}
 use Rattle.serde_json.specs.View.{items_of}
 use Rattle.desk_terms.specs.Kinds.{instruction_word}
@@ -12,7 +13,8 @@ use Rattle.desk_words.specs.declared.reply.AppointmentUse.TheVariants.{Meeting, 
 use Rattle.desk_words.specs.declared.reply.GivenUse.{GivenUse}
 use Rattle.desk_words.specs.declared.own.PollGoverned.{PollGoverned}
 use Rattle.desk_words.specs.declared.own.Received.{Received}
-use Rattle.desk_replies.specs.Forms.{whole, name_data, moment_data, or_null, listed, with_members}
+use Rattle.desk_words.specs.declared.own.SessionGoverned.{SessionGoverned}
+use Rattle.desk_replies.specs.Forms.{whole, name_data, moment_data, or_null, listed, counted, only_if, is_adjourned, with_members}
 
 -- an instruction, as its word
 abbrev pub instruction_data : Instr → Data
@@ -48,18 +50,34 @@ poll_governed_data p = with_members (
     ∷ (codes "resolution", whole p.resolution)
     ∷ [])
 
+-- what an appointment governs in the session of a number, in runs in order: for the quorum and
+-- demands, and for votes
+abbrev pub session_governed_data : ℕ → SessionGoverned → Data
+session_governed_data number s = with_members (
+    (codes "acts", listed run_data s.acts)
+    ∷ (codes "governs", listed run_data s.votes)
+    ∷ (codes "session", whole number)
+    ∷ [])
+
+-- what an appointment governs for votes in the last session
+abbrev pub last_votes : List SessionGoverned → List Places
+last_votes sessions =
+    option_map_or (λ (s : SessionGoverned). s.votes) (slice_get sessions (length sessions - 1)) []
+
 -- an appointment that names the party; `received` is the moment of its receipt, `governs` has the
--- places that it governs for the meeting, in runs in order, and `polls` those for each late poll
+-- places that it governs for votes in the last session, in runs in order, and `polls` those for
+-- each late poll
 abbrev pub received_data : Received → Data
 received_data r = with_members (
     (codes "from", whole r.range.from)
-    ∷ (codes "governs", listed run_data r.governs)
+    ∷ (codes "governs", listed run_data (last_votes r.sessions))
     ∷ (codes "instructions", listed instruction_data r.instructions)
     ∷ (codes "member", name_data r.member)
     ∷ (codes "polls", listed poll_governed_data r.polls)
     ∷ (codes "received", moment_data r.moment)
-    ∷ (codes "to", whole r.range.to)
-    ∷ [])
+    ∷ only_if (is_adjourned (length r.sessions))
+    (codes "sessions", counted session_governed_data r.sessions)
+    ((codes "to", whole r.range.to) ∷ []))
 
 -- the number of an appointment that is recorded, and what it counts for
 abbrev pub appointed_data : AppointmentReceipt → Data

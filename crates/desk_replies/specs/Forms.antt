@@ -1,5 +1,5 @@
 -- The forms that replies share, over the words of `serde_json`.
-use Rattle.std.specs.Prelude.{ℕ, List, [], ◌∷◌, map, Option, Some, None}
+use Rattle.std.specs.Prelude.{ℕ, suc, Bool, true, false, nat_lt, List, [], ◌∷◌, map, Option, Some, None}
 use Rattle.serde_json.specs.Data.{Data, null, number, unsigned, string, array, object, Members, no_members, member}
 use Rattle.serde_json.specs.View.{items_of}
 use Rattle.desk_calendar.specs.Texts.{day_text, moment_text}
@@ -30,10 +30,28 @@ or_null f (Some x) = f x
 abbrev pub listed : {A : Type 0} → (A → Data) → List A → Data
 listed f xs = array (items_of (map f xs))
 
+-- values in their order, each with its number, counted on from the first
+abbrev pub numbered : {A : Type 0} → (ℕ → A → Data) → ℕ → List A → List Data
+numbered f n [] = []
+numbered f n (x ∷ xs) = f n x ∷ numbered f (suc n) xs
+
+-- the values in their order, each with its number from 1
+abbrev pub counted : {A : Type 0} → (ℕ → A → Data) → List A → Data
+counted f xs = array (items_of (numbered f 1 xs))
+
 -- these names and values, in the order in which they stand
 abbrev pub members : List (List ℕ × Data) → Members
 members [] = no_members
 members (m ∷ ms) = member m.0 m.1 (members ms)
+
+-- a member before others, where the test holds; where it does not, the others alone
+abbrev pub only_if : Bool → List ℕ × Data → List (List ℕ × Data) → List (List ℕ × Data)
+only_if true m ms = m ∷ ms
+only_if false m ms = ms
+
+-- a meeting of so many sessions was adjourned; what tells its sessions apart stands only then
+abbrev pub is_adjourned : ℕ → Bool
+is_adjourned sessions = nat_lt 1 sessions
 
 -- an object with these members
 abbrev pub with_members : List (List ℕ × Data) → Data

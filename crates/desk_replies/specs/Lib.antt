@@ -1,3 +1,4 @@
+pub mod Adjourned
 pub mod Appointments
 pub mod Forms
 pub mod Letters

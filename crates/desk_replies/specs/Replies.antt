@@ -1,6 +1,7 @@
 -- Replies as JSON, over the words of `serde_json`. The members of an object stand in the order of
 -- the bytes of their keys.
-use Rattle.std.specs.Prelude.{ℕ, List, [], ◌∷◌, codes}
+use Rattle.std.specs.Prelude.{ℕ, Bool, ◌==◌, List, [], ◌∷◌, codes}
+use Rattle.std.specs.List.{list_any}
 use Rattle.serde_json.specs.Data.{Data, boolean, string}
 use Rattle.serde_json.specs.Written.{compact_text}
 use Rattle.desk_terms.specs.Kinds.{holder_kind_word, capacity_word, way_word}
@@ -20,7 +21,7 @@ use Rattle.desk_words.specs.declared.reply.Reply.TheVariants as reply
 use Rattle.desk_words.specs.declared.reply.Failure.{Failure}
 use Rattle.desk_words.specs.declared.reply.Failure.TheVariants as failure
 use Rattle.desk_replies.specs.Appointments.{given_data, received_data, appointed_data, ended_data}
-use Rattle.desk_replies.specs.Forms.{whole, name_data, or_null, listed, with_members}
+use Rattle.desk_replies.specs.Forms.{whole, name_data, or_null, listed, only_if, is_adjourned, with_members}
 use Rattle.desk_replies.specs.Notices.{notice_data}
 
 -- a word beside `ok`, and nothing else
@@ -68,6 +69,10 @@ cast_kind_data resolution cast.AsInstructed =
 abbrev pub cast_data : CastMark → Data
 cast_data mark = cast_kind_data mark.resolution mark.what
 
+-- the party is present in the last session
+abbrev pub is_present : Mine → Bool
+is_present m = list_any (λ session. session == m.session) m.presences
+
 -- a party's own things
 abbrev pub mine_data : Mine → Data
 mine_data m = with_members (
@@ -78,10 +83,11 @@ mine_data m = with_members (
     ∷ (codes "meeting", name_data m.meeting)
     ∷ (codes "ok", string (codes "mine"))
     ∷ (codes "persons", listed person_data m.persons)
-    ∷ (codes "present", boolean m.present)
+    ∷ only_if (is_adjourned m.session) (codes "presences", listed whole m.presences) (
+    (codes "present", boolean (is_present m))
     ∷ (codes "received", listed received_data m.received)
     ∷ (codes "row", or_null row_data m.row)
-    ∷ [])
+    ∷ []))
 
 -- what is declared of a poll: its count, and whether the resolution is carried (sections 282 and
 -- 283)

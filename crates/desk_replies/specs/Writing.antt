@@ -30,6 +30,16 @@ pub record Appends (ts : List Token) (old new : Written) : Type 0 where
   pub tokens : new.tokens ≡ old.tokens ++ ts
   pub before : new.before ≡ old.before
 
+-- the tokens of values, one after another
+abbrev pub values_tokens : List Data → List Token
+values_tokens [] = []
+values_tokens (d ∷ ds) = data_tokens d ++ values_tokens ds
+
+-- the tokens of each of these values are read back as the value
+abbrev pub ValuesRead : List Data → Type 0
+ValuesRead [] = ⊤
+ValuesRead (d ∷ ds) = ReadsBack d × ValuesRead ds
+
 -- the value is written, and is read back
 pub record WritesValue (d : Data) (old new : Written) : Type 0 where
   pub appends : Appends (data_tokens d) old new
@@ -39,3 +49,8 @@ pub record WritesValue (d : Data) (old new : Written) : Type 0 where
 pub record WritesMembers (ms : List (List ℕ × Data)) (old new : Written) : Type 0 where
   pub appends : Appends (named_tokens ms) old new
   pub reads : ReadBack ms
+
+-- the values are written one after another, and each is read back
+pub record WritesValues (ds : List Data) (old new : Written) : Type 0 where
+  pub appends : Appends (values_tokens ds) old new
+  pub reads : ValuesRead ds

@@ -1,11 +1,14 @@
 //! A party's own things, as JSON.
-ghost use Rattle.std.specs.Prelude.{OnOk};
+ghost use Rattle.std.specs.Prelude.{◌≡◌, OnOk};
 ghost use Rattle.desk_replies.specs.Forms.{moment_data};
-ghost use Rattle.desk_replies.specs.Parts.{mine_head};
-ghost use Rattle.desk_replies.specs.Replies.{row_data, person_data, authorised_data, demand_data, cast_kind_data, cast_data, mine_data};
+ghost use Rattle.desk_replies.specs.Parts.{mine_head, mine_rest};
+ghost use Rattle.desk_replies.specs.Replies.{row_data, person_data, authorised_data, demand_data, cast_kind_data, cast_data, is_present, mine_data};
 ghost use Rattle.desk_replies.specs.Writing.{WritesMembers, WritesValue};
 
-use crate::shown::{Shown, put_list, put_number, put_or_null, put_text, put_truth, write_number};
+use crate::shown::{
+    Shown, is_adjourned, put_list, put_list_if, put_number, put_or_null, put_text, put_truth,
+    write_number,
+};
 use desk_words::{
     Authorised, Authority, Block, CastKind, CastMark, DemandMark, Mine, Moment, RegisterRow,
     write_moment,
@@ -107,6 +110,27 @@ fn put_mine_head(out: &mut Writer, mine: &Mine) -> Result<(), AllocError>
     put_list(out, "given", mine.given.as_slice())
 }
 
+/// Whether the party is present in the last session.
+fn is_present(mine: &Mine) -> bool
+    ensures { result ≡ is_present mine.now }
+{
+    mine.presences
+        .as_slice()
+        .iter()
+        .any(|session| *session == mine.session)
+}
+
+/// Writes the members after the persons whom the party authorised.
+fn put_mine_rest(out: &mut Writer, mine: &Mine) -> Result<(), AllocError>
+    ensures { OnOk result (WritesMembers (mine_rest mine.now) out.old out.new) }
+{
+    let adjourned = is_adjourned(mine.session);
+    put_list_if(out, adjourned, "presences", mine.presences.as_slice())?;
+    put_truth(out, "present", is_present(mine))?;
+    put_list(out, "received", mine.received.as_slice())?;
+    put_or_null(out, "row", &mine.row)
+}
+
 /// Writes the object that answers a party that asks for its own things.
 pub(crate) fn write_mine(out: &mut Writer, mine: &Mine) -> Result<(), AllocError>
     ensures { OnOk result (WritesValue (mine_data mine.now) out.old out.new) }
@@ -116,8 +140,6 @@ pub(crate) fn write_mine(out: &mut Writer, mine: &Mine) -> Result<(), AllocError
     put_text(out, "meeting", mine.meeting.as_str())?;
     put_text(out, "ok", "mine")?;
     put_list(out, "persons", mine.persons.as_slice())?;
-    put_truth(out, "present", mine.present)?;
-    put_list(out, "received", mine.received.as_slice())?;
-    put_or_null(out, "row", &mine.row)?;
+    put_mine_rest(out, mine)?;
     out.end_object()
 }

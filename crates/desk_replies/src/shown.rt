@@ -1,8 +1,8 @@
 //! What replies show, written as JSON, a token at a time.
-ghost use Rattle.std.specs.Prelude.{[], ◌∷◌, OnOk};
+ghost use Rattle.std.specs.Prelude.{◌≡◌, ◌<◌, ◌+◌, ◌^◌, [], ◌∷◌, length, OnOk};
 ghost use Rattle.serde_json.specs.Data.{boolean, string};
-ghost use Rattle.desk_replies.specs.Forms.{whole, listed, or_null};
-ghost use Rattle.desk_replies.specs.Writing.{WritesMembers, WritesValue};
+ghost use Rattle.desk_replies.specs.Forms.{whole, listed, numbered, only_if, or_null, is_adjourned};
+ghost use Rattle.desk_replies.specs.Writing.{WritesMembers, WritesValue, WritesValues};
 
 use json::Writer;
 use std::alloc::AllocError;
@@ -18,11 +18,38 @@ pub(crate) trait Shown {
         ensures { OnOk result (WritesValue (shown self.now) out.old out.new) };
 }
 
+/// What has a form of its own in replies, beside its number.
+pub(crate) trait Counted {
+    ghost use Rattle.std.specs.Prelude.{ℕ};
+    ghost use Rattle.serde_json.specs.Data.{Data};
+
+    ghost counted: { ℕ → Self → Data };
+
+    /// Writes it with its number. The only error is want of memory.
+    fn write_as(&self, number: u64, out: &mut Writer) -> Result<(), AllocError>
+        ensures { OnOk result (WritesValue (counted number self.now) out.old out.new) };
+}
+
+/// Whether a meeting of so many sessions was adjourned.
+pub(crate) fn is_adjourned(sessions: u64) -> bool
+    ensures { result ≡ is_adjourned sessions }
+{
+    sessions > 1
+}
+
 /// Writes a number.
 pub(crate) fn write_number(out: &mut Writer, number: u64) -> Result<(), AllocError>
     ensures { OnOk result (WritesValue (whole number) out.old out.new) }
 {
     out.u64(number)
+}
+
+impl Shown for u64 {
+    ghost shown = { whole };
+
+    fn write(&self, out: &mut Writer) -> Result<(), AllocError> {
+        write_number(out, *self)
+    }
 }
 
 /// Writes the list of these, in their order.
@@ -34,6 +61,24 @@ pub(crate) fn write_list<T: Shown>(out: &mut Writer, items: &[T]) -> Result<(), 
         item.write(out)?;
     }
     out.end_array()
+}
+
+/// Writes these in their order, counted on from the first number, without the brackets of a list.
+pub(crate) fn write_each<T: Counted>(
+    out: &mut Writer,
+    first: u64,
+    items: &[T],
+) -> Result<(), AllocError>
+    requires { first + length items.now < 2 ^ 64 }
+    ensures { OnOk result
+        (WritesValues (numbered T.counted first items.now) out.old out.new) }
+{
+    let mut number = first;
+    for value in items {
+        value.write_as(number, out)?;
+        number += 1;
+    }
+    Ok(())
 }
 
 /// Writes what is there, or null where nothing is.
@@ -98,4 +143,38 @@ pub(crate) fn put_truth(out: &mut Writer, key: &str, holds: bool) -> Result<(), 
 {
     out.key(key)?;
     out.boolean(holds)
+}
+
+/// Writes a member that is the list of these, in their order, where the test holds.
+pub(crate) fn put_list_if<T: Shown>(
+    out: &mut Writer,
+    holds: bool,
+    key: &str,
+    items: &[T],
+) -> Result<(), AllocError>
+    ensures { OnOk result (WritesMembers
+        (only_if holds (key.now, listed T.shown items.now) []) out.old out.new) }
+{
+    if holds {
+        put_list(out, key, items)
+    } else {
+        Ok(())
+    }
+}
+
+/// Writes a member that is a number, where the test holds.
+pub(crate) fn put_number_if(
+    out: &mut Writer,
+    holds: bool,
+    key: &str,
+    number: u64,
+) -> Result<(), AllocError>
+    ensures { OnOk result
+        (WritesMembers (only_if holds (key.now, whole number) []) out.old out.new) }
+{
+    if holds {
+        put_number(out, key, number)
+    } else {
+        Ok(())
+    }
 }

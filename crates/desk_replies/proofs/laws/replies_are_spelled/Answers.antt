@@ -1,6 +1,7 @@
 use Rattle.std.proofs.Common.{◌≡◌, ℕ, Bool, true, false, List, [], ◌∷◌, ◌++◌, codes, decimal, refl, append_assoc, ap, ◌∙◌}
 use Rattle.serde_json.specs.Data.{boolean, string}
 use Rattle.serde_json.specs.Written.{compact_text}
+use Rattle.std.specs.Fmt.{digits}
 use Rattle.serde_json.proofs.OnLiterals.{serde_json_on_literals}
 use Rattle.desk_terms.specs.Refusals.{number_of, name_of}
 use Rattle.desk_terms.specs.declared.refusal.Refusal.{Refusal}
@@ -10,6 +11,7 @@ use Rattle.desk_words.specs.declared.reply.Reply.TheVariants as reply
 use Rattle.desk_words.specs.declared.reply.Declaration.{Declaration}
 use Rattle.desk_replies.specs.Letters.{truth, declaration_text}
 use Rattle.desk_replies.specs.Forms.{whole, with_members}
+use Rattle.desk_replies.specs.Adjourned.{day_json, further_session, in_first, in_second, moment_json, noticed_with, own_with}
 use Rattle.desk_replies.specs.Replies.{reply_bytes}
 use Rattle.desk_replies.proofs.laws.replies_are_spelled.Goals as goal
 
@@ -88,6 +90,58 @@ ended_spelled : (n : ℕ) → reply_bytes (reply.Ended n) ≡ codes "{\"number\"
 unfolding serde_json_on_literals
 ended_spelled n = simp append_assoc
 
+notice_spelled : (d t u : ℕ) → reply_bytes (reply.Notice (noticed_with d t u []))
+    ≡ codes "{\"appointed\":" ++ moment_json t
+    ++ codes ",\"company\":\"private\",\"cutoff\":" ++ moment_json u ++ codes ",\"given\":"
+    ++ day_json d
+    ++ codes ",\"kind\":\"general\",\"meeting\":\"G1\",\"ok\":\"notice\",\"opened\":"
+    ++ moment_json t ++ codes ",\"record\":" ++ moment_json u
+    ++ codes ",\"register\":true,\"resolutions\":[{\"kind\":\"ordinary\","
+    ++ codes "\"number\":1,\"poll\":{\"chair\":true,\"closed\":null,\"cutoff\":"
+    ++ moment_json u ++ codes ",\"late\":false,\"ordered\":" ++ moment_json t
+    ++ codes ",\"result\":null,\"started\":null,\"take\":" ++ moment_json t
+    ++ codes "},\"text\":\"Accounts\"}]}"
+unfolding serde_json_on_literals digits
+notice_spelled d t u = simp append_assoc
+
+notice_of_two_spelled : (d t u v w : ℕ) → reply_bytes (reply.Notice (noticed_with d t u (further_session v w ∷ [])))
+    ≡ codes "{\"appointed\":" ++ moment_json t
+    ++ codes ",\"company\":\"private\",\"cutoff\":" ++ moment_json u ++ codes ",\"given\":"
+    ++ day_json d
+    ++ codes ",\"kind\":\"general\",\"meeting\":\"G1\",\"ok\":\"notice\",\"opened\":"
+    ++ moment_json t ++ codes ",\"record\":" ++ moment_json u
+    ++ codes ",\"register\":true,\"resolutions\":[{\"kind\":\"ordinary\","
+    ++ codes "\"number\":1,\"poll\":{\"chair\":true,\"closed\":null,\"cutoff\":"
+    ++ moment_json u ++ codes ",\"late\":false,\"ordered\":" ++ moment_json t
+    ++ codes ",\"result\":null,\"session\":1,\"started\":null,\"take\":" ++ moment_json t
+    ++ codes "},\"text\":\"Accounts\"}],\"sessions\":[{\"appointed\":" ++ moment_json t
+    ++ codes ",\"cutoff\":" ++ moment_json u ++ codes ",\"number\":1,\"opened\":"
+    ++ moment_json t ++ codes "},{\"appointed\":" ++ moment_json v ++ codes ",\"cutoff\":"
+    ++ moment_json w ++ codes ",\"number\":2,\"opened\":null}]}"
+unfolding serde_json_on_literals digits
+notice_of_two_spelled d t u v w = simp append_assoc
+
+mine_spelled : (t : ℕ) → reply_bytes (reply.Mine (own_with t 1 (in_first ∷ [])))
+    ≡ codes "{\"authorised\":[],\"casts\":[],\"demands\":[],\"given\":[],"
+    ++ codes "\"meeting\":\"G1\",\"ok\":\"mine\",\"persons\":[],\"present\":true,"
+    ++ codes "\"received\":[{\"from\":1,\"governs\":[[1,40]],"
+    ++ codes "\"instructions\":[\"free\"],\"member\":\"M1\",\"polls\":[],"
+    ++ codes "\"received\":" ++ moment_json t ++ codes ",\"to\":40}],\"row\":null}"
+unfolding serde_json_on_literals digits
+mine_spelled t = simp append_assoc
+
+mine_of_two_spelled : (t : ℕ) → reply_bytes (reply.Mine (own_with t 2 (in_first ∷ in_second ∷ [])))
+    ≡ codes "{\"authorised\":[],\"casts\":[],\"demands\":[],\"given\":[],"
+    ++ codes "\"meeting\":\"G1\",\"ok\":\"mine\",\"persons\":[],\"presences\":[1],"
+    ++ codes "\"present\":false,\"received\":[{\"from\":1,\"governs\":[],"
+    ++ codes "\"instructions\":[\"free\"],\"member\":\"M1\",\"polls\":[],"
+    ++ codes "\"received\":" ++ moment_json t
+    ++ codes ",\"sessions\":[{\"acts\":[[1,40]],\"governs\":[[1,40]],\"session\":1},"
+    ++ codes "{\"acts\":[[21,40]],\"governs\":[],\"session\":2}],\"to\":40}],"
+    ++ codes "\"row\":null}"
+unfolding serde_json_on_literals digits
+mine_of_two_spelled t = simp append_assoc
+
 pub returns : goal.returns
 unfolding serde_json_on_literals
-returns c = record { called = refl; loaded = refl; same = refl; opened = refl; ordered = refl; started = refl; closed = refl; noted = refl; recorded = refl; declared = declaration_spelled; appointed = appointed_spelled; appointed_late = appointed_late_spelled; ended = ended_spelled; refused = refused_text; store = refl; memory = refl }
+returns c = record { called = refl; loaded = refl; same = refl; opened = refl; ordered = refl; started = refl; closed = refl; noted = refl; recorded = refl; declared = declaration_spelled; appointed = appointed_spelled; appointed_late = appointed_late_spelled; ended = ended_spelled; refused = refused_text; notice = notice_spelled; notice_of_two = notice_of_two_spelled; mine = mine_spelled; mine_of_two = mine_of_two_spelled; store = refl; memory = refl }

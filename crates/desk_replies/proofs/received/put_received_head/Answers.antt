@@ -1,8 +1,16 @@
+use Rattle.std.proofs.Common.{◌∙◌, ap}
 use Rattle.std.proofs.lemmas.Result.{on_ok_weaker}
-use Rattle.desk_replies.specs.Appointments.{instruction_data, run_data}
+use Rattle.serde_json.specs.Data.{string}
+use Rattle.desk_replies.specs.Appointments.{instruction_data, last_votes, poll_governed_data, run_data}
 use Rattle.desk_replies.specs.Forms.{listed, whole}
 use Rattle.desk_replies.proofs.WritingLemmas.{seen_as, then}
 use Rattle.desk_replies.proofs.received.put_received_head.Goals as goal
 
 pub returns : goal.returns
-returns c = on_ok_weaker c.put_list-2.result (λ rest. then (seen_as whole c.from.ensures.value c.in_ok-put_number.ensures) (then (seen_as (listed run_data) c.as_slice.ensures c.in_ok-put_list.ensures) ((seen_as (listed instruction_data) c.as_slice-2.ensures rest)))) c.put_list-2.ensures
+returns c =
+    let from = seen_as whole c.from.ensures.value c.in_ok-put_number.ensures in
+    let governs = seen_as (listed run_data) (c.last_votes.ensures ∙ ap last_votes c.as_slice.ensures) c.in_ok-put_list.ensures in
+    let instructions = seen_as (listed instruction_data) c.as_slice-2.ensures c.in_ok-put_list-2.ensures in
+    let member = seen_as string c.as_str.ensures.value c.in_ok-put_text.ensures in
+    let polls = seen_as (listed poll_governed_data) c.as_slice-3.ensures c.in_ok-put_list-3.ensures in
+    on_ok_weaker c.put_shown.result (λ rest. then from (then governs (then instructions (then member (then polls rest))))) c.put_shown.ensures
