@@ -17,7 +17,7 @@ fn is_public(book: &Book) -> Result<bool, Fail> {
 fn is_ada_present(book: &Book) -> Result<bool, Fail> {
     let ada = read_party(b"M1").ok_or("a party")?;
     let now = read_moment(b"2026-06-18T10:06:00").ok_or("a moment")?;
-    Ok(book.own_of(ada, june()?, now)?.present)
+    Ok(!book.own_of(ada, june()?, now)?.presences.is_empty())
 }
 
 #[test]

@@ -32,6 +32,7 @@ fn demanded(alloc: Global) -> Result<Demand, Fail> {
         ],
     )?;
     let demand = DemandMark {
+        session: 1,
         resolution: 1,
         party: party("M1")?,
         moment: at,
@@ -43,7 +44,7 @@ fn demanded(alloc: Global) -> Result<Demand, Fail> {
         appointments: at,
         endings: at,
     };
-    Ok(demand_reached(alloc, &cutoffs, &papers, 1)?)
+    Ok(demand_reached(alloc, &cutoffs, &papers, 1, 1)?)
 }
 
 #[test]

@@ -3,7 +3,7 @@ use caller_view::{OwnView, PublicRecord, answer};
 use desk_replies::reply_text;
 use desk_words::{
     Given, Meeting, MeetingId, Moment, Party, PartyRequest, PollGoverned, Received, RegisterRow,
-    Resolution,
+    Resolution, SessionGoverned,
 };
 use meeting_core::Book;
 use std::alloc::{AllocError, Global};
@@ -63,12 +63,25 @@ fn are_same_governed(governed: &[PollGoverned], others: &[PollGoverned]) -> bool
             .all(|(one, other)| is_same_governed(one, other))
 }
 
+fn is_same_in_session(governed: &SessionGoverned, other: &SessionGoverned) -> bool {
+    governed.acts.as_slice() == other.acts.as_slice()
+        && governed.votes.as_slice() == other.votes.as_slice()
+}
+
+fn are_same_in_sessions(governed: &[SessionGoverned], others: &[SessionGoverned]) -> bool {
+    governed.len() == others.len()
+        && governed
+            .iter()
+            .zip(others)
+            .all(|(one, other)| is_same_in_session(one, other))
+}
+
 fn is_same_received(received: &Received, other: &Received) -> bool {
     received.member == other.member
         && received.range == other.range
         && received.instructions.as_slice() == other.instructions.as_slice()
         && received.moment == other.moment
-        && received.governs.as_slice() == other.governs.as_slice()
+        && are_same_in_sessions(received.sessions.as_slice(), other.sessions.as_slice())
         && are_same_governed(received.polls.as_slice(), other.polls.as_slice())
 }
 
@@ -88,7 +101,7 @@ fn is_same_own(own: &OwnView, other: &OwnView) -> bool {
         && own.persons.as_slice() == other.persons.as_slice()
         && are_same_received(own.received.as_slice(), other.received.as_slice())
         && own.authorised.as_slice() == other.authorised.as_slice()
-        && own.present == other.present
+        && own.presences.as_slice() == other.presences.as_slice()
         && own.demands.as_slice() == other.demands.as_slice()
         && own.casts.as_slice() == other.casts.as_slice()
 }
@@ -110,10 +123,10 @@ fn is_same_meeting(meeting: &Meeting, other: &Meeting) -> bool {
         && meeting.company == other.company
         && meeting.kind == other.kind
         && meeting.given == other.given
-        && meeting.appointed == other.appointed
+        && meeting.first == other.first
+        && meeting.later.as_slice() == other.later.as_slice()
         && meeting.record_moment == other.record_moment
         && meeting.loaded == other.loaded
-        && meeting.opened == other.opened
         && are_same_resolutions(meeting.resolutions.as_slice(), other.resolutions.as_slice())
 }
 
