@@ -1,5 +1,5 @@
--- What a row of presences, demands, polls and casts means. Presences, demands and polls are those of
--- a meeting's first session.
+-- What a row of presences, demands, polls and casts means. Presences, demands and polls are those
+-- of a meeting's first session.
 use Rattle.std.specs.Prelude.{ℕ, ◌+◌, ◌^◌, ◌≤◌, ◌⊎◌, Bool, ◌&&◌, List, Option, Some, None, bytes_eq, codes, if◌then◌else◌}
 use Rattle.sqlite.specs.declared.types.Value.{Value}
 use Rattle.sqlite.specs.Order.{Row, column}

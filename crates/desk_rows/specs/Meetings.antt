@@ -10,8 +10,9 @@ use Rattle.desk_rows.specs.declared.kept.NumberedResolution.{NumberedResolution}
 use Rattle.desk_terms.specs.Options.{◌>>=◌}
 use Rattle.desk_rows.specs.Columns.{spelled, worded, number_in, flag_in, day_in, moment_in, some_moment_in, plain_text_of}
 
--- a meeting of one session: its name, company, kind, the day of the notice, the appointed time, the
--- moment as of which its register is taken, whether that is loaded, and when it opened (section 307)
+-- a meeting of one session: its name, company, kind, the day of the notice, the appointed time,
+-- the moment as of which its register is taken, whether that is loaded, and when it opened
+-- (section 307)
 unfoldable pub meeting_in : Row → Option MeetingRow
 meeting_in cells = do
   id ← spelled meeting_of cells 0
