@@ -1,7 +1,7 @@
 -- Refusals and their one order.
 use Rattle.std.specs.Prelude.{ℕ, Bool, true, ◌&&◌, nat_lt, List, [], ◌∷◌, Option, Some, None, codes, if◌then◌else◌}
 use Rattle.desk_terms.specs.declared.refusal.Refusal.{Refusal}
-use Rattle.desk_terms.specs.declared.refusal.Refusal.TheVariants.{Key, Route, Method, TooLarge, Unreadable, OfficeOnly, PartyOnly, NoMeeting, Exists, ShortNotice, NoResolution, BadRange, SelfNamed, BadInstructions, TooMany, NoSuchNumber, AlreadyEnded, NoRegister, OtherRecord, Opened, NotOpened, Early, NoQuorum, NotPresent, NoRight, PollOrdered, NoPoll, DemandTooSmall, PollNotOpen, PollClosed, NotClosed, Declared, NotYours, AgainstInstruction}
+use Rattle.desk_terms.specs.declared.refusal.Refusal.TheVariants.{Key, Route, Method, TooLarge, Unreadable, OfficeOnly, PartyOnly, NoMeeting, Exists, ShortNotice, NoResolution, BadRange, SelfNamed, BadInstructions, TooMany, NoSuchNumber, AlreadyEnded, NoRegister, OtherRecord, Opened, NotOpened, Early, NoQuorum, NotPresent, NoRight, PollOrdered, NoPoll, DemandTooSmall, PollNotOpen, PollClosed, NotClosed, Declared, NotYours, AgainstInstruction, PollRunning}
 
 -- a refusal's place in the one order
 abbrev pub number_of : Refusal → ℕ
@@ -39,6 +39,7 @@ number_of NotClosed = 31
 number_of Declared = 32
 number_of NotYours = 33
 number_of AgainstInstruction = 34
+number_of PollRunning = 35
 
 -- a refusal's name
 abbrev pub name_of : Refusal → List ℕ
@@ -76,6 +77,7 @@ name_of NotClosed = codes "NotClosed"
 name_of Declared = codes "Declared"
 name_of NotYours = codes "NotYours"
 name_of AgainstInstruction = codes "AgainstInstruction"
+name_of PollRunning = codes "PollRunning"
 
 -- a refusal, and whether its condition holds
 pub record Case : Type 0 where

@@ -74,10 +74,12 @@ pub enum Refusal {
     NotYours = 33,
     /// Some share of the range is governed by another instruction (section 324A).
     AgainstInstruction = 34,
+    /// Some poll of the meeting is not closed, and is started or not late.
+    PollRunning = 35,
 }
 
 impl Refusal {
-    /// Its place in the one order, 1 to 34.
+    /// Its place in the one order, 1 to 35.
     pub fn number(self) -> u8
         ensures { result ≡ number_of self }
     {
@@ -123,6 +125,7 @@ impl Refusal {
             Refusal::Declared => "Declared",
             Refusal::NotYours => "NotYours",
             Refusal::AgainstInstruction => "AgainstInstruction",
+            Refusal::PollRunning => "PollRunning",
         }
     }
 }

@@ -7,13 +7,13 @@ use Rattle.desk_terms.specs.Names.{same_name}
 use Rattle.desk_words.specs.Finding.{meeting_named}
 use Rattle.desk_words.specs.Office.{is_office, poll_before}
 use Rattle.desk_words.specs.Seen.{MeetingName, Number}
-use Rattle.desk_words.specs.Sessions.{open_last}
+use Rattle.desk_words.specs.Sessions.{adjourned_to, open_last}
 use Rattle.desk_words.specs.declared.change.Change.{Change}
 use Rattle.desk_words.specs.declared.change.Change.TheVariants.{AddMeeting, SetClosedDays, SetKeys, InMeeting}
 use Rattle.desk_words.specs.declared.change.Entry.{Entry}
 use Rattle.desk_words.specs.declared.change.Entry.TheVariants as entry
 use Rattle.desk_words.specs.declared.change.MeetingChange.{MeetingChange}
-use Rattle.desk_words.specs.declared.change.MeetingChange.TheVariants.{SetRegister, SetOpened, AddPoll, SetPoll, Enter}
+use Rattle.desk_words.specs.declared.change.MeetingChange.TheVariants.{SetRegister, SetOpened, AddSession, AddPoll, SetPoll, Enter}
 use Rattle.desk_words.specs.declared.change.PollChange.{PollChange}
 use Rattle.desk_words.specs.declared.change.PollChange.TheVariants.{Started, Closed, Declared}
 use Rattle.desk_words.specs.declared.office.OfficeLists.{OfficeLists}
@@ -69,6 +69,7 @@ changed (SetRegister rows) m = record m {
   register = rows;
 }
 changed (SetOpened moment) m = record m { meeting = open_last moment m.meeting }
+changed (AddSession moment) m = record m { meeting = adjourned_to moment m.meeting }
 changed (AddPoll poll) m = record m { polls = insert_by poll_before poll m.polls }
 changed (SetPoll resolution change) m = change_poll (moved change) resolution m
 changed (Enter entry) m = entered entry m
@@ -108,6 +109,7 @@ can_make office change =
 
 -- in a meeting, a change that sets fields, and adds nothing
 abbrev pub sets_in_meeting : MeetingChange → Bool
+sets_in_meeting (AddSession moment) = false
 sets_in_meeting (AddPoll poll) = false
 sets_in_meeting (Enter entry) = false
 sets_in_meeting other = true

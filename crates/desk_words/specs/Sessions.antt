@@ -1,5 +1,5 @@
 -- The sessions of a meeting (sections 327 and 330 speak of an adjourned meeting).
-use Rattle.std.specs.Prelude.{zero, suc, Bool, false, ◌&&◌, nat_le, List, ◌∷◌, length, take, ◌-◌, slice_get, slice_set, Option, Some, None, is_some, unwrap_or}
+use Rattle.std.specs.Prelude.{zero, suc, Bool, false, ◌&&◌, nat_le, List, [], ◌∷◌, ◌++◌, length, take, ◌-◌, slice_get, slice_set, Option, Some, None, is_some, unwrap_or}
 use Rattle.std.specs.List.{list_all}
 use Rattle.desk_words.specs.Seen.{Moment, SessionNumber}
 use Rattle.desk_words.specs.declared.limits.TheConstants.{MOST_SESSIONS}
@@ -70,3 +70,11 @@ open_there moment m (Some s) = record m {
 -- the last session opened
 abbrev pub open_last : Moment → Meeting → Meeting
 open_last moment m = open_there moment m (last_later m)
+
+-- a session appointed for a moment, and not opened
+abbrev pub session_on : Moment → Session
+session_on moment = record { appointed = moment; opened = None }
+
+-- one session more, behind the others
+abbrev pub adjourned_to : Moment → Meeting → Meeting
+adjourned_to moment m = record m { later = m.later ++ session_on moment ∷ [] }

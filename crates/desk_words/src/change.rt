@@ -33,6 +33,8 @@ pub enum MeetingChange {
     SetRegister(Register),
     /// Its last session is opened at that moment.
     SetOpened(Moment),
+    /// It has one session more, appointed for that moment.
+    AddSession(Moment),
     /// A poll is ordered.
     AddPoll(Poll),
     /// The poll on the resolution of that number has come further.

@@ -127,6 +127,8 @@ pub enum Reply {
     /// The rows are those that are held; nothing was changed.
     Same,
     MeetingOpened,
+    /// The meeting is adjourned to the session of that number.
+    Adjourned(u64),
     Ordered,
     Started,
     VotingClosed,

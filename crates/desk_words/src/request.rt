@@ -89,6 +89,8 @@ pub enum OfficeRequest {
     Presence(Party),
     /// It opens the meeting.
     OpenMeeting,
+    /// It adjourns the meeting to one session more, appointed for that moment.
+    Adjourn(Moment),
     /// It orders a poll.
     Order(NewPoll),
     /// It starts a poll.

@@ -1,13 +1,14 @@
 //! The sessions of a meeting.
-ghost use Rattle.std.specs.Prelude.{◌≡◌};
+ghost use Rattle.std.specs.Prelude.{◌≡◌, OnOk, OnErr};
 ghost use Rattle.std.specs.List.{list_all};
-ghost use Rattle.desk_words.specs.Sessions.{are_sessions, is_opened, is_opened_session};
-ghost use Rattle.desk_words.specs.Sessions.{is_session, last_number, last_session, open_last};
-ghost use Rattle.desk_words.specs.Sessions.{session_at, session_of};
+ghost use Rattle.desk_words.specs.Sessions.{adjourned_to, are_sessions, is_opened};
+ghost use Rattle.desk_words.specs.Sessions.{is_opened_session, is_session, last_number};
+ghost use Rattle.desk_words.specs.Sessions.{last_session, open_last, session_at, session_of};
 
 use crate::limits::MOST_SESSIONS;
 use crate::records::{Meeting, Session};
 use desk_calendar::Moment;
+use std::alloc::AllocError;
 
 impl Session {
     /// Whether it is opened.
@@ -107,5 +108,17 @@ impl Meeting {
                 self.later.set(place, opened);
             }
         }
+    }
+
+    /// Adds a session behind the others, appointed for a moment and not opened. The error is want
+    /// of memory, and nothing changes then.
+    pub fn adjourn_to(&mut self, appointed: Moment) -> Result<(), AllocError>
+        ensures ok { OnOk result (self.new ≡ adjourned_to appointed self.old) }
+        ensures err { OnErr result (self.new ≡ self.old) }
+    {
+        self.later.push(Session {
+            appointed,
+            opened: None,
+        })
     }
 }
