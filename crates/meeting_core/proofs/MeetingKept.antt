@@ -1,5 +1,5 @@
 -- Each change of a meeting keeps the lists of a meeting.
-use Rattle.std.proofs.Common.{◌≡◌, ℕ, zero, suc, ◌+◌, ◌-◌, Bool, true, false, ◌&&◌, ◌||◌, ◌==◌, cond, List, [], ◌∷◌, ◌++◌, length, slice_set, take, refl, ap, sym, ◌∙◌, arith, add-zero}
+use Rattle.std.proofs.Common.{◌≡◌, ℕ, zero, suc, ◌+◌, ◌-◌, Bool, true, false, ◌&&◌, ◌||◌, ◌==◌, cond, List, [], ◌∷◌, ◌++◌, length, slice_set, take, refl, ap, sym, ◌∙◌, arith, add-zero, length-append}
 use Rattle.std.specs.Prelude.{Option, Some, None, filter, is_some, unwrap_or, nat_le, nat_lt, count_by}
 use Rattle.std.specs.List.{list_all, list_any, slice_get}
 use Rattle.std.specs.Cmp.{first_so, second_so}
@@ -18,7 +18,7 @@ use Rattle.desk_words.specs.Names.{same_name}
 use Rattle.desk_words.specs.Ordered.{ascends_by, differ_by}
 use Rattle.desk_words.specs.Registers.{is_register}
 use Rattle.desk_words.specs.Office.{implies, is_loaded_right, no_rows, is_resolution, is_declared_right, is_poll, is_tally, poll_before, are_demands, are_polls, are_presences, is_cast_on, same_ballot, same_demand, same_presence, are_casts, is_meeting}
-use Rattle.desk_words.specs.Sessions.{are_sessions, is_opened, is_opened_session, is_session, is_there, last_later, last_number, last_session, open_there, opened_at, sessions_of}
+use Rattle.desk_words.specs.Sessions.{adjourned_to, are_sessions, is_opened, is_opened_session, is_session, is_there, last_later, last_number, last_session, open_there, opened_at, session_on, sessions_of}
 use Rattle.desk_words.specs.declared.limits.TheConstants.{MOST_SESSIONS}
 use Rattle.desk_words.specs.declared.change.Entry.TheVariants as entry
 use Rattle.desk_words.specs.declared.office.MeetingLists.{MeetingLists}
@@ -33,7 +33,7 @@ use Rattle.desk_words.specs.declared.records.Tally.{Tally}
 use Rattle.desk_words.specs.Finding.{poll_on}
 use Rattle.caller_view.specs.Casts.{cast_count}
 use Rattle.desk_words.proofs.OfficeFacts.{meeting_facts, meeting_from_facts, find-passes}
-use Rattle.desk_words.specs.declared.change.MeetingChange.TheVariants.{SetRegister, SetOpened, AddPoll, SetPoll}
+use Rattle.desk_words.specs.declared.change.MeetingChange.TheVariants.{SetRegister, SetOpened, AddSession, AddPoll, SetPoll}
 use Rattle.desk_words.specs.declared.change.PollChange.TheVariants.{Started, Closed, Declared}
 use Rattle.desk_words.specs.Changes.{changed, change_poll, entered, moved}
 
@@ -165,6 +165,76 @@ open_there_kept moment m (Some session) h loaded =
 -- the last session of a loaded meeting may be opened
 pub opening_kept : (moment : ℕ) (m : MeetingLists) → is_meeting m ≡ true → m.meeting.loaded ≡ true → is_meeting (changed (SetOpened moment) m) ≡ true
 opening_kept moment m h loaded = open_there_kept moment m (last_later m.meeting) h loaded
+
+-- ---- the adjournment
+
+-- where the last session is opened, and those before it are, all are
+all_opened : (first : Session) (later : List Session) → list_all is_opened (take (length later) (first ∷ later)) ≡ true
+    → is_there is_opened (slice_get (first ∷ later) (length later)) ≡ true → list_all is_opened (first ∷ later) ≡ true
+all_opened first [] before last = both_true last refl
+all_opened first (s ∷ later) before last =
+    both_true (first_so (is_opened first) (list_all is_opened (take (length later) (s ∷ later))) before)
+    (all_opened s later (second_so (is_opened first) (list_all is_opened (take (length later) (s ∷ later))) before) last)
+
+-- as many as there were, of those with one more behind them, are those
+take_behind : (sessions : List Session) (s : Session) → take (length sessions) (sessions ++ s ∷ []) ≡ sessions
+take_behind [] s = refl
+take_behind (x ∷ xs) s = ap (λ rest. x ∷ rest) (take_behind xs s)
+
+-- a session that is there stays there
+there_behind : (sessions : List Session) (s : Session) (at : ℕ) → is_there is_opened (slice_get sessions at) ≡ true
+    → is_there is_opened (slice_get (sessions ++ s ∷ []) at) ≡ true
+there_behind [] s at h = absurd (cc)
+there_behind (x ∷ xs) s zero h = h
+there_behind (x ∷ xs) s (suc at) h = there_behind xs s at h
+
+stays_behind : (one : Meeting) (moment number : ℕ) → is_opened_session one number ≡ true → is_opened_session (adjourned_to moment one) number ≡ true
+stays_behind one moment zero h = h
+stays_behind one moment (suc at) h = there_behind (sessions_of one) (session_on moment) at h
+
+-- a number of a session is one where there is a session more
+more_numbers : (number last : ℕ) → (nat_le 1 number && nat_le number last) ≡ true → (nat_le 1 number && nat_le number (suc last)) ≡ true
+more_numbers number last h =
+    let high : nat_le number last ≡ true = second_so (nat_le 1 number) (nat_le number last) h in
+    both_true (first_so (nat_le 1 number) (nat_le number last) h) (grind (arith, nat_tests))
+
+-- a meeting whose last session is opened may have one session more, where it has fewer than 10
+pub adjournment_kept : (moment : ℕ) (m : MeetingLists) → is_meeting m ≡ true → nat_le MOST_SESSIONS (last_number m.meeting) ≡ false
+    → is_opened (last_session m.meeting) ≡ true → is_meeting (changed (AddSession moment) m) ≡ true
+adjournment_kept moment m h room opened =
+    let f = meeting_facts m h in
+    let one = m.meeting in
+    let other = adjourned_to moment one in
+    let count : length other.later ≡ suc (length one.later) = length-append one.later (session_on moment ∷ []) ∙ omega arith in
+    let number : last_number other ≡ suc (last_number one) = ap suc count in
+    let few = nat_le (last_number one) MOST_SESSIONS in
+    let before = list_all is_opened (take (length one.later) (sessions_of one)) in
+    let all : list_all is_opened (sessions_of one) ≡ true = all_opened one.first one.later (second_so few before f.sessions) (last_opened one opened) in
+    let short : nat_le (suc (last_number one)) MOST_SESSIONS ≡ true = grind (arith, nat_tests) in
+    let sessions : are_sessions other ≡ true = both_true
+    (ap (λ n. nat_le n MOST_SESSIONS) number ∙ short)
+    (ap (λ n. list_all is_opened (take n (sessions_of other))) count ∙ ap (list_all is_opened) (take_behind (sessions_of one) (session_on moment)) ∙ all) in
+    let in_one = λ (n : ℕ). nat_le 1 n && nat_le n (last_number one) in
+    let in_more = λ (n : ℕ). nat_le 1 n && nat_le n (suc (last_number one)) in
+    let of_one = length one.resolutions in
+    let presences : are_presences other m.presences ≡ true =
+    ap (λ n. list_all (λ (p : PresenceMark). nat_le 1 p.session && nat_le p.session n) m.presences && differ_by same_presence m.presences) number
+    ∙ both_true
+    (all_weaker (λ (p : PresenceMark). in_one p.session) (λ (p : PresenceMark). in_more p.session) m.presences (λ p. more_numbers p.session (last_number one))
+    (first_so (list_all (λ (p : PresenceMark). in_one p.session) m.presences) (differ_by same_presence m.presences) f.presences))
+    (second_so (list_all (λ (p : PresenceMark). in_one p.session) m.presences) (differ_by same_presence m.presences) f.presences) in
+    let demand_one = λ (d : DemandMark). in_one d.session && is_resolution of_one d.resolution in
+    let demand_more = λ (d : DemandMark). in_more d.session && is_resolution of_one d.resolution in
+    let demands : are_demands other m.demands ≡ true =
+    ap (λ n. list_all (λ (d : DemandMark). (nat_le 1 d.session && nat_le d.session n) && is_resolution of_one d.resolution) m.demands && differ_by same_demand m.demands) number
+    ∙ both_true
+    (all_weaker demand_one demand_more m.demands
+    (λ d good. both_true (more_numbers d.session (last_number one) (first_so (in_one d.session) (is_resolution of_one d.resolution) good))
+    (second_so (in_one d.session) (is_resolution of_one d.resolution) good))
+    (first_so (list_all demand_one m.demands) (differ_by same_demand m.demands) f.demands))
+    (second_so (list_all demand_one m.demands) (differ_by same_demand m.demands) f.demands) in
+    let polls : are_polls other m.polls ≡ true = polls_stay one other m.polls refl (stays_behind one moment) f.polls in
+    meeting_from_facts (changed (AddSession moment) m) (assumption (sessions, presences, demands, polls, f))
 
 -- ---- polls
 

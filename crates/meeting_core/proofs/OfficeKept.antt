@@ -54,13 +54,13 @@ use Rattle.office_answers.specs.Attendance.{is_marked}
 use Rattle.office_answers.specs.Calls.{call_cases, call_ruling, new_meeting_of}
 use Rattle.office_answers.specs.Limits.{if_any, is_within_limits, keeps_limits}
 use Rattle.office_answers.specs.Lists.{same_days}
-use Rattle.office_answers.specs.Polls.{open_cases, order_cases, poll_of, start_cases, close_cases, declare_cases, declaration_of}
+use Rattle.office_answers.specs.Polls.{open_cases, adjourn_cases, order_cases, poll_of, start_cases, close_cases, declare_cases, declaration_of}
 use Rattle.desk_words.proofs.OfficeFacts.{OfficeFacts, office_facts, office_from_facts, meeting_from_facts, find-passes}
 use Rattle.desk_words.specs.Changes.{after_some, change_meeting, changed, entered, new_lists}
 use Rattle.meeting_core.specs.Step.{ruling}
 use Rattle.meeting_core.proofs.AppointmentsKept.{appointment_kept, ending_kept, given_count, numbered_given, unended_none}
 use Rattle.meeting_core.proofs.AttendanceKept.{authority_kept, demand_kept, not_demanded, not_given, not_marked, not_present, presence_kept, room_left}
-use Rattle.meeting_core.proofs.MeetingKept.{register_kept, opening_kept, last_opened, last_there, poll_kept, start_kept, close_kept, declare_kept, vote_kept}
+use Rattle.meeting_core.proofs.MeetingKept.{register_kept, opening_kept, adjournment_kept, last_opened, last_there, poll_kept, start_kept, close_kept, declare_kept, vote_kept}
 use Rattle.meeting_core.proofs.RulingLemmas.{change_of, fails}
 
 not_some : {X : Type 0} (o : Option X) → is_some o ≡ false → o ≡ None
@@ -153,6 +153,9 @@ office_stays m closed now (office.Presence who) good none =
     presence_kept mark m good (last_there m.meeting) (not_marked last who m.presences fresh))
 office_stays m closed now office.OpenMeeting good none = λ limits.
     opening_kept now m good (not-false m.meeting.loaded (fails NoRegister (open_cases m closed now) none))
+office_stays m closed now (office.Adjourn appointed) good none = λ limits.
+    let cases = adjourn_cases m closed now appointed in
+    adjournment_kept appointed m good (fails TooMany cases none) (not-false (is_opened (last_session m.meeting)) (fails NotOpened cases none))
 office_stays m closed now (office.Order new) good none = λ limits.
     let cases = order_cases m closed now new in
     let n = length m.meeting.resolutions in

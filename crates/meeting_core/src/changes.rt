@@ -115,6 +115,7 @@ fn change_lists(lists: &mut MeetingLists, change: MeetingChange) -> Result<(), A
             lists.meeting.loaded = true;
         }
         MeetingChange::SetOpened(moment) => lists.meeting.open_last(moment),
+        MeetingChange::AddSession(moment) => lists.meeting.adjourn_to(moment)?,
         MeetingChange::AddPoll(poll) => add_poll(&mut lists.polls, poll)?,
         MeetingChange::SetPoll { resolution, change } => move_poll(lists, resolution, change),
         MeetingChange::Enter(entry) => enter(lists, entry)?,

@@ -34,7 +34,10 @@ fn reads_register(asked: &OfficeRequest) -> bool
         OfficeRequest::LoadRegister(_) | OfficeRequest::OpenMeeting => true,
         OfficeRequest::Order(new) => !new.chair,
         OfficeRequest::Declare(_) => true,
-        OfficeRequest::Presence(_) | OfficeRequest::Start(_) | OfficeRequest::Close(_) => false,
+        OfficeRequest::Presence(_)
+        | OfficeRequest::Adjourn(_)
+        | OfficeRequest::Start(_)
+        | OfficeRequest::Close(_) => false,
     }
 }
 

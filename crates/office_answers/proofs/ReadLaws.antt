@@ -12,7 +12,7 @@ use Rattle.desk_words.specs.declared.change.MeetingChange.TheVariants.{Enter}
 use Rattle.desk_words.specs.declared.office.MeetingLists.{MeetingLists}
 use Rattle.desk_words.specs.declared.records.PresenceMark.{PresenceMark}
 use Rattle.desk_words.specs.declared.request.OfficeRequest.{OfficeRequest}
-use Rattle.desk_words.specs.declared.request.OfficeRequest.TheVariants.{LoadRegister, Presence, OpenMeeting, Order, Start, Close, Declare}
+use Rattle.desk_words.specs.declared.request.OfficeRequest.TheVariants.{LoadRegister, Presence, OpenMeeting, Adjourn, Order, Start, Close, Declare}
 use Rattle.desk_terms.specs.declared.refusal.Refusal.TheVariants.{NoMeeting}
 use Rattle.desk_words.proofs.OfficeFacts.{meeting_facts, meeting_from_facts}
 use Rattle.office_answers.specs.Answers.{office_ruling, ruling_on}
@@ -43,6 +43,7 @@ ruled_so (Presence party) now closed m =
     let ruled : Bool → Ruling MeetingChange = λ marked. record { cases = []; accepted = noted marked (Enter (entry.Presence (record { session = last_number m.meeting; party = party; moment = now }))) } in
     ap ruled (any_passing (λ (mark : PresenceMark). same_name mark.party party) (λ (mark : PresenceMark). mark.session == last_number m.meeting) m.presences)
 ruled_so OpenMeeting now closed m = refl
+ruled_so (Adjourn appointed) now closed m = refl
 ruled_so (Order new) now closed m = order_by new.chair new.resolution new.take now closed m
 ruled_so (Start resolution) now closed m = refl
 ruled_so (Close resolution) now closed m = refl
@@ -106,6 +107,7 @@ read_meeting OpenMeeting m reads h =
       polls = f.polls;
       casts = refl;
     })
+read_meeting (Adjourn appointed) m reads h = absurd (cc)
 read_meeting (Order new) m reads h = ordered_meeting new.chair m reads h
 read_meeting (Start resolution) m reads h = absurd (cc)
 read_meeting (Close resolution) m reads h = absurd (cc)

@@ -14,13 +14,13 @@ use Rattle.desk_words.specs.declared.office.MeetingLists.{MeetingLists}
 use Rattle.desk_words.specs.declared.request.DeskRequest.{DeskRequest}
 use Rattle.desk_words.specs.declared.request.DeskRequest.TheVariants as desk
 use Rattle.desk_words.specs.declared.request.OfficeRequest.{OfficeRequest}
-use Rattle.desk_words.specs.declared.request.OfficeRequest.TheVariants.{LoadRegister, Presence, OpenMeeting, Order, Start, Close, Declare}
+use Rattle.desk_words.specs.declared.request.OfficeRequest.TheVariants.{LoadRegister, Presence, OpenMeeting, Adjourn, Order, Start, Close, Declare}
 use Rattle.desk_terms.specs.declared.refusal.Refusal.{Refusal}
 use Rattle.desk_terms.specs.declared.refusal.Refusal.TheVariants.{NoQuorum, DemandTooSmall}
 use Rattle.office_answers.specs.Attendance.{presence_ruling}
 use Rattle.office_answers.specs.Calls.{call_ruling, load_ruling}
 use Rattle.office_answers.specs.Lists.{closed_ruling, keys_ruling, same_days}
-use Rattle.office_answers.specs.Polls.{open_ruling, order_ruling, start_ruling, close_ruling, declare_ruling}
+use Rattle.office_answers.specs.Polls.{open_ruling, adjourn_ruling, order_ruling, start_ruling, close_ruling, declare_ruling}
 
 -- what decides what the office asks of the whole desk, from its keys, its closed days and its
 -- meetings
@@ -35,6 +35,7 @@ abbrev pub ruling_on : List Day → Moment → OfficeRequest → MeetingLists �
 ruling_on closed now (LoadRegister new) m = load_ruling m now new
 ruling_on closed now (Presence party) m = presence_ruling m now party
 ruling_on closed now OpenMeeting m = open_ruling m closed now
+ruling_on closed now (Adjourn appointed) m = adjourn_ruling m closed now appointed
 ruling_on closed now (Order new) m = order_ruling m closed now new
 ruling_on closed now (Start resolution) m = start_ruling m now resolution
 ruling_on closed now (Close resolution) m = close_ruling m now resolution
@@ -45,9 +46,11 @@ abbrev pub office_ruling : List Day → Option MeetingLists → Moment → Offic
     → Ruling MeetingChange
 office_ruling closed found now asked = in_found found (ruling_on closed now asked)
 
--- what is asked and answered without memory: a presence, an order by the chair, a start and a close
+-- what is asked and answered without memory: a presence, an adjournment, an order by the chair, a
+-- start and a close
 abbrev pub takes_no_memory : OfficeRequest → Bool
 takes_no_memory (Presence party) = true
+takes_no_memory (Adjourn appointed) = true
 takes_no_memory (Order new) = new.chair
 takes_no_memory (Start resolution) = true
 takes_no_memory (Close resolution) = true

@@ -1,17 +1,19 @@
--- The opening of a meeting, and the way of a poll: ordered, started, closed, declared.
-use Rattle.std.specs.Prelude.{false, not, ◌&&◌, ◌-◌, nat_lt, List, [], ◌∷◌, Option, Some, None, is_some, is_none}
-use Rattle.std.specs.List.{slice_get}
+-- The opening and the adjournment of a meeting, and the way of a poll: ordered, started, closed,
+-- declared.
+use Rattle.std.specs.Prelude.{Bool, suc, false, not, ◌&&◌, ◌||◌, ◌-◌, nat_le, nat_lt, List, [], ◌∷◌, Option, Some, None, is_some, is_none}
+use Rattle.std.specs.List.{list_any, slice_get}
 use Rattle.desk_words.specs.Finding.{poll_on}
 use Rattle.desk_words.specs.Polls.{there_is, is_started, is_waiting, is_closed, is_unclosed, is_declared, is_taken_after}
 use Rattle.desk_words.specs.Refusals.{Case}
 use Rattle.desk_words.specs.Rulings.{Ruling, no_resolution}
 use Rattle.desk_words.specs.Seen.{Day, Moment, Number}
 use Rattle.desk_words.specs.Sessions.{is_opened, last_number, last_session}
-use Rattle.desk_terms.specs.declared.refusal.Refusal.TheVariants.{Exists, NoRegister, Opened, NotOpened, Early, NoQuorum, PollOrdered, NoPoll, DemandTooSmall, PollNotOpen, PollClosed, NotClosed, Declared}
+use Rattle.desk_terms.specs.declared.refusal.Refusal.TheVariants.{Exists, TooMany, NoRegister, Opened, NotOpened, Early, NoQuorum, PollOrdered, NoPoll, DemandTooSmall, PollNotOpen, PollClosed, NotClosed, Declared, PollRunning}
 use Rattle.desk_words.specs.declared.answer.Answer.{Answer}
 use Rattle.desk_words.specs.declared.change.MeetingChange.{MeetingChange}
-use Rattle.desk_words.specs.declared.change.MeetingChange.TheVariants.{SetOpened, AddPoll, SetPoll}
+use Rattle.desk_words.specs.declared.change.MeetingChange.TheVariants.{SetOpened, AddSession, AddPoll, SetPoll}
 use Rattle.desk_words.specs.declared.change.PollChange.TheVariants as poll
+use Rattle.desk_words.specs.declared.limits.TheConstants.{MOST_SESSIONS}
 use Rattle.desk_words.specs.declared.office.MeetingLists.{MeetingLists}
 use Rattle.desk_words.specs.declared.records.Meeting.{Meeting}
 use Rattle.desk_words.specs.declared.records.Poll.{Poll}
@@ -21,7 +23,7 @@ use Rattle.desk_words.specs.declared.reply.Declaration.{Declaration}
 use Rattle.desk_words.specs.declared.reply.Reply.TheVariants as reply
 use Rattle.desk_words.specs.declared.request.NewPoll.{NewPoll}
 use Rattle.office_answers.specs.Attendance.{demand_noted, quorum_in}
-use Rattle.proxy_rules.specs.Cutoffs.{cutoffs_of}
+use Rattle.proxy_rules.specs.Cutoffs.{cutoffs_of, is_late_poll}
 use Rattle.proxy_rules.specs.Uses.{vote_on}
 use Rattle.vote_rules.specs.Tallies.{tally_of}
 use Rattle.desk_words.specs.Majority.{result_of}
@@ -40,6 +42,30 @@ abbrev pub open_ruling : MeetingLists → List Day → Moment → Ruling Meeting
 open_ruling m closed now = record {
   cases = open_cases m closed now;
   accepted = record { reply = reply.MeetingOpened; change = Some (SetOpened now) };
+}
+
+-- the poll is not closed, and it is started or not late; only a late poll that is not started is
+-- taken after an adjournment (own, after sections 327 and 330)
+abbrev pub is_running : List Day → Poll → Bool
+is_running closed p = is_unclosed p && (is_started p || not (is_late_poll closed p))
+
+-- when a meeting is not adjourned to a further session, by the closed days as they stand
+abbrev pub adjourn_cases : MeetingLists → List Day → Moment → Moment → List Case
+adjourn_cases m closed now appointed =
+    record { refusal = TooMany; holds = nat_le MOST_SESSIONS (last_number m.meeting) }
+    ∷ record { refusal = NotOpened; holds = not (is_opened (last_session m.meeting)) }
+    ∷ record { refusal = Early; holds = nat_le appointed now }
+    ∷ record { refusal = PollRunning; holds = list_any (is_running closed) m.polls }
+    ∷ []
+
+-- a meeting is adjourned to a session that is appointed for a moment
+abbrev pub adjourn_ruling : MeetingLists → List Day → Moment → Moment → Ruling MeetingChange
+adjourn_ruling m closed now appointed = record {
+  cases = adjourn_cases m closed now appointed;
+  accepted = record {
+    reply = reply.Adjourned (suc (last_number m.meeting));
+    change = Some (AddSession appointed);
+  };
 }
 
 -- when a poll is not ordered (section 321); the chair may order it without a demand

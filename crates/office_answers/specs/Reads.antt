@@ -6,7 +6,7 @@ use Rattle.desk_words.specs.Seen.{Day, Moment}
 use Rattle.desk_words.specs.declared.office.MeetingLists.{MeetingLists}
 use Rattle.desk_words.specs.declared.records.PresenceMark.{PresenceMark}
 use Rattle.desk_words.specs.declared.request.OfficeRequest.{OfficeRequest}
-use Rattle.desk_words.specs.declared.request.OfficeRequest.TheVariants.{LoadRegister, Presence, OpenMeeting, Order, Start, Close, Declare}
+use Rattle.desk_words.specs.declared.request.OfficeRequest.TheVariants.{LoadRegister, Presence, OpenMeeting, Adjourn, Order, Start, Close, Declare}
 use Rattle.office_answers.specs.Answers.{office_ruling}
 
 -- the meeting with its resolutions and its polls, and nothing in place of its other lists
@@ -34,15 +34,18 @@ lists_read (Presence party) m = record (polls_alone m) {
   presences = filter (λ (mark : PresenceMark). same_name mark.party party) m.presences;
 }
 lists_read OpenMeeting m = record m { demands = []; casts = [] }
+lists_read (Adjourn appointed) m = polls_alone m
 lists_read (Order new) m =
     if new.chair then polls_alone m else record m { presences = []; casts = [] }
 lists_read (Start resolution) m = polls_alone m
 lists_read (Close resolution) m = polls_alone m
 lists_read (Declare resolution) m = record m { presences = []; demands = [] }
 
--- the closed days, where shares are counted by cutoffs (section 327)
+-- the closed days, where shares are counted by cutoffs, or it is asked whether a poll is late
+-- (section 327)
 abbrev pub days_read : OfficeRequest → List Day → List Day
 days_read OpenMeeting closed = closed
+days_read (Adjourn appointed) closed = closed
 days_read (Order new) closed = if new.chair then [] else closed
 days_read (Declare resolution) closed = closed
 days_read other closed = []

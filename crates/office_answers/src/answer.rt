@@ -11,7 +11,7 @@ ghost use Rattle.office_answers.specs.Reads.{reads_register};
 use crate::attendance::note_presence;
 use crate::calls::{call_meeting, load_register};
 use crate::lists::{load_days, load_keys};
-use crate::polls::{close_poll, declare_poll, open_meeting, order_poll, start_poll};
+use crate::polls::{adjourn, close_poll, declare_poll, open_meeting, order_poll, start_poll};
 use desk_words::{
     Answer, Change, DeskRequest, KeyRows, MeetingChange, MeetingLists, Moment, OfficeRequest,
     Refusal, find_meeting, refuse,
@@ -49,9 +49,9 @@ pub fn desk_answer(
 /// The answer to what the office asks in a meeting, from the closed days, the moment and the
 /// meeting's lists; where the request reads no register, they need not be all of a meeting's. It is
 /// refused as `NoMeeting` where there is none, and else as its request is.
-/// The error is want of memory; what `takes_no_memory` names, a presence, a start and a close among
-/// it, needs none, nor does a register that is held already, nor a refusal other than `NoQuorum`
-/// and `DemandTooSmall`.
+/// The error is want of memory; what `takes_no_memory` names, a presence, an adjournment, a start
+/// and a close among it, needs none, nor does a register that is held already, nor a refusal other
+/// than `NoQuorum` and `DemandTooSmall`.
 pub fn office_answer(
     alloc: Global,
     closed: &Closed,
@@ -77,6 +77,7 @@ pub fn office_answer(
         OfficeRequest::LoadRegister(new) => load_register(lists, now, new),
         OfficeRequest::Presence(party) => Ok(note_presence(lists, now, *party)),
         OfficeRequest::OpenMeeting => open_meeting(alloc, closed, lists, now),
+        OfficeRequest::Adjourn(appointed) => Ok(adjourn(closed, lists, now, *appointed)),
         OfficeRequest::Order(new) => order_poll(alloc, closed, lists, now, new),
         OfficeRequest::Start(resolution) => Ok(start_poll(lists, now, *resolution)),
         OfficeRequest::Close(resolution) => Ok(close_poll(lists, now, *resolution)),

@@ -1,6 +1,7 @@
-//! The opening of a meeting, and the way of a poll: ordered, started, closed, declared.
+//! The opening and the adjournment of a meeting, and the way of a poll: ordered, started, closed,
+//! declared.
 ghost use Rattle.std.specs.Prelude.{◌≡◌, ◌-◌, ◌&&◌, not, true, false, Err, IfOk, IsOk, IsTrue, MatchResult, Ok, Some, length};
-ghost use Rattle.std.specs.List.{slice_get};
+ghost use Rattle.std.specs.List.{list_any, slice_get};
 ghost use Rattle.desk_words.specs.Finding.{poll_on};
 ghost use Rattle.desk_words.specs.Office.{is_meeting, is_resolution, is_tally};
 ghost use Rattle.desk_words.specs.Polls.{there_is, is_started};
@@ -9,15 +10,17 @@ ghost use Rattle.desk_words.specs.Rulings.{refuses, settled};
 ghost use Rattle.office_answers.specs.Answers.{is_some_at_once, refuses_at_once};
 ghost use Rattle.office_answers.specs.Attendance.{demand_noted, quorum_in};
 ghost use Rattle.office_answers.specs.Limits.{if_any, is_within_limits};
+ghost use Rattle.office_answers.specs.Polls.{adjourn_cases, adjourn_ruling, is_running};
 ghost use Rattle.office_answers.specs.Polls.{open_cases, open_ruling, order_cases, order_ruling, poll_of, start_cases, start_ruling, close_cases, close_ruling, declare_ruling, result_cases, result_on, declared_as, tally_in};
 
 use crate::attendance::{demand_in, papers_of, quorum_in};
+use desk_words::limits::MOST_SESSIONS;
 use desk_words::{
     Answer, Declaration, Meeting, MeetingChange, MeetingLists, Moment, NewPoll, Poll, PollChange,
     Refusal, Reply, Tally, find_poll, refuse,
 };
 use office_days::Closed;
-use poll_rules::{Use, cutoffs, result_of};
+use poll_rules::{Use, cutoffs, is_late_poll, result_of};
 use std::alloc::{AllocError, Global};
 use vote_rules::tally;
 
@@ -71,6 +74,67 @@ pub(crate) fn open_meeting(
         reply: Reply::MeetingOpened,
         change: Some(MeetingChange::SetOpened(now)),
     })
+}
+
+/// Whether a poll is not closed, and is started or not late.
+fn is_running(closed: &Closed, poll: &Poll) -> bool
+    ensures { result ≡ is_running closed.now poll.now }
+{
+    poll.closed.is_none() && (poll.started.is_some() || !is_late_poll(closed, poll))
+}
+
+/// Whether a poll is running.
+fn any_running(closed: &Closed, polls: &[Poll]) -> bool
+    ensures { result ≡ list_any (is_running closed.now) polls.now }
+{
+    polls.iter().any(|poll| is_running(closed, poll))
+}
+
+fn adjourn_refusal(
+    closed: &Closed,
+    lists: &MeetingLists,
+    now: Moment,
+    appointed: Moment,
+) -> Option<Refusal>
+    ensures { result ≡ first_refusal (adjourn_cases lists.now closed.now now appointed) }
+{
+    if lists.meeting.last_number() >= MOST_SESSIONS as u64 {
+        return Some(Refusal::TooMany);
+    }
+    if !lists.meeting.last_session().is_opened() {
+        return Some(Refusal::NotOpened);
+    }
+    if appointed <= now {
+        return Some(Refusal::Early);
+    }
+    if any_running(closed, lists.polls.as_slice()) {
+        return Some(Refusal::PollRunning);
+    }
+    None
+}
+
+/// The answer to the adjournment of a meeting to a further session: the first that holds of
+/// `TooMany` where it has `MOST_SESSIONS` sessions, `NotOpened` where the last one is not opened,
+/// `Early` where the further one is appointed for a moment that is not after now, and
+/// `PollRunning` where a poll of the meeting, of whatever session, is not closed and is started or
+/// not late; and else `Adjourned` with the number of the further session, which adds it. It takes
+/// no memory.
+pub(crate) fn adjourn(
+    closed: &Closed,
+    lists: &MeetingLists,
+    now: Moment,
+    appointed: Moment,
+) -> Answer<MeetingChange>
+    ensures answer { result ≡ settled (adjourn_ruling lists.now closed.now now appointed) }
+    ensures limits { if_any is_within_limits result.change ≡ true }
+{
+    if let Some(refusal) = adjourn_refusal(closed, lists, now, appointed) {
+        return refuse(refusal);
+    }
+    Answer {
+        reply: Reply::Adjourned(lists.meeting.last_number() + 1),
+        change: Some(MeetingChange::AddSession(appointed)),
+    }
 }
 
 /// Whether neither the chair nor enough shares want the poll.

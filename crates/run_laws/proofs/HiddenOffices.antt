@@ -7,7 +7,7 @@ use Rattle.desk_lists.proofs.Differing.{length-change_first}
 use Rattle.desk_terms.specs.Names.{same_name}
 use Rattle.desk_terms.specs.Refusals.{first_refusal}
 use Rattle.desk_terms.specs.declared.refusal.Refusal.{Refusal}
-use Rattle.desk_terms.specs.declared.refusal.Refusal.TheVariants.{DemandTooSmall, Early, Exists, NoMeeting, NoPoll, NotOpened, PollClosed, PollNotOpen, PollOrdered, ShortNotice, TooMany}
+use Rattle.desk_terms.specs.declared.refusal.Refusal.TheVariants.{DemandTooSmall, Early, Exists, NoMeeting, NoPoll, NotOpened, PollClosed, PollNotOpen, PollOrdered, PollRunning, ShortNotice, TooMany}
 use Rattle.desk_words.proofs.RowLemmas.{same_name-true, same_name-refl}
 use Rattle.desk_words.specs.Finding.{meeting_named, poll_on}
 use Rattle.desk_words.specs.Office.{implies}
@@ -20,7 +20,7 @@ use Rattle.desk_words.specs.declared.change.Change.{Change}
 use Rattle.desk_words.specs.declared.change.Change.TheVariants.{InMeeting}
 use Rattle.desk_words.specs.declared.change.MeetingChange.TheVariants.{AddPoll, SetPoll}
 use Rattle.desk_words.specs.declared.change.PollChange.TheVariants as poll
-use Rattle.desk_words.specs.declared.limits.TheConstants.{MOST_MEETINGS}
+use Rattle.desk_words.specs.declared.limits.TheConstants.{MOST_MEETINGS, MOST_SESSIONS}
 use Rattle.desk_words.specs.declared.office.MeetingLists.{MeetingLists}
 use Rattle.desk_words.specs.declared.office.OfficeLists.{OfficeLists}
 use Rattle.desk_words.specs.declared.records.CastMark.{CastMark}
@@ -32,7 +32,7 @@ use Rattle.desk_words.specs.declared.request.Call.{Call}
 use Rattle.desk_words.specs.declared.request.DeskRequest.{DeskRequest}
 use Rattle.desk_words.specs.declared.request.DeskRequest.TheVariants as desk
 use Rattle.desk_words.specs.declared.request.OfficeRequest.{OfficeRequest}
-use Rattle.desk_words.specs.declared.request.OfficeRequest.TheVariants.{LoadRegister, Presence, OpenMeeting, Order, Start, Close, Declare}
+use Rattle.desk_words.specs.declared.request.OfficeRequest.TheVariants.{LoadRegister, Presence, OpenMeeting, Adjourn, Order, Start, Close, Declare}
 use Rattle.desk_words.specs.declared.request.Request.{Request}
 use Rattle.desk_words.specs.declared.request.Request.TheVariants as asked
 use Rattle.office_days.specs.Notice.{is_enough_notice}
@@ -43,7 +43,7 @@ use Rattle.caller_view.specs.Views.{meeting_at, polls_in, public_in, public_of}
 use Rattle.office_answers.specs.Answers.{desk_ruling, office_ruling, ruling_on}
 use Rattle.office_answers.specs.Attendance.{demand_noted}
 use Rattle.office_answers.specs.Calls.{call_ruling, day_of_moment}
-use Rattle.office_answers.specs.Polls.{declare_cases, declaration_of, poll_of, result_cases, result_on}
+use Rattle.office_answers.specs.Polls.{adjourn_ruling, declare_cases, declaration_of, is_running, poll_of, result_cases, result_on}
 use Rattle.meeting_core.specs.Step.{decided}
 use Rattle.meeting_laws.specs.Secrecy.{TheOfficeIsToldOfNoVotes, casts_off, declares}
 use Rattle.run_laws.specs.Votes.{Secret, but_result, hidden, hidden_in, is_declared_in, is_declared_on, is_secret_cast, no_tally, uncounted, without_count}
@@ -167,10 +167,28 @@ tally-uncounted resolution m closed now number =
     poll-seen (λ found. result_on (slice_get m.meeting.resolutions (number - 1)) (tally_of (cutoffs_of m.meeting (vote_on (last_number m.meeting) found) closed now) m.register m.appointments m.endings m.authorities m.casts number))
     resolution number m.polls (λ p a b. refl)
 
+-- a poll runs whatever is counted on it
+running-uncounted : (resolution : ℕ) (closed : List ℕ) (polls : List Poll) → list_any (is_running closed) (map (uncounted resolution) polls) ≡ list_any (is_running closed) polls
+running-uncounted resolution closed [] = refl
+running-uncounted resolution closed (p ∷ ps) =
+    elim (p.resolution == resolution) as (λ b. (is_running closed (cond b (without_count p) p) || list_any (is_running closed) (map (uncounted resolution) ps))
+    ≡ (is_running closed p || list_any (is_running closed) ps)) [
+      | true ↦ ap (λ rest. is_running closed p || rest) (running-uncounted resolution closed ps)
+      | false ↦ ap (λ rest. is_running closed p || rest) (running-uncounted resolution closed ps)
+    ]
+
 ruling-uncounted : (resolution : ℕ) (m : MeetingLists) (closed : List ℕ) (now : ℕ) (what : OfficeRequest) → ruling_on closed now what (uncounted_in resolution m) ≡ ruling_on closed now what m
 ruling-uncounted resolution m closed now (LoadRegister new) = refl
 ruling-uncounted resolution m closed now (Presence who) = refl
 ruling-uncounted resolution m closed now OpenMeeting = refl
+ruling-uncounted resolution m closed now (Adjourn appointed) =
+    ap (λ running. record {
+      cases = record { refusal = TooMany; holds = nat_le MOST_SESSIONS (last_number m.meeting) }
+          ∷ record { refusal = NotOpened; holds = not (is_opened (last_session m.meeting)) }
+          ∷ record { refusal = Early; holds = nat_le appointed now }
+          ∷ record { refusal = PollRunning; holds = running } ∷ [];
+      accepted = (adjourn_ruling m closed now appointed).accepted;
+    }) (running-uncounted resolution closed m.polls)
 ruling-uncounted resolution m closed now (Order new) =
     poll-seen (λ found. record {
       cases = no_resolution m.meeting new.resolution

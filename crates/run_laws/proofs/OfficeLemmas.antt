@@ -16,7 +16,7 @@ use Rattle.desk_words.specs.declared.change.Change.{Change}
 use Rattle.desk_words.specs.declared.change.Change.TheVariants.{InMeeting, SetClosedDays, SetKeys}
 use Rattle.desk_words.specs.declared.change.Entry.TheVariants as entry
 use Rattle.desk_words.specs.declared.change.MeetingChange.{MeetingChange}
-use Rattle.desk_words.specs.declared.change.MeetingChange.TheVariants.{AddPoll, Enter, SetOpened, SetPoll, SetRegister}
+use Rattle.desk_words.specs.declared.change.MeetingChange.TheVariants.{AddPoll, AddSession, Enter, SetOpened, SetPoll, SetRegister}
 use Rattle.desk_words.specs.declared.change.PollChange.TheVariants as poll
 use Rattle.desk_words.specs.declared.office.MeetingLists.{MeetingLists}
 use Rattle.desk_words.specs.declared.office.OfficeLists.{OfficeLists}
@@ -27,7 +27,7 @@ use Rattle.desk_words.specs.declared.request.DeskRequest.{DeskRequest}
 use Rattle.desk_words.specs.declared.request.DeskRequest.TheVariants as desk
 use Rattle.desk_words.specs.declared.request.NewRegister.{NewRegister}
 use Rattle.desk_words.specs.declared.request.OfficeRequest.{OfficeRequest}
-use Rattle.desk_words.specs.declared.request.OfficeRequest.TheVariants.{LoadRegister, Presence, OpenMeeting, Order, Start, Close, Declare}
+use Rattle.desk_words.specs.declared.request.OfficeRequest.TheVariants.{LoadRegister, Presence, OpenMeeting, Adjourn, Order, Start, Close, Declare}
 use Rattle.desk_words.specs.declared.request.Request.{Request}
 use Rattle.desk_words.specs.declared.request.Request.TheVariants as asked
 use Rattle.proxy_rules.specs.Parties.{is_presence_of}
@@ -99,6 +99,9 @@ sourced-office viewer o now at id (Presence who) =
     (unseen-change (is_sourced_in viewer) o at id (Enter (entry.Presence (record { session = last_number m.meeting; party = who; moment = now }))) (λ x. refl)))
 sourced-office viewer o now at id OpenMeeting =
     office-change (Unseen (is_sourced_in viewer) o id) (meeting_at o at) at (ruling_on o.closed now OpenMeeting) refl (λ m. unseen-change (is_sourced_in viewer) o at id (SetOpened now) (λ x. refl))
+sourced-office viewer o now at id (Adjourn appointed) =
+    office-change (Unseen (is_sourced_in viewer) o id) (meeting_at o at) at (ruling_on o.closed now (Adjourn appointed)) refl
+    (λ m. unseen-change (is_sourced_in viewer) o at id (AddSession appointed) (λ x. refl))
 sourced-office viewer o now at id (Order new) =
     office-change (Unseen (is_sourced_in viewer) o id) (meeting_at o at) at (ruling_on o.closed now (Order new)) refl
     (λ m. unseen-change (is_sourced_in viewer) o at id (AddPoll (poll_of m.meeting now new)) (λ x. refl))
@@ -304,6 +307,9 @@ near-office viewer o now (asked.Office at (Presence who)) id =
     ∙ told-presence viewer at id (public_of o id).meeting who (near_in viewer (meeting_at o id))
 near-office viewer o now (asked.Office at OpenMeeting) id =
     office-change (Unseen (near_in viewer) o id) (meeting_at o at) at (ruling_on o.closed now OpenMeeting) refl (λ m. unseen-change (near_in viewer) o at id (SetOpened now) (λ x. refl))
+near-office viewer o now (asked.Office at (Adjourn appointed)) id =
+    office-change (Unseen (near_in viewer) o id) (meeting_at o at) at (ruling_on o.closed now (Adjourn appointed)) refl
+    (λ m. unseen-change (near_in viewer) o at id (AddSession appointed) (λ x. refl))
 near-office viewer o now (asked.Office at (Order new)) id =
     office-change (Unseen (near_in viewer) o id) (meeting_at o at) at (ruling_on o.closed now (Order new)) refl (λ m. unseen-change (near_in viewer) o at id (AddPoll (poll_of m.meeting now new)) (λ x. refl))
 near-office viewer o now (asked.Office at (Start resolution)) id =
