@@ -1,10 +1,12 @@
--- The opening of a meeting, presences, and the persons who are to represent parties.
+-- The opening and the adjournment of a meeting, presences, and the persons who are to represent
+-- parties.
 use Rattle.std.specs.Prelude.{Option, Some, codes}
 use Rattle.serde_json.specs.Data.{Data}
 use Rattle.serde_json.specs.Find.{get}
+use Rattle.desk_calendar.specs.Texts.{moment_of}
 use Rattle.desk_terms.specs.Names.{party_of}
 use Rattle.desk_words.specs.declared.request.OfficeRequest.{OfficeRequest}
-use Rattle.desk_words.specs.declared.request.OfficeRequest.TheVariants.{OpenMeeting, Presence}
+use Rattle.desk_words.specs.declared.request.OfficeRequest.TheVariants.{Adjourn, OpenMeeting, Presence}
 use Rattle.desk_words.specs.declared.request.PartyRequest.{PartyRequest}
 use Rattle.desk_words.specs.declared.request.PartyRequest.TheVariants.{Attend, Authorise}
 use Rattle.desk_terms.specs.Options.{only, ◌>>=◌}
@@ -15,6 +17,14 @@ unfoldable pub open_in : Data → Option OfficeRequest
 open_in d = do
   nothing ← only (has_fields 0 d)
   Some OpenMeeting
+
+-- the adjournment of the meeting to a session at an appointed moment (section 330), and one field
+-- alone
+unfoldable pub adjourn_in : Data → Option OfficeRequest
+adjourn_in d = do
+  exactly ← only (has_fields 1 d)
+  appointed ← spelled_at moment_of (get (codes "appointed") d)
+  Some (Adjourn appointed)
 
 -- the presence that a value notes (section 318): of a party, and one field alone
 unfoldable pub presence_body : Data → Option OfficeRequest

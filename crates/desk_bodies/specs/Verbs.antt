@@ -12,7 +12,7 @@ use Rattle.desk_bodies.specs.declared.verb.PartyVerb.TheVariants as party
 use Rattle.desk_bodies.specs.Appointments.{appoint_body, end_in}
 use Rattle.desk_bodies.specs.Bodies.{read_by}
 use Rattle.desk_bodies.specs.Polls.{order_in, start_in, close_in, declare_in, demand_body, cast_body, instructed_in}
-use Rattle.desk_bodies.specs.Presences.{open_in, presence_body, attend_in, authorise_in}
+use Rattle.desk_bodies.specs.Presences.{adjourn_in, open_in, presence_body, attend_in, authorise_in}
 use Rattle.desk_bodies.specs.Registers.{load_in}
 
 -- the word for what the office asks in a meeting, and what a body asks by it
@@ -20,6 +20,7 @@ abbrev pub office_way : OfficeVerb → List ℕ × (List ℕ → Option OfficeRe
 office_way office.Presence = (codes "presence", read_by presence_body)
 office_way office.Register = (codes "register", read_by load_in)
 office_way office.Open = (codes "open", read_by open_in)
+office_way office.Adjourn = (codes "adjourn", read_by adjourn_in)
 office_way office.Order = (codes "order", read_by order_in)
 office_way office.Start = (codes "start", read_by start_in)
 office_way office.Close = (codes "close", read_by close_in)
@@ -50,8 +51,8 @@ verb_word (Party verb) = (party_way verb).0
 abbrev pub verbs : List Verb
 verbs =
     Call ∷ Closed ∷ Keys
-    ∷ Office office.Presence ∷ Office office.Register ∷ Office office.Open ∷ Office office.Order
-    ∷ Office office.Start ∷ Office office.Close ∷ Office office.Declare
+    ∷ Office office.Presence ∷ Office office.Register ∷ Office office.Open ∷ Office office.Adjourn
+    ∷ Office office.Order ∷ Office office.Start ∷ Office office.Close ∷ Office office.Declare
     ∷ Party party.Notice ∷ Party party.Mine ∷ Party party.Appoint ∷ Party party.End
     ∷ Party party.Authorise ∷ Party party.Attend ∷ Party party.Demand ∷ Party party.Cast
     ∷ Party party.Instructed ∷ []

@@ -1,11 +1,13 @@
-//! The opening of a meeting, presences, and the persons who are to represent parties.
+//! The opening and the adjournment of a meeting, presences, and the persons who are to represent
+//! parties.
 ghost use Rattle.serde_json.specs.View.{view};
 ghost use Rattle.desk_terms.specs.Itself.{itself};
+ghost use Rattle.desk_bodies.specs.Presences.{authorise_in};
 ghost use Rattle.desk_bodies.specs.Reads.{ReadsData};
-ghost use Rattle.desk_bodies.specs.Presences.{open_in, presence_body, attend_in, authorise_in};
+ghost use Rattle.desk_bodies.specs.Presences.{adjourn_in, open_in, presence_body, attend_in};
 
 use crate::ask::Unread;
-use crate::place::{exactly_fields, party_in};
+use crate::place::{exactly_fields, moment_in, party_in};
 use desk_words::{OfficeRequest, PartyRequest};
 use serde_json::Value;
 
@@ -16,6 +18,17 @@ pub(crate) fn open(value: &Value) -> Result<OfficeRequest, Unread>
 {
     exactly_fields(value, 0)?;
     Ok(OfficeRequest::OpenMeeting)
+}
+
+/// The adjournment of the meeting. The value has the field `appointed` (the moment at which the next
+/// session is to begin).
+#[tactic(auto, unfolding(crate::specs::Presences::adjourn_in))]
+pub(crate) fn adjourn(value: &Value) -> Result<OfficeRequest, Unread>
+    ensures { ReadsData itself result (adjourn_in (view value.now)) }
+{
+    exactly_fields(value, 1)?;
+    let appointed = moment_in(value.get("appointed"))?;
+    Ok(OfficeRequest::Adjourn(appointed))
 }
 
 /// The presence that a value notes. It has the field `party` (a party).

@@ -18,7 +18,7 @@ use crate::call::call;
 use crate::closed::closed;
 use crate::keys::keys;
 use crate::poll::{cast, close, declare, demand, instructed, order, start};
-use crate::presence::{attend, authorise, open, presence};
+use crate::presence::{adjourn, attend, authorise, open, presence};
 use crate::register::load;
 use crate::route::{Route, route_of};
 use crate::verb::{OfficeVerb, PartyVerb};
@@ -60,6 +60,7 @@ fn office_asks(alloc: Global, verb: OfficeVerb, body: &[u8]) -> Result<OfficeReq
         OfficeVerb::Presence => presence(&read_body(alloc, body)?),
         OfficeVerb::Register => load(alloc, &read_body(alloc, body)?),
         OfficeVerb::Open => open(&read_body(alloc, body)?),
+        OfficeVerb::Adjourn => adjourn(&read_body(alloc, body)?),
         OfficeVerb::Order => order(&read_body(alloc, body)?),
         OfficeVerb::Start => start(&read_body(alloc, body)?),
         OfficeVerb::Close => close(&read_body(alloc, body)?),

@@ -11,6 +11,8 @@ pub enum OfficeVerb {
     Register,
     /// It opens the meeting.
     Open,
+    /// It adjourns the meeting.
+    Adjourn,
     /// It orders a poll.
     Order,
     /// It starts a poll.
@@ -72,6 +74,7 @@ impl Verb {
             "presence" => Some(Verb::Office(OfficeVerb::Presence)),
             "register" => Some(Verb::Office(OfficeVerb::Register)),
             "open" => Some(Verb::Office(OfficeVerb::Open)),
+            "adjourn" => Some(Verb::Office(OfficeVerb::Adjourn)),
             "order" => Some(Verb::Office(OfficeVerb::Order)),
             "start" => Some(Verb::Office(OfficeVerb::Start)),
             "close" => Some(Verb::Office(OfficeVerb::Close)),

@@ -86,8 +86,3 @@ appointed_data r = with_members (
     ∷ (codes "ok", string (codes "appointed"))
     ∷ (codes "use", string (use_word r.used))
     ∷ [])
-
--- the number of the appointment that is ended
-abbrev pub ended_data : ℕ → Data
-ended_data number =
-    with_members ((codes "number", whole number) ∷ (codes "ok", string (codes "ended")) ∷ [])

@@ -5,7 +5,7 @@ use Rattle.desk_terms.specs.Refusals.{number_of, name_of}
 use Rattle.desk_terms.specs.declared.refusal.Refusal.{Refusal}
 use Rattle.desk_words.specs.declared.reply.AppointmentUse.TheVariants.{Meeting, LaterPolls}
 use Rattle.desk_words.specs.declared.reply.Declaration.{Declaration}
-use Rattle.desk_words.specs.declared.reply.Reply.TheVariants.{Called, Loaded, Same, MeetingOpened, Ordered, Started, VotingClosed, Declared, Notice, Mine, Appointed, Ended, Noted, Recorded, Refused}
+use Rattle.desk_words.specs.declared.reply.Reply.TheVariants.{Called, Loaded, Same, MeetingOpened, Adjourned, Ordered, Started, VotingClosed, Declared, Notice, Mine, Appointed, Ended, Noted, Recorded, Refused}
 use Rattle.desk_words.specs.declared.reply.Failure.TheVariants.{Store, Memory}
 use Rattle.desk_replies.specs.Adjourned.{day_json, further_session, in_first, in_second, moment_json, noticed_with, own_with}
 use Rattle.desk_replies.specs.Replies.{reply_bytes, failure_bytes}
@@ -31,6 +31,9 @@ pub record RepliesAreSpelled : Type 0 where
   pub loaded : reply_bytes Loaded ≡ codes "{\"ok\":\"loaded\"}"
   pub same : reply_bytes Same ≡ codes "{\"ok\":\"same\"}"
   pub opened : reply_bytes MeetingOpened ≡ codes "{\"ok\":\"opened\"}"
+  pub adjourned : (n : ℕ)
+      → reply_bytes (Adjourned n)
+      ≡ codes "{\"number\":" ++ decimal n ++ codes ",\"ok\":\"adjourned\"}"
   pub ordered : reply_bytes Ordered ≡ codes "{\"ok\":\"ordered\"}"
   pub started : reply_bytes Started ≡ codes "{\"ok\":\"started\"}"
   pub closed : reply_bytes VotingClosed ≡ codes "{\"ok\":\"closed\"}"

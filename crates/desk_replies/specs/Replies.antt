@@ -20,13 +20,18 @@ use Rattle.desk_words.specs.declared.reply.Reply.{Reply}
 use Rattle.desk_words.specs.declared.reply.Reply.TheVariants as reply
 use Rattle.desk_words.specs.declared.reply.Failure.{Failure}
 use Rattle.desk_words.specs.declared.reply.Failure.TheVariants as failure
-use Rattle.desk_replies.specs.Appointments.{given_data, received_data, appointed_data, ended_data}
+use Rattle.desk_replies.specs.Appointments.{given_data, received_data, appointed_data}
 use Rattle.desk_replies.specs.Forms.{whole, name_data, or_null, listed, only_if, is_adjourned, with_members}
 use Rattle.desk_replies.specs.Notices.{notice_data}
 
 -- a word beside `ok`, and nothing else
 abbrev pub ok_data : List ℕ → Data
 ok_data word = with_members ((codes "ok", string word) ∷ [])
+
+-- a word beside `ok`, and a number
+abbrev pub numbered_ok_data : ℕ → List ℕ → Data
+numbered_ok_data number word =
+    with_members ((codes "number", whole number) ∷ (codes "ok", string word) ∷ [])
 
 -- a party's row in the register; `paid` is the pence paid up on each share
 abbrev pub row_data : RegisterRow → Data
@@ -112,6 +117,7 @@ reply_data reply.Called = ok_data (codes "called")
 reply_data reply.Loaded = ok_data (codes "loaded")
 reply_data reply.Same = ok_data (codes "same")
 reply_data reply.MeetingOpened = ok_data (codes "opened")
+reply_data (reply.Adjourned number) = numbered_ok_data number (codes "adjourned")
 reply_data reply.Ordered = ok_data (codes "ordered")
 reply_data reply.Started = ok_data (codes "started")
 reply_data reply.VotingClosed = ok_data (codes "closed")
@@ -119,7 +125,7 @@ reply_data (reply.Declared d) = declaration_data d
 reply_data (reply.Notice n) = notice_data n
 reply_data (reply.Mine m) = mine_data m
 reply_data (reply.Appointed r) = appointed_data r
-reply_data (reply.Ended number) = ended_data number
+reply_data (reply.Ended number) = numbered_ok_data number (codes "ended")
 reply_data reply.Noted = ok_data (codes "noted")
 reply_data reply.Recorded = ok_data (codes "recorded")
 reply_data (reply.Refused r) = refusal_data r

@@ -1,6 +1,6 @@
 //! Appointments of proxies, as JSON.
 ghost use Rattle.std.specs.Prelude.{◌≡◌, OnOk};
-ghost use Rattle.desk_replies.specs.Appointments.{instruction_data, use_word, given_data, appointed_data, ended_data};
+ghost use Rattle.desk_replies.specs.Appointments.{instruction_data, use_word, given_data, appointed_data};
 ghost use Rattle.desk_replies.specs.Parts.{given_head};
 ghost use Rattle.desk_replies.specs.Writing.{WritesMembers, WritesValue};
 
@@ -64,15 +64,5 @@ pub(crate) fn write_appointed(
     put_number(out, "number", receipt.number)?;
     put_text(out, "ok", "appointed")?;
     put_text(out, "use", use_word(receipt.used))?;
-    out.end_object()
-}
-
-/// Writes the object that answers a party that ended its appointment of that number.
-pub(crate) fn write_ended(out: &mut Writer, number: u64) -> Result<(), AllocError>
-    ensures { OnOk result (WritesValue (ended_data number) out.old out.new) }
-{
-    out.begin_object()?;
-    put_number(out, "number", number)?;
-    put_text(out, "ok", "ended")?;
     out.end_object()
 }

@@ -1,10 +1,11 @@
 //! The texts of replies.
 ghost use Rattle.std.specs.Prelude.{◌≡◌, Some, IfOk, OnOk};
 ghost use Rattle.serde_json.specs.Read.{read};
-ghost use Rattle.desk_replies.specs.Replies.{ok_data, declaration_data, refusal_data, reply_data, reply_bytes};
+ghost use Rattle.desk_replies.specs.Replies.{ok_data, numbered_ok_data, declaration_data, refusal_data};
+ghost use Rattle.desk_replies.specs.Replies.{reply_data, reply_bytes};
 ghost use Rattle.desk_replies.specs.Writing.{WritesValue};
 
-use crate::appointment::{write_appointed, write_ended};
+use crate::appointment::write_appointed;
 use crate::mine::write_mine;
 use crate::notice::{put_result_head, write_notice};
 use crate::shown::{put_number, put_text};
@@ -30,6 +31,15 @@ fn write_ok(out: &mut Writer, word: &str) -> Result<(), AllocError>
     ensures { OnOk result (WritesValue (ok_data word.now) out.old out.new) }
 {
     out.begin_object()?;
+    put_text(out, "ok", word)?;
+    out.end_object()
+}
+
+fn write_numbered_ok(out: &mut Writer, number: u64, word: &str) -> Result<(), AllocError>
+    ensures { OnOk result (WritesValue (numbered_ok_data number word.now) out.old out.new) }
+{
+    out.begin_object()?;
+    put_number(out, "number", number)?;
     put_text(out, "ok", word)?;
     out.end_object()
 }
@@ -61,6 +71,7 @@ fn write_reply(out: &mut Writer, reply: &Reply) -> Result<(), AllocError>
         Reply::Loaded => write_ok(out, "loaded"),
         Reply::Same => write_ok(out, "same"),
         Reply::MeetingOpened => write_ok(out, "opened"),
+        Reply::Adjourned(number) => write_numbered_ok(out, *number, "adjourned"),
         Reply::Ordered => write_ok(out, "ordered"),
         Reply::Started => write_ok(out, "started"),
         Reply::VotingClosed => write_ok(out, "closed"),
@@ -68,7 +79,7 @@ fn write_reply(out: &mut Writer, reply: &Reply) -> Result<(), AllocError>
         Reply::Notice(notice) => write_notice(out, notice),
         Reply::Mine(mine) => write_mine(out, mine),
         Reply::Appointed(receipt) => write_appointed(out, *receipt),
-        Reply::Ended(number) => write_ended(out, *number),
+        Reply::Ended(number) => write_numbered_ok(out, *number, "ended"),
         Reply::Noted => write_ok(out, "noted"),
         Reply::Recorded => write_ok(out, "recorded"),
         Reply::Refused(refusal) => write_refusal(out, *refusal),

@@ -16,6 +16,7 @@ fn office_words(asked: &OfficeRequest) -> (&'static str, u64) {
         OfficeRequest::LoadRegister(_) => ("register", 0),
         OfficeRequest::Presence(_) => ("presence", 0),
         OfficeRequest::OpenMeeting => ("open", 0),
+        OfficeRequest::Adjourn(_) => ("adjourn", 0),
         OfficeRequest::Order(order) => ("order", order.resolution),
         OfficeRequest::Start(resolution) => ("start", *resolution),
         OfficeRequest::Close(resolution) => ("close", *resolution),

@@ -5,7 +5,7 @@ use Rattle.std.specs.Fmt.{digits}
 use Rattle.serde_json.proofs.OnLiterals.{serde_json_on_literals}
 use Rattle.desk_terms.specs.Refusals.{number_of, name_of}
 use Rattle.desk_terms.specs.declared.refusal.Refusal.{Refusal}
-use Rattle.desk_terms.specs.declared.refusal.Refusal.TheVariants.{Key, Route, Method, TooLarge, Unreadable, OfficeOnly, PartyOnly, NoMeeting, Exists, ShortNotice, NoResolution, BadRange, SelfNamed, BadInstructions, TooMany, NoSuchNumber, AlreadyEnded, NoRegister, OtherRecord, Opened, NotOpened, Early, NoQuorum, NotPresent, NoRight, PollOrdered, NoPoll, DemandTooSmall, PollNotOpen, PollClosed, NotClosed, Declared, NotYours, AgainstInstruction}
+use Rattle.desk_terms.specs.declared.refusal.Refusal.TheVariants.{Key, Route, Method, TooLarge, Unreadable, OfficeOnly, PartyOnly, NoMeeting, Exists, ShortNotice, NoResolution, BadRange, SelfNamed, BadInstructions, TooMany, NoSuchNumber, AlreadyEnded, NoRegister, OtherRecord, Opened, NotOpened, Early, NoQuorum, NotPresent, NoRight, PollOrdered, NoPoll, DemandTooSmall, PollNotOpen, PollClosed, NotClosed, Declared, NotYours, AgainstInstruction, PollRunning}
 use Rattle.desk_words.specs.declared.reply.AppointmentUse.TheVariants as counted
 use Rattle.desk_words.specs.declared.reply.Reply.TheVariants as reply
 use Rattle.desk_words.specs.declared.reply.Declaration.{Declaration}
@@ -52,6 +52,7 @@ name_as_it_is NotClosed = refl
 name_as_it_is Declared = refl
 name_as_it_is NotYours = refl
 name_as_it_is AgainstInstruction = refl
+name_as_it_is PollRunning = refl
 
 -- the word's own text stands between the two members' names and the end
 parts : (n : ℕ) (word : List ℕ) → compact_text (with_members ((codes "code", whole n) ∷ (codes "refused", string word) ∷ []))
@@ -85,6 +86,10 @@ appointed_spelled n = simp append_assoc
 appointed_late_spelled : (n : ℕ) → reply_bytes (reply.Appointed (record { number = n; used = counted.LaterPolls })) ≡ codes "{\"number\":" ++ decimal n ++ codes ",\"ok\":\"appointed\",\"use\":\"later polls only\"}"
 unfolding serde_json_on_literals
 appointed_late_spelled n = simp append_assoc
+
+adjourned_spelled : (n : ℕ) → reply_bytes (reply.Adjourned n) ≡ codes "{\"number\":" ++ decimal n ++ codes ",\"ok\":\"adjourned\"}"
+unfolding serde_json_on_literals
+adjourned_spelled n = simp append_assoc
 
 ended_spelled : (n : ℕ) → reply_bytes (reply.Ended n) ≡ codes "{\"number\":" ++ decimal n ++ codes ",\"ok\":\"ended\"}"
 unfolding serde_json_on_literals
@@ -144,4 +149,4 @@ mine_of_two_spelled t = simp append_assoc
 
 pub returns : goal.returns
 unfolding serde_json_on_literals
-returns c = record { called = refl; loaded = refl; same = refl; opened = refl; ordered = refl; started = refl; closed = refl; noted = refl; recorded = refl; declared = declaration_spelled; appointed = appointed_spelled; appointed_late = appointed_late_spelled; ended = ended_spelled; refused = refused_text; notice = notice_spelled; notice_of_two = notice_of_two_spelled; mine = mine_spelled; mine_of_two = mine_of_two_spelled; store = refl; memory = refl }
+returns c = record { called = refl; loaded = refl; same = refl; opened = refl; adjourned = adjourned_spelled; ordered = refl; started = refl; closed = refl; noted = refl; recorded = refl; declared = declaration_spelled; appointed = appointed_spelled; appointed_late = appointed_late_spelled; ended = ended_spelled; refused = refused_text; notice = notice_spelled; notice_of_two = notice_of_two_spelled; mine = mine_spelled; mine_of_two = mine_of_two_spelled; store = refl; memory = refl }
