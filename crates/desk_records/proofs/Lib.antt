@@ -2,8 +2,10 @@ pub mod FlatChanges
 pub mod ListChanges
 pub mod ListLemmas
 pub mod MeetingChanges
+pub mod MovingLemmas
 pub mod Names
 pub mod OfficeLemmas
 pub mod PollChanges
 pub mod RecordLemmas
+pub mod SessionChanges
 pub mod SessionLemmas

@@ -1,6 +1,7 @@
 -- A meeting that gets a register or is opened, and the keys and closed days of an office.
-use Rattle.std.proofs.Common.{◌≡◌, ℕ, Bool, true, false, if◌then◌else◌, List, [], ◌∷◌, ◌++◌, map, filter, Some, refl, sym, ap, subst, ◌∙◌}
-use Rattle.std.specs.List.{list_any}
+use Rattle.std.proofs.Common.{◌≡◌, ℕ, suc, ◌==◌, Bool, true, false, if◌then◌else◌, List, [], ◌∷◌, ◌++◌, length, map, filter, Some, refl, sym, ap, subst, ◌∙◌, arith, true≢false}
+use Rattle.std.specs.List.{list_all, list_any}
+use Rattle.std.proofs.lemmas.Bool.Decides.{nat_tests}
 use Rattle.std.proofs.lemmas.List.{append-nil}
 use Rattle.desk_lists.specs.Lists.{change_first}
 use Rattle.desk_lists.specs.Ordered.{differ_by}
@@ -8,33 +9,44 @@ use Rattle.desk_lists.specs.Sorting.{sort_by}
 use Rattle.desk_lists.proofs.Differing.{differ_changed}
 use Rattle.desk_terms.specs.Names.{same_name}
 use Rattle.desk_words.specs.Lists.{caller_before, day_before}
-use Rattle.desk_words.specs.Office.{same_meeting}
+use Rattle.desk_words.specs.Office.{implies, same_meeting}
 use Rattle.desk_words.specs.Registers.{member_before}
 use Rattle.desk_words.specs.Sessions.{open_last}
 use Rattle.desk_words.specs.declared.caller.KeyRow.{KeyRow}
 use Rattle.desk_words.specs.declared.office.MeetingLists.{MeetingLists}
 use Rattle.desk_words.specs.declared.office.OfficeLists.{OfficeLists}
 use Rattle.desk_words.specs.declared.records.RegisterRow.{RegisterRow}
+use Rattle.desk_words.specs.declared.records.Resolution.{Resolution}
+use Rattle.desk_words.specs.declared.records.Session.{Session}
 use Rattle.desk_words.proofs.RowLemmas.{same_name-true}
 use Rattle.desk_rows.specs.declared.kept.MeetingRow.{MeetingRow}
 use Rattle.desk_schema.specs.Contents.{loaded_at, opened_at}
-use Rattle.desk_records.specs.Office.{FlatLists, have_meetings, office_of_records, of_meeting}
+use Rattle.desk_records.specs.Office.{FlatLists, have_meetings, lists_with, office_of_records, of_meeting}
 use Rattle.desk_records.proofs.ListChanges.{all_pass, list_changed, list_of}
 use Rattle.desk_records.proofs.Names.{kept_list}
 use Rattle.desk_records.proofs.Names.ListName.{Register}
 use Rattle.desk_records.proofs.OfficeLemmas.{AllStand, AreOf, are_of, have_all, office_changed, office_is, stands_there, with_changed}
+use Rattle.desk_records.proofs.SessionLemmas.{has_one_session}
 use Rattle.desk_records.proofs.RecordLemmas.{in_meeting, is_other, of_meeting-append, of_meeting-emptied, of_meeting-left, of_meeting-none, of_meeting-own, name_turned, stand-append, stand-filter, stand-own, stand-renewed}
 
 -- ---- a row of a meeting
 
 have_renewed : (flat : FlatLists) (row : MeetingRow → MeetingRow) → ((m : MeetingRow) → (row m).id ≡ m.id) → AllStand flat → have_meetings (record flat { meetings = map row flat.meetings }) ≡ true
 have_renewed flat row named stand = have_all (record flat { meetings = map row flat.meetings }) (record {
+  sessions = stand-renewed row flat.meetings named flat.sessions ∙ stand.sessions;
   resolutions = stand-renewed row flat.meetings named flat.resolutions ∙ stand.resolutions;
   lists = elim [
     | Register ↦ stand-renewed row flat.meetings named ((kept_list Register).all flat) ∙ stand.lists Register
     | n ↦ stand-renewed row flat.meetings named ((kept_list n).all flat) ∙ stand.lists n
   ];
 })
+
+-- the meeting of a name has one session
+abbrev pub is_alone : List ℕ → MeetingLists → Bool
+is_alone id x = implies (same_name x.meeting.id id) (has_one_session x)
+
+more : (n : ℕ) → (suc n == 0) ≡ false
+more n = grind (arith, nat_tests)
 
 module _ (flat : FlatLists) (id : List ℕ) (office : OfficeLists) (of : AreOf flat office) (differ : differ_by same_meeting office.meetings ≡ true) where
   loaded_named : (m : MeetingRow) → (loaded_at id m).id ≡ m.id
@@ -47,8 +59,11 @@ module _ (flat : FlatLists) (id : List ℕ) (office : OfficeLists) (of : AreOf f
         meetings = refl;
         named = loaded_named;
         resolutions = refl;
-        here = λ m rs good is. rw is refl;
-        there = λ m rs other. rw other refl;
+        later = λ s. s;
+        sessions_here = λ m s rs good is known. known;
+        sessions_there = λ m other. refl;
+        here = λ m s rs good is. rw is refl;
+        there = λ m s rs other. rw other refl;
         keys = refl;
         closed = refl;
       }) office of (have_renewed flat (loaded_at id) loaded_named of.stand) differ (all_pass office.meetings)
@@ -57,18 +72,26 @@ module _ (flat : FlatLists) (id : List ℕ) (office : OfficeLists) (of : AreOf f
     opened_named : (m : MeetingRow) → (opened_at id moment m).id ≡ m.id
     opened_named m = elim (same_name m.id id) as (λ b. (if b then record m { opened = Some moment } else m).id ≡ m.id) [ true ↦ refl | false ↦ refl ]
 
-    -- a meeting is opened
-    pub meeting_opened : office_of_records (record flat { meetings = map (opened_at id moment) flat.meetings }) ≡ Some (with_changed id (λ x. record x { meeting = open_last moment x.meeting }) office)
-    meeting_opened =
-        office_changed flat (record flat { meetings = map (opened_at id moment) flat.meetings }) (opened_at id moment) id (λ x. record x { meeting = open_last moment x.meeting }) (λ _. true) (record {
+    -- a meeting of one session is opened
+    pub meeting_opened : list_all (is_alone id) office.meetings ≡ true → office_of_records (record flat { meetings = map (opened_at id moment) flat.meetings }) ≡ Some (with_changed id (λ x. record x { meeting = open_last moment x.meeting }) office)
+    meeting_opened alone =
+        office_changed flat (record flat { meetings = map (opened_at id moment) flat.meetings }) (opened_at id moment) id (λ x. record x { meeting = open_last moment x.meeting }) (is_alone id) (record {
           meetings = refl;
           named = opened_named;
           resolutions = refl;
-          here = λ m rs good is. rw is refl;
-          there = λ m rs other. rw other refl;
+          later = λ s. s;
+          sessions_here = λ m s rs good is known. known;
+          sessions_there = λ m other. refl;
+          here = opened_here;
+          there = λ m s rs other. rw other refl;
           keys = refl;
           closed = refl;
-        }) office of (have_renewed flat (opened_at id moment) opened_named of.stand) differ (all_pass office.meetings)
+        }) office of (have_renewed flat (opened_at id moment) opened_named of.stand) differ alone
+      where
+        opened_here : (m : MeetingRow) (s : List Session) (rs : List Resolution) → is_alone id (lists_with flat m s rs) ≡ true → same_name m.id id ≡ true
+            → lists_with (record flat { meetings = map (opened_at id moment) flat.meetings }) (opened_at id moment m) s rs ≡ (let x = lists_with flat m s rs in record x { meeting = open_last moment x.meeting })
+        opened_here m [] rs good is = rw is refl
+        opened_here m (t ∷ s) rs good is = absurd (true≢false (sym (rw is at good) ∙ more (length s)))
 
 -- ---- a register
 
@@ -91,7 +114,7 @@ module _ (flat : FlatLists) (id : List ℕ) (rows : List RegisterRow) (office : 
   rows_replaced : office_of_records (with_register flat id rows) ≡ Some (with_changed id (λ x. record x { register = rows }) office)
   rows_replaced =
       list_changed (list_of Register) flat (filter (is_other id) flat.register ++ map (in_meeting id) rows) id (λ _. rows) (λ _. true)
-      (λ m rs _ is. ap (sort_by member_before) (subst (λ n. of_meeting n (filter (is_other id) flat.register ++ map (in_meeting id) rows) ≡ rows) (sym (same_name-true m.id id is)) own) ∙ sorted)
+      (λ m s rs _ is. ap (sort_by member_before) (subst (λ n. of_meeting n (filter (is_other id) flat.register ++ map (in_meeting id) rows) ≡ rows) (sym (same_name-true m.id id is)) own) ∙ sorted)
       (λ name other.
       of_meeting-append name (filter (is_other id) flat.register) (map (in_meeting id) rows)
       ∙ rw (of_meeting-none id name rows (name_turned id name ∙ other), append-nil (of_meeting name (filter (is_other id) flat.register))) (of_meeting-left id name flat.register (name_turned id name ∙ other)))

@@ -13,9 +13,11 @@ use Rattle.desk_words.specs.declared.records.Ending.{Ending}
 use Rattle.desk_words.specs.declared.records.Poll.{Poll}
 use Rattle.desk_words.specs.declared.records.PresenceMark.{PresenceMark}
 use Rattle.desk_words.specs.declared.records.RegisterRow.{RegisterRow}
+use Rattle.desk_words.specs.declared.records.Resolution.{Resolution}
+use Rattle.desk_words.specs.declared.records.Session.{Session}
 use Rattle.desk_rows.specs.declared.kept.InMeeting.{InMeeting}
 use Rattle.desk_rows.specs.declared.kept.MeetingRow.{MeetingRow}
-use Rattle.desk_rows.specs.declared.kept.NumberedResolution.{NumberedResolution}
+use Rattle.desk_rows.specs.declared.kept.Numbered.{Numbered}
 use Rattle.desk_schema.specs.Contents as table
 use Rattle.desk_schema.specs.Statements.{TableOf}
 use Rattle.desk_records.specs.Office.{FlatLists}
@@ -26,7 +28,7 @@ pub data ListName : Type 0 where
 
 -- the tables of an office's records
 pub data TableName : Type 0 where
-  Keys Closed Meetings Resolutions : TableName
+  Keys Closed Meetings Sessions Resolutions : TableName
   Each : ListName → TableName
 
 -- what stands in a list of a meeting
@@ -79,7 +81,8 @@ abbrev pub RecordOf : TableName → Type 0
 RecordOf Keys = KeyRow
 RecordOf Closed = ℕ
 RecordOf Meetings = MeetingRow
-RecordOf Resolutions = InMeeting NumberedResolution
+RecordOf Sessions = InMeeting (Numbered Session)
+RecordOf Resolutions = InMeeting (Numbered Resolution)
 RecordOf (Each n) = InMeeting (ItemOf n)
 
 -- each table
@@ -87,6 +90,7 @@ abbrev pub kept : (n : TableName) → Kept (RecordOf n)
 kept Keys = record { table = table.keys; all = λ f. f.keys; with_all = λ l f. record f { keys = l } }
 kept Closed = record { table = table.closed; all = λ f. f.closed; with_all = λ l f. record f { closed = l } }
 kept Meetings = record { table = table.meetings; all = λ f. f.meetings; with_all = λ l f. record f { meetings = l } }
+kept Sessions = record { table = table.sessions; all = λ f. f.sessions; with_all = λ l f. record f { sessions = l } }
 kept Resolutions = record { table = table.resolutions; all = λ f. f.resolutions; with_all = λ l f. record f { resolutions = l } }
 kept (Each n) = kept_list n
 

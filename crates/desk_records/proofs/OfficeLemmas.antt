@@ -11,22 +11,24 @@ use Rattle.desk_words.specs.Office.{same_meeting}
 use Rattle.desk_words.specs.declared.office.MeetingLists.{MeetingLists}
 use Rattle.desk_words.specs.declared.office.OfficeLists.{OfficeLists}
 use Rattle.desk_words.specs.declared.records.Resolution.{Resolution}
+use Rattle.desk_words.specs.declared.records.Session.{Session}
 use Rattle.desk_words.proofs.RowLemmas.{same_name-true}
 use Rattle.desk_rows.specs.declared.kept.MeetingRow.{MeetingRow}
-use Rattle.desk_terms.specs.Options.{◌>>=◌, only}
-use Rattle.desk_records.specs.Office.{FlatLists, resolutions_of, lists_with, lists_of, lists_of_all, name_meetings, have_meetings, office_of_records}
-use Rattle.desk_records.proofs.FlatChanges.{some_is}
+use Rattle.desk_terms.specs.Options.{◌>>=◌}
+use Rattle.desk_records.specs.Office.{FlatLists, resolutions_of, sessions_of, lists_with, lists_of, lists_of_all, name_meetings, have_meetings, office_of_records}
+use Rattle.desk_records.proofs.FlatChanges.{only_is, some_is}
 use Rattle.desk_records.proofs.ListLemmas.{any-map, map-once}
 use Rattle.desk_records.proofs.Names.{ListName, kept_list}
 use Rattle.desk_records.proofs.Names.ListName.{Register, Appointments, Endings, Authorities, Presences, Demands, Polls, Casts}
 use Rattle.desk_records.proofs.RecordLemmas.{stands}
-use Rattle.desk_rows.proofs.MeaningLemmas.{bound, option_ap}
+use Rattle.desk_rows.proofs.MeaningLemmas.{bound}
 use Rattle.std.proofs.lemmas.Bool.{and_parts}
 
 -- ---- what is known of records that are an office
 
 -- the meetings of the records stand
 pub record AllStand (flat : FlatLists) : Type 0 where
+  pub sessions : name_meetings flat.meetings flat.sessions ≡ true
   pub resolutions : name_meetings flat.meetings flat.resolutions ≡ true
   pub lists : (n : ListName) → name_meetings flat.meetings ((kept_list n).all flat) ≡ true
 
@@ -40,11 +42,12 @@ all_stand flat h =
     let endings = and_parts _ _ authorities.0 in
     let appointments = and_parts _ _ endings.0 in
     let register = and_parts _ _ appointments.0 in
-    record { resolutions = register.0; lists = elim [ Register ↦ register.1 | _ ↦ assumption ] }
+    let resolutions = and_parts _ _ register.0 in
+    record { sessions = resolutions.0; resolutions = resolutions.1; lists = elim [ Register ↦ register.1 | _ ↦ assumption ] }
 
 pub have_all : (flat : FlatLists) → AllStand flat → have_meetings flat ≡ true
 have_all flat s =
-    rw (s.resolutions, s.lists Register, s.lists Appointments, s.lists Endings, s.lists Authorities, s.lists Presences, s.lists Demands, s.lists Polls, s.lists Casts) refl
+    rw (s.sessions, s.resolutions, s.lists Register, s.lists Appointments, s.lists Endings, s.lists Authorities, s.lists Presences, s.lists Demands, s.lists Polls, s.lists Casts) refl
 
 -- the records are those of an office
 pub record AreOf (flat : FlatLists) (office : OfficeLists) : Type 0 where
@@ -52,10 +55,6 @@ pub record AreOf (flat : FlatLists) (office : OfficeLists) : Type 0 where
   pub lists : lists_of_all flat flat.meetings ≡ Some office.meetings
   pub keys : sort_by caller_before flat.keys ≡ office.keys
   pub closed : sort_by day_before flat.closed ≡ office.closed
-
-only_is : {B : Type 0} (b : Bool) (next : Unit {0} → Option B) (x : B) → (only b >>= next) ≡ Some x → (b ≡ true) × (next tt ≡ Some x)
-only_is true next x h = (refl, h)
-only_is false next x h = absurd cc
 
 pub are_of : (flat : FlatLists) (office : OfficeLists) → office_of_records flat ≡ Some office → AreOf flat office
 unfolding office_of_records
@@ -77,14 +76,29 @@ office_is flat office stand lists keys closed = rw (stand, lists, keys, closed) 
 
 -- ---- names of meetings
 
+-- the further sessions and the resolutions with which the lists of a meeting are those
+pub record Given (flat : FlatLists) (m : MeetingRow) (x : MeetingLists) : Type 0 where
+  pub later : List Session
+  pub resolutions : List Resolution
+  pub sessions : sessions_of m.id flat.sessions ≡ Some later
+  pub numbered : resolutions_of m.id flat.resolutions ≡ Some resolutions
+  pub is : lists_with flat m later resolutions ≡ x
+
+pub given : (flat : FlatLists) (m : MeetingRow) (x : MeetingLists) → lists_of flat m ≡ Some x → Given flat m x
+given flat m x h =
+    let later = bound (sessions_of m.id flat.sessions) _ x h in
+    let resolutions = bound (resolutions_of m.id flat.resolutions) _ x later.2 in
+    record { later = later.0; resolutions = resolutions.0; sessions = later.1; numbered = resolutions.1; is = some_is resolutions.2 }
+
+pub given_so : (flat : FlatLists) (m : MeetingRow) (later : List Session) (resolutions : List Resolution) → sessions_of m.id flat.sessions ≡ Some later → resolutions_of m.id flat.resolutions ≡ Some resolutions
+    → lists_of flat m ≡ Some (lists_with flat m later resolutions)
+given_so flat m later resolutions a b =
+    ap (λ (o : Option (List Session)). o >>= λ s. resolutions_of m.id flat.resolutions >>= λ rs. Some (lists_with flat m s rs)) a
+    ∙ ap (λ (o : Option (List Resolution)). o >>= λ rs. Some (lists_with flat m later rs)) b
+
 -- the lists of a meeting that the records give are those of a meeting of that name
 pub named_so : (flat : FlatLists) (m : MeetingRow) (x : MeetingLists) → lists_of flat m ≡ Some x → x.meeting.id ≡ m.id
-named_so flat m x h =
-    let it = bound (resolutions_of m.id flat.resolutions) _ x h in
-    name_is (option_ap (λ (y : MeetingLists). y.meeting.id) it.2)
-  where
-    name_is : ◌≡◌ {A = Option (List ℕ)} (Some m.id) (Some x.meeting.id) → x.meeting.id ≡ m.id
-    name_is e = cc
+named_so flat m x h = ap (λ (y : MeetingLists). y.meeting.id) (sym (given flat m x h).is)
 
 -- the meetings of the records have the names of the office's
 names_are : (flat : FlatLists) (rows : List MeetingRow) (lists : List MeetingLists) → lists_of_all flat rows ≡ Some lists → map (λ (m : MeetingRow). m.id) rows ≡ map (λ (x : MeetingLists). x.meeting.id) lists
@@ -117,26 +131,31 @@ pub record ChangesOne (old new : FlatLists) (row : MeetingRow → MeetingRow) (i
   pub meetings : new.meetings ≡ map row old.meetings
   pub named : (m : MeetingRow) → (row m).id ≡ m.id
   pub resolutions : new.resolutions ≡ old.resolutions
-  pub here : (m : MeetingRow) (rs : List Resolution) → test (lists_with old m rs) ≡ true → same_name m.id id ≡ true → lists_with new (row m) rs ≡ change (lists_with old m rs)
-  pub there : (m : MeetingRow) (rs : List Resolution) → same_name m.id id ≡ false → lists_with new (row m) rs ≡ lists_with old m rs
+  pub later : List Session → List Session
+  pub sessions_here : (m : MeetingRow) (s : List Session) (rs : List Resolution) → test (lists_with old m s rs) ≡ true → same_name m.id id ≡ true → sessions_of m.id old.sessions ≡ Some s → sessions_of m.id new.sessions ≡ Some (later s)
+  pub sessions_there : (m : MeetingRow) → same_name m.id id ≡ false → sessions_of m.id new.sessions ≡ sessions_of m.id old.sessions
+  pub here : (m : MeetingRow) (s : List Session) (rs : List Resolution) → test (lists_with old m s rs) ≡ true → same_name m.id id ≡ true → lists_with new (row m) (later s) rs ≡ change (lists_with old m s rs)
+  pub there : (m : MeetingRow) (s : List Session) (rs : List Resolution) → same_name m.id id ≡ false → lists_with new (row m) s rs ≡ lists_with old m s rs
   pub keys : new.keys ≡ old.keys
   pub closed : new.closed ≡ old.closed
 
 module _ (old new : FlatLists) (row : MeetingRow → MeetingRow) (id : List ℕ) (change : MeetingLists → MeetingLists) (test : MeetingLists → Bool) (c : ChangesOne old new row id change test) where
   lists_changed : (m : MeetingRow) (x : MeetingLists) → test x ≡ true → lists_of old m ≡ Some x → lists_of new (row m) ≡ Some (change_named id change x)
   lists_changed m x good h =
-      let it = bound (resolutions_of m.id old.resolutions) (λ rs. Some (lists_with old m rs)) x h in
-      let is = some_is it.2 in
-      found it.0 it.1 ∙ ap (λ (y : MeetingLists). Some y) (elim (cases_Bool (same_name m.id id)) [
-        | inl same ↦ c.here m it.0 (ap test is ∙ good) same ∙ sym (rw same refl) ∙ ap (change_named id change) is
-        | inr other ↦ c.there m it.0 other ∙ sym (rw other refl) ∙ ap (change_named id change) is
-      ])
+      let it = given old m x h in
+      let passes = ap test it.is ∙ good in
+      elim (cases_Bool (same_name m.id id)) [
+        | inl same ↦
+            found (c.later it.later) it.resolutions (c.sessions_here m it.later it.resolutions passes same it.sessions) it.numbered
+            ∙ ap (λ (y : MeetingLists). Some y) (c.here m it.later it.resolutions passes same ∙ sym (rw same refl) ∙ ap (change_named id change) it.is)
+        | inr other ↦
+            found it.later it.resolutions (c.sessions_there m other ∙ it.sessions) it.numbered
+            ∙ ap (λ (y : MeetingLists). Some y) (c.there m it.later it.resolutions other ∙ sym (rw other refl) ∙ ap (change_named id change) it.is)
+      ]
     where
-      numbered_so : resolutions_of (row m).id new.resolutions ≡ resolutions_of m.id old.resolutions
-      numbered_so = ap (λ n. resolutions_of n new.resolutions) (c.named m) ∙ ap (resolutions_of m.id) c.resolutions
-
-      found : (rs : List Resolution) → resolutions_of m.id old.resolutions ≡ Some rs → lists_of new (row m) ≡ Some (lists_with new (row m) rs)
-      found rs e = ap (λ (o : Option (List Resolution)). o >>= λ r. Some (lists_with new (row m) r)) (numbered_so ∙ e)
+      found : (s : List Session) (rs : List Resolution) → sessions_of m.id new.sessions ≡ Some s → resolutions_of m.id old.resolutions ≡ Some rs → lists_of new (row m) ≡ Some (lists_with new (row m) s rs)
+      found s rs sessions numbered =
+          given_so new (row m) s rs (ap (λ n. sessions_of n new.sessions) (c.named m) ∙ sessions) (ap (λ n. resolutions_of n new.resolutions) (c.named m) ∙ ap (resolutions_of m.id) c.resolutions ∙ numbered)
 
   all_changed : (rows : List MeetingRow) (lists : List MeetingLists) → list_all test lists ≡ true → lists_of_all old rows ≡ Some lists → lists_of_all new (map row rows) ≡ Some (map (change_named id change) lists)
   all_changed [] lists good h = let none : [] ≡ lists = cc in rw (← none) refl

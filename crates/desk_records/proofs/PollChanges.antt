@@ -48,7 +48,7 @@ pub poll_added : (flat : FlatLists) (id : List ℕ) (added : Poll) (office : Off
     → office_of_records (record flat { polls = flat.polls ++ in_meeting id added ∷ [] }) ≡ Some (with_changed id (λ x. record x { polls = insert_by poll_before added x.polls }) office)
 poll_added flat id added office of differ one =
     list_changed (list_of Polls) flat (flat.polls ++ in_meeting id added ∷ []) id (insert_by poll_before added) (takes_poll id added)
-    (λ m rs good is. ap (sort_by poll_before) (of_meeting-last id m.id flat.polls added is) ∙ last_poll (of_meeting m.id flat.polls) added (rw is at good))
+    (λ m s rs good is. ap (sort_by poll_before) (of_meeting-last id m.id flat.polls added is) ∙ last_poll (of_meeting m.id flat.polls) added (rw is at good))
     (λ name other. of_meeting-same id name flat.polls added other)
     office of (stand-append flat.meetings flat.polls (in_meeting id added ∷ []) (of.stand.lists Polls) (stand-own flat.meetings id (added ∷ []) (sym (stands_there flat office id of) ∙ one))) differ
 
@@ -83,7 +83,7 @@ module _ (resolution : ℕ) (change : Poll → Poll) (same : (p : Poll) → (cha
       → office_of_records (record flat { polls = map (change_in id is_on change) flat.polls }) ≡ Some (with_changed id (λ x. record x { polls = change_first is_on change x.polls }) office)
   poll_moved flat id office of =
       list_changed (list_of Polls) flat (map (change_in id is_on change) flat.polls) id (change_first is_on change) (λ (x : MeetingLists). ascends_by poll_before x.polls)
-      (λ m rs good is. ap (sort_by poll_before) (of_meeting-changed id is_on change m.id flat.polls is) ∙ changed_once (of_meeting m.id flat.polls) good)
+      (λ m s rs good is. ap (sort_by poll_before) (of_meeting-changed id is_on change m.id flat.polls is) ∙ changed_once (of_meeting m.id flat.polls) good)
       (λ name other. of_meeting-unchanged id is_on change name flat.polls other)
       office of (stand-map flat.meetings (change_in id is_on change) (λ r. keeps r.meeting r.item) flat.polls ∙ of.stand.lists Polls)
     where

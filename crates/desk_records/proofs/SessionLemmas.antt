@@ -1,28 +1,33 @@
--- In tables of version 1 each meeting has one session.
-use Rattle.std.proofs.Common.{◌≡◌, ◌==◌, Bool, true, List, [], ◌∷◌, Some, length, refl, subst}
+-- Where no further session is kept, as in tables of version 1, each meeting has one session.
+use Rattle.std.proofs.Common.{◌≡◌, ◌==◌, Bool, true, List, [], ◌∷◌, Some, length, refl, sym, ap, subst, ◌∙◌}
 use Rattle.std.specs.List.{list_all}
 use Rattle.desk_words.specs.declared.office.MeetingLists.{MeetingLists}
 use Rattle.desk_words.specs.declared.office.OfficeLists.{OfficeLists}
+use Rattle.desk_words.specs.declared.records.Session.{Session}
 use Rattle.desk_rows.specs.declared.kept.MeetingRow.{MeetingRow}
 use Rattle.desk_rows.proofs.MeaningLemmas.{bound}
-use Rattle.desk_records.specs.Office.{FlatLists, lists_of, lists_of_all, lists_with, resolutions_of}
+use Rattle.desk_records.specs.Office.{FlatLists, lists_of, lists_of_all, sessions_of}
 use Rattle.desk_records.proofs.FlatChanges.{some_is}
-use Rattle.desk_records.proofs.OfficeLemmas.{AreOf}
+use Rattle.desk_records.proofs.OfficeLemmas.{AreOf, given}
 
 -- the meeting was never adjourned
 abbrev pub has_one_session : MeetingLists → Bool
 has_one_session x = length x.meeting.later == 0
 
-each_has_one : (flat : FlatLists) (rows : List MeetingRow) (lists : List MeetingLists) → lists_of_all flat rows ≡ Some lists → list_all has_one_session lists ≡ true
-each_has_one flat [] lists h = let none : [] ≡ lists = cc in rw (← none) refl
-each_has_one flat (m ∷ rest) lists h =
+one_given : (flat : FlatLists) (m : MeetingRow) (x : MeetingLists) → flat.sessions ≡ [] → lists_of flat m ≡ Some x → has_one_session x ≡ true
+one_given flat m x none h =
+    let it = given flat m x h in
+    let alone : [] ≡ it.later = some_is (sym (ap (sessions_of m.id) none) ∙ it.sessions) in
+    subst (λ (y : MeetingLists). has_one_session y ≡ true) it.is (subst (λ (s : List Session). (length s == 0) ≡ true) alone refl)
+
+each_has_one : (flat : FlatLists) (rows : List MeetingRow) (lists : List MeetingLists) → flat.sessions ≡ [] → lists_of_all flat rows ≡ Some lists → list_all has_one_session lists ≡ true
+each_has_one flat [] lists none h = let nothing : [] ≡ lists = cc in rw (← nothing) refl
+each_has_one flat (m ∷ rest) lists none h =
     let first = bound (lists_of flat m) _ lists h in
     let later = bound (lists_of_all flat rest) _ lists first.2 in
     let are : first.0 ∷ later.0 ≡ lists = cc in
-    let it = bound (resolutions_of m.id flat.resolutions) (λ rs. Some (lists_with flat m rs)) first.0 first.1 in
-    let one : has_one_session first.0 ≡ true = subst (λ (x : MeetingLists). has_one_session x ≡ true) (some_is it.2) refl in
-    rw (← are, one, each_has_one flat rest later.0 later.1) refl
+    rw (← are, one_given flat m first.0 none first.1, each_has_one flat rest later.0 none later.1) refl
 
 -- the meetings of the office that the records are
-pub all_have_one : (flat : FlatLists) (office : OfficeLists) → AreOf flat office → list_all has_one_session office.meetings ≡ true
-all_have_one flat office of = each_has_one flat flat.meetings office.meetings of.lists
+pub all_have_one : (flat : FlatLists) (office : OfficeLists) → flat.sessions ≡ [] → AreOf flat office → list_all has_one_session office.meetings ≡ true
+all_have_one flat office none of = each_has_one flat flat.meetings office.meetings none of.lists

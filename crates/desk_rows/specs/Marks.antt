@@ -1,5 +1,4 @@
--- What a row of presences, demands, polls and casts means. Presences, demands and polls are those
--- of a meeting's first session.
+-- What a row of presences, demands, polls and casts means.
 use Rattle.std.specs.Prelude.{ℕ, ◌+◌, ◌^◌, ◌≤◌, ◌⊎◌, Bool, ◌&&◌, List, Option, Some, None, bytes_eq, codes, if◌then◌else◌}
 use Rattle.sqlite.specs.declared.types.Value.{Value}
 use Rattle.sqlite.specs.Order.{Row, column}
@@ -18,25 +17,36 @@ use Rattle.desk_rows.specs.declared.kept.InMeeting.{InMeeting}
 use Rattle.desk_terms.specs.Options.{◌>>=◌}
 use Rattle.desk_rows.specs.Columns.{spelled, spelled_of, worded_of, number_in, natural_value, flag_in, moment_in, some_moment_in, is_null}
 
--- a party that is present at a meeting: meeting, party, moment (section 318)
+-- a party that is present at a session: meeting, session, party, moment (section 318)
 unfoldable pub presence_in : Row → Option (InMeeting PresenceMark)
 presence_in cells = do
   meeting ← spelled meeting_of cells 0
-  party ← spelled party_of cells 1
-  moment ← moment_in cells 2
-  Some (record { meeting = meeting; item = record { session = 1; party = party; moment = moment } })
-
--- a demand of a poll: meeting, resolution, party, moment (sections 321 and 329)
-unfoldable pub demand_mark_in : Row → Option (InMeeting DemandMark)
-demand_mark_in cells = do
-  meeting ← spelled meeting_of cells 0
-  resolution ← number_in cells 1
+  session ← number_in cells 1
   party ← spelled party_of cells 2
   moment ← moment_in cells 3
   Some
       (record {
         meeting = meeting;
-        item = record { session = 1; resolution = resolution; party = party; moment = moment };
+        item = record { session = session; party = party; moment = moment };
+      })
+
+-- a demand of a poll: meeting, session, resolution, party, moment (sections 321 and 329)
+unfoldable pub demand_mark_in : Row → Option (InMeeting DemandMark)
+demand_mark_in cells = do
+  meeting ← spelled meeting_of cells 0
+  session ← number_in cells 1
+  resolution ← number_in cells 2
+  party ← spelled party_of cells 3
+  moment ← moment_in cells 4
+  Some
+      (record {
+        meeting = meeting;
+        item = record {
+          session = session;
+          resolution = resolution;
+          party = party;
+          moment = moment;
+        };
       })
 
 -- the count in four columns, of which none is NULL
@@ -73,23 +83,24 @@ declared_in cells at =
     declared_of (column cells at) (column cells (at + 1)) (column cells (at + 2))
     (column cells (at + 3))
 
--- a poll: meeting, resolution, when it was ordered, when it is to be taken, whether by the chair,
--- when it was started and closed, and the four figures of its count (section 321)
+-- a poll: meeting, session, resolution, when it was ordered, when it is to be taken, whether by the
+-- chair, when it was started and closed, and the four figures of its count (section 321)
 unfoldable pub poll_in : Row → Option (InMeeting Poll)
 poll_in cells = do
   meeting ← spelled meeting_of cells 0
-  resolution ← number_in cells 1
-  ordered ← moment_in cells 2
-  take ← moment_in cells 3
-  chair ← flag_in cells 4
-  started ← some_moment_in cells 5
-  closed ← some_moment_in cells 6
-  declared ← declared_in cells 7
+  session ← number_in cells 1
+  resolution ← number_in cells 2
+  ordered ← moment_in cells 3
+  take ← moment_in cells 4
+  chair ← flag_in cells 5
+  started ← some_moment_in cells 6
+  closed ← some_moment_in cells 7
+  declared ← declared_in cells 8
   Some
       (record {
         meeting = meeting;
         item = record {
-          session = 1;
+          session = session;
           resolution = resolution;
           ordered = ordered;
           take = take;
@@ -151,4 +162,53 @@ cast_in cells = do
       (record {
         meeting = meeting;
         item = record { resolution = resolution; voter = voter; what = what; moment = moment };
+      })
+
+-- ---- rows of version 1, whose meetings have one session
+
+-- a party that is present: meeting, party, moment
+unfoldable pub presence_one_in : Row → Option (InMeeting PresenceMark)
+presence_one_in cells = do
+  meeting ← spelled meeting_of cells 0
+  party ← spelled party_of cells 1
+  moment ← moment_in cells 2
+  Some (record { meeting = meeting; item = record { session = 1; party = party; moment = moment } })
+
+-- a demand of a poll: meeting, resolution, party, moment
+unfoldable pub demand_one_in : Row → Option (InMeeting DemandMark)
+demand_one_in cells = do
+  meeting ← spelled meeting_of cells 0
+  resolution ← number_in cells 1
+  party ← spelled party_of cells 2
+  moment ← moment_in cells 3
+  Some
+      (record {
+        meeting = meeting;
+        item = record { session = 1; resolution = resolution; party = party; moment = moment };
+      })
+
+-- a poll: meeting, resolution, and the others as above
+unfoldable pub poll_one_in : Row → Option (InMeeting Poll)
+poll_one_in cells = do
+  meeting ← spelled meeting_of cells 0
+  resolution ← number_in cells 1
+  ordered ← moment_in cells 2
+  take ← moment_in cells 3
+  chair ← flag_in cells 4
+  started ← some_moment_in cells 5
+  closed ← some_moment_in cells 6
+  declared ← declared_in cells 7
+  Some
+      (record {
+        meeting = meeting;
+        item = record {
+          session = 1;
+          resolution = resolution;
+          ordered = ordered;
+          take = take;
+          chair = chair;
+          started = started;
+          closed = closed;
+          declared = declared;
+        };
       })

@@ -1,17 +1,19 @@
--- What a row of meetings, resolutions and the register means.
+-- What a row of meetings, their further sessions, resolutions and the register means.
 use Rattle.std.specs.Prelude.{Option, Some}
 use Rattle.sqlite.specs.Order.{Row}
 use Rattle.desk_terms.specs.Kinds.{company_of, meeting_kind_of, resolution_kind_of, holder_kind_of}
 use Rattle.desk_terms.specs.Names.{party_of, meeting_of}
 use Rattle.desk_words.specs.declared.records.RegisterRow.{RegisterRow}
+use Rattle.desk_words.specs.declared.records.Resolution.{Resolution}
+use Rattle.desk_words.specs.declared.records.Session.{Session}
 use Rattle.desk_rows.specs.declared.kept.InMeeting.{InMeeting}
 use Rattle.desk_rows.specs.declared.kept.MeetingRow.{MeetingRow}
-use Rattle.desk_rows.specs.declared.kept.NumberedResolution.{NumberedResolution}
+use Rattle.desk_rows.specs.declared.kept.Numbered.{Numbered}
 use Rattle.desk_terms.specs.Options.{◌>>=◌}
 use Rattle.desk_rows.specs.Columns.{spelled, worded, number_in, flag_in, day_in, moment_in, some_moment_in, plain_text_of}
 
--- a meeting of one session: its name, company, kind, the day of the notice, the appointed time,
--- the moment as of which its register is taken, whether that is loaded, and when it opened
+-- a meeting with its first session: its name, company, kind, the day of the notice, the appointed
+-- time, the moment as of which its register is taken, whether that is loaded, and when it opened
 -- (section 307)
 unfoldable pub meeting_in : Row → Option MeetingRow
 meeting_in cells = do
@@ -35,8 +37,21 @@ meeting_in cells = do
         opened = opened;
       })
 
+-- a further session: meeting, number, appointed time, and when it opened
+unfoldable pub session_in : Row → Option (InMeeting (Numbered Session))
+session_in cells = do
+  meeting ← spelled meeting_of cells 0
+  number ← number_in cells 1
+  appointed ← moment_in cells 2
+  opened ← some_moment_in cells 3
+  Some
+      (record {
+        meeting = meeting;
+        item = record { number = number; item = record { appointed = appointed; opened = opened } };
+      })
+
 -- a resolution: meeting, number, kind, text (section 283(6))
-unfoldable pub resolution_in : Row → Option (InMeeting NumberedResolution)
+unfoldable pub resolution_in : Row → Option (InMeeting (Numbered Resolution))
 resolution_in cells = do
   meeting ← spelled meeting_of cells 0
   number ← number_in cells 1
@@ -45,7 +60,7 @@ resolution_in cells = do
   Some
       (record {
         meeting = meeting;
-        item = record { number = number; resolution = record { kind = kind; text = text } };
+        item = record { number = number; item = record { kind = kind; text = text } };
       })
 
 -- a holding: meeting, member, kind of holder, name, shares, pence paid up on each (section 113)

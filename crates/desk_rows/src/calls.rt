@@ -1,19 +1,19 @@
-//! Rows of meetings, of their resolutions and of their registers.
+//! Rows of meetings, of their further sessions, of their resolutions and of their registers.
 ghost use Rattle.std.specs.Prelude.{◌≡◌, Err, IsSome};
 ghost use Rattle.desk_terms.specs.Itself.{itself};
 ghost use Rattle.desk_rows.specs.Columns.{plain_text_of, worded};
 ghost use Rattle.desk_rows.specs.declared.fault.RowFault.TheVariants.{Memory};
 ghost use Rattle.desk_rows.specs.Meanings.{Gives, Reads};
-ghost use Rattle.desk_rows.specs.Meetings.{meeting_in, resolution_in, holding_in};
+ghost use Rattle.desk_rows.specs.Meetings.{meeting_in, session_in, resolution_in, holding_in};
 
 use crate::column::{
     company_in, day_in, flag_in, holder_kind_in, meeting_in, meeting_kind_in, moment_in, number_in,
     party_in, resolution_kind_in, some_moment_in, text_in,
 };
 use crate::fault::RowFault;
-use crate::kept::{InMeeting, MeetingRow, NumberedResolution};
+use crate::kept::{InMeeting, MeetingRow, Numbered};
 use crate::list::FromRow;
-use desk_words::{RegisterRow, Resolution};
+use desk_words::{RegisterRow, Resolution, Session};
 use sqlite::Row;
 use std::alloc::Global;
 
@@ -45,11 +45,32 @@ impl FromRow for MeetingRow {
     }
 }
 
-impl FromRow for InMeeting<NumberedResolution> {
+impl FromRow for InMeeting<Numbered<Session>> {
+    ghost means = { session_in };
+
+    #[tactic(auto, unfolding(crate::specs::Meetings::session_in))]
+    fn from_row(_: Global, row: &Row) -> Result<InMeeting<Numbered<Session>>, RowFault>
+        ensures { Reads itself result (session_in row.now) }
+    {
+        let meeting = meeting_in(row, 0)?;
+        let number = number_in(row, 1)?;
+        let appointed = moment_in(row, 2)?;
+        let opened = some_moment_in(row, 3)?;
+        Ok(InMeeting {
+            meeting,
+            item: Numbered {
+                number,
+                item: Session { appointed, opened },
+            },
+        })
+    }
+}
+
+impl FromRow for InMeeting<Numbered<Resolution>> {
     ghost means = { resolution_in };
 
     #[tactic(auto, unfolding(crate::specs::Meetings::resolution_in))]
-    fn from_row(alloc: Global, row: &Row) -> Result<InMeeting<NumberedResolution>, RowFault>
+    fn from_row(alloc: Global, row: &Row) -> Result<InMeeting<Numbered<Resolution>>, RowFault>
         ensures row { Gives itself result (resolution_in row.now) }
         ensures memory { result ≡ Err Memory → IsSome (worded plain_text_of row.now 3) }
     {
@@ -60,7 +81,10 @@ impl FromRow for InMeeting<NumberedResolution> {
         let resolution = Resolution { kind, text };
         Ok(InMeeting {
             meeting,
-            item: NumberedResolution { number, resolution },
+            item: Numbered {
+                number,
+                item: resolution,
+            },
         })
     }
 }

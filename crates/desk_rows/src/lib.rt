@@ -16,7 +16,7 @@ mod values;
 
 pub use fault::RowFault;
 pub use instructions::letters_of;
-pub use kept::{InMeeting, MeetingRow, NumberedResolution, Version};
+pub use kept::{InMeeting, MeetingRow, Numbered, Version};
 pub use list::{FromRow, records};
 pub use values::{
     CastColumns, TallyColumns, caller_text, capacity_text, cast_columns, company_text, day_number,

@@ -1,5 +1,4 @@
-//! Rows of presences, demands, polls and casts. Presences, demands and polls are those of a
-//! meeting's first session.
+//! Rows of presences, demands, polls and casts.
 ghost use Rattle.std.specs.Prelude.{◌≡◌};
 ghost use Rattle.desk_terms.specs.Itself.{itself};
 ghost use Rattle.sqlite.specs.Order.{column};
@@ -26,12 +25,13 @@ impl FromRow for InMeeting<PresenceMark> {
         ensures { Reads itself result (presence_in row.now) }
     {
         let meeting = meeting_in(row, 0)?;
-        let party = party_in(row, 1)?;
-        let moment = moment_in(row, 2)?;
+        let session = number_in(row, 1)?;
+        let party = party_in(row, 2)?;
+        let moment = moment_in(row, 3)?;
         Ok(InMeeting {
             meeting,
             item: PresenceMark {
-                session: 1,
+                session,
                 party,
                 moment,
             },
@@ -47,13 +47,14 @@ impl FromRow for InMeeting<DemandMark> {
         ensures { Reads itself result (demand_mark_in row.now) }
     {
         let meeting = meeting_in(row, 0)?;
-        let resolution = number_in(row, 1)?;
-        let party = party_in(row, 2)?;
-        let moment = moment_in(row, 3)?;
+        let session = number_in(row, 1)?;
+        let resolution = number_in(row, 2)?;
+        let party = party_in(row, 3)?;
+        let moment = moment_in(row, 4)?;
         Ok(InMeeting {
             meeting,
             item: DemandMark {
-                session: 1,
+                session,
                 resolution,
                 party,
                 moment,
@@ -65,12 +66,12 @@ impl FromRow for InMeeting<DemandMark> {
 #[tactic(auto, unfolding(crate::specs::Columns::number_in))]
 fn tally_in(row: &Row) -> Result<Tally, RowFault>
     ensures { Reads itself result
-        (tally_from (column row.now 7) (column row.now 8) (column row.now 9) (column row.now 10)) }
+        (tally_from (column row.now 8) (column row.now 9) (column row.now 10) (column row.now 11)) }
 {
-    let votes_for = number_in(row, 7)?;
-    let votes_against = number_in(row, 8)?;
-    let withheld = number_in(row, 9)?;
-    let eligible = number_in(row, 10)?;
+    let votes_for = number_in(row, 8)?;
+    let votes_against = number_in(row, 9)?;
+    let withheld = number_in(row, 10)?;
+    let eligible = number_in(row, 11)?;
     Ok(Tally {
         votes_for,
         votes_against,
@@ -81,9 +82,9 @@ fn tally_in(row: &Row) -> Result<Tally, RowFault>
 
 #[tactic(auto, unfolding(crate::specs::Marks::declared_in))]
 fn declared_in(row: &Row) -> Result<Option<Tally>, RowFault>
-    ensures { Reads itself result (declared_in row.now 7) }
+    ensures { Reads itself result (declared_in row.now 8) }
 {
-    if is_null(row, 7) && is_null(row, 8) && is_null(row, 9) && is_null(row, 10) {
+    if is_null(row, 8) && is_null(row, 9) && is_null(row, 10) && is_null(row, 11) {
         return Ok(None);
     }
     Ok(Some(tally_in(row)?))
@@ -97,17 +98,18 @@ impl FromRow for InMeeting<Poll> {
         ensures { Reads itself result (poll_in row.now) }
     {
         let meeting = meeting_in(row, 0)?;
-        let resolution = number_in(row, 1)?;
-        let ordered = moment_in(row, 2)?;
-        let take = moment_in(row, 3)?;
-        let chair = flag_in(row, 4)?;
-        let started = some_moment_in(row, 5)?;
-        let closed = some_moment_in(row, 6)?;
+        let session = number_in(row, 1)?;
+        let resolution = number_in(row, 2)?;
+        let ordered = moment_in(row, 3)?;
+        let take = moment_in(row, 4)?;
+        let chair = flag_in(row, 5)?;
+        let started = some_moment_in(row, 6)?;
+        let closed = some_moment_in(row, 7)?;
         let declared = declared_in(row)?;
         Ok(InMeeting {
             meeting,
             item: Poll {
-                session: 1,
+                session,
                 resolution,
                 ordered,
                 take,

@@ -13,12 +13,14 @@ use Rattle.desk_words.specs.declared.records.Meeting.{Meeting}
 use Rattle.desk_words.specs.declared.records.Poll.{Poll}
 use Rattle.desk_words.specs.declared.records.PresenceMark.{PresenceMark}
 use Rattle.desk_words.specs.declared.records.RegisterRow.{RegisterRow}
+use Rattle.desk_words.specs.declared.records.Resolution.{Resolution}
+use Rattle.desk_words.specs.declared.records.Session.{Session}
 use Rattle.desk_rows.specs.declared.kept.InMeeting.{InMeeting}
 use Rattle.desk_rows.specs.declared.kept.MeetingRow.{MeetingRow}
-use Rattle.desk_rows.specs.declared.kept.NumberedResolution.{NumberedResolution}
+use Rattle.desk_rows.specs.declared.kept.Numbered.{Numbered}
 use Rattle.desk_rows.specs.declared.kept.Version.{Version}
-use Rattle.desk_rows.specs.Marks.{presence_in, demand_mark_in, poll_in, cast_in}
-use Rattle.desk_rows.specs.Meetings.{meeting_in, resolution_in, holding_in}
+use Rattle.desk_rows.specs.Marks.{presence_in, demand_mark_in, poll_in, cast_in, presence_one_in, demand_one_in, poll_one_in}
+use Rattle.desk_rows.specs.Meetings.{meeting_in, session_in, resolution_in, holding_in}
 use Rattle.desk_rows.specs.Office.{version_in, key_row_in, closed_in}
 use Rattle.desk_rows.specs.Papers.{appointment_in, ending_in, authority_in}
 use Rattle.desk_schema.specs.Statements.{TableOf}
@@ -35,12 +37,16 @@ keys = record { number = 1; columns = 1 ∷ 2 ∷ []; means = key_row_in }
 abbrev pub closed : TableOf ℕ
 closed = record { number = 4; columns = 0 ∷ []; means = closed_in }
 
--- the meetings, in the order in which they were called
+-- the meetings with their first sessions, in the order in which they were called
 abbrev pub meetings : TableOf MeetingRow
 meetings = record { number = 5; columns = 2 ∷ 3 ∷ 4 ∷ 5 ∷ 6 ∷ 7 ∷ 8 ∷ 9 ∷ []; means = meeting_in }
 
+-- the further sessions of the meetings
+abbrev pub sessions : TableOf (InMeeting (Numbered Session))
+sessions = record { number = 29; columns = 1 ∷ 2 ∷ 3 ∷ 4 ∷ []; means = session_in }
+
 -- the resolutions of the meetings
-abbrev pub resolutions : TableOf (InMeeting NumberedResolution)
+abbrev pub resolutions : TableOf (InMeeting (Numbered Resolution))
 resolutions = record { number = 8; columns = 1 ∷ 2 ∷ 3 ∷ 4 ∷ []; means = resolution_in }
 
 -- the rows of the registers
@@ -65,23 +71,43 @@ authorities = record { number = 16; columns = 2 ∷ 3 ∷ 4 ∷ 5 ∷ []; means 
 
 -- the presences, in order of receipt
 abbrev pub presences : TableOf (InMeeting PresenceMark)
-presences = record { number = 18; columns = 2 ∷ 3 ∷ 4 ∷ []; means = presence_in }
+presences = record { number = 31; columns = 2 ∷ 3 ∷ 4 ∷ 5 ∷ []; means = presence_in }
 
 -- the demands, in order of receipt
 abbrev pub demands : TableOf (InMeeting DemandMark)
-demands = record { number = 20; columns = 2 ∷ 3 ∷ 4 ∷ 5 ∷ []; means = demand_mark_in }
+demands = record { number = 33; columns = 2 ∷ 3 ∷ 4 ∷ 5 ∷ 6 ∷ []; means = demand_mark_in }
 
 -- the polls
 abbrev pub polls : TableOf (InMeeting Poll)
 polls = record {
-  number = 22;
-  columns = 1 ∷ 2 ∷ 3 ∷ 4 ∷ 5 ∷ 6 ∷ 7 ∷ 8 ∷ 9 ∷ 10 ∷ 11 ∷ [];
+  number = 35;
+  columns = 1 ∷ 2 ∷ 3 ∷ 4 ∷ 5 ∷ 6 ∷ 7 ∷ 8 ∷ 9 ∷ 10 ∷ 11 ∷ 12 ∷ [];
   means = poll_in;
 }
 
 -- the votes, in order of receipt
 abbrev pub casts : TableOf (InMeeting CastMark)
 casts = record { number = 24; columns = 2 ∷ 3 ∷ 4 ∷ 5 ∷ 6 ∷ 7 ∷ 8 ∷ 9 ∷ 10 ∷ []; means = cast_in }
+
+-- ---- the tables of version 1 that version 2 leaves empty
+
+-- the presences, in order of receipt
+abbrev pub presences_one : TableOf (InMeeting PresenceMark)
+presences_one = record { number = 18; columns = 2 ∷ 3 ∷ 4 ∷ []; means = presence_one_in }
+
+-- the demands, in order of receipt
+abbrev pub demands_one : TableOf (InMeeting DemandMark)
+demands_one = record { number = 20; columns = 2 ∷ 3 ∷ 4 ∷ 5 ∷ []; means = demand_one_in }
+
+-- the polls
+abbrev pub polls_one : TableOf (InMeeting Poll)
+polls_one = record {
+  number = 22;
+  columns = 1 ∷ 2 ∷ 3 ∷ 4 ∷ 5 ∷ 6 ∷ 7 ∷ 8 ∷ 9 ∷ 10 ∷ 11 ∷ [];
+  means = poll_one_in;
+}
+
+-- ---- changes of records
 
 -- a meeting with its first session and without its resolutions, as its row keeps it
 abbrev pub without_resolutions : Meeting → MeetingRow
@@ -100,9 +126,24 @@ without_resolutions m = record {
 abbrev pub loaded_at : List ℕ → MeetingRow → MeetingRow
 loaded_at id m = if same_name m.id id then record m { loaded = true } else m
 
--- the meeting of a name opened at a moment, and the others as they are
+-- the meeting of a name with its first session opened at a moment, and the others as they are
 abbrev pub opened_at : List ℕ → ℕ → MeetingRow → MeetingRow
 opened_at id moment m = if same_name m.id id then record m { opened = Some moment } else m
+
+-- the further session of a number in the meeting of a name
+abbrev pub is_session_named : List ℕ → ℕ → InMeeting (Numbered Session) → Bool
+is_session_named id number s = same_name s.meeting id && (s.item.number == number)
+
+-- a session opened at a moment
+abbrev pub opened_session : ℕ → Numbered Session → Numbered Session
+opened_session moment s = record s { item = record s.item { opened = Some moment } }
+
+-- the further session of a number in the meeting of a name opened at a moment, and the others as
+-- they are
+abbrev pub session_opened_at : List ℕ → ℕ → ℕ → InMeeting (Numbered Session)
+    → InMeeting (Numbered Session)
+session_opened_at id number moment s =
+    if is_session_named id number s then record s { item = opened_session moment s.item } else s
 
 -- the poll of a name: that on a resolution of a meeting
 abbrev pub is_poll_named : PollName → InMeeting Poll → Bool

@@ -1,4 +1,5 @@
 pub mod Contents
+pub mod Moving
 pub mod Statements
 pub mod Tables
 pub mod Texts

@@ -1,7 +1,8 @@
 -- What the statements do to the rows of the tables.
-use Rattle.std.specs.Prelude.{◌≡◌, ◌≢◌, ℕ, Bool, false, ◌==◌, List, [], ◌∷◌, ◌++◌, map, filter, not, Option, Some, Result, OnOk, IsTrue}
+use Rattle.std.specs.Prelude.{◌≡◌, ◌≢◌, ℕ, Bool, false, ◌==◌, List, [], ◌∷◌, ◌++◌, drop, length, map, filter, not, Option, Some, Result, OnOk, IsTrue}
 use Rattle.std.specs.List.{AllByRecursion, list_all, list_any}
 use Rattle.sqlite.specs.declared.error.Error.{Error}
+use Rattle.sqlite.specs.Change.{KeepsRows}
 use Rattle.sqlite.specs.Effect.{IsDatabase}
 use Rattle.sqlite.specs.Order.{Row, column}
 use Rattle.sqlite.specs.Tree.{Trees}
@@ -13,7 +14,7 @@ use Rattle.sqlite.specs.Held.{Held, state}
 use Rattle.sqlite_trees.specs.declared.store.Shape.TheVariants as shape
 use Rattle.sqlite_trees.specs.declared.store.Store as store
 use Rattle.desk_rows.specs.Meanings.{all_mean}
-use Rattle.desk_schema.specs.Tables.{desk_schema}
+use Rattle.desk_schema.specs.Tables.{desk_schema, schema_one}
 
 -- a version of the tables: how they are declared, and the numbers by which the database knows those
 -- of the desk, in the order in which they are made
@@ -21,11 +22,18 @@ pub record Layout : Type 0 where
   pub schema : Schema
   pub numbers : List ℕ
 
--- version 1, which the desk makes and reads
+-- version 1
 abbrev pub layout_one : Layout
 layout_one = record {
-  schema = desk_schema;
+  schema = schema_one;
   numbers = 0 ∷ 1 ∷ 4 ∷ 5 ∷ 8 ∷ 10 ∷ 12 ∷ 14 ∷ 16 ∷ 18 ∷ 20 ∷ 22 ∷ 24 ∷ [];
+}
+
+-- version 2, which the desk makes and reads: the tables of version 1, and four more
+abbrev pub layout_two : Layout
+layout_two = record {
+  schema = desk_schema;
+  numbers = layout_one.numbers ++ 29 ∷ 31 ∷ 33 ∷ 35 ∷ [];
 }
 
 -- a table of the desk has this number
@@ -144,38 +152,48 @@ abbrev pub AreEmpty : Schema → State → Type 0
 AreEmpty schema s =
     (s.now.schema ≡ schema) × AllByRecursion (λ (t : Table). s.now.trees t.tree ≡ []) schema.tables
 
--- where a statement is answered in a transaction, and the disk returned what was written, the
--- tables of the first schema, with no row, are now those of the second, with no row
+-- the tables of the first schema are now the first of those of the second: they keep their rows,
+-- and those behind them have none
+pub record Extends (before after : Schema) (old new : State) : Type 0 where
+  pub schema : new.now.schema ≡ after
+  pub kept : KeepsRows before.tables old.now.trees new.now.trees
+  pub empty : AllByRecursion (λ (t : Table). new.now.trees t.tree ≡ [])
+      (drop (length before.tables) after.tables)
+
+-- where a statement is answered in a transaction over tables of the first schema, and the disk
+-- returned what was written, those of the second are made of them
 abbrev pub Makes : {S T : Type 0} → store.Ghosts S → Held S → Held S → Result T Error → Schema
     → Schema → Type 0
 Makes g old new result before after =
-    HasCleanDisk (state g new) → IsTrue (state g old).in_transaction → AreEmpty before (state g old)
-    → OnOk result (AreEmpty after (state g new) × IsTrue (state g new).in_transaction)
+    HasCleanDisk (state g new) → IsTrue (state g old).in_transaction
+    → (state g old).now.schema ≡ before
+    → OnOk result (Extends before after (state g old) (state g new)
+    × IsTrue (state g new).in_transaction)
 
--- ---- of version 1
+-- ---- of version 2
 
--- the tables of version 1 are declared, whatever stands beside them
+-- the tables of version 2 are declared, whatever stands beside them
 abbrev pub IsDeclared : State → Type 0
-IsDeclared s = HasTables layout_one s.now.schema
+IsDeclared s = HasTables layout_two s.now.schema
 
 abbrev pub IsDesk : State → Type 0
-IsDesk = IsDeskOf layout_one
+IsDesk = IsDeskOf layout_two
 
 abbrev pub KeepsOthers : ℕ → State → State → Type 0
-KeepsOthers = KeepsOthersIn layout_one
+KeepsOthers = KeepsOthersIn layout_two
 
 abbrev pub Changes : {A : Type 0} → TableOf A → (List A → List A) → State → State → Type 0
-Changes table = ChangesIn layout_one table
+Changes table = ChangesIn layout_two table
 
 abbrev pub Does : {S T : Type 0} → store.Ghosts S → Held S → Held S → Result T Error
     → (State → State → Type 0) → Type 0
-Does g = DoesIn layout_one g
+Does g = DoesIn layout_two g
 
 abbrev pub IsRead : {S : Type 0} → store.Ghosts S → Held S → Held S → Type 0
-IsRead g = IsReadIn layout_one g
+IsRead g = IsReadIn layout_two g
 
 abbrev pub ChangesNothing : {S : Type 0} → store.Ghosts S → Held S → Held S → Type 0
-ChangesNothing g = ChangesNothingIn layout_one g
+ChangesNothing g = ChangesNothingIn layout_two g
 
 -- a record is added after the others
 abbrev pub Adds : {A : Type 0} → TableOf A → A → State → State → Type 0

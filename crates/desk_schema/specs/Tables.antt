@@ -1,7 +1,8 @@
--- The tables of the desk, version 1, as the database reads their definitions.
+-- The tables of the desk, as the database reads their definitions: those of version 1, and behind
+-- them those that version 2 adds.
 use Prim.Native.String.{String}
 use Rattle.sqlite.specs.Collation.TheVariants.{Binary}
-use Rattle.std.specs.Prelude.{Bool, true, false, [], ◌∷◌, Some, None, codes, List, ℕ}
+use Rattle.std.specs.Prelude.{Bool, true, false, [], ◌∷◌, ◌++◌, Some, None, codes, List, ℕ}
 use Rattle.sqlite.specs.declared.types.Value.TheVariants.{Null}
 use Rattle.sqlite.specs.Table.{Table}
 use Rattle.sqlite.specs.Schema.{Schema}
@@ -93,16 +94,20 @@ abbrev pub filed_table : String → List Column → Table
 filed_table name columns =
     record (received_table name (text "meeting" ∷ columns)) { references = to_meetings 2 ∷ [] }
 
--- a table of rows of the meetings, of which each has the name or number of the next column once
-abbrev pub once_table : String → List Column → Table
-once_table name columns =
-    unique (1 ∷ 2 ∷ [])
+-- a table of rows of the meetings that are known by the meeting and what stands in that column
+abbrev pub known_table : ℕ → String → List Column → Table
+known_table by name columns =
+    unique (1 ∷ by ∷ [])
     (record (plain_table name (text "meeting" ∷ columns)) {
-      primary = 1 ∷ 2 ∷ [];
+      primary = 1 ∷ by ∷ [];
       references = to_meetings 1 ∷ [];
     })
 
--- ---- the tables
+-- a table of rows of the meetings, of which each has the name or number of the next column once
+abbrev pub once_table : String → List Column → Table
+once_table = known_table 2
+
+-- ---- the tables of version 1
 
 -- where the database keeps which numbers it gave
 abbrev pub sequence : Table
@@ -174,6 +179,31 @@ casts_table =
     filed_table "casts"
     (number "resolution" ∷ text "voter" ∷ text "capacity" ∷ text_if_any "member"
     ∷ number_if_any "first" ∷ number_if_any "last" ∷ text_if_any "way" ∷ number "moment" ∷ [])
+
+-- ---- those of version 2: further sessions, and what is of a session
+
+abbrev pub sessions_table : Table
+sessions_table =
+    once_table "sessions"
+    (number "number" ∷ number "appointed" ∷ number_if_any "opened" ∷ [])
+
+abbrev pub presences2_table : Table
+presences2_table =
+    unique (2 ∷ 3 ∷ 4 ∷ [])
+    (filed_table "presences2" (number "session" ∷ text "party" ∷ number "moment" ∷ []))
+
+abbrev pub demands2_table : Table
+demands2_table =
+    unique (2 ∷ 3 ∷ 4 ∷ 5 ∷ [])
+    (filed_table "demands2"
+    (number "session" ∷ number "resolution" ∷ text "party" ∷ number "moment" ∷ []))
+
+abbrev pub polls2_table : Table
+polls2_table =
+    known_table 3 "polls2"
+    (number "session" ∷ number "resolution" ∷ number "ordered" ∷ number "take" ∷ number "chair"
+    ∷ number_if_any "started" ∷ number_if_any "closed" ∷ number_if_any "votes_for"
+    ∷ number_if_any "votes_against" ∷ number_if_any "withheld" ∷ number_if_any "eligible" ∷ [])
 
 -- ---- the tables in the order in which they are made
 
@@ -261,5 +291,57 @@ abbrev pub up_to_casts_by_voter : Schema
 up_to_casts_by_voter =
     indexed up_to_demands_by_party (record casts_table { tree = 24 }) casts_by_voter
 
+-- version 1
+abbrev pub schema_one : Schema
+schema_one = up_to_casts_by_voter
+
+-- ---- what version 2 adds
+
+abbrev pub up_to_sessions : Schema
+up_to_sessions = created schema_one sessions_table
+
+abbrev pub up_to_presences2 : Schema
+up_to_presences2 = created up_to_sessions presences2_table
+
+abbrev pub up_to_demands2 : Schema
+up_to_demands2 = created up_to_presences2 demands2_table
+
+abbrev pub up_to_polls2 : Schema
+up_to_polls2 = created up_to_demands2 polls2_table
+
+abbrev pub presences2_by_party : Index
+presences2_by_party = an_index "presences2_by_party" 31 (2 ∷ 4 ∷ [])
+
+abbrev pub up_to_presences2_by_party : Schema
+up_to_presences2_by_party =
+    indexed up_to_polls2 (record presences2_table { tree = 31 }) presences2_by_party
+
+abbrev pub demands2_by_party : Index
+demands2_by_party = an_index "demands2_by_party" 33 (2 ∷ 5 ∷ [])
+
+abbrev pub up_to_demands2_by_party : Schema
+up_to_demands2_by_party =
+    indexed up_to_presences2_by_party (record demands2_table { tree = 33 }) demands2_by_party
+
+abbrev pub casts_by_resolution : Index
+casts_by_resolution = an_index "casts_by_resolution" 24 (2 ∷ 3 ∷ 4 ∷ [])
+
+abbrev pub up_to_casts_by_resolution : Schema
+up_to_casts_by_resolution =
+    indexed up_to_demands2_by_party (record casts_table { tree = 24 }) casts_by_resolution
+
+-- version 2, which the desk makes and reads
 abbrev pub desk_schema : Schema
-desk_schema = up_to_casts_by_voter
+desk_schema = up_to_casts_by_resolution
+
+-- ---- the tables whose columns a file has to have
+
+abbrev pub asked_one : List Table
+asked_one =
+    desk_table ∷ keys_table ∷ closed_table ∷ meetings_table ∷ resolutions_table ∷ register_table
+    ∷ appointments_table ∷ endings_table ∷ authorities_table ∷ presences_table ∷ demands_table
+    ∷ polls_table ∷ casts_table ∷ []
+
+abbrev pub asked_two : List Table
+asked_two =
+    asked_one ++ sessions_table ∷ presences2_table ∷ demands2_table ∷ polls2_table ∷ []

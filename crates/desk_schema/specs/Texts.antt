@@ -32,6 +32,11 @@ columns_text table places =
     codes " (" ++ with_commas (map (λ at. slice_index_or (names_of table) (pred at) []) places)
     ++ codes ")"
 
+-- the names of a meeting and of what stands behind it, with a 1 between
+abbrev pub with_one : List (List ℕ) → List (List ℕ)
+with_one [] = []
+with_one (meeting ∷ others) = meeting ∷ codes "1" ∷ others
+
 -- ---- statements
 
 -- asks whether all columns stand
@@ -62,11 +67,21 @@ inserting_text values table =
 abbrev pub parameters : List (List ℕ)
 parameters =
     codes "?1" ∷ codes "?2" ∷ codes "?3" ∷ codes "?4" ∷ codes "?5" ∷ codes "?6" ∷ codes "?7"
-    ∷ codes "?8" ∷ codes "?9" ∷ codes "?10" ∷ codes "?11" ∷ []
+    ∷ codes "?8" ∷ codes "?9" ∷ codes "?10" ∷ codes "?11" ∷ codes "?12" ∷ []
 
 -- adds a row of what is passed
 abbrev pub adding_text : Table → List ℕ
 adding_text table = inserting_text (take (length (given_names table)) parameters) table
+
+-- adds the rows of a table of version 1, each under its own number, with the first session behind
+-- the meeting
+abbrev pub copying_text : Table → Table → List ℕ
+copying_text one two =
+    codes "INSERT INTO " ++ two.name ++ codes " ("
+    ++ with_commas (number_name two.key two ∷ given_names two)
+    ++ codes ") SELECT "
+    ++ with_commas (number_name one.key one ∷ with_one (given_names one))
+    ++ codes " FROM " ++ one.name ++ codes " ORDER BY " ++ number_name one.key one
 
 -- ---- declarations
 
@@ -99,7 +114,7 @@ filed_text table =
     making_text (seq_column ∷ meeting_column ∷ [])
     (map (λ places. codes "UNIQUE" ++ columns_text table places) table.uniques) table
 
--- makes a table of the form of `once_table`
+-- makes a table of the form of `known_table`
 abbrev pub once_text : Table → List ℕ
 once_text table =
     making_text (meeting_column ∷ [])

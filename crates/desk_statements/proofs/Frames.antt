@@ -1,8 +1,9 @@
 -- The tables of a version by their numbers, and what a write to one of them leaves of the others.
-use Rattle.std.proofs.Common.{◌≡◌, ◌≢◌, inl, inr, ℕ, suc, ◌==◌, List, [], ◌∷◌, ◌++◌, Bool, true, not, ◌&&◌, ◌||◌, false, slice_get, Some, refl, sym, subst, ◌∙◌, IsTrue, true≢false}
+use Rattle.std.proofs.Common.{◌≡◌, ◌≢◌, inl, inr, ℕ, suc, ◌==◌, List, [], ◌∷◌, ◌++◌, Bool, true, not, ◌&&◌, ◌||◌, false, drop, length, slice_get, Some, refl, sym, ap, subst, ◌∙◌, IsTrue, true≢false}
 use Rattle.std.specs.List.{AllByRecursion, list_all, list_any}
-use Rattle.std.proofs.lemmas.Bool.{and_parts}
+use Rattle.std.proofs.lemmas.Bool.{and_parts, cases_Bool}
 use Rattle.std.proofs.lemmas.Bool.Decides.{eqb_tells}
+use Rattle.std.proofs.lemmas.List.Folds.{list_any-append}
 use Rattle.sqlite.specs.Table.{Table}
 use Rattle.sqlite.specs.Schema.{Schema}
 use Rattle.sqlite_schema.specs.declared.schema.Action.{Action}
@@ -16,7 +17,7 @@ use Rattle.sqlite.specs.Rows.{sequence}
 use Rattle.sqlite.specs.State.{State}
 use Rattle.sqlite.proofs.Callers.{IsPlain, command_of}
 use Rattle.desk_schema.specs.Tables.{sequence as counts_of_numbers}
-use Rattle.desk_schema.specs.Statements.{Layout, layout_one, has_table, AreEmpty, HasTables, is_other, IsDeskOf, IsRising, KeepsOthersIn}
+use Rattle.desk_schema.specs.Statements.{Layout, layout_one, layout_two, has_table, AreEmpty, Extends, HasTables, is_other, IsDeskOf, IsRising, KeepsOthersIn}
 use Rattle.sqlite_trees.proofs.ListLemmas.{all-slice_get}
 
 -- a schema whose tables are these of the version and others beside, with any indexes and views
@@ -66,9 +67,42 @@ pub ones_apart : (schema : Schema) → HasTables layout_one schema → AreApart 
 unfolding Rattle.sqlite_schema.specs.Names.same_name
 ones_apart = wide (AreApart layout_one) (λ others apart indexes views. record { acts = apart_act layout_one others apart; counts = record counts_of_numbers { tree = 7 }; counted = refl; declared = refl })
 
--- the tables that the desk makes are those of the version
+-- the tables of the version have themselves
 pub ones_declared : HasTables layout_one layout_one.schema
 ones_declared = record { others = []; tables = refl; apart = refl }
+
+-- ---- version 2
+
+pub twos_apart : (schema : Schema) → HasTables layout_two schema → AreApart layout_two schema
+unfolding Rattle.sqlite_schema.specs.Names.same_name
+twos_apart = wide (AreApart layout_two) (λ others apart indexes views. record { acts = apart_act layout_two others apart; counts = record counts_of_numbers { tree = 7 }; counted = refl; declared = refl })
+
+pub twos_declared : HasTables layout_two layout_two.schema
+twos_declared = record { others = []; tables = refl; apart = refl }
+
+-- the tables that version 2 adds
+abbrev pub added_tables : List Table
+added_tables = drop (length layout_one.schema.tables) layout_two.schema.tables
+
+-- a table that is none of version 2 is none of version 1
+no_earlier : (t : Table) → is_other layout_two t ≡ true → is_other layout_one t ≡ true
+no_earlier t h = go (list_any (λ n. n == t.tree) layout_one.numbers) _ (ap not (sym (list_any-append (λ n. n == t.tree) layout_one.numbers (29 ∷ 31 ∷ 33 ∷ 35 ∷ []))) ∙ h)
+  where
+    go : (a b : Bool) → not (a || b) ≡ true → not a ≡ true
+    go true b e = e
+    go false b e = refl
+
+none_earlier : (others : List Table) → list_all (is_other layout_two) others ≡ true → list_all (is_other layout_one) others ≡ true
+none_earlier [] h = refl
+none_earlier (t ∷ others) h = let both = and_parts (is_other layout_two t) (list_all (is_other layout_two) others) h in rw (no_earlier t both.0, none_earlier others both.1) refl
+
+-- what has the tables of version 2 has those of version 1
+pub as_one : (s : Schema) → HasTables layout_two s → HasTables layout_one s
+as_one s has = record { others = added_tables ++ has.others; tables = has.tables; apart = none_earlier has.others has.apart }
+
+-- so what holds of each schema that has the tables of version 1 holds of one that has those of version 2
+pub wide_one : (P : Schema → Type 0) → ((others : List Table) → list_all (is_other layout_one) others ≡ true → (indexes : List Index) (views : List Stored) → P (beside layout_one others indexes views)) → (s : Schema) → HasTables layout_two s → P s
+wide_one P h s has = wide P h s (as_one s has)
 
 -- a table with this number, and its place in the list
 pub record IsListed (tables : List Table) (number : ℕ) : Type 0 where
@@ -130,5 +164,17 @@ still_desk {layout = layout} changed old new was schema kept mine = record {
   rising = λ number is. elim (eqb_tells number changed) [
     | inl same ↦ subst (λ n. IsRising (new.now.trees n)) (sym same.1) mine
     | inr other ↦ subst IsRising (sym (kept number is other.1)) (was.rising number is)
+  ];
+}
+
+-- tables of version 1 of which those of version 2 are made are those of a desk of version 2
+pub extended_desk : (old new : State) → Extends layout_one.schema layout_two.schema old new → IsDeskOf layout_one old → IsDeskOf layout_two new
+extended_desk old new made was = record {
+  schema = subst (HasTables layout_two) (sym made.schema) twos_declared;
+  rising = λ number is. elim (cases_Bool (has_table layout_one number)) [
+    | inl early ↦ subst IsRising (sym (of_tree (λ n. new.now.trees n ≡ old.now.trees n) layout_one.schema.tables number made.kept (declared_so (ones_apart layout_one.schema ones_declared) number early))) (was.rising number early)
+    | inr later ↦
+        let more : list_any (λ n. n == number) (29 ∷ 31 ∷ 33 ∷ 35 ∷ []) ≡ true = rw later at (sym (list_any-append (λ n. n == number) layout_one.numbers (29 ∷ 31 ∷ 33 ∷ 35 ∷ [])) ∙ is) in
+        subst IsRising (sym (of_tree (λ n. new.now.trees n ≡ []) added_tables number made.empty more)) (tt, tt)
   ];
 }

@@ -1,6 +1,7 @@
 pub mod Acting
 pub mod Adding
 pub mod Commits
+pub mod Copying
 pub mod Deleting
 pub mod Emptying
 pub mod Frames

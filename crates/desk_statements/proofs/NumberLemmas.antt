@@ -1,5 +1,5 @@
 -- The numbers of an office are below 2^63.
-use Rattle.std.proofs.Common.{◌≡◌, ℕ, ◌+◌, ◌^◌, ◌<◌, ◌==◌, ◌&&◌, ◌||◌, Bool, true, false, cond, List, [], ◌∷◌, length, Option, Some, None, is_some, inl, inr, refl, sym, subst, arith, nat_le, true≢false}
+use Rattle.std.proofs.Common.{◌≡◌, ℕ, zero, suc, ◌+◌, ◌^◌, ◌<◌, ◌==◌, ◌&&◌, ◌||◌, Bool, true, false, cond, List, [], ◌∷◌, length, slice_get, Option, Some, None, is_some, inl, inr, refl, sym, subst, arith, nat_le, true≢false}
 use Rattle.std.specs.Cmp.{first_so, second_so}
 use Rattle.std.specs.List.{list_all, list_any}
 use Rattle.std.proofs.lemmas.Bool.{cases_Bool}
@@ -7,18 +7,20 @@ use Rattle.std.proofs.lemmas.Bool.Decides.{nat_tests}
 use Rattle.desk_terms.specs.Names.{same_name}
 use Rattle.desk_terms.specs.declared.range.TheConstants.{MOST_PLACES}
 use Rattle.desk_lists.specs.Ordered.{differ_by, ascends_by}
-use Rattle.desk_words.specs.declared.limits.TheConstants.{MOST_APPOINTMENTS, MOST_PENCE, MOST_RESOLUTIONS, MOST_ROWS, MOST_SHARES}
+use Rattle.desk_words.specs.declared.limits.TheConstants.{MOST_APPOINTMENTS, MOST_PENCE, MOST_RESOLUTIONS, MOST_ROWS, MOST_SESSIONS, MOST_SHARES}
 use Rattle.desk_words.specs.declared.records.RegisterRow.{RegisterRow}
 use Rattle.desk_words.specs.declared.records.Appointment.{Appointment}
 use Rattle.desk_words.specs.declared.records.Ending.{Ending}
 use Rattle.desk_words.specs.declared.records.DemandMark.{DemandMark}
+use Rattle.desk_words.specs.declared.records.PresenceMark.{PresenceMark}
+use Rattle.desk_words.specs.declared.records.Session.{Session}
 use Rattle.desk_words.specs.declared.records.Meeting.{Meeting}
 use Rattle.desk_words.specs.declared.records.Poll.{Poll}
 use Rattle.desk_words.specs.declared.records.Tally.{Tally}
 use Rattle.desk_words.specs.declared.records.CastMark.{CastMark}
 use Rattle.desk_words.specs.Registers.{all_shares, is_holding, is_register, keep_limits, member_before}
-use Rattle.desk_words.specs.Office.{are_numbered_after, are_polls, implies, is_appointment, is_cast_on, is_declared_right, is_demand, is_ending_of, is_poll, is_resolution, is_tally, no_rows, poll_before, same_demand, same_ending}
-use Rattle.desk_words.specs.Sessions.{is_opened, is_opened_session, is_session}
+use Rattle.desk_words.specs.Office.{are_numbered_after, are_polls, implies, is_appointment, is_cast_on, is_declared_right, is_demand, is_ending_of, is_poll, is_resolution, is_tally, no_rows, poll_before, same_demand, same_ending, same_presence}
+use Rattle.desk_words.specs.Sessions.{is_opened, is_opened_session, is_session, is_there, last_number, sessions_of}
 use Rattle.desk_words.proofs.OfficeFacts.{meeting_facts}
 use Rattle.desk_statements.specs.Numbers.{OfficesAreKept, fits_row, is_tally_kept}
 
@@ -56,6 +58,9 @@ few_resolutions = omega arith
 few_appointments : MOST_APPOINTMENTS < 2 ^ 63
 few_appointments = omega arith
 
+few_sessions : MOST_SESSIONS < 2 ^ 63
+few_sessions = omega arith
+
 holding : (row : RegisterRow) → is_holding row ≡ true → (fits_row row.shares && fits_row row.paid) ≡ true
 holding row h =
     let shares = first_so (nat_le 1 row.shares && nat_le row.shares MOST_PLACES) (nat_le row.paid MOST_PENCE) h in
@@ -76,6 +81,28 @@ resolution resolutions n few h =
     let both : nat_le n MOST_RESOLUTIONS ≡ true = grind (arith, nat_tests) in
     kept_below n MOST_RESOLUTIONS both few_resolutions
 
+below_few : (n most : ℕ) → nat_le n most ≡ true → nat_le most MOST_SESSIONS ≡ true → fits_row n ≡ true
+below_few n most h few = let both : nat_le n MOST_SESSIONS ≡ true = grind (arith, nat_tests) in kept_below n MOST_SESSIONS both few_sessions
+
+session : (m : Meeting) (s : ℕ) → nat_le (last_number m) MOST_SESSIONS ≡ true → is_session m s ≡ true → fits_row s ≡ true
+session m s few h = below_few s (last_number m) (second_so (nat_le 1 s) (nat_le s (last_number m)) h) few
+
+one_or_more : (n : ℕ) → nat_le 1 (suc n) ≡ true
+one_or_more n = grind (arith, nat_tests)
+
+one_further : (m n : ℕ) → nat_le m n ≡ true → nat_le (suc m) (suc n) ≡ true
+one_further m n h = grind (arith, nat_tests)
+
+-- a session that is opened is one of those that are there
+there_below : (xs : List Session) (at : ℕ) → is_there is_opened (slice_get xs at) ≡ true → nat_le (suc at) (length xs) ≡ true
+there_below [] at h = absurd (true≢false (sym h))
+there_below (x ∷ xs) zero h = one_or_more (length xs)
+there_below (x ∷ xs) (suc at) h = one_further (suc at) (length xs) (there_below xs at h)
+
+opened_session : (m : Meeting) (s : ℕ) → nat_le (last_number m) MOST_SESSIONS ≡ true → is_opened_session m s ≡ true → fits_row s ≡ true
+opened_session m zero few h = absurd (true≢false (sym h))
+opened_session m (suc at) few h = below_few (suc at) (last_number m) (there_below (sessions_of m) at h) few
+
 figures : (t : Tally) → is_tally t ≡ true → is_tally_kept (Some t) ≡ true
 figures t h =
     let votes : nat_le (t.votes_for + t.votes_against + t.withheld) t.eligible ≡ true = first_so (nat_le (t.votes_for + t.votes_against + t.withheld) t.eligible) (nat_le t.eligible MOST_PLACES) h in
@@ -93,19 +120,21 @@ declared : (t : Option Tally) → is_declared_right t ≡ true → is_tally_kept
 declared None h = refl
 declared (Some t) h = figures t h
 
-poll : (m : Meeting) → nat_le (length m.resolutions) MOST_RESOLUTIONS ≡ true → (p : Poll) → is_poll m p ≡ true → (fits_row p.resolution && is_tally_kept p.declared) ≡ true
-poll m few p h =
+poll : (m : Meeting) → nat_le (length m.resolutions) MOST_RESOLUTIONS ≡ true → nat_le (last_number m) MOST_SESSIONS ≡ true → (p : Poll) → is_poll m p ≡ true → (fits_row p.session && fits_row p.resolution && is_tally_kept p.declared) ≡ true
+poll m few some p h =
     let s = is_opened_session m p.session in
     let a = is_resolution (length m.resolutions) p.resolution in
     let b = implies (is_some p.closed) (is_some p.started) in
     let c = implies (is_some p.declared) (is_some p.closed) in
     let d = is_declared_right p.declared in
-    let on : a ≡ true = second_so s a (first_so (s && a) b (first_so (s && a && b) c (first_so (s && a && b && c) d h))) in
-    both_true (fits_row p.resolution) (is_tally_kept p.declared) (resolution (length m.resolutions) p.resolution few on) (declared p.declared (second_so (s && a && b && c) d h))
+    let front = first_so (s && a) b (first_so (s && a && b) c (first_so (s && a && b && c) d h)) in
+    both_true (fits_row p.session && fits_row p.resolution) (is_tally_kept p.declared)
+    (both_true (fits_row p.session) (fits_row p.resolution) (opened_session m p.session some (first_so s a front)) (resolution (length m.resolutions) p.resolution few (second_so s a front)))
+    (declared p.declared (second_so (s && a && b && c) d h))
 
-polls_are : (m : Meeting) (ps : List Poll) → nat_le (length m.resolutions) MOST_RESOLUTIONS ≡ true → are_polls m ps ≡ true → list_all (λ (p : Poll). fits_row p.resolution && is_tally_kept p.declared) ps ≡ true
-polls_are m ps few h =
-    all_so (is_poll m) (λ (p : Poll). fits_row p.resolution && is_tally_kept p.declared) ps (poll m few) (first_so (list_all (is_poll m) ps) (ascends_by poll_before ps) h)
+polls_are : (m : Meeting) (ps : List Poll) → nat_le (length m.resolutions) MOST_RESOLUTIONS ≡ true → nat_le (last_number m) MOST_SESSIONS ≡ true → are_polls m ps ≡ true → list_all (λ (p : Poll). fits_row p.session && fits_row p.resolution && is_tally_kept p.declared) ps ≡ true
+polls_are m ps few some h =
+    all_so (is_poll m) (λ (p : Poll). fits_row p.session && fits_row p.resolution && is_tally_kept p.declared) ps (poll m few some) (first_so (list_all (is_poll m) ps) (ascends_by poll_before ps) h)
 
 pub offices_are_kept : OfficesAreKept
 offices_are_kept m h =
@@ -114,7 +143,8 @@ offices_are_kept m h =
     let few : nat_le n MOST_RESOLUTIONS ≡ true = second_so (nat_le 1 n) (nat_le n MOST_RESOLUTIONS) f.resolutions in
     let given = all_so (is_appointment n) (λ (a : Appointment). fits_row a.number) m.appointments (λ a is. kept_below a.number MOST_APPOINTMENTS (first_so (nat_le a.number MOST_APPOINTMENTS) (length a.instructions == n) is) few_appointments)
     (second_so (are_numbered_after [] m.appointments) (list_all (is_appointment n) m.appointments) f.appointments) in
-    let held = polls_are m.meeting m.polls few f.polls in
+    let some : nat_le (last_number m.meeting) MOST_SESSIONS ≡ true = first_so (nat_le (last_number m.meeting) MOST_SESSIONS) _ f.sessions in
+    let held = polls_are m.meeting m.polls few some f.polls in
     let ended = first_so (list_all (λ e. list_any (is_ending_of e) m.appointments) m.endings) (differ_by same_ending m.endings) f.endings in
     let cast_each = first_so (list_all (λ c. list_any (is_cast_on c) m.polls) m.casts) _ f.casts in
     record {
@@ -122,13 +152,17 @@ offices_are_kept m h =
       register = rows_of m.meeting.loaded m.register (first_so (cond m.meeting.loaded (is_register m.register) (no_rows m.register)) (implies (is_opened m.meeting.first) m.meeting.loaded) f.loaded);
       appointments = given;
       endings = all_so (λ e. list_any (is_ending_of e) m.appointments) (λ (e : Ending). fits_row e.number) m.endings
-          (λ e some. from_any (is_ending_of e) (λ (a : Appointment). fits_row a.number) (fits_row e.number) m.appointments (λ a is kept. same_number a.number e.number (second_so (same_name a.member e.member) (a.number == e.number) is) kept) some given)
+          (λ e on. from_any (is_ending_of e) (λ (a : Appointment). fits_row a.number) (fits_row e.number) m.appointments (λ a is kept. same_number a.number e.number (second_so (same_name a.member e.member) (a.number == e.number) is) kept) on given)
           ended;
-      demands = all_so (is_demand m.meeting) (λ (d : DemandMark). fits_row d.resolution) m.demands (λ d on. resolution n d.resolution few (second_so (is_session m.meeting d.session) (is_resolution n d.resolution) on))
+      sessions = kept_below (last_number m.meeting) MOST_SESSIONS some few_sessions;
+      presences = all_so (λ (p : PresenceMark). is_session m.meeting p.session) (λ (p : PresenceMark). fits_row p.session) m.presences (λ p is. session m.meeting p.session some is)
+          (first_so (list_all (λ (p : PresenceMark). is_session m.meeting p.session) m.presences) (differ_by same_presence m.presences) f.presences);
+      demands = all_so (is_demand m.meeting) (λ (d : DemandMark). fits_row d.session && fits_row d.resolution) m.demands
+          (λ d on. both_true (fits_row d.session) (fits_row d.resolution) (session m.meeting d.session some (first_so (is_session m.meeting d.session) (is_resolution n d.resolution) on)) (resolution n d.resolution few (second_so (is_session m.meeting d.session) (is_resolution n d.resolution) on)))
           (first_so (list_all (is_demand m.meeting) m.demands) (differ_by same_demand m.demands) f.demands);
       polls = held;
       casts = all_so (λ c. list_any (is_cast_on c) m.polls) (λ (c : CastMark). fits_row c.resolution) m.casts
-          (λ c some. from_any (is_cast_on c) (λ (p : Poll). fits_row p.resolution && is_tally_kept p.declared) (fits_row c.resolution) m.polls
-          (λ p is kept. same_number p.resolution c.resolution (first_so (p.resolution == c.resolution) (is_some p.started) is) (first_so (fits_row p.resolution) (is_tally_kept p.declared) kept)) some held)
+          (λ c on. from_any (is_cast_on c) (λ (p : Poll). fits_row p.session && fits_row p.resolution && is_tally_kept p.declared) (fits_row c.resolution) m.polls
+          (λ p is kept. same_number p.resolution c.resolution (first_so (p.resolution == c.resolution) (is_some p.started) is) (second_so (fits_row p.session) (fits_row p.resolution) (first_so (fits_row p.session && fits_row p.resolution) (is_tally_kept p.declared) kept))) on held)
           cast_each;
     }

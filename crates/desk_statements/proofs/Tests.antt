@@ -136,6 +136,29 @@ kept_some_moment (Text t) x h = absurd cc
 kept_some_moment (Real y) x h = absurd cc
 kept_some_moment (Blob b) x h = absurd cc
 
+-- ---- what is written again stays as it is
+
+pub text_stays : {A : Type 0} (reading : List ℕ → Option A) (v : Value) (x : A) → spelled_of reading v ≡ Some x → cast Texts v ≡ v
+text_stays reading (Text t) x h = refl
+text_stays reading Null x h = absurd cc
+text_stays reading (Int z) x h = absurd cc
+text_stays reading (Real y) x h = absurd cc
+text_stays reading (Blob b) x h = absurd cc
+
+pub integer_stays : {A : Type 0} (reading : ℤ → Option A) (v : Value) (x : A) → (integer_of v >>= reading) ≡ Some x → cast Integer v ≡ v
+integer_stays reading (Int z) x h = cast_int z
+integer_stays reading Null x h = absurd cc
+integer_stays reading (Text t) x h = absurd cc
+integer_stays reading (Real y) x h = absurd cc
+integer_stays reading (Blob b) x h = absurd cc
+
+pub some_moment_stays : (v : Value) (x : Option ℕ) → some_moment_of v ≡ Some x → cast Integer v ≡ v
+some_moment_stays (Int z) x h = cast_int z
+some_moment_stays Null x h = cast_null
+some_moment_stays (Text t) x h = absurd cc
+some_moment_stays (Real y) x h = absurd cc
+some_moment_stays (Blob b) x h = absurd cc
+
 null_is : (v : Value) → is_null v ≡ true → v ≡ Null
 null_is Null h = refl
 null_is (Int z) h = absurd (true≢false (sym h))
@@ -146,7 +169,7 @@ null_is (Blob b) h = absurd (true≢false (sym h))
 null_stays : (v : Value) → is_null v ≡ true → cast Integer v ≡ v
 null_stays v h = subst (λ w. cast Integer w ≡ w) (sym (null_is v h)) cast_null
 
-number_stays : (v : Value) (n : ℕ) → natural_value v ≡ Some n → cast Integer v ≡ v
+pub number_stays : (v : Value) (n : ℕ) → natural_value v ≡ Some n → cast Integer v ≡ v
 number_stays (Int z) n h = cast_int z
 number_stays Null n h = absurd cc
 number_stays (Text t) n h = absurd cc

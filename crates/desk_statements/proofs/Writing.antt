@@ -7,12 +7,13 @@ use Rattle.sqlite.specs.Order.{Row}
 use Rattle.sqlite.specs.Term.{Term}
 use Rattle.sqlite.specs.Table.{Table}
 use Rattle.sqlite.specs.Schema.{Schema}
+use Rattle.sqlite.specs.Source.{Source}
 use Rattle.sqlite.specs.Source.TheVariants.{Values}
 use Rattle.sqlite.specs.Command.TheVariants.{Insert}
 use Rattle.sqlite.specs.Edit.{Edit, edit_of, Applies}
 use Rattle.sqlite.specs.Does.{Tally, Does}
 use Rattle.sqlite.specs.Rows.{Written, Task, count_of, rowids_for, stamped, Counts, sequence, higher, counting}
-use Rattle.sqlite.specs.Effect.{Database, value_rows}
+use Rattle.sqlite.specs.Effect.{Database, IsSource, value_rows}
 use Rattle.sqlite.specs.Tree.{Trees}
 use Rattle.sqlite.specs.State.{State, mode_of, Writes}
 use Rattle.sqlite_rules.specs.Action.{Writes as Leaves}
@@ -68,12 +69,13 @@ module _ {layout : Layout} {schema : Schema} (apart : AreApart layout schema) wh
         | inr none ↦ let same : next ≡ mid = same_value (rw none at h) in ap (λ (t : Trees). t number) same
       ]
 
-  pub inserted : (old new : State) (at : ℕ) (table : Table) (terms : List Term) (width : ℕ) (text : List ℕ) (params : Row) (count : ℕ)
+  -- the rows that are put in are those of what they are taken from
+  pub inserted_from : (old new : State) (at : ℕ) (table : Table) (from : Source) (text : List ℕ) (params : Row) (count : ℕ)
       → old.now.schema ≡ schema → slice_get schema.tables at ≡ Some table
-      → Writes old new None (Insert at (Values terms width)) text params count → Inserted layout schema table (rows_of_values table params width terms) old new
-  inserted old new at table terms width text params count has there w =
+      → Writes old new None (Insert at from) text params count → (rows : List Row) × IsSource (record old.now { schema = schema }) (stamped table params) from rows × Inserted layout schema table rows old new
+  inserted_from old new at table from text params count has there w =
       let task : Task = record { limit = old.step_limit; keys = Enforced; schema = schema; table = table; params = params } in
-      let changed = rw there at (subst (λ s. Does old.step_limit (mode_of old) params (record old.now { schema = s }) text None (Insert at (Values terms width)) (Ok (w.tally, new.now))) has w.changed) in
+      let changed = rw there at (subst (λ s. Does old.step_limit (mode_of old) params (record old.now { schema = s }) text None (Insert at from) (Ok (w.tally, new.now))) has w.changed) in
       let done = went changed in
       let now = ap (λ (p : Tally × Database). p.1) (same_value (went (went done.2).2).2) in
       let given = went done.1 in
@@ -83,11 +85,21 @@ module _ {layout : Layout} {schema : Schema} (apart : AreApart layout schema) wh
       let trees : done.0.trees ≡ counted.0 = ap (λ (it : Written). it.trees) (same_value counted.2) in
       let final : new.now.trees ≡ counted.0 = ap (λ (d : Database). d.trees) now ∙ trees in
       let edit = insert_edit old.now.trees table counter.0 given.0 in
-      let one = first_step apart old.now.trees written.0 edit written.1 in
-      record {
-        counter = counter.0;
-        mid = one.0;
-        put = subst (λ rows. Applies schema Enforced old.now.trees (insert_edit old.now.trees table counter.0 rows) one.0) given.1.1 one.1;
-        same_schema = ap (λ (d : Database). d.schema) now;
-        kept = λ c is number of other. ap (λ (t : Trees). t number) final ∙ counted_rest task refl refl written.0 counted.0 counter.0 (fold higher (count_of counter.0) edit.news) counted.1 c is number of other ∙ one.2 number of;
-      }
+      let one = first_step apart old.now.trees written.0 edit written.1 in (
+        given.0,
+        given.1,
+        record {
+          counter = counter.0;
+          mid = one.0;
+          put = one.1;
+          same_schema = ap (λ (d : Database). d.schema) now;
+          kept = λ c is number of other. ap (λ (t : Trees). t number) final ∙ counted_rest task refl refl written.0 counted.0 counter.0 (fold higher (count_of counter.0) edit.news) counted.1 c is number of other ∙ one.2 number of;
+        },
+      )
+
+  pub inserted : (old new : State) (at : ℕ) (table : Table) (terms : List Term) (width : ℕ) (text : List ℕ) (params : Row) (count : ℕ)
+      → old.now.schema ≡ schema → slice_get schema.tables at ≡ Some table
+      → Writes old new None (Insert at (Values terms width)) text params count → Inserted layout schema table (rows_of_values table params width terms) old new
+  inserted old new at table terms width text params count has there w =
+      let it = inserted_from old new at table (Values terms width) text params count has there w in
+      subst (λ rows. Inserted layout schema table rows old new) it.1.1 it.2

@@ -6,10 +6,12 @@ use Rattle.desk_words.specs.declared.records.RegisterRow.{RegisterRow}
 use Rattle.desk_words.specs.declared.records.Appointment.{Appointment}
 use Rattle.desk_words.specs.declared.records.Ending.{Ending}
 use Rattle.desk_words.specs.declared.records.DemandMark.{DemandMark}
+use Rattle.desk_words.specs.declared.records.PresenceMark.{PresenceMark}
 use Rattle.desk_words.specs.declared.records.Poll.{Poll}
 use Rattle.desk_words.specs.declared.records.Tally.{Tally}
 use Rattle.desk_words.specs.declared.records.CastMark.{CastMark}
 use Rattle.desk_words.specs.Office.{is_meeting}
+use Rattle.desk_words.specs.Sessions.{last_number}
 
 -- the number is at most 2^63 - 1, the highest that is kept
 abbrev pub fits_row : ℕ → Bool
@@ -28,9 +30,14 @@ pub record NumbersAreKept (m : MeetingLists) : Type 0 where
       (list_all (λ (row : RegisterRow). fits_row row.shares && fits_row row.paid) m.register)
   pub appointments : IsTrue (list_all (λ (a : Appointment). fits_row a.number) m.appointments)
   pub endings : IsTrue (list_all (λ (e : Ending). fits_row e.number) m.endings)
-  pub demands : IsTrue (list_all (λ (d : DemandMark). fits_row d.resolution) m.demands)
+  pub sessions : IsTrue (fits_row (last_number m.meeting))
+  pub presences : IsTrue (list_all (λ (p : PresenceMark). fits_row p.session) m.presences)
+  pub demands : IsTrue
+      (list_all (λ (d : DemandMark). fits_row d.session && fits_row d.resolution) m.demands)
   pub polls : IsTrue
-      (list_all (λ (p : Poll). fits_row p.resolution && is_tally_kept p.declared) m.polls)
+      (list_all
+      (λ (p : Poll). fits_row p.session && fits_row p.resolution && is_tally_kept p.declared)
+      m.polls)
   pub casts : IsTrue (list_all (λ (c : CastMark). fits_row c.resolution) m.casts)
 
 -- each number of the records of an office is kept
