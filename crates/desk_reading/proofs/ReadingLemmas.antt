@@ -1,7 +1,7 @@
 -- One reading of the tables after another.
-use Rattle.std.proofs.Common.{◌≡◌, List, Bool, Option, Some, None, Ok, Err, Result, OnOk, sym, ap, subst, ◌∙◌, arith, true≢false}
+use Rattle.std.proofs.Common.{◌≡◌, ◌==◌, ◌&&◌, true, false, length, refl, List, Bool, Option, Some, None, Ok, Err, Result, OnOk, sym, ap, subst, ◌∙◌, arith, true≢false}
 use Rattle.std.proofs.lemmas.Result.{on_ok_weaker}
-use Rattle.desk_terms.specs.Options.{◌>>=◌}
+use Rattle.desk_terms.specs.Options.{◌>>=◌, only}
 use Rattle.sqlite.specs.declared.error.Error.{Error}
 use Rattle.sqlite.specs.declared.error.Error.TheVariants.{SqliteFailure}
 use Rattle.sqlite.specs.declared.error.ErrorCode.TheVariants.{OutOfMemory}
@@ -15,7 +15,10 @@ use Rattle.desk_rows.specs.Meanings.{IsFault, all_mean}
 use Rattle.desk_rows.specs.declared.fault.RowFault.{RowFault}
 use Rattle.desk_rows.specs.declared.fault.RowFault.TheVariants as row
 use Rattle.sqlite.specs.Order.{Row}
-use Rattle.desk_schema.specs.Statements.{ChangesNothing, HasTables, IsDesk, IsRead, IsRising, TableOf, layout_one, records_in, table_rows}
+use Rattle.std.proofs.lemmas.List.{length-map}
+use Rattle.desk_records.specs.Office.{are_left_empty, has_no_row}
+use Rattle.desk_schema.specs.Contents.{demands_one, polls_one, presences_one}
+use Rattle.desk_schema.specs.Statements.{ChangesNothing, columns_of, HasTables, IsDesk, IsRead, IsRising, TableOf, layout_two, records_in, table_rows}
 use Rattle.desk_rows.proofs.MeaningLemmas.{bound}
 use Rattle.office_lists.specs.declared.fault.ReadFault.{ReadFault}
 use Rattle.office_lists.specs.declared.fault.ReadFault.TheVariants.{NoOffice, Store, Memory}
@@ -26,7 +29,7 @@ pub desk_same : (old new : State) → IsUnchanged old new → IsDesk old → IsD
 desk_same old new h desk =
     let same = h.0.now_is in
     record {
-      schema = subst (λ (d : Database). HasTables layout_one d.schema) (sym same) desk.schema;
+      schema = subst (λ (d : Database). HasTables layout_two d.schema) (sym same) desk.schema;
       rising = λ number is. subst (λ (d : Database). IsRising (d.trees number)) (sym same) (desk.rising number is);
     }
 
@@ -121,3 +124,18 @@ row_cause right row.Memory said none = tt
 
 pub meaning_is : {A : Type 0} (table : TableOf A) (means : Row → Option A) (rows : List Row) (trees : Trees) → table.means ≡ means → rows ≡ table_rows table trees → all_mean means rows ≡ records_in table trees
 meaning_is table means rows trees same is = ap (λ f. all_mean f rows) (sym same) ∙ ap (all_mean table.means) is
+
+-- ---- the tables that version 2 leaves empty
+
+-- the rows that are read are none where the table has none
+pub none_read : {A : Type 0} (table : TableOf A) (rows : List Row) (trees : Trees) → rows ≡ table_rows table trees → (length rows == 0) ≡ has_no_row table trees
+none_read table rows trees is = ap (λ (l : List Row). length l == 0) is ∙ ap (λ n. n == 0) (length-map (trees table.number) (columns_of table))
+
+only_all : (a b c : Bool) → (only a >>= λ _. only b >>= λ _. only c) ≡ only (a && b && c)
+only_all true true c = refl
+only_all true false c = refl
+only_all false b c = refl
+
+-- one table after another has no row
+pub left_is : ◌≡◌ {A = Trees → Option (Unit {0})} (λ trees. only (has_no_row presences_one trees) >>= λ _. only (has_no_row demands_one trees) >>= λ _. only (has_no_row polls_one trees)) (λ trees. only (are_left_empty trees))
+left_is = λ i trees. only_all (has_no_row presences_one trees) (has_no_row demands_one trees) (has_no_row polls_one trees) i

@@ -4,12 +4,14 @@ ghost use Rattle.desk_reading.specs.Reading.{IsReading};
 ghost use Rattle.desk_records.specs.Office.{flat_in};
 ghost use Rattle.office_lists.specs.Yields.{any_at_all};
 
+use crate::left::read_left;
 use crate::table::listing;
 use office_lists::{FlatRecords, MeetingRecords, ReadFault};
 use sqlite::{Alter, Transaction};
 use std::alloc::Global;
 
-/// All that the tables hold. The fault is `NoOffice` only where a row means nothing.
+/// All that the tables hold. The fault is `NoOffice` only where a row means nothing, or a
+/// table that version 2 leaves empty has one.
 pub fn read_flat<S: Alter>(
     tx: &mut Transaction<'_, S>,
     alloc: Global,
@@ -17,10 +19,12 @@ pub fn read_flat<S: Alter>(
     ensures same_reference { tx.new.conn.ghost_name ≡ tx.old.conn.ghost_name }
     ensures read { IsReading S.Store tx.old.conn.now tx.new.conn.now any_at_all result flat_in }
 {
+    read_left(tx)?;
     let keys = listing(tx, alloc)?;
     let closed = listing(tx, alloc)?;
     let meetings = listing(tx, alloc)?;
     let records = MeetingRecords {
+        sessions: listing(tx, alloc)?,
         resolutions: listing(tx, alloc)?,
         register: listing(tx, alloc)?,
         appointments: listing(tx, alloc)?,

@@ -3,6 +3,7 @@
 #![tactic(auto)]
 
 mod flat;
+mod left;
 mod office;
 mod table;
 

@@ -5,11 +5,11 @@ ghost use Rattle.desk_schema.specs.Contents as contents;
 ghost use Rattle.desk_schema.specs.Statements.{ChangesNothing, IsRead, ReadsTable, TableOf, records_in};
 ghost use Rattle.office_lists.specs.Yields.{any_at_all};
 
-use desk_rows::{FromRow, InMeeting, MeetingRow, NumberedResolution, records};
-use desk_tables::{closed, keys, meetings, register, resolutions};
+use desk_rows::{FromRow, InMeeting, MeetingRow, Numbered, records};
+use desk_tables::{closed, keys, meetings, register, resolutions, sessions};
 use desk_words::{
     Appointment, Authority, CastMark, Day, DemandMark, Ending, KeyRow, Listing, Poll, PresenceMark,
-    RegisterRow,
+    RegisterRow, Resolution, Session,
 };
 use meeting_tables::{appointments, authorities, casts, demands, endings, polls, presences};
 use office_lists::ReadFault;
@@ -76,7 +76,17 @@ impl Kept for MeetingRow {
     ghost reads_as = { refl };
 }
 
-impl Kept for InMeeting<NumberedResolution> {
+impl Kept for InMeeting<Numbered<Session>> {
+    ghost table = { contents.sessions };
+
+    fn rows<S: Alter>(tx: &mut Transaction<'_, S>) -> Result<Vec<Row>, Error> {
+        sessions::all(tx)
+    }
+
+    ghost reads_as = { refl };
+}
+
+impl Kept for InMeeting<Numbered<Resolution>> {
     ghost table = { contents.resolutions };
 
     fn rows<S: Alter>(tx: &mut Transaction<'_, S>) -> Result<Vec<Row>, Error> {

@@ -1,5 +1,5 @@
 -- Statements that are asked about, and not run.
-use Rattle.std.proofs.Common.{◌≡◌, ℕ, true, List, [], ◌∷◌, ◌++◌, Ok, Err, IsOk, Result, is_ok, IfErr, IfOk, IsTrue, refl, sym, ap, subst, ◌∙◌, inl, inr, arith}
+use Rattle.std.proofs.Common.{◌≡◌, ℕ, true, List, [], ◌∷◌, ◌++◌, map, Ok, Err, IsOk, Result, is_ok, IfErr, IfOk, IsTrue, refl, sym, ap, subst, ◌∙◌, inl, inr, arith}
 use Rattle.std.specs.List.{AllByRecursion}
 use Rattle.std.proofs.lemmas.Result.{on_ok_weaker}
 use Rattle.sqlite.specs.declared.error.Error.{Error}
@@ -18,15 +18,15 @@ use Rattle.sqlite_tied.specs.Compute.{everything}
 use Rattle.sqlite_trees.specs.declared.error.StoreError.{StoreError}
 use Rattle.sqlite_trees.specs.declared.error.StoreError.TheVariants as kind
 use Rattle.sqlite_trees.specs.declared.store.Store as store
-use Rattle.desk_schema.specs.Statements.{HasTables, layout_one}
-use Rattle.desk_statements.proofs.Frames.{beside, wide}
-use Rattle.desk_schema.specs.Tables.{desk_table, keys_table, closed_table, meetings_table, resolutions_table, register_table, appointments_table, endings_table, authorities_table, presences_table, demands_table, polls_table, casts_table}
+use Rattle.desk_schema.specs.Statements.{HasTables, layout_one, layout_two}
+use Rattle.desk_statements.proofs.Frames.{as_one, beside, wide}
+use Rattle.desk_schema.specs.Tables.{desk_table, keys_table, closed_table, meetings_table, resolutions_table, register_table, appointments_table, endings_table, authorities_table, presences_table, demands_table, polls_table, casts_table, sessions_table, presences2_table, demands2_table, polls2_table, asked_one}
 use Rattle.desk_schema.specs.Texts.{asking_text}
 use Rattle.sqlite.specs.Table.{Table}
 use Rattle.sqlite_schema.specs.declared.schema.Index.{Index}
 use Rattle.sqlite_schema.specs.declared.schema.View.{View as Stored}
 use Rattle.sqlite.specs.Schema.{Schema}
-use Rattle.desk_tables.specs.Columns.{AreUnderstood, AsksFor, HasColumns}
+use Rattle.desk_tables.specs.Columns.{AreUnderstood, AsksFor, HasColumns, HasColumnsOf, session_columns}
 use Rattle.desk_tables.specs.declared.columns.ColumnFault.{ColumnFault}
 use Rattle.desk_tables.specs.declared.columns.ColumnFault.TheVariants.{Missing, Refused}
 
@@ -182,6 +182,31 @@ module _ (others : List Table) (indexes : List Index) (views : List Stored) wher
   unfolding understood everything
   asks_casts = refl
 
-pub columns_stand : (s : Schema) → HasTables layout_one s → HasColumns s
-unfolding HasColumns
-columns_stand = wide HasColumns (λ others apart indexes views. (asks_desk others indexes views, (asks_keys others indexes views, (asks_closed others indexes views, (asks_meetings others indexes views, (asks_resolutions others indexes views, (asks_register others indexes views, (asks_appointments others indexes views, (asks_endings others indexes views, (asks_authorities others indexes views, (asks_presences others indexes views, (asks_demands others indexes views, (asks_polls others indexes views, (asks_casts others indexes views, tt))))))))))))))
+pub columns_one_stand : (s : Schema) → HasTables layout_one s → HasColumnsOf asked_one s
+unfolding HasColumnsOf
+columns_one_stand = wide (HasColumnsOf asked_one) (λ others apart indexes views. (asks_desk others indexes views, (asks_keys others indexes views, (asks_closed others indexes views, (asks_meetings others indexes views, (asks_resolutions others indexes views, (asks_register others indexes views, (asks_appointments others indexes views, (asks_endings others indexes views, (asks_authorities others indexes views, (asks_presences others indexes views, (asks_demands others indexes views, (asks_polls others indexes views, (asks_casts others indexes views, tt))))))))))))))
+
+-- and so it is with those of the tables that version 2 adds
+module _ (others : List Table) (indexes : List Index) (views : List Stored) where
+  asks_sessions : IsOk (understood (beside layout_two others indexes views) (asking_text sessions_table))
+  unfolding understood everything
+  asks_sessions = refl
+
+  asks_presences2 : IsOk (understood (beside layout_two others indexes views) (asking_text presences2_table))
+  unfolding understood everything
+  asks_presences2 = refl
+
+  asks_demands2 : IsOk (understood (beside layout_two others indexes views) (asking_text demands2_table))
+  unfolding understood everything
+  asks_demands2 = refl
+
+  asks_polls2 : IsOk (understood (beside layout_two others indexes views) (asking_text polls2_table))
+  unfolding understood everything
+  asks_polls2 = refl
+
+sessions_stand : (s : Schema) → HasTables layout_two s → AreUnderstood s session_columns
+sessions_stand = wide (λ s. AreUnderstood s session_columns) (λ others apart indexes views. (asks_sessions others indexes views, (asks_presences2 others indexes views, (asks_demands2 others indexes views, (asks_polls2 others indexes views, tt)))))
+
+pub columns_stand : (s : Schema) → HasTables layout_two s → HasColumns s
+unfolding HasColumnsOf
+columns_stand s has = both (λ text. IsOk (understood s text)) (map asking_text asked_one) session_columns (columns_one_stand s (as_one s has)) (sessions_stand s has)

@@ -1,11 +1,16 @@
 -- What the statements on `desk` do.
-use Rattle.std.proofs.Common.{◌≡◌, ℕ, pos, List, [], ◌∷◌, codes, false, Some, Ok, Err, Result, OnOk, IfOk, IfErr, IsTrue, ◌⊎◌, refl, subst}
+use Rattle.std.proofs.Common.{◌≡◌, ℕ, ◌==◌, pos, List, [], ◌∷◌, codes, false, if◌then◌else◌, Some, Ok, Err, Result, OnOk, IfOk, IfErr, IsTrue, ◌⊎◌, refl, sym, subst}
 use Rattle.sqlite.specs.declared.types.Value.TheVariants.{Null, Int}
 use Rattle.sqlite.specs.Held.{Held, state}
-use Rattle.sqlite.specs.Order.{Row}
-use Rattle.sqlite.specs.Term.{Term, lit}
+use Rattle.sqlite.specs.Order.{Row, column}
+use Rattle.sqlite.specs.Cast.{cast}
+use Rattle.sqlite.specs.Edit.{id_in}
+use Rattle.sqlite.specs.Kind.TheVariants.{Integer}
+use Rattle.sqlite.specs.Tree.{rowid}
+use Rattle.sqlite_trees.specs.View.{is_int}
+use Rattle.sqlite.specs.Term.{Term, col, lit}
 use Rattle.sqlite.specs.Source.TheVariants.{Values}
-use Rattle.sqlite.specs.Command.TheVariants.{Insert, Select}
+use Rattle.sqlite.specs.Command.TheVariants.{Insert, Select, Update}
 use Rattle.sqlite_tied.specs.Compute.{everything}
 use Rattle.sqlite.specs.declared.error.Error.{Error}
 use Rattle.sqlite.specs.Listing.{understood, reads_listing}
@@ -20,20 +25,27 @@ use Rattle.sqlite_schema.specs.declared.schema.Index.{Index}
 use Rattle.sqlite_schema.specs.declared.schema.View.{View as Stored}
 use Rattle.sqlite_trees.specs.declared.store.Store as store
 use Rattle.desk_tables.specs.Versions.{IsAnsweredBy, AreNoted, NotesVersion, ShowsVersions, beside_desk, version_text}
-use Rattle.desk_rows.specs.Columns.{number_in}
+use Rattle.desk_rows.specs.Columns.{natural_of, number_in}
+use Rattle.desk_rows.specs.declared.kept.Version.{Version}
+use Rattle.desk_rows.proofs.MeaningLemmas.{bound}
+use Rattle.desk_terms.specs.Options.{only}
 use Rattle.desk_rows.specs.Office.{version_in}
 use Rattle.desk_statements.proofs.GivenNumbers.{none_below}
 use Rattle.desk_schema.specs.Tables.{no_schema, desk_table as table}
 use Rattle.desk_schema.specs.Texts.{given_names, inserting_text, making_text}
 use Rattle.desk_schema.specs.Contents.{desk}
-use Rattle.desk_schema.specs.Statements.{IsDesk, AddsFirst, table_rows, HasTables, layout_one}
+use Rattle.desk_schema.specs.Statements.{IsDesk, AddsFirst, Sets, columns_of, table_rows, HasTables, layout_one, layout_two}
 use Rattle.desk_statements.proofs.Adding.{adds_numbered, means_more}
 use Rattle.desk_statements.proofs.Commits.{query_keeps}
+use Rattle.desk_statements.proofs.Deleting.{passes, picked}
+use Rattle.desk_statements.proofs.Seq.{is_its_id}
+use Rattle.desk_statements.proofs.Tests.{kept_integer}
+use Rattle.desk_statements.proofs.Updating.{changes_rows, new_row, sets}
 use Rattle.desk_statements.proofs.Listing.{shown_terms}
 use Rattle.desk_statements.proofs.Making.{MakesTable}
 use Rattle.desk_statements.proofs.Reading.{in_order, shown_same, whole}
 use Rattle.desk_statements.proofs.Values.{cast_null, cast_int}
-use Rattle.desk_statements.proofs.Frames.{ones_apart, wide, RunsOn}
+use Rattle.desk_statements.proofs.Frames.{twos_apart, wide, wide_one, RunsOn}
 use Rattle.sqlite.specs.Schema.{Schema}
 
 pub makes : MakesTable no_schema (making_text (codes "one INTEGER NOT NULL PRIMARY KEY" ∷ []) [] table) table
@@ -41,25 +53,52 @@ unfolding understood everything Rattle.sqlite_schema.specs.Names.same_name
 makes = record { is = refl; alone = refl; plain = (refl, refl); defined = refl; full = refl }
 
 abbrev add_text : List ℕ
-add_text = inserting_text (codes "1" ∷ codes "1" ∷ []) table
+add_text = inserting_text (codes "1" ∷ codes "2" ∷ []) table
 
 abbrev terms : List Term
-terms = lit (Int (pos 1)) ∷ lit Null ∷ lit (Int (pos 1)) ∷ []
+terms = lit (Int (pos 1)) ∷ lit Null ∷ lit (Int (pos 2)) ∷ []
 
-add_runs : (s : Schema) → HasTables layout_one s → RunsOn s add_text (Insert 0 (Values terms 3)) 0 (record table { tree = 0 })
+add_runs : (s : Schema) → HasTables layout_two s → RunsOn s add_text (Insert 0 (Values terms 3)) 0 (record table { tree = 0 })
 unfolding understood everything
-add_runs = wide (λ s. RunsOn s add_text (Insert 0 (Values terms 3)) 0 (record table { tree = 0 })) (λ others apart indexes views. record { is = refl; plain = (refl, refl); there = refl })
+add_runs = wide_one (λ s. RunsOn s add_text (Insert 0 (Values terms 3)) 0 (record table { tree = 0 })) (λ others apart indexes views. record { is = refl; plain = (refl, refl); there = refl })
 
-means : version_in (Int (pos 1) ∷ Int (pos 1) ∷ []) ≡ Some (record { number = 1 })
+means : version_in (Int (pos 1) ∷ Int (pos 2) ∷ []) ≡ Some (record { number = 2 })
 unfolding version_in number_in
 means = refl
 
-pub adds_version : (old new : State) (r : Result ℕ Error) → IsDesk old → IsTrue old.in_transaction → ExecutesInside 0 add_text [] old new r → OnOk r (AddsFirst desk (record { number = 1 }) old new)
+pub adds_version : (old new : State) (r : Result ℕ Error) → IsDesk old → IsTrue old.in_transaction → ExecutesInside 0 add_text [] old new r → OnOk r (AddsFirst desk (record { number = 2 }) old new)
 adds_version old new (Err e) was inside h = tt
 adds_version old new (Ok count) was inside h = λ records known none.
-    let cells = Null ∷ Int (pos 1) ∷ [] in
-    let row = adds_numbered (ones_apart old.now.schema was.schema) 0 (record table { tree = 0 }) terms 3 add_text [] (pos 1) cells (add_runs old.now.schema was.schema).is (add_runs old.now.schema was.schema).plain (add_runs old.now.schema was.schema).there refl (rw (cast_null, cast_int (pos 1)) refl) old new (Ok count) refl was inside (none_below desk (old.now.trees 0) records (pos 1) known none) h in
-    means_more desk cells (record { number = 1 }) old new row.0 (rw row.1 means)
+    let cells = Null ∷ Int (pos 2) ∷ [] in
+    let row = adds_numbered (twos_apart old.now.schema was.schema) 0 (record table { tree = 0 }) terms 3 add_text [] (pos 1) cells (add_runs old.now.schema was.schema).is (add_runs old.now.schema was.schema).plain (add_runs old.now.schema was.schema).there refl (rw (cast_null, cast_int (pos 1), cast_int (pos 2)) refl) old new (Ok count) refl was inside (none_below desk (old.now.trees 0) records (pos 1) known none) h in
+    means_more desk cells (record { number = 2 }) old new row.0 (rw row.1 means)
+
+-- ---- the version is raised
+
+abbrev raise_text : List ℕ
+raise_text = codes "UPDATE desk SET version = 2"
+
+abbrev raise_terms : List Term
+raise_terms = col 1 0 ∷ lit Null ∷ lit (Int (pos 2)) ∷ []
+
+raise_runs : (s : Schema) → HasTables layout_two s → RunsOn s raise_text (Update 0 (record { lets = []; body = picked 0 [] raise_terms })) 0 (record table { tree = 0 })
+unfolding understood everything
+raise_runs = wide_one (λ s. RunsOn s raise_text (Update 0 (record { lets = []; body = picked 0 [] raise_terms })) 0 (record table { tree = 0 })) (λ others apart indexes views. record { is = refl; plain = (refl, refl); there = refl })
+
+keeps_number : (cells : Row) → IsTrue (is_int (rowid cells)) → cast Integer (rowid cells) ≡ rowid cells
+keeps_number cells keyed = subst (λ v. cast Integer v ≡ v) (sym (is_its_id cells keyed)) (cast_int (id_in (rowid cells)))
+
+raise_sets : (cells : Row) (x : Version) → desk.means (columns_of desk cells) ≡ Some x → desk.means (columns_of desk (if passes [] [] cells then new_row (record table { tree = 0 }) raise_terms [] cells else cells)) ≡ Some (record { number = 2 })
+unfolding version_in number_in
+raise_sets cells x h =
+    let one = bound (number_in (columns_of desk cells) 0) _ x h in
+    let first = bound (only (one.0 == 1)) _ x one.2 in
+    rw (kept_integer natural_of (column cells 0) one.0 one.1, cast_int (pos 2), first.1) refl
+
+pub raises : (old new : State) (r : Result ℕ Error) → IsDesk old → IsTrue old.in_transaction → ExecutesInside 0 raise_text [] old new r → OnOk r (Sets desk (λ _. record { number = 2 }) old new)
+raises old new r was inside h =
+    sets desk (λ cells. if passes [] [] cells then new_row (record table { tree = 0 }) raise_terms [] cells else cells) (λ _. record { number = 2 }) raise_sets layout_two old new r
+    (changes_rows (twos_apart old.now.schema was.schema) 0 (record table { tree = 0 }) [] raise_terms raise_text [] (raise_runs old.now.schema was.schema).is (raise_runs old.now.schema was.schema).plain (raise_runs old.now.schema was.schema).there refl refl keeps_number old new r refl was inside h)
 
 -- ---- the version of tables of any schema
 

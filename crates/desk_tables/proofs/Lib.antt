@@ -5,3 +5,4 @@ pub mod KeyLemmas
 pub mod MeetingLemmas
 pub mod RegisterLemmas
 pub mod ResolutionLemmas
+pub mod SessionLemmas

@@ -25,7 +25,7 @@ use Rattle.desk_terms.specs.Names.{meeting_of, same_name}
 use Rattle.desk_schema.specs.Tables.{up_to_closed, up_to_meetings, meetings_table as table, sequence}
 use Rattle.desk_schema.specs.Texts.{adding_text, making_text, seq_column}
 use Rattle.desk_schema.specs.Contents.{meetings, without_resolutions, loaded_at, opened_at}
-use Rattle.desk_schema.specs.Statements.{IsDesk, Sets, columns_of, AreEmpty, layout_one, HasTables}
+use Rattle.desk_schema.specs.Statements.{IsDesk, Sets, columns_of, Extends, layout_two, HasTables}
 use Rattle.desk_statements.proofs.Adding.{AddsBy, AddsGiven, adds_given}
 use Rattle.desk_statements.proofs.Deleting.{picked, passes}
 use Rattle.desk_statements.proofs.Listing.{ListsTable, ListsAs}
@@ -43,7 +43,7 @@ use Rattle.desk_statements.proofs.Tests.{names_tell, kept_spelled, kept_worded, 
 use Rattle.std.proofs.Math.Bool.{and-true}
 use Rattle.desk_statements.proofs.Updating.{new_row, changes_rows, sets}
 use Rattle.desk_statements.proofs.Values.{cast_flag, cast_int, cast_null, cast_some, flag, flag_kept}
-use Rattle.desk_statements.proofs.Frames.{ones_apart, wide, RunsOn}
+use Rattle.desk_statements.proofs.Frames.{twos_apart, wide_one, RunsOn}
 use Rattle.sqlite.specs.Schema.{Schema}
 
 -- how the columns that have a key are declared
@@ -65,27 +65,27 @@ make_lacks : (lacks_sequence (created up_to_closed table) ≡ true) × (table_de
 unfolding Rattle.sqlite_schema.specs.Names.same_name everything
 make_lacks = (refl, refl)
 
-pub makes : (old new : State) (r : Result ℕ Error) → AreEmpty up_to_closed old → IsTrue old.in_transaction → ExecutesInside 0 make_text [] old new r
-    → OnOk r (AreEmpty up_to_meetings new × IsTrue new.in_transaction)
+pub makes : (old new : State) (r : Result ℕ Error) → old.now.schema ≡ up_to_closed → IsTrue old.in_transaction → ExecutesInside 0 make_text [] old new r
+    → OnOk r (Extends up_to_closed up_to_meetings old new × IsTrue new.in_transaction)
 makes old new r = made_counted old new up_to_closed make_text table sequence r make_is.0 make_is.1 make_plain make_is.2 make_lacks.0 make_lacks.1
 
-adds : (s : Schema) → HasTables layout_one s → AddsGiven layout_one s meetings table
+adds : (s : Schema) → HasTables layout_two s → AddsGiven layout_two s meetings table
 unfolding understood everything
-adds = wide (λ s. AddsGiven layout_one s meetings table) (λ others apart indexes views. record { place = 3; is = refl; plain = (refl, refl); there = refl; numbered = refl })
+adds = wide_one (λ s. AddsGiven layout_two s meetings table) (λ others apart indexes views. record { place = 3; is = refl; plain = (refl, refl); there = refl; numbered = refl })
 
-pub lists : ListsTable layout_one meetings table
+pub lists : ListsTable layout_two meetings table
 unfolding understood everything
-lists = record { asks = wide (ListsAs meetings table) (λ others apart indexes views. record { is = refl; plain = (refl, refl); unlisted = refl }); none = refl; numbered = refl }
+lists = record { asks = wide_one (ListsAs meetings table) (λ others apart indexes views. record { is = refl; plain = (refl, refl); unlisted = refl }); none = refl; numbered = refl }
 
 module _ (m : Meeting) (meeting : List ℕ) (company : List ℕ) (kind : List ℕ) (given : ℤ) (appointed : ℤ) (recorded : ℤ) (opened : Option ℤ) where
   abbrev pub values : Row
   values = Text meeting ∷ Text company ∷ Text kind ∷ Int given ∷ Int appointed ∷ Int recorded ∷ flag m.loaded ∷ or_null Int opened ∷ []
 
   pub adds_meeting : meeting_of meeting ≡ Some m.id → read_word company_of company ≡ Some m.company → read_word meeting_kind_of kind ≡ Some m.kind → unix_day given ≡ Some m.given → moment_of_number appointed ≡ Some m.first.appointed → moment_of_number recorded ≡ Some m.record_moment → some_moment_of (or_null Int opened) ≡ Some m.first.opened
-      → AddsBy layout_one meetings (adding_text table) values (without_resolutions m)
+      → AddsBy layout_two meetings (adding_text table) values (without_resolutions m)
   unfolding meeting_in day_in flag_in moment_in number_in some_moment_in spelled worded
   adds_meeting meeting_is company_is kind_is given_is appointed_is recorded_is opened_is =
-      adds_given ones_apart adds values (Null ∷ values) (without_resolutions m) (rw (cast_null, cast_int given, cast_int appointed, cast_int recorded, cast_flag m.loaded, cast_some opened) refl) (λ id. rw (meeting_is, company_is, kind_is, given_is, appointed_is, recorded_is, opened_is, flag_kept m.loaded) refl)
+      adds_given twos_apart adds values (Null ∷ values) (without_resolutions m) (rw (cast_null, cast_int given, cast_int appointed, cast_int recorded, cast_flag m.loaded, cast_some opened) refl) (λ id. rw (meeting_is, company_is, kind_is, given_is, appointed_is, recorded_is, opened_is, flag_kept m.loaded) refl)
 
 abbrev load_text : List ℕ
 load_text = codes "UPDATE meetings SET loaded = 1 WHERE meeting = ?1"
@@ -93,9 +93,9 @@ load_text = codes "UPDATE meetings SET loaded = 1 WHERE meeting = ?1"
 abbrev load_terms : List Term
 load_terms = col 1 0 ∷ lit Null ∷ col 1 2 ∷ col 1 3 ∷ col 1 4 ∷ col 1 5 ∷ col 1 6 ∷ col 1 7 ∷ lit (Int (pos 1)) ∷ col 1 9 ∷ []
 
-load_runs : (s : Schema) → HasTables layout_one s → RunsOn s load_text (Update 3 (record { lets = []; body = picked 5 (op2 (Compare Eq Binary) (col 1 2) (col 0 0) ∷ []) load_terms })) 3 (record table { tree = 5 })
+load_runs : (s : Schema) → HasTables layout_two s → RunsOn s load_text (Update 3 (record { lets = []; body = picked 5 (op2 (Compare Eq Binary) (col 1 2) (col 0 0) ∷ []) load_terms })) 3 (record table { tree = 5 })
 unfolding understood everything
-load_runs = wide (λ s. RunsOn s load_text (Update 3 (record { lets = []; body = picked 5 (op2 (Compare Eq Binary) (col 1 2) (col 0 0) ∷ []) load_terms })) 3 (record table { tree = 5 })) (λ others apart indexes views. record { is = refl; plain = (refl, refl); there = refl })
+load_runs = wide_one (λ s. RunsOn s load_text (Update 3 (record { lets = []; body = picked 5 (op2 (Compare Eq Binary) (col 1 2) (col 0 0) ∷ []) load_terms })) 3 (record table { tree = 5 })) (λ others apart indexes views. record { is = refl; plain = (refl, refl); there = refl })
 
 abbrev open_text : List ℕ
 open_text = codes "UPDATE meetings SET opened = ?2 WHERE meeting = ?1"
@@ -106,9 +106,9 @@ open_terms = col 1 0 ∷ lit Null ∷ col 1 2 ∷ col 1 3 ∷ col 1 4 ∷ col 1 
 abbrev named : List Term
 named = op2 (Compare Eq Binary) (col 1 2) (col 0 0) ∷ []
 
-open_runs : (s : Schema) → HasTables layout_one s → RunsOn s open_text (Update 3 (record { lets = []; body = picked 5 named open_terms })) 3 (record table { tree = 5 })
+open_runs : (s : Schema) → HasTables layout_two s → RunsOn s open_text (Update 3 (record { lets = []; body = picked 5 named open_terms })) 3 (record table { tree = 5 })
 unfolding understood everything
-open_runs = wide (λ s. RunsOn s open_text (Update 3 (record { lets = []; body = picked 5 named open_terms })) 3 (record table { tree = 5 })) (λ others apart indexes views. record { is = refl; plain = (refl, refl); there = refl })
+open_runs = wide_one (λ s. RunsOn s open_text (Update 3 (record { lets = []; body = picked 5 named open_terms })) 3 (record table { tree = 5 })) (λ others apart indexes views. record { is = refl; plain = (refl, refl); there = refl })
 
 -- what the columns of a row give, where it is that of a meeting
 record IsMeetingRow (cells : Row) (x : MeetingRow) : Type 0 where
@@ -228,11 +228,11 @@ open_sets m meeting n moment is at cells x h = go (passes named (Text meeting �
 pub loads : (m meeting : List ℕ) → meeting_of meeting ≡ Some m → (old new : State) (r : Result ℕ Error) → IsDesk old → IsTrue old.in_transaction → ExecutesInside 0 load_text (Text meeting ∷ []) old new r
     → OnOk r (Sets meetings (loaded_at m) old new)
 loads m meeting is old new r was inside h =
-    sets meetings (λ cells. if passes named (Text meeting ∷ []) cells then new_row (record table { tree = 5 }) load_terms (Text meeting ∷ []) cells else cells) (loaded_at m) (load_sets m meeting is) layout_one old new r
-    (changes_rows (ones_apart old.now.schema was.schema) 3 (record table { tree = 5 }) named load_terms load_text (Text meeting ∷ []) (load_runs old.now.schema was.schema).is (load_runs old.now.schema was.schema).plain (load_runs old.now.schema was.schema).there refl refl (keeps_number load_terms (Text meeting ∷ [])) old new r refl was inside h)
+    sets meetings (λ cells. if passes named (Text meeting ∷ []) cells then new_row (record table { tree = 5 }) load_terms (Text meeting ∷ []) cells else cells) (loaded_at m) (load_sets m meeting is) layout_two old new r
+    (changes_rows (twos_apart old.now.schema was.schema) 3 (record table { tree = 5 }) named load_terms load_text (Text meeting ∷ []) (load_runs old.now.schema was.schema).is (load_runs old.now.schema was.schema).plain (load_runs old.now.schema was.schema).there refl refl (keeps_number load_terms (Text meeting ∷ [])) old new r refl was inside h)
 
 pub opens : (m meeting : List ℕ) (n : ℤ) (moment : ℕ) → meeting_of meeting ≡ Some m → moment_of_number n ≡ Some moment → (old new : State) (r : Result ℕ Error) → IsDesk old → IsTrue old.in_transaction
     → ExecutesInside 0 open_text (Text meeting ∷ Int n ∷ []) old new r → OnOk r (Sets meetings (opened_at m moment) old new)
 opens m meeting n moment is at old new r was inside h =
-    sets meetings (λ cells. if passes named (Text meeting ∷ Int n ∷ []) cells then new_row (record table { tree = 5 }) open_terms (Text meeting ∷ Int n ∷ []) cells else cells) (opened_at m moment) (open_sets m meeting n moment is at) layout_one old new r
-    (changes_rows (ones_apart old.now.schema was.schema) 3 (record table { tree = 5 }) named open_terms open_text (Text meeting ∷ Int n ∷ []) (open_runs old.now.schema was.schema).is (open_runs old.now.schema was.schema).plain (open_runs old.now.schema was.schema).there refl refl (keeps_number open_terms (Text meeting ∷ Int n ∷ [])) old new r refl was inside h)
+    sets meetings (λ cells. if passes named (Text meeting ∷ Int n ∷ []) cells then new_row (record table { tree = 5 }) open_terms (Text meeting ∷ Int n ∷ []) cells else cells) (opened_at m moment) (open_sets m meeting n moment is at) layout_two old new r
+    (changes_rows (twos_apart old.now.schema was.schema) 3 (record table { tree = 5 }) named open_terms open_text (Text meeting ∷ Int n ∷ []) (open_runs old.now.schema was.schema).is (open_runs old.now.schema was.schema).plain (open_runs old.now.schema was.schema).there refl refl (keeps_number open_terms (Text meeting ∷ Int n ∷ [])) old new r refl was inside h)

@@ -20,7 +20,7 @@ use Rattle.desk_terms.specs.Names.{meeting_of, party_of, same_name}
 use Rattle.desk_schema.specs.Tables.{up_to_resolutions, register_table as table}
 use Rattle.desk_schema.specs.Texts.{adding_text, once_text}
 use Rattle.desk_schema.specs.Contents.{register}
-use Rattle.desk_schema.specs.Statements.{IsDesk, TakesOut, columns_of, layout_one, HasTables}
+use Rattle.desk_schema.specs.Statements.{IsDesk, TakesOut, columns_of, layout_two, HasTables}
 use Rattle.desk_statements.proofs.Adding.{AddsBy, AddsGiven, adds_given}
 use Rattle.desk_statements.proofs.Deleting.{chosen, passes}
 use Rattle.desk_statements.proofs.Emptying.{takes_out, leaves_rows}
@@ -30,37 +30,37 @@ use Rattle.desk_rows.proofs.MeaningLemmas.{bound, option_ap}
 use Rattle.desk_statements.proofs.Tests.{names_tell}
 use Rattle.std.proofs.Math.Bool.{and-true}
 use Rattle.desk_statements.proofs.Values.{cast_int, cast_null}
-use Rattle.desk_statements.proofs.Frames.{ones_apart, wide, RunsOn}
+use Rattle.desk_statements.proofs.Frames.{twos_apart, wide_one, RunsOn}
 use Rattle.sqlite.specs.Schema.{Schema}
 
 pub makes : MakesTable up_to_resolutions (once_text table) table
 unfolding understood everything Rattle.sqlite_schema.specs.Names.same_name
 makes = record { is = refl; alone = refl; plain = (refl, refl); defined = refl; full = refl }
 
-adds : (s : Schema) → HasTables layout_one s → AddsGiven layout_one s register table
+adds : (s : Schema) → HasTables layout_two s → AddsGiven layout_two s register table
 unfolding understood everything
-adds = wide (λ s. AddsGiven layout_one s register table) (λ others apart indexes views. record { place = 6; is = refl; plain = (refl, refl); there = refl; numbered = refl })
+adds = wide_one (λ s. AddsGiven layout_two s register table) (λ others apart indexes views. record { place = 6; is = refl; plain = (refl, refl); there = refl; numbered = refl })
 
-pub lists : ListsTable layout_one register table
+pub lists : ListsTable layout_two register table
 unfolding understood everything
-lists = record { asks = wide (ListsAs register table) (λ others apart indexes views. record { is = refl; plain = (refl, refl); unlisted = refl }); none = refl; numbered = refl }
+lists = record { asks = wide_one (ListsAs register table) (λ others apart indexes views. record { is = refl; plain = (refl, refl); unlisted = refl }); none = refl; numbered = refl }
 
 module _ (m : List ℕ) (x : RegisterRow) (meeting : List ℕ) (member : List ℕ) (kind : List ℕ) (name : List ℕ) (shares : ℤ) (paid : ℤ) where
   abbrev pub values : Row
   values = Text meeting ∷ Text member ∷ Text kind ∷ Text name ∷ Int shares ∷ Int paid ∷ []
 
   pub adds_register : meeting_of meeting ≡ Some m → party_of member ≡ Some x.member → read_word holder_kind_of kind ≡ Some x.kind → read_word plain_text_of name ≡ Some x.name → natural_of shares ≡ Some x.shares → natural_of paid ≡ Some x.paid
-      → AddsBy layout_one register (adding_text table) values (record { meeting = m; item = x })
+      → AddsBy layout_two register (adding_text table) values (record { meeting = m; item = x })
   unfolding holding_in number_in spelled worded
   adds_register meeting_is member_is kind_is name_is shares_is paid_is =
-      adds_given ones_apart adds values values (record { meeting = m; item = x }) (rw (cast_null, cast_int shares, cast_int paid) refl) (λ id. rw (meeting_is, member_is, kind_is, name_is, shares_is, paid_is) refl)
+      adds_given twos_apart adds values values (record { meeting = m; item = x }) (rw (cast_null, cast_int shares, cast_int paid) refl) (λ id. rw (meeting_is, member_is, kind_is, name_is, shares_is, paid_is) refl)
 
 abbrev empty_text : List ℕ
 empty_text = codes "DELETE FROM register WHERE meeting = ?1"
 
-empty_runs : (s : Schema) → HasTables layout_one s → RunsOn s empty_text (Delete 6 (record { lets = []; body = chosen 10 (op2 (Compare Eq Binary) (col 1 1) (col 0 0) ∷ []) })) 6 (record table { tree = 10 })
+empty_runs : (s : Schema) → HasTables layout_two s → RunsOn s empty_text (Delete 6 (record { lets = []; body = chosen 10 (op2 (Compare Eq Binary) (col 1 1) (col 0 0) ∷ []) })) 6 (record table { tree = 10 })
 unfolding understood everything
-empty_runs = wide (λ s. RunsOn s empty_text (Delete 6 (record { lets = []; body = chosen 10 (op2 (Compare Eq Binary) (col 1 1) (col 0 0) ∷ []) })) 6 (record table { tree = 10 })) (λ others apart indexes views. record { is = refl; plain = (refl, refl); there = refl })
+empty_runs = wide_one (λ s. RunsOn s empty_text (Delete 6 (record { lets = []; body = chosen 10 (op2 (Compare Eq Binary) (col 1 1) (col 0 0) ∷ []) })) 6 (record table { tree = 10 })) (λ others apart indexes views. record { is = refl; plain = (refl, refl); there = refl })
 
 -- the meeting of a holding
 meeting_is : (cells : Row) (x : InMeeting RegisterRow) → holding_in cells ≡ Some x → spelled meeting_of cells 0 ≡ Some x.meeting
@@ -82,5 +82,5 @@ chosen_so m meeting is cells x h = and-true _ ∙ names_tell (column cells 1) me
 pub empties_meeting : (m meeting : List ℕ) → meeting_of meeting ≡ Some m → (old new : State) (r : Result ℕ Error) → IsDesk old → IsTrue old.in_transaction
     → ExecutesInside 0 empty_text (Text meeting ∷ []) old new r → OnOk r (TakesOut register (λ x. same_name x.meeting m) old new)
 empties_meeting m meeting is old new r was inside h =
-    takes_out register (passes (op2 (Compare Eq Binary) (col 1 1) (col 0 0) ∷ []) (Text meeting ∷ [])) (λ x. same_name x.meeting m) (chosen_so m meeting is) layout_one old new r
-    (leaves_rows (ones_apart old.now.schema was.schema) 6 (record table { tree = 10 }) (op2 (Compare Eq Binary) (col 1 1) (col 0 0) ∷ []) empty_text (Text meeting ∷ []) (empty_runs old.now.schema was.schema).is (empty_runs old.now.schema was.schema).plain (empty_runs old.now.schema was.schema).there refl refl old new r refl was inside h)
+    takes_out register (passes (op2 (Compare Eq Binary) (col 1 1) (col 0 0) ∷ []) (Text meeting ∷ [])) (λ x. same_name x.meeting m) (chosen_so m meeting is) layout_two old new r
+    (leaves_rows (twos_apart old.now.schema was.schema) 6 (record table { tree = 10 }) (op2 (Compare Eq Binary) (col 1 1) (col 0 0) ∷ []) empty_text (Text meeting ∷ []) (empty_runs old.now.schema was.schema).is (empty_runs old.now.schema was.schema).plain (empty_runs old.now.schema was.schema).there refl refl old new r refl was inside h)

@@ -12,32 +12,32 @@ use Rattle.desk_terms.specs.Names.{meeting_of}
 use Rattle.desk_schema.specs.Tables.{up_to_meetings, resolutions_table as table}
 use Rattle.desk_schema.specs.Texts.{adding_text, once_text}
 use Rattle.desk_schema.specs.Contents.{resolutions}
-use Rattle.desk_schema.specs.Statements.{layout_one, HasTables}
+use Rattle.desk_schema.specs.Statements.{layout_two, HasTables}
 use Rattle.desk_statements.proofs.Adding.{AddsBy, AddsGiven, adds_given}
 use Rattle.desk_statements.proofs.Listing.{ListsTable, ListsAs}
 use Rattle.desk_statements.proofs.Making.{MakesTable}
 use Rattle.desk_statements.proofs.Values.{cast_int, cast_null}
-use Rattle.desk_statements.proofs.Frames.{ones_apart, wide}
+use Rattle.desk_statements.proofs.Frames.{twos_apart, wide_one}
 use Rattle.sqlite.specs.Schema.{Schema}
 
 pub makes : MakesTable up_to_meetings (once_text table) table
 unfolding understood everything Rattle.sqlite_schema.specs.Names.same_name
 makes = record { is = refl; alone = refl; plain = (refl, refl); defined = refl; full = refl }
 
-adds : (s : Schema) → HasTables layout_one s → AddsGiven layout_one s resolutions table
+adds : (s : Schema) → HasTables layout_two s → AddsGiven layout_two s resolutions table
 unfolding understood everything
-adds = wide (λ s. AddsGiven layout_one s resolutions table) (λ others apart indexes views. record { place = 5; is = refl; plain = (refl, refl); there = refl; numbered = refl })
+adds = wide_one (λ s. AddsGiven layout_two s resolutions table) (λ others apart indexes views. record { place = 5; is = refl; plain = (refl, refl); there = refl; numbered = refl })
 
-pub lists : ListsTable layout_one resolutions table
+pub lists : ListsTable layout_two resolutions table
 unfolding understood everything
-lists = record { asks = wide (ListsAs resolutions table) (λ others apart indexes views. record { is = refl; plain = (refl, refl); unlisted = refl }); none = refl; numbered = refl }
+lists = record { asks = wide_one (ListsAs resolutions table) (λ others apart indexes views. record { is = refl; plain = (refl, refl); unlisted = refl }); none = refl; numbered = refl }
 
 module _ (m : List ℕ) (n : ℕ) (x : Resolution) (meeting : List ℕ) (number : ℤ) (kind : List ℕ) (body : List ℕ) where
   abbrev pub values : Row
   values = Text meeting ∷ Int number ∷ Text kind ∷ Text body ∷ []
 
   pub adds_resolution : meeting_of meeting ≡ Some m → natural_of number ≡ Some n → read_word resolution_kind_of kind ≡ Some x.kind → read_word plain_text_of body ≡ Some x.text
-      → AddsBy layout_one resolutions (adding_text table) values (record { meeting = m; item = record { number = n; resolution = x } })
+      → AddsBy layout_two resolutions (adding_text table) values (record { meeting = m; item = record { number = n; item = x } })
   unfolding resolution_in number_in spelled worded
   adds_resolution meeting_is number_is kind_is body_is =
-      adds_given ones_apart adds values values (record { meeting = m; item = record { number = n; resolution = x } }) (rw (cast_null, cast_int number) refl) (λ id. rw (meeting_is, number_is, kind_is, body_is) refl)
+      adds_given twos_apart adds values values (record { meeting = m; item = record { number = n; item = x } }) (rw (cast_null, cast_int number) refl) (λ id. rw (meeting_is, number_is, kind_is, body_is) refl)

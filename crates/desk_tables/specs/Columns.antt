@@ -1,12 +1,13 @@
 -- What asking for columns tells.
-use Rattle.std.specs.Prelude.{◌≡◌, ℕ, List, [], ◌∷◌, ◌++◌, map, Result, Err, IsOk, IsTrue, OnOk}
+use Rattle.std.specs.Prelude.{◌≡◌, ℕ, List, [], ◌∷◌, map, Result, Err, IsOk, IsTrue, OnOk}
 use Rattle.std.specs.List.{AllByRecursion}
 use Rattle.sqlite.specs.Held.{Held, state}
 use Rattle.sqlite.specs.Listing.{understood}
 use Rattle.sqlite.specs.Schema.{Schema}
 use Rattle.sqlite.specs.State.{HasCleanDisk, Survives}
+use Rattle.sqlite.specs.Table.{Table}
 use Rattle.sqlite_trees.specs.declared.store.Store as store
-use Rattle.desk_schema.specs.Tables.{desk_table, keys_table, closed_table, meetings_table, resolutions_table, register_table, appointments_table, endings_table, authorities_table, presences_table, demands_table, polls_table, casts_table}
+use Rattle.desk_schema.specs.Tables.{desk_table, keys_table, closed_table, meetings_table, resolutions_table, register_table, appointments_table, endings_table, authorities_table, presences_table, demands_table, polls_table, casts_table, sessions_table, presences2_table, demands2_table, polls2_table, asked_two}
 use Rattle.desk_schema.specs.Texts.{asking_text}
 use Rattle.desk_tables.specs.declared.columns.ColumnFault.{ColumnFault}
 use Rattle.desk_tables.specs.declared.columns.ColumnFault.TheVariants.{Missing}
@@ -28,13 +29,22 @@ paper_columns =
 abbrev pub poll_columns : List (List ℕ)
 poll_columns = map asking_text (demands_table ∷ polls_table ∷ casts_table ∷ [])
 
+-- the columns of the tables that version 2 adds
+abbrev pub session_columns : List (List ℕ)
+session_columns =
+    map asking_text (sessions_table ∷ presences2_table ∷ demands2_table ∷ polls2_table ∷ [])
+
 -- over tables of this schema each text is a statement
 abbrev pub AreUnderstood : Schema → List (List ℕ) → Type 0
 AreUnderstood schema texts = AllByRecursion (λ text. IsOk (understood schema text)) texts
 
+-- each column of these tables stands
+unfoldable pub HasColumnsOf : List Table → Schema → Type 0
+HasColumnsOf tables schema = AreUnderstood schema (map asking_text tables)
+
 -- each column that is read of a desk stands
-unfoldable pub HasColumns : Schema → Type 0
-HasColumns schema = AreUnderstood schema (meeting_columns ++ paper_columns ++ poll_columns)
+abbrev pub HasColumns : Schema → Type 0
+HasColumns = HasColumnsOf asked_two
 
 -- outside a transaction nothing is changed, and a crash leaves what it left before; the columns
 -- are told to stand where the store is open and the texts that name them are understood, and one is

@@ -1,9 +1,10 @@
 //! Whether the columns that are read stand.
 ghost use Rattle.std.specs.Prelude.{◌≡◌, ◌++◌, ◌∷◌, [], false};
-ghost use Rattle.desk_schema.specs.Statements.{HasTables, layout_one};
+ghost use Rattle.desk_schema.specs.Statements.{HasTables, layout_one, layout_two};
+ghost use Rattle.desk_schema.specs.Tables.{asked_one};
 ghost use Rattle.sqlite.specs.Schema.{Schema};
-ghost use Rattle.desk_tables.specs.Columns.{AsksFor, HasColumns};
-ghost use Rattle.desk_tables.specs.Columns.{meeting_columns, paper_columns, poll_columns};
+ghost use Rattle.desk_tables.specs.Columns.{AsksFor, HasColumns, HasColumnsOf};
+ghost use Rattle.desk_tables.specs.Columns.{meeting_columns, paper_columns, poll_columns, session_columns};
 ghost use Rattle.desk_tables.specs.Versions.{version_text};
 ghost use Rattle.desk_tables.specs.declared.columns.ColumnFault.TheVariants.{Refused};
 
@@ -111,8 +112,32 @@ fn ask_polls<S: Alter>(conn: &mut Connection<S>) -> Result<(), ColumnFault>
     )
 }
 
-/// Whether each column that is read stands. No statement is run.
-pub fn ask_columns<S: Alter>(conn: &mut Connection<S>) -> Result<(), ColumnFault>
+/// Asks for the columns of the tables that version 2 adds.
+fn ask_sessions<S: Alter>(conn: &mut Connection<S>) -> Result<(), ColumnFault>
+    requires { conn.old.in_transaction ≡ false }
+    ensures ended { conn.new.in_transaction ≡ false }
+    ensures asked { AsksFor S.Store conn.old conn.new session_columns result }
+{
+    ask(
+        conn,
+        "SELECT meeting, number, appointed, opened FROM sessions",
+    )?;
+    ask(
+        conn,
+        "SELECT seq, meeting, session, party, moment FROM presences2",
+    )?;
+    ask(
+        conn,
+        "SELECT seq, meeting, session, resolution, party, moment FROM demands2",
+    )?;
+    ask(
+        conn,
+        "SELECT meeting, session, resolution, ordered, take, chair, started, closed, votes_for, votes_against, withheld, eligible FROM polls2",
+    )
+}
+
+/// Whether each column that is read of tables of version 1 stands. No statement is run.
+pub fn ask_columns_one<S: Alter>(conn: &mut Connection<S>) -> Result<(), ColumnFault>
     requires { conn.old.in_transaction ≡ false }
     ensures ended { conn.new.in_transaction ≡ false }
     ensures asked { AsksFor S.Store conn.old conn.new
@@ -123,8 +148,25 @@ pub fn ask_columns<S: Alter>(conn: &mut Connection<S>) -> Result<(), ColumnFault
     ask_polls(conn)
 }
 
+/// Whether each column that is read stands. No statement is run.
+pub fn ask_columns<S: Alter>(conn: &mut Connection<S>) -> Result<(), ColumnFault>
+    requires { conn.old.in_transaction ≡ false }
+    ensures ended { conn.new.in_transaction ≡ false }
+    ensures asked { AsksFor S.Store conn.old conn.new
+        ((meeting_columns ++ paper_columns ++ poll_columns) ++ session_columns) result }
+{
+    ask_columns_one(conn)?;
+    ask_sessions(conn)
+}
+
 /// Over the tables of a desk each column that is read stands, whatever other tables, indexes and
 /// views stand beside them.
 pub fn desk_has_columns()
-    ensures { (declared : Schema) → HasTables layout_one declared → HasColumns declared }
+    ensures { (declared : Schema) → HasTables layout_two declared → HasColumns declared }
+{}
+
+/// Over the tables of version 1 each column that is read of them stands, whatever other tables,
+/// indexes and views stand beside them.
+pub fn desk_one_has_columns()
+    ensures { (declared : Schema) → HasTables layout_one declared → HasColumnsOf asked_one declared }
 {}

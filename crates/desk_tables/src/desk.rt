@@ -2,7 +2,7 @@
 ghost use Rattle.std.specs.Prelude.{◌≡◌, IfOk};
 ghost use Rattle.desk_schema.specs.Contents.{desk};
 ghost use Rattle.desk_schema.specs.Statements.{AddsFirst, CommitsNothing, Does, Makes, ReadsTable};
-ghost use Rattle.desk_schema.specs.Statements.{WasOpen};
+ghost use Rattle.desk_schema.specs.Statements.{Sets, WasOpen};
 ghost use Rattle.desk_schema.specs.Tables.{no_schema, up_to_desk};
 ghost use Rattle.desk_tables.specs.Versions.{AreNoted, FirstTableNotes, NotesVersion};
 ghost use Rattle.desk_tables.specs.Versions.{ShowsVersions};
@@ -23,14 +23,24 @@ pub fn make<S: Alter>(tx: &mut Transaction<'_, S>) -> Result<usize, Error>
     )
 }
 
-/// Notes that the tables are of version 1.
+/// Notes that the tables are of version 2.
 pub fn add<S: Alter>(tx: &mut Transaction<'_, S>) -> Result<usize, Error>
     ensures same_reference { tx.new.conn.ghost_name ≡ tx.old.conn.ghost_name }
     ensures added { Does S.Store tx.old.conn.now tx.new.conn.now result
-        (AddsFirst desk (record { number = 1 })) }
+        (AddsFirst desk (record { number = 2 })) }
     ensures commits { CommitsNothing S.Store tx.old.conn.now tx.new.conn.now }
 {
-    tx.execute("INSERT INTO desk (one, version) VALUES (1, 1)", &[])
+    tx.execute("INSERT INTO desk (one, version) VALUES (1, 2)", &[])
+}
+
+/// Notes that the tables, which noted another version, are of version 2.
+pub fn raise<S: Alter>(tx: &mut Transaction<'_, S>) -> Result<usize, Error>
+    ensures same_reference { tx.new.conn.ghost_name ≡ tx.old.conn.ghost_name }
+    ensures set { Does S.Store tx.old.conn.now tx.new.conn.now result
+        (Sets desk (λ _. record { number = 2 })) }
+    ensures commits { CommitsNothing S.Store tx.old.conn.now tx.new.conn.now }
+{
+    tx.execute("UPDATE desk SET version = 2", &[])
 }
 
 /// The rows, of which there is one, of tables of any version. Whatever the tables are, the rows are

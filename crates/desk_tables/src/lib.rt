@@ -8,3 +8,4 @@ pub mod keys;
 pub mod meetings;
 pub mod register;
 pub mod resolutions;
+pub mod sessions;

@@ -34,7 +34,7 @@ pub fn add<S: Alter>(
         (Adds resolutions
         (record {
           meeting = meeting;
-          item = record { number = number; resolution = resolution.now };
+          item = record { number = number; item = resolution.now };
         })) }
     ensures commits { CommitsNothing S.Store tx.old.conn.now tx.new.conn.now }
 {

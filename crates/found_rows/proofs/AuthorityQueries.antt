@@ -12,10 +12,10 @@ use Rattle.desk_rows.specs.Papers.{authority_in}
 use Rattle.desk_rows.proofs.MeaningLemmas.{bound, option_ap}
 use Rattle.desk_terms.specs.Names.{meeting_of, party_of, same_name}
 use Rattle.desk_schema.specs.Contents.{authorities}
-use Rattle.desk_schema.specs.Statements.{columns_of, HasTables, layout_one}
+use Rattle.desk_schema.specs.Statements.{columns_of, HasTables, layout_two}
 use Rattle.desk_statements.proofs.Reading.{sought, AsksAs}
 use Rattle.found_rows.proofs.Queries.{IsQuery, names_both, both_tell, names_meeting, names_three, one_tells, three_tell}
-use Rattle.desk_statements.proofs.Frames.{wide}
+use Rattle.desk_statements.proofs.Frames.{wide_one}
 use Rattle.sqlite.specs.Schema.{Schema}
 
 abbrev shows : List Term
@@ -37,9 +37,9 @@ names_in cells x h =
 abbrev given_by_text : List ℕ
 given_by_text = codes "SELECT meeting, corporation, person, moment FROM authorities WHERE meeting = ?1 AND corporation = ?2 ORDER BY seq"
 
-given_by_asks : (s : Schema) → HasTables layout_one s → AsksAs s given_by_text (sought 16 (names_both 2 3) shows) names
+given_by_asks : (s : Schema) → HasTables layout_two s → AsksAs s given_by_text (sought 16 (names_both 2 3) shows) names
 unfolding understood everything
-given_by_asks = wide (λ s. AsksAs s given_by_text (sought 16 (names_both 2 3) shows) names) (λ others apart indexes views. record { is = refl; plain = (refl, refl); unlisted = refl })
+given_by_asks = wide_one (λ s. AsksAs s given_by_text (sought 16 (names_both 2 3) shows) names) (λ others apart indexes views. record { is = refl; plain = (refl, refl); unlisted = refl })
 
 -- the rows of the meeting and of the corporation
 pub given_by : (m meeting n party : List ℕ) → meeting_of meeting ≡ Some m → party_of party ≡ Some n
@@ -59,9 +59,9 @@ given_by m meeting n party meeting_is party_is = record {
 abbrev naming_text : List ℕ
 naming_text = codes "SELECT meeting, corporation, person, moment FROM authorities WHERE meeting = ?1 AND person = ?2 ORDER BY seq"
 
-naming_asks : (s : Schema) → HasTables layout_one s → AsksAs s naming_text (sought 16 (names_both 2 4) shows) names
+naming_asks : (s : Schema) → HasTables layout_two s → AsksAs s naming_text (sought 16 (names_both 2 4) shows) names
 unfolding understood everything
-naming_asks = wide (λ s. AsksAs s naming_text (sought 16 (names_both 2 4) shows) names) (λ others apart indexes views. record { is = refl; plain = (refl, refl); unlisted = refl })
+naming_asks = wide_one (λ s. AsksAs s naming_text (sought 16 (names_both 2 4) shows) names) (λ others apart indexes views. record { is = refl; plain = (refl, refl); unlisted = refl })
 
 -- the rows of the meeting and of the person
 pub naming : (m meeting n party : List ℕ) → meeting_of meeting ≡ Some m → party_of party ≡ Some n
@@ -81,9 +81,9 @@ naming m meeting n party meeting_is party_is = record {
 abbrev of_meeting_text : List ℕ
 of_meeting_text = codes "SELECT meeting, corporation, person, moment FROM authorities WHERE meeting = ?1 ORDER BY seq"
 
-of_meeting_asks : (s : Schema) → HasTables layout_one s → AsksAs s of_meeting_text (sought 16 (names_meeting 2) shows) names
+of_meeting_asks : (s : Schema) → HasTables layout_two s → AsksAs s of_meeting_text (sought 16 (names_meeting 2) shows) names
 unfolding understood everything
-of_meeting_asks = wide (λ s. AsksAs s of_meeting_text (sought 16 (names_meeting 2) shows) names) (λ others apart indexes views. record { is = refl; plain = (refl, refl); unlisted = refl })
+of_meeting_asks = wide_one (λ s. AsksAs s of_meeting_text (sought 16 (names_meeting 2) shows) names) (λ others apart indexes views. record { is = refl; plain = (refl, refl); unlisted = refl })
 
 -- the rows of the meeting
 pub of_meeting : (m meeting : List ℕ) → meeting_of meeting ≡ Some m → IsQuery authorities of_meeting_text (Text meeting ∷ []) (λ x. same_name x.meeting m)
@@ -102,9 +102,9 @@ of_meeting m meeting meeting_is = record {
 abbrev naming_by_text : List ℕ
 naming_by_text = codes "SELECT meeting, corporation, person, moment FROM authorities WHERE meeting = ?1 AND corporation = ?2 AND person = ?3 ORDER BY seq"
 
-naming_by_asks : (s : Schema) → HasTables layout_one s → AsksAs s naming_by_text (sought 16 (names_three 2 3 4) shows) names
+naming_by_asks : (s : Schema) → HasTables layout_two s → AsksAs s naming_by_text (sought 16 (names_three 2 3 4) shows) names
 unfolding understood everything
-naming_by_asks = wide (λ s. AsksAs s naming_by_text (sought 16 (names_three 2 3 4) shows) names) (λ others apart indexes views. record { is = refl; plain = (refl, refl); unlisted = refl })
+naming_by_asks = wide_one (λ s. AsksAs s naming_by_text (sought 16 (names_three 2 3 4) shows) names) (λ others apart indexes views. record { is = refl; plain = (refl, refl); unlisted = refl })
 
 -- the rows of the meeting, of the corporation and of the person
 pub naming_by : (m meeting n party p person : List ℕ) → meeting_of meeting ≡ Some m → party_of party ≡ Some n → party_of person ≡ Some p

@@ -12,10 +12,10 @@ use Rattle.desk_rows.specs.Marks.{cast_in, cast_kind_in}
 use Rattle.desk_rows.proofs.MeaningLemmas.{bound, option_ap}
 use Rattle.desk_terms.specs.Names.{meeting_of, party_of, same_name}
 use Rattle.desk_schema.specs.Contents.{casts}
-use Rattle.desk_schema.specs.Statements.{columns_of, HasTables, layout_one}
+use Rattle.desk_schema.specs.Statements.{columns_of, HasTables, layout_two}
 use Rattle.desk_statements.proofs.Reading.{sought, AsksAs}
 use Rattle.found_rows.proofs.Queries.{IsQuery, names_both, both_tell, names_meeting, names_three, numbered_tell, one_tells}
-use Rattle.desk_statements.proofs.Frames.{wide}
+use Rattle.desk_statements.proofs.Frames.{wide_one}
 use Rattle.sqlite.specs.Schema.{Schema}
 
 abbrev shows : List Term
@@ -38,9 +38,9 @@ names_in cells x h =
 abbrev cast_by_text : List ℕ
 cast_by_text = codes "SELECT meeting, resolution, voter, capacity, member, first, last, way, moment FROM casts WHERE meeting = ?1 AND voter = ?2 ORDER BY seq"
 
-cast_by_asks : (s : Schema) → HasTables layout_one s → AsksAs s cast_by_text (sought 24 (names_both 2 4) shows) names
+cast_by_asks : (s : Schema) → HasTables layout_two s → AsksAs s cast_by_text (sought 24 (names_both 2 4) shows) names
 unfolding understood everything
-cast_by_asks = wide (λ s. AsksAs s cast_by_text (sought 24 (names_both 2 4) shows) names) (λ others apart indexes views. record { is = refl; plain = (refl, refl); unlisted = refl })
+cast_by_asks = wide_one (λ s. AsksAs s cast_by_text (sought 24 (names_both 2 4) shows) names) (λ others apart indexes views. record { is = refl; plain = (refl, refl); unlisted = refl })
 
 -- the rows of the meeting and of the voter
 pub cast_by : (m meeting n party : List ℕ) → meeting_of meeting ≡ Some m → party_of party ≡ Some n
@@ -60,9 +60,9 @@ cast_by m meeting n party meeting_is party_is = record {
 abbrev of_meeting_text : List ℕ
 of_meeting_text = codes "SELECT meeting, resolution, voter, capacity, member, first, last, way, moment FROM casts WHERE meeting = ?1 ORDER BY seq"
 
-of_meeting_asks : (s : Schema) → HasTables layout_one s → AsksAs s of_meeting_text (sought 24 (names_meeting 2) shows) names
+of_meeting_asks : (s : Schema) → HasTables layout_two s → AsksAs s of_meeting_text (sought 24 (names_meeting 2) shows) names
 unfolding understood everything
-of_meeting_asks = wide (λ s. AsksAs s of_meeting_text (sought 24 (names_meeting 2) shows) names) (λ others apart indexes views. record { is = refl; plain = (refl, refl); unlisted = refl })
+of_meeting_asks = wide_one (λ s. AsksAs s of_meeting_text (sought 24 (names_meeting 2) shows) names) (λ others apart indexes views. record { is = refl; plain = (refl, refl); unlisted = refl })
 
 -- the rows of the meeting
 pub of_meeting : (m meeting : List ℕ) → meeting_of meeting ≡ Some m → IsQuery casts of_meeting_text (Text meeting ∷ []) (λ x. same_name x.meeting m)
@@ -81,9 +81,9 @@ of_meeting m meeting meeting_is = record {
 abbrev cast_on_text : List ℕ
 cast_on_text = codes "SELECT meeting, resolution, voter, capacity, member, first, last, way, moment FROM casts WHERE meeting = ?1 AND voter = ?2 AND resolution = ?3 ORDER BY seq"
 
-cast_on_asks : (s : Schema) → HasTables layout_one s → AsksAs s cast_on_text (sought 24 (names_three 2 4 3) shows) names
+cast_on_asks : (s : Schema) → HasTables layout_two s → AsksAs s cast_on_text (sought 24 (names_three 2 4 3) shows) names
 unfolding understood everything
-cast_on_asks = wide (λ s. AsksAs s cast_on_text (sought 24 (names_three 2 4 3) shows) names) (λ others apart indexes views. record { is = refl; plain = (refl, refl); unlisted = refl })
+cast_on_asks = wide_one (λ s. AsksAs s cast_on_text (sought 24 (names_three 2 4 3) shows) names) (λ others apart indexes views. record { is = refl; plain = (refl, refl); unlisted = refl })
 
 -- the rows of the meeting, of the voter and on the resolution
 pub cast_on : (m meeting n party : List ℕ) (z : ℤ) (k : ℕ) → meeting_of meeting ≡ Some m → party_of party ≡ Some n → natural_of z ≡ Some k

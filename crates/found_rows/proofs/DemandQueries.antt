@@ -1,4 +1,4 @@
--- What is found in `demands`.
+-- What is found in `demands2`.
 use Rattle.std.proofs.Common.{◌≡◌, ℕ, List, [], ◌∷◌, codes, Some, refl, ◌∙◌, ◌&&◌}
 use Rattle.sqlite.specs.declared.types.Value.TheVariants.{Text}
 use Rattle.sqlite.specs.Order.{Row}
@@ -12,56 +12,57 @@ use Rattle.desk_rows.specs.Marks.{demand_mark_in}
 use Rattle.desk_rows.proofs.MeaningLemmas.{bound, option_ap}
 use Rattle.desk_terms.specs.Names.{meeting_of, party_of, same_name}
 use Rattle.desk_schema.specs.Contents.{demands}
-use Rattle.desk_schema.specs.Statements.{columns_of, HasTables, layout_one}
+use Rattle.desk_schema.specs.Statements.{columns_of, HasTables, layout_two}
 use Rattle.desk_statements.proofs.Reading.{sought, AsksAs}
 use Rattle.found_rows.proofs.Queries.{IsQuery, names_both, both_tell, names_meeting, one_tells}
 use Rattle.desk_statements.proofs.Frames.{wide}
 use Rattle.sqlite.specs.Schema.{Schema}
 
 abbrev shows : List Term
-shows = col 1 2 ∷ col 1 3 ∷ col 1 4 ∷ col 1 5 ∷ []
+shows = col 1 2 ∷ col 1 3 ∷ col 1 4 ∷ col 1 5 ∷ col 1 6 ∷ []
 
 abbrev names : List (List ℕ)
-names = codes "meeting" ∷ codes "resolution" ∷ codes "party" ∷ codes "moment" ∷ []
+names = codes "meeting" ∷ codes "session" ∷ codes "resolution" ∷ codes "party" ∷ codes "moment" ∷ []
 
 -- what a row names
-names_in : (cells : Row) (x : InMeeting DemandMark) → demand_mark_in cells ≡ Some x → (spelled meeting_of cells 0 ≡ Some x.meeting) × (spelled party_of cells 2 ≡ Some x.item.party)
+names_in : (cells : Row) (x : InMeeting DemandMark) → demand_mark_in cells ≡ Some x → (spelled meeting_of cells 0 ≡ Some x.meeting) × (spelled party_of cells 3 ≡ Some x.item.party)
 unfolding demand_mark_in
 names_in cells x h =
     let meeting = bound (spelled meeting_of cells 0) _ x h in
-    let resolution = bound (number_in cells 1) _ x meeting.2 in
-    let party = bound (spelled party_of cells 2) _ x resolution.2 in
-    let moment = bound (moment_in cells 3) _ x party.2 in
+    let session = bound (number_in cells 1) _ x meeting.2 in
+    let resolution = bound (number_in cells 2) _ x session.2 in
+    let party = bound (spelled party_of cells 3) _ x resolution.2 in
+    let moment = bound (moment_in cells 4) _ x party.2 in
     (meeting.1 ∙ option_ap (λ (y : InMeeting DemandMark). y.meeting) moment.2, party.1 ∙ option_ap (λ (y : InMeeting DemandMark). y.item.party) moment.2)
 
 abbrev made_by_text : List ℕ
-made_by_text = codes "SELECT meeting, resolution, party, moment FROM demands WHERE meeting = ?1 AND party = ?2 ORDER BY seq"
+made_by_text = codes "SELECT meeting, session, resolution, party, moment FROM demands2 WHERE meeting = ?1 AND party = ?2 ORDER BY seq"
 
-made_by_asks : (s : Schema) → HasTables layout_one s → AsksAs s made_by_text (sought 20 (names_both 2 4) shows) names
+made_by_asks : (s : Schema) → HasTables layout_two s → AsksAs s made_by_text (sought 33 (names_both 2 5) shows) names
 unfolding understood everything
-made_by_asks = wide (λ s. AsksAs s made_by_text (sought 20 (names_both 2 4) shows) names) (λ others apart indexes views. record { is = refl; plain = (refl, refl); unlisted = refl })
+made_by_asks = wide (λ s. AsksAs s made_by_text (sought 33 (names_both 2 5) shows) names) (λ others apart indexes views. record { is = refl; plain = (refl, refl); unlisted = refl })
 
 -- the rows of the meeting and of the party
 pub made_by : (m meeting n party : List ℕ) → meeting_of meeting ≡ Some m → party_of party ≡ Some n
     → IsQuery demands made_by_text (Text meeting ∷ Text party ∷ []) (λ x. same_name x.meeting m && same_name x.item.party n)
 unfolding spelled
 made_by m meeting n party meeting_is party_is = record {
-  tests = names_both 2 4;
+  tests = names_both 2 5;
   project = shows;
   names = names;
   asks = made_by_asks;
   none = refl;
   numbered = refl;
   columns = λ cells. refl;
-  same = λ cells x h. let of = names_in (columns_of demands cells) x h in both_tell cells 2 4 meeting m party n x.meeting x.item.party of.0 meeting_is of.1 party_is;
+  same = λ cells x h. let of = names_in (columns_of demands cells) x h in both_tell cells 2 5 meeting m party n x.meeting x.item.party of.0 meeting_is of.1 party_is;
 }
 
 abbrev of_meeting_text : List ℕ
-of_meeting_text = codes "SELECT meeting, resolution, party, moment FROM demands WHERE meeting = ?1 ORDER BY seq"
+of_meeting_text = codes "SELECT meeting, session, resolution, party, moment FROM demands2 WHERE meeting = ?1 ORDER BY seq"
 
-of_meeting_asks : (s : Schema) → HasTables layout_one s → AsksAs s of_meeting_text (sought 20 (names_meeting 2) shows) names
+of_meeting_asks : (s : Schema) → HasTables layout_two s → AsksAs s of_meeting_text (sought 33 (names_meeting 2) shows) names
 unfolding understood everything
-of_meeting_asks = wide (λ s. AsksAs s of_meeting_text (sought 20 (names_meeting 2) shows) names) (λ others apart indexes views. record { is = refl; plain = (refl, refl); unlisted = refl })
+of_meeting_asks = wide (λ s. AsksAs s of_meeting_text (sought 33 (names_meeting 2) shows) names) (λ others apart indexes views. record { is = refl; plain = (refl, refl); unlisted = refl })
 
 -- the rows of the meeting
 pub of_meeting : (m meeting : List ℕ) → meeting_of meeting ≡ Some m → IsQuery demands of_meeting_text (Text meeting ∷ []) (λ x. same_name x.meeting m)

@@ -1,5 +1,6 @@
 pub mod Queries
 pub mod AppointmentQueries
+pub mod Asking
 pub mod AuthorityQueries
 pub mod CastQueries
 pub mod DemandQueries
@@ -9,3 +10,4 @@ pub mod PollQueries
 pub mod PresenceQueries
 pub mod RegisterQueries
 pub mod ResolutionQueries
+pub mod SessionQueries

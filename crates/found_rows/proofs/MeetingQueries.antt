@@ -12,10 +12,10 @@ use Rattle.desk_terms.specs.Kinds.{company_of, meeting_kind_of}
 use Rattle.desk_rows.proofs.MeaningLemmas.{bound, option_ap}
 use Rattle.desk_terms.specs.Names.{meeting_of, same_name}
 use Rattle.desk_schema.specs.Contents.{meetings}
-use Rattle.desk_schema.specs.Statements.{columns_of, HasTables, layout_one}
+use Rattle.desk_schema.specs.Statements.{columns_of, HasTables, layout_two}
 use Rattle.desk_statements.proofs.Reading.{sought, AsksAs}
 use Rattle.found_rows.proofs.Queries.{IsQuery, names_meeting, one_tells}
-use Rattle.desk_statements.proofs.Frames.{wide}
+use Rattle.desk_statements.proofs.Frames.{wide_one}
 use Rattle.sqlite.specs.Schema.{Schema}
 
 abbrev shows : List Term
@@ -41,9 +41,9 @@ names_in cells x h =
 abbrev named_text : List ℕ
 named_text = codes "SELECT meeting, company, kind, given, appointed, record, loaded, opened FROM meetings WHERE meeting = ?1 ORDER BY seq"
 
-named_asks : (s : Schema) → HasTables layout_one s → AsksAs s named_text (sought 5 (names_meeting 2) shows) names
+named_asks : (s : Schema) → HasTables layout_two s → AsksAs s named_text (sought 5 (names_meeting 2) shows) names
 unfolding understood everything
-named_asks = wide (λ s. AsksAs s named_text (sought 5 (names_meeting 2) shows) names) (λ others apart indexes views. record { is = refl; plain = (refl, refl); unlisted = refl })
+named_asks = wide_one (λ s. AsksAs s named_text (sought 5 (names_meeting 2) shows) names) (λ others apart indexes views. record { is = refl; plain = (refl, refl); unlisted = refl })
 
 -- the rows of the meeting
 pub named : (m meeting : List ℕ) → meeting_of meeting ≡ Some m → IsQuery meetings named_text (Text meeting ∷ []) (λ x. same_name x.id m)

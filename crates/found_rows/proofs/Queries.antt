@@ -18,7 +18,7 @@ use Rattle.sqlite_sql.specs.declared.ops.CompareOp.TheVariants.{Eq}
 use Rattle.sqlite_trees.specs.declared.store.Store as store
 use Rattle.desk_terms.specs.Names.{in_places, is_name, is_party, meeting_of, party_of, same_name}
 use Rattle.desk_rows.specs.Columns.{natural_of, natural_value, spelled_of}
-use Rattle.desk_schema.specs.Statements.{ChangesNothing, FindsRecords, HasTables, IsRead, TableOf, columns_of, has_table, layout_one}
+use Rattle.desk_schema.specs.Statements.{ChangesNothing, FindsRecords, HasTables, IsRead, TableOf, columns_of, has_table, layout_two}
 use Rattle.desk_statements.proofs.Commits.{query_keeps, query_opened}
 use Rattle.desk_statements.proofs.Deleting.{passes}
 use Rattle.desk_statements.proofs.Reading.{AsksAs, finds, sought}
@@ -77,9 +77,9 @@ pub record IsQuery {A : Type 0} (it : TableOf A) (sql : List ℕ) (params : Row)
   pub tests : List Term
   pub project : List Term
   pub names : List (List ℕ)
-  pub asks : (s : Schema) → HasTables layout_one s → AsksAs s sql (sought it.number tests project) names
+  pub asks : (s : Schema) → HasTables layout_two s → AsksAs s sql (sought it.number tests project) names
   pub none : given_at [] it.number ≡ None
-  pub numbered : IsTrue (has_table layout_one it.number)
+  pub numbered : IsTrue (has_table layout_two it.number)
   pub columns : (row : Row) → eval_all project (params ∷ row ∷ []) ≡ columns_of it row
   pub same : (row : Row) (x : A) → it.means (columns_of it row) ≡ Some x → passes tests params row ≡ test x
 
@@ -87,7 +87,7 @@ module _ {S V A : Type 0} (g : store.Ghosts S) (a b : Held S) (items : V → Lis
     (ok : HasCleanDisk (state g b) → IfOk r (λ v. Shown sql params (state g a) (state g b) (items v))) where
   pub finds_rows : IsRead g a b → IfOk r (λ v. FindsRecords g a b it test (items v))
   finds_rows read =
-      finds layout_one items it q.tests q.project q.names sql params test q.asks q.none q.numbered q.columns q.same (state g a) (state g b) r read.1 (ok read.0)
+      finds layout_two items it q.tests q.project q.names sql params test q.asks q.none q.numbered q.columns q.same (state g a) (state g b) r read.1 (ok read.0)
 
   pub nothing_changed : (HasCleanDisk (state g b) → IfErr r (λ e. FailsToQuery sql params (state g a) (state g b) e ⊎ IsTooLate sql params (state g a) (state g b) e))
       → Survives (state g a) (state g b) (λ _. ⊥) → ChangesNothing g a b

@@ -13,10 +13,10 @@ use Rattle.desk_terms.specs.Kinds.{holder_kind_of}
 use Rattle.desk_rows.proofs.MeaningLemmas.{bound, option_ap}
 use Rattle.desk_terms.specs.Names.{meeting_of, party_of, same_name}
 use Rattle.desk_schema.specs.Contents.{register}
-use Rattle.desk_schema.specs.Statements.{columns_of, HasTables, layout_one}
+use Rattle.desk_schema.specs.Statements.{columns_of, HasTables, layout_two}
 use Rattle.desk_statements.proofs.Reading.{sought, AsksAs}
 use Rattle.found_rows.proofs.Queries.{IsQuery, names_both, both_tell, names_meeting, one_tells}
-use Rattle.desk_statements.proofs.Frames.{wide}
+use Rattle.desk_statements.proofs.Frames.{wide_one}
 use Rattle.sqlite.specs.Schema.{Schema}
 
 abbrev shows : List Term
@@ -40,9 +40,9 @@ names_in cells x h =
 abbrev of_member_text : List ℕ
 of_member_text = codes "SELECT meeting, member, kind, name, shares, paid FROM register WHERE meeting = ?1 AND member = ?2 ORDER BY rowid"
 
-of_member_asks : (s : Schema) → HasTables layout_one s → AsksAs s of_member_text (sought 10 (names_both 1 2) shows) names
+of_member_asks : (s : Schema) → HasTables layout_two s → AsksAs s of_member_text (sought 10 (names_both 1 2) shows) names
 unfolding understood everything
-of_member_asks = wide (λ s. AsksAs s of_member_text (sought 10 (names_both 1 2) shows) names) (λ others apart indexes views. record { is = refl; plain = (refl, refl); unlisted = refl })
+of_member_asks = wide_one (λ s. AsksAs s of_member_text (sought 10 (names_both 1 2) shows) names) (λ others apart indexes views. record { is = refl; plain = (refl, refl); unlisted = refl })
 
 -- the rows of the meeting and of the member
 pub of_member : (m meeting n party : List ℕ) → meeting_of meeting ≡ Some m → party_of party ≡ Some n
@@ -62,9 +62,9 @@ of_member m meeting n party meeting_is party_is = record {
 abbrev of_meeting_text : List ℕ
 of_meeting_text = codes "SELECT meeting, member, kind, name, shares, paid FROM register WHERE meeting = ?1 ORDER BY rowid"
 
-of_meeting_asks : (s : Schema) → HasTables layout_one s → AsksAs s of_meeting_text (sought 10 (names_meeting 1) shows) names
+of_meeting_asks : (s : Schema) → HasTables layout_two s → AsksAs s of_meeting_text (sought 10 (names_meeting 1) shows) names
 unfolding understood everything
-of_meeting_asks = wide (λ s. AsksAs s of_meeting_text (sought 10 (names_meeting 1) shows) names) (λ others apart indexes views. record { is = refl; plain = (refl, refl); unlisted = refl })
+of_meeting_asks = wide_one (λ s. AsksAs s of_meeting_text (sought 10 (names_meeting 1) shows) names) (λ others apart indexes views. record { is = refl; plain = (refl, refl); unlisted = refl })
 
 -- the rows of the meeting
 pub of_meeting : (m meeting : List ℕ) → meeting_of meeting ≡ Some m → IsQuery register of_meeting_text (Text meeting ∷ []) (λ x. same_name x.meeting m)

@@ -6,17 +6,18 @@ use Rattle.sqlite.specs.Term.{Term, col}
 use Rattle.sqlite_tied.specs.Compute.{everything}
 use Rattle.sqlite.specs.Listing.{understood}
 use Rattle.desk_rows.specs.declared.kept.InMeeting.{InMeeting}
-use Rattle.desk_rows.specs.declared.kept.NumberedResolution.{NumberedResolution}
+use Rattle.desk_rows.specs.declared.kept.Numbered.{Numbered}
+use Rattle.desk_words.specs.declared.records.Resolution.{Resolution}
 use Rattle.desk_rows.specs.Columns.{spelled, worded, number_in, plain_text_of}
 use Rattle.desk_rows.specs.Meetings.{resolution_in}
 use Rattle.desk_terms.specs.Kinds.{resolution_kind_of}
 use Rattle.desk_rows.proofs.MeaningLemmas.{bound, option_ap}
 use Rattle.desk_terms.specs.Names.{meeting_of, same_name}
 use Rattle.desk_schema.specs.Contents.{resolutions}
-use Rattle.desk_schema.specs.Statements.{columns_of, HasTables, layout_one}
+use Rattle.desk_schema.specs.Statements.{columns_of, HasTables, layout_two}
 use Rattle.desk_statements.proofs.Reading.{sought, AsksAs}
 use Rattle.found_rows.proofs.Queries.{IsQuery, names_meeting, one_tells}
-use Rattle.desk_statements.proofs.Frames.{wide}
+use Rattle.desk_statements.proofs.Frames.{wide_one}
 use Rattle.sqlite.specs.Schema.{Schema}
 
 abbrev shows : List Term
@@ -26,21 +27,21 @@ abbrev names : List (List ℕ)
 names = codes "meeting" ∷ codes "number" ∷ codes "kind" ∷ codes "body" ∷ []
 
 -- what a row names
-names_in : (cells : Row) (x : InMeeting NumberedResolution) → resolution_in cells ≡ Some x → spelled meeting_of cells 0 ≡ Some x.meeting
+names_in : (cells : Row) (x : InMeeting (Numbered Resolution)) → resolution_in cells ≡ Some x → spelled meeting_of cells 0 ≡ Some x.meeting
 unfolding resolution_in
 names_in cells x h =
     let meeting = bound (spelled meeting_of cells 0) _ x h in
     let number = bound (number_in cells 1) _ x meeting.2 in
     let kind = bound (worded resolution_kind_of cells 2) _ x number.2 in
     let text = bound (worded plain_text_of cells 3) _ x kind.2 in
-    meeting.1 ∙ option_ap (λ (y : InMeeting NumberedResolution). y.meeting) text.2
+    meeting.1 ∙ option_ap (λ (y : InMeeting (Numbered Resolution)). y.meeting) text.2
 
 abbrev of_meeting_text : List ℕ
 of_meeting_text = codes "SELECT meeting, number, kind, body FROM resolutions WHERE meeting = ?1 ORDER BY rowid"
 
-of_meeting_asks : (s : Schema) → HasTables layout_one s → AsksAs s of_meeting_text (sought 8 (names_meeting 1) shows) names
+of_meeting_asks : (s : Schema) → HasTables layout_two s → AsksAs s of_meeting_text (sought 8 (names_meeting 1) shows) names
 unfolding understood everything
-of_meeting_asks = wide (λ s. AsksAs s of_meeting_text (sought 8 (names_meeting 1) shows) names) (λ others apart indexes views. record { is = refl; plain = (refl, refl); unlisted = refl })
+of_meeting_asks = wide_one (λ s. AsksAs s of_meeting_text (sought 8 (names_meeting 1) shows) names) (λ others apart indexes views. record { is = refl; plain = (refl, refl); unlisted = refl })
 
 -- the rows of the meeting
 pub of_meeting : (m meeting : List ℕ) → meeting_of meeting ≡ Some m → IsQuery resolutions of_meeting_text (Text meeting ∷ []) (λ x. same_name x.meeting m)

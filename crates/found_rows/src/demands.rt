@@ -22,7 +22,7 @@ pub fn made_by<S: Alter>(
     ensures changes { ChangesNothing S.Store tx.old.conn.now tx.new.conn.now }
 {
     tx.query_all(
-        "SELECT meeting, resolution, party, moment FROM demands WHERE meeting = ?1 AND party = ?2 ORDER BY seq",
+        "SELECT meeting, session, resolution, party, moment FROM demands2 WHERE meeting = ?1 AND party = ?2 ORDER BY seq",
         params![meeting_text(&meeting), party_text(&party)],
     )
 }

@@ -13,3 +13,4 @@ pub mod polls;
 pub mod presences;
 pub mod register;
 pub mod resolutions;
+pub mod sessions;

@@ -91,7 +91,7 @@ pub fn presences<S: Alter>(
     ensures changes { ChangesNothing S.Store tx.old.conn.now tx.new.conn.now }
 {
     tx.query_all(
-        "SELECT meeting, party, moment FROM presences WHERE meeting = ?1 ORDER BY seq",
+        "SELECT meeting, session, party, moment FROM presences2 WHERE meeting = ?1 ORDER BY seq",
         params![meeting_text(&meeting)],
     )
 }
@@ -106,7 +106,7 @@ pub fn demands<S: Alter>(tx: &mut Transaction<'_, S>, meeting: MeetingId) -> Res
     ensures changes { ChangesNothing S.Store tx.old.conn.now tx.new.conn.now }
 {
     tx.query_all(
-        "SELECT meeting, resolution, party, moment FROM demands WHERE meeting = ?1 ORDER BY seq",
+        "SELECT meeting, session, resolution, party, moment FROM demands2 WHERE meeting = ?1 ORDER BY seq",
         params![meeting_text(&meeting)],
     )
 }

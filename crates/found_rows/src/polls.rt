@@ -21,7 +21,7 @@ pub fn of_meeting<S: Alter>(
     ensures changes { ChangesNothing S.Store tx.old.conn.now tx.new.conn.now }
 {
     tx.query_all(
-        "SELECT meeting, resolution, ordered, take, chair, started, closed, votes_for, votes_against, withheld, eligible FROM polls WHERE meeting = ?1 ORDER BY rowid",
+        "SELECT meeting, session, resolution, ordered, take, chair, started, closed, votes_for, votes_against, withheld, eligible FROM polls2 WHERE meeting = ?1 ORDER BY rowid",
         params![meeting_text(&meeting)],
     )
 }

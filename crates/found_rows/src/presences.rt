@@ -8,7 +8,7 @@ use desk_rows::{meeting_text, party_text};
 use desk_words::{MeetingId, Party};
 use sqlite::{Alter, Error, Row, Transaction, params};
 
-/// The row of the presence of a party at a meeting, of which there is one at most.
+/// The rows of the presences of a party at the sessions of a meeting, in order of receipt.
 pub fn of_party<S: Alter>(
     tx: &mut Transaction<'_, S>,
     meeting: MeetingId,
@@ -22,7 +22,7 @@ pub fn of_party<S: Alter>(
     ensures changes { ChangesNothing S.Store tx.old.conn.now tx.new.conn.now }
 {
     tx.query_all(
-        "SELECT meeting, party, moment FROM presences WHERE meeting = ?1 AND party = ?2 ORDER BY seq",
+        "SELECT meeting, session, party, moment FROM presences2 WHERE meeting = ?1 AND party = ?2 ORDER BY seq",
         params![meeting_text(&meeting), party_text(&party)],
     )
 }

@@ -13,32 +13,32 @@ use Rattle.desk_terms.specs.Places.{range_of}
 use Rattle.desk_schema.specs.Tables.{up_to_register, appointments_table as table}
 use Rattle.desk_schema.specs.Texts.{adding_text, filed_text}
 use Rattle.desk_schema.specs.Contents.{appointments}
-use Rattle.desk_schema.specs.Statements.{layout_one, HasTables}
+use Rattle.desk_schema.specs.Statements.{layout_two, HasTables}
 use Rattle.desk_statements.proofs.Adding.{AddsBy, AddsGiven, adds_given}
 use Rattle.desk_statements.proofs.Listing.{ListsTable, ListsAs}
 use Rattle.desk_statements.proofs.Making.{MakesTable}
 use Rattle.desk_statements.proofs.Values.{cast_int, cast_null}
-use Rattle.desk_statements.proofs.Frames.{ones_apart, wide}
+use Rattle.desk_statements.proofs.Frames.{twos_apart, wide_one}
 use Rattle.sqlite.specs.Schema.{Schema}
 
 pub makes : MakesTable up_to_register (filed_text table) table
 unfolding understood everything Rattle.sqlite_schema.specs.Names.same_name
 makes = record { is = refl; alone = refl; plain = (refl, refl); defined = refl; full = refl }
 
-adds : (s : Schema) → HasTables layout_one s → AddsGiven layout_one s appointments table
+adds : (s : Schema) → HasTables layout_two s → AddsGiven layout_two s appointments table
 unfolding understood everything
-adds = wide (λ s. AddsGiven layout_one s appointments table) (λ others apart indexes views. record { place = 7; is = refl; plain = (refl, refl); there = refl; numbered = refl })
+adds = wide_one (λ s. AddsGiven layout_two s appointments table) (λ others apart indexes views. record { place = 7; is = refl; plain = (refl, refl); there = refl; numbered = refl })
 
-pub lists : ListsTable layout_one appointments table
+pub lists : ListsTable layout_two appointments table
 unfolding understood everything
-lists = record { asks = wide (ListsAs appointments table) (λ others apart indexes views. record { is = refl; plain = (refl, refl); unlisted = refl }); none = refl; numbered = refl }
+lists = record { asks = wide_one (ListsAs appointments table) (λ others apart indexes views. record { is = refl; plain = (refl, refl); unlisted = refl }); none = refl; numbered = refl }
 
 module _ (m : List ℕ) (a : Appointment) (meeting : List ℕ) (member : List ℕ) (number : ℤ) (proxy : List ℕ) (first : ℤ) (last : ℤ) (letters : List ℕ) (moment : ℤ) where
   abbrev pub values : Row
   values = Text meeting ∷ Text member ∷ Int number ∷ Text proxy ∷ Int first ∷ Int last ∷ Text letters ∷ Int moment ∷ []
 
   pub adds_appointment : meeting_of meeting ≡ Some m → party_of member ≡ Some a.member → natural_of number ≡ Some a.number → party_of proxy ≡ Some a.proxy → natural_of first ≡ Some a.range.from → natural_of last ≡ Some a.range.to → range_of a.range.from a.range.to ≡ Some a.range → instructions_of letters ≡ Some a.instructions → moment_of_number moment ≡ Some a.moment
-      → AddsBy layout_one appointments (adding_text table) values (record { meeting = m; item = a })
+      → AddsBy layout_two appointments (adding_text table) values (record { meeting = m; item = a })
   unfolding appointment_in moment_in number_in spelled
   adds_appointment meeting_is member_is number_is proxy_is first_is last_is range_is letters_is moment_is =
-      adds_given ones_apart adds values (Null ∷ values) (record { meeting = m; item = a }) (rw (cast_null, cast_int number, cast_int first, cast_int last, cast_int moment) refl) (λ id. rw (meeting_is, member_is, number_is, proxy_is, first_is, last_is, range_is, letters_is, moment_is) refl)
+      adds_given twos_apart adds values (Null ∷ values) (record { meeting = m; item = a }) (rw (cast_null, cast_int number, cast_int first, cast_int last, cast_int moment) refl) (λ id. rw (meeting_is, member_is, number_is, proxy_is, first_is, last_is, range_is, letters_is, moment_is) refl)

@@ -11,32 +11,32 @@ use Rattle.desk_terms.specs.Names.{meeting_of, party_of}
 use Rattle.desk_schema.specs.Tables.{up_to_endings, authorities_table as table}
 use Rattle.desk_schema.specs.Texts.{adding_text, filed_text}
 use Rattle.desk_schema.specs.Contents.{authorities}
-use Rattle.desk_schema.specs.Statements.{layout_one, HasTables}
+use Rattle.desk_schema.specs.Statements.{layout_two, HasTables}
 use Rattle.desk_statements.proofs.Adding.{AddsBy, AddsGiven, adds_given}
 use Rattle.desk_statements.proofs.Listing.{ListsTable, ListsAs}
 use Rattle.desk_statements.proofs.Making.{MakesTable}
 use Rattle.desk_statements.proofs.Values.{cast_int, cast_null}
-use Rattle.desk_statements.proofs.Frames.{ones_apart, wide}
+use Rattle.desk_statements.proofs.Frames.{twos_apart, wide_one}
 use Rattle.sqlite.specs.Schema.{Schema}
 
 pub makes : MakesTable up_to_endings (filed_text table) table
 unfolding understood everything Rattle.sqlite_schema.specs.Names.same_name
 makes = record { is = refl; alone = refl; plain = (refl, refl); defined = refl; full = refl }
 
-adds : (s : Schema) → HasTables layout_one s → AddsGiven layout_one s authorities table
+adds : (s : Schema) → HasTables layout_two s → AddsGiven layout_two s authorities table
 unfolding understood everything
-adds = wide (λ s. AddsGiven layout_one s authorities table) (λ others apart indexes views. record { place = 9; is = refl; plain = (refl, refl); there = refl; numbered = refl })
+adds = wide_one (λ s. AddsGiven layout_two s authorities table) (λ others apart indexes views. record { place = 9; is = refl; plain = (refl, refl); there = refl; numbered = refl })
 
-pub lists : ListsTable layout_one authorities table
+pub lists : ListsTable layout_two authorities table
 unfolding understood everything
-lists = record { asks = wide (ListsAs authorities table) (λ others apart indexes views. record { is = refl; plain = (refl, refl); unlisted = refl }); none = refl; numbered = refl }
+lists = record { asks = wide_one (ListsAs authorities table) (λ others apart indexes views. record { is = refl; plain = (refl, refl); unlisted = refl }); none = refl; numbered = refl }
 
 module _ (m : List ℕ) (x : Authority) (meeting : List ℕ) (corporation : List ℕ) (person : List ℕ) (moment : ℤ) where
   abbrev pub values : Row
   values = Text meeting ∷ Text corporation ∷ Text person ∷ Int moment ∷ []
 
   pub adds_authority : meeting_of meeting ≡ Some m → party_of corporation ≡ Some x.corporation → party_of person ≡ Some x.person → moment_of_number moment ≡ Some x.moment
-      → AddsBy layout_one authorities (adding_text table) values (record { meeting = m; item = x })
+      → AddsBy layout_two authorities (adding_text table) values (record { meeting = m; item = x })
   unfolding authority_in moment_in spelled
   adds_authority meeting_is corporation_is person_is moment_is =
-      adds_given ones_apart adds values (Null ∷ values) (record { meeting = m; item = x }) (rw (cast_null, cast_int moment) refl) (λ id. rw (meeting_is, corporation_is, person_is, moment_is) refl)
+      adds_given twos_apart adds values (Null ∷ values) (record { meeting = m; item = x }) (rw (cast_null, cast_int moment) refl) (λ id. rw (meeting_is, corporation_is, person_is, moment_is) refl)

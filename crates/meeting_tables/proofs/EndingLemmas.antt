@@ -11,32 +11,32 @@ use Rattle.desk_terms.specs.Names.{meeting_of, party_of}
 use Rattle.desk_schema.specs.Tables.{up_to_appointments, endings_table as table}
 use Rattle.desk_schema.specs.Texts.{adding_text, filed_text}
 use Rattle.desk_schema.specs.Contents.{endings}
-use Rattle.desk_schema.specs.Statements.{layout_one, HasTables}
+use Rattle.desk_schema.specs.Statements.{layout_two, HasTables}
 use Rattle.desk_statements.proofs.Adding.{AddsBy, AddsGiven, adds_given}
 use Rattle.desk_statements.proofs.Listing.{ListsTable, ListsAs}
 use Rattle.desk_statements.proofs.Making.{MakesTable}
 use Rattle.desk_statements.proofs.Values.{cast_int, cast_null}
-use Rattle.desk_statements.proofs.Frames.{ones_apart, wide}
+use Rattle.desk_statements.proofs.Frames.{twos_apart, wide_one}
 use Rattle.sqlite.specs.Schema.{Schema}
 
 pub makes : MakesTable up_to_appointments (filed_text table) table
 unfolding understood everything Rattle.sqlite_schema.specs.Names.same_name
 makes = record { is = refl; alone = refl; plain = (refl, refl); defined = refl; full = refl }
 
-adds : (s : Schema) → HasTables layout_one s → AddsGiven layout_one s endings table
+adds : (s : Schema) → HasTables layout_two s → AddsGiven layout_two s endings table
 unfolding understood everything
-adds = wide (λ s. AddsGiven layout_one s endings table) (λ others apart indexes views. record { place = 8; is = refl; plain = (refl, refl); there = refl; numbered = refl })
+adds = wide_one (λ s. AddsGiven layout_two s endings table) (λ others apart indexes views. record { place = 8; is = refl; plain = (refl, refl); there = refl; numbered = refl })
 
-pub lists : ListsTable layout_one endings table
+pub lists : ListsTable layout_two endings table
 unfolding understood everything
-lists = record { asks = wide (ListsAs endings table) (λ others apart indexes views. record { is = refl; plain = (refl, refl); unlisted = refl }); none = refl; numbered = refl }
+lists = record { asks = wide_one (ListsAs endings table) (λ others apart indexes views. record { is = refl; plain = (refl, refl); unlisted = refl }); none = refl; numbered = refl }
 
 module _ (m : List ℕ) (x : Ending) (meeting : List ℕ) (member : List ℕ) (number : ℤ) (moment : ℤ) where
   abbrev pub values : Row
   values = Text meeting ∷ Text member ∷ Int number ∷ Int moment ∷ []
 
   pub adds_ending : meeting_of meeting ≡ Some m → party_of member ≡ Some x.member → natural_of number ≡ Some x.number → moment_of_number moment ≡ Some x.moment
-      → AddsBy layout_one endings (adding_text table) values (record { meeting = m; item = x })
+      → AddsBy layout_two endings (adding_text table) values (record { meeting = m; item = x })
   unfolding ending_in moment_in number_in spelled
   adds_ending meeting_is member_is number_is moment_is =
-      adds_given ones_apart adds values (Null ∷ values) (record { meeting = m; item = x }) (rw (cast_null, cast_int number, cast_int moment) refl) (λ id. rw (meeting_is, member_is, number_is, moment_is) refl)
+      adds_given twos_apart adds values (Null ∷ values) (record { meeting = m; item = x }) (rw (cast_null, cast_int number, cast_int moment) refl) (λ id. rw (meeting_is, member_is, number_is, moment_is) refl)

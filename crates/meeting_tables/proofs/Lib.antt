@@ -3,6 +3,10 @@ pub mod AuthorityLemmas
 pub mod CastLemmas
 pub mod DemandLemmas
 pub mod EndingLemmas
+pub mod FirstDemandLemmas
+pub mod FirstPollLemmas
+pub mod FirstPresenceLemmas
 pub mod IndexLemmas
 pub mod PollLemmas
 pub mod PresenceLemmas
+pub mod TypedLemmas

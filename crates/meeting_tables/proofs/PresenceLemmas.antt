@@ -1,42 +1,95 @@
 -- What the statements on `presences` do.
-use Rattle.std.proofs.Common.{◌≡◌, ℕ, ℤ, List, [], ◌∷◌, Some, refl}
+use Rattle.std.proofs.Common.{◌≡◌, ℕ, ℤ, pos, List, [], ◌∷◌, drop, true, Some, Result, OnOk, IsTrue, refl, sym, subst}
 use Rattle.sqlite.specs.declared.types.Value.TheVariants.{Null, Int, Text}
-use Rattle.sqlite.specs.Order.{Row}
+use Rattle.sqlite.specs.Order.{Row, column}
 use Rattle.sqlite_tied.specs.Compute.{everything}
 use Rattle.sqlite.specs.Listing.{understood}
 use Rattle.desk_words.specs.declared.records.PresenceMark.{PresenceMark}
-use Rattle.desk_rows.specs.Columns.{moment_in, moment_of_number, spelled}
-use Rattle.desk_rows.specs.Marks.{presence_in}
+use Rattle.desk_rows.specs.Columns.{moment_in, moment_of_number, natural_of, number_in, spelled}
+use Rattle.desk_rows.specs.Marks.{presence_in, presence_one_in}
 use Rattle.desk_terms.specs.Names.{meeting_of, party_of}
-use Rattle.desk_schema.specs.Tables.{up_to_authorities, presences_table as table}
-use Rattle.desk_schema.specs.Texts.{adding_text, filed_text}
-use Rattle.desk_schema.specs.Contents.{presences}
-use Rattle.desk_schema.specs.Statements.{layout_one, HasTables}
+use Rattle.desk_schema.specs.Tables.{up_to_sessions, presences2_table as table, presences_table as first}
+use Rattle.desk_schema.specs.Texts.{adding_text, copying_text, filed_text}
+use Rattle.desk_schema.specs.Contents.{presences, presences_one}
+use Rattle.desk_schema.specs.Statements.{IsDesk, columns_of, layout_two, HasTables}
 use Rattle.desk_statements.proofs.Adding.{AddsBy, AddsGiven, adds_given}
 use Rattle.desk_statements.proofs.Listing.{ListsTable, ListsAs}
 use Rattle.desk_statements.proofs.Making.{MakesTable}
 use Rattle.desk_statements.proofs.Values.{cast_int, cast_null}
-use Rattle.desk_statements.proofs.Frames.{ones_apart, wide}
+use Rattle.desk_statements.proofs.Frames.{twos_apart, wide}
+use Rattle.sqlite.specs.Cast.{cast}
+use Rattle.sqlite.specs.Collation.TheVariants.{Binary}
+use Rattle.sqlite.specs.Edit.{id_in}
+use Rattle.sqlite.specs.Kind.TheVariants.{Integer, Text as Texts}
+use Rattle.sqlite.specs.State.{State, ExecutesInside}
+use Rattle.sqlite.specs.Tree.{rowid}
+use Rattle.sqlite.specs.declared.error.Error.{Error}
+use Rattle.sqlite_trees.specs.View.{is_int}
+use Rattle.desk_rows.proofs.MeaningLemmas.{bound}
+use Rattle.desk_rows.specs.declared.kept.InMeeting.{InMeeting}
+use Rattle.desk_schema.specs.Moving.{Copies, in_first_session}
+use Rattle.meeting_tables.specs.Copying.{CopiesTyped}
+use Rattle.meeting_tables.proofs.TypedLemmas.{KeepsTyped, integers_stay, row_stays, texts_stay, typed_copied}
+use Rattle.sqlite_schema.specs.Rules.{are_typed}
+use Rattle.std.specs.List.{AllByRecursion}
+use Rattle.desk_statements.proofs.Copying.{CopiesTable, table_copied}
+use Rattle.desk_statements.proofs.Seq.{is_its_id}
+use Rattle.desk_statements.proofs.Tests.{integer_stays, text_stays}
 use Rattle.sqlite.specs.Schema.{Schema}
 
-pub makes : MakesTable up_to_authorities (filed_text table) table
+pub makes : MakesTable up_to_sessions (filed_text table) table
 unfolding understood everything Rattle.sqlite_schema.specs.Names.same_name
 makes = record { is = refl; alone = refl; plain = (refl, refl); defined = refl; full = refl }
 
-adds : (s : Schema) → HasTables layout_one s → AddsGiven layout_one s presences table
+adds : (s : Schema) → HasTables layout_two s → AddsGiven layout_two s presences table
 unfolding understood everything
-adds = wide (λ s. AddsGiven layout_one s presences table) (λ others apart indexes views. record { place = 10; is = refl; plain = (refl, refl); there = refl; numbered = refl })
+adds = wide (λ s. AddsGiven layout_two s presences table) (λ others apart indexes views. record { place = 15; is = refl; plain = (refl, refl); there = refl; numbered = refl })
 
-pub lists : ListsTable layout_one presences table
+pub lists : ListsTable layout_two presences table
 unfolding understood everything
 lists = record { asks = wide (ListsAs presences table) (λ others apart indexes views. record { is = refl; plain = (refl, refl); unlisted = refl }); none = refl; numbered = refl }
 
-module _ (m : List ℕ) (x : PresenceMark) (meeting : List ℕ) (party : List ℕ) (moment : ℤ) where
+module _ (m : List ℕ) (x : PresenceMark) (meeting : List ℕ) (session : ℤ) (party : List ℕ) (moment : ℤ) where
   abbrev pub values : Row
-  values = Text meeting ∷ Text party ∷ Int moment ∷ []
+  values = Text meeting ∷ Int session ∷ Text party ∷ Int moment ∷ []
 
-  pub adds_presence : meeting_of meeting ≡ Some m → party_of party ≡ Some x.party → moment_of_number moment ≡ Some x.moment
-      → AddsBy layout_one presences (adding_text table) values (record { meeting = m; item = record x { session = 1 } })
-  unfolding presence_in moment_in spelled
-  adds_presence meeting_is party_is moment_is =
-      adds_given ones_apart adds values (Null ∷ values) (record { meeting = m; item = record x { session = 1 } }) (rw (cast_null, cast_int moment) refl) (λ id. rw (meeting_is, party_is, moment_is) refl)
+  pub adds_presence : meeting_of meeting ≡ Some m → natural_of session ≡ Some x.session → party_of party ≡ Some x.party → moment_of_number moment ≡ Some x.moment
+      → AddsBy layout_two presences (adding_text table) values (record { meeting = m; item = x })
+  unfolding presence_in moment_in number_in spelled
+  adds_presence meeting_is session_is party_is moment_is =
+      adds_given twos_apart adds values (Null ∷ values) (record { meeting = m; item = x }) (rw (cast_null, cast_int session, cast_int moment) refl) (λ id. rw (meeting_is, session_is, party_is, moment_is) refl)
+
+-- ---- the rows of version 1
+
+copy_text : (s : Schema) → HasTables layout_two s → CopiesTable presences_one presences first table s
+unfolding understood everything
+copy_text = wide (CopiesTable presences_one presences first table) (λ others apart indexes views. record { place = 15; by = Binary ∷ Binary ∷ Binary ∷ Binary ∷ Binary ∷ Binary ∷ []; is = refl; plain = (refl, refl); there = refl; numbered = refl; from_numbered = refl; none = refl; bare = refl })
+
+-- a row as it is copied
+abbrev copied : Row → Row
+copied row = cast Integer (rowid row) ∷ cast Integer Null ∷ cast Texts (column row 2) ∷ cast Integer (Int (pos 1)) ∷ cast Texts (column row 3) ∷ cast Integer (column row 4) ∷ []
+
+keeps_number : (row : Row) → IsTrue (is_int (rowid row)) → rowid (copied row) ≡ rowid row
+keeps_number row keyed = subst (λ v. cast Integer v ≡ v) (sym (is_its_id row keyed)) (cast_int (id_in (rowid row)))
+
+columns_copied : (row : Row) (x : InMeeting PresenceMark) → presences_one.means (columns_of presences_one row) ≡ Some x → columns_of presences (copied row) ≡ in_first_session (columns_of presences_one row)
+unfolding presence_one_in spelled moment_in
+columns_copied row x h =
+    let cells = columns_of presences_one row in
+    let meeting = bound (spelled meeting_of cells 0) _ x h in
+    let party = bound (spelled party_of cells 1) _ x meeting.2 in
+    let moment = bound (moment_in cells 2) _ x party.2 in
+    rw (text_stays meeting_of (column row 2) meeting.0 meeting.1, cast_int (pos 1), text_stays party_of (column row 3) party.0 party.1, integer_stays moment_of_number (column row 4) moment.0 moment.1) refl
+
+pub copies : (old new : State) (r : Result ℕ Error) → IsDesk old → IsTrue old.in_transaction → ExecutesInside 0 (copying_text first table) [] old new r → OnOk r (Copies presences_one presences old new)
+copies = table_copied copy_text copied (λ row. refl) keeps_number columns_copied
+
+-- whatever they mean, rows that obey their declaration are copied
+kinds : AllByRecursion KeepsTyped first.columns
+kinds = (record { strict = refl; stays = integers_stay }, (record { strict = refl; stays = texts_stay }, (record { strict = refl; stays = texts_stay }, (record { strict = refl; stays = integers_stay }, tt))))
+
+row_copied : (row : Row) → are_typed first.key 0 first.columns (drop 1 row) ≡ true → columns_of presences (copied row) ≡ in_first_session (columns_of presences_one row)
+row_copied row h = let k = row_stays first kinds row h in rw (k.1.0 refl, cast_int (pos 1), k.1.1.0 refl, k.1.1.1.0 refl) refl
+
+pub copies_typed : (old new : State) (r : Result ℕ Error) → IsDesk old → IsTrue old.in_transaction → ExecutesInside 0 (copying_text first table) [] old new r → OnOk r (CopiesTyped first presences_one presences old new)
+copies_typed = typed_copied copy_text copied (λ row. refl) keeps_number row_copied

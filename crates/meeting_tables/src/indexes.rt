@@ -1,8 +1,9 @@
-//! The indexes, by which a party's rows are found where its name is not among the first columns of
-//! a key of the table.
+//! The indexes, by which a party's rows and the votes on a resolution are found where their columns
+//! are not the first of a key of the table.
 ghost use Rattle.std.specs.Prelude.{◌≡◌};
 ghost use Rattle.desk_schema.specs.Statements.{CommitsNothing, Makes};
 ghost use Rattle.desk_schema.specs.Tables.{up_to_casts, up_to_appointments_by_proxy, up_to_authorities_by_person, up_to_demands_by_party, up_to_casts_by_voter};
+ghost use Rattle.desk_schema.specs.Tables.{up_to_polls2, up_to_presences2_by_party, up_to_demands2_by_party, up_to_casts_by_resolution};
 
 use sqlite::{Alter, Error, Transaction};
 
@@ -53,4 +54,43 @@ pub fn make_casts_by_voter<S: Alter>(tx: &mut Transaction<'_, S>) -> Result<usiz
     ensures commits { CommitsNothing S.Store tx.old.conn.now tx.new.conn.now }
 {
     tx.execute("CREATE INDEX casts_by_voter ON casts (meeting, voter)", &[])
+}
+
+/// Makes the index of the presences of version 2 by the party, after its tables.
+pub fn make_presences2_by_party<S: Alter>(tx: &mut Transaction<'_, S>) -> Result<usize, Error>
+    ensures same_reference { tx.new.conn.ghost_name ≡ tx.old.conn.ghost_name }
+    ensures made { Makes S.Store tx.old.conn.now tx.new.conn.now result up_to_polls2
+        up_to_presences2_by_party }
+    ensures commits { CommitsNothing S.Store tx.old.conn.now tx.new.conn.now }
+{
+    tx.execute(
+        "CREATE INDEX presences2_by_party ON presences2 (meeting, party)",
+        &[],
+    )
+}
+
+/// Makes the index of the demands of version 2 by the party, after that of presences.
+pub fn make_demands2_by_party<S: Alter>(tx: &mut Transaction<'_, S>) -> Result<usize, Error>
+    ensures same_reference { tx.new.conn.ghost_name ≡ tx.old.conn.ghost_name }
+    ensures made { Makes S.Store tx.old.conn.now tx.new.conn.now result up_to_presences2_by_party
+        up_to_demands2_by_party }
+    ensures commits { CommitsNothing S.Store tx.old.conn.now tx.new.conn.now }
+{
+    tx.execute(
+        "CREATE INDEX demands2_by_party ON demands2 (meeting, party)",
+        &[],
+    )
+}
+
+/// Makes the index of votes by the resolution and the voter, the last of all.
+pub fn make_casts_by_resolution<S: Alter>(tx: &mut Transaction<'_, S>) -> Result<usize, Error>
+    ensures same_reference { tx.new.conn.ghost_name ≡ tx.old.conn.ghost_name }
+    ensures made { Makes S.Store tx.old.conn.now tx.new.conn.now result up_to_demands2_by_party
+        up_to_casts_by_resolution }
+    ensures commits { CommitsNothing S.Store tx.old.conn.now tx.new.conn.now }
+{
+    tx.execute(
+        "CREATE INDEX casts_by_resolution ON casts (meeting, resolution, voter)",
+        &[],
+    )
 }

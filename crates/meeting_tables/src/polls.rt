@@ -1,8 +1,10 @@
-//! The table `polls`: the polls (section 321).
+//! The table `polls2`: the polls (section 321).
 ghost use Rattle.std.specs.Prelude.{◌≡◌, IfOk};
-ghost use Rattle.desk_schema.specs.Contents.{closed_at, declared_as, polls, started_at};
+ghost use Rattle.desk_schema.specs.Contents.{closed_at, declared_as, polls, polls_one, started_at};
+ghost use Rattle.desk_schema.specs.Moving.{Copies};
+ghost use Rattle.meeting_tables.specs.Copying.{CopiesTyped};
 ghost use Rattle.desk_schema.specs.Statements.{Adds, ChangesNothing, CommitsNothing, Does, IsRead, Makes, ReadsTable, Sets};
-ghost use Rattle.desk_schema.specs.Tables.{up_to_demands, up_to_polls};
+ghost use Rattle.desk_schema.specs.Tables.{polls_table, up_to_demands2, up_to_polls2};
 
 use desk_rows::{meeting_text, moment_number, some_moment_number};
 use desk_schema::PollName;
@@ -13,16 +15,17 @@ use sqlite::{Alter, Error, Row, Transaction, params};
 /// Makes the table, after that of demands.
 pub fn make<S: Alter>(tx: &mut Transaction<'_, S>) -> Result<usize, Error>
     ensures same_reference { tx.new.conn.ghost_name ≡ tx.old.conn.ghost_name }
-    ensures made { Makes S.Store tx.old.conn.now tx.new.conn.now result up_to_demands up_to_polls }
+    ensures made { Makes S.Store tx.old.conn.now tx.new.conn.now result up_to_demands2
+        up_to_polls2 }
     ensures commits { CommitsNothing S.Store tx.old.conn.now tx.new.conn.now }
 {
     tx.execute(
-        "CREATE TABLE polls (meeting TEXT NOT NULL REFERENCES meetings (meeting), resolution INTEGER NOT NULL, ordered INTEGER NOT NULL, take INTEGER NOT NULL, chair INTEGER NOT NULL, started INTEGER, closed INTEGER, votes_for INTEGER, votes_against INTEGER, withheld INTEGER, eligible INTEGER, PRIMARY KEY (meeting, resolution)) STRICT",
+        "CREATE TABLE polls2 (meeting TEXT NOT NULL REFERENCES meetings (meeting), session INTEGER NOT NULL, resolution INTEGER NOT NULL, ordered INTEGER NOT NULL, take INTEGER NOT NULL, chair INTEGER NOT NULL, started INTEGER, closed INTEGER, votes_for INTEGER, votes_against INTEGER, withheld INTEGER, eligible INTEGER, PRIMARY KEY (meeting, resolution)) STRICT",
         &[],
     )
 }
 
-/// Adds a poll of the first session of a meeting.
+/// Adds a poll of a session of a meeting.
 pub fn add<S: Alter>(
     tx: &mut Transaction<'_, S>,
     meeting: MeetingId,
@@ -30,15 +33,17 @@ pub fn add<S: Alter>(
 ) -> Result<usize, Error>
     ensures same_reference { tx.new.conn.ghost_name ≡ tx.old.conn.ghost_name }
     ensures added { Does S.Store tx.old.conn.now tx.new.conn.now result
-        (Adds polls (record { meeting = meeting; item = record poll.now { session = 1 } })) }
+        (Adds polls (record { meeting = meeting; item = poll.now })) }
     ensures commits { CommitsNothing S.Store tx.old.conn.now tx.new.conn.now }
 {
+    let session = whole(poll.session)?;
     let resolution = whole(poll.resolution)?;
     let tally = tally(poll.declared)?;
     tx.execute(
-        "INSERT INTO polls (meeting, resolution, ordered, take, chair, started, closed, votes_for, votes_against, withheld, eligible) VALUES (?1, ?2, ?3, ?4, ?5, ?6, ?7, ?8, ?9, ?10, ?11)",
+        "INSERT INTO polls2 (meeting, session, resolution, ordered, take, chair, started, closed, votes_for, votes_against, withheld, eligible) VALUES (?1, ?2, ?3, ?4, ?5, ?6, ?7, ?8, ?9, ?10, ?11, ?12)",
         params![
             meeting_text(&meeting),
+            session,
             resolution,
             moment_number(poll.ordered),
             moment_number(poll.take),
@@ -62,7 +67,7 @@ pub fn all<S: Alter>(tx: &mut Transaction<'_, S>) -> Result<Vec<Row>, Error>
     ensures changes { ChangesNothing S.Store tx.old.conn.now tx.new.conn.now }
 {
     tx.query_all(
-        "SELECT meeting, resolution, ordered, take, chair, started, closed, votes_for, votes_against, withheld, eligible FROM polls ORDER BY rowid",
+        "SELECT meeting, session, resolution, ordered, take, chair, started, closed, votes_for, votes_against, withheld, eligible FROM polls2 ORDER BY rowid",
         &[],
     )
 }
@@ -80,7 +85,7 @@ pub fn start<S: Alter>(
 {
     let resolution = whole(poll.resolution)?;
     tx.execute(
-        "UPDATE polls SET started = ?3 WHERE meeting = ?1 AND resolution = ?2",
+        "UPDATE polls2 SET started = ?3 WHERE meeting = ?1 AND resolution = ?2",
         params![
             meeting_text(&poll.meeting),
             resolution,
@@ -102,7 +107,7 @@ pub fn close<S: Alter>(
 {
     let resolution = whole(poll.resolution)?;
     tx.execute(
-        "UPDATE polls SET closed = ?3 WHERE meeting = ?1 AND resolution = ?2",
+        "UPDATE polls2 SET closed = ?3 WHERE meeting = ?1 AND resolution = ?2",
         params![
             meeting_text(&poll.meeting),
             resolution,
@@ -128,7 +133,7 @@ pub fn declare<S: Alter>(
     let withheld = whole(tally.withheld)?;
     let eligible = whole(tally.eligible)?;
     tx.execute(
-        "UPDATE polls SET votes_for = ?3, votes_against = ?4, withheld = ?5, eligible = ?6 WHERE meeting = ?1 AND resolution = ?2",
+        "UPDATE polls2 SET votes_for = ?3, votes_against = ?4, withheld = ?5, eligible = ?6 WHERE meeting = ?1 AND resolution = ?2",
         params![
             meeting_text(&poll.meeting),
             resolution,
@@ -137,5 +142,20 @@ pub fn declare<S: Alter>(
             withheld,
             eligible
         ],
+    )
+}
+
+/// Copies the rows of version 1, each under the number that it has there and as of the first session
+/// of its meeting.
+pub fn copy<S: Alter>(tx: &mut Transaction<'_, S>) -> Result<usize, Error>
+    ensures same_reference { tx.new.conn.ghost_name ≡ tx.old.conn.ghost_name }
+    ensures copied { Does S.Store tx.old.conn.now tx.new.conn.now result (Copies polls_one polls) }
+    ensures typed { Does S.Store tx.old.conn.now tx.new.conn.now result
+        (CopiesTyped polls_table polls_one polls) }
+    ensures commits { CommitsNothing S.Store tx.old.conn.now tx.new.conn.now }
+{
+    tx.execute(
+        "INSERT INTO polls2 (rowid, meeting, session, resolution, ordered, take, chair, started, closed, votes_for, votes_against, withheld, eligible) SELECT rowid, meeting, 1, resolution, ordered, take, chair, started, closed, votes_for, votes_against, withheld, eligible FROM polls ORDER BY rowid",
+        &[],
     )
 }

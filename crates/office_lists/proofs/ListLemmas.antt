@@ -1,6 +1,6 @@
 -- The lists of an office that rows are, and rows that are none.
-use Rattle.std.proofs.Common.{◌≡◌, ℕ, suc, ◌==◌, Bool, true, false, ◌&&◌, ◌||◌, if◌then◌else◌, nat_eq, ◌<◌, IsTrue, map, List, [], ◌∷◌, length, Option, Some, None, inl, inr, refl, sym, ap, subst, ◌∙◌, true≢false, arith}
-use Rattle.std.specs.Prelude.{◌↔◌, Contains, IsPermutation, Result, Err, nat_le, nat_lt}
+use Rattle.std.proofs.Common.{◌≡◌, ℕ, suc, ◌==◌, Bool, true, false, ◌&&◌, ◌||◌, if◌then◌else◌, nat_eq, ◌<◌, IsTrue, map, List, [], ◌∷◌, length, take, Option, Some, None, inl, inr, refl, sym, ap, subst, ◌∙◌, true≢false, arith}
+use Rattle.std.specs.Prelude.{◌↔◌, Contains, IsPermutation, Result, Ok, Err, nat_le, nat_lt}
 use Rattle.desk_words.specs.declared.lists.ListFault.{ListFault}
 use Rattle.desk_words.specs.declared.lists.ListFault.TheVariants.{Limit, Memory}
 use Rattle.std.specs.Cmp.{first_so, second_so}
@@ -24,6 +24,7 @@ use Rattle.desk_words.specs.declared.records.Meeting.{Meeting}
 use Rattle.desk_words.specs.declared.records.Poll.{Poll}
 use Rattle.desk_words.specs.declared.records.RegisterRow.{RegisterRow}
 use Rattle.desk_words.specs.declared.records.Resolution.{Resolution}
+use Rattle.desk_words.specs.declared.records.Session.{Session}
 use Rattle.desk_words.specs.Lists.{are_keys, are_resolutions, caller_before, day_before, day_count, is_day_list, is_key_list, keep_keys, key_list_of, same_caller, same_secret}
 use Rattle.desk_words.specs.Office.{are_polls, implies, is_loaded_right, is_meeting, is_poll, no_rows, poll_before, are_rows}
 use Rattle.desk_words.specs.Registers.{are_holdings, is_register, keep_limits, member_before, register_of, same_member}
@@ -31,16 +32,16 @@ use Rattle.desk_words.specs.Sessions.{are_sessions, is_opened}
 use Rattle.desk_words.proofs.OfficeFacts.{meeting_facts}
 use Rattle.desk_words.proofs.RegisterLimits.{keep_limits-permutation}
 use Rattle.desk_terms.specs.Options.{◌>>=◌, only}
-use Rattle.desk_rows.specs.declared.kept.NumberedResolution.{NumberedResolution}
+use Rattle.desk_rows.specs.declared.kept.Numbered.{Numbered}
 use Rattle.desk_records.specs.Office.{number_before, numbered_from}
 use Rattle.desk_rows.proofs.MeaningLemmas.{bound}
 use Rattle.std.proofs.lemmas.Bool.{and_parts}
 use Rattle.office_lists.specs.declared.fault.ReadFault.{ReadFault}
 use Rattle.office_lists.specs.declared.fault.ReadFault.TheVariants as fault
 use Rattle.office_lists.specs.declared.fault.ReadFault.TheVariants.{NoOffice}
-use Rattle.office_lists.specs.Yields.{IsCause}
+use Rattle.office_lists.specs.Yields.{IsCause, Yields}
 use Rattle.office_lists.specs.declared.own.OwnRecords.{OwnRecords}
-use Rattle.office_lists.specs.Own.{resolutions_number_from, lists_own, lists_own_with, resolution_of, resolutions_own}
+use Rattle.office_lists.specs.Own.{are_few, at_most, item_of, lists_own, lists_own_with, number_from, numbered_own, resolutions_own, sessions_own}
 
 pub second_false : (a b : Bool) → b ≡ false → (a && b) ≡ false
 second_false true b h = h
@@ -113,14 +114,14 @@ register_refused rows some none =
     ] in
     ap (λ b. b || is_register sorted) (some_rows rows some) ∙ no_register
 
--- ---- resolutions
+-- ---- numbered things
 
-numbered_is : (n : ℕ) (rows : List NumberedResolution) → numbered_from n rows ≡ (if resolutions_number_from n rows then Some (map resolution_of rows) else None)
+numbered_is : {A : Type 0} (n : ℕ) (rows : List (Numbered A)) → numbered_from n rows ≡ (if number_from n rows then Some (map item_of rows) else None)
 numbered_is n [] = refl
-numbered_is n (r ∷ rest) = go (r.number == n) (resolutions_number_from (suc n) rest) (numbered_from (suc n) rest) (numbered_is (suc n) rest)
+numbered_is {A} n (r ∷ rest) = go (r.number == n) (number_from (suc n) rest) (numbered_from (suc n) rest) (numbered_is (suc n) rest)
   where
-    go : (b c : Bool) (o : Option (List Resolution)) → o ≡ (if c then Some (map resolution_of rest) else None)
-        → (only b >>= λ _. o >>= λ later. Some (r.resolution ∷ later)) ≡ (if b && c then Some (map resolution_of (r ∷ rest)) else None)
+    go : (b c : Bool) (o : Option (List A)) → o ≡ (if c then Some (map item_of rest) else None)
+        → (only b >>= λ _. o >>= λ later. Some (r.item ∷ later)) ≡ (if b && c then Some (map item_of (r ∷ rest)) else None)
     go true true o e = rw e refl
     go true false o e = rw e refl
     go false c o e = refl
@@ -128,42 +129,46 @@ numbered_is n (r ∷ rest) = go (r.number == n) (resolutions_number_from (suc n)
 less_next : (a b n : ℕ) → (a == n) ≡ true → (b == suc n) ≡ true → nat_lt a b ≡ true
 less_next a b n h k = grind (arith, nat_tests)
 
-ascending : (n : ℕ) (rows : List NumberedResolution) → resolutions_number_from n rows ≡ true → ascends_by number_before rows ≡ true
+ascending : {A : Type 0} (n : ℕ) (rows : List (Numbered A)) → number_from n rows ≡ true → ascends_by number_before rows ≡ true
 ascending n [] h = refl
 ascending n (r ∷ []) h = refl
 ascending n (r ∷ s ∷ rest) h =
-    let first = and_parts (r.number == n) (resolutions_number_from (suc n) (s ∷ rest)) h in
-    let next = and_parts (s.number == suc n) (resolutions_number_from (suc (suc n)) rest) first.1 in
+    let first = and_parts (r.number == n) (number_from (suc n) (s ∷ rest)) h in
+    let next = and_parts (s.number == suc n) (number_from (suc (suc n)) rest) first.1 in
     both_true (less_next r.number s.number n first.0 next.0) (ascending (suc n) (s ∷ rest) first.1)
 
 some_so : {X : Type 0} (b : Bool) (x y : X) → ◌≡◌ {A = Option X} (if b then Some x else None) (Some y) → (b ≡ true) × (y ≡ x)
 some_so true x y h = let same : x ≡ y = cc in (refl, sym same)
 some_so false x y h = absurd cc
 
--- what is found of rows in order
-found_so : (rows : List NumberedResolution) (found : List Resolution) → resolutions_own rows ≡ Some found → (resolutions_number_from 1 (sort_by number_before rows) ≡ true) × (found ≡ map resolution_of (sort_by number_before rows))
-found_so rows found h = some_so (resolutions_number_from 1 (sort_by number_before rows)) (map resolution_of (sort_by number_before rows)) found (sym (numbered_is 1 (sort_by number_before rows)) ∙ h)
+module _ {A : Type 0} (n : ℕ) (rows : List (Numbered A)) where
+  -- what is found of rows in order
+  found_so : (found : List A) → numbered_own n rows ≡ Some found → (number_from n (sort_by number_before rows) ≡ true) × (found ≡ map item_of (sort_by number_before rows))
+  found_so found h = some_so (number_from n (sort_by number_before rows)) (map item_of (sort_by number_before rows)) found (sym (numbered_is n (sort_by number_before rows)) ∙ h)
 
--- where a number stands twice, they are not numbered 1, 2, ..
-pub numbers_refused : (rows : List NumberedResolution) → ascends_by number_before (sort_by number_before rows) ≡ false → (found : List Resolution) → resolutions_own rows ≡ Some found → are_resolutions found ≡ false
-numbers_refused rows falls found h = absurd (true≢false (sym (ascending 1 (sort_by number_before rows) (found_so rows found h).0) ∙ falls))
+  -- where a number stands twice, they do not go on from a number
+  pub numbers_refused : (right : List A → Bool) → ascends_by number_before (sort_by number_before rows) ≡ false → (found : List A) → numbered_own n rows ≡ Some found → right found ≡ false
+  numbers_refused right falls found h = absurd (true≢false (sym (ascending n (sort_by number_before rows) (found_so found h).0) ∙ falls))
 
-pub wrong_numbers : (rows sorted : List NumberedResolution) → sorted ≡ sort_by number_before rows → resolutions_number_from 1 sorted ≡ false → (found : List Resolution) → resolutions_own rows ≡ Some found → are_resolutions found ≡ false
-wrong_numbers rows sorted is wrong found h = absurd (true≢false (sym (found_so rows found h).0 ∙ ap (resolutions_number_from 1) (sym is) ∙ wrong))
+  module _ (sorted : List (Numbered A)) (is : sorted ≡ sort_by number_before rows) where
+    pub wrong_numbers : (right : List A → Bool) → number_from n sorted ≡ false → (found : List A) → numbered_own n rows ≡ Some found → right found ≡ false
+    wrong_numbers right wrong found h = absurd (true≢false (sym (found_so found h).0 ∙ ap (number_from n) (sym is) ∙ wrong))
 
-pub too_many : (rows sorted : List NumberedResolution) → sorted ≡ sort_by number_before rows → nat_le (length sorted) 50 ≡ false → (found : List Resolution) → resolutions_own rows ≡ Some found → are_resolutions found ≡ false
-too_many rows sorted is many found h =
-    let count : length found ≡ length sorted = ap length (found_so rows found h).1 ∙ length-map (sort_by number_before rows) resolution_of ∙ ap length (sym is) in
-    second_false (nat_le 1 (length found)) (nat_le (length found) 50) (ap (λ n. nat_le n 50) count ∙ many)
+    pub too_many : (most : ℕ) → nat_le (length sorted) most ≡ false → (found : List A) → numbered_own n rows ≡ Some found → at_most most found ≡ false
+    too_many most many found h =
+        let count : length found ≡ length sorted = ap length (found_so found h).1 ∙ length-map (sort_by number_before rows) item_of ∙ ap length (sym is) in
+        ap (λ k. nat_le k most) count ∙ many
 
-pub resolutions_made : (rows sorted : List NumberedResolution) (made : List Resolution) → sorted ≡ sort_by number_before rows → resolutions_number_from 1 sorted ≡ true → made ≡ map resolution_of sorted → resolutions_own rows ≡ Some made
-resolutions_made rows sorted made is numbered same =
-    ap (numbered_from 1) (sym is) ∙ numbered_is 1 sorted ∙ ap (λ b. if b then Some (map resolution_of sorted) else None) numbered ∙ ap (λ l. Some l) (sym same)
+    pub list_made : (made : List A) → number_from n sorted ≡ true → made ≡ map item_of sorted → numbered_own n rows ≡ Some made
+    list_made made numbered same =
+        ap (numbered_from n) (sym is) ∙ numbered_is n sorted ∙ ap (λ b. if b then Some (map item_of sorted) else None) numbered ∙ ap (λ l. Some l) (sym same)
 
-pub resolutions_refused : (rows sorted : List NumberedResolution) (made : List Resolution) → sorted ≡ sort_by number_before rows → made ≡ map resolution_of sorted → are_resolutions made ≡ false
-    → (found : List Resolution) → resolutions_own rows ≡ Some found → are_resolutions found ≡ false
-resolutions_refused rows sorted made is same wrong found h =
-    ap are_resolutions ((found_so rows found h).1 ∙ ap (map resolution_of) (sym is) ∙ sym same) ∙ wrong
+-- further sessions are too many where they are more than those but the first
+pub not_few : (later : List Session) → at_most 9 later ≡ false → are_few later ≡ false
+not_few later many = grind (arith, nat_tests, many)
+
+pub not_resolutions : (found : List Resolution) → at_most 50 found ≡ false → are_resolutions found ≡ false
+not_resolutions found many = second_false (nat_le 1 (length found)) (nat_le (length found) 50) many
 
 -- ---- days
 
@@ -179,12 +184,34 @@ days_made list days kept up same =
 
 -- ---- the lists of a meeting
 
+-- what the lists of a meeting are made of
+record Parts (own : OwnRecords) (m : MeetingLists) : Type 0 where
+  later : List Session
+  resolutions : List Resolution
+  sessions : sessions_own own.sessions ≡ Some later
+  numbered : resolutions_own own.resolutions ≡ Some resolutions
+  is : lists_own_with own later resolutions ≡ m
+
+parts : (own : OwnRecords) (m : MeetingLists) → lists_own own ≡ Some m → Parts own m
+parts own m h =
+    let later = bound (sessions_own own.sessions) (λ later. resolutions_own own.resolutions >>= λ rs. Some (lists_own_with own later rs)) m h in
+    let resolutions = bound (resolutions_own own.resolutions) (λ rs. Some (lists_own_with own later.0 rs)) m later.2 in
+    let same : lists_own_with own later.0 resolutions.0 ≡ m = cc in
+    record { later = later.0; resolutions = resolutions.0; sessions = later.1; numbered = resolutions.1; is = same }
+
+-- where its further sessions are none
+pub sessions_wrong : (own : OwnRecords) → ((found : List Session) → sessions_own own.sessions ≡ Some found → are_few found ≡ false) → (m : MeetingLists) → lists_own own ≡ Some m → is_meeting m ≡ false
+sessions_wrong own none m h =
+    let p = parts own m h in
+    let lists = lists_own_with own p.later p.resolutions in
+    let wrong : are_sessions lists.meeting ≡ false = ap (λ b. b && list_all is_opened (take (length p.later) (lists.meeting.first ∷ p.later))) (none p.later p.sessions) in
+    subst (λ (x : MeetingLists). is_meeting x ≡ false) p.is (rw (second_false (are_resolutions p.resolutions) (are_sessions lists.meeting) wrong) refl)
+
 -- where its resolutions are none
 pub resolutions_wrong : (own : OwnRecords) → ((found : List Resolution) → resolutions_own own.resolutions ≡ Some found → are_resolutions found ≡ false) → (m : MeetingLists) → lists_own own ≡ Some m → is_meeting m ≡ false
 resolutions_wrong own none m h =
-    let it = bound (resolutions_own own.resolutions) (λ rs. Some (lists_own_with own rs)) m h in
-    let same : lists_own_with own it.0 ≡ m = cc in
-    subst (λ (x : MeetingLists). is_meeting x ≡ false) same (rw (none it.0 it.1) refl)
+    let p = parts own m h in
+    subst (λ (x : MeetingLists). is_meeting x ≡ false) p.is (rw (none p.resolutions p.numbered) refl)
 
 loaded_wrong : (m : MeetingLists) → are_rows m.register ≡ false → is_loaded_right m ≡ false
 loaded_wrong m none = go m.meeting.loaded (no_rows m.register) (is_register m.register) none
@@ -198,10 +225,9 @@ loaded_wrong m none = go m.meeting.loaded (no_rows m.register) (is_register m.re
 -- where its rows are no register's
 pub rows_wrong : (own : OwnRecords) → are_rows (sort_by member_before own.register) ≡ false → (m : MeetingLists) → lists_own own ≡ Some m → is_meeting m ≡ false
 rows_wrong own none m h =
-    let it = bound (resolutions_own own.resolutions) (λ rs. Some (lists_own_with own rs)) m h in
-    let lists = lists_own_with own it.0 in
-    let same : lists ≡ m = cc in
-    subst (λ (x : MeetingLists). is_meeting x ≡ false) same (rw (second_false (are_resolutions it.0 && are_sessions lists.meeting) (is_loaded_right lists) (loaded_wrong lists none)) refl)
+    let p = parts own m h in
+    let lists = lists_own_with own p.later p.resolutions in
+    subst (λ (x : MeetingLists). is_meeting x ≡ false) p.is (rw (second_false (are_resolutions p.resolutions && are_sessions lists.meeting) (is_loaded_right lists) (loaded_wrong lists none)) refl)
 
 polls_wrong_order : (m : Meeting) (polls : List Poll) → ascends_by poll_before polls ≡ false → are_polls m polls ≡ false
 polls_wrong_order m polls h = second_false (list_all (is_poll m) polls) (ascends_by poll_before polls) h
@@ -209,10 +235,9 @@ polls_wrong_order m polls h = second_false (list_all (is_poll m) polls) (ascends
 -- where a poll stands twice
 pub polls_wrong : (own : OwnRecords) → ascends_by poll_before (sort_by poll_before own.polls) ≡ false → (m : MeetingLists) → lists_own own ≡ Some m → is_meeting m ≡ false
 polls_wrong own none m h =
-    let it = bound (resolutions_own own.resolutions) (λ rs. Some (lists_own_with own rs)) m h in
-    let lists = lists_own_with own it.0 in
-    let same : lists ≡ m = cc in
-    subst (λ (x : MeetingLists). is_meeting x ≡ false) same
+    let p = parts own m h in
+    let lists = lists_own_with own p.later p.resolutions in
+    subst (λ (x : MeetingLists). is_meeting x ≡ false) p.is
     (elim (cases_Bool (is_meeting lists)) [
       | inl good ↦ absurd (true≢false (sym (meeting_facts lists good).polls ∙ polls_wrong_order lists.meeting lists.polls none))
       | inr wrong ↦ wrong
@@ -233,3 +258,8 @@ pub cause_by : {X Y : Type 0} (part : X → Bool) (whole : Y → Bool) (e : Read
 cause_by part whole NoOffice a b leads h = leads h
 cause_by part whole fault.Store a b leads h = tt
 cause_by part whole fault.Memory a b leads h = tt
+
+-- the same of a result, where what is not right for the part is not for the whole
+pub yields_by : {X : Type 0} (part whole : X → Bool) (r : Result X ReadFault) (said : Option X) → ((x : X) → part x ≡ false → whole x ≡ false) → Yields part r said → Yields whole r said
+yields_by part whole (Ok x) said leads h = h
+yields_by part whole (Err e) said leads h = cause_by part whole e said said (λ wrong x is. leads x (wrong x is)) h

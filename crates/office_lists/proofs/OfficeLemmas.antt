@@ -13,7 +13,8 @@ use Rattle.desk_words.specs.declared.office.MeetingLists.{MeetingLists}
 use Rattle.desk_words.specs.declared.office.OfficeLists.{OfficeLists}
 use Rattle.desk_terms.specs.Options.{◌>>=◌, only}
 use Rattle.desk_rows.specs.declared.kept.MeetingRow.{MeetingRow}
-use Rattle.desk_records.specs.Office.{FlatLists, have_meetings, lists_of, lists_of_all, lists_with, office_of_records, resolutions_of}
+use Rattle.desk_records.specs.Office.{FlatLists, have_meetings, lists_of, lists_of_all, office_of_records}
+use Rattle.desk_records.proofs.OfficeLemmas.{named_so}
 use Rattle.desk_rows.proofs.MeaningLemmas.{bound}
 use Rattle.std.specs.Prelude.{Result}
 use Rattle.office_lists.specs.declared.fault.ReadFault.{ReadFault}
@@ -116,13 +117,6 @@ meetings_wrong flat none office h =
     let p = parts flat office h in
     second_false (is_key_list office.keys && is_day_list office.closed) (are_meetings office.meetings)
     (second_false (nat_le (length office.meetings) 100 && differ_by same_meeting office.meetings) (list_all is_meeting office.meetings) (none office.meetings p.meetings))
-
--- the meetings of the lists have the names of their rows
-named_so : (flat : FlatLists) (m : MeetingRow) (x : MeetingLists) → lists_of flat m ≡ Some x → x.meeting.id ≡ m.id
-named_so flat m x h =
-    let it = bound (resolutions_of m.id flat.resolutions) (λ rs. Some (lists_with flat m rs)) x h in
-    let same : lists_with flat m it.0 ≡ x = cc in
-    ap (λ (y : MeetingLists). y.meeting.id) (sym same)
 
 any_named : (flat : FlatLists) (id : List ℕ) (rows : List MeetingRow) (lists : List MeetingLists) → lists_of_all flat rows ≡ Some lists
     → list_any (λ (x : MeetingLists). same_name id x.meeting.id) lists ≡ list_any (λ (m : MeetingRow). same_name id m.id) rows

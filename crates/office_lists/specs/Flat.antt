@@ -11,6 +11,7 @@ flat_with keys closed meetings records = record {
   keys = keys;
   closed = closed;
   meetings = meetings;
+  sessions = records.sessions;
   resolutions = records.resolutions;
   register = records.register;
   appointments = records.appointments;

@@ -16,12 +16,13 @@ use Rattle.office_lists.specs.declared.own.OwnRecords.{OwnRecords}
 use Rattle.office_lists.specs.Flat.{flat_with}
 use Rattle.office_lists.specs.Own.{adding_appointments, adding_authorities, adding_casts}
 use Rattle.office_lists.specs.Own.{adding_demands, adding_endings, adding_polls, adding_presences}
-use Rattle.office_lists.specs.Own.{adding_register, adding_resolutions, lists_own}
+use Rattle.office_lists.specs.Own.{adding_register, adding_resolutions, adding_sessions, lists_own}
 
 -- a meeting, and of the records its own
 abbrev pub own_records_of : MeetingRecords → MeetingRow → OwnRecords
 own_records_of records m = record {
   meeting = m;
+  sessions = of_meeting m.id records.sessions;
   resolutions = of_meeting m.id records.resolutions;
   register = of_meeting m.id records.register;
   appointments = of_meeting m.id records.appointments;
@@ -82,7 +83,8 @@ all_given_out records all =
     (given_out adding_endings records.endings
     (given_out adding_appointments records.appointments
     (given_out adding_register records.register
-    (given_out adding_resolutions records.resolutions all))))))))
+    (given_out adding_resolutions records.resolutions
+    (given_out adding_sessions records.sessions all)))))))))
 
 -- where no two meetings have one name, the records are given out, if each names a meeting that
 -- stands

@@ -1,9 +1,10 @@
 -- The records of one meeting, and the lists that they are.
-use Rattle.std.specs.Prelude.{◌==◌, ℕ, suc, Bool, true, ◌&&◌, ◌||◌, List, [], ◌∷◌, ◌++◌, Option}
-use Rattle.std.specs.Prelude.{Some}
+use Rattle.std.specs.Prelude.{◌==◌, ℕ, suc, Bool, true, ◌&&◌, List, [], ◌∷◌, ◌++◌, Option}
+use Rattle.std.specs.Prelude.{Some, length, nat_le}
 use Rattle.desk_lists.specs.Sorting.{sort_by}
-use Rattle.desk_words.specs.Office.{no_rows, poll_before}
-use Rattle.desk_words.specs.Registers.{is_register, member_before}
+use Rattle.desk_words.specs.Office.{poll_before}
+use Rattle.desk_words.specs.Registers.{member_before}
+use Rattle.desk_words.specs.declared.limits.TheConstants.{MOST_SESSIONS}
 use Rattle.desk_words.specs.declared.office.MeetingLists.{MeetingLists}
 use Rattle.desk_words.specs.declared.records.Appointment.{Appointment}
 use Rattle.desk_words.specs.declared.records.Authority.{Authority}
@@ -14,9 +15,10 @@ use Rattle.desk_words.specs.declared.records.Poll.{Poll}
 use Rattle.desk_words.specs.declared.records.PresenceMark.{PresenceMark}
 use Rattle.desk_words.specs.declared.records.RegisterRow.{RegisterRow}
 use Rattle.desk_words.specs.declared.records.Resolution.{Resolution}
+use Rattle.desk_words.specs.declared.records.Session.{Session}
 use Rattle.desk_terms.specs.Options.{◌>>=◌}
 use Rattle.desk_rows.specs.declared.kept.MeetingRow.{MeetingRow}
-use Rattle.desk_rows.specs.declared.kept.NumberedResolution.{NumberedResolution}
+use Rattle.desk_rows.specs.declared.kept.Numbered.{Numbered}
 use Rattle.desk_records.specs.Office.{number_before, numbered_from, whole_meeting}
 use Rattle.office_lists.specs.declared.own.OwnRecords.{OwnRecords}
 
@@ -24,6 +26,7 @@ use Rattle.office_lists.specs.declared.own.OwnRecords.{OwnRecords}
 abbrev pub nothing_own : MeetingRow → OwnRecords
 nothing_own m = record {
   meeting = m;
+  sessions = [];
   resolutions = [];
   register = [];
   appointments = [];
@@ -35,10 +38,10 @@ nothing_own m = record {
   casts = [];
 }
 
--- the lists of a meeting with these resolutions
-abbrev pub lists_own_with : OwnRecords → List Resolution → MeetingLists
-lists_own_with own resolutions = record {
-  meeting = whole_meeting own.meeting resolutions;
+-- the lists of a meeting with these further sessions and resolutions
+abbrev pub lists_own_with : OwnRecords → List Session → List Resolution → MeetingLists
+lists_own_with own later resolutions = record {
+  meeting = whole_meeting own.meeting later resolutions;
   register = sort_by member_before own.register;
   appointments = own.appointments;
   endings = own.endings;
@@ -49,26 +52,49 @@ lists_own_with own resolutions = record {
   casts = own.casts;
 }
 
--- the resolutions in the order of their numbers, which are 1, 2, ..
-abbrev pub resolutions_own : List NumberedResolution → Option (List Resolution)
-resolutions_own records = numbered_from 1 (sort_by number_before records)
+-- the things in the order of their numbers, which go on from that one
+abbrev pub numbered_own : {A : Type 0} → ℕ → List (Numbered A) → Option (List A)
+numbered_own n records = numbered_from n (sort_by number_before records)
 
--- the resolution without its number
-abbrev pub resolution_of : NumberedResolution → Resolution
-resolution_of r = r.resolution
+-- the further sessions in the order of their numbers, which are 2, 3, ..
+abbrev pub sessions_own : List (Numbered Session) → Option (List Session)
+sessions_own = numbered_own 2
+
+-- the resolutions in the order of their numbers, which are 1, 2, ..
+abbrev pub resolutions_own : List (Numbered Resolution) → Option (List Resolution)
+resolutions_own = numbered_own 1
+
+-- the thing without its number
+abbrev pub item_of : {A : Type 0} → Numbered A → A
+item_of r = r.item
 
 -- the numbers are those from a number on
-abbrev pub resolutions_number_from : ℕ → List NumberedResolution → Bool
-resolutions_number_from n [] = true
-resolutions_number_from n (r ∷ rest) = (r.number == n) && resolutions_number_from (suc n) rest
+abbrev pub number_from : {A : Type 0} → ℕ → List (Numbered A) → Bool
+number_from n [] = true
+number_from n (r ∷ rest) = (r.number == n) && number_from (suc n) rest
 
--- the lists of a meeting, or nothing where its resolutions are not numbered 1, 2, ..
+-- at most so many
+abbrev pub at_most : {A : Type 0} → ℕ → List A → Bool
+at_most n things = nat_le (length things) n
+
+-- with the first session they are at most `MOST_SESSIONS`
+abbrev pub are_few : List Session → Bool
+are_few later = nat_le (suc (length later)) MOST_SESSIONS
+
+-- the lists of a meeting, or nothing where its further sessions are not numbered 2, 3, .. or its
+-- resolutions not 1, 2, ..
 abbrev pub lists_own : OwnRecords → Option MeetingLists
-lists_own own =
-    resolutions_own own.resolutions >>= λ resolutions. Some (lists_own_with own resolutions)
+lists_own own = do
+  later ← sessions_own own.sessions
+  resolutions ← resolutions_own own.resolutions
+  Some (lists_own_with own later resolutions)
 
 -- a meeting with these records behind its others
-abbrev pub adding_resolutions : List NumberedResolution → OwnRecords → OwnRecords
+abbrev pub adding_sessions : List (Numbered Session) → OwnRecords → OwnRecords
+adding_sessions its own = record own { sessions = own.sessions ++ its }
+
+-- a meeting with these records behind its others
+abbrev pub adding_resolutions : List (Numbered Resolution) → OwnRecords → OwnRecords
 adding_resolutions its own = record own { resolutions = own.resolutions ++ its }
 
 -- a meeting with these records behind its others

@@ -1,15 +1,16 @@
 //! The records of the tables, each with its meeting.
-use desk_rows::{InMeeting, MeetingRow, NumberedResolution};
+use desk_rows::{InMeeting, MeetingRow, Numbered};
 use desk_words::{
     Appointment, Authority, CastMark, Day, DemandMark, Ending, KeyRow, Listing, Poll, PresenceMark,
-    RegisterRow,
+    RegisterRow, Resolution, Session,
 };
 use std::marker::Model;
 
 /// The records that name a meeting, each list in the order of its table's rows.
 #[derive(Drop)]
 pub struct MeetingRecords {
-    pub resolutions: Listing<InMeeting<NumberedResolution>>,
+    pub sessions: Listing<InMeeting<Numbered<Session>>>,
+    pub resolutions: Listing<InMeeting<Numbered<Resolution>>>,
     pub register: Listing<InMeeting<RegisterRow>>,
     pub appointments: Listing<InMeeting<Appointment>>,
     pub endings: Listing<InMeeting<Ending>>,

@@ -88,6 +88,7 @@ fn give_all(all: &mut [OwnRecords], records: MeetingRecords) -> Result<(), ReadF
     ensures { IsGivenOut all.old all.new result (all_given_out records)
         (all_name_meetings records) }
 {
+    give_out(all, records.sessions)?;
     give_out(all, records.resolutions)?;
     give_out(all, records.register)?;
     give_out(all, records.appointments)?;

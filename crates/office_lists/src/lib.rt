@@ -11,6 +11,6 @@ mod own;
 
 pub use fault::ReadFault;
 pub use flat::{FlatRecords, MeetingRecords};
-pub use lists::{day_list, key_rows, poll_list, register_rows, resolution_list};
+pub use lists::{day_list, key_rows, poll_list, register_rows, resolution_list, session_list};
 pub use office::office_from;
 pub use own::{OfMeeting, OwnRecords};

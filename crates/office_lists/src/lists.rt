@@ -1,22 +1,21 @@
 //! The lists of an office, each put in its order.
-ghost use Rattle.std.specs.Prelude.{◌≡◌, ◌≤◌, Some, None, false, true, length, map, IfOk, IfSome};
+ghost use Rattle.std.specs.Prelude.{◌≡◌, ◌≤◌, ◌+◌, Some, None, false, true, length, map, IfOk, IfSome};
 ghost use Rattle.desk_lists.specs.Ordered.{ascends_by};
 ghost use Rattle.desk_lists.specs.Sorting.{sort_by};
 ghost use Rattle.desk_words.specs.Lists.{are_resolutions, caller_before, day_before, is_day_list};
 ghost use Rattle.desk_words.specs.Lists.{is_key_list};
 ghost use Rattle.desk_words.specs.Office.{is_meeting, poll_before, are_rows};
 ghost use Rattle.desk_words.specs.Registers.{member_before};
-ghost use Rattle.desk_words.specs.declared.limits.TheConstants.{MOST_RESOLUTIONS};
 ghost use Rattle.desk_records.specs.Office.{number_before};
-ghost use Rattle.office_lists.specs.Own.{resolutions_number_from, lists_own, resolution_of};
-ghost use Rattle.office_lists.specs.Own.{resolutions_own};
+ghost use Rattle.office_lists.specs.Own.{are_few, at_most, item_of, lists_own, number_from};
+ghost use Rattle.office_lists.specs.Own.{numbered_own, resolutions_own, sessions_own};
 ghost use Rattle.office_lists.specs.Yields.{Yields};
 
 use crate::fault::ReadFault;
 use crate::own::OwnRecords;
 use desk_lists::{ascend, into_order};
-use desk_rows::NumberedResolution;
-use desk_words::limits::MOST_RESOLUTIONS;
+use desk_rows::Numbered;
+use desk_words::limits::{MOST_RESOLUTIONS, MOST_SESSIONS};
 use desk_words::{
     Day, DayList, KeyRow, KeyRows, Listing, Meeting, MeetingLists, Poll, Register, RegisterRow,
     Resolution, Resolutions, Session,
@@ -86,8 +85,8 @@ pub fn poll_list(polls: Listing<Poll>) -> Result<Listing<Poll>, ReadFault>
     Ok(Listing::from_vec(polls))
 }
 
-/// The resolutions in the order of their numbers, or none where a number stands twice.
-fn numbers_in_order(rows: Vec<NumberedResolution>) -> Option<Vec<NumberedResolution>>
+/// The things in the order of their numbers, or none where a number stands twice.
+fn numbers_in_order<T: Drop>(rows: Vec<Numbered<T>>) -> Option<Vec<Numbered<T>>>
     ensures some { IfSome result (λ v. v.items ≡ sort_by number_before rows.items) }
     ensures none { result ≡ None
         → ascends_by number_before (sort_by number_before rows.items) ≡ false }
@@ -100,12 +99,12 @@ fn numbers_in_order(rows: Vec<NumberedResolution>) -> Option<Vec<NumberedResolut
     Some(rows)
 }
 
-/// Whether the numbers are 1, 2, ..
-fn are_numbered(rows: &[NumberedResolution]) -> bool
-    requires { length rows.now ≤ MOST_RESOLUTIONS }
-    ensures { result ≡ resolutions_number_from 1 rows.now }
+/// Whether the numbers go on from that one.
+fn are_numbered<T: Drop>(rows: &[Numbered<T>], from: u64) -> bool
+    requires { from + length rows.now ≤ 1000 }
+    ensures { result ≡ number_from from rows.now }
 {
-    let mut wanted = 1;
+    let mut wanted = from;
     for row in rows {
         if row.number != wanted {
             return false;
@@ -115,38 +114,60 @@ fn are_numbered(rows: &[NumberedResolution]) -> bool
     true
 }
 
-/// The resolutions without their numbers. The error is want of memory.
-fn without_numbers(
-    alloc: Global,
-    rows: Vec<NumberedResolution>,
-) -> Result<Vec<Resolution>, AllocError>
-    ensures { IfOk result (λ v. v.items ≡ map resolution_of rows.items) }
+/// The things without their numbers. The error is want of memory.
+fn without_numbers<T: Drop>(alloc: Global, rows: Vec<Numbered<T>>) -> Result<Vec<T>, AllocError>
+    ensures { IfOk result (λ v. v.items ≡ map item_of rows.items) }
 {
-    let mut resolutions = Vec::new(alloc);
+    let mut items = Vec::new(alloc);
     for row in rows {
-        resolutions.push(row.resolution)?;
+        items.push(row.item)?;
     }
-    Ok(resolutions)
+    Ok(items)
+}
+
+/// The things in the order of their numbers, which go on from that one. The fault is `NoOffice`
+/// only where they are otherwise numbered, or more than `most`.
+fn numbered_list<T: Drop>(
+    alloc: Global,
+    rows: Listing<Numbered<T>>,
+    from: u64,
+    most: usize,
+) -> Result<Listing<T>, ReadFault>
+    requires { from + most ≤ 1000 }
+    ensures { Yields (at_most most) result (numbered_own from rows) }
+{
+    let Some(rows) = numbers_in_order(rows.into_vec()) else {
+        return Err(ReadFault::NoOffice);
+    };
+    if rows.len() > most {
+        return Err(ReadFault::NoOffice);
+    }
+    if !are_numbered(&rows, from) {
+        return Err(ReadFault::NoOffice);
+    }
+    let items = without_numbers(alloc, rows)?;
+    Ok(Listing::from_vec(items))
+}
+
+/// The further sessions of a meeting, in the order of their numbers, which are 2, 3, ..
+pub fn session_list(
+    alloc: Global,
+    rows: Listing<Numbered<Session>>,
+) -> Result<Listing<Session>, ReadFault>
+    ensures { Yields are_few result (sessions_own rows) }
+{
+    numbered_list(alloc, rows, 2, MOST_SESSIONS - 1)
 }
 
 /// The resolutions of a meeting, in the order of their numbers, which are 1, 2, ..
 pub fn resolution_list(
     alloc: Global,
-    rows: Listing<NumberedResolution>,
+    rows: Listing<Numbered<Resolution>>,
 ) -> Result<Resolutions, ReadFault>
     ensures { Yields are_resolutions result (resolutions_own rows) }
 {
-    let Some(rows) = numbers_in_order(rows.into_vec()) else {
-        return Err(ReadFault::NoOffice);
-    };
-    if rows.len() > MOST_RESOLUTIONS {
-        return Err(ReadFault::NoOffice);
-    }
-    if !are_numbered(&rows) {
-        return Err(ReadFault::NoOffice);
-    }
-    let resolutions = without_numbers(alloc, rows)?;
-    match Resolutions::new(resolutions) {
+    let resolutions = numbered_list(alloc, rows, 1, MOST_RESOLUTIONS)?;
+    match Resolutions::new(resolutions.into_vec()) {
         Ok(resolutions) => Ok(resolutions),
         Err(_) => Err(ReadFault::NoOffice),
     }
@@ -168,7 +189,7 @@ impl OwnRecords {
                 appointed: row.appointed,
                 opened: row.opened,
             },
-            later: Listing::new(alloc),
+            later: session_list(alloc, self.sessions)?,
             record_moment: row.record_moment,
             resolutions: resolution_list(alloc, self.resolutions)?,
             loaded: row.loaded,

@@ -1,17 +1,18 @@
 //! A meeting, and what of the records is its own.
 ghost use Rattle.std.specs.Prelude.{◌≡◌, List, [], ◌∷◌, ◌++◌, OnOk};
 ghost use Rattle.office_lists.specs.declared.own.OwnRecords.{OwnRecords as Own};
-ghost use Rattle.office_lists.specs.Own.{nothing_own, adding_resolutions, adding_register};
+ghost use Rattle.office_lists.specs.Own.{nothing_own, adding_sessions, adding_resolutions};
+ghost use Rattle.office_lists.specs.Own.{adding_register};
 ghost use Rattle.office_lists.specs.Own.{adding_appointments, adding_endings, adding_authorities};
 ghost use Rattle.office_lists.specs.Own.{adding_presences, adding_demands, adding_polls};
 ghost use Rattle.office_lists.specs.Own.{adding_casts};
 ghost use Rattle.std.proofs.Common.{refl, ap};
 ghost use Rattle.std.proofs.lemmas.List.{append-nil, append_assoc};
 
-use desk_rows::{MeetingRow, NumberedResolution};
+use desk_rows::{MeetingRow, Numbered};
 use desk_words::{
     Appointment, Authority, CastKind, CastMark, DemandMark, Ending, Filed, Listing, Moment, Poll,
-    PresenceMark, RegisterRow,
+    PresenceMark, RegisterRow, Resolution, Session,
 };
 use std::alloc::{AllocError, Global};
 
@@ -19,7 +20,8 @@ use std::alloc::{AllocError, Global};
 #[derive(Drop)]
 pub struct OwnRecords {
     pub meeting: MeetingRow,
-    pub resolutions: Listing<NumberedResolution>,
+    pub sessions: Listing<Numbered<Session>>,
+    pub resolutions: Listing<Numbered<Resolution>>,
     pub register: Listing<RegisterRow>,
     pub appointments: Filed<Appointment>,
     pub endings: Filed<Ending>,
@@ -37,6 +39,7 @@ impl OwnRecords {
     {
         OwnRecords {
             meeting,
+            sessions: Listing::new(alloc),
             resolutions: Listing::new(alloc),
             register: Listing::new(alloc),
             appointments: Filed::new(alloc),
@@ -71,7 +74,29 @@ pub trait OfMeeting: Sized {
         → with (it ∷ []) (with its own) ≡ with (its ++ it ∷ []) own };
 }
 
-impl OfMeeting for NumberedResolution {
+impl OfMeeting for Numbered<Session> {
+    ghost with = { adding_sessions };
+
+    fn put(self, own: &mut OwnRecords) -> Result<(), AllocError> {
+        // The checker of borrows misses the types of a value's fields unless they are named here.
+        let opened: Option<Moment> = self.item.opened;
+        let appointed = self.item.appointed;
+        own.sessions.push(Numbered {
+            number: self.number,
+            item: Session { appointed, opened },
+        })
+    }
+
+    ghost keeps_meeting = { λ _ _. refl };
+
+    ghost with_none = { λ own.
+        ap (λ l. record own { sessions = l }) (append-nil own.sessions) };
+
+    ghost with_more = { λ its it own.
+        ap (λ l. record own { sessions = l }) (append_assoc own.sessions its (it ∷ [])) };
+}
+
+impl OfMeeting for Numbered<Resolution> {
     ghost with = { adding_resolutions };
 
     fn put(self, own: &mut OwnRecords) -> Result<(), AllocError> {

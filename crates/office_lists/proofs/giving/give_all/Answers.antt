@@ -37,5 +37,10 @@ returns-in_err-give_out-8 c =
     let is : c.from_residual-in_err-give_out-8.result ≡ Err c.in_err-give_out-8.field-0.0 = search rules in
     stop_given _ _ _ c.from_residual-in_err-give_out-8.result _ _ _ _ is (then_given _ _ _ _ _ _ _ _ _ (then_given _ _ _ _ _ _ _ _ _ (then_given _ _ _ _ _ _ _ _ _ (then_given _ _ _ _ _ _ _ _ _ (then_given _ _ _ _ _ _ _ _ _ (then_given _ _ _ _ _ _ _ _ _ (then_given _ _ _ _ _ _ _ _ _ c.in_ok-give_out.ensures c.in_ok-give_out-2.ensures) c.in_ok-give_out-3.ensures) c.in_ok-give_out-4.ensures) c.in_ok-give_out-5.ensures) c.in_ok-give_out-6.ensures) c.in_ok-give_out-7.ensures) c.in_err-give_out-8.ensures) (λ meetings fails. rw fails refl)
 
+pub returns-in_err-give_out-9 : goal.returns-in_err-give_out-9
+returns-in_err-give_out-9 c =
+    let is : c.from_residual-in_err-give_out-9.result ≡ Err c.in_err-give_out-9.field-0.0 = search rules in
+    stop_given _ _ _ c.from_residual-in_err-give_out-9.result _ _ _ _ is (then_given _ _ _ _ _ _ _ _ _ (then_given _ _ _ _ _ _ _ _ _ (then_given _ _ _ _ _ _ _ _ _ (then_given _ _ _ _ _ _ _ _ _ (then_given _ _ _ _ _ _ _ _ _ (then_given _ _ _ _ _ _ _ _ _ (then_given _ _ _ _ _ _ _ _ _ (then_given _ _ _ _ _ _ _ _ _ c.in_ok-give_out.ensures c.in_ok-give_out-2.ensures) c.in_ok-give_out-3.ensures) c.in_ok-give_out-4.ensures) c.in_ok-give_out-5.ensures) c.in_ok-give_out-6.ensures) c.in_ok-give_out-7.ensures) c.in_ok-give_out-8.ensures) c.in_err-give_out-9.ensures) (λ meetings fails. rw fails refl)
+
 pub returns : goal.returns
-returns c = then_given _ _ _ _ _ _ _ _ _ (then_given _ _ _ _ _ _ _ _ _ (then_given _ _ _ _ _ _ _ _ _ (then_given _ _ _ _ _ _ _ _ _ (then_given _ _ _ _ _ _ _ _ _ (then_given _ _ _ _ _ _ _ _ _ (then_given _ _ _ _ _ _ _ _ _ (then_given _ _ _ _ _ _ _ _ _ c.in_ok-give_out.ensures c.in_ok-give_out-2.ensures) c.in_ok-give_out-3.ensures) c.in_ok-give_out-4.ensures) c.in_ok-give_out-5.ensures) c.in_ok-give_out-6.ensures) c.in_ok-give_out-7.ensures) c.in_ok-give_out-8.ensures) c.give_out-9.ensures
+returns c = then_given _ _ _ _ _ _ _ _ _ (then_given _ _ _ _ _ _ _ _ _ (then_given _ _ _ _ _ _ _ _ _ (then_given _ _ _ _ _ _ _ _ _ (then_given _ _ _ _ _ _ _ _ _ (then_given _ _ _ _ _ _ _ _ _ (then_given _ _ _ _ _ _ _ _ _ (then_given _ _ _ _ _ _ _ _ _ (then_given _ _ _ _ _ _ _ _ _ c.in_ok-give_out.ensures c.in_ok-give_out-2.ensures) c.in_ok-give_out-3.ensures) c.in_ok-give_out-4.ensures) c.in_ok-give_out-5.ensures) c.in_ok-give_out-6.ensures) c.in_ok-give_out-7.ensures) c.in_ok-give_out-8.ensures) c.in_ok-give_out-9.ensures) c.give_out-10.ensures

@@ -2,10 +2,17 @@ use Rattle.std.proofs.Common.{◌≡◌, Err, Some, refl, sym, subst, rules}
 use Rattle.desk_lists.specs.Ordered.{ascends_by}
 use Rattle.desk_lists.specs.Sorting.{sort_by}
 use Rattle.desk_words.specs.Office.{is_meeting, poll_before}
-use Rattle.office_lists.specs.Own.{lists_own}
+use Rattle.office_lists.specs.Own.{are_few, lists_own, sessions_own}
 use Rattle.office_lists.specs.Yields.{Yields}
-use Rattle.office_lists.proofs.ListLemmas.{cause_by, polls_wrong}
+use Rattle.office_lists.proofs.ListLemmas.{cause_by, polls_wrong, sessions_wrong}
 use Rattle.office_lists.proofs.own.OwnRecords.into_lists.Goals as goal
+
+pub returns-in_err-session_list : goal.returns-in_err-session_list
+returns-in_err-session_list c =
+    let is : c.from_residual.result ≡ Err c.in_err-session_list.field-0.0 = search rules in
+    let own = c.args.self in
+    subst (λ r. Yields is_meeting r (lists_own own)) (sym is)
+    (cause_by are_few is_meeting c.in_err-session_list.field-0.0 (sessions_own own.sessions) (lists_own own) (sessions_wrong own) c.in_err-session_list.ensures)
 
 pub returns-in_err-poll_list : goal.returns-in_err-poll_list
 returns-in_err-poll_list c =
