@@ -8,6 +8,7 @@ use Rattle.sqlite_trees.specs.declared.store.Store as store
 use Rattle.desk_words.specs.declared.office.OfficeLists.{OfficeLists}
 use Rattle.desk_schema.specs.Contents as table
 use Rattle.desk_schema.specs.Statements.{ChangesNothing, IsRead, ReadsTable, WasOpen}
+use Rattle.desk_statements.proofs.Frames.{as_one}
 use Rattle.desk_tables.specs.Versions.{AreNoted, NotesVersion}
 use Rattle.desk_tables.proofs.DeskLemmas.{desk_notes}
 use Rattle.office_lists.specs.Yields.{fault_of_error}
@@ -18,7 +19,7 @@ use Rattle.party_reading.proofs.FoundLemmas.{error_tells}
 module _ {S X : Type 0} (g : store.Ghosts S) (a b : Held S) (kept : HasCleanDisk (state g b) → NotesVersion (state g a).now.schema → KeepsCommit (state g a) (state g b))
     (was_open : WasOpen (state g a) (state g b)) (crash : Survives (state g a) (state g b) (λ _. ⊥)) (R : OfficeLists → X → Type 0) where
   noted : IsRead g a b → AreNoted (state g a)
-  noted read = record { noted = desk_notes (state g a).now.schema read.1.schema; rising = read.1.rising 0 refl }
+  noted read = record { noted = desk_notes (state g a).now.schema (as_one (state g a).now.schema read.1.schema); rising = read.1.rising 0 refl }
 
   changes : ChangesNothing g a b
   changes = record { kept = λ read. kept read.0 (noted read).noted; was_open = was_open; crash = crash }

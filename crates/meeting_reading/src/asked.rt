@@ -55,6 +55,7 @@ pub fn read_lists<S: Alter>(
         OfficeRequest::Presence(party) => presence_alone(tx, alloc, meeting, *party),
         OfficeRequest::OpenMeeting => shares_and_presences(tx, alloc, meeting),
         OfficeRequest::Order(new) => for_order(tx, alloc, meeting, new.chair),
+        OfficeRequest::Adjourn(_) => polls_alone(tx, alloc, meeting),
         OfficeRequest::Start(_) | OfficeRequest::Close(_) => polls_alone(tx, alloc, meeting),
         OfficeRequest::Declare(_) => shares_and_casts(tx, alloc, meeting),
     }
@@ -89,7 +90,7 @@ fn days_for_order<S: Alter>(
 }
 
 /// The closed days (section 1173), where the answer to a request of the office counts shares by
-/// cutoffs (section 327), and else none.
+/// cutoffs, or asks whether a poll is late (section 327), and else none.
 pub fn read_days<S: Alter>(
     tx: &mut Transaction<'_, S>,
     alloc: Global,
@@ -101,6 +102,7 @@ pub fn read_days<S: Alter>(
 {
     match asked {
         OfficeRequest::OpenMeeting | OfficeRequest::Declare(_) => read_closed(tx, alloc),
+        OfficeRequest::Adjourn(_) => read_closed(tx, alloc),
         OfficeRequest::Order(new) => days_for_order(tx, alloc, new.chair),
         OfficeRequest::LoadRegister(_) | OfficeRequest::Presence(_) => no_days(tx, alloc),
         OfficeRequest::Start(_) | OfficeRequest::Close(_) => no_days(tx, alloc),

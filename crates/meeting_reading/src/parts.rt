@@ -86,7 +86,7 @@ fn meeting_with(alloc: Global, meeting: Meeting, polls: Listing<Poll>) -> Meetin
     }
 }
 
-/// The meeting with its resolutions and its polls.
+/// The meeting with its sessions, its resolutions and its polls.
 pub(crate) fn polls_alone<S: Alter>(
     tx: &mut Transaction<'_, S>,
     alloc: Global,

@@ -3,22 +3,25 @@ use Rattle.std.proofs.Common.{◌≡◌, ℕ, Bool, true, false, ◌&&◌, cond,
 use Rattle.std.specs.List.{list_any}
 use Rattle.std.specs.Option.{option_map_or}
 use Rattle.std.proofs.lemmas.Bool.{and_parts, cases_Bool}
+use Rattle.desk_lists.specs.Sorting.{sort_by}
 use Rattle.desk_lists.proofs.Kept.{none-found}
 use Rattle.desk_terms.specs.Names.{same_name}
 use Rattle.desk_words.specs.Finding.{meeting_named}
 use Rattle.desk_words.specs.declared.office.MeetingLists.{MeetingLists}
 use Rattle.desk_words.specs.declared.office.OfficeLists.{OfficeLists}
 use Rattle.desk_words.specs.declared.records.Resolution.{Resolution}
+use Rattle.desk_words.specs.declared.records.Session.{Session}
 use Rattle.desk_words.proofs.RowLemmas.{same_name-true}
 use Rattle.desk_rows.specs.declared.kept.InMeeting.{InMeeting}
 use Rattle.desk_rows.specs.declared.kept.MeetingRow.{MeetingRow}
+use Rattle.desk_rows.specs.declared.kept.Numbered.{Numbered}
 use Rattle.desk_rows.proofs.MeaningLemmas.{bound}
-use Rattle.desk_records.specs.Office.{FlatLists, lists_of, lists_of_all, lists_with, name_meetings, of_meeting, resolutions_of}
+use Rattle.desk_records.specs.Office.{FlatLists, lists_of, lists_of_all, lists_with, name_meetings, number_before, numbered_from, of_meeting, resolutions_of, sessions_of}
 pub use Rattle.desk_records.proofs.FlatChanges.{HoldAll, all_held}
 use Rattle.desk_records.proofs.ListChanges.{ListOf}
-use Rattle.desk_records.proofs.OfficeLemmas.{AreOf, named_so}
+use Rattle.desk_records.proofs.OfficeLemmas.{AreOf, given, named_so}
 use Rattle.row_source.specs.Lists.{list_in}
-use Rattle.party_reading.specs.Lists.{item_of}
+use Rattle.party_reading.specs.Lists.{item_of, later_in}
 
 pub the_same : {X : Type 0} {x y : X} → ◌≡◌ {A = Option X} (Some x) (Some y) → x ≡ y
 the_same h = cc
@@ -32,11 +35,13 @@ has_name id row = same_name row.id id
 -- a meeting is what the records of a name make
 pub record IsMade (flat : FlatLists) (id : List ℕ) (rows : List MeetingRow) (m : MeetingLists) : Type 0 where
   pub row : MeetingRow
+  pub later : List Session
   pub resolutions : List Resolution
   pub found : find (has_name id) rows ≡ Some row
   pub named : row.id ≡ id
+  pub sessions : sessions_of row.id flat.sessions ≡ Some later
   pub numbered : resolutions_of row.id flat.resolutions ≡ Some resolutions
-  pub is : m ≡ lists_with flat row resolutions
+  pub is : m ≡ lists_with flat row later resolutions
 
 -- a meeting is so, and where there is none no row has that name
 abbrev pub IsFoundAs : FlatLists → List ℕ → List MeetingRow → Option MeetingLists → Type 0
@@ -47,9 +52,11 @@ further : (flat : FlatLists) (id : List ℕ) (row : MeetingRow) (rows : List Mee
 further flat id row rows None other h = ap (λ b. cond b (Some row) (find (has_name id) rows)) other ∙ h
 further flat id row rows (Some m) other h = record {
   row = h.row;
+  later = h.later;
   resolutions = h.resolutions;
   found = ap (λ b. cond b (Some row) (find (has_name id) rows)) other ∙ h.found;
   named = h.named;
+  sessions = h.sessions;
   numbered = h.numbered;
   is = h.is;
 }
@@ -63,14 +70,16 @@ found_as flat id (row ∷ rows) lists h =
     let name : same_name first.0.meeting.id id ≡ has_name id row = ap (λ n. same_name n id) (named_so flat row first.0 first.1) in
     subst (λ l. IsFoundAs flat id (row ∷ rows) (meeting_named l id)) are (elim (cases_Bool (has_name id row)) [
       | inl is ↦
-          let it = bound (resolutions_of row.id flat.resolutions) (λ rs. Some (lists_with flat row rs)) first.0 first.1 in
+          let it = given flat row first.0 first.1 in
           subst (λ b. IsFoundAs flat id (row ∷ rows) (cond b (Some first.0) (meeting_named later.0 id))) (sym (name ∙ is)) (record {
             row = row;
-            resolutions = it.0;
+            later = it.later;
+            resolutions = it.resolutions;
             found = ap (λ b. cond b (Some row) (find (has_name id) rows)) is;
             named = same_name-true row.id id is;
-            numbered = it.1;
-            is = sym (the_same it.2);
+            sessions = it.sessions;
+            numbered = it.numbered;
+            is = sym it.is;
           })
       | inr other ↦
           subst (λ b. IsFoundAs flat id (row ∷ rows) (cond b (Some first.0) (meeting_named later.0 id))) (sym (name ∙ other)) (further flat id row rows (meeting_named later.0 id) other (found_as flat id rows later.0 later.1))
@@ -101,7 +110,15 @@ list_is k empty flat office id of = go (meeting_named office.meetings id) (meeti
     go : (found : Option MeetingLists) → IsFoundAs flat id flat.meetings found → k.arrange (of_meeting id (k.all flat)) ≡ option_map_or k.own found []
     go None none = ap k.arrange (none_named flat.meetings id (k.all flat) (k.stood flat of.stand) none) ∙ empty
     go (Some m) made =
-        ap (λ n. k.arrange (of_meeting n (k.all flat))) (sym made.named) ∙ sym (k.its_own flat made.row made.resolutions) ∙ ap k.own (sym made.is)
+        ap (λ n. k.arrange (of_meeting n (k.all flat))) (sym made.named) ∙ sym (k.its_own flat made.row made.later made.resolutions) ∙ ap k.own (sym made.is)
+
+-- and the sessions of its name, in the order of their numbers, are those to which it was adjourned
+pub later_is : (flat : FlatLists) (office : OfficeLists) (id : List ℕ) → AreOf flat office → sessions_of id flat.sessions ≡ Some (later_in (meeting_named office.meetings id))
+later_is flat office id of = go (meeting_named office.meetings id) (meeting_found flat office id of)
+  where
+    go : (found : Option MeetingLists) → IsFoundAs flat id flat.meetings found → sessions_of id flat.sessions ≡ Some (later_in found)
+    go None none = ap (λ (l : List (Numbered Session)). numbered_from 2 (sort_by number_before l)) (none_named flat.meetings id flat.sessions of.stand.sessions none)
+    go (Some m) made = ap (λ n. sessions_of n flat.sessions) (sym made.named) ∙ made.sessions ∙ ap (λ (x : MeetingLists). Some x.meeting.later) (sym made.is)
 
 -- ---- those of them that pass a test
 

@@ -2,6 +2,7 @@
 use Rattle.std.proofs.Common.{◌≡◌, ℕ, true, List, [], filter, find, slice_get, Option, Some, None, Err, Result, IsTrue, refl, sym, ap, subst, ◌∙◌}
 use Rattle.std.specs.Prelude.{option_map}
 use Rattle.std.specs.Option.{option_map_or}
+use Rattle.std.proofs.lemmas.Bool.{and_parts}
 use Rattle.sqlite.specs.Held.{Held, state}
 use Rattle.sqlite.specs.Tree.{Trees}
 use Rattle.sqlite_trees.specs.declared.store.Store as store
@@ -13,9 +14,10 @@ use Rattle.desk_words.specs.Office.{is_office, poll_before}
 use Rattle.desk_words.specs.declared.office.MeetingLists.{MeetingLists}
 use Rattle.desk_words.specs.declared.office.OfficeLists.{OfficeLists}
 use Rattle.desk_words.specs.declared.records.Resolution.{Resolution}
+use Rattle.desk_words.specs.declared.records.Session.{Session}
 use Rattle.desk_words.proofs.OfficeFacts.{found_facts}
 use Rattle.desk_rows.specs.declared.kept.MeetingRow.{MeetingRow}
-use Rattle.desk_rows.specs.declared.kept.NumberedResolution.{NumberedResolution}
+use Rattle.desk_rows.specs.declared.kept.Numbered.{Numbered}
 use Rattle.desk_rows.proofs.MeaningLemmas.{bound}
 use Rattle.desk_records.specs.Office.{FlatLists, flat_in, of_meeting, office_of_records, whole_meeting}
 use Rattle.desk_records.proofs.ListChanges.{list_of}
@@ -23,10 +25,11 @@ use Rattle.desk_records.proofs.Names.ListName.{Polls}
 use Rattle.desk_records.proofs.OfficeLemmas.{AreOf, are_of}
 use Rattle.desk_records.proofs.PollChanges.{polls_ascend}
 use Rattle.desk_reading.specs.Reading.{IsReading}
-use Rattle.office_lists.specs.Own.{resolutions_own}
+use Rattle.office_lists.specs.Own.{are_few, resolutions_own}
 use Rattle.office_lists.specs.Yields.{IsCause, any_at_all}
 use Rattle.office_lists.specs.declared.fault.ReadFault.{ReadFault}
 use Rattle.caller_view.specs.Views.{polls_in}
+use Rattle.party_reading.specs.Lists.{later_in}
 use Rattle.party_reading.specs.Telling.{IsToldOf, TellsOnly}
 use Rattle.party_reading.proofs.FoundLemmas.{cause_tells, says, yields_tell}
 use Rattle.party_reading.proofs.MeetingLemmas.{IsFoundAs, has_name, list_is, meeting_found, the_same}
@@ -47,10 +50,10 @@ reading_told g a b said all held r reading R so = record {
 
 -- ---- the meeting
 
--- with the meeting's resolutions the row is the meeting, and where there is no meeting there is no row
+-- with the meeting's further sessions and its resolutions the row is the meeting, and where there is no meeting there is no row
 abbrev pub IsRowOf : Option MeetingLists → Option MeetingRow → Type 0
 IsRowOf None row = row ≡ None
-IsRowOf (Some m) row = option_map (λ (r : MeetingRow). whole_meeting r m.meeting.resolutions) row ≡ Some m.meeting
+IsRowOf (Some m) row = option_map (λ (r : MeetingRow). whole_meeting r m.meeting.later m.meeting.resolutions) row ≡ Some m.meeting
 
 -- the first of the rows is the meeting's, if there is one
 abbrev pub IsRow : List ℕ → OfficeLists → List MeetingRow → Type 0
@@ -63,10 +66,22 @@ meeting_row_so id flat office of =
     go : (found : Option MeetingLists) → IsFoundAs flat id flat.meetings found → IsRowOf found (find (has_name id) flat.meetings)
     go None none = none
     go (Some m) made =
-        ap (option_map (λ (r : MeetingRow). whole_meeting r m.meeting.resolutions)) made.found ∙ ap (λ (x : MeetingLists). Some (whole_meeting made.row x.meeting.resolutions)) made.is ∙ ap (λ (x : MeetingLists). Some x.meeting) (sym made.is)
+        ap (option_map (λ (r : MeetingRow). whole_meeting r m.meeting.later m.meeting.resolutions)) made.found ∙ ap (λ (x : MeetingLists). Some (whole_meeting made.row x.meeting.later x.meeting.resolutions)) made.is ∙ ap (λ (x : MeetingLists). Some x.meeting) (sym made.is)
+
+-- these are the further sessions of the meeting
+abbrev pub AreLater : List ℕ → OfficeLists → List Session → Type 0
+AreLater id office later = later ≡ later_in (meeting_named office.meetings id)
+
+-- they are no more than there may be
+pub sessions_few : (office : OfficeLists) (id : List ℕ) → IsTrue (is_office office) → are_few (later_in (meeting_named office.meetings id)) ≡ true
+sessions_few office id kept = go (meeting_named office.meetings id) refl
+  where
+    go : (found : Option MeetingLists) → meeting_named office.meetings id ≡ found → are_few (later_in found) ≡ true
+    go None is = refl
+    go (Some m) is = (and_parts _ _ (found_facts office id m kept is).sessions).0
 
 -- the records of a meeting's resolutions are its resolutions
-abbrev pub AreResolutions : List ℕ → OfficeLists → List NumberedResolution → Type 0
+abbrev pub AreResolutions : List ℕ → OfficeLists → List (Numbered Resolution) → Type 0
 AreResolutions id office rows = (m : MeetingLists) → meeting_named office.meetings id ≡ Some m → resolutions_own rows ≡ Some m.meeting.resolutions
 
 pub resolutions_so : (id : List ℕ) (flat : FlatLists) (office : OfficeLists) → AreOf flat office → AreResolutions id office (of_meeting id flat.resolutions)
@@ -74,21 +89,22 @@ resolutions_so id flat office of m is =
     let made = subst (IsFoundAs flat id flat.meetings) is (meeting_found flat office id of) in
     ap (λ n. resolutions_own (of_meeting n flat.resolutions)) (sym made.named) ∙ made.numbered ∙ ap (λ (x : MeetingLists). Some x.meeting.resolutions) (sym made.is)
 
-module _ (id : List ℕ) (office : OfficeLists) (meetings : List MeetingRow) (row : MeetingRow) (first : Some row ≡ slice_get meetings 0) (one : IsRow id office meetings) (rows : List NumberedResolution)
+module _ (id : List ℕ) (office : OfficeLists) (meetings : List MeetingRow) (row : MeetingRow) (first : Some row ≡ slice_get meetings 0) (one : IsRow id office meetings) (rows : List (Numbered Resolution))
     (are : AreResolutions id office rows) where
   its_row : IsRowOf (meeting_named office.meetings id) (Some row)
   its_row = subst (IsRowOf (meeting_named office.meetings id)) (sym first) one
 
-  -- the row with the resolutions is the meeting
-  pub meeting_so : (resolutions : List Resolution) → resolutions_own rows ≡ Some resolutions → Some (whole_meeting row resolutions) ≡ option_map (λ (m : MeetingLists). m.meeting) (meeting_named office.meetings id)
-  meeting_so resolutions read = go (meeting_named office.meetings id) its_row are
+  -- the row with the further sessions and the resolutions is the meeting
+  pub meeting_so : (later : List Session) → later ≡ later_in (meeting_named office.meetings id) → (resolutions : List Resolution) → resolutions_own rows ≡ Some resolutions
+      → Some (whole_meeting row later resolutions) ≡ option_map (λ (m : MeetingLists). m.meeting) (meeting_named office.meetings id)
+  meeting_so later sessions resolutions read = go (meeting_named office.meetings id) its_row sessions are
     where
-      go : (found : Option MeetingLists) → IsRowOf found (Some row) → ((m : MeetingLists) → found ≡ Some m → resolutions_own rows ≡ Some m.meeting.resolutions)
-          → Some (whole_meeting row resolutions) ≡ option_map (λ (m : MeetingLists). m.meeting) found
-      go None none next = absurd cc
-      go (Some m) is next =
+      go : (found : Option MeetingLists) → IsRowOf found (Some row) → later ≡ later_in found → ((m : MeetingLists) → found ≡ Some m → resolutions_own rows ≡ Some m.meeting.resolutions)
+          → Some (whole_meeting row later resolutions) ≡ option_map (λ (m : MeetingLists). m.meeting) found
+      go None none those next = absurd cc
+      go (Some m) is those next =
           let its : resolutions ≡ m.meeting.resolutions = the_same (sym read ∙ next m refl) in
-          ap (λ rs. Some (whole_meeting row rs)) its ∙ is
+          ap (λ s. Some (whole_meeting row s resolutions)) those ∙ ap (λ rs. Some (whole_meeting row m.meeting.later rs)) its ∙ is
 
   -- and where they are refused, it is not for want of a meeting
   pub resolutions_tell : {X : Type 0} (P : X → Type 0) (e : ReadFault) → IsTrue (is_office office) → IsCause are_resolutions e (resolutions_own rows) → TellsOnly P (Err e)

@@ -3,6 +3,7 @@ ghost use Rattle.std.specs.Prelude.{◌≡◌, option_map};
 ghost use Rattle.desk_records.specs.Office.{whole_meeting};
 ghost use Rattle.desk_words.specs.declared.office.MeetingLists.{MeetingLists};
 ghost use Rattle.caller_view.specs.Views.{meeting_at, polls_in, public_of};
+ghost use Rattle.party_reading.specs.Lists.{later_in};
 ghost use Rattle.party_reading.specs.Telling.{IsToldOf};
 
 use crate::found::{first, found, items};
@@ -10,9 +11,9 @@ use caller_view::PublicRecord;
 use desk_reading::listing;
 use desk_rows::MeetingRow;
 use desk_words::{Listing, Meeting, MeetingId, Poll, Resolutions, Session};
-use found_rows::{meetings, polls, resolutions};
+use found_rows::{meetings, polls, resolutions, sessions};
 use office_days::Closed;
-use office_lists::{ReadFault, day_list, poll_list, resolution_list};
+use office_lists::{ReadFault, day_list, poll_list, resolution_list, session_list};
 use sqlite::{Alter, Transaction};
 use std::alloc::Global;
 use std::marker::Model;
@@ -55,9 +56,9 @@ pub fn read_closed<S: Alter>(
     Ok(Closed::from_list(day_list(days)?))
 }
 
-/// A meeting of one session, with its resolutions.
-fn whole_meeting(alloc: Global, row: MeetingRow, resolutions: Resolutions) -> Meeting
-    ensures { result ≡ whole_meeting row resolutions }
+/// A meeting, with its further sessions and its resolutions.
+fn whole_meeting(row: MeetingRow, later: Listing<Session>, resolutions: Resolutions) -> Meeting
+    ensures { result ≡ whole_meeting row later resolutions }
 {
     Meeting {
         id: row.id,
@@ -68,14 +69,29 @@ fn whole_meeting(alloc: Global, row: MeetingRow, resolutions: Resolutions) -> Me
             appointed: row.appointed,
             opened: row.opened,
         },
-        later: Listing::new(alloc),
+        later,
         record_moment: row.record_moment,
         resolutions,
         loaded: row.loaded,
     }
 }
 
-/// The meeting of a name with its resolutions (section 307), if there is one.
+/// The sessions to which a meeting was adjourned, in order; where there is no meeting of that name,
+/// none.
+fn later_of<S: Alter>(
+    tx: &mut Transaction<'_, S>,
+    alloc: Global,
+    meeting: MeetingId,
+) -> Result<Listing<Session>, ReadFault>
+    ensures same_reference { tx.new.conn.ghost_name ≡ tx.old.conn.ghost_name }
+    ensures told { IsToldOf S.Store tx.old.conn.now tx.new.conn.now result
+        (λ office later. later ≡ later_in (meeting_at office meeting)) }
+{
+    let rows = items(alloc, found(alloc, sessions::of_meeting(tx, meeting)))?;
+    session_list(alloc, rows)
+}
+
+/// The meeting of a name with its sessions and its resolutions (section 307), if there is one.
 pub fn meeting_of<S: Alter>(
     tx: &mut Transaction<'_, S>,
     alloc: Global,
@@ -90,9 +106,10 @@ pub fn meeting_of<S: Alter>(
     let Some(row) = first(rows) else {
         return Ok(None);
     };
+    let later = later_of(tx, alloc, meeting)?;
     let rows = items(alloc, found(alloc, resolutions::of_meeting(tx, meeting)))?;
     let resolutions = resolution_list(alloc, rows)?;
-    Ok(Some(whole_meeting(alloc, row, resolutions)))
+    Ok(Some(whole_meeting(row, later, resolutions)))
 }
 
 /// The polls of a meeting (section 321), in the order of resolutions.
