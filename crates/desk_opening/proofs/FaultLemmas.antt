@@ -7,13 +7,13 @@ use Rattle.sqlite.specs.declared.error.Error.TheVariants.{SqliteFailure}
 use Rattle.sqlite.specs.declared.error.ErrorCode.TheVariants.{OutOfMemory}
 use Rattle.desk_tables.specs.declared.columns.ColumnFault.{ColumnFault}
 use Rattle.desk_tables.specs.declared.columns.ColumnFault.TheVariants.{Missing, Refused}
-use Rattle.desk_records.specs.Standing.{HasNoOffice, HasNoVersion, IsNewer, IsVersionOne}
-use Rattle.desk_schema.specs.Statements.{IsDeclared}
-use Rattle.desk_tables.specs.Columns.{HasColumns}
-use Rattle.desk_opening.specs.Opening.{IsOpenCause, IsFaultOf, IsNoDesk, creating_fault, fault_of_columns, opening_fault}
+use Rattle.desk_records.specs.Standing.{HasNoVersion, IsNewer, IsVersionOf}
+use Rattle.desk_opening.specs.Known.{edition_of}
+use Rattle.desk_opening.specs.Opening.{IsOpenCause, IsFaultOf, IsNoDesk, IsNoDeskOf, creating_fault, fault_of_columns, opening_fault}
 use Rattle.desk_opening.specs.declared.fault.OpenFault.{OpenFault}
 use Rattle.desk_opening.specs.declared.fault.CreateFault.TheVariants.{NotEmpty}
 use Rattle.desk_opening.specs.declared.fault.OpenFault.TheVariants.{NotADesk, NewerVersion, Store, Memory}
+use Rattle.desk_opening.specs.declared.version.KnownVersion.{KnownVersion}
 
 -- no refusal is that the database holds something
 pub never_not_empty : (e : Error) → creating_fault e ≢ NotEmpty
@@ -46,28 +46,12 @@ by_version NewerVersion s h = h
 by_version Store s h = tt
 by_version Memory s h = tt
 
--- it is the first, and a column is missing
-pub by_columns : (fault : OpenFault) (s : State) → IsVersionOne s → fault ≢ NewerVersion → (fault ≡ NotADesk → ¬ HasColumns s.now.schema) → IsOpenCause fault s
-by_columns NotADesk s one other h = inr (one, inl (h refl))
-by_columns NewerVersion s one other h = absurd (other refl)
-by_columns Store s one other h = tt
-by_columns Memory s one other h = tt
-
--- it is the first, and what is held is no office
-pub by_office : (fault : OpenFault) (s : State) → IsVersionOne s → fault ≢ NewerVersion → (fault ≡ NotADesk → IsDeclared s → HasNoOffice s) → IsOpenCause fault s
-by_office NotADesk s one other h = inr (one, inr (h refl))
-by_office NewerVersion s one other h = absurd (other refl)
-by_office Store s one other h = tt
-by_office Memory s one other h = tt
-
--- the store refused, or memory
-pub by_store : (fault : OpenFault) (s : State) → (fault ≡ Store) ⊎ (fault ≡ Memory) → IsOpenCause fault s
-by_store NotADesk s (inl h) = absurd cc
-by_store NotADesk s (inr h) = absurd cc
-by_store NewerVersion s (inl h) = absurd cc
-by_store NewerVersion s (inr h) = absurd cc
-by_store Store s h = tt
-by_store Memory s h = tt
+-- it is known, and they are none of its
+pub by_known : (fault : OpenFault) (known : KnownVersion) (s : State) → IsVersionOf (edition_of known) s → fault ≢ NewerVersion → (fault ≡ NotADesk → IsNoDeskOf known s) → IsOpenCause fault s
+by_known NotADesk known s is other h = inr (known, is, h refl)
+by_known NewerVersion known s is other h = absurd (other refl)
+by_known Store known s is other h = tt
+by_known Memory known s is other h = tt
 
 -- tables that are the same are no desk's for the same cause
 pub cause_same : (fault : OpenFault) (s t : State) → s.now ≡ t.now → IsOpenCause fault s → IsOpenCause fault t

@@ -3,7 +3,9 @@ pub mod CrashLemmas
 pub mod EmptyLemmas
 pub mod FaultLemmas
 pub mod FoundLemmas
+pub mod KeptLemmas
 pub mod MakingLemmas
+pub mod MoveLemmas
 pub mod OneSchema
 pub mod OpeningLemmas
 pub mod OrderedOffice

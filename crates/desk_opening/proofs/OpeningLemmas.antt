@@ -12,7 +12,7 @@ use Rattle.sqlite.specs.Tree.{Trees}
 use Rattle.sqlite_catalog.specs.Listing.{AreListed}
 use Rattle.sqlite_trees.specs.Objects.{catalog_tree}
 use Rattle.sqlite.specs.Effect.{Database}
-use Rattle.desk_schema.specs.Statements.{HasTables, IsDesk, IsRising, layout_one}
+use Rattle.desk_schema.specs.Statements.{HasTables, IsDesk, IsDeskOf, IsRising, Layout, layout_two}
 use Rattle.desk_tables.specs.Versions.{AreNoted, NotesVersion}
 use Rattle.desk_opening.proofs.OneSchema.{one_schema}
 use Rattle.sqlite_trees.specs.declared.store.Store as store
@@ -23,12 +23,12 @@ use Rattle.desk_words.specs.Registers.{member_before}
 use Rattle.desk_words.specs.declared.office.MeetingLists.{MeetingLists}
 use Rattle.desk_words.specs.declared.office.OfficeLists.{OfficeLists}
 use Rattle.desk_words.specs.declared.records.RegisterRow.{RegisterRow}
-use Rattle.desk_words.specs.declared.records.Resolution.{Resolution}
 use Rattle.desk_words.proofs.OfficeFacts.{meeting_facts, office_facts, register_ascends}
 use Rattle.desk_terms.specs.Options.{◌>>=◌}
 use Rattle.desk_rows.specs.declared.kept.MeetingRow.{MeetingRow}
-use Rattle.desk_records.specs.Office.{FlatLists, flat_in, lists_of, lists_of_all, lists_with, of_meeting, office_in, office_of_records, resolutions_of}
-use Rattle.desk_records.proofs.OfficeLemmas.{are_of}
+use Rattle.desk_records.specs.Office.{FlatLists, flat_in, lists_of, lists_of_all, of_meeting, office_in, office_of_records}
+use Rattle.desk_records.specs.Standing.{IsVersion, Stands}
+use Rattle.desk_records.proofs.OfficeLemmas.{are_of, given}
 use Rattle.desk_rows.proofs.MeaningLemmas.{bound}
 use Rattle.desk_reading.specs.Reading.{IsReading}
 use Rattle.office_checks.specs.InOrder.{in_order, office_in_order}
@@ -37,7 +37,7 @@ use Rattle.desk_opening.specs.declared.fault.OpenFault.{OpenFault}
 use Rattle.desk_opening.specs.declared.fault.OpenFault.TheVariants.{NotADesk, NewerVersion}
 use Rattle.desk_opening.proofs.OrderedOffice.{office_ordered}
 
-some_is : {A : Type 0} {a b : A} → ◌≡◌ {A = Option A} (Some a) (Some b) → a ≡ b
+pub some_is : {A : Type 0} {a b : A} → ◌≡◌ {A = Option A} (Some a) (Some b) → a ≡ b
 some_is h = cc
 
 -- a register that was put in order, and is one then, is in order
@@ -50,9 +50,7 @@ meeting_stays m rows was h =
     ap (λ l. record m { register = l }) (is ∙ sym was)
 
 register_of : (flat : FlatLists) (row : MeetingRow) (m : MeetingLists) → lists_of flat row ≡ Some m → m.register ≡ sort_by member_before (of_meeting row.id flat.register)
-register_of flat row m h =
-    let it = bound (resolutions_of row.id flat.resolutions) (λ (l : List Resolution). Some (lists_with flat row l)) m h in
-    sym (ap (λ (x : MeetingLists). x.register) (some_is it.2))
+register_of flat row m h = sym (ap (λ (x : MeetingLists). x.register) (given flat row m h).is)
 
 meetings_stay : (flat : FlatLists) (rows : List MeetingRow) (ms : List MeetingLists) → lists_of_all flat rows ≡ Some ms → list_all is_meeting (map in_order ms) ≡ true → map in_order ms ≡ ms
 meetings_stay flat [] ms h all = let none : [] ≡ ms = some_is h in rw (← none) refl
@@ -80,12 +78,14 @@ lists_judged g a b lists (Ok t) read ordered right wrong other = record {
       let stays = office_stays (state g a).now.trees lists (read.told is) (subst (λ (o : OfficeLists). is_office o ≡ true) ordered right) in
       let same : t ≡ lists = ordered ∙ stays in
       (read.told is ∙ ap (λ (o : OfficeLists). Some o) (sym same), right);
+  same = read.same;
   none = λ is told. absurd cc;
   other = other;
   changes = read.changes;
 }
 lists_judged g a b lists (Err fault) read ordered right wrong other = record {
   right = λ is. tt;
+  same = λ is. tt;
   none = λ is told office h.
       let same : lists ≡ office = some_is (sym (read.told is) ∙ h) in
       subst (λ (o : OfficeLists). is_office o ≡ false) same (elim (cases_Bool (is_office lists)) [
@@ -104,10 +104,21 @@ same_database old new same was is =
     ap (λ t. record new.now { trees = t }) same ∙ ap (λ s. record old.now { schema = s }) declared
 
 -- what is so of tables is so of the same tables
-pub desk_same : (s t : State) → s.now ≡ t.now → IsDesk s → IsDesk t
-desk_same s t same desk = record {
-  schema = subst (λ (d : Database). HasTables layout_one d.schema) same desk.schema;
+pub desk_of_same : (layout : Layout) (s t : State) → s.now ≡ t.now → IsDeskOf layout s → IsDeskOf layout t
+desk_of_same layout s t same desk = record {
+  schema = subst (λ (d : Database). HasTables layout d.schema) same desk.schema;
   rising = λ number is. subst (λ (d : Database). IsRising (d.trees number)) same (desk.rising number is);
+}
+
+pub desk_same : (s t : State) → s.now ≡ t.now → IsDesk s → IsDesk t
+desk_same = desk_of_same layout_two
+
+pub stands_same : (s t : State) (office : OfficeLists) → s.now ≡ t.now → Stands s office → Stands t office
+stands_same s t office same stands = record {
+  desk = desk_same s t same stands.desk;
+  version = subst (λ (d : Database). IsVersion (record s { now = d })) same stands.version;
+  holds = subst (λ (d : Database). office_in d.trees ≡ Some office) same stands.holds;
+  kept = stands.kept;
 }
 
 pub noted_same : (s t : State) → s.now ≡ t.now → AreNoted s → AreNoted t

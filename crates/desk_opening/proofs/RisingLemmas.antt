@@ -11,8 +11,8 @@ use Rattle.sqlite_trees.specs.declared.store.Shape.{Shape}
 use Rattle.sqlite_trees.specs.declared.store.Shape.TheVariants as shape
 use Rattle.sqlite_catalog.specs.Listing.{AreListed}
 use Rattle.sqlite_catalog.proofs.LayoutLemmas.{laid_out}
-use Rattle.desk_schema.specs.Statements.{IsDeclared, IsDesk, IsRising}
-use Rattle.desk_statements.proofs.Frames.{of_tables, of_tree, ones_apart}
+use Rattle.desk_schema.specs.Statements.{HasTables, IsDeclared, IsDesk, IsDeskOf, IsRising, layout_one}
+use Rattle.desk_statements.proofs.Frames.{of_tables, of_tree, ones_apart, twos_apart}
 use Rattle.desk_tables.specs.Versions.{AreNoted, NotesVersion}
 use Rattle.desk_opening.specs.Rising.{Rise, RowsRise}
 
@@ -37,6 +37,13 @@ risen v s same listed ordered are =
 -- tables that are declared as a desk's, and whose rows rise, are a desk's
 pub are_a_desk : (s : State) → IsDeclared s → RowsRise s → IsDesk s
 are_a_desk s has rise = record {
+  schema = has;
+  rising = of_tables (twos_apart s.now.schema has) (λ n. IsRising (s.now.trees n)) rise;
+}
+
+-- and those that are declared as in version 1 are a desk's of that version
+pub are_a_desk_one : (s : State) → HasTables layout_one s.now.schema → RowsRise s → IsDeskOf layout_one s
+are_a_desk_one s has rise = record {
   schema = has;
   rising = of_tables (ones_apart s.now.schema has) (λ n. IsRising (s.now.trees n)) rise;
 }

@@ -1,28 +1,75 @@
 -- Tables that are whole: how they are known, and as what they are opened.
-use Rattle.std.proofs.Common.{◌≡◌, ◌⊎◌, ◌≤◌, [], ◌∷◌, Option, Some, IsTrue, refl, sym, subst, ◌∙◌, inl, inr, true≢false, arith}
+use Rattle.std.proofs.Common.{◌≡◌, ◌≢◌, ◌⊎◌, ◌≤◌, ℕ, List, [], ◌∷◌, Option, Some, IsTrue, refl, sym, ap, subst, ◌∙◌, inl, inr, true≢false, arith}
 use Rattle.sqlite.specs.Effect.{Database, IsDatabase}
+use Rattle.sqlite.specs.Schema.{Schema}
 use Rattle.sqlite.specs.State.{State, IsLive}
 use Rattle.sqlite.specs.Tree.{Trees}
+use Rattle.sqlite_catalog.specs.Listing.{AreListed}
 use Rattle.sqlite_trees.specs.Objects.{catalog_tree}
+use Rattle.desk_words.specs.Changes.{empty_office}
 use Rattle.desk_words.specs.declared.office.OfficeLists.{OfficeLists}
 use Rattle.desk_rows.specs.declared.kept.Version.{Version}
-use Rattle.desk_schema.specs.Statements.{HasTables, IsDeclared, layout_one}
-use Rattle.desk_records.specs.Standing.{Stands, version_one}
-use Rattle.desk_tables.proofs.ColumnLemmas.{columns_stand}
+use Rattle.desk_schema.specs.Statements.{HasTables, layout_one}
+use Rattle.desk_schema.specs.Tables.{desk_schema}
+use Rattle.desk_statements.proofs.Frames.{as_one, ones_declared}
+use Rattle.desk_records.specs.Standing.{IsVersionOf, Stands}
+use Rattle.desk_tables.proofs.ColumnLemmas.{columns_one_stand, columns_stand}
 use Rattle.desk_tables.proofs.DeskLemmas.{desk_notes}
-use Rattle.desk_tables.specs.Versions.{AreNoted}
+use Rattle.desk_tables.specs.Columns.{HasColumnsOf}
+use Rattle.desk_tables.specs.Versions.{NotesVersion}
 use Rattle.desk_opening.specs.Crashes.{LeavesItself}
+use Rattle.desk_opening.specs.Known.{IsMadeAs, edition_of}
+use Rattle.desk_opening.specs.Opened.{StandsFor}
 use Rattle.desk_opening.specs.Opening.{IsOpenCause}
-use Rattle.desk_opening.specs.Rising.{RowsRise}
-use Rattle.desk_opening.specs.Whole.{IsWhole, LeavesWhole}
+use Rattle.desk_opening.specs.Whole.{IsNewDesk, IsWhole, IsWholeAs, IsWholeDesk, LeavesWhole}
 use Rattle.desk_opening.specs.declared.fault.OpenFault.{OpenFault}
 use Rattle.desk_opening.specs.declared.fault.OpenFault.TheVariants.{NotADesk, NewerVersion, Store, Memory}
+use Rattle.desk_opening.specs.declared.version.KnownVersion.{KnownVersion}
+use Rattle.desk_opening.specs.declared.version.KnownVersion.TheVariants.{One, Two}
 use Rattle.desk_opening.proofs.OneSchema.{one_schema}
-use Rattle.desk_opening.proofs.RisingLemmas.{are_noted}
+use Rattle.desk_opening.proofs.OpeningLemmas.{some_is}
 
--- a database whose tables are whole is declared as a desk's
-pub declared_so : (d : Database) (office : OfficeLists) → IsWhole d.trees office → IsDatabase d → HasTables layout_one d.schema
-declared_so d office whole is = subst (HasTables layout_one) (sym (one_schema (d.trees catalog_tree) whole.schema d.schema whole.listed is.lists.listed)) whole.declared
+-- ---- tables of a version
+
+-- tables of version 1, as its program makes them, are declared as its are
+pub ones_made : (s : Schema) → IsMadeAs One s → HasTables layout_one s
+ones_made s made = subst (HasTables layout_one) (sym made) ones_declared
+
+-- tables of a version note it
+pub notes_so : (known : KnownVersion) (s : Schema) → IsMadeAs known s → NotesVersion s
+notes_so One s made = desk_notes s (ones_made s made)
+notes_so Two s made = desk_notes s (as_one s made)
+
+-- and have each column that is read of it
+pub columns_so : (known : KnownVersion) (s : Schema) → IsMadeAs known s → HasColumnsOf (edition_of known).asked s
+columns_so One s made = columns_one_stand s (ones_made s made)
+columns_so Two s made = columns_stand s made
+
+-- the number of the version that is noted
+abbrev number_of : Option (List Version) → ℕ
+number_of (Some (version ∷ [])) = version.number
+number_of other = 0
+
+-- tables are of one version
+pub same_version : (a b : KnownVersion) (s : State) → IsVersionOf (edition_of a) s → IsVersionOf (edition_of b) s → a ≡ b
+same_version One One s p q = refl
+same_version One Two s p q = absurd (let e : ◌≡◌ {A = ℕ} 1 2 = ap number_of (sym p ∙ q) in cc)
+same_version Two One s p q = absurd (let e : ◌≡◌ {A = ℕ} 2 1 = ap number_of (sym p ∙ q) in cc)
+same_version Two Two s p q = refl
+
+above_none : (known : KnownVersion) → (edition_of known).version.number ≢ 0
+above_none One h = cc
+above_none Two h = cc
+
+below_three : (known : KnownVersion) → ¬ (3 ≤ (edition_of known).version.number)
+below_three One h = omega (arith, h)
+below_three Two h = omega (arith, h)
+
+-- ---- whole tables
+
+-- a database whose tables are whole is made as the program of their version makes it
+pub made_so : (known : KnownVersion) (d : Database) (office : OfficeLists) → IsWholeAs known d.trees office → IsDatabase d → IsMadeAs known d.schema
+made_so known d office whole is = subst (IsMadeAs known) (sym (one_schema (d.trees catalog_tree) whole.schema d.schema whole.listed is.lists.listed)) whole.declared
 
 -- the tables of a database that stand for an office are whole
 pub whole_of : (s : State) (office : OfficeLists) → Stands s office → IsDatabase s.now → IsWhole s.now.trees office
@@ -39,37 +86,49 @@ whole_of s office stands is = record {
 pub leaves_whole : (s : State) (office : OfficeLists) → Stands s office → IsDatabase s.now → LeavesItself s → LeavesWhole s office
 leaves_whole s office stands is itself = λ db may. subst (λ (t : Trees). IsWhole t office) (sym ((itself db).0 may)) (whole_of s office stands is)
 
--- tables stand for the one office that they are whole
-pub stands_for : (s : State) (told office : OfficeLists) → Stands s told → IsWhole s.now.trees office → Stands s office
-stands_for s told office stands whole =
-    let both : ◌≡◌ {A = Option OfficeLists} (Some told) (Some office) = sym stands.holds ∙ whole.holds in
-    let same : told ≡ office = cc in
-    subst (Stands s) same stands
-
 -- tables that are whole are refused by no fault but the store's and want of memory
-pub no_other_fault : (fault : OpenFault) (s : State) (office : OfficeLists) → IsWhole s.now.trees office → IsDeclared s → IsOpenCause fault s → (fault ≡ Store) ⊎ (fault ≡ Memory)
-no_other_fault NotADesk s office whole has (inl none) = absurd (let zero : version_one.number ≡ 0 = none version_one whole.version in cc)
-no_other_fault NotADesk s office whole has (inr (one, inl missing)) = absurd (missing (columns_stand s.now.schema has))
-no_other_fault NotADesk s office whole has (inr (one, inr none)) = absurd (true≢false (sym whole.kept ∙ none has office whole.holds))
-no_other_fault NewerVersion s office whole has (version, noted, later) =
-    let both : ◌≡◌ {A = Option _} (Some (version ∷ [])) (Some (version_one ∷ [])) = sym noted ∙ whole.version in
-    let same : version ≡ version_one = cc in
-    absurd (let late : 2 ≤ version_one.number = subst (λ (v : Version). 2 ≤ v.number) same later in omega (arith, late))
-no_other_fault Store s office whole has h = inl refl
-no_other_fault Memory s office whole has h = inr refl
+pub no_other_fault : (fault : OpenFault) (known : KnownVersion) (s : State) (office : OfficeLists) → IsWholeAs known s.now.trees office → IsMadeAs known s.now.schema → IsOpenCause fault s → (fault ≡ Store) ⊎ (fault ≡ Memory)
+no_other_fault NotADesk known s office whole made (inl none) = absurd (above_none known (none (edition_of known).version whole.version))
+no_other_fault NotADesk known s office whole made (inr (told, is, inl missing)) =
+    let same : known ≡ told = same_version known told s whole.version is in
+    absurd (missing (columns_so told s.now.schema (subst (λ k. IsMadeAs k s.now.schema) same made)))
+no_other_fault NotADesk known s office whole made (inr (told, is, inr none)) =
+    let same : known ≡ told = same_version known told s whole.version is in
+    let there : IsWholeAs told s.now.trees office = subst (λ k. IsWholeAs k s.now.trees office) same whole in
+    absurd (true≢false (sym whole.kept ∙ none (subst (λ k. IsMadeAs k s.now.schema) same made) office there.holds))
+no_other_fault NewerVersion known s office whole made (version, noted, later) =
+    let both : ◌≡◌ {A = Option _} (Some (version ∷ [])) (Some ((edition_of known).version ∷ [])) = sym noted ∙ whole.version in
+    let same : version ≡ (edition_of known).version = cc in
+    absurd (below_three known (subst (λ (v : Version). 3 ≤ v.number) same later))
+no_other_fault Store known s office whole made h = inl refl
+no_other_fault Memory known s office whole made h = inr refl
 
 -- so are those that were found no desk's, or a later version's, while the store was open
-pub no_fault_of_whole : (fault : OpenFault) (s : State) (office : OfficeLists) → IsWhole s.now.trees office → IsLive s → RowsRise s → ((fault ≡ NotADesk) ⊎ (fault ≡ NewerVersion) → IsTrue s.is_open) → (AreNoted s → IsOpenCause fault s)
+pub no_fault_of_whole : (fault : OpenFault) (s : State) (office : OfficeLists) → IsWholeDesk s.now.trees office → IsLive s → ((fault ≡ NotADesk) ⊎ (fault ≡ NewerVersion) → IsTrue s.is_open) → (NotesVersion s.now.schema → IsOpenCause fault s)
     → (fault ≡ Store) ⊎ (fault ≡ Memory)
-no_fault_of_whole fault s office whole live rise opened cause = go fault refl
+no_fault_of_whole fault s office (known, whole) live opened cause = go fault refl
   where
     of_desk : IsTrue s.is_open → (fault ≡ Store) ⊎ (fault ≡ Memory)
     of_desk is_open =
-        let has = declared_so s.now office whole (live is_open).0 in
-        no_other_fault fault s office whole has (cause (are_noted s (desk_notes s.now.schema has) rise))
+        let made = made_so known s.now office whole (live is_open).0 in
+        no_other_fault fault known s office whole made (cause (notes_so known s.now.schema made))
 
     go : (f : OpenFault) → fault ≡ f → (fault ≡ Store) ⊎ (fault ≡ Memory)
     go NotADesk is = of_desk (opened (inl is))
     go NewerVersion is = of_desk (opened (inr is))
     go Store is = inl is
     go Memory is = inr is
+
+-- tables that were whole stand for their office, where tables of its version stand for the office that they held
+pub opens_whole : (old new : State) (told : OfficeLists) → IsLive old → IsTrue old.is_open
+    → ((known : KnownVersion) → IsMadeAs known old.now.schema → IsVersionOf (edition_of known) old → StandsFor old new told known) → (office : OfficeLists) → IsWholeDesk old.now.trees office → Stands new office
+opens_whole old new told live is_open stands office (known, whole) =
+    let made = made_so known old.now office whole (live is_open).0 in
+    let it = stands known made whole.version in
+    let same : told ≡ office = some_is (sym it.0 ∙ whole.holds) in
+    subst (Stands new) same it.1
+
+-- the tables of a database that is a new desk are those of one
+pub new_desk : (s : State) (db : Trees) → Stands s empty_office → s.now.schema ≡ desk_schema → IsDatabase s.now → db ≡ s.now.trees → IsNewDesk db
+new_desk s db stands made sound is =
+    subst IsNewDesk (sym is) (record { listed = subst (AreListed (s.now.trees catalog_tree)) made sound.lists.listed; whole = whole_of s empty_office stands sound })

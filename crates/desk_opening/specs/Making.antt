@@ -3,24 +3,14 @@ use Rattle.std.specs.Prelude.{◌≡◌, Result, OnOk, IsTrue}
 use Rattle.sqlite.specs.declared.error.Error.{Error}
 use Rattle.sqlite.specs.Effect.{IsDatabase}
 use Rattle.sqlite.specs.Held.{Held, state}
-use Rattle.sqlite.specs.Schema.{Schema}
 use Rattle.sqlite.specs.State.{State, HasCleanDisk, KeepsCommit, Survives}
 use Rattle.sqlite.specs.Tree.{Trees}
 use Rattle.sqlite_trees.specs.declared.store.Store as store
 use Rattle.desk_words.specs.Changes.{empty_office}
-use Rattle.desk_schema.specs.Statements.{AreEmpty, Makes}
+use Rattle.desk_schema.specs.Statements.{AreEmpty}
 use Rattle.desk_schema.specs.Tables.{desk_schema, no_schema}
 use Rattle.desk_records.specs.Standing.{Stands}
 use Rattle.desk_opening.specs.Whole.{IsNewDesk}
-
--- in a transaction the empty tables of the first schema become those of the second, and nothing is
--- committed
-pub record IsMaking {S T : Type 0} (g : store.Ghosts S) (old new : Held S) (result : Result T Error)
-    (before after : Schema) : Type 0 where
-  pub made : Makes g old new result before after
-  pub kept : HasCleanDisk (state g new) → IsTrue (state g old).in_transaction
-      → AreEmpty before (state g old) → KeepsCommit (state g old) (state g new)
-  pub crash : Survives (state g old) (state g new) (λ _. ⊥)
 
 -- in a transaction over a database without tables, the tables of a desk that holds nothing are made
 -- with their indexes, and no others, and nothing is committed
@@ -32,8 +22,7 @@ pub record LeavesEmptyDesk {S T : Type 0} (g : store.Ghosts S) (old new : Held S
       × ((state g new).now.schema ≡ desk_schema)
       × IsDatabase (state g new).now
       × IsTrue (state g new).in_transaction)
-  pub kept : HasCleanDisk (state g new) → IsTrue (state g old).in_transaction
-      → AreEmpty no_schema (state g old) → KeepsCommit (state g old) (state g new)
+  pub kept : HasCleanDisk (state g new) → KeepsCommit (state g old) (state g new)
   pub crash : Survives (state g old) (state g new) (λ _. ⊥)
 
 -- in a database that had no table, these are the tables of a new desk

@@ -1,24 +1,24 @@
 -- What is known of a desk that was made or opened, and of a database that was not, where the disk
 -- returned what was written.
-use Rattle.std.specs.Prelude.{◌≡◌, ◌⊎◌, Result, OnOk, IsTrue}
+use Rattle.std.specs.Prelude.{◌≡◌, ◌⊎◌, Some, Result, OnOk, IsTrue}
 use Rattle.sqlite.specs.Held.{Held, state}
-use Rattle.sqlite.specs.State.{HasCleanDisk, Survives}
+use Rattle.sqlite.specs.State.{State, HasCleanDisk, Survives}
 use Rattle.sqlite.specs.Tree.{Trees}
 use Rattle.sqlite_trees.specs.declared.store.Store as store
 use Rattle.desk_words.specs.Changes.{empty_office}
 use Rattle.desk_words.specs.declared.office.OfficeLists.{OfficeLists}
-use Rattle.desk_schema.specs.Statements.{IsDeclared}
 use Rattle.desk_schema.specs.Tables.{desk_schema}
-use Rattle.desk_records.specs.Standing.{IsVersionOne, Stands}
-use Rattle.desk_tables.specs.Columns.{HasColumns}
+use Rattle.desk_records.specs.Standing.{IsVersionOf, Stands, office_by}
 use Rattle.desk_tables.specs.Versions.{NotesVersion}
-use Rattle.desk_opening.specs.Crashes.{LeavesItself}
+use Rattle.desk_opening.specs.Crashes.{AreMoved, LeavesItself}
+use Rattle.desk_opening.specs.Known.{AreOpened, IsMadeAs, WereOf, edition_of}
 use Rattle.desk_opening.specs.Making.{AreMade}
 use Rattle.desk_opening.specs.Opening.{IsCleanBack, IsOpenCause, ShowsLater}
-use Rattle.desk_opening.specs.Whole.{IsNewDesk, IsWhole, LeavesWhole}
+use Rattle.desk_opening.specs.Whole.{IsNewDesk, IsWholeDesk, LeavesWhole}
 use Rattle.desk_opening.specs.declared.fault.OpenFault.{OpenFault}
 use Rattle.desk_opening.specs.declared.fault.OpenFault.TheVariants.{NewerVersion, Store, Memory}
 use Rattle.desk_opening.specs.declared.opening.HandedBack.{HandedBack}
+use Rattle.desk_opening.specs.declared.version.KnownVersion.{KnownVersion}
 
 -- where it went well, this holds
 abbrev pub OnDone : {S T E : Type 0} → store.Ghosts S → Held S → Result T E → Type 0 → Type 0
@@ -48,19 +48,20 @@ KeepsOpenRows g old new =
     HasCleanDisk (state g new) → IsTrue (state g new).is_open
     → (state g new).now.trees ≡ (state g old).now.trees
 
--- where the tables were declared as a desk's are, this holds
-abbrev pub IfDeclared : {S : Type 0} → store.Ghosts S → Held S → Held S → Type 0 → Type 0
-IfDeclared g old new Holds =
-    HasCleanDisk (state g new) → IsDeclared (state g old) → Holds
+-- where the tables were made as those of a version that is known, and noted it, this holds of the
+-- version
+abbrev pub IfMadeAs : {S : Type 0} → store.Ghosts S → Held S → Held S → (KnownVersion → Type 0)
+    → Type 0
+IfMadeAs g old new Holds =
+    HasCleanDisk (state g new) → (known : KnownVersion) → IsMadeAs known (state g old).now.schema
+    → IsVersionOf (edition_of known) (state g old) → Holds known
 
--- tables that noted their version were of version 1
-abbrev pub HadVersionOne : {S : Type 0} → store.Ghosts S → Held S → Held S → Type 0
-HadVersionOne g old new =
-    HasCleanDisk (state g new) → NotesVersion (state g old).now.schema → IsVersionOne (state g old)
-
--- each column that is read stood
-abbrev pub HadColumns : {S : Type 0} → store.Ghosts S → Held S → Held S → Type 0
-HadColumns g old new = HasCleanDisk (state g new) → HasColumns (state g old).now.schema
+-- the tables were of a version that is known, and are as they were, or, of version 1, are moved
+abbrev pub WereKnown : {S : Type 0} → store.Ghosts S → Held S → Held S → Type 0
+WereKnown g old new =
+    HasCleanDisk (state g new)
+    → (known : KnownVersion) × WereOf g known (state g old)
+    × AreOpened known (state g old) (state g new)
 
 -- the fault is why tables were not opened as a desk
 pub record IsWhyUnopened {S : Type 0} (g : store.Ghosts S) (old : Held S) (why : OpenFault)
@@ -71,7 +72,7 @@ pub record IsWhyUnopened {S : Type 0} (g : store.Ghosts S) (old : Held S) (why :
   -- whatever the tables were, a later version is told only where they showed one
   pub newer : IsCleanBack g it → why ≡ NewerVersion → ShowsLater g (state g old).now
   -- tables that are whole are told to be no desk's, or a later version's, by no fault
-  pub whole : IsCleanBack g it → (office : OfficeLists) → IsWhole (state g old).now.trees office
+  pub whole : IsCleanBack g it → (office : OfficeLists) → IsWholeDesk (state g old).now.trees office
       → (why ≡ Store) ⊎ (why ≡ Memory)
 
 -- the tables are those of a desk that holds nothing; the database has the tables and the indexes of
@@ -83,11 +84,22 @@ HoldsNothing g made =
     × ((state g made).now.schema ≡ desk_schema)
     × ((db : Trees) → (state g made).may_leave db → IsNewDesk db)
 
--- where the tables were declared as a desk's are, they stand for an office, and a crash leaves that
--- office whole
+-- the office that tables of this version held is the one for which they stand now, and a crash
+-- leaves it whole
+abbrev pub StandsFor : State → State → OfficeLists → KnownVersion → Type 0
+StandsFor old new office known =
+    (office_by (edition_of known) old.now.trees ≡ Some office) × Stands new office
+    × LeavesWhole new office
+
+-- where the tables were made as those of a version that is known, they stand for the office that
+-- they held, and a crash leaves that office whole
 abbrev pub StandsWhole : {S : Type 0} → store.Ghosts S → Held S → Held S → OfficeLists → Type 0
 StandsWhole g old new office =
-    IfDeclared g old new (Stands (state g new) office × LeavesWhole (state g new) office)
+    IfMadeAs g old new (StandsFor (state g old) (state g new) office)
+
+-- a crash leaves what it left before, or tables of version 1 moved
+abbrev pub SurvivesMoving : {S : Type 0} → store.Ghosts S → Held S → Held S → Type 0
+SurvivesMoving g old new = Survives (state g old) (state g new) (AreMoved g (state g old))
 
 -- a crash leaves what it left before, or the tables that are made, whole
 abbrev pub SurvivesMaking : {S : Type 0} → store.Ghosts S → Held S → Held S → Type 0

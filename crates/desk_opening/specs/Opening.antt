@@ -6,26 +6,23 @@ use Rattle.sqlite.specs.declared.error.Error.TheVariants.{SqliteFailure}
 use Rattle.sqlite.specs.declared.error.ErrorCode.TheVariants.{OutOfMemory}
 use Rattle.sqlite.specs.Effect.{Database}
 use Rattle.sqlite.specs.Held.{Held, state}
-use Rattle.sqlite.specs.Order.{Row}
-use Rattle.sqlite.specs.State.{State, HasCleanDisk, Survives}
+use Rattle.sqlite.specs.State.{State, HasCleanDisk, IsUnchanged, Survives}
 use Rattle.sqlite.specs.Tree.{Trees}
 use Rattle.sqlite_trees.specs.View.{IsClean}
 use Rattle.sqlite_trees.specs.declared.store.Store as store
 use Rattle.desk_words.specs.declared.office.OfficeLists.{OfficeLists}
 use Rattle.desk_words.specs.Office.{is_office}
-use Rattle.desk_rows.specs.Meanings.{all_mean}
 use Rattle.desk_rows.specs.declared.kept.Version.{Version}
 use Rattle.desk_records.specs.Office.{office_in}
-use Rattle.desk_schema.specs.Contents.{desk}
-use Rattle.desk_schema.specs.Statements.{ChangesNothing, IsDeclared, IsDesk, IsRead, WasOpen}
-use Rattle.desk_tables.specs.Columns.{HasColumns}
-use Rattle.desk_tables.specs.Versions.{AreNoted, ShowsVersions}
-use Rattle.desk_records.specs.Standing.{IsVersionOne}
+use Rattle.desk_schema.specs.Statements.{ChangesNothing, IsDesk, IsRead, WasOpen}
+use Rattle.desk_tables.specs.Columns.{HasColumnsOf}
+use Rattle.desk_tables.specs.Versions.{AreNoted}
 use Rattle.office_lists.specs.declared.fault.ReadFault.{ReadFault}
 use Rattle.office_lists.specs.declared.fault.ReadFault.TheVariants as reading
-use Rattle.desk_records.specs.Standing.{HasNoOffice, HasNoVersion, IsNewer}
+use Rattle.desk_records.specs.Standing.{HasNoOffice, HasNoOfficeBy, HasNoVersion, IsNewer, IsVersionOf}
 use Rattle.desk_tables.specs.declared.columns.ColumnFault.{ColumnFault}
 use Rattle.desk_tables.specs.declared.columns.ColumnFault.TheVariants as column
+use Rattle.desk_opening.specs.Known.{IsMadeAs, ShowsKnown, ShowsSuch, edition_of}
 use Rattle.desk_opening.specs.declared.fault.CreateFault.{CreateFault}
 use Rattle.desk_opening.specs.declared.fault.CreateFault.TheVariants as creating
 use Rattle.desk_opening.specs.declared.fault.OpenFault.{OpenFault}
@@ -33,6 +30,7 @@ use Rattle.desk_opening.specs.declared.fault.OpenFault.TheVariants.{NotADesk, Ne
 use Rattle.desk_opening.specs.declared.fault.OpenFault.TheVariants.{Store, Memory}
 use Rattle.desk_opening.specs.declared.opening.HandedBack.{HandedBack}
 use Rattle.desk_opening.specs.declared.opening.HandedBack.TheVariants as back
+use Rattle.desk_opening.specs.declared.version.KnownVersion.{KnownVersion}
 
 -- what the tables hold is this, and an office
 abbrev pub HoldsOffice : State → OfficeLists → Type 0
@@ -52,13 +50,18 @@ IsFaultOf Wrong NewerVersion s = IsNewer s
 IsFaultOf Wrong Store s = Unit {0}
 IsFaultOf Wrong Memory s = Unit {0}
 
--- no version is noted, or the tables are of version 1, and a column that is read is missing or what
--- they hold, declared as a desk's are, is no office
+-- a column that is read of this version is missing, or what the tables hold, made as its program
+-- makes them, is no office
+abbrev pub IsNoDeskOf : KnownVersion → State → Type 0
+IsNoDeskOf known s =
+    ¬ HasColumnsOf (edition_of known).asked s.now.schema
+    ⊎ (IsMadeAs known s.now.schema → HasNoOfficeBy (edition_of known) s)
+
+-- no version is noted, or a version that is known, and the tables are none of its
 abbrev pub IsNoDesk : State → Type 0
 IsNoDesk s =
     HasNoVersion s
-    ⊎ (IsVersionOne s
-    × (¬ HasColumns s.now.schema ⊎ (IsDeclared s → HasNoOffice s)))
+    ⊎ ((known : KnownVersion) × IsVersionOf (edition_of known) s × IsNoDeskOf known s)
 
 -- why tables that note their version are not opened as a desk
 abbrev pub IsOpenCause : OpenFault → State → Type 0
@@ -66,19 +69,16 @@ IsOpenCause = IsFaultOf IsNoDesk
 
 -- a later version is what the text that reads the version shows of a database, whatever its tables
 -- are
-pub record ShowsLater {S : Type 0} (g : store.Ghosts S) (db : Database) : Type 0 where
-  pub rows : List Row
-  pub shown : ShowsVersions g db rows
-  pub version : Version
-  pub means : all_mean desk.means rows ≡ Some (version ∷ [])
-  pub later : 2 ≤ version.number
+abbrev pub ShowsLater : {S : Type 0} → store.Ghosts S → Database → Type 0
+ShowsLater g db = ShowsSuch g db (λ version. 3 ≤ version.number)
 
--- in a transaction over tables that note their version they are told to be of version 1, or why
--- not, and nothing is committed; a later version is told only where it is shown
-pub record TellsVersion {S T : Type 0} (g : store.Ghosts S) (old new : Held S)
-    (result : Result T OpenFault) : Type 0 where
-  pub one : HasCleanDisk (state g new) → AreNoted (state g old)
-      → OnOk result (IsVersionOne (state g old))
+-- in a transaction over tables that note their version it is told which of those that are known, or
+-- why none, and nothing is committed; a version is told only where it is shown
+pub record TellsVersion {S : Type 0} (g : store.Ghosts S) (old new : Held S)
+    (result : Result KnownVersion OpenFault) : Type 0 where
+  pub noted : HasCleanDisk (state g new) → AreNoted (state g old)
+      → IfOk result (λ known. IsVersionOf (edition_of known) (state g old))
+  pub shown : HasCleanDisk (state g new) → IfOk result (ShowsKnown g (state g old).now)
   pub cause : HasCleanDisk (state g new) → AreNoted (state g old)
       → IfErr result (λ fault. IsFaultOf HasNoVersion fault (state g old))
   pub newer : HasCleanDisk (state g new) → result ≡ Err NewerVersion
@@ -91,16 +91,17 @@ pub record TellsVersion {S T : Type 0} (g : store.Ghosts S) (old new : Held S)
 pub record IsVerdict {S : Type 0} (g : store.Ghosts S) (old new : Held S)
     (result : Result OfficeLists OpenFault) : Type 0 where
   pub right : IsRead g old new → IfOk result (HoldsOffice (state g old))
+  pub same : IsRead g old new → OnOk result (IsUnchanged (state g old) (state g new))
   pub none : IsRead g old new → result ≡ Err NotADesk → HasNoOffice (state g old)
   pub other : result ≢ Err NewerVersion
   pub changes : ChangesNothing g old new
 
--- why the versions that are noted are not version 1 alone
+-- why the versions that are noted are not one that is known, alone
 abbrev pub IsVersionFault : OpenFault → List Version → Type 0
 IsVersionFault NotADesk versions =
     (version : Version) → versions ≡ version ∷ [] → version.number ≡ 0
 IsVersionFault NewerVersion versions =
-    (version : Version) × (versions ≡ version ∷ []) × (2 ≤ version.number)
+    (version : Version) × (versions ≡ version ∷ []) × (3 ≤ version.number)
 IsVersionFault Store versions = ⊥
 IsVersionFault Memory versions = ⊥
 

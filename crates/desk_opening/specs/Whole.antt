@@ -12,20 +12,30 @@ use Rattle.desk_words.specs.Changes.{empty_office}
 use Rattle.desk_words.specs.declared.office.OfficeLists.{OfficeLists}
 use Rattle.desk_words.specs.Office.{is_office}
 use Rattle.desk_schema.specs.Contents.{desk}
-use Rattle.desk_schema.specs.Statements.{HasTables, layout_one, records_in}
+use Rattle.desk_schema.specs.Statements.{records_in}
 use Rattle.desk_schema.specs.Tables.{desk_schema}
-use Rattle.desk_records.specs.Office.{office_in}
-use Rattle.desk_records.specs.Standing.{Stands, version_one}
+use Rattle.desk_records.specs.Standing.{Stands, office_by}
+use Rattle.desk_opening.specs.Known.{IsMadeAs, edition_of}
+use Rattle.desk_opening.specs.declared.version.KnownVersion.{KnownVersion}
+use Rattle.desk_opening.specs.declared.version.KnownVersion.TheVariants.{Two}
 
--- these tables are whole, and they are this office: the database lists a desk's tables as they are
--- declared, whatever stands beside them, they note version 1, and what they hold is the office
-pub record IsWhole (db : Trees) (office : OfficeLists) : Type 0 where
+-- these tables are whole in this version, and they are this office: the database lists them as its
+-- program makes them, they note the version, and what they hold is the office
+pub record IsWholeAs (known : KnownVersion) (db : Trees) (office : OfficeLists) : Type 0 where
   pub schema : Schema
   pub listed : AreListed (db catalog_tree) schema
-  pub declared : HasTables layout_one schema
-  pub version : records_in desk db ≡ Some (version_one ∷ [])
-  pub holds : office_in db ≡ Some office
+  pub declared : IsMadeAs known schema
+  pub version : records_in desk db ≡ Some ((edition_of known).version ∷ [])
+  pub holds : office_by (edition_of known) db ≡ Some office
   pub kept : IsTrue (is_office office)
+
+-- these tables are whole, and they are this office, in version 2, whatever stands beside them
+abbrev pub IsWhole : Trees → OfficeLists → Type 0
+IsWhole = IsWholeAs Two
+
+-- these tables are whole in a version that is known, and they are this office
+abbrev pub IsWholeDesk : Trees → OfficeLists → Type 0
+IsWholeDesk db office = (known : KnownVersion) × IsWholeAs known db office
 
 -- these tables are those of a new desk: whole, they hold nothing, and the database lists the desk's
 -- tables and indexes, and no others
@@ -49,10 +59,11 @@ pub record AsksOpen {S T E : Type 0} (g : store.Ghosts S) (old new : Held S) (re
 abbrev pub LeavesWhole : State → OfficeLists → Type 0
 LeavesWhole s office = (db : Trees) → s.may_leave db → IsWhole db office
 
--- tables that were whole are opened as their office
+-- tables that were whole, in either version, are opened as their office
 abbrev pub OpensWhole : {S : Type 0} → store.Ghosts S → Held S → Held S → Type 0
 OpensWhole g old new =
-    HasCleanDisk (state g new) → (office : OfficeLists) → IsWhole (state g old).now.trees office
+    HasCleanDisk (state g new) → (office : OfficeLists)
+    → IsWholeDesk (state g old).now.trees office
     → Stands (state g new) office
 
 -- what a crash leaves whole, `open` opens as that office: where a connection shows tables that a

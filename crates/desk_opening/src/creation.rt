@@ -27,7 +27,7 @@ fn has_nothing<S: Alter>(conn: &Connection<S>) -> bool
 
 /// Nothing is done: of an open store whose connection is in no transaction a crash leaves the
 /// tables that are read, and nothing else.
-fn rests<S: Alter>(conn: &Connection<S>)
+pub(crate) fn rests<S: Alter>(conn: &Connection<S>)
     requires { conn.now.in_transaction ≡ false }
     ensures settled { IsTrue (state S.Store conn.now).is_open
         → LeavesItself (state S.Store conn.now) }

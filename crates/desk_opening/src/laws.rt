@@ -1,4 +1,5 @@
 //! What is known of the tables of a file as it is opened.
+ghost use Rattle.desk_opening.specs.Crashes.{OpensMoved};
 ghost use Rattle.desk_opening.specs.Rising.{FoundRowsRise};
 ghost use Rattle.desk_opening.specs.Whole.{OpensAgain};
 
@@ -14,4 +15,10 @@ pub fn found_rows_rise()
 /// office, as its clause on whole tables says.
 pub fn opens_again<S: Alter>()
     ensures { OpensAgain S.Store }
+{}
+
+/// `open` opens the office of a desk of version 1 whatever a crash leaves of it, before it is moved,
+/// while it is moved and after: its tables in version 1 or in version 2, whole.
+pub fn opens_moved<S: Alter>()
+    ensures { OpensMoved S.Store }
 {}

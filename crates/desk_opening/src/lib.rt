@@ -5,9 +5,11 @@ mod creation;
 mod fault;
 pub mod laws;
 mod making;
+mod moving;
 mod opening;
 mod version;
 
 pub use creation::create;
 pub use fault::{CreateFault, OpenFault};
 pub use opening::{HandedBack, ask_open, open, open_risen};
+pub use version::KnownVersion;

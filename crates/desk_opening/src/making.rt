@@ -1,12 +1,14 @@
 //! The tables of a desk that holds nothing yet.
 ghost use Rattle.std.specs.Prelude.{◌≡◌};
-ghost use Rattle.desk_opening.specs.Making.{IsMaking, LeavesEmptyDesk};
-ghost use Rattle.desk_schema.specs.Tables.{desk_schema, no_schema, up_to_casts};
+ghost use Rattle.desk_moving.specs.Making.{IsMaking};
+ghost use Rattle.desk_opening.specs.Making.{LeavesEmptyDesk};
+ghost use Rattle.desk_schema.specs.Tables.{desk_schema, no_schema, schema_one, up_to_casts};
 ghost use Rattle.desk_schema.specs.Tables.{up_to_presences, up_to_register};
 
+use desk_moving::make_later;
 use desk_tables::{closed, desk, keys, meetings, register, resolutions};
 use meeting_tables::{
-    appointments, authorities, casts, demands, endings, indexes, polls, presences,
+    appointments, authorities, casts, demands_one, endings, indexes, polls_one, presences_one,
 };
 use sqlite::{Alter, Error, Transaction};
 
@@ -34,7 +36,7 @@ fn make_papers<S: Alter>(tx: &mut Transaction<'_, S>) -> Result<(), Error>
     appointments::make(tx)?;
     endings::make(tx)?;
     authorities::make(tx)?;
-    presences::make(tx)?;
+    presences_one::make(tx)?;
     Ok(())
 }
 
@@ -44,17 +46,17 @@ fn make_polls<S: Alter>(tx: &mut Transaction<'_, S>) -> Result<(), Error>
     ensures made { IsMaking S.Store tx.old.conn.now tx.new.conn.now result
         up_to_presences up_to_casts }
 {
-    demands::make(tx)?;
-    polls::make(tx)?;
+    demands_one::make(tx)?;
+    polls_one::make(tx)?;
     casts::make(tx)?;
     Ok(())
 }
 
-/// Makes the indexes.
+/// Makes the indexes of these tables.
 fn make_indexes<S: Alter>(tx: &mut Transaction<'_, S>) -> Result<(), Error>
     ensures same_reference { tx.new.conn.ghost_name ≡ tx.old.conn.ghost_name }
     ensures made { IsMaking S.Store tx.old.conn.now tx.new.conn.now result
-        up_to_casts desk_schema }
+        up_to_casts schema_one }
 {
     indexes::make_appointments_by_proxy(tx)?;
     indexes::make_authorities_by_person(tx)?;
@@ -63,7 +65,7 @@ fn make_indexes<S: Alter>(tx: &mut Transaction<'_, S>) -> Result<(), Error>
     Ok(())
 }
 
-/// Makes the tables and indexes, all empty.
+/// Makes the tables and indexes, all empty: first those that version 1 has already.
 fn make_tables<S: Alter>(tx: &mut Transaction<'_, S>) -> Result<(), Error>
     ensures same_reference { tx.new.conn.ghost_name ≡ tx.old.conn.ghost_name }
     ensures made { IsMaking S.Store tx.old.conn.now tx.new.conn.now result
@@ -72,7 +74,8 @@ fn make_tables<S: Alter>(tx: &mut Transaction<'_, S>) -> Result<(), Error>
     make_meetings(tx)?;
     make_papers(tx)?;
     make_polls(tx)?;
-    make_indexes(tx)
+    make_indexes(tx)?;
+    make_later(tx)
 }
 
 /// Makes the tables of a desk that holds nothing, and notes their version.

@@ -1,30 +1,30 @@
 //! The tables of a desk that was kept.
-ghost use Rattle.std.specs.Prelude.{◌≡◌, ◌≢◌, ◌⊎◌, false, Err, IfErr, IfOk, IsTrue, OnOk};
-ghost use Rattle.desk_opening.specs.Crashes.{LeavesItself, LeavesNoMore};
-ghost use Rattle.desk_opening.specs.Opened.{HadColumns, HadVersionOne, IsSettled};
-ghost use Rattle.desk_opening.specs.Opened.{IsWhyUnopened, KeepsOpenRows, KeepsTables};
-ghost use Rattle.desk_opening.specs.Opened.{OnDone, StandsWhole, StaysOpen};
-ghost use Rattle.desk_opening.specs.Opening.{HandsBack, IsInNone, IsOpenCause, IsVerdict};
-ghost use Rattle.desk_opening.specs.Opening.{ShowsLater, TellsOffice};
+ghost use Rattle.std.specs.Prelude.{◌≡◌, ◌≢◌, false, Err, IfErr, IfOk, IsTrue, OnErr, OnOk};
+ghost use Rattle.desk_opening.specs.Crashes.{LeavesAtMostMoved, LeavesItself, LeavesNoMore};
+ghost use Rattle.desk_opening.specs.Known.{AreOpened, IsMadeAs, edition_of};
+ghost use Rattle.desk_opening.specs.Opened.{IsSettled, IsWhyUnopened, KeepsOpenRows, KeepsTables};
+ghost use Rattle.desk_opening.specs.Opened.{OnDone, StandsFor, StandsWhole, StaysOpen};
+ghost use Rattle.desk_opening.specs.Opened.{SurvivesMoving, WereKnown};
+ghost use Rattle.desk_opening.specs.Opening.{HandsBack, IsInNone, IsNoDeskOf, IsVerdict};
+ghost use Rattle.desk_opening.specs.Opening.{TellsOffice};
 ghost use Rattle.desk_opening.specs.Rising.{RowsRise};
-ghost use Rattle.desk_opening.specs.Whole.{AsksOpen, IsWhole, OpensWhole};
-ghost use Rattle.desk_records.specs.Standing.{HasNoOffice, IsVersionOne};
+ghost use Rattle.desk_opening.specs.Whole.{AsksOpen, OpensWhole};
+ghost use Rattle.desk_records.specs.Standing.{HasNoOffice, IsVersionOf, two};
 ghost use Rattle.desk_opening.specs.declared.fault.OpenFault.TheVariants.{NotADesk, NewerVersion};
 ghost use Rattle.desk_opening.specs.declared.fault.OpenFault.TheVariants as opening;
 ghost use Rattle.desk_opening.specs.declared.opening.HandedBack.TheVariants as back;
+ghost use Rattle.desk_opening.specs.declared.version.KnownVersion.TheVariants as known;
 ghost use Rattle.desk_schema.specs.Statements.{IsDesk, WasOpen};
-ghost use Rattle.desk_tables.specs.Columns.{HasColumns};
-ghost use Rattle.desk_tables.specs.Versions.{AreNoted};
-ghost use Rattle.desk_words.specs.declared.office.OfficeLists.{OfficeLists};
+ghost use Rattle.desk_tables.specs.Columns.{HasColumnsOf};
 ghost use Rattle.desk_words.specs.Office.{is_office};
 ghost use Rattle.office_checks.specs.InOrder.{office_in_order};
-ghost use Rattle.sqlite.specs.Effect.{IsDatabase};
 ghost use Rattle.sqlite.specs.Held.{state};
 ghost use Rattle.sqlite.specs.State.{Fails, HasCleanDisk, Survives};
 ghost use Rattle.sqlite_trees.specs.View.{IsClean};
 
 use crate::fault::OpenFault;
-use crate::version::judge_version;
+use crate::moving::moved_office;
+use crate::version::{KnownVersion, judge_version};
 use desk_reading::read_office;
 use desk_tables::columns;
 use desk_words::OfficeLists;
@@ -91,7 +91,7 @@ fn judge_lists(alloc: Global, lists: OfficeLists) -> Result<OfficeLists, OpenFau
 }
 
 /// The office that the tables hold.
-fn read_lists<S: Alter>(
+pub(crate) fn read_lists<S: Alter>(
     tx: &mut Transaction<'_, S>,
     alloc: Global,
 ) -> Result<OfficeLists, OpenFault>
@@ -127,8 +127,12 @@ fn examine<S: Alter>(conn: &mut Connection<S>, alloc: Global) -> Result<OfficeLi
     read
 }
 
-/// Judges whether each column that is read stands. The fault is `NotADesk` only where one does not.
-fn judge_columns<S: Alter>(conn: &mut Connection<S>) -> Result<(), OpenFault>
+/// Judges whether each column that is read of a version stands. The fault is `NotADesk` only where
+/// one does not.
+pub(crate) fn judge_columns<S: Alter>(
+    conn: &mut Connection<S>,
+    version: KnownVersion,
+) -> Result<(), OpenFault>
     requires { conn.old.in_transaction ≡ false }
     ensures ended { conn.new.in_transaction ≡ false }
     ensures crash { Survives (state S.Store conn.old) (state S.Store conn.new) (λ _. ⊥) }
@@ -136,13 +140,16 @@ fn judge_columns<S: Alter>(conn: &mut Connection<S>) -> Result<(), OpenFault>
         → IsTrue (state S.Store conn.old).is_open
         × ((state S.Store conn.new).now ≡ (state S.Store conn.old).now) }
     ensures columns { OnDone S.Store conn.new result (IsTrue (state S.Store conn.new).is_open
-        × HasColumns (state S.Store conn.old).now.schema) }
+        × HasColumnsOf (edition_of version).asked (state S.Store conn.old).now.schema) }
     ensures missing { HasCleanDisk (state S.Store conn.new) → result ≡ Err NotADesk
         → IsTrue (state S.Store conn.old).is_open
-        × ¬ HasColumns (state S.Store conn.old).now.schema }
+        × ¬ HasColumnsOf (edition_of version).asked (state S.Store conn.old).now.schema }
     ensures other { result ≢ Err NewerVersion }
 {
-    columns::ask_columns(conn)?;
+    match version {
+        KnownVersion::One => columns::ask_columns_one(conn)?,
+        KnownVersion::Two => columns::ask_columns(conn)?,
+    }
     Ok(())
 }
 
@@ -164,73 +171,99 @@ pub fn ask_open<S: Alter>(conn: &mut Connection<S>) -> Result<(), Error>
     Ok(())
 }
 
-/// The office that tables of version 1 hold, where each column that is read stands, they are as
-/// they were and the store is open still. The version is asked before the other tables are read.
-#[tactic(auto, using(crate::proofs::FaultLemmas::of_the_store))]
-fn kept_office<S: Alter>(conn: &mut Connection<S>, alloc: Global) -> Result<OfficeLists, OpenFault>
-    requires { conn.old.in_transaction ≡ false }
+/// The office that tables of version 2 hold, where each column that is read stands, they are as
+/// they were and the store is open still.
+fn office_as_is<S: Alter>(conn: &mut Connection<S>, alloc: Global) -> Result<OfficeLists, OpenFault>
+    requires none { conn.old.in_transaction ≡ false }
+    requires rising { HasCleanDisk (state S.Store conn.old) → IsTrue (state S.Store conn.old).is_open
+        → RowsRise (state S.Store conn.old) }
     ensures ended { conn.new.in_transaction ≡ false }
-    ensures crash { Survives (state S.Store conn.old) (state S.Store conn.new) (λ _. ⊥) }
-    ensures is_open { OnDone S.Store conn.new result (IsTrue (state S.Store conn.new).is_open) }
-    ensures same { OnDone S.Store conn.new result
-        ((state S.Store conn.new).now ≡ (state S.Store conn.old).now) }
-    ensures kept { KeepsOpenRows S.Store conn.old conn.new }
-    ensures holds { TellsOffice S.Store conn.old conn.new result }
+    ensures stands { HasCleanDisk (state S.Store conn.new)
+        → IsMadeAs known.Two (state S.Store conn.old).now.schema
+        → IsVersionOf two (state S.Store conn.old) → IfOk result (λ office.
+        StandsFor (state S.Store conn.old) (state S.Store conn.new) office known.Two) }
+    ensures opened { OnDone S.Store conn.new result (IsTrue (state S.Store conn.old).is_open
+        × HasColumnsOf two.asked (state S.Store conn.old).now.schema
+        × AreOpened known.Two (state S.Store conn.old) (state S.Store conn.new)) }
     ensures office { IfOk result (λ office. IsTrue (is_office office)) }
-    ensures version { HasCleanDisk (state S.Store conn.new) → AreNoted (state S.Store conn.old)
-        → OnOk result (IsVersionOne (state S.Store conn.old)) }
-    ensures columns { OnDone S.Store conn.new result
-        (HasColumns (state S.Store conn.old).now.schema) }
-    ensures cause { HasCleanDisk (state S.Store conn.new) → AreNoted (state S.Store conn.old)
-        → RowsRise (state S.Store conn.old)
-        → IfErr result (λ fault. IsOpenCause fault (state S.Store conn.old)) }
-    ensures newer { HasCleanDisk (state S.Store conn.new) → result ≡ Err NewerVersion
-        → ShowsLater S.Store (state S.Store conn.old).now }
-    ensures whole { HasCleanDisk (state S.Store conn.new) → RowsRise (state S.Store conn.old)
-        → (office : OfficeLists) → IsWhole (state S.Store conn.old).now.trees office
-        → IfErr result (λ fault. (fault ≡ opening.Store) ⊎ (fault ≡ opening.Memory)) }
-    ensures sound { OnDone S.Store conn.new result (IsDatabase (state S.Store conn.new).now) }
+    ensures is_open { OnDone S.Store conn.new result (IsTrue (state S.Store conn.new).is_open) }
     ensures settled { OnDone S.Store conn.new result (LeavesItself (state S.Store conn.new)) }
+    ensures kept { HasCleanDisk (state S.Store conn.new) → IsTrue (state S.Store conn.new).is_open
+        → OnErr result (IsTrue (state S.Store conn.old).is_open
+        × ((state S.Store conn.new).now.trees ≡ (state S.Store conn.old).now.trees)) }
+    ensures cause { HasCleanDisk (state S.Store conn.new) → result ≡ Err NotADesk
+        → IsTrue (state S.Store conn.old).is_open × IsNoDeskOf known.Two (state S.Store conn.old) }
+    ensures other { result ≢ Err NewerVersion }
+    ensures crash { Survives (state S.Store conn.old) (state S.Store conn.new) (λ _. ⊥) }
 {
     let _ = conn.schema();
-    judge_version(conn, alloc)?;
-    judge_columns(conn)?;
+    judge_columns(conn, KnownVersion::Two)?;
     let office = examine(conn, alloc)?;
     ask_open(conn)?;
     let _ = conn.schema();
     Ok(office)
 }
 
-/// Opens the tables of the desk that the database holds, and gives the office that they hold,
-/// where they stand first and are declared as `create` declares them; other tables, indexes and
-/// views may stand beside them. Whatever tables it holds, it is opened only where each column that
-/// is read stands. The version is asked before the other
-/// tables are read. The fault is `NewerVersion` only where the database understands the text that
-/// reads the version, and it shows a later one. Of tables that note their version, as those of
-/// version 1 do, it is `NotADesk` only where they note none, or the first and a column that is read
-/// is missing or what they hold is no office. Tables that are whole are refused as `Store` or
-/// `Memory` alone. A refusal hands back the connection, or the store where that could not be read
-/// again, its tables as they were. A connection in a transaction is refused as `Store` and handed
-/// back as it was. A limit of steps that was set on the connection is not kept. Of a desk that is
-/// opened a crash leaves the tables that are read, whole, and nothing else; after a refusal it
-/// leaves nothing that it did not leave before.
+/// The office that tables of a version that is known hold, where each column that is read of it
+/// stands. Those of version 2 are as they were, and those of version 1 are moved. The store is open
+/// still. The version is asked before the other tables are read.
+fn kept_office<S: Alter>(conn: &mut Connection<S>, alloc: Global) -> Result<OfficeLists, OpenFault>
+    requires none { conn.old.in_transaction ≡ false }
+    requires rising { HasCleanDisk (state S.Store conn.old) → RowsRise (state S.Store conn.old) }
+    ensures ended { conn.new.in_transaction ≡ false }
+    ensures stands { IfOk result (λ office. StandsWhole S.Store conn.old conn.new office) }
+    ensures whole { OnOk result (OpensWhole S.Store conn.old conn.new) }
+    ensures known { OnOk result (WereKnown S.Store conn.old conn.new) }
+    ensures is_open { OnOk result (StaysOpen S.Store conn.new) }
+    ensures office { IfOk result (λ office. IsTrue (is_office office)) }
+    ensures settled { OnOk result (IsSettled S.Store conn.new) }
+    ensures cause { IfErr result (λ fault.
+        IsWhyUnopened S.Store conn.old fault (back.Connection conn.new)) }
+    ensures kept { OnErr result (KeepsOpenRows S.Store conn.old conn.new) }
+    ensures crash { SurvivesMoving S.Store conn.old conn.new }
+{
+    let _ = conn.schema();
+    match judge_version(conn, alloc)? {
+        KnownVersion::One => moved_office(conn, alloc),
+        KnownVersion::Two => office_as_is(conn, alloc),
+    }
+}
+
+/// Opens the tables of the desk that the database holds, and gives the office that they hold.
+/// Tables of version 2 are opened as they are, and nothing is written: they stand first and are
+/// declared as `create` declares them; other tables, indexes and views may stand beside them.
+/// Tables of version 1 are moved to version 2 in one transaction, which is committed only where
+/// they hold an office: they and their indexes are as the program of version 1 made them, and no
+/// others stand beside them. Whatever tables the database holds, it is opened only where each
+/// column that is read of their version stands.
+///
+/// The version is asked before the other tables are read. The fault is `NewerVersion` only where
+/// the database understands the text that reads the version, and it shows version 3 or a later one.
+/// Of tables that note their version, as those of both versions do, it is `NotADesk` only where
+/// they note none, or version 1 or 2 and a column that is read of it is missing or what they hold
+/// is no office. Tables that are whole in either version are refused as `Store` or `Memory` alone.
+///
+/// A refusal hands back the connection, or the store where that could not be read again, its tables
+/// as they were. A connection in a transaction is refused as `Store` and handed back as it was. A
+/// limit of steps that was set on the connection is not kept. Of a desk that is opened a crash
+/// leaves the tables that are read, whole, and nothing else. After a refusal it leaves nothing that
+/// it did not leave before, or, of tables of version 1 alone, those tables moved, whole of the same
+/// office.
 pub fn open<S: Alter + Drop>(
     alloc: Global,
     conn: Connection<S>,
 ) -> Result<(Connection<S>, OfficeLists), (OpenFault, HandedBack<S>)>
     ensures stands { IfOk result (λ opened. StandsWhole S.Store conn opened.0 opened.1) }
     ensures whole { IfOk result (λ opened. OpensWhole S.Store conn opened.0) }
-    ensures same { IfOk result (λ opened. KeepsTables S.Store conn opened.0) }
+    ensures known { IfOk result (λ opened. WereKnown S.Store conn opened.0) }
     ensures is_open { IfOk result (λ opened. StaysOpen S.Store opened.0) }
-    ensures version { IfOk result (λ opened. HadVersionOne S.Store conn opened.0) }
-    ensures columns { IfOk result (λ opened. HadColumns S.Store conn opened.0) }
     ensures office { IfOk result (λ opened. IsTrue (is_office opened.1)) }
     ensures none { IfOk result (λ opened. opened.0.in_transaction ≡ false) }
     ensures cause { IfErr result (λ e. IsWhyUnopened S.Store conn e.0 e.1) }
     ensures kept { IfErr result (λ e. HandsBack S.Store (state S.Store conn).now.trees e.1) }
     ensures ended { IfErr result (λ e. conn.in_transaction ≡ false → IsInNone e.1) }
     ensures settled { IfOk result (λ opened. IsSettled S.Store opened.0) }
-    ensures crash { IfErr result (λ e. LeavesNoMore S.Store (state S.Store conn) e.1) }
+    ensures crash { IfErr result (λ e. LeavesAtMostMoved S.Store (state S.Store conn) e.1) }
     ensures inside { IsTrue conn.in_transaction
         → result ≡ Err (opening.Store, back.Connection conn) }
 {
@@ -259,18 +292,15 @@ pub fn open_risen<S: Alter + Drop>(
     requires rising { HasCleanDisk (state S.Store conn) → RowsRise (state S.Store conn) }
     ensures stands { IfOk result (λ opened. StandsWhole S.Store conn opened.0 opened.1) }
     ensures whole { IfOk result (λ opened. OpensWhole S.Store conn opened.0) }
-    ensures same { IfOk result (λ opened. KeepsTables S.Store conn opened.0) }
+    ensures known { IfOk result (λ opened. WereKnown S.Store conn opened.0) }
     ensures is_open { IfOk result (λ opened. StaysOpen S.Store opened.0) }
-    ensures version { IfOk result (λ opened. HadVersionOne S.Store conn opened.0) }
-    ensures columns { IfOk result (λ opened. HadColumns S.Store conn opened.0) }
     ensures office { IfOk result (λ opened. IsTrue (is_office opened.1)) }
     ensures ended { IfOk result (λ opened. opened.0.in_transaction ≡ false) }
     ensures cause { IfErr result (λ e. IsWhyUnopened S.Store conn e.0 (back.Connection e.1)) }
     ensures kept { IfErr result (λ e. KeepsOpenRows S.Store conn e.1) }
     ensures back { IfErr result (λ e. e.1.in_transaction ≡ false) }
     ensures settled { IfOk result (λ opened. IsSettled S.Store opened.0) }
-    ensures crash { IfErr result (λ e.
-        Survives (state S.Store conn) (state S.Store e.1) (λ _. ⊥)) }
+    ensures crash { IfErr result (λ e. SurvivesMoving S.Store conn e.1) }
 {
     let mut conn = conn;
     match kept_office(&mut conn, alloc) {

@@ -1,8 +1,9 @@
-//! Which version of the program made the tables.
-ghost use Rattle.std.specs.Prelude.{◌≡◌, ◌⊎◌, false, [], ◌∷◌, Err, IfErr, IfOk, IsTrue, List, OnOk, Some};
+//! Which version the tables are.
+ghost use Rattle.std.specs.Prelude.{◌≡◌, ◌⊎◌, false, [], ◌∷◌, Err, IfErr, IfOk, IsTrue, List, Some};
+ghost use Rattle.desk_opening.specs.Known.{ShowsKnown, edition_of};
 ghost use Rattle.desk_opening.specs.Opening.{IsFaultOf, IsVersionFault, ShowsLater, TellsVersion};
 ghost use Rattle.desk_opening.specs.declared.fault.OpenFault.TheVariants.{NotADesk, NewerVersion};
-ghost use Rattle.desk_records.specs.Standing.{HasNoVersion, IsVersionOne, version_one};
+ghost use Rattle.desk_records.specs.Standing.{HasNoVersion, IsVersionOf};
 ghost use Rattle.desk_schema.specs.Contents.{desk};
 ghost use Rattle.desk_schema.specs.Statements.{WasOpen, records_in};
 ghost use Rattle.desk_rows.specs.Meanings.{all_mean};
@@ -19,6 +20,15 @@ use desk_tables::{columns, desk};
 use desk_words::Listing;
 use sqlite::{Alter, Connection, Transaction};
 use std::alloc::Global;
+
+/// A version of the tables that this program opens.
+#[derive(Clone, Copy, PartialEq, Eq)]
+pub enum KnownVersion {
+    /// Version 1, whose meetings have one session each. It is moved to version 2.
+    One,
+    /// Version 2, which this program makes.
+    Two,
+}
 
 /// The versions that the tables note. The fault is `NoOffice` only where a row notes none.
 fn read_versions<S: Alter>(
@@ -40,9 +50,9 @@ fn read_versions<S: Alter>(
     Ok(Listing::from_vec(records(alloc, &rows)?))
 }
 
-/// Whether version 1 is noted, and it alone.
-fn judge_versions(versions: &[Version]) -> Result<(), OpenFault>
-    ensures one { OnOk result (versions.now ≡ version_one ∷ []) }
+/// The version that is noted, where it is known, and it alone.
+fn judge_versions(versions: &[Version]) -> Result<KnownVersion, OpenFault>
+    ensures known { IfOk result (λ known. versions.now ≡ (edition_of known).version ∷ []) }
     ensures fault { IfErr result (λ fault. IsVersionFault fault versions.now) }
 {
     if versions.len() != 1 {
@@ -50,13 +60,17 @@ fn judge_versions(versions: &[Version]) -> Result<(), OpenFault>
     }
     match versions[0].number {
         0 => Err(OpenFault::NotADesk),
-        1 => Ok(()),
+        1 => Ok(KnownVersion::One),
+        2 => Ok(KnownVersion::Two),
         _ => Err(OpenFault::NewerVersion),
     }
 }
 
-/// Whether the tables are of version 1, whatever tables they are.
-fn read_version<S: Alter>(tx: &mut Transaction<'_, S>, alloc: Global) -> Result<(), OpenFault>
+/// Which version the tables are, whatever tables they are.
+fn read_version<S: Alter>(
+    tx: &mut Transaction<'_, S>,
+    alloc: Global,
+) -> Result<KnownVersion, OpenFault>
     ensures same_reference { tx.new.conn.ghost_name ≡ tx.old.conn.ghost_name }
     ensures told { TellsVersion S.Store tx.old.conn.now tx.new.conn.now result }
 {
@@ -64,8 +78,8 @@ fn read_version<S: Alter>(tx: &mut Transaction<'_, S>, alloc: Global) -> Result<
     judge_versions(versions.as_slice())
 }
 
-/// Whether the tables are of version 1, read in one transaction, which is rolled back.
-fn ask_version<S: Alter>(conn: &mut Connection<S>, alloc: Global) -> Result<(), OpenFault>
+/// Which version the tables are, read in one transaction, which is rolled back.
+fn ask_version<S: Alter>(conn: &mut Connection<S>, alloc: Global) -> Result<KnownVersion, OpenFault>
     requires { conn.old.in_transaction ≡ false }
     ensures ended { conn.new.in_transaction ≡ false }
     ensures crash { Survives (state S.Store conn.old) (state S.Store conn.new) (λ _. ⊥) }
@@ -73,8 +87,10 @@ fn ask_version<S: Alter>(conn: &mut Connection<S>, alloc: Global) -> Result<(), 
     ensures kept { HasCleanDisk (state S.Store conn.new) → IsTrue (state S.Store conn.old).is_open
         → IsTrue (state S.Store conn.new).is_open
         → (state S.Store conn.new).now.trees ≡ (state S.Store conn.old).now.trees }
-    ensures one { HasCleanDisk (state S.Store conn.new) → AreNoted (state S.Store conn.old)
-        → OnOk result (IsVersionOne (state S.Store conn.old)) }
+    ensures noted { HasCleanDisk (state S.Store conn.new) → AreNoted (state S.Store conn.old)
+        → IfOk result (λ known. IsVersionOf (edition_of known) (state S.Store conn.old)) }
+    ensures shown { HasCleanDisk (state S.Store conn.new)
+        → IfOk result (ShowsKnown S.Store (state S.Store conn.old).now) }
     ensures cause { HasCleanDisk (state S.Store conn.new) → AreNoted (state S.Store conn.old)
         → IfErr result (λ fault. IsFaultOf HasNoVersion fault (state S.Store conn.old)) }
     ensures newer { HasCleanDisk (state S.Store conn.new) → result ≡ Err NewerVersion
@@ -88,21 +104,23 @@ fn ask_version<S: Alter>(conn: &mut Connection<S>, alloc: Global) -> Result<(), 
     read
 }
 
-/// Judges whether the tables are of version 1, whatever tables they are. The fault is `NewerVersion`
-/// only where the text that reads the version shows a later one. Of tables that note their version
-/// it is `NotADesk` only where they note none.
+/// Judges which version the tables are, whatever tables they are. A version is told only where the
+/// text that reads the version shows it, and the fault is `NewerVersion` only where it shows a later
+/// one. Of tables that note their version it is `NotADesk` only where they note none.
 pub(crate) fn judge_version<S: Alter>(
     conn: &mut Connection<S>,
     alloc: Global,
-) -> Result<(), OpenFault>
+) -> Result<KnownVersion, OpenFault>
     requires { conn.old.in_transaction ≡ false }
     ensures ended { conn.new.in_transaction ≡ false }
     ensures crash { Survives (state S.Store conn.old) (state S.Store conn.new) (λ _. ⊥) }
     ensures same { HasCleanDisk (state S.Store conn.new) → IsTrue (state S.Store conn.new).is_open
         → IsTrue (state S.Store conn.old).is_open
         × ((state S.Store conn.new).now ≡ (state S.Store conn.old).now) }
-    ensures one { HasCleanDisk (state S.Store conn.new) → AreNoted (state S.Store conn.old)
-        → OnOk result (IsVersionOne (state S.Store conn.old)) }
+    ensures noted { HasCleanDisk (state S.Store conn.new) → AreNoted (state S.Store conn.old)
+        → IfOk result (λ known. IsVersionOf (edition_of known) (state S.Store conn.old)) }
+    ensures shown { HasCleanDisk (state S.Store conn.new)
+        → IfOk result (ShowsKnown S.Store (state S.Store conn.old).now) }
     ensures cause { HasCleanDisk (state S.Store conn.new) → AreNoted (state S.Store conn.old)
         → IfErr result (λ fault. IsFaultOf HasNoVersion fault (state S.Store conn.old)) }
     ensures newer { HasCleanDisk (state S.Store conn.new) → result ≡ Err NewerVersion
