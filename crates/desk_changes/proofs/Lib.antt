@@ -1,7 +1,9 @@
 pub mod EntryLemmas
-pub mod FirstSession
 pub mod MeetingAdded
 pub mod MoveLemmas
+pub mod OpenLemmas
 pub mod Possible
+pub mod SessionAdded
+pub mod SessionLemmas
 pub mod SetLemmas
 pub mod TurnLemmas

@@ -14,7 +14,7 @@ use Rattle.desk_words.proofs.RowLemmas.{same_name-refl}
 use Rattle.desk_rows.specs.declared.kept.MeetingRow.{MeetingRow}
 use Rattle.desk_terms.specs.Options.{◌>>=◌}
 use Rattle.desk_schema.specs.Contents.{without_resolutions}
-use Rattle.desk_records.specs.Office.{FlatLists, have_meetings, lists_of, lists_of_all, number_before, numbered_from, of_meeting, office_of_records, resolutions_of}
+use Rattle.desk_records.specs.Office.{FlatLists, have_meetings, lists_of, lists_of_all, number_before, numbered_from, of_meeting, office_of_records, resolutions_of, sessions_of}
 use Rattle.desk_records.proofs.Names.{ListName, kept_list}
 use Rattle.desk_records.proofs.Names.ListName.{Register, Appointments, Endings, Authorities, Presences, Demands, Polls, Casts}
 use Rattle.desk_records.proofs.OfficeLemmas.{AreOf, have_all, office_is, stands_there}
@@ -35,7 +35,7 @@ numbered-sorted : (n : ℕ) (rs : List Resolution) → sort_by number_before (nu
 numbered-sorted n [] = refl
 numbered-sorted n (r ∷ rest) = rw (numbered-sorted (suc n) rest) (first rest)
   where
-    first : (rest : List Resolution) → insert_by number_before (record { number = n; resolution = r }) (numbered_on (suc n) rest) ≡ record { number = n; resolution = r } ∷ numbered_on (suc n) rest
+    first : (rest : List Resolution) → insert_by number_before (record { number = n; item = r }) (numbered_on (suc n) rest) ≡ record { number = n; item = r } ∷ numbered_on (suc n) rest
     first [] = refl
     first (s ∷ more) = rw (next_higher n) refl
 
@@ -82,6 +82,9 @@ module _ (flat : FlatLists) (meeting : Meeting) where
     none : stands meeting.id flat.meetings ≡ false
     none = sym (stands_there flat office meeting.id of) ∙ fresh
 
+    its_sessions : sessions_of meeting.id flat.sessions ≡ Some []
+    its_sessions = ap (λ l. numbered_from 2 (sort_by number_before l)) (stand-none flat.meetings meeting.id flat.sessions of.stand.sessions none)
+
     now_stands : stands meeting.id (flat.meetings ++ without_resolutions meeting ∷ []) ≡ true
     now_stands = list_any-append (λ (m : MeetingRow). same_name m.id meeting.id) flat.meetings (without_resolutions meeting ∷ []) ∙ rw (none, same_name-refl meeting.id) refl
 
@@ -99,12 +102,13 @@ module _ (flat : FlatLists) (meeting : Meeting) where
 
     its_lists : lists_of with_meeting (without_resolutions meeting) ≡ Some (new_lists meeting)
     its_lists =
-        rw (its_resolutions, no_records Register, no_records Appointments, no_records Endings, no_records Authorities, no_records Presences, no_records Demands, no_records Polls, no_records Casts) (ap (λ later. Some (new_lists (record meeting { later = later }))) (sym alone))
+        rw (its_sessions, its_resolutions, no_records Register, no_records Appointments, no_records Endings, no_records Authorities, no_records Presences, no_records Demands, no_records Polls, no_records Casts) (ap (λ later. Some (new_lists (record meeting { later = later }))) (sym alone))
 
     all_stand : have_meetings with_meeting ≡ true
     all_stand =
         let more = without_resolutions meeting ∷ [] in
         have_all with_meeting (record {
+          sessions = stand-more flat.meetings more flat.sessions of.stand.sessions;
           resolutions = stand-append with_meeting.meetings flat.resolutions (map (in_meeting meeting.id) (numbered_on 1 meeting.resolutions)) (stand-more flat.meetings more flat.resolutions of.stand.resolutions)
               (stand-own with_meeting.meetings meeting.id (numbered_on 1 meeting.resolutions) now_stands);
           lists = elim [

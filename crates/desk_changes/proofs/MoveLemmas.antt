@@ -1,4 +1,4 @@
--- A meeting that is opened, and a poll that is ordered or comes further.
+-- A poll that is ordered or comes further.
 use Rattle.std.proofs.Common.{◌≡◌, inl, inr, ℕ, ◌==◌, true, List, [], ◌∷◌, ◌++◌, map, Ok, Option, refl, sym, ap, subst, ◌∙◌}
 use Rattle.std.specs.List.{list_all}
 use Rattle.std.proofs.lemmas.Bool.{cases_Bool}
@@ -10,7 +10,7 @@ use Rattle.desk_lists.specs.Sorting.{insert_by}
 use Rattle.desk_terms.specs.Names.{same_name}
 use Rattle.desk_words.specs.Office.{is_meeting, poll_before, same_meeting}
 use Rattle.desk_words.specs.declared.change.Change.TheVariants.{InMeeting}
-use Rattle.desk_words.specs.declared.change.MeetingChange.TheVariants.{AddPoll, SetOpened, SetPoll}
+use Rattle.desk_words.specs.declared.change.MeetingChange.TheVariants.{AddPoll, SetPoll}
 use Rattle.desk_words.specs.declared.change.PollChange.{PollChange}
 use Rattle.desk_words.specs.declared.change.PollChange.TheVariants.{Closed, Declared, Started}
 use Rattle.desk_words.specs.declared.office.MeetingLists.{MeetingLists}
@@ -20,13 +20,12 @@ use Rattle.desk_words.specs.declared.records.Poll.{Poll}
 use Rattle.desk_words.specs.declared.records.Tally.{Tally}
 use Rattle.desk_terms.specs.Options.{◌>>=◌}
 use Rattle.desk_schema.specs.Contents as table
-use Rattle.desk_schema.specs.Contents.{closed_at, declared_as, opened_at, started_at}
+use Rattle.desk_schema.specs.Contents.{closed_at, declared_as, started_at}
 use Rattle.desk_records.specs.Office.{FlatLists, office_of_records}
 use Rattle.desk_schema.specs.Statements.{Adds, CommitsNothing, Does, Sets}
 use Rattle.desk_records.proofs.FlatChanges.{table_changed}
 use Rattle.desk_records.proofs.Names.ListName.{Polls}
-use Rattle.desk_records.proofs.Names.TableName.{Meetings, Each}
-use Rattle.desk_records.proofs.MeetingChanges.{meeting_opened}
+use Rattle.desk_records.proofs.Names.TableName.{Each}
 use Rattle.desk_records.proofs.PollChanges.{poll_added, poll_moved, polls_ascend, takes_poll}
 use Rattle.desk_records.proofs.ListLemmas.{map-once}
 use Rattle.desk_records.proofs.OfficeLemmas.{change_named}
@@ -34,7 +33,6 @@ use Rattle.desk_records.proofs.RecordLemmas.{change_in, in_meeting}
 use Rattle.std.proofs.lemmas.Bool.{and_parts}
 use Rattle.desk_words.specs.Changes.{moved}
 use Rattle.desk_changes.specs.Writes.{Writes}
-use Rattle.desk_changes.proofs.FirstSession.{poll_of_first}
 use Rattle.desk_changes.proofs.Possible.{placed_in, written_by}
 
 -- ---- polls stand in order
@@ -69,19 +67,11 @@ takes id poll xs differ h =
     close a b is also = subst (λ n. same_name a.meeting.id n ≡ true) (sym (same_name-true b.meeting.id id also)) is
 
 module _ {S : Type 0} (g : store.Ghosts S) (old new : Held S) (id : List ℕ) (n : ℕ) (commits : CommitsNothing g old new) where
-  -- a meeting is opened
-  pub opened : (moment : ℕ) → Does g old new (Ok n) (Sets table.meetings (opened_at id moment)) → Writes {T = Unit {0}} g old new (Ok tt) (InMeeting id (SetOpened moment))
-  opened moment does =
-      written_by g old new (InMeeting id (SetOpened moment)) table.meetings (map (opened_at id moment)) n refl does commits (λ done flat office held of can.
-      ap (λ (o : Option FlatLists). o >>= office_of_records) (table_changed (state g old) (state g new) flat held Meetings (map (opened_at id moment)) done)
-      ∙ meeting_opened flat id office of can.before.differ moment)
-
   -- a poll is ordered
-  pub ordered : (poll : Poll) → Does g old new (Ok n) (Adds table.polls (in_meeting id (record poll { session = 1 }))) → Writes {T = Unit {0}} g old new (Ok tt) (InMeeting id (AddPoll poll))
+  pub ordered : (poll : Poll) → Does g old new (Ok n) (Adds table.polls (in_meeting id poll)) → Writes {T = Unit {0}} g old new (Ok tt) (InMeeting id (AddPoll poll))
   ordered poll does =
-      written_by g old new (InMeeting id (AddPoll poll)) table.polls (λ was. was ++ in_meeting id (record poll { session = 1 }) ∷ []) n refl does commits (λ done flat office held of can.
-      ap (λ (o : Option FlatLists). o >>= office_of_records) (table_changed (state g old) (state g new) flat held (Each Polls) (λ was. was ++ in_meeting id (record poll { session = 1 }) ∷ []) done)
-      ∙ ap (λ s. office_of_records (record flat { polls = flat.polls ++ in_meeting id (record poll { session = s }) ∷ [] })) (sym (poll_of_first flat office id poll of can))
+      written_by g old new (InMeeting id (AddPoll poll)) table.polls (λ was. was ++ in_meeting id poll ∷ []) n refl does commits (λ done flat office held of can.
+      ap (λ (o : Option FlatLists). o >>= office_of_records) (table_changed (state g old) (state g new) flat held (Each Polls) (λ was. was ++ in_meeting id poll ∷ []) done)
       ∙ poll_added flat id poll office of can.before.differ (placed_in office id (AddPoll poll) can) (takes id poll office.meetings can.before.differ can.later.each))
 
   module _ (resolution : ℕ) where

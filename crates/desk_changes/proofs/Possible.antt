@@ -17,13 +17,13 @@ use Rattle.desk_words.specs.declared.office.OfficeLists.{OfficeLists}
 use Rattle.desk_rows.specs.Meanings.{all_mean}
 use Rattle.desk_schema.specs.Contents as contents
 use Rattle.desk_records.specs.Office.{FlatLists, flat_in, office_in, office_of_records}
-use Rattle.desk_schema.specs.Statements.{Changes, CommitsNothing, Does, KeepsOthers, TableOf, columns_of}
+use Rattle.desk_schema.specs.Statements.{Changes, CommitsNothing, DeclaresNothing, Does, KeepsOthers, TableOf, columns_of}
 use Rattle.desk_records.proofs.OfficeLemmas.{AreOf, are_of}
 use Rattle.desk_rows.proofs.MeaningLemmas.{bound}
 use Rattle.std.proofs.lemmas.Bool.{and_parts}
 use Rattle.desk_words.specs.Changes.{after, can_make, is_placed}
 use Rattle.desk_changes.specs.Writes.{StandsIn, Writes}
-use Rattle.desk_records.specs.Standing.{IsVersionOne}
+use Rattle.desk_records.specs.Standing.{IsVersion}
 
 -- an office: its meetings differ, and each is one
 pub record IsOffice (office : OfficeLists) : Type 0 where
@@ -73,11 +73,17 @@ becomes change old new office h can next =
     next flat.0 office flat.1 (are_of flat.0 office flat.2) (possible office change can)
 
 -- a change of another table leaves the version that is noted
-pub version_kept : (n : ℕ) (old new : State) → (0 == n) ≡ false → KeepsOthers n old new → IsVersionOne old → IsVersionOne new
+pub version_kept : (n : ℕ) (old new : State) → (0 == n) ≡ false → KeepsOthers n old new → IsVersion old → IsVersion new
 version_kept n old new apart others h = ap (λ rows. all_mean contents.desk.means (map (columns_of contents.desk) rows)) (others 0 refl differ) ∙ h
   where
     differ : 0 ≢ n
     differ e = grind (arith, nat_tests)
+
+-- in a transaction over an office a statement on one table leaves the office after the change
+pub stands_after : {A : Type 0} (old new : State) (change : Change) (table : TableOf A) (effect : List A → List A) → (0 == table.number) ≡ false → (office : OfficeLists) → StandsIn office old → IsTrue (can_make office change)
+    → Changes table effect old new → Becomes change old new → StandsIn (after office change) new × DeclaresNothing old new
+stands_after old new change table effect apart office h can done next =
+    (record { desk = done.desk; version = version_kept table.number old new apart done.others h.version; inside = done.inside; sound = done.sound; means = becomes change old new office h can next }, done.schema)
 
 -- one statement, on one table
 pub written_by : {S A : Type 0} (g : store.Ghosts S) (old new : Held S) (change : Change) (table : TableOf A) (effect : List A → List A) (n : ℕ) → (0 == table.number) ≡ false → Does g old new (Ok n) (Changes table effect)
@@ -85,7 +91,7 @@ pub written_by : {S A : Type 0} (g : store.Ghosts S) (old new : Held S) (change 
 written_by g old new change table effect n apart does commits next = record {
   written = λ clean office h can.
       let done = does clean h.inside h.desk in
-      (record { desk = done.desk; version = version_kept table.number (state g old) (state g new) apart done.others h.version; inside = done.inside; sound = done.sound; means = becomes change (state g old) (state g new) office h can (next done) }, done.schema);
+      stands_after (state g old) (state g new) change table effect apart office h can done (next done);
   kept = commits.kept;
   crash = commits.crash;
 }

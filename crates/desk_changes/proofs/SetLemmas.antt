@@ -33,9 +33,9 @@ use Rattle.desk_records.proofs.RecordLemmas.{is_other}
 use Rattle.std.proofs.lemmas.Bool.{and_parts}
 use Rattle.desk_words.specs.Changes.{new_lists}
 use Rattle.desk_changes.specs.Writes.{Rewrites, Writes, any_records, no_days, days_added, keys_added, resolutions_added, rows_added}
-use Rattle.desk_changes.proofs.FirstSession.{called_with_one, last_passes}
 use Rattle.desk_changes.proofs.MeetingAdded.{meeting_added}
 use Rattle.desk_changes.proofs.Possible.{placed_in}
+use Rattle.desk_changes.proofs.SessionLemmas.{called_with_one, last_passes}
 use Rattle.desk_changes.proofs.TurnLemmas.{turns_by, turns_then, writes_failed, writes_from, turns_refused}
 
 keys_sorted : (keys : List KeyRow) → is_key_list keys ≡ true → sort_by caller_before keys ≡ keys

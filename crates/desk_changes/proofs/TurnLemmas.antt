@@ -43,9 +43,9 @@ no_values (x ∷ l) h = absurd (positive (length l) h)
     positive n e = grind (arith, nat_tests)
 
 -- one resolution more has the next number
-numbered-last : (n : ℕ) (rs : List Resolution) (r : Resolution) (k : ℕ) → k ≡ n + length rs → numbered_on n (rs ++ r ∷ []) ≡ numbered_on n rs ++ record { number = k; resolution = r } ∷ []
-numbered-last n [] r k is = let same : n ≡ k = omega (arith, is) in ap (λ m. record { number = m; resolution = r } ∷ []) same
-numbered-last n (q ∷ rest) r k is = ap (λ l. record { number = n; resolution = q } ∷ l) (numbered-last (suc n) rest r k (omega (arith, is)))
+numbered-last : (n : ℕ) (rs : List Resolution) (r : Resolution) (k : ℕ) → k ≡ n + length rs → numbered_on n (rs ++ r ∷ []) ≡ numbered_on n rs ++ record { number = k; item = r } ∷ []
+numbered-last n [] r k is = let same : n ≡ k = omega (arith, is) in ap (λ m. record { number = m; item = r } ∷ []) same
+numbered-last n (q ∷ rest) r k is = ap (λ l. record { number = n; item = q } ∷ l) (numbered-last (suc n) rest r k (omega (arith, is)))
 
 day_lt : (a b : ℕ) → day_before a b ≡ nat_lt a b
 day_lt a b = is_lt-nat_cmp a b
@@ -168,13 +168,13 @@ module _ {S : Type 0} (g : store.Ghosts S) where
         (turns_by b c n table.keys (λ was. was ++ key ∷ []) more refl does commits (λ flat held. table_changed (state g b) (state g c) flat held Keys (λ was. was ++ key ∷ []))) (λ flat good. refl))
 
     pub resolution_more : (id : List ℕ) (rs : List Resolution) (r : Resolution) (number : ℕ) → number ≡ 1 + length rs → Rewrites {T = Unit {0}} g a b (Ok tt) any_records (resolutions_added id rs)
-        → Does g b c (Ok n) (Adds table.resolutions (in_meeting id (record { number = number; resolution = r }))) → Rewrites {T = Unit {0}} g a c (Ok tt) any_records (resolutions_added id (rs ++ r ∷ []))
+        → Does g b c (Ok n) (Adds table.resolutions (in_meeting id (record { number = number; item = r }))) → Rewrites {T = Unit {0}} g a c (Ok tt) any_records (resolutions_added id (rs ++ r ∷ []))
     resolution_more id rs r number is turns does =
-        let one = in_meeting id (record { number = number; resolution = r }) in
+        let one = in_meeting id (record { number = number; item = r }) in
         let more = λ (flat : FlatLists). record flat { resolutions = flat.resolutions ++ one ∷ [] } in
         turns_same a c (Ok tt) any_records (λ flat. more (resolutions_added id rs flat)) (resolutions_added id (rs ++ r ∷ []))
         (λ flat. ap (λ l. record flat { resolutions = l }) (append_assoc flat.resolutions (all_in id (numbered_on 1 rs)) (one ∷ [])
-        ∙ ap (λ l. flat.resolutions ++ l) (sym (ap (all_in id) (numbered-last 1 rs r number is) ∙ map-append (in_meeting id) (numbered_on 1 rs) (record { number = number; resolution = r } ∷ [])))))
+        ∙ ap (λ l. flat.resolutions ++ l) (sym (ap (all_in id) (numbered-last 1 rs r number is) ∙ map-append (in_meeting id) (numbered_on 1 rs) (record { number = number; item = r } ∷ [])))))
         (turns_then a b c any_records (resolutions_added id rs) turns (Ok tt) any_records more
         (turns_by b c n table.resolutions (λ was. was ++ one ∷ []) more refl does commits (λ flat held. table_changed (state g b) (state g c) flat held Resolutions (λ was. was ++ one ∷ []))) (λ flat good. refl))
 

@@ -11,17 +11,17 @@ use Rattle.desk_words.specs.declared.office.OfficeLists.{OfficeLists}
 use Rattle.desk_words.specs.declared.records.RegisterRow.{RegisterRow}
 use Rattle.desk_words.specs.declared.records.Resolution.{Resolution}
 use Rattle.desk_rows.specs.declared.kept.InMeeting.{InMeeting}
-use Rattle.desk_rows.specs.declared.kept.NumberedResolution.{NumberedResolution}
+use Rattle.desk_rows.specs.declared.kept.Numbered.{Numbered}
 use Rattle.desk_records.specs.Office.{FlatLists, flat_in, office_in}
-use Rattle.desk_records.specs.Standing.{IsVersionOne}
+use Rattle.desk_records.specs.Standing.{IsVersion}
 use Rattle.desk_schema.specs.Statements.{DeclaresNothing, IsDesk}
 use Rattle.desk_words.specs.Changes.{after, can_make}
 
--- in a transaction the tables are those of a desk, of version 1, listed as they are declared, and
+-- in a transaction the tables are those of a desk, of version 2, listed as they are declared, and
 -- they are this office
 pub record StandsIn (office : OfficeLists) (s : State) : Type 0 where
   pub desk : IsDesk s
-  pub version : IsVersionOne s
+  pub version : IsVersion s
   pub inside : IsTrue s.in_transaction
   pub sound : IsDatabase s.now
   pub means : office_in s.now.trees ≡ Some office
@@ -42,11 +42,11 @@ pub record Writes {S T : Type 0} (g : store.Ghosts S) (old new : Held S) (result
 
 -- ---- statements one after another
 
--- in a transaction the tables are those of a desk, of version 1, listed as they are declared, and
+-- in a transaction the tables are those of a desk, of version 2, listed as they are declared, and
 -- hold these records
 pub record HoldsRecords (flat : FlatLists) (s : State) : Type 0 where
   pub desk : IsDesk s
-  pub version : IsVersionOne s
+  pub version : IsVersion s
   pub inside : IsTrue s.in_transaction
   pub sound : IsDatabase s.now
   pub means : flat_in s.now.trees ≡ Some flat
@@ -79,9 +79,9 @@ abbrev pub all_in : {A : Type 0} → List ℕ → List A → List (InMeeting A)
 all_in id items = map (λ item. record { meeting = id; item = item }) items
 
 -- the resolutions of a notice with their numbers, which go on from a number
-abbrev pub numbered_on : ℕ → List Resolution → List NumberedResolution
+abbrev pub numbered_on : ℕ → List Resolution → List (Numbered Resolution)
 numbered_on n [] = []
-numbered_on n (r ∷ rest) = record { number = n; resolution = r } ∷ numbered_on (suc n) rest
+numbered_on n (r ∷ rest) = record { number = n; item = r } ∷ numbered_on (suc n) rest
 
 -- the resolutions of a meeting, numbered from 1, behind those of the others
 abbrev pub resolutions_added : List ℕ → List Resolution → FlatLists → FlatLists

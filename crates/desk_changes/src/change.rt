@@ -5,7 +5,7 @@ ghost use Rattle.desk_changes.specs.Writes.{Writes};
 
 use crate::entries::enter;
 use crate::lists::{set_closed_days, set_keys};
-use crate::meetings::{add_meeting, open_meeting, set_register};
+use crate::meetings::{add_meeting, add_session, open_meeting, set_register};
 use crate::polls::{move_poll, order_poll};
 use desk_words::{Change, MeetingChange, MeetingId};
 use sqlite::{Alter, Error, Transaction};
@@ -26,6 +26,7 @@ fn write_in_meeting<S: Alter>(
     match change {
         MeetingChange::SetRegister(register) => set_register(tx, meeting, register),
         MeetingChange::SetOpened(moment) => open_meeting(tx, meeting, *moment),
+        MeetingChange::AddSession(moment) => add_session(tx, meeting, *moment),
         MeetingChange::AddPoll(poll) => order_poll(tx, meeting, poll),
         MeetingChange::SetPoll { resolution, change } => {
             move_poll(tx, meeting, *resolution, *change)

@@ -1,12 +1,12 @@
-//! Meetings that are called, get a register and are opened.
+//! Meetings that are called, get a register, are opened and are adjourned.
 ghost use Rattle.std.specs.Prelude.{◌≡◌};
 ghost use Rattle.desk_words.specs.declared.change.Change.TheVariants as change;
 ghost use Rattle.desk_words.specs.declared.change.MeetingChange.TheVariants as meeting_change;
 ghost use Rattle.desk_changes.specs.Writes.{Rewrites, Writes, any_records};
 ghost use Rattle.desk_changes.specs.Writes.{resolutions_added, rows_added};
 
-use desk_tables::{meetings, register, resolutions};
-use desk_words::{Meeting, MeetingId, Moment, Register, RegisterRow, Resolution};
+use desk_tables::{meetings, register, resolutions, sessions};
+use desk_words::{Meeting, MeetingId, Moment, Register, RegisterRow, Resolution, Session};
 use sqlite::{Alter, Error, Transaction};
 
 fn add_resolutions<S: Alter>(
@@ -71,7 +71,8 @@ pub(crate) fn set_register<S: Alter>(
     Ok(())
 }
 
-/// Notes when a meeting opened. The error is what the database answered.
+/// Notes when the last session of a meeting opened: its row is that of the meeting, unless the
+/// meeting was adjourned. The error is what the database answered.
 pub(crate) fn open_meeting<S: Alter>(
     tx: &mut Transaction<'_, S>,
     meeting: MeetingId,
@@ -81,6 +82,33 @@ pub(crate) fn open_meeting<S: Alter>(
     ensures writes { Writes S.Store tx.old.conn.now tx.new.conn.now result
         (change.InMeeting meeting (meeting_change.SetOpened moment)) }
 {
-    meetings::open(tx, meeting, moment)?;
+    let further = found_rows::sessions::of_meeting(tx, meeting)?;
+    let last = further.len() as u64 + 1;
+    if last == 1 {
+        meetings::open(tx, meeting, moment)?;
+    } else {
+        sessions::open(tx, meeting, last, moment)?;
+    }
+    Ok(())
+}
+
+/// Adds a session behind those of a meeting, appointed for a moment and not opened. The error is
+/// what the database answered.
+pub(crate) fn add_session<S: Alter>(
+    tx: &mut Transaction<'_, S>,
+    meeting: MeetingId,
+    appointed: Moment,
+) -> Result<(), Error>
+    ensures same_reference { tx.new.conn.ghost_name ≡ tx.old.conn.ghost_name }
+    ensures writes { Writes S.Store tx.old.conn.now tx.new.conn.now result
+        (change.InMeeting meeting (meeting_change.AddSession appointed)) }
+{
+    let further = found_rows::sessions::of_meeting(tx, meeting)?;
+    let number = further.len() as u64 + 2;
+    let session = Session {
+        appointed,
+        opened: None,
+    };
+    sessions::add(tx, meeting, number, &session)?;
     Ok(())
 }

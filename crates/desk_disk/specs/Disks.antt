@@ -2,7 +2,11 @@
 use Rattle.std.specs.Prelude.{◌≡◌, ◌≤◌, ◌⊎◌, ℕ, ◌==◌, ◌||◌, nat_le, if◌then◌else◌, List, Option, Some}
 use Rattle.std.specs.Prelude.{None, codes, slice_index}
 use Rattle.sqlite.specs.Files.{file_state}
-use Rattle.sqlite.specs.State.{State}
+use Rattle.sqlite.specs.State.{State, HasCleanDisk}
+use Rattle.desk_words.specs.declared.office.OfficeLists.{OfficeLists}
+use Rattle.desk_records.specs.Standing.{Stands, office_by}
+use Rattle.desk_opening.specs.Known.{AreOpened, IsMadeAs, edition_of}
+use Rattle.desk_opening.specs.declared.version.KnownVersion.{KnownVersion}
 use Rattle.desk_endings.specs.Endings.{Ending, done, ending, ended_by}
 use Rattle.desk_endings.specs.declared.ended.Fault.{Fault}
 use Rattle.desk_endings.specs.declared.ended.Fault.TheVariants as fault
@@ -18,6 +22,22 @@ use Rattle.desk_disk.specs.declared.file.Found.TheVariants as found
 -- the tables, as the connection to the file shows them
 abbrev pub tables_of : DiskDesk → State
 tables_of disk = file_state disk.desk
+
+-- the tables that were shown first are of a version that is known; those of version 2 are as they
+-- were, and those of version 1 are moved; where they were made as the program of their version makes
+-- them, they stand for the office that they held
+pub record IsOpened {H : Type 0} (shown : H → State) (desk : H) : Type 0 where
+  pub first : H
+  pub known : KnownVersion
+  pub opened : AreOpened known (shown first) (shown desk)
+  pub stands : IsMadeAs known (shown first).now.schema
+      → (office : OfficeLists)
+      × (office_by (edition_of known) (shown first).now.trees ≡ Some office)
+      × Stands (shown desk) office
+
+-- so the desk in a file is opened, where the disk returned what was written
+abbrev pub IsOpenedInFile : DiskDesk → Type 0
+IsOpenedInFile disk = HasCleanDisk (tables_of disk) → IsOpened file_state disk.desk
 
 -- the file cannot be opened, read or written, or memory ran out
 abbrev pub FailsToConnect : Ending → Type 0

@@ -1,11 +1,8 @@
 //! A desk in a file, made, opened and closed.
 ghost use Rattle.std.specs.Prelude.{◌≡◌, false, IfErr, IfOk};
-ghost use Rattle.desk_disk.specs.Disks.{EndsCreating, EndsOpening, tables_of};
+ghost use Rattle.desk_disk.specs.Disks.{EndsCreating, EndsOpening, IsOpenedInFile};
 ghost use Rattle.desk_endings.specs.Endings.{ended_view};
 ghost use Rattle.desk_opening.specs.Rising.{RowsRise};
-ghost use Rattle.desk_records.specs.Standing.{Stands};
-ghost use Rattle.desk_schema.specs.Statements.{IsDeclared};
-ghost use Rattle.desk_words.specs.declared.office.OfficeLists.{OfficeLists};
 ghost use Rattle.sqlite.specs.Files.{file_state};
 ghost use Rattle.sqlite.specs.State.{HasCleanDisk};
 
@@ -102,13 +99,12 @@ fn ended_of(refused: (Ended, Connection<DeskFile>)) -> Ended
 }
 
 impl DiskDesk {
-    /// Opens the desk that a file is. A file that is not there is not made, and ends the program
-    /// with `Store`. One that is empty or a single byte is left as it is, and is `NotADesk`; beside
-    /// the log of a desk it is `Store`, and the log is left as it is too.
+    /// Opens the desk that a file is. Tables of version 1 are moved to version 2. A file that is
+    /// refused is left as it is. One that is not there is not made, and ends the program with
+    /// `Store`. One that is empty or a single byte is `NotADesk`; beside the log of a desk it is
+    /// `Store`, and the log is left as it is too.
     pub fn open(rt: &HostRuntime, file: &str) -> Result<DiskDesk, Ended>
-        ensures stands { IfOk result (λ disk. HasCleanDisk (tables_of disk)
-            → IsDeclared (tables_of disk)
-            → (office : OfficeLists) × Stands (tables_of disk) office) }
+        ensures opened { IfOk result IsOpenedInFile }
         ensures fault { IfErr result (λ ended. EndsOpening (ended_view ended)) }
     {
         if let Some(fault) = find(rt, file)?.opening_fault() {

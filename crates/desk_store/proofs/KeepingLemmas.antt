@@ -5,14 +5,14 @@ use Rattle.sqlite.specs.State.{State}
 use Rattle.desk_words.specs.declared.office.OfficeLists.{OfficeLists}
 use Rattle.desk_schema.specs.Contents.{desk}
 use Rattle.desk_records.specs.Office.{office_in}
-use Rattle.desk_schema.specs.Statements.{HasTables, IsRising, layout_one, records_in}
+use Rattle.desk_schema.specs.Statements.{HasTables, IsRising, layout_two, records_in}
 use Rattle.desk_records.specs.Standing.{Stands}
 
 -- tables that are the same stand for the same office
 pub stands_same : (old new : State) (office : OfficeLists) → new.now ≡ old.now → Stands old office → Stands new office
 stands_same old new office same h = record {
   desk = record {
-    schema = subst (λ (d : Database). HasTables layout_one d.schema) (sym same) h.desk.schema;
+    schema = subst (λ (d : Database). HasTables layout_two d.schema) (sym same) h.desk.schema;
     rising = λ number is. subst (λ (d : Database). IsRising (d.trees number)) (sym same) (h.desk.rising number is);
   };
   version = ap (λ (d : Database). records_in desk d.trees) same ∙ h.version;

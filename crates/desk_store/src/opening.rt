@@ -1,22 +1,20 @@
 //! A new desk, and one that was kept.
 ghost use Rattle.std.specs.Prelude.{◌≡◌, ◌≢◌, ◌⊎◌, false, Err, IfErr, IfOk, IsErrAnd, IsTrue};
-ghost use Rattle.desk_opening.specs.Crashes.{LeavesNoMore};
-ghost use Rattle.desk_opening.specs.Opened.{HadColumns, HadVersionOne, HoldsNothing, IfDeclared};
-ghost use Rattle.desk_opening.specs.Opened.{IsSettled, IsWhyUnopened, KeepsOpenRows};
-ghost use Rattle.desk_opening.specs.Opened.{KeepsOpenTables, KeepsTables, StaysOpen};
-ghost use Rattle.desk_opening.specs.Opened.{SurvivesMaking};
+ghost use Rattle.desk_opening.specs.Crashes.{LeavesAtMostMoved};
+ghost use Rattle.desk_opening.specs.Opened.{HoldsNothing, IfMadeAs, IsSettled, IsWhyUnopened};
+ghost use Rattle.desk_opening.specs.Opened.{KeepsOpenRows, KeepsOpenTables, StandsFor, StaysOpen};
+ghost use Rattle.desk_opening.specs.Opened.{SurvivesMaking, SurvivesMoving, WereKnown};
 ghost use Rattle.desk_opening.specs.Opening.{HandsBack, IsInNone};
 ghost use Rattle.desk_opening.specs.Rising.{RowsRise};
-ghost use Rattle.desk_opening.specs.Whole.{LeavesWhole, OpensWhole};
+ghost use Rattle.desk_opening.specs.Whole.{OpensWhole};
 ghost use Rattle.desk_opening.specs.declared.fault.CreateFault.TheVariants.{NotEmpty};
 ghost use Rattle.desk_opening.specs.declared.fault.CreateFault.TheVariants as creating;
 ghost use Rattle.desk_opening.specs.declared.fault.OpenFault.TheVariants as opening;
 ghost use Rattle.desk_opening.specs.declared.opening.HandedBack.TheVariants as back;
-ghost use Rattle.desk_records.specs.Standing.{Stands};
 ghost use Rattle.desk_schema.specs.Tables.{no_schema};
 ghost use Rattle.desk_words.specs.declared.office.OfficeLists.{OfficeLists};
 ghost use Rattle.sqlite.specs.Held.{state};
-ghost use Rattle.sqlite.specs.State.{HasCleanDisk, Survives};
+ghost use Rattle.sqlite.specs.State.{HasCleanDisk};
 
 use crate::desk::Desk;
 use desk_opening::{CreateFault, HandedBack, OpenFault};
@@ -58,37 +56,41 @@ impl<S: Alter + Drop> Desk<S> {
         }
     }
 
-    /// Opens the desk that the database holds, where the tables that `create` makes stand first and
-    /// are declared as it declares them. Other tables, indexes and views may stand beside them, as
-    /// after `ANALYZE`, and the indexes of the desk may be missing. Whatever tables the database
-    /// holds, it is opened only where each column that is read stands. So a desk also opens after
-    /// another program added a column; of such a desk no clause says more.
+    /// Opens the desk that the database holds. Tables of version 2 are opened as they are, and
+    /// nothing is written, where those that `create` makes stand first and are declared as it
+    /// declares them. Other tables, indexes and views may stand beside them, as after `ANALYZE`, and
+    /// the indexes of the desk may be missing. Tables of version 1 are moved to version 2 in one
+    /// transaction with one commit, where they and their indexes are as the program of version 1 made
+    /// them, and no others stand beside them; they are then the same office, each meeting with one
+    /// session. Whatever tables the database holds, it is opened only where each column that is read
+    /// of their version stands. So a desk also opens after another program added a column; of such a
+    /// desk no clause says more.
     ///
     /// The version is asked before the other tables are read. The fault is `NewerVersion` only where
-    /// the database understands the text that reads the version, and it shows a later one. Of tables
-    /// that note their version, as those of version 1 do, it is `NotADesk` only where they note
-    /// none, or the first and a column that is read is missing or what they hold is no office.
-    /// Tables that are whole are refused as `Store` or `Memory` alone.
+    /// the database understands the text that reads the version, and it shows version 3 or a later
+    /// one. Of tables that note their version, as those of both versions do, it is `NotADesk` only
+    /// where they note none, or version 1 or 2 and a column that is read of it is missing or what
+    /// they hold is no office. Tables that are whole in either version are refused as `Store` or
+    /// `Memory` alone.
     ///
     /// A refusal hands back the connection, or the store where that could not be read again, its
     /// tables as they were. A connection in a transaction is refused as `Store` and handed back as
     /// it was. A limit of steps that was set on the connection is not kept. Of a desk that is opened
     /// a crash leaves the tables that are read, whole, and nothing else. After a refusal it leaves
-    /// nothing that it did not leave before.
+    /// nothing that it did not leave before, or, of tables of version 1 alone, those tables moved,
+    /// whole of the same office.
     pub fn open(alloc: Global, conn: Connection<S>) -> Result<Desk<S>, (OpenFault, HandedBack<S>)>
-        ensures stands { IfOk result (λ desk. IfDeclared S.Store conn desk
-            ((office : OfficeLists) × Stands (state S.Store desk) office
-            × LeavesWhole (state S.Store desk) office)) }
+        ensures stands { IfOk result (λ desk. IfMadeAs S.Store conn desk (λ known.
+            (office : OfficeLists)
+            × StandsFor (state S.Store conn) (state S.Store desk) office known)) }
         ensures whole { IfOk result (λ desk. OpensWhole S.Store conn desk) }
-        ensures same { IfOk result (λ desk. KeepsTables S.Store conn desk) }
+        ensures known { IfOk result (λ desk. WereKnown S.Store conn desk) }
         ensures is_open { IfOk result (λ desk. StaysOpen S.Store desk) }
-        ensures version { IfOk result (λ desk. HadVersionOne S.Store conn desk) }
-        ensures columns { IfOk result (λ desk. HadColumns S.Store conn desk) }
         ensures cause { IfErr result (λ e. IsWhyUnopened S.Store conn e.0 e.1) }
         ensures kept { IfErr result (λ e. HandsBack S.Store (state S.Store conn).now.trees e.1) }
         ensures ended { IfErr result (λ e. conn.in_transaction ≡ false → IsInNone e.1) }
         ensures settled { IfOk result (λ desk. IsSettled S.Store desk) }
-        ensures crash { IfErr result (λ e. LeavesNoMore S.Store (state S.Store conn) e.1) }
+        ensures crash { IfErr result (λ e. LeavesAtMostMoved S.Store (state S.Store conn) e.1) }
         ensures inside { IsTrue conn.in_transaction
             → result ≡ Err (opening.Store, back.Connection conn) }
     {
@@ -108,20 +110,17 @@ impl<S: Alter + Drop> Desk<S> {
     ) -> Result<Desk<S>, (OpenFault, Connection<S>)>
         requires none { conn.in_transaction ≡ false }
         requires rising { HasCleanDisk (state S.Store conn) → RowsRise (state S.Store conn) }
-        ensures stands { IfOk result (λ desk. IfDeclared S.Store conn desk
-            ((office : OfficeLists) × Stands (state S.Store desk) office
-            × LeavesWhole (state S.Store desk) office)) }
+        ensures stands { IfOk result (λ desk. IfMadeAs S.Store conn desk (λ known.
+            (office : OfficeLists)
+            × StandsFor (state S.Store conn) (state S.Store desk) office known)) }
         ensures whole { IfOk result (λ desk. OpensWhole S.Store conn desk) }
-        ensures same { IfOk result (λ desk. KeepsTables S.Store conn desk) }
+        ensures known { IfOk result (λ desk. WereKnown S.Store conn desk) }
         ensures is_open { IfOk result (λ desk. StaysOpen S.Store desk) }
-        ensures version { IfOk result (λ desk. HadVersionOne S.Store conn desk) }
-        ensures columns { IfOk result (λ desk. HadColumns S.Store conn desk) }
         ensures cause { IfErr result (λ e. IsWhyUnopened S.Store conn e.0 (back.Connection e.1)) }
         ensures kept { IfErr result (λ e. KeepsOpenRows S.Store conn e.1) }
         ensures back { IfErr result (λ e. e.1.in_transaction ≡ false) }
         ensures settled { IfOk result (λ desk. IsSettled S.Store desk) }
-        ensures crash { IfErr result (λ e.
-            Survives (state S.Store conn) (state S.Store e.1) (λ _. ⊥)) }
+        ensures crash { IfErr result (λ e. SurvivesMoving S.Store conn e.1) }
     {
         match desk_opening::open_risen(alloc, conn) {
             Ok((risen, _)) => Ok(Desk { conn: risen, alloc }),

@@ -1,11 +1,9 @@
 //! The making and the opening of a desk.
 ghost use Rattle.std.specs.Prelude.{◌≡◌, ◌≢◌, false, IfErr, IfOk, IsTrue};
 ghost use Rattle.desk_endings.specs.Endings.{ended_by, ended_view};
-ghost use Rattle.desk_opening.specs.Opened.{HadColumns, HadVersionOne, KeepsOpenRows};
-ghost use Rattle.desk_opening.specs.Opened.{KeepsTables, StaysOpen};
+ghost use Rattle.desk_opening.specs.Opened.{IfMadeAs, KeepsOpenRows, StandsFor, StaysOpen};
+ghost use Rattle.desk_opening.specs.Opened.{WereKnown};
 ghost use Rattle.desk_opening.specs.Rising.{RowsRise};
-ghost use Rattle.desk_records.specs.Standing.{Stands};
-ghost use Rattle.desk_schema.specs.Statements.{IsDeclared};
 ghost use Rattle.desk_tasks.specs.Desks.{Creates, IsUnopened, create_fault, file_fault, open_fault};
 ghost use Rattle.desk_words.specs.declared.office.OfficeLists.{OfficeLists};
 ghost use Rattle.sqlite.specs.Held.{state};
@@ -58,21 +56,20 @@ fn by_open(fault: OpenFault) -> Ended
 }
 
 /// Opens the desk that a database holds, which was just opened itself, so that the numbers of the
-/// rows of each table are known to rise. Where it holds none, this is how the program ends, with
-/// status 3 and the fault, and the connection is handed back, its tables as they were.
+/// rows of each table are known to rise. Tables of version 2 are opened as they are, and those of
+/// version 1 are moved to version 2. Where it holds none, this is how the program ends, with status 3
+/// and the fault, and the connection is handed back, its tables as they were.
 pub fn open<S: Alter + Drop>(
     alloc: Global,
     conn: Connection<S>,
 ) -> Result<Desk<S>, (Ended, Connection<S>)>
     requires none { conn.in_transaction ≡ false }
     requires rising { HasCleanDisk (state S.Store conn) → RowsRise (state S.Store conn) }
-    ensures stands { IfOk result (λ desk. HasCleanDisk (state S.Store desk)
-        → IsDeclared (state S.Store desk)
-        → (office : OfficeLists) × Stands (state S.Store desk) office) }
-    ensures same { IfOk result (λ desk. KeepsTables S.Store conn desk) }
+    ensures stands { IfOk result (λ desk. IfMadeAs S.Store conn desk (λ known.
+        (office : OfficeLists)
+        × StandsFor (state S.Store conn) (state S.Store desk) office known)) }
+    ensures known { IfOk result (λ desk. WereKnown S.Store conn desk) }
     ensures is_open { IfOk result (λ desk. StaysOpen S.Store desk) }
-    ensures version { IfOk result (λ desk. HadVersionOne S.Store conn desk) }
-    ensures columns { IfOk result (λ desk. HadColumns S.Store conn desk) }
     ensures fault { IfErr result (λ e. IsUnopened S.Store conn (ended_view e.0) e.1) }
     ensures kept { IfErr result (λ e. KeepsOpenRows S.Store conn e.1) }
     ensures ended { IfErr result (λ e. e.1.in_transaction ≡ false) }

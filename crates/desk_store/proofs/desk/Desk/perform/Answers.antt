@@ -1,12 +1,13 @@
-use Rattle.std.proofs.Common.{◌≡◌, [], None, Some, Ok, true, false, IsTrue, ap, subst, sym, arith, rules}
+use Rattle.std.proofs.Common.{◌≡◌, [], None, Some, Ok, true, false, IsTrue, ap, subst, sym, ◌∙◌, arith, rules}
 use Rattle.std.specs.Fn.{FnOnceReturnsAt}
-use Rattle.sqlite.specs.Effect.{IsDatabase}
+use Rattle.sqlite.specs.Effect.{Database, IsDatabase}
 use Rattle.sqlite.specs.Held.{Held, state}
 use Rattle.sqlite.specs.State.{HasCleanDisk, IsUnchanged, KeepsCounts, Shows}
 use Rattle.sqlite.specs.Steps.{FailsToCommit}
 use Rattle.meeting_core.specs.Step.{decided, stepped}
 use Rattle.desk_words.specs.declared.office.OfficeLists.{OfficeLists}
 use Rattle.desk_records.specs.Standing.{Stands}
+use Rattle.desk_schema.specs.Statements.{DeclaresNothing}
 use Rattle.desk_store.proofs.JoinLemmas.{IsOver, IsWithin, as_it_was, asked_open, asked_stands, asked_stop, begun_sound, committed, desk_clean, itself_after, leaves_behind, leaves_failed, not_committed, same_behind, survives_behind, survives_call, survives_nothing, whole_behind}
 use Rattle.desk_store.proofs.KeepingLemmas.{stands_same}
 use Rattle.desk_store.proofs.ReadLemmas.{error_of, mapped_failed, mapped_is, mapped_on}
@@ -30,6 +31,24 @@ returns-clause-done g c = λ clean office stands.
     (c.step.ensures.shown early inside sound office there) in
     let over = mapped_on {W = IsTrue mid.in_transaction × Shows mid end mid.now mid.now false × KeepsCounts mid end × (end.marks ≡ [])} _ c.commit.result c.map_err-2.result c.in_ok-map_err.field-0 c.map_err-2.ensures.cases c.in_ok-map_err.was (c.commit.ensures.ok clean) in
     (done.0, stands_same mid end (stepped office c.args.call) over.1.now_is done.1)
+
+pub returns-clause-declares : goal.returns-clause-declares
+returns-clause-declares g c = λ clean office stands.
+    let old = state g.S.Store c.ask_open.new.self in
+    let first = state g.S.Store c.transaction-tx.result.conn.now in
+    let mid = state g.S.Store c.step.new.tx.conn.now in
+    let end = state g.S.Store c.commit.new.self.0 in
+    let begun : c.transaction-tx.result.conn.now ≡ record c.ask_open.new.self { in_transaction = true } = search rules in
+    let within : IsWithin first mid = record { crash = c.step.ensures.crash; was_open = c.step.ensures.was_open; kept = c.step.ensures.kept } in
+    let opened = desk_clean g.S.Store c.ask_open.new.self c.transaction-tx.result.conn.now c.step.new.tx.conn.now c.commit.new.self.0 begun within c.commit.ensures.ended c.commit.ensures.survives clean in
+    let asked = c.in_ok-ask_open.ensures.asked in
+    let there = stands_same old first office (ap (λ h. (state g.S.Store h).now) begun) (asked_stands g.S.Store c.args.self.now c.ask_open.new.self asked opened office stands) in
+    let inside : IsTrue first.in_transaction = ap (λ h. (state g.S.Store h).in_transaction) begun in
+    let sound : IsDatabase first.now = subst (λ (h : Held _). IsDatabase (state g.S.Store h).now) (sym begun) (asked.still opened).1 in
+    let early : HasCleanDisk mid = omega (arith, c.commit.ensures.survives.clean) in
+    let declared = mapped_on {W = DeclaresNothing first mid} _ c.step.result c.map_err.result c.in_ok-shown.shown c.map_err.ensures.cases c.in_ok-shown.was (c.step.ensures.declares early inside sound office there) in
+    let over = mapped_on {W = IsTrue mid.in_transaction × Shows mid end mid.now mid.now false × KeepsCounts mid end × (end.marks ≡ [])} _ c.commit.result c.map_err-2.result c.in_ok-map_err.field-0 c.map_err-2.ensures.cases c.in_ok-map_err.was (c.commit.ensures.ok clean) in
+    ap (λ (d : Database). d.schema) over.1.now_is ∙ declared ∙ ap (λ (h : Held _). (state g.S.Store h).now.schema) begun ∙ ap (λ (d : Database). d.schema) (asked.still opened).0.0.now_is
 
 pub returns-clause-leaves : goal.returns-clause-leaves
 returns-clause-leaves g c =
