@@ -14,9 +14,9 @@ REFUSALS = {
     13: "SelfNamed", 14: "BadInstructions", 15: "TooMany", 16: "NoSuchNumber", 17: "AlreadyEnded", 18: "NoRegister",
     19: "OtherRecord", 20: "Opened", 21: "NotOpened", 22: "Early", 23: "NoQuorum", 24: "NotPresent", 25: "NoRight",
     26: "PollOrdered", 27: "NoPoll", 28: "DemandTooSmall", 29: "PollNotOpen", 30: "PollClosed", 31: "NotClosed", 32: "Declared",
-    33: "NotYours", 34: "AgainstInstruction",
+    33: "NotYours", 34: "AgainstInstruction", 35: "PollRunning",
 }
-OFFICE_VERBS = ("call", "presence", "open", "order", "start", "close", "declare", "register", "closed", "keys")
+OFFICE_VERBS = ("call", "presence", "open", "adjourn", "order", "start", "close", "declare", "register", "closed", "keys")
 
 
 def day_of(text):
@@ -80,15 +80,37 @@ class Days:
         return self.work(poll["ordered"], poll["take"]) > 48 * 3600
 
 
+class Session:
+    """A session of a meeting: its appointed time, its opening, and who is present in it."""
+
+    def __init__(self, appointed):
+        self.appointed, self.opened, self.present = appointed, None, []
+
+
 class Meeting:
     """A meeting, as it stands at a moment for which the closed days are these."""
 
     def __init__(self, notice):
         self.notice = notice
-        self.appointed = moment_of(notice["appointed"])
-        self.loaded, self.opened, self.register = False, None, {}
+        self.sessions = [Session(moment_of(notice["appointed"]))]
+        self.loaded, self.register = False, {}
         self.appointments, self.endings, self.authorities = [], [], []
-        self.present, self.demands, self.polls, self.casts = [], [], {}, []
+        self.demands, self.polls, self.casts = [], {}, []
+
+    @property
+    def last(self):
+        """The session to which the meeting was adjourned last, or its first."""
+        return self.sessions[-1]
+
+    @property
+    def opened(self):
+        """When the last session was opened."""
+        return self.last.opened
+
+    @property
+    def present(self):
+        """Who is present in the last session."""
+        return self.last.present
 
     def shares(self, member):
         """How many shares a member has that are no treasury shares (section 726)."""
@@ -101,11 +123,22 @@ class Meeting:
     def has_authorised(self, corporation, person):
         return (corporation, person) in self.authorities
 
+    # Until when appointments count, and before when endings (sections 327 and 330):
+
+    def cutoffs_for_acts(self, days, session, now):
+        """for the quorum and the demands of a session,"""
+        first = self.sessions[0]
+        return days.back(48, session.appointed), now if first.opened is None else first.opened
+
+    def cutoffs_for_votes(self, days, session, now):
+        """for votes in a session,"""
+        return days.back(48, session.appointed), now if session.opened is None else session.opened
+
     def cutoffs(self, days, poll, now):
-        """Until when appointments count, and before when endings (sections 327 and 330)."""
-        if poll is not None and days.is_late(poll):
+        """and for votes on a poll."""
+        if days.is_late(poll):
             return days.back(24, poll["take"]), poll["take"]
-        return days.back(48, self.appointed), now if self.opened is None else self.opened
+        return self.cutoffs_for_votes(days, self.sessions[poll["session"] - 1], now)
 
     def governing(self, cutoffs, member, place):
         """The appointment that governs a share: the last that counts, unless its ending counts (section 324)."""
@@ -127,7 +160,7 @@ class Meeting:
         return range(1, self.shares(member) + 1)
 
     def capacities(self, days, party, now):
-        cutoffs = self.cutoffs(days, None, now)
+        cutoffs = self.cutoffs_for_acts(days, self.last, now)
         found = [("member", party)] if self.is_kind(party, "individual") else []
         found += [("rep", c) for c in self.register if self.is_kind(c, "corporation") and self.has_authorised(c, party)]
         return found + [
@@ -148,7 +181,7 @@ class Meeting:
 
     def is_demanded(self, days, resolution, now):
         """Section 321: five holders of demanding shares, or a tenth of all shares, or of all that is paid up."""
-        cutoffs = self.cutoffs(days, None, now)
+        cutoffs = self.cutoffs_for_acts(days, self.last, now)
         shares = holders = pence = all_shares = all_pence = 0
         for member, row in self.register.items():
             demanding = [
@@ -161,7 +194,8 @@ class Meeting:
         return shares > 0 and (holders >= 5 or 10 * shares >= all_shares or 10 * pence >= all_pence)
 
     def demands_share(self, cutoffs, resolution, member, place):
-        parties = [party for wanted, party in self.demands if wanted == resolution]
+        asked = (len(self.sessions), resolution)
+        parties = [party for session, wanted, party in self.demands if (session, wanted) == asked]
         given = self.governing(cutoffs, member, place)
         return (
             (self.is_kind(member, "individual") and member in parties)
@@ -257,7 +291,7 @@ class Office:
         record = moment_of(m.notice["record"])
         refuse_first({
             19: lambda: moment_of(body["record"]) != record,
-            20: lambda: m.opened is not None,
+            20: lambda: m.sessions[0].opened is not None,
             22: lambda: now < record,
         })
         rows = {row[0]: dict(zip(("kind", "name", "shares", "paid"), row[1:])) for row in body["rows"]}
@@ -274,11 +308,23 @@ class Office:
         refuse_first({
             18: lambda: not m.loaded,
             20: lambda: m.opened is not None,
-            22: lambda: now < m.appointed,
+            22: lambda: now < m.last.appointed,
             23: lambda: not m.has_quorum(self.days, now),
         })
-        m.opened = now
+        m.last.opened = now
         return {"ok": "opened"}
+
+    def adjourn(self, m, now, caller, body):
+        appointed = moment_of(body["appointed"])
+        is_running = lambda poll: poll["closed"] is None and (poll["started"] is not None or not self.days.is_late(poll))
+        refuse_first({
+            15: lambda: len(m.sessions) >= 10,
+            21: lambda: m.opened is None,
+            22: lambda: appointed <= now,
+            35: lambda: any(is_running(poll) for poll in m.polls.values()),
+        })
+        m.sessions.append(Session(appointed))
+        return {"number": len(m.sessions), "ok": "adjourned"}
 
     def order(self, m, now, caller, body):
         resolution = body["resolution"]
@@ -289,7 +335,7 @@ class Office:
             26: lambda: resolution in m.polls,
             28: lambda: not body["chair"] and not m.is_demanded(self.days, resolution, now),
         })
-        poll = {"ordered": now, "take": moment_of(body["take"]), "chair": body["chair"]}
+        poll = {"session": len(m.sessions), "ordered": now, "take": moment_of(body["take"]), "chair": body["chair"]}
         m.polls[resolution] = poll | {"started": None, "closed": None, "declared": None}
         return {"ok": "ordered"}
 
@@ -333,10 +379,16 @@ class Office:
             {"kind": kind, "number": number, "poll": self.noticed(m, number, now), "text": text}
             for number, (kind, text) in enumerate(m.notice["resolutions"], 1)
         ]
-        told = {name: m.notice[name] for name in ("appointed", "company", "given", "kind", "meeting", "record")}
-        cutoff = moment_text(self.days.back(48, m.appointed))
-        return told | {
-            "cutoff": cutoff, "ok": "notice", "opened": text_if_any(m.opened), "register": m.loaded, "resolutions": resolutions,
+        told = {name: m.notice[name] for name in ("company", "given", "kind", "meeting", "record")}
+        sessions = [self.noticed_session(session) | {"number": at} for at, session in enumerate(m.sessions, 1)]
+        told |= self.noticed_session(m.sessions[0]) | {"ok": "notice", "register": m.loaded, "resolutions": resolutions}
+        return told | ({"sessions": sessions} if len(sessions) > 1 else {})
+
+    def noticed_session(self, session):
+        return {
+            "appointed": moment_text(session.appointed),
+            "cutoff": moment_text(self.days.back(48, session.appointed)),
+            "opened": text_if_any(session.opened),
         }
 
     def noticed(self, m, number, now):
@@ -349,18 +401,19 @@ class Office:
             "cutoff": moment_text(m.cutoffs(self.days, poll, now)[0]),
             "late": self.days.is_late(poll),
             "result": m.result(number, poll["declared"]) if has(poll, "declared") else None,
-        }
+        } | ({"session": poll["session"]} if len(m.sessions) > 1 else {})
 
     def mine(self, m, now, caller, body):
         row = m.register.get(caller)
-        return {
+        presences = [at for at, session in enumerate(m.sessions, 1) if caller in session.present]
+        return ({"presences": presences} if len(m.sessions) > 1 else {}) | {
             "authorised": [
                 {"corporation": c, "shares": m.shares(c) if m.is_kind(c, "corporation") else 0}
                 for c, person in m.authorities
                 if person == caller
             ],
             "casts": [{name: it[name] for name in it if name != "voter"} for it in m.casts if it["voter"] == caller],
-            "demands": [resolution for resolution, party in m.demands if party == caller],
+            "demands": [resolution for session, resolution, party in m.demands if party == caller],
             "given": [self.given(m, it) for it in m.appointments if it["member"] == caller],
             "meeting": m.notice["meeting"],
             "ok": "mine",
@@ -371,7 +424,7 @@ class Office:
         }
 
     def use(self, m, given):
-        return "meeting" if given["moment"] <= self.days.back(48, m.appointed) else "later polls only"
+        return "meeting" if given["moment"] <= self.days.back(48, m.last.appointed) else "later polls only"
 
     def given(self, m, given):
         ended = [it["moment"] for it in m.endings if (it["member"], it["number"]) == (given["member"], given["number"])]
@@ -384,14 +437,23 @@ class Office:
 
     def received(self, m, given, now):
         told = {name: given[name] for name in ("from", "instructions", "member", "to")}
+        if len(m.sessions) > 1:
+            told["sessions"] = [self.governed(m, given, at, session, now) for at, session in enumerate(m.sessions, 1)]
         return told | {
-            "governs": runs(m, m.cutoffs(self.days, None, now), given),
+            "governs": runs(m, m.cutoffs_for_votes(self.days, m.last, now), given),
             "polls": [
                 {"governs": runs(m, m.cutoffs(self.days, poll, now), given), "resolution": number}
                 for number, poll in sorted(m.polls.items())
                 if self.days.is_late(poll)
             ],
             "received": moment_text(given["moment"]),
+        }
+
+    def governed(self, m, given, number, session, now):
+        return {
+            "acts": runs(m, m.cutoffs_for_acts(self.days, session, now), given),
+            "governs": runs(m, m.cutoffs_for_votes(self.days, session, now), given),
+            "session": number,
         }
 
     def appoint(self, m, now, caller, body):
@@ -438,8 +500,9 @@ class Office:
             25: lambda: not m.capacities(self.days, caller, now),
             26: lambda: resolution in m.polls,
         })
-        if (resolution, caller) not in m.demands:
-            m.demands.append((resolution, caller))
+        demanded = (len(m.sessions), resolution, caller)
+        if demanded not in m.demands:
+            m.demands.append(demanded)
         return {"ok": "noted"}
 
     def refuse_vote(self, m, caller, body, others):

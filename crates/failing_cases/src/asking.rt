@@ -4,7 +4,7 @@ ghost use Rattle.desk_opening.specs.Rising.{RowsRise};
 ghost use Rattle.sqlite.specs.Held.{state};
 ghost use Rattle.sqlite.specs.State.{HasCleanDisk};
 
-use crate::looking::look;
+use crate::looking::{look, open_any, read};
 use crate::served::{Request, STORE_FAILED, serve};
 use desk_program::call_of;
 use desk_replies::reply_text;
@@ -18,10 +18,14 @@ use std::alloc::Global;
 pub enum Asked<'a> {
     /// That a desk is made.
     Create,
-    /// That a desk is opened.
+    /// That a desk is opened, as any database is.
     Open,
+    /// That a desk is opened as the program opens a file.
+    OpenFile,
     /// That a statement is run, where no desk is opened.
     Statement(&'a str),
+    /// The values of the rows that a statement reads, where no desk is opened.
+    Rows(&'a str),
     /// A call, in the form of a line of a replay.
     Call(&'a str),
     /// The rows of all tables, and what the book would reply to each of these calls, none of which
@@ -84,6 +88,7 @@ fn reply<S: Alter>(alloc: Global, desk: &mut Desk<S>, request: Request) -> Answe
 
 fn ask_once<S: Alter>(alloc: Global, desk: &mut Desk<S>, asked: &Asked) -> Answer {
     match asked {
+        Asked::OpenFile => word(alloc, "opened"),
         Asked::Call(line) => call(alloc, desk, line),
         Asked::Request(request) => reply(alloc, desk, *request),
         _ => Err("no call and no request"),
@@ -149,8 +154,9 @@ pub fn ask<S: Alter + Drop>(alloc: Global, conn: Connection<S>, asked: &Asked) -
     match asked {
         Asked::Create => create(alloc, conn),
         Asked::Statement(sql) => execute(alloc, conn, sql),
-        Asked::Open => look(alloc, conn, None),
-        Asked::Book(lines) => look(alloc, conn, Some(lines)),
-        Asked::Call(_) | Asked::Request(_) => open(alloc, conn, asked),
+        Asked::Rows(sql) => read(alloc, conn, sql),
+        Asked::Open => open_any(alloc, conn),
+        Asked::Book(lines) => look(alloc, conn, lines),
+        Asked::OpenFile | Asked::Call(_) | Asked::Request(_) => open(alloc, conn, asked),
     }
 }

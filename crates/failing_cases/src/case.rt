@@ -21,8 +21,10 @@ fn asked_of(text: &str) -> Asked<'_> {
     match text {
         "create" => Asked::Create,
         "open" => Asked::Open,
+        "open-file" => Asked::OpenFile,
         line => match line.split_once(' ') {
             Some(("sql", statement)) => Asked::Statement(statement),
+            Some(("rows", statement)) => Asked::Rows(statement),
             _ => Asked::Call(line),
         },
     }

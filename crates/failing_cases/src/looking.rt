@@ -8,8 +8,8 @@ use sqlite::types::ValueRef;
 use sqlite::{Alter, Connection, Row};
 use std::alloc::{AllocError, Global};
 
-/// The statements that read each table whole.
-const TABLES: [&str; 13] = [
+/// The statements that read each table whole, those of either version.
+const TABLES: [&str; 17] = [
     "SELECT * FROM desk",
     "SELECT * FROM keys",
     "SELECT * FROM closed",
@@ -23,9 +23,13 @@ const TABLES: [&str; 13] = [
     "SELECT * FROM demands",
     "SELECT * FROM polls",
     "SELECT * FROM casts",
+    "SELECT * FROM sessions",
+    "SELECT * FROM presences2",
+    "SELECT * FROM demands2",
+    "SELECT * FROM polls2",
 ];
 
-/// Adds a value to what is told. No text of a desk has a line feed.
+/// Adds a value to what is told.
 fn add_value(alloc: Global, value: ValueRef, told: &mut Vec<u8>) -> Result<(), AllocError> {
     match value {
         ValueRef::Text(text) => told.extend_from_slice(text)?,
@@ -35,23 +39,32 @@ fn add_value(alloc: Global, value: ValueRef, told: &mut Vec<u8>) -> Result<(), A
         ValueRef::Null => told.extend_from_slice(b"none")?,
         _ => told.extend_from_slice(b"no value of a desk")?,
     }
-    Ok(told.push(b'\n')?)
+    Ok(())
 }
 
-fn add_row(alloc: Global, row: &Row, told: &mut Vec<u8>) -> Result<(), AllocError> {
+/// Adds the values of a row to what is told, with this byte before each that is not the first.
+fn add_row(alloc: Global, row: &Row, parting: u8, told: &mut Vec<u8>) -> Result<(), AllocError> {
     for at in 0..row.column_count() {
         if let Ok(value) = row.get_ref(at) {
+            if !told.is_empty() {
+                told.push(parting)?;
+            }
             add_value(alloc, value, told)?;
         }
     }
     Ok(())
 }
 
-fn add_rows(alloc: Global, rows: &[Row], told: &mut Vec<u8>) -> Result<(), AllocError> {
+fn add_rows(
+    alloc: Global,
+    rows: &[Row],
+    parting: u8,
+    told: &mut Vec<u8>,
+) -> Result<(), AllocError> {
     for row in rows {
-        add_row(alloc, row, told)?;
+        add_row(alloc, row, parting, told)?;
     }
-    Ok(told.push(b'\n')?)
+    Ok(())
 }
 
 /// All rows that a statement reads; none where it fails.
@@ -59,17 +72,44 @@ fn rows_of<S: Alter>(conn: &mut Connection<S>, sql: &str) -> Option<Vec<Row>> {
     conn.query_all(sql, &[]).ok()
 }
 
-/// What was told, and behind it the rows of all tables.
-fn with_rows<S: Alter>(alloc: Global, conn: &mut Connection<S>, mut told: Vec<u8>) -> Answer {
+/// Adds the rows that a statement reads, or that it reads none where a table is not there. No text
+/// of a desk has a line feed.
+fn add_table<S: Alter>(
+    alloc: Global,
+    conn: &mut Connection<S>,
+    sql: &str,
+    told: &mut Vec<u8>,
+) -> Result<(), AllocError> {
+    match rows_of(conn, sql) {
+        Some(rows) => add_rows(alloc, &rows, b'\n', told)?,
+        None => told.extend_from_slice(b"no table")?,
+    }
+    Ok(told.push(b'\n')?)
+}
+
+/// The rows of all tables, of a database that no desk has.
+fn all_rows<S: Alter>(alloc: Global, conn: &mut Connection<S>) -> Result<Vec<u8>, AllocError> {
+    let mut told = Vec::new(alloc);
     for sql in TABLES {
-        let Some(rows) = rows_of(conn, sql) else {
-            return Err("a table is not read");
-        };
-        if add_rows(alloc, &rows, &mut told).is_err() {
-            return Err("Memory");
-        }
+        add_table(alloc, conn, sql, &mut told)?;
     }
     Ok(told)
+}
+
+fn values_of(alloc: Global, rows: &[Row]) -> Result<Vec<u8>, AllocError> {
+    let mut told = Vec::new(alloc);
+    add_rows(alloc, rows, b' ', &mut told)?;
+    Ok(told)
+}
+
+/// The values of the rows that a statement reads, with a space between two, and the store of the
+/// database.
+pub fn read<S: Alter + Drop>(alloc: Global, mut conn: Connection<S>, sql: &str) -> (Answer, S) {
+    let answer = match rows_of(&mut conn, sql) {
+        Some(rows) => values_of(alloc, &rows).map_err(|_| "Memory"),
+        None => Err("not read"),
+    };
+    (answer, conn.into_store())
 }
 
 /// Adds what a book replies to a call; nothing where the line is none.
@@ -98,29 +138,6 @@ fn ask_book<S: Alter>(alloc: Global, desk: &mut Desk<S>, lines: &[&str]) -> Answ
     }
 }
 
-/// What is told of a desk, and its store.
-fn tell<S: Alter + Drop>(alloc: Global, mut desk: Desk<S>, lines: &[&str]) -> (Answer, S) {
-    let replies = ask_book(alloc, &mut desk, lines);
-    let mut conn = desk.close();
-    let told = match replies {
-        Ok(told) => with_rows(alloc, &mut conn, told),
-        Err(fault) => Err(fault),
-    };
-    (told, conn.into_store())
-}
-
-/// What is told of a desk, and its store; without calls only that it is opened.
-fn tell_if_asked<S: Alter + Drop>(
-    alloc: Global,
-    desk: Desk<S>,
-    lines: Option<&[&str]>,
-) -> (Answer, S) {
-    match lines {
-        Some(lines) => tell(alloc, desk, lines),
-        None => (word(alloc, "opened"), desk.close().into_store()),
-    }
-}
-
 /// The store of what is handed back.
 fn store_of<S: Alter + Drop>(back: HandedBack<S>) -> S {
     match back {
@@ -129,14 +146,47 @@ fn store_of<S: Alter + Drop>(back: HandedBack<S>) -> S {
     }
 }
 
-/// What is told of the desk in a database, and its store; without calls only that it is opened.
+/// What is answered where a database is opened as a desk, and its store.
+pub fn open_any<S: Alter + Drop>(alloc: Global, conn: Connection<S>) -> (Answer, S) {
+    match Desk::open(alloc, conn) {
+        Ok(desk) => (word(alloc, "opened"), desk.close().into_store()),
+        Err((fault, back)) => (Err(open_word(fault)), store_of(back)),
+    }
+}
+
+/// What the book replies of the desk in a database, or the word of the fault by which it is none,
+/// and the store.
+fn replies<S: Alter + Drop>(alloc: Global, conn: Connection<S>, lines: &[&str]) -> (Answer, S) {
+    match Desk::open(alloc, conn) {
+        Ok(mut desk) => {
+            let told = ask_book(alloc, &mut desk, lines);
+            (told, desk.close().into_store())
+        }
+        Err((fault, back)) => (word(alloc, open_word(fault)), store_of(back)),
+    }
+}
+
+/// What was told, and behind it an answer that is no fault.
+fn joined(mut told: Vec<u8>, answer: Answer) -> Answer {
+    let more = answer?;
+    match told.extend_from_slice(&more) {
+        Ok(()) => Ok(told),
+        Err(_) => Err("Memory"),
+    }
+}
+
+/// What is told of a database, and its store: the rows of all tables as they are before it is
+/// opened, and what its book then replies to each of some calls, or why it is not opened.
 pub fn look<S: Alter + Drop>(
     alloc: Global,
-    conn: Connection<S>,
-    lines: Option<&[&str]>,
+    mut conn: Connection<S>,
+    lines: &[&str],
 ) -> (Answer, S) {
-    match Desk::open(alloc, conn) {
-        Ok(desk) => tell_if_asked(alloc, desk, lines),
-        Err((fault, back)) => (Err(open_word(fault)), store_of(back)),
+    match all_rows(alloc, &mut conn) {
+        Ok(rows) => {
+            let (answer, store) = replies(alloc, conn, lines);
+            (joined(rows, answer), store)
+        }
+        Err(_) => (Err("Memory"), conn.into_store()),
     }
 }

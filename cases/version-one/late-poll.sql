@@ -1,0 +1,21 @@
+-- A late poll, up to what is declared, and a closed day.
+INSERT INTO closed (day) VALUES (20549);
+INSERT INTO meetings (meeting, company, kind, given, appointed, record, loaded, opened) VALUES ('G1', 'private', 'general', 20605, 1781776800, 1781632800, 0, NULL);
+INSERT INTO resolutions (meeting, number, kind, body) VALUES ('G1', 1, 'ordinary', 'Accounts');
+INSERT INTO resolutions (meeting, number, kind, body) VALUES ('G1', 2, 'special', 'New articles');
+INSERT INTO appointments (meeting, member, number, proxy, first, last, instructions, moment) VALUES ('G1', 'M1', 1, 'P', 1, 100, '--', 1780390800);
+INSERT INTO appointments (meeting, member, number, proxy, first, last, instructions, moment) VALUES ('G1', 'M1', 2, 'Q', 41, 60, '--', 1780477200);
+INSERT INTO endings (meeting, member, number, moment) VALUES ('G1', 'M1', 2, 1780563600);
+DELETE FROM register WHERE meeting = 'G1';
+INSERT INTO register (meeting, member, kind, name, shares, paid) VALUES ('G1', 'M1', 'individual', 'Ada', 100, 100);
+INSERT INTO register (meeting, member, kind, name, shares, paid) VALUES ('G1', 'T', 'treasury', 'Own', 40, 100);
+UPDATE meetings SET loaded = 1 WHERE meeting = 'G1';
+INSERT INTO presences (meeting, party, moment) VALUES ('G1', 'P', 1781776800);
+UPDATE meetings SET opened = 1781776800 WHERE meeting = 'G1';
+INSERT INTO polls (meeting, resolution, ordered, take, chair, started, closed, votes_for, votes_against, withheld, eligible) VALUES ('G1', 1, 1781777100, 1782205200, 1, NULL, NULL, NULL, NULL, NULL, NULL);
+INSERT INTO appointments (meeting, member, number, proxy, first, last, instructions, moment) VALUES ('G1', 'M1', 3, 'Q', 1, 100, '--', 1782118800);
+UPDATE polls SET started = 1782205200 WHERE meeting = 'G1' AND resolution = 1;
+INSERT INTO endings (meeting, member, number, moment) VALUES ('G1', 'M1', 3, 1782205200);
+INSERT INTO casts (meeting, resolution, voter, capacity, member, first, last, way, moment) VALUES ('G1', 1, 'Q', 'proxy', 'M1', 1, 100, 'for', 1782205260);
+UPDATE polls SET closed = 1782205320 WHERE meeting = 'G1' AND resolution = 1;
+UPDATE polls SET votes_for = 100, votes_against = 0, withheld = 0, eligible = 100 WHERE meeting = 'G1' AND resolution = 1;
