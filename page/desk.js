@@ -1,5 +1,7 @@
 // Requests to the desk: one at a time, with the key in a header and nowhere else.
 
+import { lastSession } from "./words.js";
+
 const READS = ["notice", "mine"];
 
 // What a reply says: {is: "ok", value}, {is: "refused", code} or {is: "fault", what}.
@@ -80,7 +82,12 @@ export function stands(verb, body, before, after) {
     }
     case "authorise": return after.persons.includes(body.person);
     case "attend": return after.present;
-    case "demand": return after.demands.includes(body.resolution);
+    case "demand": {
+      // Where the meeting was adjourned, a demand of an earlier session stands in the same list.
+      const count = (mine) => mine.demands.filter((resolution) => resolution === body.resolution).length;
+      if (after.presences === undefined) return count(after) > 0;
+      return before === null ? null : count(after) > count(before);
+    }
     case "cast":
       return before === null ? null : after.casts.slice(before.casts.length).some(same);
     case "instructed":
@@ -95,7 +102,10 @@ export function stoodByNotice(verb, body, notice) {
   if (verb === "presence") return null;
   if (verb === "call") return notice !== null;
   if (notice === null) return false;
-  if (verb === "open") return notice.opened !== null;
+  const session = lastSession(notice);
+  if (verb === "open") return session.opened !== null;
+  // A meeting is adjourned from a session that is opened, and the new one is not.
+  if (verb === "adjourn") return session.number > 1 && session.opened === null && session.appointed === body.appointed;
   const poll = notice.resolutions.find((resolution) => resolution.number === body.resolution)?.poll ?? null;
   if (poll === null) return false;
   return { order: true, start: poll.started !== null, close: poll.closed !== null, declare: poll.result !== null }[verb] ?? null;

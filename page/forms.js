@@ -1,6 +1,6 @@
 // Pieces of the page. All text goes in as text: no string is ever read as HTML.
 
-import { numberWords, sharesWords, resultBar, momentWords, cutoffWords } from "./words.js";
+import { numberWords, sharesWords, resultBar, momentWords, cutoffWords, sessionsOf } from "./words.js";
 
 const SVG = "http://www.w3.org/2000/svg";
 
@@ -132,11 +132,15 @@ export const kindWords = (kind) => kind === "special" ? "Special resolution: thr
 // What the notice says of a meeting, as a list of terms. The page's timer keeps `left` to how long the cutoff still is.
 export function noticeList(notice, now) {
   const name = notice.kind === "annual" ? "Annual general meeting" : "General meeting";
+  const session = ({ appointed, cutoff, opened }, when) => [[when, momentWords(appointed)],
+    ["Last moment for proxies", [momentWords(cutoff) + ". ", el("span", { class: "left", "data-until": cutoff }, cutoffWords(cutoff, now))]],
+    ["Opened", opened === null ? "Not yet" : momentWords(opened)]];
+  const [first, ...later] = sessionsOf(notice);
+  const [when, proxies, opened] = session(first, "When");
   const rows = [["Meeting", `${name} of a ${notice.company} company, called ${notice.meeting}`],
-    ["When", momentWords(notice.appointed)], ["Notice given", momentWords(`${notice.given}T00:00:00`).replace(/ at .*/, "")],
-    ["Last moment for proxies", [momentWords(notice.cutoff) + ". ", el("span", { class: "left", "data-until": notice.cutoff }, cutoffWords(notice.cutoff, now))]],
-    ["Register taken as of", `${momentWords(notice.record)}. ${notice.register ? "It is loaded." : "It is not loaded yet."}`],
-    ["Opened", notice.opened === null ? "Not yet" : momentWords(notice.opened)]];
+    when, ["Notice given", momentWords(`${notice.given}T00:00:00`).replace(/ at .*/, "")], proxies,
+    ["Register taken as of", `${momentWords(notice.record)}. ${notice.register ? "It is loaded." : "It is not loaded yet."}`], opened,
+    ...later.flatMap((each) => session(each, `Adjourned to session ${each.number}`))];
   return el("dl", {}, ...rows.flatMap(([term, words]) => [el("dt", {}, term), el("dd", {}, ...[words].flat())]));
 }
 

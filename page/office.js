@@ -1,6 +1,7 @@
 // The page of the company secretary, who has the office's key.
 
-import { momentNumber, momentText, momentWords, dayWords, fullMoment, wallClock, clearDays, stageOf, checkCall, namesIn } from "./words.js";
+import { momentNumber, momentText, momentWords, dayWords, fullMoment, wallClock, clearDays, stageOf, checkCall, namesIn, sessionsOf, lastSession,
+  runningPolls } from "./words.js";
 import { readKey, isName, stoodByNotice } from "./desk.js";
 import { sentence, isUnknown, meansDone } from "./refusals.js";
 import { el, field, text, nameText, radios, value, button, form, select, showSections, say, resultWithButton, kindWords, noticeList,
@@ -10,7 +11,13 @@ import { el, field, text, nameText, radios, value, button, form, select, showSec
 export function hindrance(step, notice, resolution, now) {
   if (step === "open") {
     if (!notice.register) return "The register is not loaded yet. Stop the desk, load it, and start the desk again.";
-    return momentNumber(notice.appointed) > now ? `It can be opened on ${momentWords(notice.appointed)}.` : null;
+    const { appointed } = lastSession(notice);
+    return momentNumber(appointed) > now ? `It can be opened on ${momentWords(appointed)}.` : null;
+  }
+  if (step === "adjourn") {
+    if (sessionsOf(notice).length >= 10) return "The meeting was held in ten sessions, and takes no more.";
+    const running = runningPolls(notice);
+    return running.length > 0 ? `It can be adjourned once the voting on resolution ${running[0]} is closed.` : null;
   }
   if (step === "start" && momentNumber(resolution.poll.take) > now) return `It can be started on ${momentWords(resolution.poll.take)}.`;
   return null;
@@ -30,7 +37,11 @@ export class Office {
   async refresh() {
     if (this.second !== null) {
       const reply = await this.desk.ask(this.second, this.meeting, "notice");
-      if (reply.is === "ok") Object.assign(this, { notice: reply.value, seen: "yes" });
+      if (reply.is === "ok") {
+        // Who is present is marked anew in each session.
+        if (this.notice !== null && lastSession(this.notice).number !== lastSession(reply.value).number) this.marked = [];
+        Object.assign(this, { notice: reply.value, seen: "yes" });
+      }
       else if (reply.is === "refused" && reply.code === 8) Object.assign(this, { notice: null, seen: "none" });
       else if (reply.is === "refused") Object.assign(this, { notice: null, seen: "bad" });
       else if (!this.pending) say(`What you see may be old. ${sentence(reply, "notice").replace(/ It is unknown.*/, "")}`, "bad");
@@ -104,6 +115,7 @@ export class Office {
   // The last result is told once: it is shown even without a second key.
   keepResult(verb, body, reply) {
     if (verb === "declare") this.told.set(body.resolution, reply);
+    if (verb === "adjourn") this.marked = [];
     if (verb === "presence" && !this.marked.includes(body.party)) this.marked.push(body.party);
   }
 
@@ -123,13 +135,17 @@ export class Office {
     }
     if (this.seen === "yes") {
       const now = this.now();
-      if (notice.opened === null) sections.push({ id: "open", title: "Open the meeting", sign: hindrance("open", notice, null, now), build: () => this.open(now) });
+      const last = lastSession(notice);
+      const [step, title] = last.opened === null ? ["open", last.number === 1 ? "Open the meeting" : `Open session ${last.number}`] : ["adjourn", "Adjourn the meeting"];
+      const steps = { id: step, title, sign: [hindrance(step, notice, null, now), last], build: () => step === "open" ? this.open() : this.adjourn() };
+      if (step === "open") sections.push(steps);
       for (const resolution of notice.resolutions) {
         const stage = stageOf(resolution);
         const wait = stage === "ordered" ? hindrance("start", notice, resolution, now) : null;
         sections.push({ id: `resolution-${resolution.number}`, title: `Resolution ${resolution.number}: ${resolution.text}`,
-          sign: [resolution, notice.opened, wait], build: () => this.resolution(resolution, stage, wait) });
+          sign: [resolution, last.opened, wait], build: () => this.resolution(resolution, stage, wait) });
       }
+      if (step === "adjourn") sections.push(steps);
     } else if (this.seen !== "none") {
       sections.push({ id: "blind", title: "Steps of the meeting", sign: [...this.told], build: () => this.blind() });
     }
@@ -232,8 +248,22 @@ export class Office {
   open() {
     const wait = hindrance("open", this.notice, null, this.now());
     if (wait !== null) return [el("p", {}, wait)];
-    return [el("p", {}, "A quorum has to be marked as present. From the opening on the register stays as it is."),
-      button("Open the meeting", () => this.act("open", null, "The meeting is opened."), { id: "open-send" })];
+    const { number } = lastSession(this.notice);
+    return [el("p", {}, number === 1 ? "A quorum has to be marked as present. From the opening on the register stays as it is."
+      : "A quorum has to be marked as present anew, for this session."),
+    button(number === 1 ? "Open the meeting" : `Open session ${number}`, () => this.act("open", null, "The meeting is opened."), { id: "open-send" })];
+  }
+
+  adjourn() {
+    const wait = this.notice === null ? null : hindrance("adjourn", this.notice, null, this.now());
+    if (wait !== null) return [el("p", {}, wait)];
+    const appointed = el("input", { type: "datetime-local", step: "1" });
+    return [el("p", {}, "The next session needs a quorum of its own. Demands that are not met by then have to be made again. An adjournment can not be taken back."),
+      form("adjourn-form", () => {
+        const moment = fullMoment(appointed.value);
+        if (moment === null || momentNumber(moment) <= this.now()) return say("Give the time of the next session, which is still to come.", "bad"), appointed.focus();
+        this.act("adjourn", { appointed: moment }, `The meeting is adjourned to ${momentWords(moment)}.`);
+      }, field("adjourn-appointed", "Time of the next session", appointed), el("button", { type: "submit", id: "adjourn-send" }, "Adjourn the meeting"))];
   }
 
   orderForm(number) {
@@ -265,7 +295,7 @@ export class Office {
     const { number, kind, poll } = resolution;
     const made = [el("p", {}, kindWords(kind)), el("p", { class: `stage ${stage.replace(" ", "-")}` }, stageWords(resolution, stage))];
     const steps = this.steps(number);
-    if (stage === "no poll") made.push(this.notice.opened === null ? el("p", {}, "A poll can be ordered once the meeting is opened.") : this.orderForm(number));
+    if (stage === "no poll") made.push(lastSession(this.notice).opened === null ? el("p", {}, "A poll can be ordered once the meeting is opened.") : this.orderForm(number));
     if (stage === "ordered") made.push(wait === null ? steps.start : el("p", {}, wait));
     if (stage === "open") made.push(steps.close);
     if (stage === "closed") made.push(steps.declare);
@@ -286,7 +316,7 @@ export class Office {
     draw();
     return [el("p", {}, "Without a second key every step is shown. The desk refuses what can not be done, and says why."),
       button("Open the meeting", () => this.act("open", null, "The meeting is opened."), { id: "open-send" }),
-      field("blind-number", "Number of the resolution", number), place,
+      ...this.adjourn(), field("blind-number", "Number of the resolution", number), place,
       ...[...this.told].map(([told, result]) => resultWithButton(told, "result as declared", null, result))];
   }
 }

@@ -1,7 +1,7 @@
 // The page of a member, proxy or representative.
 
 import { MOST, WAYS, blocksOf, castsOf, recordedFor, recordedWords, countRuns, runsWords, sharesWords, numberWords, momentWords,
-  readNumber, stageOf, wallClock } from "./words.js";
+  readNumber, stageOf, wallClock, lastSession } from "./words.js";
 import { stands, isName } from "./desk.js";
 import { sentence, isUnknown } from "./refusals.js";
 import { el, field, nameText, numberText, radios, value, button, form, select, showSections, say, resultWithButton, kindWords,
@@ -103,7 +103,7 @@ export class Party {
     const sections = [{ id: "notice", title: "Notice of the meeting", sign: { ...notice, resolutions: null },
       build: () => [noticeList(notice, wallClock(this.zone, this.desk.now()))] }];
     for (const resolution of notice.resolutions) sections.push(this.resolution(resolution));
-    sections.push({ id: "you", title: "You at this meeting", sign: [mine.row, mine.present, notice.register], build: () => this.you() });
+    sections.push({ id: "you", title: "You at this meeting", sign: [mine.row, mine.present, notice.register, lastSession(notice).number], build: () => this.you() });
     sections.push({ id: "given", title: "Your proxies", sign: [mine.given, mine.row], build: () => this.given() });
     sections.push({ id: "received", title: "Appointments of you as proxy", sign: mine.received, build: () => this.received() });
     sections.push({ id: "persons", title: "Representatives of a corporation", sign: [mine.persons, mine.authorised], build: () => this.persons() });
@@ -114,18 +114,21 @@ export class Party {
     const { mine, notice } = this;
     const { number, kind, poll } = resolution;
     const stage = stageOf(resolution);
-    const blocks = blocksOf(mine, resolution, notice.opened);
+    const blocks = blocksOf(mine, resolution, notice);
+    const { opened, number: session } = lastSession(notice);
     const casts = mine.casts.filter((cast) => cast.resolution === number);
     const demanded = mine.demands.includes(number);
+    const demand = () => button(`Demand a poll on resolution ${number}`, () => this.act("demand", [{ resolution: number }],
+      () => "Your demand is noted."), { id: `demand-${number}` });
     return { id: `resolution-${number}`, title: `Resolution ${number}: ${resolution.text}`,
-      sign: [resolution, blocks, casts, demanded, mine.present, notice.opened],
+      sign: [resolution, blocks, casts, demanded, mine.present, opened, session],
       build: () => {
         const made = [el("p", {}, kindWords(kind)), el("p", { class: `stage ${stage.replace(" ", "-")}` }, stageWords(resolution, stage))];
         if (stage === "declared") made.push(resultWithButton(number, resolution.text, kind, poll.result));
-        if (stage === "no poll" && notice.opened !== null) {
-          if (demanded) made.push(el("p", {}, "You have demanded a poll. The secretary orders it where enough have demanded it."));
-          else made.push(button(`Demand a poll on resolution ${number}`, () => this.act("demand", [{ resolution: number }],
-            () => "Your demand is noted."), { id: `demand-${number}` }));
+        if (stage === "no poll" && opened !== null) {
+          if (demanded) made.push(el("p", {}, "You have demanded a poll. The secretary orders it where enough have demanded it." +
+            (session === 1 ? "" : " A demand of an earlier session does not count in this one: demand it again.")));
+          if (!demanded || session > 1) made.push(demand());
         }
         if (stage === "open") made.push(...this.voting(resolution, blocks));
         if (stage !== "no poll") made.push(...this.recorded(resolution, blocks));
@@ -210,6 +213,7 @@ export class Party {
         made.push(field("self", "Your short name", self, "As the secretary gave it with your key, such as M1. Your own shares are voted under it."));
       }
     }
+    if (!present && lastSession(this.notice).number > 1) made.push(el("p", {}, "Who is present is marked anew in each session."));
     if (present) made.push(el("p", {}, "You are marked as present."));
     else made.push(button("I am present", () => this.act("attend", [null], () => "You are marked as present."), { id: "attend" }));
     return made;
@@ -223,7 +227,7 @@ export class Party {
     const { given, row } = this.mine;
     const made = [given.length === 0 ? el("p", {}, "You have appointed nobody.") : el("ul", {}, ...given.map((item) => el("li", {},
       `Number ${item.number}: ${item.proxy}, over ${this.rangeWords(item)}, received ${momentWords(item.received)}. `,
-      item.ended !== null ? `Ended ${momentWords(item.ended)}. ` : item.use === "meeting" ? "It counts for the meeting. " : "It came too late for the meeting and counts for later polls only. ",
+      item.ended !== null ? `Ended ${momentWords(item.ended)}. ` : item.use === "meeting" ? `It counts ${this.lastWords("for the meeting")}. ` : `It came too late ${this.lastWords("for the meeting")} and counts for later polls only. `,
       `Instructions: ${this.instructionWords(item.instructions)}. `,
       item.ended === null ? button(`End number ${item.number}`, () => this.act("end", [{ number: item.number }],
         () => `Appointment ${item.number} is ended. An earlier one does not come back.`), { id: `end-${item.number}` }) : null)))];
@@ -242,12 +246,18 @@ export class Party {
         if (shares.includes(null) || shares[0] < 1 || shares[0] > shares[1]) return say("Give the first and the last share, in digits.", "bad"), from.focus();
       }
       this.act("appoint", [{ proxy: name, from: shares[0], to: shares[1], instructions: choices.map(([choice]) => choice.value) }], (reply) =>
-        `Appointment ${reply.number} is made. ` + (reply.use === "meeting" ? "It counts for the meeting." : "It came after the cutoff, and counts for later polls only."));
+        `Appointment ${reply.number} is made. ` + (reply.use === "meeting" ? `It counts ${this.lastWords("for the meeting")}.` : "It came after the cutoff, and counts for later polls only."));
     }, el("h3", {}, "Appoint a proxy"), field("proxy", "Short name of the proxy", proxy, "The secretary gives the names, such as P. A proxy needs a key of its own."),
     over, range, ...choices.map(([choice, number, words]) => field(`instruction-${number}`, `Resolution ${number}: ${words}`, choice)),
     el("p", { class: "help" }, "The last appointment that counts governs a share. You may still vote yourself: your own vote comes first."),
     el("button", { type: "submit", id: "appoint-send" }, "Appoint")));
     return made;
+  }
+
+  // What is told of the meeting is told of its last session.
+  lastWords(words) {
+    const { number } = lastSession(this.notice);
+    return number === 1 ? words : words.replace("the meeting", `session ${number}`);
   }
 
   rangeWords({ from, to }) { return from === 1 && to === MOST ? "all your shares" : `shares ${runsWords([[from, to]])}`; }
@@ -256,7 +266,7 @@ export class Party {
     const { received } = this.mine;
     if (received.length === 0) return [el("p", {}, "Nobody has appointed you.")];
     return [el("ul", {}, ...received.map((item) => el("li", {},
-      `By ${item.member}, received ${momentWords(item.received)}. For the meeting it governs ${item.governs.length === 0 ? "no shares" : `shares ${runsWords(item.governs)}`}. `,
+      `By ${item.member}, received ${momentWords(item.received)}. ${this.lastWords("For the meeting")} it governs ${item.governs.length === 0 ? "no shares" : `shares ${runsWords(item.governs)}`}. `,
       ...item.polls.map(({ resolution, governs }) => `For the later poll on resolution ${resolution}: ${governs.length === 0 ? "no shares" : `shares ${runsWords(governs)}`}. `),
       `Instructions: ${this.instructionWords(item.instructions)}.`)))];
   }

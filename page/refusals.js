@@ -21,6 +21,7 @@ export const REFUSALS = {
   14: { name: "BadInstructions", say: "Each resolution needs one instruction: load the page again, and choose one for each." },
   15: { name: "TooMany", say: "The desk takes no more of these: ask the secretary.",
     by: { call: "This desk holds 100 meetings, and takes no more: start a new desk.",
+      adjourn: "The meeting was held in ten sessions, and takes no more: call another meeting.",
       appoint: "You gave 256 appointments for this meeting, and the desk takes no more: those that stand still count.",
       authorise: "You authorised 64 persons for this meeting, and the desk takes no more: ask one of those to act.",
       cast: "You voted 1,024 times on this resolution, and the desk takes no more: your last votes count.",
@@ -30,9 +31,11 @@ export const REFUSALS = {
   18: { name: "NoRegister", say: "The register of members is not loaded yet: the secretary loads it after its record moment, and then this can be done." },
   19: { name: "OtherRecord", say: "This is not the record moment of the meeting: give it as it stands in the notice." },
   20: { name: "Opened", say: "The meeting was opened before: go on with the polls." },
-  21: { name: "NotOpened", say: "The meeting is not opened yet: wait until the secretary has opened it." },
+  21: { name: "NotOpened", say: "The meeting is not opened yet: wait until the secretary has opened it.",
+    by: { adjourn: "The last session is not opened yet, and the meeting is adjourned from an opened one: look whether it was adjourned before." } },
   22: { name: "Early", say: "It is too early for this: wait for the time in the notice, and look at the clock.",
-    by: { open: "It is too early to open: wait for the appointed time by the clock of the desk's machine.",
+    by: { adjourn: "The time of the next session is past already: choose a later one.",
+      open: "It is too early to open: wait for the appointed time by the clock of the desk's machine.",
       order: "The time for the poll is past already: choose a later one.",
       start: "It is too early to start: wait for the time that was ordered." } },
   23: { name: "NoQuorum", say: "There is no quorum: mark at least two persons as present who are members, proxies that govern shares, or representatives." },
@@ -50,6 +53,7 @@ export const REFUSALS = {
   33: { name: "NotYours", say: "Some of these shares are not yours to vote: look at what you may vote, which this page has asked for again.",
     by: { instructed: "No shares with an instruction are yours on this resolution: vote on them freely where you may." } },
   34: { name: "AgainstInstruction", say: "The member instructed you otherwise: vote as instructed." },
+  35: { name: "PollRunning", say: "A poll runs: close the voting first, and then adjourn the meeting." },
 };
 
 // A fault that is no refusal. `sure` says that the request was not done.

@@ -132,15 +132,22 @@ export function takeRuns(runs, number) {
 
 export const WAYS = ["for", "against", "withheld"];
 
-// The shares of the caller's own that its proxies govern for a poll: of each share the last appointment that counts governs it,
-// and where that one is ended none does. For a late poll appointments count until the poll's cutoff and endings before its
-// taking, else until the meeting's cutoff and before its opening. Moments are compared as texts, which are all of one length.
-export function givenAway(given, poll, opened) {
+// The sessions of a meeting, by number: one, unless it was adjourned.
+export const sessionsOf = (notice) => notice.sessions ?? [{ number: 1, appointed: notice.appointed, cutoff: notice.cutoff, opened: notice.opened }];
+export const lastSession = (notice) => sessionsOf(notice).at(-1);
+
+// The session of a poll, or the last where none is ordered.
+export const sessionOf = (notice, poll) => poll === null ? lastSession(notice) : sessionsOf(notice)[(poll.session ?? 1) - 1];
+
+// The shares of the caller's own that its proxies govern for a poll of a session: of each share the last appointment that counts
+// governs it, and where that one is ended none does. For a late poll appointments count until the poll's cutoff and endings before
+// its taking, else until the session's cutoff and before its opening. Moments are compared as texts, which are all of one length.
+export function givenAway(given, poll, session) {
   const late = poll !== null && poll.late;
-  const before = late ? poll.take : opened;
+  const { cutoff } = late ? poll : session, before = late ? poll.take : session.opened;
   let runs = [];
   for (const item of given) {
-    if (late ? item.received > poll.cutoff : item.use !== "meeting") continue;
+    if (item.received > cutoff) continue;
     const ended = item.ended !== null && (before === null || item.ended < before);
     runs = ended ? minusRuns(runs, [item.from, item.to]) : plusRuns(runs, [item.from, item.to]);
   }
@@ -149,12 +156,13 @@ export function givenAway(given, poll, opened) {
 
 // The blocks of shares on which the caller may vote: {as, member, runs, way}, where `way` is an instruction or "free". A member
 // whose proxies govern some of its shares has two blocks: `part` "kept" for those that no proxy has, and "all".
-export function blocksOf(mine, resolution, opened) {
+export function blocksOf(mine, resolution, notice) {
   const blocks = [];
   const { number, poll } = resolution;
+  const session = sessionOf(notice, poll);
   if (mine.row !== null && mine.row.kind === "individual") {
     const all = [[1, mine.row.shares]];
-    const kept = givenAway(mine.given, poll, opened).reduce(minusRuns, all);
+    const kept = givenAway(mine.given, poll, session).reduce(minusRuns, all);
     const own = { as: "member", member: null, way: "free" };
     if (kept.length > 0 && countRuns(kept) < mine.row.shares) blocks.push({ ...own, runs: kept, part: "kept" });
     blocks.push({ ...own, runs: all, part: countRuns(kept) < mine.row.shares ? "all" : null });
@@ -164,7 +172,7 @@ export function blocksOf(mine, resolution, opened) {
   }
   for (const received of mine.received) {
     const late = received.polls.find((item) => item.resolution === number);
-    const runs = poll !== null && poll.late ? late?.governs ?? [] : received.governs;
+    const runs = poll !== null && poll.late ? late?.governs ?? [] : received.sessions?.[session.number - 1].governs ?? received.governs;
     const way = received.instructions[number - 1] ?? "free";
     if (runs.length === 0) continue;
     const block = blocks.find((item) => item.as === "proxy" && item.member === received.member && item.way === way);
@@ -230,7 +238,7 @@ export function askAgain(notice, now) {
   const stages = notice.resolutions.map(stageOf);
   if (stages.includes("open")) return 5;
   if (stages.includes("ordered") || stages.includes("closed")) return 15;
-  const near = Math.abs(momentNumber(notice.appointed) - now) < 3600;
+  const near = Math.abs(momentNumber(lastSession(notice).appointed) - now) < 3600;
   return near && stages.includes("no poll") ? 15 : 0;
 }
 
@@ -246,6 +254,10 @@ export function resultBar(kind, result) {
     need: special ? "A special resolution needs three quarters of the votes." : "An ordinary resolution needs more than half of the votes.",
   };
 }
+
+// The numbers of the resolutions whose polls run: not closed, and started or not late. While one runs the meeting is not adjourned.
+export const runningPolls = (notice) => notice.resolutions.filter(({ poll }) => poll !== null && poll.closed === null && (poll.started !== null || !poll.late))
+  .map(({ number }) => number);
 
 // What the person who calls a meeting typed: errors by field, and warnings about what the desk would take.
 export function checkCall(form, now) {

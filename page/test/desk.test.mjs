@@ -92,6 +92,12 @@ test("what stands in the way of opening and starting", () => {
   assert.match(hindrance("open", { ...notice, register: false }, null, now), /register is not loaded/);
   assert.equal(hindrance("start", notice, { poll: { take: "2026-06-18T10:00:00" } }, now), null);
   assert.match(hindrance("start", notice, { poll: { take: "2026-06-18T10:10:00" } }, now), /can be started/);
+  const adjourned = { ...notice, sessions: [{ number: 1, ...notice }, { number: 2, appointed: "2026-06-25T10:00:00", opened: null }] };
+  assert.match(hindrance("open", adjourned, null, now), /can be opened on Thursday 25 June 2026 at 10:00/);
+  const polls = (...given) => ({ ...notice, resolutions: given.map((poll, place) => ({ number: place + 1, poll })) });
+  assert.equal(hindrance("adjourn", polls(null, { late: true, started: null, closed: null }), null, now), null);
+  assert.match(hindrance("adjourn", polls(null, { late: false, started: null, closed: null }), null, now), /resolution 2 is closed/);
+  assert.match(hindrance("adjourn", { ...polls(null), sessions: Array(10).fill({}) }, null, now), /ten sessions/);
 });
 
 test("whether a party's request stands", () => {
@@ -107,6 +113,10 @@ test("whether a party's request stands", () => {
   assert.equal(stands("end", { number: 1 }, empty, { ...empty, given: [{ number: 1, ended: null }] }), false);
   assert.equal(stands("attend", {}, empty, { ...empty, present: true }), true);
   assert.equal(stands("demand", { resolution: 2 }, empty, { ...empty, demands: [1] }), false);
+  assert.equal(stands("demand", { resolution: 1 }, { ...empty, demands: [1] }, { ...empty, demands: [1] }), true);
+  const again = (demands) => ({ ...empty, demands, presences: [1, 2] });
+  assert.deepEqual([[1], [1, 1]].map((after) => stands("demand", { resolution: 1 }, again([1]), again(after))), [false, true]);
+  assert.equal(stands("demand", { resolution: 1 }, null, again([1])), null);
   assert.equal(stands("authorise", { person: "R" }, empty, { ...empty, persons: ["R"] }), true);
   assert.equal(stands("instructed", { resolution: 1 }, empty, { ...empty, casts: [{ as: "instructed", resolution: 1 }] }), true);
 });
@@ -114,6 +124,11 @@ test("whether a party's request stands", () => {
 test("whether an office's request stands", () => {
   const notice = { opened: null, resolutions: [{ number: 1, poll: null }, { number: 2, poll: { started: "x", closed: null, result: null } }] };
   assert.deepEqual([stoodByNotice("call", {}, null), stoodByNotice("call", {}, notice), stoodByNotice("open", {}, notice), stoodByNotice("presence", { party: "R" }, notice)], [false, true, false, null]);
+  const adjourned = (opened) => ({ ...notice, sessions: [{ number: 1, opened: "x" }, { number: 2, appointed: "2026-06-25T10:00:00", opened }] });
+  assert.deepEqual([null, "x"].map((opened) => stoodByNotice("open", {}, adjourned(opened))), [false, true]);
+  assert.deepEqual(["2026-06-25T10:00:00", "2026-06-26T10:00:00"].map((appointed) => stoodByNotice("adjourn", { appointed }, adjourned(null))), [true, false]);
+  assert.equal(stoodByNotice("adjourn", { appointed: "2026-06-25T10:00:00" }, adjourned("x")), false);
+  assert.equal(stoodByNotice("adjourn", { appointed: "2026-06-25T10:00:00" }, { ...notice, appointed: "2026-06-25T10:00:00" }), false);
   assert.deepEqual(["order", "start", "close", "declare"].map((verb) => stoodByNotice(verb, { resolution: 1 }, notice)), [false, false, false, false]);
   assert.deepEqual(["order", "start", "close", "declare"].map((verb) => stoodByNotice(verb, { resolution: 2 }, notice)), [true, true, false, false]);
 });

@@ -666,9 +666,32 @@ def day(desk, secretary, member, proxy, at, zone):
     secretary.look_over("without a second key")
     secretary.shot("17-without-second-key")
 
+    tell("the meeting is adjourned, and its second session opened")
+    then = datetime.now(zone) + timedelta(seconds=25)
+    secretary.set("#adjourn-appointed", then.strftime("%Y-%m-%dT%H:%M:%S"))
+    secretary.click("#adjourn-send")
+    secretary.said("The meeting is adjourned to")
+    proxy.reads("#notice", "Adjourned to session 2", 60)
+    proxy.reads("#you", "Who is present is marked anew in each session.")
+    proxy.shot("18-adjourned")
+    secretary.type("#second-key", desk.keys["LOOK"])
+    secretary.click("#second-send")
+    secretary.reads("#open", "It can be opened on")
+    for party in ("P", "M1"):
+        secretary.type("#party", party)
+        secretary.click("#presence-send")
+        secretary.said(f"{party} is marked as present.")
+    secretary.wait("#open-send", 60)
+    secretary.reads("#open", "Open session 2")
+    secretary.click("#open-send")
+    secretary.said("The meeting is opened.")
+    secretary.wait("#adjourn-send")
+    secretary.look_over("the second session")
+    secretary.shot("19-second-session")
+
     desk.stop()
     printed = desk.run("results", "gm.desk", "G1")
-    for part in ["resolution 1 ordinary carried", "resolution 2 special lost", "resolution 3 ordinary lost"]:
+    for part in ["session 2 ", "resolution 1 ordinary carried", "resolution 2 special lost", "resolution 3 ordinary lost"]:
         check(part in printed, f"results: {part}")
     for word, number in [("for", 110), ("against", 80), ("for", 60), ("against", 50), ("withheld", 40)]:
         check(any(line.split() == [word, str(number)] for line in printed.splitlines()), f"results: {word} {number}")

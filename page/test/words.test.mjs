@@ -71,31 +71,31 @@ test("runs of shares", () => {
 });
 
 const mine = (more) => ({ authorised: [], casts: [], demands: [], given: [], persons: [], present: true, received: [], row: null, ...more });
+const notice = { appointed: "2026-06-18T10:00:00", cutoff: "2026-06-16T10:00:00", opened: "2026-06-18T10:00:00" };
 const open = { number: 2, kind: "special", text: "x", poll: { late: false, result: null, closed: null, started: "x" } };
 
 test("the blocks that may be voted", () => {
   const row = { kind: "individual", name: "Ada", paid: 100, shares: 100 };
-  const opened = "2026-06-18T10:00:00";
-  assert.deepEqual(w.blocksOf(mine({ row }), open, opened).map(({ as, runs, part }) => [as, runs, part]), [["member", [[1, 100]], null]]);
+  assert.deepEqual(w.blocksOf(mine({ row }), open, notice).map(({ as, runs, part }) => [as, runs, part]), [["member", [[1, 100]], null]]);
   const given = [{ from: 1, to: 60, received: "2026-06-02T10:00:00", ended: null, use: "meeting" },
     { from: 50, to: 90, received: "2026-06-02T10:00:01", ended: "2026-06-18T09:59:59", use: "meeting" },
     { from: 1, to: 100, received: "2026-06-17T10:00:00", ended: null, use: "later polls only" }];
-  assert.deepEqual(w.blocksOf(mine({ row, given }), open, opened).map(({ runs, part }) => [runs, part]), [[[[50, 100]], "kept"], [[[1, 100]], "all"]]);
+  assert.deepEqual(w.blocksOf(mine({ row, given }), open, notice).map(({ runs, part }) => [runs, part]), [[[[50, 100]], "kept"], [[[1, 100]], "all"]]);
   const late = { ...open, poll: { ...open.poll, late: true, cutoff: "2026-06-22T09:00:00", take: "2026-06-23T09:00:00" } };
-  assert.deepEqual(w.blocksOf(mine({ row, given }), late, opened).map(({ runs, part }) => [runs, part]), [[[[1, 100]], "all"]]);
-  assert.deepEqual(w.blocksOf(mine({ row: { ...row, kind: "corporation" } }), open, opened), []);
-  assert.deepEqual(w.blocksOf(mine({ authorised: [{ corporation: "C1", shares: 50 }, { corporation: "T1", shares: 0 }] }), open, opened).map(({ member, runs }) => [member, runs]), [["C1", [[1, 50]]]]);
+  assert.deepEqual(w.blocksOf(mine({ row, given }), late, notice).map(({ runs, part }) => [runs, part]), [[[[1, 100]], "all"]]);
+  assert.deepEqual(w.blocksOf(mine({ row: { ...row, kind: "corporation" } }), open, notice), []);
+  assert.deepEqual(w.blocksOf(mine({ authorised: [{ corporation: "C1", shares: 50 }, { corporation: "T1", shares: 0 }] }), open, notice).map(({ member, runs }) => [member, runs]), [["C1", [[1, 50]]]]);
   const received = [{ member: "M1", governs: [[1, 60]], instructions: ["for", "free"], polls: [{ governs: [[2, 3]], resolution: 2 }] },
     { member: "M1", governs: [[61, 70]], instructions: ["for", "free"], polls: [] }, { member: "M2", governs: [], instructions: ["free", "free"], polls: [] }];
-  assert.deepEqual(w.blocksOf(mine({ received }), open, opened), [{ as: "proxy", member: "M1", runs: [[1, 70]], way: "free" }]);
-  assert.deepEqual(w.blocksOf(mine({ received }), late, opened), [{ as: "proxy", member: "M1", runs: [[2, 3]], way: "free" }]);
+  assert.deepEqual(w.blocksOf(mine({ received }), open, notice), [{ as: "proxy", member: "M1", runs: [[1, 70]], way: "free" }]);
+  assert.deepEqual(w.blocksOf(mine({ received }), late, notice), [{ as: "proxy", member: "M1", runs: [[2, 3]], way: "free" }]);
 });
 
 test("what the caller's own proxies have, to the second", () => {
   const own = (given, late) => {
     const poll = { late, cutoff: late ? "2026-06-22T09:00:00" : "2026-06-16T10:00:00", take: "2026-06-23T09:00:00", result: null, closed: null, started: "x" };
     const row = { kind: "individual", name: "Ada", paid: 100, shares: 100 };
-    return w.blocksOf(mine({ row, given }), { ...open, poll }, "2026-06-18T10:00:00").map(({ runs, part }) => [runs, part]);
+    return w.blocksOf(mine({ row, given }), { ...open, poll }, notice).map(({ runs, part }) => [runs, part]);
   };
   const whole = [[[[1, 100]], null]], split = [[[[1, 40], [61, 100]], "kept"], [[[1, 100]], "all"]];
   const item = (received, ended) => [{ from: 41, to: 60, received, ended, use: received <= "2026-06-16T10:00:00" ? "meeting" : "later polls only" }];
@@ -118,14 +118,13 @@ test("a holding in parts, as replies of the cases tell it", () => {
   const told = (name, verb) => readFileSync(new URL(`../../cases/${name}.case`, import.meta.url), "utf8").split("\n")
     .filter((line) => line.startsWith("< ") && line.includes(`"ok":"${verb}"`)).map((line) => JSON.parse(line.slice(2)));
   const late = { number: 1, kind: "ordinary", text: "x", poll: { late: true, cutoff: "2026-06-22T09:00:00", take: "2026-06-23T09:00:00", result: null, closed: null, started: "x" } };
-  const opened = "2026-06-18T10:00:00";
   const [first, second, third] = told("proxies-late-poll", "mine");
-  assert.deepEqual(w.blocksOf(first, late, opened), [{ as: "proxy", member: "M1", runs: [[1, 40], [61, 100]], way: "free" }]);
-  assert.deepEqual(w.blocksOf(first, { ...late, number: 2, poll: { ...late.poll, late: false } }, opened), [{ as: "proxy", member: "M1", runs: [[1, 100]], way: "free" }]);
-  assert.deepEqual(w.blocksOf(second, late, opened).map(({ runs }) => runs), [[[41, 60]]]);
-  assert.deepEqual(w.blocksOf(third, late, opened), []);
+  assert.deepEqual(w.blocksOf(first, late, notice), [{ as: "proxy", member: "M1", runs: [[1, 40], [61, 100]], way: "free" }]);
+  assert.deepEqual(w.blocksOf(first, { ...late, number: 2, poll: { ...late.poll, late: false } }, notice), [{ as: "proxy", member: "M1", runs: [[1, 100]], way: "free" }]);
+  assert.deepEqual(w.blocksOf(second, late, notice).map(({ runs }) => runs), [[[41, 60]]]);
+  assert.deepEqual(w.blocksOf(third, late, notice), []);
   // Votes on both parts, and one that is split across the gap.
-  const [block] = w.blocksOf(first, late, opened);
+  const [block] = w.blocksOf(first, late, notice);
   assert.deepEqual(w.castsOf(block, "P", 1, { for: 80 }).map(({ from, to }) => [from, to]), [[1, 40], [61, 100]]);
   const casts = w.castsOf(block, "P", 1, { for: 41, withheld: 39 });
   assert.deepEqual(casts.map(({ from, to, way }) => [from, to, way]), [[1, 40, "for"], [61, 61, "for"], [62, 100, "withheld"]]);
@@ -133,13 +132,43 @@ test("a holding in parts, as replies of the cases tell it", () => {
 
   // A member, proxy and representative in one: the first resolution as the meeting has it, the second by a late poll.
   const [full] = told("own-things-full", "mine");
-  const blocks = (number, poll) => w.blocksOf(full, { ...late, number, poll: { ...late.poll, ...poll } }, opened).map(({ as, member, runs, way, part }) => [as, member, runs, way, part]);
+  const blocks = (number, poll) => w.blocksOf(full, { ...late, number, poll: { ...late.poll, ...poll } }, notice).map(({ as, member, runs, way, part }) => [as, member, runs, way, part]);
   const own = [["member", null, [[11, 40]], "free", "kept"], ["member", null, [[1, 40]], "free", "all"], ["rep", "C1", [[1, 50]], "free", undefined]];
   assert.deepEqual(blocks(1, { late: false }), [...own, ["proxy", "M1", [[1, 60]], "for", undefined]]);
   assert.deepEqual(blocks(2, {}), [...own, ["proxy", "M1", [[1, 40]], "free", undefined]]);
-  const [kept, , rep, proxy] = w.blocksOf(full, { ...late, poll: { ...late.poll, late: false } }, opened);
+  const [kept, , rep, proxy] = w.blocksOf(full, { ...late, poll: { ...late.poll, late: false } }, notice);
   assert.deepEqual([kept, rep, proxy].map((each) => w.recordedFor(each, full.casts, 1)), [{ for: [], against: [[11, 40]], withheld: [] },
     { for: [[1, 50]], against: [], withheld: [] }, { for: [[1, 60]], against: [], withheld: [] }]);
+});
+
+test("a meeting of several sessions, as replies of the cases tell it", () => {
+  const told = (name, verb) => readFileSync(new URL(`../../cases/${name}.case`, import.meta.url), "utf8").split("\n")
+    .filter((line) => line.startsWith("< ") && line.includes(`"ok":"${verb}"`)).map((line) => JSON.parse(line.slice(2)));
+  const [alone, two] = told("adjourned-own-things", "notice"), ten = told("adjourned-own-things", "notice").at(-1);
+  assert.deepEqual([alone, two, ten].map((told) => w.sessionsOf(told).length), [1, 2, 10]);
+  assert.deepEqual(w.lastSession(alone), { number: 1, appointed: "2026-06-18T10:00:00", cutoff: "2026-06-16T10:00:00", opened: "2026-06-18T10:00:00" });
+  assert.deepEqual(w.lastSession(two), { number: 2, appointed: "2026-06-20T10:00:00", cutoff: "2026-06-18T00:00:00", opened: null });
+  assert.equal(w.sessionOf(ten, ten.resolutions[1].poll).number, 5);
+  assert.equal(w.sessionOf(ten, ten.resolutions[0].poll).number, 10);
+  // A proxy's shares on a poll of the fifth session, and on one of the last.
+  const own = told("adjourned-own-things", "mine").find((mine) => mine.received.length === 10);
+  const runs = (number, poll) => w.blocksOf(own, { number, poll, kind: "ordinary", text: "x" }, ten).map(({ runs }) => runs);
+  assert.deepEqual(runs(2, ten.resolutions[1].poll), [own.received.reduce((sum, { sessions }) => sessions[4].governs.reduce(w.plusRuns, sum), [])]);
+  assert.deepEqual(runs(1, null), [own.received.reduce((sum, { governs }) => governs.reduce(w.plusRuns, sum), [])]);
+  assert.notDeepEqual(runs(1, null), runs(2, ten.resolutions[1].poll));
+  // A member's own shares: what came between the sessions counts for the second, and not for a poll of the first.
+  const row = { kind: "individual", name: "Ada", paid: 100, shares: 100 };
+  const given = [{ from: 1, to: 60, received: "2026-06-19T09:00:00", ended: null, use: "meeting" },
+    { from: 61, to: 100, received: "2026-06-02T09:00:00", ended: "2026-06-19T09:00:00", use: "meeting" }];
+  const held = { sessions: [{ number: 1, ...notice }, { number: 2, appointed: "2026-06-25T10:00:00", cutoff: "2026-06-23T10:00:00", opened: "2026-06-25T10:00:00" }] };
+  const kept = (session) => w.givenAway(given, { ...open.poll, session }, w.sessionOf(held, { session }));
+  assert.deepEqual([kept(1), kept(2)], [[[61, 100]], [[1, 60]]]);
+});
+
+test("which polls run", () => {
+  const poll = { late: false, started: null, closed: null };
+  const running = (...polls) => w.runningPolls({ resolutions: polls.map((poll, place) => ({ number: place + 1, poll })) });
+  assert.deepEqual(running(null, poll, { ...poll, late: true }, { ...poll, late: true, started: "x" }, { ...poll, started: "x", closed: "x" }), [2, 4]);
 });
 
 test("casts for a block, in parts and split, and what was recorded", () => {
