@@ -24,8 +24,8 @@ abbrev pub tables_of : DiskDesk → State
 tables_of disk = file_state disk.desk
 
 -- the tables that were shown first are of a version that is known; those of version 2 are as they
--- were, and those of version 1 are moved; where they were made as the program of their version makes
--- them, they stand for the office that they held
+-- were, and those of version 1 are moved; where they were made as the program of their version
+-- makes them, they stand for the office that they held
 pub record IsOpened {H : Type 0} (shown : H → State) (desk : H) : Type 0 where
   pub first : H
   pub known : KnownVersion
