@@ -282,12 +282,12 @@ copy_text = wide (CopiesTable polls_one polls first table) (λ others apart inde
 
 -- a row as it is copied
 abbrev copied : Row → Row
-copied row = cast Integer (rowid row) ∷ cast Texts (column row 1) ∷ cast Integer (Int (pos 1)) ∷ cast Integer (column row 2) ∷ cast Integer (column row 3) ∷ cast Integer (column row 4) ∷ cast Integer (column row 5) ∷ cast Integer (column row 6) ∷ cast Integer (column row 7) ∷ cast Integer (column row 8) ∷ cast Integer (column row 9) ∷ cast Integer (column row 10) ∷ cast Integer (column row 11) ∷ []
+copied r = cast Integer (rowid r) ∷ cast Texts (column r 1) ∷ cast Integer (Int (pos 1)) ∷ cast Integer (column r 2) ∷ cast Integer (column r 3) ∷ cast Integer (column r 4) ∷ cast Integer (column r 5) ∷ cast Integer (column r 6) ∷ cast Integer (column r 7) ∷ cast Integer (column r 8) ∷ cast Integer (column r 9) ∷ cast Integer (column r 10) ∷ cast Integer (column r 11) ∷ []
 
-columns_copied : (row : Row) (x : InMeeting Poll) → polls_one.means (columns_of polls_one row) ≡ Some x → columns_of polls (copied row) ≡ in_first_session (columns_of polls_one row)
+columns_copied : (r : Row) (x : InMeeting Poll) → polls_one.means (columns_of polls_one r) ≡ Some x → columns_of polls (copied r) ≡ in_first_session (columns_of polls_one r)
 unfolding poll_one_in spelled number_in moment_in flag_in some_moment_in declared_in
-columns_copied row x h =
-    let cells = columns_of polls_one row in
+columns_copied r x h =
+    let cells = columns_of polls_one r in
     let meeting = bound (spelled meeting_of cells 0) _ x h in
     let resolution = bound (number_in cells 1) _ x meeting.2 in
     let ordered = bound (moment_in cells 2) _ x resolution.2 in
@@ -296,19 +296,19 @@ columns_copied row x h =
     let started = bound (some_moment_in cells 5) _ x chair.2 in
     let closed = bound (some_moment_in cells 6) _ x started.2 in
     let declared = bound (declared_in cells 7) _ x closed.2 in
-    let yes = bound (natural_value (column row 5)) flag_of chair.0 chair.1 in
-    let figures = declared_stays (column row 8) (column row 9) (column row 10) (column row 11) declared.0 declared.1 in
-    rw (text_stays meeting_of (column row 1) meeting.0 meeting.1, cast_int (pos 1), number_stays (column row 2) resolution.0 resolution.1, integer_stays moment_of_number (column row 3) ordered.0 ordered.1, integer_stays moment_of_number (column row 4) taken.0 taken.1, number_stays (column row 5) yes.0 yes.1, some_moment_stays (column row 6) started.0 started.1, some_moment_stays (column row 7) closed.0 closed.1, figures.0, figures.1, figures.2, figures.3) refl
+    let yes = bound (natural_value (column r 5)) flag_of chair.0 chair.1 in
+    let figures = declared_stays (column r 8) (column r 9) (column r 10) (column r 11) declared.0 declared.1 in
+    rw (text_stays meeting_of (column r 1) meeting.0 meeting.1, cast_int (pos 1), number_stays (column r 2) resolution.0 resolution.1, integer_stays moment_of_number (column r 3) ordered.0 ordered.1, integer_stays moment_of_number (column r 4) taken.0 taken.1, number_stays (column r 5) yes.0 yes.1, some_moment_stays (column r 6) started.0 started.1, some_moment_stays (column r 7) closed.0 closed.1, figures.0, figures.1, figures.2, figures.3) refl
 
 pub copies : (old new : State) (r : Result ℕ Error) → IsDesk old → IsTrue old.in_transaction → ExecutesInside 0 (copying_text first table) [] old new r → OnOk r (Copies polls_one polls old new)
-copies = table_copied copy_text copied (λ row. refl) (keeps_number [] []) columns_copied
+copies = table_copied copy_text copied (λ r. refl) (keeps_number [] []) columns_copied
 
 -- whatever they mean, rows that obey their declaration are copied
 kinds : AllByRecursion KeepsTyped first.columns
 kinds = (record { strict = refl; stays = texts_stay }, (record { strict = refl; stays = integers_stay }, (record { strict = refl; stays = integers_stay }, (record { strict = refl; stays = integers_stay }, (record { strict = refl; stays = integers_stay }, (record { strict = refl; stays = integers_stay }, (record { strict = refl; stays = integers_stay }, (record { strict = refl; stays = integers_stay }, (record { strict = refl; stays = integers_stay }, (record { strict = refl; stays = integers_stay }, (record { strict = refl; stays = integers_stay }, tt)))))))))))
 
-row_copied : (row : Row) → are_typed first.key 0 first.columns (drop 1 row) ≡ true → columns_of polls (copied row) ≡ in_first_session (columns_of polls_one row)
-row_copied row h = let k = row_stays first kinds row h in rw (k.0 refl, cast_int (pos 1), k.1.0 refl, k.1.1.0 refl, k.1.1.1.0 refl, k.1.1.1.1.0 refl, k.1.1.1.1.1.0 refl, k.1.1.1.1.1.1.0 refl, k.1.1.1.1.1.1.1.0 refl, k.1.1.1.1.1.1.1.1.0 refl, k.1.1.1.1.1.1.1.1.1.0 refl, k.1.1.1.1.1.1.1.1.1.1.0 refl) refl
+row_copied : (r : Row) → are_typed first.key 0 first.columns (drop 1 r) ≡ true → columns_of polls (copied r) ≡ in_first_session (columns_of polls_one r)
+row_copied r h = let k = row_stays first kinds r h in rw (k.0 refl, cast_int (pos 1), k.1.0 refl, k.1.1.0 refl, k.1.1.1.0 refl, k.1.1.1.1.0 refl, k.1.1.1.1.1.0 refl, k.1.1.1.1.1.1.0 refl, k.1.1.1.1.1.1.1.0 refl, k.1.1.1.1.1.1.1.1.0 refl, k.1.1.1.1.1.1.1.1.1.0 refl, k.1.1.1.1.1.1.1.1.1.1.0 refl) refl
 
 pub copies_typed : (old new : State) (r : Result ℕ Error) → IsDesk old → IsTrue old.in_transaction → ExecutesInside 0 (copying_text first table) [] old new r → OnOk r (CopiesTyped first polls_one polls old new)
-copies_typed = typed_copied copy_text copied (λ row. refl) (keeps_number [] []) row_copied
+copies_typed = typed_copied copy_text copied (λ r. refl) (keeps_number [] []) row_copied

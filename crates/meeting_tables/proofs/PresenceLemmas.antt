@@ -67,29 +67,29 @@ copy_text = wide (CopiesTable presences_one presences first table) (λ others ap
 
 -- a row as it is copied
 abbrev copied : Row → Row
-copied row = cast Integer (rowid row) ∷ cast Integer Null ∷ cast Texts (column row 2) ∷ cast Integer (Int (pos 1)) ∷ cast Texts (column row 3) ∷ cast Integer (column row 4) ∷ []
+copied r = cast Integer (rowid r) ∷ cast Integer Null ∷ cast Texts (column r 2) ∷ cast Integer (Int (pos 1)) ∷ cast Texts (column r 3) ∷ cast Integer (column r 4) ∷ []
 
-keeps_number : (row : Row) → IsTrue (is_int (rowid row)) → rowid (copied row) ≡ rowid row
-keeps_number row keyed = subst (λ v. cast Integer v ≡ v) (sym (is_its_id row keyed)) (cast_int (id_in (rowid row)))
+keeps_number : (r : Row) → IsTrue (is_int (rowid r)) → rowid (copied r) ≡ rowid r
+keeps_number r keyed = subst (λ v. cast Integer v ≡ v) (sym (is_its_id r keyed)) (cast_int (id_in (rowid r)))
 
-columns_copied : (row : Row) (x : InMeeting PresenceMark) → presences_one.means (columns_of presences_one row) ≡ Some x → columns_of presences (copied row) ≡ in_first_session (columns_of presences_one row)
+columns_copied : (r : Row) (x : InMeeting PresenceMark) → presences_one.means (columns_of presences_one r) ≡ Some x → columns_of presences (copied r) ≡ in_first_session (columns_of presences_one r)
 unfolding presence_one_in spelled moment_in
-columns_copied row x h =
-    let cells = columns_of presences_one row in
+columns_copied r x h =
+    let cells = columns_of presences_one r in
     let meeting = bound (spelled meeting_of cells 0) _ x h in
     let party = bound (spelled party_of cells 1) _ x meeting.2 in
     let moment = bound (moment_in cells 2) _ x party.2 in
-    rw (text_stays meeting_of (column row 2) meeting.0 meeting.1, cast_int (pos 1), text_stays party_of (column row 3) party.0 party.1, integer_stays moment_of_number (column row 4) moment.0 moment.1) refl
+    rw (text_stays meeting_of (column r 2) meeting.0 meeting.1, cast_int (pos 1), text_stays party_of (column r 3) party.0 party.1, integer_stays moment_of_number (column r 4) moment.0 moment.1) refl
 
 pub copies : (old new : State) (r : Result ℕ Error) → IsDesk old → IsTrue old.in_transaction → ExecutesInside 0 (copying_text first table) [] old new r → OnOk r (Copies presences_one presences old new)
-copies = table_copied copy_text copied (λ row. refl) keeps_number columns_copied
+copies = table_copied copy_text copied (λ r. refl) keeps_number columns_copied
 
 -- whatever they mean, rows that obey their declaration are copied
 kinds : AllByRecursion KeepsTyped first.columns
 kinds = (record { strict = refl; stays = integers_stay }, (record { strict = refl; stays = texts_stay }, (record { strict = refl; stays = texts_stay }, (record { strict = refl; stays = integers_stay }, tt))))
 
-row_copied : (row : Row) → are_typed first.key 0 first.columns (drop 1 row) ≡ true → columns_of presences (copied row) ≡ in_first_session (columns_of presences_one row)
-row_copied row h = let k = row_stays first kinds row h in rw (k.1.0 refl, cast_int (pos 1), k.1.1.0 refl, k.1.1.1.0 refl) refl
+row_copied : (r : Row) → are_typed first.key 0 first.columns (drop 1 r) ≡ true → columns_of presences (copied r) ≡ in_first_session (columns_of presences_one r)
+row_copied r h = let k = row_stays first kinds r h in rw (k.1.0 refl, cast_int (pos 1), k.1.1.0 refl, k.1.1.1.0 refl) refl
 
 pub copies_typed : (old new : State) (r : Result ℕ Error) → IsDesk old → IsTrue old.in_transaction → ExecutesInside 0 (copying_text first table) [] old new r → OnOk r (CopiesTyped first presences_one presences old new)
-copies_typed = typed_copied copy_text copied (λ row. refl) keeps_number row_copied
+copies_typed = typed_copied copy_text copied (λ r. refl) keeps_number row_copied
