@@ -11,9 +11,9 @@ use Rattle.desk_words.specs.declared.request.NewCast.{NewCast}
 use Rattle.desk_words.specs.Sessions.{last_number}
 use Rattle.proxy_rules.specs.Uses.{Vote, vote_on}
 use Rattle.caller_view.specs.Casts.{cast_range_cases, has_cast_enough, right_cases}
-use Rattle.caller_view.specs.Public.{PublicRecord}
+use Rattle.party_views.specs.Public.{PublicRecord}
 use Rattle.caller_view.specs.Rights.{governed_for, may_vote_for}
-use Rattle.caller_view.specs.declared.views.OwnView.{OwnView}
+use Rattle.party_views.specs.declared.views.OwnView.{OwnView}
 
 module _ (public : PublicRecord) (meeting : Meeting) (own : OwnView) (new : NewCast) where
   -- the cases of a vote on a range of places, by what they ask before the rights

@@ -1,6 +1,3 @@
-pub mod Numbering
-pub mod ReadLemmas
 mod CastLemmas
+pub mod ReadLemmas
 mod RightsLemmas
-pub mod KeptLemmas
-pub mod OwnLemmas

@@ -31,11 +31,12 @@ use Rattle.caller_view.specs.Casts.{cast_ruling, cast_count, governed_on, has_ca
 use Rattle.proxy_rules.specs.Cutoffs.{is_late_poll}
 use Rattle.proxy_rules.specs.Instructions.{allows, instructed_on}
 use Rattle.proxy_rules.specs.Uses.{vote_on}
-use Rattle.caller_view.specs.Reads.{authorised_read, cast_on, for_poll, own_read, received_read}
+use Rattle.party_views.proofs.FindLemmas.{find-filter}
+use Rattle.party_views.specs.Reads.{authorised_read, cast_on, for_poll, own_read, received_read}
 use Rattle.caller_view.specs.Rights.{forbids, governed_for, governed_late, governed_votes, governs_at, instructs, is_against, is_governed, is_not_own, may_vote_for, meets, no_runs, some_fail}
-use Rattle.caller_view.specs.Own.{nothing_of}
-use Rattle.caller_view.specs.declared.views.OwnView.{OwnView}
-use Rattle.caller_view.specs.Public.{PublicRecord}
+use Rattle.party_views.specs.Own.{nothing_of}
+use Rattle.party_views.specs.declared.views.OwnView.{OwnView}
+use Rattle.party_views.specs.Public.{PublicRecord}
 
 -- what passes a test passes it again
 filter-again : {X : Type 0} (test : X → Bool) (xs : List X) → filter test (filter test xs) ≡ filter test xs
@@ -49,15 +50,6 @@ filter-again test (x ∷ xs) =
 -- among what passes a test as many pass it
 count_by-filter : {X : Type 0} (test : X → Bool) (xs : List X) → count_by test (filter test xs) ≡ count_by test xs
 count_by-filter test xs = sym (length-filter test (filter test xs)) ∙ ap length (filter-again test xs) ∙ length-filter test xs
-
--- what is found is found among what passes
-pub find-filter : {X : Type 0} (test : X → Bool) (xs : List X) → find test (filter test xs) ≡ find test xs
-find-filter test [] = refl
-find-filter test (x ∷ xs) =
-    (elim (test x) as (λ b. test x ≡ b → find test (cond b (x ∷ filter test xs) (filter test xs)) ≡ cond b (Some x) (find test xs)) [
-      | true ↦ λ passes. ap (λ b. cond b (Some x) (find test (filter test xs))) passes
-      | false ↦ λ fails. find-filter test xs
-    ]) refl
 
 -- some pass among those that are kept, where all that pass are kept
 any-filter : {X : Type 0} (keeps passes : X → Bool) (xs : List X) → ((x : X) → (keeps x && passes x) ≡ passes x) → list_any passes (filter keeps xs) ≡ list_any passes xs

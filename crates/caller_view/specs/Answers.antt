@@ -13,8 +13,8 @@ use Rattle.caller_view.specs.Appointments.{appoint_ruling, cutoff_in, end_ruling
 use Rattle.caller_view.specs.Attendance.{attend_ruling, authorise_ruling, demand_ruling}
 use Rattle.caller_view.specs.Casts.{cast_ruling, instructed_ruling}
 use Rattle.caller_view.specs.Notices.{notice_of}
-use Rattle.caller_view.specs.Public.{PublicRecord}
-use Rattle.caller_view.specs.declared.views.OwnView.{OwnView}
+use Rattle.party_views.specs.Public.{PublicRecord}
+use Rattle.party_views.specs.declared.views.OwnView.{OwnView}
 
 -- what a party is told of its own things, by the closed days as they stand
 abbrev pub mine_of : PublicRecord → Meeting → OwnView → Moment → Mine

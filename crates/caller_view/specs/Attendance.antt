@@ -18,8 +18,8 @@ use Rattle.desk_words.specs.declared.change.Entry.TheVariants as entry
 use Rattle.desk_words.specs.declared.own.Authorised.{Authorised}
 use Rattle.desk_words.specs.declared.own.Received.{Received}
 use Rattle.caller_view.specs.Rights.{governed_acts, holds_as_individual, no_runs}
-use Rattle.caller_view.specs.Public.{PublicRecord}
-use Rattle.caller_view.specs.declared.views.OwnView.{OwnView}
+use Rattle.party_views.specs.Public.{PublicRecord}
+use Rattle.party_views.specs.declared.views.OwnView.{OwnView}
 
 -- the party gave the person its authority already (section 323)
 abbrev pub gave_authority : OwnView → Party → Bool

@@ -19,8 +19,8 @@ use Rattle.desk_words.specs.declared.reply.Reply.TheVariants as reply
 use Rattle.desk_words.specs.declared.request.NewCast.{NewCast}
 use Rattle.proxy_rules.specs.Uses.{Use, vote_on}
 use Rattle.caller_view.specs.Rights.{Governs, governed_for, is_against, is_not_own, is_uninstructed, may_vote_for}
-use Rattle.caller_view.specs.declared.views.OwnView.{OwnView}
-use Rattle.caller_view.specs.Public.{PublicRecord}
+use Rattle.party_views.specs.declared.views.OwnView.{OwnView}
+use Rattle.party_views.specs.Public.{PublicRecord}
 
 -- how many of these votes are on a resolution
 abbrev pub cast_count : List CastMark → Number → ℕ

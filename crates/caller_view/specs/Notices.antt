@@ -14,7 +14,7 @@ use Rattle.desk_words.specs.declared.reply.NoticedSession.{NoticedSession}
 use Rattle.proxy_rules.specs.Cutoffs.{cutoffs_of, is_late_poll}
 use Rattle.proxy_rules.specs.Uses.{Votes, Vote}
 use Rattle.desk_words.specs.Majority.{result_of}
-use Rattle.caller_view.specs.Sessions.{numbered}
+use Rattle.party_views.specs.Sessions.{numbered}
 
 -- a poll, with its lateness and its cutoff by the closed days as they stand, and its result once it
 -- is declared (section 327)

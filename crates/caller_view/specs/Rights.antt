@@ -19,8 +19,8 @@ use Rattle.proxy_rules.specs.Cutoffs.{is_late_poll}
 use Rattle.proxy_rules.specs.Shares.{is_individual}
 use Rattle.proxy_rules.specs.Instructions.{allows, instructed_on}
 use Rattle.proxy_rules.specs.Uses.{Use, Acts, Votes, Vote}
-use Rattle.caller_view.specs.Sessions.{at_session}
-use Rattle.caller_view.specs.declared.views.OwnView.{OwnView}
+use Rattle.party_views.specs.Sessions.{at_session}
+use Rattle.party_views.specs.declared.views.OwnView.{OwnView}
 
 -- the party holds shares as an individual
 abbrev pub holds_as_individual : Option RegisterRow → Bool

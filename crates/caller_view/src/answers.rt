@@ -8,11 +8,11 @@ use crate::appointments::{appoint, end, use_by};
 use crate::attendance::{attend, authorise, demand};
 use crate::casts::{cast, instructed};
 use crate::notices::notice_in;
-use crate::views::{OwnView, PublicRecord};
 use desk_words::{
     Answer, AppointmentUse, Entry, Given, GivenUse, Listing, Meeting, Mine, Moment, PartyRequest,
     Refusal, Reply, refuse, tell,
 };
+use party_views::{OwnView, PublicRecord};
 use proxy_rules::{Use, cutoffs};
 use std::alloc::{AllocError, Global};
 
@@ -40,7 +40,7 @@ pub(crate) fn cutoff_in(public: &PublicRecord, meeting: &Meeting, now: Moment) -
     ensures { result ≡ cutoff_in public.now meeting.now now }
 {
     let last = Use::Votes(meeting.last_number());
-    cutoffs(meeting, last, public.closed, now).appointments
+    cutoffs(meeting, last, public.closed(), now).appointments
 }
 
 /// What a party is told of its own things.
@@ -85,7 +85,7 @@ pub fn answer(
     ensures sure { refuses (party_ruling public.now own now asked.now) ≡ true → IsOk result }
     ensures no_memory { takes_no_memory asked.now ≡ true → IsOk result }
 {
-    let Some(meeting) = public.meeting else {
+    let Some(meeting) = public.meeting() else {
         return Ok(refuse(Refusal::NoMeeting));
     };
     match asked {

@@ -7,12 +7,12 @@ ghost use Rattle.desk_words.specs.declared.own.Given.{Given};
 ghost use Rattle.caller_view.specs.Appointments.{appoint_range_cases, appoint_ruling, appointment_of, end_cases, end_ruling, given_numbered, use_by};
 
 use crate::answers::cutoff_in;
-use crate::views::{OwnView, PublicRecord};
 use desk_words::limits::MOST_APPOINTMENTS;
 use desk_words::{
     Answer, Appointment, AppointmentReceipt, AppointmentUse, Ending, Entry, Given, Instr, Listing,
     Meeting, Moment, NewAppointment, Range, Refusal, Reply, refuse,
 };
+use party_views::{OwnView, PublicRecord};
 use std::alloc::AllocError;
 
 /// What an appointment of a moment counts for, where the last session has that cutoff.

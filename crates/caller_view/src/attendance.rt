@@ -5,12 +5,12 @@ ghost use Rattle.desk_words.specs.Rulings.{settled};
 ghost use Rattle.caller_view.specs.Attendance.{attend_ruling, authorise_cases, authorise_ruling, demand_cases, demand_ruling, gave_authority, governs_any, is_demand_now, is_present, own_demanded, may_demand, represents};
 
 use crate::rights::{governed_acts, holds_as_individual};
-use crate::views::{OwnView, PublicRecord};
 use desk_words::limits::MOST_AUTHORITIES;
 use desk_words::{
     Answer, Authority, DemandMark, Entry, Meeting, Moment, Party, PresenceMark, Refusal, find_poll,
     noted, refuse,
 };
+use party_views::{OwnView, PublicRecord};
 
 /// Whether the party gave the person its authority already.
 fn gave_authority(own: &OwnView, person: Party) -> bool
@@ -139,7 +139,7 @@ fn demand_refusal(
     if !may_demand(meeting, own) {
         return Some(Refusal::NoRight);
     }
-    if find_poll(public.polls, resolution).is_some() {
+    if find_poll(public.polls(), resolution).is_some() {
         return Some(Refusal::PollOrdered);
     }
     None

@@ -8,12 +8,12 @@ ghost use Rattle.caller_view.specs.Casts.{block_of, cast_of, cast_range_cases, c
 ghost use Rattle.caller_view.specs.Rights.{governed_at_poll};
 
 use crate::rights::{is_against, is_not_own, is_uninstructed, may_vote_for};
-use crate::views::{OwnView, PublicRecord};
 use desk_words::limits::MOST_CASTS;
 use desk_words::{
     Answer, Block, CastKind, CastMark, Entry, Meeting, Moment, NewCast, Poll, Range, Refusal,
     Reply, find_poll, refuse,
 };
+use party_views::{OwnView, PublicRecord};
 use proxy_rules::is_late_poll;
 
 fn cast_count(casts: &[CastMark], resolution: u64) -> usize
@@ -60,7 +60,7 @@ fn range_refusal(
     if !may_vote_for(own, new.member, new.capacity) {
         return Some(Refusal::NoRight);
     }
-    let Some(poll) = find_poll(public.polls, new.resolution) else {
+    let Some(poll) = find_poll(public.polls(), new.resolution) else {
         return Some(Refusal::NoPoll);
     };
     if poll.started.is_none() {
@@ -69,7 +69,7 @@ fn range_refusal(
     if poll.closed.is_some() {
         return Some(Refusal::PollClosed);
     }
-    let late = is_late_poll(public.closed, &poll);
+    let late = is_late_poll(public.closed(), &poll);
     right_refusal(own, late, &poll, new)
 }
 
@@ -154,7 +154,7 @@ fn instructed_refusal(
     if !meeting.loaded {
         return Some(Refusal::NoRegister);
     }
-    let Some(poll) = find_poll(public.polls, resolution) else {
+    let Some(poll) = find_poll(public.polls(), resolution) else {
         return Some(Refusal::NoPoll);
     };
     if poll.started.is_none() {
@@ -163,7 +163,7 @@ fn instructed_refusal(
     if poll.closed.is_some() {
         return Some(Refusal::PollClosed);
     }
-    let late = is_late_poll(public.closed, &poll);
+    let late = is_late_poll(public.closed(), &poll);
     if is_uninstructed(own, late, &poll, resolution) {
         return Some(Refusal::NotYours);
     }

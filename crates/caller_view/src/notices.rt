@@ -1,16 +1,16 @@
 //! The notice of a meeting.
 ghost use Rattle.std.specs.Prelude.{◌≡◌, IfOk, option_map};
 ghost use Rattle.caller_view.specs.Notices.{noticed_poll, noticed_resolution, noticed_session, notice_of};
-ghost use Rattle.caller_view.specs.Sessions.{numbered};
+ghost use Rattle.party_views.specs.Sessions.{numbered};
 ghost use Rattle.desk_words.specs.Finding.{poll_on};
 ghost use Rattle.desk_words.specs.Majority.{result_of};
 
-use crate::views::PublicRecord;
 use desk_words::{
     Declaration, Listing, Meeting, Moment, Notice, NoticedPoll, NoticedResolution, NoticedSession,
     Poll, ResKind, Resolution, Session, Tally, find_poll, result_of,
 };
 use office_days::Closed;
+use party_views::PublicRecord;
 use proxy_rules::{Use, cutoffs, is_late_poll};
 use std::alloc::{AllocError, Global};
 
@@ -55,8 +55,8 @@ fn poll_in(
     ensures { result ≡ option_map (noticed_poll meeting.now public.now.closed now kind)
         (poll_on public.now.polls number) }
 {
-    let poll = find_poll(public.polls, number)?;
-    Some(noticed_poll(meeting, public.closed, now, kind, poll))
+    let poll = find_poll(public.polls(), number)?;
+    Some(noticed_poll(meeting, public.closed(), now, kind, poll))
 }
 
 fn noticed_resolution(
@@ -144,8 +144,8 @@ pub(crate) fn notice_in(
         company: meeting.company,
         kind: meeting.kind,
         given: meeting.given,
-        first: noticed_session(meeting, public.closed, now, 1, &meeting.first),
-        later: Listing::from_vec(noticed_sessions(alloc, meeting, public.closed, now)?),
+        first: noticed_session(meeting, public.closed(), now, 1, &meeting.first),
+        later: Listing::from_vec(noticed_sessions(alloc, meeting, public.closed(), now)?),
         record_moment: meeting.record_moment,
         loaded: meeting.loaded,
         resolutions: Listing::from_vec(noticed_resolutions(alloc, public, meeting, now)?),

@@ -10,7 +10,7 @@ use Rattle.desk_words.specs.declared.records.Resolution.{Resolution}
 use Rattle.desk_words.specs.declared.records.Session.{Session}
 use Rattle.desk_words.specs.declared.records.Tally.{Tally}
 use Rattle.desk_words.specs.Finding.{poll_on}
-use Rattle.caller_view.specs.Public.{PublicRecord}
+use Rattle.party_views.specs.Public.{PublicRecord}
 use Rattle.desk_papers.specs.States.{state_of, state_word}
 use Rattle.desk_papers.specs.declared.state.State.{State}
 use Rattle.desk_papers.specs.declared.state.State.TheVariants.{NoPoll, Ordered, Open, Closed, Declared}

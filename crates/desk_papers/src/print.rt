@@ -6,8 +6,8 @@ ghost use Rattle.desk_devices.specs.Written.{AppendsPrefix};
 ghost use Rattle.desk_papers.specs.Results.{results_of};
 
 use crate::text::results_text;
-use caller_view::PublicRecord;
 use desk_devices::{PrintFault, Sink, write_all};
+use party_views::PublicRecord;
 use std::alloc::Global;
 
 /// Writes the results of a meeting: what is known of the meeting itself, and each resolution with

@@ -4,10 +4,10 @@ ghost use Rattle.desk_papers.specs.Results.{line, not_voted, tally_text, figures
 
 use crate::number::{push_figure, push_number};
 use crate::state::{State, state_of, state_word};
-use caller_view::PublicRecord;
 use desk_words::{
     Meeting, Moment, Poll, Resolution, Session, Tally, find_poll, write_day, write_moment,
 };
+use party_views::PublicRecord;
 use std::alloc::{AllocError, Global};
 
 /// Adds a line with a label and a value.

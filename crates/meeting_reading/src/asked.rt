@@ -1,7 +1,7 @@
 //! Those of the closed days and of a meeting's lists that the answer to a request of the office
 //! reads.
 ghost use Rattle.std.specs.Prelude.{◌≡◌, [], option_map, if◌then◌else◌};
-ghost use Rattle.caller_view.specs.Views.{meeting_at};
+ghost use Rattle.party_views.specs.Views.{meeting_at};
 ghost use Rattle.office_answers.specs.Reads.{days_read, lists_read, polls_alone};
 ghost use Rattle.party_reading.specs.Telling.{IsToldOf};
 ghost use Rattle.meeting_reading.specs.Parts.{shares_and_demands};

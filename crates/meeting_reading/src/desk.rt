@@ -3,7 +3,7 @@ ghost use Rattle.std.specs.Prelude.{◌≡◌, is_some, length};
 ghost use Rattle.std.specs.List.{list_any};
 ghost use Rattle.desk_terms.specs.Names.{same_name};
 ghost use Rattle.desk_rows.specs.declared.kept.MeetingRow.{MeetingRow};
-ghost use Rattle.caller_view.specs.Views.{meeting_at};
+ghost use Rattle.party_views.specs.Views.{meeting_at};
 ghost use Rattle.party_reading.specs.Telling.{IsToldOf};
 
 use desk_reading::listing;

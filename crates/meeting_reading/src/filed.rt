@@ -1,7 +1,7 @@
 //! The lists of a meeting that stand in order of receipt, filed by the parties that each record
 //! names.
 ghost use Rattle.std.specs.Prelude.{◌≡◌, Err, MatchResult, filter, map};
-ghost use Rattle.caller_view.specs.Views.{meeting_at};
+ghost use Rattle.party_views.specs.Views.{meeting_at};
 ghost use Rattle.office_lists.specs.declared.fault.ReadFault.TheVariants.{Memory};
 ghost use Rattle.row_source.specs.Lists.{appointments_in, authorities_in, casts_in};
 ghost use Rattle.row_source.specs.Lists.{demands_in, endings_in, presences_in};

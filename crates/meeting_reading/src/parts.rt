@@ -1,6 +1,6 @@
 //! A meeting with some of its lists, and nothing in place of the others.
 ghost use Rattle.std.specs.Prelude.{◌≡◌, [], option_map};
-ghost use Rattle.caller_view.specs.Views.{meeting_at};
+ghost use Rattle.party_views.specs.Views.{meeting_at};
 ghost use Rattle.office_answers.specs.Reads.{polls_alone};
 ghost use Rattle.row_source.specs.Lists.{register_in};
 ghost use Rattle.party_reading.specs.Telling.{IsToldOf};

@@ -3,19 +3,19 @@ ghost use Rattle.std.specs.Prelude.{◌≡◌, ⊤, IfOk, Some, true};
 ghost use Rattle.std.proofs.Common.{rules};
 ghost use Rattle.desk_words.specs.Ordered.{ascends_by};
 ghost use Rattle.desk_words.specs.Registers.{member_before};
-ghost use Rattle.caller_view.specs.Reads.{rows_read};
-ghost use Rattle.caller_view.specs.Rows.{rows_of};
+ghost use Rattle.party_views.specs.Reads.{rows_read};
+ghost use Rattle.party_views.specs.Rows.{rows_of};
 
 use crate::members::{naming, naming_by};
 use crate::own::{
     casts_of, casts_on, demands_of, ended_by, persons_of, presences_of, row_of, trusting,
     trusting_for,
 };
-use caller_view::{OwnRows, Reads, reads_of};
 use desk_words::{
     Appointment, Authority, CastMark, DemandMark, Ending, Listing, MeetingLists, Party,
     PartyRequest, RegisterRow,
 };
+use party_views::{OwnRows, Reads, reads_of};
 use proxy_rules::given_by;
 use row_source::RowSource;
 use std::alloc::{AllocError, Global};

@@ -8,7 +8,7 @@ use Rattle.sqlite_trees.specs.declared.store.Store as store
 use Rattle.desk_words.specs.Seen.{MeetingName}
 use Rattle.desk_words.specs.declared.office.MeetingLists.{MeetingLists}
 use Rattle.desk_words.specs.declared.office.OfficeLists.{OfficeLists}
-use Rattle.caller_view.specs.Views.{meeting_at}
+use Rattle.party_views.specs.Views.{meeting_at}
 use Rattle.office_lists.specs.declared.fault.ReadFault.{ReadFault}
 use Rattle.party_reading.specs.Home.{Keeps, Leaves, Shows}
 use Rattle.party_reading.specs.Telling.{IsToldOf, MayFail}

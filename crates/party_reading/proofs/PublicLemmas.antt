@@ -28,7 +28,7 @@ use Rattle.desk_reading.specs.Reading.{IsReading}
 use Rattle.office_lists.specs.Own.{are_few, resolutions_own}
 use Rattle.office_lists.specs.Yields.{IsCause, any_at_all}
 use Rattle.office_lists.specs.declared.fault.ReadFault.{ReadFault}
-use Rattle.caller_view.specs.Views.{polls_in}
+use Rattle.party_views.specs.Views.{polls_in}
 use Rattle.party_reading.specs.Lists.{later_in}
 use Rattle.party_reading.specs.Telling.{IsToldOf, TellsOnly}
 use Rattle.party_reading.proofs.FoundLemmas.{cause_tells, says, yields_tell}

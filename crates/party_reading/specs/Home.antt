@@ -7,7 +7,7 @@ use Rattle.desk_words.specs.Office.{is_office}
 use Rattle.desk_words.specs.Seen.{MeetingName}
 use Rattle.desk_words.specs.declared.office.MeetingLists.{MeetingLists}
 use Rattle.desk_words.specs.declared.office.OfficeLists.{OfficeLists}
-use Rattle.caller_view.specs.Views.{meeting_at}
+use Rattle.party_views.specs.Views.{meeting_at}
 use Rattle.desk_schema.specs.Statements.{ChangesNothing, IsDesk, IsRead}
 use Rattle.desk_records.specs.Office.{office_in}
 

@@ -6,7 +6,7 @@ use Rattle.sqlite.specs.State.{HasCleanDisk}
 use Rattle.sqlite_trees.specs.declared.store.Store as store
 use Rattle.desk_words.specs.Seen.{MeetingName}
 use Rattle.desk_words.specs.declared.office.MeetingLists.{MeetingLists}
-use Rattle.caller_view.specs.Views.{meeting_at}
+use Rattle.party_views.specs.Views.{meeting_at}
 use Rattle.desk_records.specs.Office.{office_in}
 use Rattle.desk_reading.proofs.ReadingLemmas.{changes_then, desk_same, read_first, read_second, unchanged_then}
 use Rattle.office_lists.specs.declared.fault.ReadFault.{ReadFault}

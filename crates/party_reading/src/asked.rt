@@ -1,9 +1,9 @@
 //! Those of a party's rows in a meeting that the answer to its request reads, read from the tables.
 ghost use Rattle.std.specs.Prelude.{◌≡◌};
 ghost use Rattle.std.proofs.Common.{◌∙◌};
-ghost use Rattle.caller_view.specs.Reads.{rows_read};
-ghost use Rattle.caller_view.specs.Rows.{rows_in};
-ghost use Rattle.caller_view.specs.Views.{meeting_at};
+ghost use Rattle.party_views.specs.Reads.{rows_read};
+ghost use Rattle.party_views.specs.Rows.{rows_in};
+ghost use Rattle.party_views.specs.Views.{meeting_at};
 ghost use Rattle.sqlite.specs.Held.{state};
 ghost use Rattle.sqlite.specs.State.{HasCleanDisk};
 ghost use Rattle.party_reading.specs.Home.{Keeps, Leaves, Shows};
@@ -14,12 +14,12 @@ use crate::rows::{
     casts_of, casts_on, demands_of, ended_by, given_by, naming, naming_by, persons_of,
     presences_of, row_of, trusting, trusting_for,
 };
-use caller_view::{OwnRows, Reads, reads_of};
 use desk_words::{
     Appointment, Authority, CastMark, DemandMark, Ending, Listing, MeetingId, Party, PartyRequest,
     RegisterRow,
 };
 use office_lists::ReadFault;
+use party_views::{OwnRows, Reads, reads_of};
 use row_source::{RowSource, rows_for};
 use sqlite::{Alter, Transaction};
 use std::alloc::Global;

@@ -1,15 +1,15 @@
 //! A party's own things in a meeting, read from the tables by its name and the meeting's.
 ghost use Rattle.std.specs.Prelude.{◌≡◌, MatchResult};
-ghost use Rattle.caller_view.specs.Own as own;
-ghost use Rattle.caller_view.specs.Views.{own_of};
+ghost use Rattle.party_views.specs.Own as own;
+ghost use Rattle.party_views.specs.Views.{own_of};
 ghost use Rattle.office_lists.specs.declared.fault.ReadFault.TheVariants.{Memory};
 ghost use Rattle.party_reading.specs.Telling.{IsToldOf};
 
 use crate::asked::read_rows;
 use crate::public::{KeptRecord, read_public};
-use caller_view::{OwnRows, OwnView, own_from};
 use desk_words::{MeetingId, Moment, Party};
 use office_lists::ReadFault;
+use party_views::{OwnRows, OwnView, own_from};
 use sqlite::{Alter, Transaction};
 use std::alloc::Global;
 

@@ -2,18 +2,18 @@
 ghost use Rattle.std.specs.Prelude.{◌≡◌, option_map};
 ghost use Rattle.desk_records.specs.Office.{whole_meeting};
 ghost use Rattle.desk_words.specs.declared.office.MeetingLists.{MeetingLists};
-ghost use Rattle.caller_view.specs.Views.{meeting_at, polls_in, public_of};
+ghost use Rattle.party_views.specs.Views.{meeting_at, polls_in, public_of};
 ghost use Rattle.party_reading.specs.Lists.{later_in};
 ghost use Rattle.party_reading.specs.Telling.{IsToldOf};
 
 use crate::found::{first, found, items};
-use caller_view::PublicRecord;
 use desk_reading::listing;
 use desk_rows::MeetingRow;
 use desk_words::{Listing, Meeting, MeetingId, Poll, Resolutions, Session};
 use found_rows::{meetings, polls, resolutions, sessions};
 use office_days::Closed;
 use office_lists::{ReadFault, day_list, poll_list, resolution_list, session_list};
+use party_views::PublicRecord;
 use sqlite::{Alter, Transaction};
 use std::alloc::Global;
 use std::marker::Model;
@@ -27,7 +27,7 @@ pub struct KeptRecord {
 }
 
 impl Model for KeptRecord {
-    ghost use Rattle.caller_view.specs.Public.{PublicRecord};
+    ghost use Rattle.party_views.specs.Public.{PublicRecord};
 
     ghost Value = { PublicRecord };
 

@@ -5,9 +5,9 @@ ghost use Rattle.office_lists.specs.declared.fault.ReadFault.TheVariants.{Memory
 ghost use Rattle.proxy_rules.specs.Holdings.{is_ended_of, is_given_by};
 ghost use Rattle.proxy_rules.specs.Parties.{authorises, is_authority_of, is_cast_by, is_demanded_by, is_presence_of, names};
 ghost use Rattle.proxy_rules.specs.Shares.{row_of};
-ghost use Rattle.caller_view.specs.Reads.{cast_on};
-ghost use Rattle.caller_view.specs.Rows.{presences_of};
-ghost use Rattle.caller_view.specs.Views.{meeting_at};
+ghost use Rattle.party_views.specs.Reads.{cast_on};
+ghost use Rattle.party_views.specs.Rows.{presences_of};
+ghost use Rattle.party_views.specs.Views.{meeting_at};
 ghost use Rattle.row_source.specs.Lists.{appointments_in, authorities_in, cast_in, casts_in, naming_by_in, trusting_for_in};
 ghost use Rattle.row_source.specs.Lists.{demands_in, endings_in, presences_in, register_in};
 ghost use Rattle.party_reading.specs.Telling.{IsToldOf};

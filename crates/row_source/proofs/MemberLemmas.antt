@@ -13,10 +13,10 @@ use Rattle.desk_words.proofs.RowLemmas.{same_name-true, same_name-refl}
 use Rattle.desk_words.specs.declared.office.MeetingLists.{MeetingLists}
 use Rattle.desk_words.specs.declared.records.Appointment.{Appointment}
 use Rattle.desk_words.specs.declared.request.NewCast.{NewCast}
-use Rattle.caller_view.specs.Reads.{appointments_read, members_read}
-use Rattle.caller_view.specs.Rows.{parties_once, givers, member_in}
-use Rattle.caller_view.specs.declared.rows.MemberRows.{MemberRows}
-use Rattle.caller_view.proofs.OwnLemmas.{filter-map, filter-swap}
+use Rattle.party_views.specs.Reads.{appointments_read, members_read}
+use Rattle.party_views.specs.Rows.{parties_once, givers, member_in}
+use Rattle.party_views.specs.declared.rows.MemberRows.{MemberRows}
+use Rattle.party_views.proofs.OwnLemmas.{filter-map, filter-swap}
 use Rattle.proxy_rules.proofs.NameLemmas.{same_name-sym}
 use Rattle.proxy_rules.specs.Holdings.{is_given_by}
 

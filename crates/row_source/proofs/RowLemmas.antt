@@ -7,12 +7,12 @@ use Rattle.desk_terms.specs.declared.kinds.Capacity.TheVariants as capacity
 use Rattle.desk_words.specs.Seen.{Party}
 use Rattle.desk_words.specs.declared.office.MeetingLists.{MeetingLists}
 use Rattle.desk_words.specs.declared.request.NewCast.{NewCast}
-use Rattle.caller_view.specs.Reads.{rows_kept}
-use Rattle.caller_view.specs.Rows.{authority_rows_in, no_rows_of, presences_of, rows_in}
-use Rattle.caller_view.specs.declared.reads.Reads.TheVariants as reads
-use Rattle.caller_view.specs.declared.rows.AuthorityRows.{AuthorityRows}
-use Rattle.caller_view.specs.declared.rows.OwnRows.{OwnRows}
-use Rattle.caller_view.proofs.OwnLemmas.{filter-map}
+use Rattle.party_views.specs.Reads.{rows_kept}
+use Rattle.party_views.specs.Rows.{authority_rows_in, no_rows_of, presences_of, rows_in}
+use Rattle.party_views.specs.declared.reads.Reads.TheVariants as reads
+use Rattle.party_views.specs.declared.rows.AuthorityRows.{AuthorityRows}
+use Rattle.party_views.specs.declared.rows.OwnRows.{OwnRows}
+use Rattle.party_views.proofs.OwnLemmas.{filter-map}
 use Rattle.proxy_rules.specs.Holdings.{is_ended_of, is_given_by}
 use Rattle.proxy_rules.specs.Parties.{is_authority_of, is_demanded_by}
 use Rattle.proxy_rules.specs.Shares.{row_of}

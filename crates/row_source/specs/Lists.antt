@@ -13,11 +13,11 @@ use Rattle.desk_words.specs.declared.records.RegisterRow.{RegisterRow}
 use Rattle.proxy_rules.specs.Holdings.{holding_of, is_given_by}
 use Rattle.proxy_rules.specs.Parties.{authorises, is_authority_of, is_cast_by, names}
 use Rattle.proxy_rules.specs.Shares.{row_of}
-use Rattle.caller_view.specs.Reads.{cast_on}
-use Rattle.caller_view.specs.Rows.{givers, no_rows_of}
-use Rattle.caller_view.specs.declared.rows.AuthorityRows.{AuthorityRows}
-use Rattle.caller_view.specs.declared.rows.MemberRows.{MemberRows}
-use Rattle.caller_view.specs.declared.rows.OwnRows.{OwnRows}
+use Rattle.party_views.specs.Reads.{cast_on}
+use Rattle.party_views.specs.Rows.{givers, no_rows_of}
+use Rattle.party_views.specs.declared.rows.AuthorityRows.{AuthorityRows}
+use Rattle.party_views.specs.declared.rows.MemberRows.{MemberRows}
+use Rattle.party_views.specs.declared.rows.OwnRows.{OwnRows}
 use Rattle.row_source.specs.declared.members.ReceivedRows.{ReceivedRows}
 
 -- a list of a meeting that is found

@@ -1,15 +1,15 @@
 //! The members who named a party, and the corporations that authorised it.
 ghost use Rattle.std.specs.Prelude.{◌≡◌, IfOk, map};
 ghost use Rattle.std.specs.Option.{option_map_or};
-ghost use Rattle.caller_view.specs.Rows.{givers};
+ghost use Rattle.party_views.specs.Rows.{givers};
 ghost use Rattle.proxy_rules.specs.Shares.{shares_of};
 ghost use Rattle.row_source.specs.Lists.{authority_at, member_at, received_from, trusting_from};
 ghost use Rattle.row_source.specs.Lists.{with_members};
 ghost use Rattle.row_source.specs.Telling.{Tells};
 
 use crate::source::RowSource;
-use caller_view::{AuthorityRows, MemberRows};
 use desk_words::{Appointment, Authority, Listing, Party, RegisterRow};
+use party_views::{AuthorityRows, MemberRows};
 use proxy_rules::{Holding, shares};
 use std::alloc::{AllocError, Global};
 use std::collections::BTreeSet;

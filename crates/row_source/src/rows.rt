@@ -1,16 +1,16 @@
 //! Those of a party's rows in a meeting that the answer to its request reads.
 ghost use Rattle.std.specs.Prelude.{◌≡◌, map};
-ghost use Rattle.caller_view.specs.Reads.{rows_kept};
-ghost use Rattle.caller_view.specs.Rows.{no_rows_of, rows_in};
-ghost use Rattle.caller_view.specs.declared.reads.Reads.TheVariants as reads;
+ghost use Rattle.party_views.specs.Reads.{rows_kept};
+ghost use Rattle.party_views.specs.Rows.{no_rows_of, rows_in};
+ghost use Rattle.party_views.specs.declared.reads.Reads.TheVariants as reads;
 ghost use Rattle.row_source.specs.Lists.{authority_at, for_member, naming_by_in, trusting_for_in};
 ghost use Rattle.row_source.specs.Lists.{with_members};
 ghost use Rattle.row_source.specs.Telling.{Tells};
 
 use crate::members::{authorised, named};
 use crate::source::RowSource;
-use caller_view::{OwnRows, Reads};
 use desk_words::{Capacity, Listing, NewCast, Party};
+use party_views::{OwnRows, Reads};
 use std::alloc::Global;
 
 /// The rows of a party where there is no meeting.

@@ -1,7 +1,7 @@
 //! Look-ups of a meeting's records.
 ghost use Rattle.std.specs.Prelude.{◌≡◌, Option, alloc_error, filter};
-ghost use Rattle.caller_view.specs.Reads.{cast_on};
-ghost use Rattle.caller_view.specs.Rows.{presences_of};
+ghost use Rattle.party_views.specs.Reads.{cast_on};
+ghost use Rattle.party_views.specs.Rows.{presences_of};
 ghost use Rattle.desk_words.specs.declared.office.MeetingLists.{MeetingLists};
 ghost use Rattle.proxy_rules.specs.Holdings.{is_ended_of, is_given_by};
 ghost use Rattle.proxy_rules.specs.Parties.{is_authority_of, is_demanded_by};

@@ -18,7 +18,7 @@ returns c =
     let may : may_vote_for a.own.now a.new.now.member a.new.now.capacity ≡ true = search rules in
     let waiting : is_waiting poll ≡ false = search rules in
     let closed : is_closed poll ≡ false = search rules in
-    let days : c.public.inside.closed.now ≡ a.public.now.closed = search rules in
+    let days : c.closed.result.now ≡ a.public.now.closed = c.closed.ensures in
     c.right_refusal.ensures
     ∙ ap (λ late. first_refusal (right_cases a.own.now (governed_at_poll late poll) a.new.now)) (c.is_late_poll-late.ensures ∙ ap (λ (days : List ℕ). is_late_poll days poll) days)
     ∙ refused_on a.public.now a.meeting.now a.own.now a.new.now poll found enough loaded may waiting closed

@@ -1,8 +1,8 @@
 use Rattle.std.proofs.Common.{◌≡◌, ◌+◌, ◌∷◌, ◌++◌, [], length, take, ap, sym, ◌∙◌, arith}
 use Rattle.std.proofs.lemmas.List.{take_more}
 use Rattle.caller_view.specs.Notices.{noticed_resolution}
-use Rattle.caller_view.specs.Sessions.{numbered}
-use Rattle.caller_view.proofs.Numbering.{length-numbered, numbered-more}
+use Rattle.party_views.specs.Sessions.{numbered}
+use Rattle.party_views.proofs.Numbering.{length-numbered, numbered-more}
 use Rattle.caller_view.proofs.notices.noticed_resolutions.Goals as goal
 
 pub loop-resolution-preserved : goal.loop-resolution-preserved

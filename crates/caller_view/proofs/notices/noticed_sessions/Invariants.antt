@@ -1,6 +1,6 @@
 use Rattle.std.proofs.Common.{◌≡◌, take}
 use Rattle.caller_view.specs.Notices.{noticed_session}
-use Rattle.caller_view.specs.Sessions.{numbered}
+use Rattle.party_views.specs.Sessions.{numbered}
 use Rattle.caller_view.proofs.notices.noticed_sessions.Given as goal
 
 abbrev pub invariant-loop-session : goal.invariant-loop-session

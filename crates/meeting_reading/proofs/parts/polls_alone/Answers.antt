@@ -1,7 +1,7 @@
 use Rattle.std.proofs.Common.{◌≡◌, Err, Some, ap, refl, sym, ◌∙◌, rules}
 use Rattle.desk_words.specs.Finding.{meeting_named}
 use Rattle.desk_words.specs.declared.office.MeetingLists.{MeetingLists}
-use Rattle.caller_view.specs.Views.{polls_in}
+use Rattle.party_views.specs.Views.{polls_in}
 use Rattle.office_answers.specs.Reads.{polls_alone}
 use Rattle.party_reading.proofs.TellingLemmas.{told_after, told_both, told_so, told_stop}
 use Rattle.meeting_reading.specs.Parts.{meeting_with}

@@ -1,7 +1,7 @@
 use Rattle.std.proofs.Common.{Some, refl, ap, ◌∙◌}
-use Rattle.caller_view.specs.Reads.{rows_kept}
-use Rattle.caller_view.specs.Rows as rows
-use Rattle.caller_view.specs.declared.reads.Reads.{Reads}
+use Rattle.party_views.specs.Reads.{rows_kept}
+use Rattle.party_views.specs.Rows as rows
+use Rattle.party_views.specs.declared.reads.Reads.{Reads}
 use Rattle.meeting_views.proofs.ListLemmas.{if_ok}
 use Rattle.meeting_views.proofs.lists.rows_for.Goals as goal
 

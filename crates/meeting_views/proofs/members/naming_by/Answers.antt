@@ -7,7 +7,7 @@ use Rattle.std.proofs.lemmas.Option.{gets}
 use Rattle.desk_terms.specs.Names.{same_name}
 use Rattle.desk_words.specs.declared.records.Appointment.{Appointment}
 use Rattle.proxy_rules.proofs.NameLemmas.{filter-named}
-use Rattle.caller_view.proofs.OwnLemmas.{filter-swap}
+use Rattle.party_views.proofs.OwnLemmas.{filter-swap}
 use Rattle.proxy_rules.specs.Holdings.{is_given_by}
 use Rattle.proxy_rules.specs.Parties.{names}
 use Rattle.meeting_views.proofs.members.naming_by.Goals as goal

@@ -1,8 +1,8 @@
 use Rattle.std.proofs.Common.{ap, sym, ◌∙◌}
-use Rattle.caller_view.specs.Reads.{rows_kept}
-use Rattle.caller_view.specs.Rows.{rows_in}
-use Rattle.caller_view.specs.Views.{meeting_at}
-use Rattle.caller_view.specs.declared.reads.Reads.{Reads}
+use Rattle.party_views.specs.Reads.{rows_kept}
+use Rattle.party_views.specs.Rows.{rows_in}
+use Rattle.party_views.specs.Views.{meeting_at}
+use Rattle.party_views.specs.declared.reads.Reads.{Reads}
 use Rattle.std.proofs.lemmas.Result.{on_ok_weaker}
 use Rattle.party_reading.proofs.HomeLemmas.{of_told}
 use Rattle.party_reading.proofs.asked.read_asked.Goals as goal

@@ -1,9 +1,9 @@
 use Rattle.std.proofs.Common.{◌≡◌, Err, subst, rules}
 use Rattle.std.specs.Prelude.{MatchResult}
-use Rattle.caller_view.specs.Own as own
-use Rattle.caller_view.specs.Public.{PublicRecord}
-use Rattle.caller_view.specs.Views.{public_of}
-use Rattle.caller_view.specs.declared.rows.OwnRows.{OwnRows}
+use Rattle.party_views.specs.Own as own
+use Rattle.party_views.specs.Public.{PublicRecord}
+use Rattle.party_views.specs.Views.{public_of}
+use Rattle.party_views.specs.declared.rows.OwnRows.{OwnRows}
 use Rattle.office_lists.specs.declared.fault.ReadFault.TheVariants as fault
 use Rattle.party_reading.proofs.TellingLemmas.{made_tells, told_after, told_both, told_so, told_stop}
 use Rattle.party_reading.proofs.own.read_own.Goals as goal

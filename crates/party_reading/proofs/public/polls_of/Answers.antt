@@ -6,7 +6,7 @@ use Rattle.desk_words.specs.Office.{poll_before}
 use Rattle.desk_words.specs.declared.office.OfficeLists.{OfficeLists}
 use Rattle.desk_words.specs.declared.records.Poll.{Poll}
 use Rattle.desk_schema.specs.Contents as table
-use Rattle.caller_view.specs.Views.{polls_in}
+use Rattle.party_views.specs.Views.{polls_in}
 use Rattle.party_reading.proofs.FoundLemmas.{items_told, yields_tell}
 use Rattle.party_reading.proofs.PublicLemmas.{polls_rise, polls_so}
 use Rattle.party_reading.proofs.TellingLemmas.{told_so, told_stop}

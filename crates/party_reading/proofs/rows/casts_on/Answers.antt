@@ -1,7 +1,7 @@
 use Rattle.std.proofs.Common.{◌==◌, refl, ◌&&◌, ◌∙◌}
 use Rattle.desk_words.specs.declared.records.CastMark.{CastMark}
-use Rattle.caller_view.specs.Views.{meeting_at}
-use Rattle.caller_view.proofs.OwnLemmas.{filter-swap}
+use Rattle.party_views.specs.Views.{meeting_at}
+use Rattle.party_views.proofs.OwnLemmas.{filter-swap}
 use Rattle.proxy_rules.specs.Parties.{is_cast_by}
 use Rattle.row_source.specs.Lists.{casts_in}
 use Rattle.desk_schema.specs.Contents as table

@@ -1,6 +1,6 @@
 use Rattle.std.proofs.Common.{ap, filter, ◌∙◌}
-use Rattle.caller_view.specs.Views.{meeting_at}
-use Rattle.caller_view.proofs.OwnLemmas.{filter-swap}
+use Rattle.party_views.specs.Views.{meeting_at}
+use Rattle.party_views.proofs.OwnLemmas.{filter-swap}
 use Rattle.proxy_rules.specs.Holdings.{is_given_by}
 use Rattle.proxy_rules.specs.Parties.{names}
 use Rattle.row_source.specs.Lists.{appointments_in}

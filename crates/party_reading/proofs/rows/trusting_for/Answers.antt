@@ -1,6 +1,6 @@
 use Rattle.std.proofs.Common.{refl, ◌&&◌, ◌∙◌}
 use Rattle.desk_words.specs.declared.records.Authority.{Authority}
-use Rattle.caller_view.specs.Views.{meeting_at}
+use Rattle.party_views.specs.Views.{meeting_at}
 use Rattle.proxy_rules.specs.Parties.{authorises, is_authority_of}
 use Rattle.row_source.specs.Lists.{authorities_in}
 use Rattle.desk_schema.specs.Contents as table

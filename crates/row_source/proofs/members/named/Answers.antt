@@ -1,6 +1,6 @@
 use Rattle.std.proofs.Common.{◌≡◌, Err, map, ap, ◌∙◌, rules}
 use Rattle.std.proofs.lemmas.List.{take_all}
-use Rattle.caller_view.specs.Rows.{givers}
+use Rattle.party_views.specs.Rows.{givers}
 use Rattle.row_source.specs.Lists.{member_at}
 use Rattle.row_source.proofs.RowLemmas.{made_more}
 use Rattle.row_source.proofs.TellingLemmas.{told_after, told_both, told_refused, told_so}

@@ -1,7 +1,0 @@
-use Rattle.std.proofs.Common.{◌≡◌, map}
-use Rattle.caller_view.specs.Kept.{given_kept}
-use Rattle.caller_view.proofs.given.given_with.Given as goal
-
--- the first appointments with their endings
-abbrev pub invariant-loop-appointment : goal.invariant-loop-appointment
-invariant-loop-appointment l = l.all.items ≡ map (given_kept l.moments) l.yielded

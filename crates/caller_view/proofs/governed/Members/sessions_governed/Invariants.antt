@@ -1,7 +1,0 @@
-use Rattle.std.proofs.Common.{◌≡◌, map, take}
-use Rattle.caller_view.specs.Kept.{session_in_rows}
-use Rattle.caller_view.proofs.governed.Members.sessions_governed.Given as goal
-
--- what is governed in the first sessions
-abbrev pub invariant-loop-session : goal.invariant-loop-session
-invariant-loop-session l = l.all ≡ map (session_in_rows l.self.rows.now l.member l.number) (take l.session-index l.sessions)

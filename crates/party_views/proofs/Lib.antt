@@ -1,0 +1,4 @@
+pub mod FindLemmas
+pub mod KeptLemmas
+pub mod Numbering
+pub mod OwnLemmas

@@ -1,0 +1,156 @@
+-- What of a party's own things the answer to a request reads is made of what it reads of the rows.
+use Rattle.std.proofs.Common.{◌≡◌, ℕ, Bool, true, false, cond, List, [], ◌∷◌, find, filter, map, refl, sym, ap, subst, ◌∙◌}
+use Rattle.std.specs.Prelude.{◌==◌, reverse, Option}
+use Rattle.std.specs.Option.{option_map_or}
+use Rattle.std.proofs.lemmas.Simd.{map-map}
+use Rattle.desk_terms.specs.Names.{same_name}
+use Rattle.desk_terms.specs.declared.kinds.Capacity.{Capacity}
+use Rattle.desk_terms.specs.declared.kinds.Capacity.TheVariants.{Member, Rep, Proxy}
+use Rattle.desk_words.proofs.RowLemmas.{same_name-true}
+use Rattle.desk_words.specs.declared.own.Authorised.{Authorised}
+use Rattle.desk_words.specs.declared.own.PollGoverned.{PollGoverned}
+use Rattle.desk_words.specs.declared.own.Received.{Received}
+use Rattle.desk_words.specs.declared.records.Appointment.{Appointment}
+use Rattle.desk_words.specs.declared.records.Meeting.{Meeting}
+use Rattle.desk_words.specs.declared.records.Poll.{Poll}
+use Rattle.desk_words.specs.declared.request.NewCast.{NewCast}
+use Rattle.desk_words.specs.declared.request.PartyRequest.{PartyRequest}
+use Rattle.proxy_rules.specs.Cutoffs.{cutoffs_of, is_late_poll}
+use Rattle.proxy_rules.specs.Holdings.{is_given_by}
+use Rattle.proxy_rules.specs.Uses as uses
+use Rattle.proxy_rules.specs.declared.papers.Cutoffs.{Cutoffs}
+use Rattle.proxy_rules.proofs.ListLemmas.{reverse-filter}
+use Rattle.party_views.specs.Own.{authorised_in_rows, governed_by, governed_kept, known_to_proxy, own_by, poll_governed, received_by, rows_by, session_governed}
+use Rattle.party_views.specs.Sessions.{each_session}
+use Rattle.party_views.specs.declared.reads.Reads.{Reads}
+use Rattle.party_views.specs.declared.reads.Reads.TheVariants.{Vote, AsInstructed}
+use Rattle.party_views.specs.Reads.{appointments_read, authorised_read, authorities_read, cast_on, for_poll, members_read, own_kept, own_read, polls_kept, polls_on, polls_read, reads_of, received_read, rows_kept, rows_read}
+use Rattle.party_views.specs.declared.rows.AuthorityRows.{AuthorityRows}
+use Rattle.party_views.specs.declared.rows.MemberRows.{MemberRows}
+use Rattle.party_views.specs.declared.rows.OwnRows.{OwnRows}
+use Rattle.party_views.proofs.FindLemmas.{find-filter}
+
+-- what is made of those that pass
+pub filter-map : {X Y : Type 0} (test : Y → Bool) (make : X → Y) (xs : List X) → filter test (map make xs) ≡ map make (filter (λ x. test (make x)) xs)
+filter-map test make [] = refl
+filter-map test make (x ∷ xs) =
+    elim (test (make x)) as (λ b. cond b (make x ∷ filter test (map make xs)) (filter test (map make xs)) ≡ map make (cond b (x ∷ filter (λ x. test (make x)) xs) (filter (λ x. test (make x)) xs))) [
+      | true ↦ ap (λ l. make x ∷ l) (filter-map test make xs)
+      | false ↦ filter-map test make xs
+    ]
+
+-- two tests in either order
+pub filter-swap : {X : Type 0} (one other : X → Bool) (xs : List X) → filter one (filter other xs) ≡ filter other (filter one xs)
+filter-swap one other [] = refl
+filter-swap one other (x ∷ xs) =
+    (elim (one x) as (λ a. one x ≡ a → filter one (filter other (x ∷ xs)) ≡ filter other (cond a (x ∷ filter one xs) (filter one xs))) [
+      | true ↦ λ passes. (elim (other x) as (λ b. other x ≡ b → filter one (cond b (x ∷ filter other xs) (filter other xs)) ≡ cond b (x ∷ filter other (filter one xs)) (filter other (filter one xs))) [
+        | true ↦ λ both. ap (λ a. cond a (x ∷ filter one (filter other xs)) (filter one (filter other xs))) passes ∙ ap (λ l. x ∷ l) (filter-swap one other xs)
+        | false ↦ λ fails. filter-swap one other xs
+      ]) refl
+      | false ↦ λ fails. (elim (other x) as (λ b. other x ≡ b → filter one (cond b (x ∷ filter other xs) (filter other xs)) ≡ filter other (filter one xs)) [
+        | true ↦ λ both. ap (λ a. cond a (x ∷ filter one (filter other xs)) (filter one (filter other xs))) fails ∙ filter-swap one other xs
+        | false ↦ λ neither. filter-swap one other xs
+      ]) refl
+    ]) refl
+
+-- what is the same for each value that passes makes the same list of those
+map-passing : {X Y : Type 0} (f g : X → Y) (test : X → Bool) (xs : List X) → ((x : X) → test x ≡ true → f x ≡ g x) → map f (filter test xs) ≡ map g (filter test xs)
+map-passing f g test [] same = refl
+map-passing f g test (x ∷ xs) same =
+    let tail : map f (filter test xs) ≡ map g (filter test xs) = map-passing f g test xs same in
+    (elim (test x) as (λ b. test x ≡ b → map f (cond b (x ∷ filter test xs) (filter test xs)) ≡ map g (cond b (x ∷ filter test xs) (filter test xs))) [
+      | true ↦ λ e. let head : f x ≡ g x = same x e in λ i. head i ∷ tail i
+      | false ↦ λ e. tail
+    ]) refl
+
+-- the rows are those of the member
+abbrev of_member : List ℕ → MemberRows → Bool
+of_member member rows = same_name rows.member member
+
+-- what an appointment of a member governs is read from the member's rows
+governed-by_member : (members : List MemberRows) (cutoffs : Cutoffs) (member name : List ℕ) (number : ℕ) → same_name name member ≡ true
+    → governed_by (filter (of_member member) members) cutoffs name number ≡ governed_by members cutoffs name number
+governed-by_member members cutoffs member name number same =
+    let found : rows_by (filter (of_member member) members) member ≡ rows_by members member =
+    ap (find (of_member member)) (reverse-filter (of_member member) members) ∙ find-filter (of_member member) (reverse members) in
+    subst (λ (n : List ℕ). governed_by (filter (of_member member) members) cutoffs n number ≡ governed_by members cutoffs n number) (sym (same_name-true name member same))
+    (ap (λ (o : Option MemberRows). option_map_or (λ (rows : MemberRows). governed_kept cutoffs rows.holding number) o []) found)
+
+module _ (members : List MemberRows) (closed : List ℕ) (meeting : Meeting) (polls : List Poll) (now : ℕ) where
+  -- what a party knows of an appointment of a member is read from the member's rows
+  known-by_member : (member : List ℕ) (on : List Poll) (a : Appointment) → is_given_by member a ≡ true
+      → received_by (filter (of_member member) members) closed meeting on now a ≡ received_by members closed meeting on now a
+  known-by_member member on a own =
+      let sessions : each_session (session_governed (filter (of_member member) members) closed meeting now a.member a.number) meeting
+      ≡ each_session (session_governed members closed meeting now a.member a.number) meeting =
+      λ i. each_session (λ session. record {
+        acts = governed-by_member members (cutoffs_of meeting (uses.Acts session) closed now) member a.member a.number own i;
+        votes = governed-by_member members (cutoffs_of meeting (uses.Votes session) closed now) member a.member a.number own i;
+      }) meeting in
+      let late : map (poll_governed (filter (of_member member) members) closed meeting now a.member a.number) (filter (is_late_poll closed) on)
+      ≡ map (poll_governed members closed meeting now a.member a.number) (filter (is_late_poll closed) on) =
+      ap (λ f. map f (filter (is_late_poll closed) on))
+      (λ i (poll : Poll). record { resolution = poll.resolution; governs = governed-by_member members (cutoffs_of meeting (uses.Vote poll) closed now) member a.member a.number own i }) in
+      λ i. known_to_proxy a (sessions i) (late i)
+
+  -- what an appointment governs for the poll on the resolution
+  for_poll-alike : (resolution : ℕ) (a : Appointment)
+      → received_by members closed meeting (polls_on resolution polls) now a ≡ for_poll resolution (received_by members closed meeting polls now a)
+  for_poll-alike resolution a =
+      ap (λ late. known_to_proxy a (each_session (session_governed members closed meeting now a.member a.number) meeting) late)
+      (ap (map (poll_governed members closed meeting now a.member a.number)) (filter-swap (is_late_poll closed) (λ (p : Poll). p.resolution == resolution) polls)
+      ∙ sym (filter-map (λ (p : PollGoverned). p.resolution == resolution) (poll_governed members closed meeting now a.member a.number) (filter (is_late_poll closed) polls)))
+
+  -- and so of each of them
+  all_for_poll : (resolution : ℕ) (given : List Appointment)
+      → map (received_by members closed meeting (polls_on resolution polls) now) given ≡ map (for_poll resolution) (map (received_by members closed meeting polls now) given)
+  all_for_poll resolution given =
+      (λ i. map (λ a. for_poll-alike resolution a i) given) ∙ sym (map-map (for_poll resolution) (received_by members closed meeting polls now) given)
+
+  -- what a vote reads of the appointments
+  received-read : (new : NewCast) (capacity : Capacity) (received : List Appointment)
+      → map (received_by (members_read new members capacity) closed meeting (polls_on new.resolution polls) now) (appointments_read new received capacity)
+      ≡ received_read new (map (received_by members closed meeting polls now) received) capacity
+  received-read new Member received = refl
+  received-read new Rep received = refl
+  received-read new Proxy received =
+      let own = is_given_by new.member in
+      map-passing (received_by (filter (of_member new.member) members) closed meeting (polls_on new.resolution polls) now)
+      (received_by members closed meeting (polls_on new.resolution polls) now) own received (known-by_member new.member (polls_on new.resolution polls))
+      ∙ all_for_poll new.resolution (filter own received)
+      ∙ ap (map (for_poll new.resolution)) (sym (filter-map (λ (r : Received). same_name r.member new.member) (received_by members closed meeting polls now) received))
+
+-- what a vote reads of the authorities
+authorised-read : (new : NewCast) (capacity : Capacity) (authorised : List AuthorityRows)
+    → map authorised_in_rows (authorities_read new authorised capacity) ≡ authorised_read new (map authorised_in_rows authorised) capacity
+authorised-read new Member authorised = refl
+authorised-read new Rep authorised = sym (filter-map (λ (a : Authorised). same_name a.corporation new.member) authorised_in_rows authorised)
+authorised-read new Proxy authorised = refl
+
+-- the own things that are read, from the rows that are read
+own-kept : (reads : Reads) (all : OwnRows) (closed : List ℕ) (meeting : Meeting) (polls : List Poll) (now : ℕ)
+    → own_by (rows_kept reads all) closed meeting (polls_kept reads polls) now ≡ own_kept reads (own_by all closed meeting polls now)
+own-kept (Vote new) all closed meeting polls now =
+    let received = received-read all.members closed meeting polls now new new.capacity all.received in
+    let authorised = authorised-read new new.capacity all.authorised in
+    λ i. record {
+      party = all.party;
+      row = all.row;
+      given = [];
+      persons = [];
+      received = received i;
+      authorised = authorised i;
+      presences = [];
+      demands = [];
+      casts = cast_on new.resolution all.casts;
+    }
+own-kept (AsInstructed resolution) all closed meeting polls now =
+    let received = all_for_poll all.members closed meeting polls now resolution all.received in
+    λ i. record (own_kept (AsInstructed resolution) (own_by all closed meeting polls now)) { received = received i }
+own-kept other all closed meeting polls now = refl
+
+-- the own things that an answer reads, from the rows that it reads
+pub own-read : (asked : PartyRequest) (all : OwnRows) (closed : List ℕ) (meeting : Meeting) (polls : List Poll) (now : ℕ)
+    → own_by (rows_read asked all) closed meeting (polls_read asked polls) now ≡ own_read asked (own_by all closed meeting polls now)
+own-read asked = own-kept (reads_of asked)

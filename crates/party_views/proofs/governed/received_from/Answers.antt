@@ -1,0 +1,16 @@
+use Rattle.std.proofs.Common.{ap, ◌∙◌}
+use Rattle.std.specs.Prelude.{List, map}
+use Rattle.desk_words.specs.declared.records.Appointment.{Appointment}
+use Rattle.party_views.specs.Kept.{received_with}
+use Rattle.party_views.proofs.KeptLemmas.{received-alike}
+use Rattle.party_views.proofs.governed.received_from.Goals as goal
+
+pub returns : goal.returns
+returns c =
+    let a = c.args in
+    let late = c.as_slice-2.ensures.value ∙ c.in_ok-late.ensures in
+    let sessions = c.as_slice.ensures.value ∙ c.in_ok-sessions.ensures in
+    c.from_vec.ensures
+    ∙ c.in_ok-all.ensures
+    ∙ ap (λ (received : List Appointment). map (received_with a.members.now c.as_slice.result.now c.as_slice-2.result.now) received) c.into_vec.ensures
+    ∙ received-alike a.members.now a.closed.now a.meeting.now a.polls.now a.now c.as_slice.result.now c.as_slice-2.result.now a.received sessions late

@@ -1,0 +1,43 @@
+//! What of a party's own things the answer to its request reads.
+ghost use Rattle.std.specs.Prelude.{◌≡◌};
+ghost use Rattle.party_views.specs.Reads.{reads_of};
+
+use desk_words::{NewCast, PartyRequest};
+
+/// What of a party's own things, and of the rows that they are made of, is read.
+#[derive(Clone, Copy)]
+pub enum Reads {
+    /// Nothing but whose they are.
+    Nothing,
+    /// All of them.
+    Everything,
+    /// The appointments that it gave, and their endings.
+    Given,
+    /// The persons whom it authorised.
+    Persons,
+    /// The sessions in which it is present.
+    Presence,
+    /// What a demand of a poll stands on: all but what it gave and cast.
+    Standing,
+    /// What a vote stands on: the votes cast before on its resolution, and what gives the party
+    /// the shares in the vote's capacity.
+    Vote(NewCast),
+    /// What votes as instructed on the resolution of that number, from 1, stand on.
+    AsInstructed(u64),
+}
+
+/// What the answer to a request reads.
+pub fn reads_of(asked: &PartyRequest) -> Reads
+    ensures { result ≡ reads_of asked.now }
+{
+    match asked {
+        PartyRequest::Notice => Reads::Nothing,
+        PartyRequest::Mine => Reads::Everything,
+        PartyRequest::Appoint(_) | PartyRequest::End(_) => Reads::Given,
+        PartyRequest::Authorise(_) => Reads::Persons,
+        PartyRequest::Attend => Reads::Presence,
+        PartyRequest::Demand(_) => Reads::Standing,
+        PartyRequest::Cast(new) => Reads::Vote(*new),
+        PartyRequest::Instructed(resolution) => Reads::AsInstructed(*resolution),
+    }
+}
