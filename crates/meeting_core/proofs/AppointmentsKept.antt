@@ -21,7 +21,7 @@ use Rattle.desk_words.specs.declared.office.MeetingLists.{MeetingLists}
 use Rattle.desk_words.specs.declared.records.Appointment.{Appointment}
 use Rattle.desk_words.specs.declared.records.Ending.{Ending}
 use Rattle.caller_view.specs.Appointments.{given_numbered, is_given_ended}
-use Rattle.caller_view.specs.Own.{ended_at, given_in}
+use Rattle.party_views.specs.Own.{ended_at, given_in}
 use Rattle.proxy_rules.specs.Holdings.{is_ended_of}
 use Rattle.desk_words.proofs.OfficeFacts.{meeting_facts, meeting_from_facts}
 use Rattle.desk_words.specs.Changes.{entered}

@@ -47,7 +47,7 @@ use Rattle.caller_view.specs.Answers.{party_ruling, ruling_for}
 use Rattle.caller_view.specs.Appointments.{appoint_cases, appointment_of, end_cases, ending_of}
 use Rattle.caller_view.specs.Attendance.{authorise_cases, authority_of, demand_cases, demand_mark, gave_authority, is_present, own_demanded, presence_of}
 use Rattle.caller_view.specs.Casts.{block_of, cast_cases, cast_of, instructed_cases}
-use Rattle.caller_view.specs.Views.{meeting_at, own_in, own_in_some, public_in}
+use Rattle.party_views.specs.Views.{meeting_at, own_in, own_in_some, public_in}
 use Rattle.proxy_rules.specs.Holdings.{is_ended_of}
 use Rattle.office_answers.specs.Answers.{desk_ruling, ruling_on}
 use Rattle.office_answers.specs.Attendance.{is_marked}

@@ -19,7 +19,7 @@ use Rattle.desk_words.specs.declared.request.DeskRequest.TheVariants.{CallMeetin
 use Rattle.desk_words.specs.declared.request.Request.{Request}
 use Rattle.desk_words.specs.declared.request.Request.TheVariants as asked
 use Rattle.caller_view.specs.Answers.{ruling_for}
-use Rattle.caller_view.specs.Views.{meeting_at, own_of, public_of}
+use Rattle.party_views.specs.Views.{meeting_at, own_of, public_of}
 use Rattle.office_answers.specs.Answers.{desk_ruling, ruling_on}
 use Rattle.office_answers.specs.Lists.{same_days}
 use Rattle.desk_words.specs.Changes.{is_placed}

@@ -17,7 +17,7 @@ use Rattle.desk_words.specs.declared.records.RegisterRow.{RegisterRow}
 use Rattle.desk_words.specs.declared.request.Call.{Call}
 use Rattle.desk_words.specs.declared.request.OfficeRequest.{OfficeRequest}
 use Rattle.desk_words.proofs.OfficeFacts.{found_meeting, meeting_facts, office_facts, register_ascends}
-use Rattle.caller_view.specs.Views.{meeting_at}
+use Rattle.party_views.specs.Views.{meeting_at}
 use Rattle.office_answers.specs.Answers.{office_ruling}
 use Rattle.office_answers.specs.Limits.{if_any, is_within_limits, keeps_limits}
 use Rattle.office_answers.specs.Reads.{lists_read, reads_register}

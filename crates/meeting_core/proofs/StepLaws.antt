@@ -20,7 +20,7 @@ use Rattle.desk_words.specs.declared.request.OfficeRequest.TheVariants.{LoadRegi
 use Rattle.desk_words.specs.declared.request.Request.{Request}
 use Rattle.desk_words.specs.declared.request.Request.TheVariants as asked
 use Rattle.desk_terms.specs.declared.refusal.Refusal.{Refusal}
-use Rattle.caller_view.specs.Views.{meeting_at}
+use Rattle.party_views.specs.Views.{meeting_at}
 use Rattle.office_answers.specs.Answers.{is_register_held, is_some_at_once, ruling_on}
 use Rattle.office_answers.specs.Limits.{if_any, keeps_limits}
 use Rattle.desk_words.specs.Changes.{after_some, sets_fields}

@@ -13,11 +13,11 @@ use Rattle.desk_words.specs.declared.request.DeskRequest.{DeskRequest}
 use Rattle.desk_words.specs.declared.request.OfficeRequest.{OfficeRequest}
 use Rattle.desk_words.specs.declared.request.PartyRequest.{PartyRequest}
 use Rattle.desk_words.specs.declared.request.Request.TheVariants as asked
-use Rattle.caller_view.specs.Public.{PublicRecord}
-use Rattle.caller_view.specs.Reads.{rows_read}
-use Rattle.caller_view.specs.Rows.{rows_in}
-use Rattle.caller_view.specs.Views.{meeting_at, public_of}
-use Rattle.caller_view.specs.declared.rows.OwnRows.{OwnRows}
+use Rattle.party_views.specs.Public.{PublicRecord}
+use Rattle.party_views.specs.Reads.{rows_read}
+use Rattle.party_views.specs.Rows.{rows_in}
+use Rattle.party_views.specs.Views.{meeting_at, public_of}
+use Rattle.party_views.specs.declared.rows.OwnRows.{OwnRows}
 use Rattle.office_answers.specs.Reads.{days_read, lists_read, reads_register}
 use Rattle.office_checks.specs.InOrder.{in_order}
 use Rattle.meeting_core.specs.Step.{decided}

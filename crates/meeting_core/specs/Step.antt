@@ -19,7 +19,7 @@ use Rattle.desk_words.specs.declared.request.Request.TheVariants as asked
 use Rattle.desk_terms.specs.declared.refusal.Refusal.{Refusal}
 use Rattle.desk_terms.specs.declared.refusal.Refusal.TheVariants.{OfficeOnly, PartyOnly}
 use Rattle.caller_view.specs.Answers.{party_ruling}
-use Rattle.caller_view.specs.Views.{meeting_at, own_of, public_of}
+use Rattle.party_views.specs.Views.{meeting_at, own_of, public_of}
 use Rattle.office_answers.specs.Answers.{desk_ruling, is_list_held, is_refused_at_once, is_register_held, office_ruling}
 use Rattle.desk_words.specs.Changes.{after_some}
 

@@ -8,14 +8,15 @@ ghost use Rattle.desk_words.specs.declared.change.Change.TheVariants as change;
 ghost use Rattle.desk_words.specs.declared.change.MeetingChange.TheVariants as meeting_change;
 ghost use Rattle.desk_words.specs.declared.office.OfficeLists.{OfficeLists};
 ghost use Rattle.caller_view.specs.Answers.{party_ruling};
-ghost use Rattle.caller_view.specs.Own.{own_from};
-ghost use Rattle.caller_view.specs.Reads.{rows_read};
-ghost use Rattle.caller_view.specs.declared.rows.OwnRows.{OwnRows};
+ghost use Rattle.party_views.specs.Own.{own_from};
+ghost use Rattle.party_views.specs.Reads.{rows_read};
+ghost use Rattle.party_views.specs.declared.rows.OwnRows.{OwnRows};
 ghost use Rattle.meeting_core.specs.Decisions.{AreRead, party_call};
 ghost use Rattle.meeting_core.specs.Step.{decided};
 
-use caller_view::{OwnRows, PublicRecord, answer, own_for};
+use caller_view::answer;
 use desk_words::{Answer, Change, Entry, MeetingChange, MeetingId, Moment, PartyRequest};
+use party_views::{OwnRows, PublicRecord, own_for};
 use std::alloc::{AllocError, Global};
 
 /// An answer whose change is made in that meeting.

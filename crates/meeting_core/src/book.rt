@@ -1,6 +1,6 @@
 //! The book: all that an office holds, in memory.
 ghost use Rattle.std.specs.Prelude.{◌≡◌, true, IfOk, OnOk, OnErr, IsTrue, IsOk};
-ghost use Rattle.caller_view.specs.Views.{meeting_at, own_of, public_of};
+ghost use Rattle.party_views.specs.Views.{meeting_at, own_of, public_of};
 ghost use Rattle.caller_view.specs.Answers.{party_ruling};
 ghost use Rattle.desk_words.specs.Office.{is_office};
 ghost use Rattle.desk_words.specs.Rulings.{settled, within};
@@ -12,13 +12,14 @@ ghost use Rattle.office_answers.specs.Limits.{if_any, is_within_limits, keeps_li
 ghost use Rattle.desk_words.specs.Changes.{after, after_some, empty_office, sets_fields};
 ghost use Rattle.meeting_core.specs.Step.{decided, is_at_once_to, needs_no_memory, stepped};
 
+mod callers;
 mod found;
 mod lists;
 mod perform;
 
 use crate::answers::{entering, in_meeting};
 use crate::changes::{change_meeting, new_lists};
-use caller_view::{OwnView, PublicRecord, answer, own_for, own_from};
+use caller_view::answer;
 use desk_words::{
     Answer, Call, Caller, Change, DayList, Entry, KeyRows, Listing, MeetingChange, MeetingId,
     MeetingLists, Moment, OfficeRequest, Party, PartyRequest, Refusal, Reply, Request,
@@ -28,6 +29,7 @@ use found::{public_in, rows_in, rows_read};
 pub use lists::BookFault;
 use office_answers::{desk_answer, office_answer};
 use office_days::Closed;
+use party_views::{OwnView, PublicRecord, own_for, own_from};
 use std::alloc::{AllocError, Global};
 use std::marker::Model;
 

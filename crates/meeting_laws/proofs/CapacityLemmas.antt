@@ -40,10 +40,10 @@ use Rattle.poll_rules.specs.declared.roles.Role.{Role}
 use Rattle.poll_rules.proofs.GatherLemmas.{list_any-map}
 use Rattle.caller_view.specs.Attendance.{governs_any, may_demand}
 use Rattle.caller_view.specs.Rights.{governed_acts, holds_as_individual, no_runs}
-use Rattle.caller_view.specs.Own.{authorised_in_rows, governed_by, received_by, shares_of_kind, shares_in}
-use Rattle.caller_view.specs.Rows.{authority_rows_in, givers, member_in}
-use Rattle.caller_view.specs.Views.{own_in}
-use Rattle.caller_view.specs.declared.rows.AuthorityRows.{AuthorityRows}
+use Rattle.party_views.specs.Own.{authorised_in_rows, governed_by, received_by, shares_of_kind, shares_in}
+use Rattle.party_views.specs.Rows.{authority_rows_in, givers, member_in}
+use Rattle.party_views.specs.Views.{own_in}
+use Rattle.party_views.specs.declared.rows.AuthorityRows.{AuthorityRows}
 use Rattle.meeting_laws.proofs.AnyLemmas.{any-alike, any-and, any-either, any-turned}
 use Rattle.meeting_laws.proofs.MemberRows.{row_of-any, rows_differ, rows_held}
 use Rattle.meeting_laws.proofs.GovernedLemmas.{any-among, governed-by_member, kept-is}

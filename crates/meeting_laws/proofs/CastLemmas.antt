@@ -35,10 +35,10 @@ use Rattle.proxy_rules.specs.declared.papers.Cutoffs.{Cutoffs}
 use Rattle.proxy_rules.proofs.NameLemmas.{same_name-sym}
 use Rattle.proxy_rules.proofs.RunLemmas.{are_in-runs_that, are_parted-runs_that}
 use Rattle.poll_rules.proofs.GatherLemmas.{list_any-map}
-use Rattle.caller_view.specs.Own.{known_to_proxy}
+use Rattle.party_views.specs.Own.{known_to_proxy}
 use Rattle.caller_view.specs.Rights.{Governs, forbids, governed_for, governed_votes, governs_at, instructs, is_against, is_governed, is_uninstructed, meets, no_runs}
-use Rattle.caller_view.specs.Sessions.{each_session}
-use Rattle.caller_view.specs.Views.{own_in}
+use Rattle.party_views.specs.Sessions.{each_session}
+use Rattle.party_views.specs.Views.{own_in}
 use Rattle.meeting_laws.specs.Laws.{known_in, shares_governed}
 use Rattle.meeting_laws.specs.Proxies.{InstructedByTheRules, InstructionsBindByTheRules, ProxiesGovernByTheRules, binds_otherwise, cutoffs_on, governing_for, instructs_it, is_instructed_in, some_pass, use_in}
 use Rattle.meeting_laws.proofs.AnyLemmas.{any-and, any-In, In-any}

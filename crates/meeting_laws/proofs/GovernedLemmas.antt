@@ -18,9 +18,9 @@ use Rattle.proxy_rules.specs.Governing.{governed_in}
 use Rattle.proxy_rules.specs.Holdings.{IsKept, holding_of, is_given_by, is_kept}
 use Rattle.proxy_rules.specs.declared.holdings.Holding.{Holding}
 use Rattle.proxy_rules.specs.declared.papers.Cutoffs.{Cutoffs}
-use Rattle.caller_view.specs.Own.{governed_by, governed_kept, rows_by}
-use Rattle.caller_view.specs.Rows.{parties_once, givers, member_in}
-use Rattle.caller_view.specs.declared.rows.MemberRows.{MemberRows}
+use Rattle.party_views.specs.Own.{governed_by, governed_kept, rows_by}
+use Rattle.party_views.specs.Rows.{parties_once, givers, member_in}
+use Rattle.party_views.specs.declared.rows.MemberRows.{MemberRows}
 
 -- what an office keeps passes the test of it
 pub kept-is : (holding : Holding) → IsKept holding → is_kept holding ≡ true

@@ -34,7 +34,7 @@ use Rattle.desk_words.specs.declared.request.Request.{Request}
 use Rattle.desk_words.specs.declared.request.Request.TheVariants as asked
 use Rattle.office_answers.specs.Calls.{load_cases, load_ruling}
 use Rattle.office_answers.specs.Lists.{same_days}
-use Rattle.caller_view.specs.Views.{meeting_at}
+use Rattle.party_views.specs.Views.{meeting_at}
 use Rattle.meeting_core.proofs.RulingLemmas.{fails}
 use Rattle.meeting_core.specs.Step.{after_reply, decided, run_of, stepped}
 use Rattle.meeting_laws.specs.Loads.{AnswersSameAgain, Deciding, HoldsLoad, HoldsWhatIsLoaded, LeavesTheOfficeOfOne, RunsAsOfOne, accepts_load, is_in_turn, is_load}

@@ -22,9 +22,9 @@ use Rattle.desk_words.specs.declared.request.Request.TheVariants as asked
 use Rattle.desk_terms.specs.declared.refusal.Refusal.{Refusal}
 use Rattle.caller_view.specs.Answers.{mine_of}
 use Rattle.caller_view.specs.Appointments.{cutoff_in, given_use}
-use Rattle.caller_view.specs.Views.{meeting_at, own_in, own_in_some, public_in}
-use Rattle.caller_view.specs.declared.views.OwnView.{OwnView}
-use Rattle.caller_view.specs.Public.{PublicRecord}
+use Rattle.party_views.specs.Views.{meeting_at, own_in, own_in_some, public_in}
+use Rattle.party_views.specs.declared.views.OwnView.{OwnView}
+use Rattle.party_views.specs.Public.{PublicRecord}
 use Rattle.meeting_core.proofs.OfficeKept.{party_found}
 use Rattle.meeting_laws.specs.Names.{Names, NamesOwn, in_appointment, in_authority, in_cast, in_mine, in_reply, in_row, in_view}
 use Rattle.meeting_laws.specs.Worlds.{party_answer}

@@ -11,7 +11,7 @@ use Rattle.desk_words.specs.declared.request.DeskRequest.TheVariants.{CallMeetin
 use Rattle.desk_words.specs.declared.request.OfficeRequest.TheVariants.{Presence}
 use Rattle.desk_words.specs.declared.request.Request.{Request}
 use Rattle.desk_words.specs.declared.request.Request.TheVariants as asked
-use Rattle.caller_view.specs.Views.{meeting_at}
+use Rattle.party_views.specs.Views.{meeting_at}
 use Rattle.office_answers.specs.Calls.{ruling_of_call}
 use Rattle.office_answers.specs.Lists.{closed_ruling, keys_ruling}
 use Rattle.office_answers.specs.Reads.{RulingsReadNoMore, lists_read}

@@ -33,9 +33,9 @@ use Rattle.poll_rules.specs.Roles.{roles_of}
 use Rattle.vote_rules.specs.Tallies.{tally_of}
 use Rattle.caller_view.specs.Attendance.{is_demand_now, is_present, own_demanded}
 use Rattle.caller_view.specs.Notices.{noticed_session}
-use Rattle.caller_view.specs.Own.{known_to_proxy}
-use Rattle.caller_view.specs.Sessions.{at_session, numbered}
-use Rattle.caller_view.specs.Views.{own_in}
+use Rattle.party_views.specs.Own.{known_to_proxy}
+use Rattle.party_views.specs.Sessions.{at_session, numbered}
+use Rattle.party_views.specs.Views.{own_in}
 use Rattle.office_answers.specs.Attendance.{is_mark_now, is_marked}
 use Rattle.meeting_laws.specs.Laws.{governed_for_poll, governed_in_session, known_in, shares_governed}
 use Rattle.meeting_laws.specs.OneSession.{OneSessionHasTheCutoffs, OneSessionIsCountedAlike, OneSessionIsKnown, OneSessionIsNoticed, OneSessionIsOneMeeting, OneSessionIsReadAlike, OneSessionIsTheLast, cutoffs_at_meeting, has_demanded_ever, known_at_meeting}

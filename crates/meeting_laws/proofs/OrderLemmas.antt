@@ -18,9 +18,9 @@ use Rattle.desk_words.specs.declared.request.PartyRequest.TheVariants.{Notice}
 use Rattle.desk_words.specs.declared.request.Request.{Request}
 use Rattle.desk_words.specs.declared.request.Request.TheVariants as asked
 use Rattle.caller_view.specs.Answers.{ruling_for}
-use Rattle.caller_view.specs.Views.{meeting_at, own_of, public_of}
-use Rattle.caller_view.specs.declared.views.OwnView.{OwnView}
-use Rattle.caller_view.specs.Public.{PublicRecord}
+use Rattle.party_views.specs.Views.{meeting_at, own_of, public_of}
+use Rattle.party_views.specs.declared.views.OwnView.{OwnView}
+use Rattle.party_views.specs.Public.{PublicRecord}
 use Rattle.office_answers.specs.Answers.{desk_ruling, ruling_on}
 use Rattle.meeting_core.specs.Step.{ruling}
 use Rattle.desk_words.specs.declared.answer.Answer.{Answer}

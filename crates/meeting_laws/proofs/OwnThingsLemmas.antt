@@ -21,10 +21,10 @@ use Rattle.proxy_rules.specs.Holdings.{is_ended_of, is_given_by}
 use Rattle.proxy_rules.specs.Parties.{authorises, is_authority_of, is_cast_by, is_demanded_by, is_presence_of, names}
 use Rattle.proxy_rules.specs.Shares.{row_of, shares_of}
 use Rattle.proxy_rules.specs.declared.papers.Cutoffs.{Cutoffs}
-use Rattle.caller_view.specs.Own.{governed_by, known_to_proxy, nothing_of, own_from, received_by}
-use Rattle.caller_view.specs.Rows.{authority_rows_in, givers, member_in, rows_in, rows_of}
-use Rattle.caller_view.specs.Sessions.{each_session}
-use Rattle.caller_view.specs.Views.{meeting_at, own_in, public_in}
+use Rattle.party_views.specs.Own.{governed_by, known_to_proxy, nothing_of, own_from, received_by}
+use Rattle.party_views.specs.Rows.{authority_rows_in, givers, member_in, rows_in, rows_of}
+use Rattle.party_views.specs.Sessions.{each_session}
+use Rattle.party_views.specs.Views.{meeting_at, own_in, public_in}
 use Rattle.meeting_laws.specs.Laws.{OwnThingsTellWhatGoverns, known_in, shares_governed}
 use Rattle.meeting_laws.specs.OwnThings.{OwnThingsAreOfTheMeeting, TellsOwnAlone, appointment_concerns, authority_concerns, ending_concerns, has_authorised, has_named, row_concerns, what_concerns}
 use Rattle.meeting_laws.proofs.AnyLemmas.{any-In}

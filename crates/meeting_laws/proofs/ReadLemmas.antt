@@ -15,15 +15,15 @@ use Rattle.desk_words.specs.declared.request.PartyRequest.{PartyRequest}
 use Rattle.desk_words.specs.declared.request.PartyRequest.TheVariants.{Mine, Cast, Instructed}
 use Rattle.proxy_rules.specs.Holdings.{is_given_by}
 use Rattle.caller_view.specs.Answers.{party_ruling}
-use Rattle.caller_view.specs.Own.{nothing_of, own_by, own_from}
-use Rattle.caller_view.specs.Public.{PublicRecord}
-use Rattle.caller_view.specs.Reads.{appointments_read, authorities_read, cast_on, members_read, own_read, polls_read, rows_read}
-use Rattle.caller_view.specs.Rows.{no_rows_of, rows_in}
-use Rattle.caller_view.specs.Views.{own_in, public_in, meeting_at}
-use Rattle.caller_view.specs.declared.rows.AuthorityRows.{AuthorityRows}
-use Rattle.caller_view.specs.declared.rows.MemberRows.{MemberRows}
-use Rattle.caller_view.specs.declared.rows.OwnRows.{OwnRows}
-use Rattle.caller_view.proofs.OwnLemmas.{own-read}
+use Rattle.party_views.specs.Own.{nothing_of, own_by, own_from}
+use Rattle.party_views.specs.Public.{PublicRecord}
+use Rattle.party_views.specs.Reads.{appointments_read, authorities_read, cast_on, members_read, own_read, polls_read, rows_read}
+use Rattle.party_views.specs.Rows.{no_rows_of, rows_in}
+use Rattle.party_views.specs.Views.{own_in, public_in, meeting_at}
+use Rattle.party_views.specs.declared.rows.AuthorityRows.{AuthorityRows}
+use Rattle.party_views.specs.declared.rows.MemberRows.{MemberRows}
+use Rattle.party_views.specs.declared.rows.OwnRows.{OwnRows}
+use Rattle.party_views.proofs.OwnLemmas.{own-read}
 use Rattle.caller_view.proofs.ReadLemmas.{ruling-own_read}
 use Rattle.meeting_laws.specs.WrongAnswers.{a_member, own_vote}
 use Rattle.meeting_laws.specs.WrongOwnThings.{quiet_meeting}

@@ -25,10 +25,10 @@ use Rattle.proxy_rules.specs.Holdings.{holding_with, is_ended_of, is_given_by}
 use Rattle.proxy_rules.specs.Parties.{authorises, is_authority_of, names}
 use Rattle.proxy_rules.specs.Shares.{row_of, shares_of}
 use Rattle.proxy_rules.specs.declared.papers.Cutoffs.{Cutoffs}
-use Rattle.caller_view.specs.Own.{authorised_in_rows, given_in, known_to_proxy, shares_in}
-use Rattle.caller_view.specs.Rows.{authority_rows_in}
-use Rattle.caller_view.specs.Sessions.{each_session, numbered}
-use Rattle.caller_view.specs.Views.{own_in}
+use Rattle.party_views.specs.Own.{authorised_in_rows, given_in, known_to_proxy, shares_in}
+use Rattle.party_views.specs.Rows.{authority_rows_in}
+use Rattle.party_views.specs.Sessions.{each_session, numbered}
+use Rattle.party_views.specs.Views.{own_in}
 use Rattle.meeting_laws.specs.Laws.{shares_governed}
 use Rattle.meeting_laws.specs.OwnThings.{authority_concerns}
 use Rattle.meeting_laws.specs.Replaced.{AreOneToTheProxy, HoldsTheSame, TellsNoNameOrPence, TellsWhatIsLeft, all_cutoffs, without_name_and_pence}

@@ -11,7 +11,7 @@ use Rattle.desk_words.specs.declared.records.Session.{Session}
 use Rattle.proxy_rules.specs.Cutoffs.{cutoffs_of, session_cutoffs}
 use Rattle.proxy_rules.specs.Uses.{Acts, Votes}
 use Rattle.proxy_rules.specs.declared.papers.Cutoffs.{Cutoffs}
-use Rattle.caller_view.specs.Sessions.{at_session, each_session, numbered}
+use Rattle.party_views.specs.Sessions.{at_session, each_session, numbered}
 
 -- what there is for each session is found by its number
 at-numbered : {X : Type 0} (g : ℕ → X) (n i : ℕ) (sessions : List Session) → slice_get (numbered (λ number (s : Session). g number) n sessions) i ≡ option_map (λ (s : Session). g (n + i)) (slice_get sessions i)

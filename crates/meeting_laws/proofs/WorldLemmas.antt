@@ -14,8 +14,8 @@ use Rattle.desk_words.specs.declared.office.MeetingLists.{MeetingLists}
 use Rattle.desk_words.specs.declared.records.Meeting.{Meeting}
 use Rattle.desk_words.specs.declared.request.Request.TheVariants as asked
 use Rattle.caller_view.specs.Answers.{party_ruling}
-use Rattle.caller_view.specs.Views.{meeting_at, own_in_some, polls_in, public_of}
-use Rattle.caller_view.specs.declared.views.OwnView.{OwnView}
+use Rattle.party_views.specs.Views.{meeting_at, own_in_some, polls_in, public_of}
+use Rattle.party_views.specs.declared.views.OwnView.{OwnView}
 use Rattle.desk_words.specs.Changes.{after_some, change_at, changed}
 use Rattle.meeting_core.proofs.OfficeKept.{entered_meeting, entered_polls}
 use Rattle.meeting_core.proofs.RulingLemmas.{settled_within}

@@ -8,7 +8,7 @@ use Rattle.desk_words.specs.declared.change.Change.{Change}
 use Rattle.desk_words.specs.declared.request.PartyRequest.TheVariants.{Cast}
 use Rattle.desk_words.specs.declared.request.Request.TheVariants as asked
 use Rattle.desk_words.specs.declared.answer.Answer.{Answer}
-use Rattle.caller_view.specs.Views.{meeting_at, own_of}
+use Rattle.party_views.specs.Views.{meeting_at, own_of}
 use Rattle.meeting_laws.specs.Worlds.{ReadsTheViews, TellsApart, party_answer}
 use Rattle.meeting_laws.specs.Names.{Names, NamesOwn, in_reply, in_view}
 use Rattle.meeting_laws.specs.WrongAnswers.{a_member, office_with, running_total, told_the_count, vote_of_another, vote_wanted}

@@ -8,7 +8,7 @@ use Rattle.desk_words.specs.declared.office.MeetingLists.{MeetingLists}
 use Rattle.desk_words.specs.declared.own.Received.{Received}
 use Rattle.desk_words.specs.declared.records.RegisterRow.{RegisterRow}
 use Rattle.proxy_rules.specs.declared.papers.Cutoffs.{Cutoffs}
-use Rattle.caller_view.specs.declared.views.OwnView.{OwnView}
+use Rattle.party_views.specs.declared.views.OwnView.{OwnView}
 use Rattle.meeting_laws.specs.Laws.{shares_governed}
 use Rattle.meeting_laws.specs.OwnThings.{Telling}
 use Rattle.meeting_laws.specs.Replaced.{TellsNoNameOrPence, TellsWhatIsLeft, all_cutoffs}

@@ -1,7 +1,7 @@
 -- What is wrong with wrong tellings of own things is caught.
 use Rattle.std.proofs.Common.{◌≡◌, [], ◌∷◌, length, refl, ap, arith}
 use Rattle.desk_words.specs.declared.office.MeetingLists.{MeetingLists}
-use Rattle.caller_view.specs.declared.views.OwnView.{OwnView}
+use Rattle.party_views.specs.declared.views.OwnView.{OwnView}
 use Rattle.meeting_laws.specs.OwnThings.{Telling, TellsOwnAlone}
 use Rattle.meeting_laws.specs.WrongAnswers.{a_member, meeting_with_casts, vote_of_another}
 use Rattle.meeting_laws.specs.WrongOwnThings.{TellsMore, demands_of_all, meeting_with_demand, meeting_with_presence, presence_of_any, quiet_meeting, votes_of_all}

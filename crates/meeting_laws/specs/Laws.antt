@@ -19,9 +19,9 @@ use Rattle.proxy_rules.specs.declared.papers.Cutoffs.{Cutoffs}
 use Rattle.poll_rules.specs.Quorum.{qualifies}
 use Rattle.poll_rules.specs.Roles.{roles_of}
 use Rattle.caller_view.specs.Attendance.{may_demand}
-use Rattle.caller_view.specs.Own.{known_to_proxy}
-use Rattle.caller_view.specs.Sessions.{each_session}
-use Rattle.caller_view.specs.Views.{own_in}
+use Rattle.party_views.specs.Own.{known_to_proxy}
+use Rattle.party_views.specs.Sessions.{each_session}
+use Rattle.party_views.specs.Views.{own_in}
 
 -- a party may demand a poll in the last session, which is read from its own things alone, exactly
 -- where some row of the register gives it a capacity in this session, as the quorum counts them

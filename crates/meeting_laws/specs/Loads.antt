@@ -14,7 +14,7 @@ use Rattle.desk_words.specs.declared.request.DeskRequest.TheVariants as desk
 use Rattle.desk_words.specs.declared.request.OfficeRequest.TheVariants.{LoadRegister}
 use Rattle.desk_words.specs.declared.request.Request.{Request}
 use Rattle.desk_words.specs.declared.request.Request.TheVariants as asked
-use Rattle.caller_view.specs.Views.{meeting_at}
+use Rattle.party_views.specs.Views.{meeting_at}
 use Rattle.meeting_core.specs.Step.{after_reply, decided, run_of, stepped}
 
 -- what decides calls: from an office and a call, a reply and at most one change

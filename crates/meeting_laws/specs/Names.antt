@@ -20,9 +20,9 @@ use Rattle.desk_words.specs.declared.reply.Reply.TheVariants as reply
 use Rattle.desk_words.specs.declared.request.Request.{Request}
 use Rattle.desk_words.specs.declared.request.Request.TheVariants as asked
 use Rattle.desk_words.specs.Seen.{Moment, Party}
-use Rattle.caller_view.specs.declared.views.OwnView.{OwnView}
-use Rattle.caller_view.specs.Own.{nothing_of}
-use Rattle.caller_view.specs.Views.{own_of}
+use Rattle.party_views.specs.declared.views.OwnView.{OwnView}
+use Rattle.party_views.specs.Own.{nothing_of}
+use Rattle.party_views.specs.Views.{own_of}
 use Rattle.meeting_laws.specs.Worlds.{Answering}
 
 -- names of parties

@@ -7,7 +7,7 @@ use Rattle.desk_words.specs.declared.office.OfficeLists.{OfficeLists}
 use Rattle.desk_words.specs.declared.request.DeskRequest.{DeskRequest}
 use Rattle.desk_words.specs.declared.request.DeskRequest.TheVariants.{CallMeeting, ClosedDays, Keys}
 use Rattle.desk_words.specs.declared.request.OfficeRequest.{OfficeRequest}
-use Rattle.caller_view.specs.Views.{meeting_at}
+use Rattle.party_views.specs.Views.{meeting_at}
 use Rattle.office_answers.specs.Reads.{days_read}
 use Rattle.meeting_core.specs.Decisions.{desk_call, office_call}
 use Rattle.meeting_core.specs.Step.{decided}

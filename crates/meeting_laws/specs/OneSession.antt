@@ -29,10 +29,10 @@ use Rattle.vote_rules.specs.Tallies.{tally_of}
 use Rattle.caller_view.specs.Appointments.{cutoff_in}
 use Rattle.caller_view.specs.Attendance.{is_present, own_demanded}
 use Rattle.caller_view.specs.Notices.{notice_of}
-use Rattle.caller_view.specs.Own.{known_to_proxy}
-use Rattle.caller_view.specs.Public.{PublicRecord}
+use Rattle.party_views.specs.Own.{known_to_proxy}
+use Rattle.party_views.specs.Public.{PublicRecord}
 use Rattle.caller_view.specs.Rights.{governed_acts, governed_votes}
-use Rattle.caller_view.specs.Views.{own_in}
+use Rattle.party_views.specs.Views.{own_in}
 use Rattle.office_answers.specs.Attendance.{demand_noted, is_marked, quorum_in}
 use Rattle.office_answers.specs.Polls.{tally_in}
 use Rattle.meeting_laws.specs.Laws.{shares_governed}

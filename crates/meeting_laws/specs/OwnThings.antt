@@ -13,9 +13,9 @@ use Rattle.desk_words.specs.declared.records.Ending.{Ending}
 use Rattle.desk_words.specs.declared.records.RegisterRow.{RegisterRow}
 use Rattle.proxy_rules.specs.Holdings.{is_ended_of, is_given_by}
 use Rattle.proxy_rules.specs.Parties.{authorises, is_authority_of, is_cast_by, is_demanded_by, is_presence_of, names}
-use Rattle.caller_view.specs.Own.{nothing_of}
-use Rattle.caller_view.specs.Views.{meeting_at, own_in, own_of}
-use Rattle.caller_view.specs.declared.views.OwnView.{OwnView}
+use Rattle.party_views.specs.Own.{nothing_of}
+use Rattle.party_views.specs.Views.{meeting_at, own_in, own_of}
+use Rattle.party_views.specs.declared.views.OwnView.{OwnView}
 
 -- what tells a party its own things in a meeting, by the closed days as they stand, at a moment
 abbrev pub Telling : Type 0

@@ -22,7 +22,7 @@ use Rattle.proxy_rules.specs.Uses.{Use, vote_on}
 use Rattle.proxy_rules.specs.declared.papers.Cutoffs.{Cutoffs}
 use Rattle.caller_view.specs.Casts.{use_on}
 use Rattle.caller_view.specs.Rights.{governed_for, is_against, is_governed, is_uninstructed}
-use Rattle.caller_view.specs.Views.{own_in, public_in}
+use Rattle.party_views.specs.Views.{own_in, public_in}
 
 -- the use of appointments for votes on a resolution, as the public record of the meeting tells
 -- (section 327)

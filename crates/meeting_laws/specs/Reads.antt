@@ -8,13 +8,13 @@ use Rattle.desk_words.specs.declared.change.Entry.{Entry}
 use Rattle.desk_words.specs.declared.office.OfficeLists.{OfficeLists}
 use Rattle.desk_words.specs.declared.request.PartyRequest.{PartyRequest}
 use Rattle.caller_view.specs.Answers.{party_ruling}
-use Rattle.caller_view.specs.Own.{own_from}
-use Rattle.caller_view.specs.Public.{PublicRecord}
-use Rattle.caller_view.specs.Reads.{rows_read}
-use Rattle.caller_view.specs.Rows.{rows_in}
-use Rattle.caller_view.specs.Views.{meeting_at, own_of, public_of}
-use Rattle.caller_view.specs.declared.rows.OwnRows.{OwnRows}
-use Rattle.caller_view.specs.declared.views.OwnView.{OwnView}
+use Rattle.party_views.specs.Own.{own_from}
+use Rattle.party_views.specs.Public.{PublicRecord}
+use Rattle.party_views.specs.Reads.{rows_read}
+use Rattle.party_views.specs.Rows.{rows_in}
+use Rattle.party_views.specs.Views.{meeting_at, own_of, public_of}
+use Rattle.party_views.specs.declared.rows.OwnRows.{OwnRows}
+use Rattle.party_views.specs.declared.views.OwnView.{OwnView}
 
 -- the answer to a party, from the public record and its own things, at a moment
 abbrev pub answered : PublicRecord → OwnView → Moment → PartyRequest → Answer Entry

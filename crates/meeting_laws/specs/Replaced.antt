@@ -15,7 +15,7 @@ use Rattle.proxy_rules.specs.Parties.{authorises, names}
 use Rattle.proxy_rules.specs.Shares.{row_of}
 use Rattle.proxy_rules.specs.Uses.{Acts, Votes, Vote}
 use Rattle.proxy_rules.specs.declared.papers.Cutoffs.{Cutoffs}
-use Rattle.caller_view.specs.Sessions.{each_session}
+use Rattle.party_views.specs.Sessions.{each_session}
 use Rattle.meeting_laws.specs.Laws.{shares_governed}
 use Rattle.meeting_laws.specs.OwnThings.{Telling, what_concerns}
 

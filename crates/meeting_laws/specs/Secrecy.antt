@@ -6,7 +6,7 @@ use Rattle.desk_words.specs.declared.records.CastMark.{CastMark}
 use Rattle.desk_words.specs.declared.request.OfficeRequest.{OfficeRequest}
 use Rattle.desk_words.specs.declared.request.OfficeRequest.TheVariants.{Declare}
 use Rattle.office_answers.specs.Answers.{ruling_on}
-use Rattle.caller_view.specs.Views.{public_in}
+use Rattle.party_views.specs.Views.{public_in}
 
 -- the votes on other resolutions
 abbrev pub casts_off : Number → List CastMark → List CastMark

@@ -9,7 +9,7 @@ use Rattle.desk_words.specs.declared.change.Change.{Change}
 use Rattle.desk_words.specs.declared.office.OfficeLists.{OfficeLists}
 use Rattle.desk_words.specs.declared.request.Request.{Request}
 use Rattle.desk_words.specs.declared.request.Request.TheVariants as asked
-use Rattle.caller_view.specs.Views.{public_of, own_of}
+use Rattle.party_views.specs.Views.{public_of, own_of}
 use Rattle.desk_words.specs.Changes.{after_some}
 use Rattle.meeting_core.specs.Step.{ruling}
 

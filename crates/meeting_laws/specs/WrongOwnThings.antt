@@ -6,7 +6,7 @@ use Rattle.desk_words.specs.Seen.{Party}
 use Rattle.desk_words.specs.declared.office.MeetingLists.{MeetingLists}
 use Rattle.desk_words.specs.declared.records.DemandMark.{DemandMark}
 use Rattle.desk_words.specs.declared.records.PresenceMark.{PresenceMark}
-use Rattle.caller_view.specs.Views.{own_in}
+use Rattle.party_views.specs.Views.{own_in}
 use Rattle.meeting_laws.specs.OwnThings.{Telling, what_concerns}
 use Rattle.meeting_laws.specs.WrongAnswers.{another, meeting_with_casts}
 

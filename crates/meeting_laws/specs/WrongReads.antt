@@ -4,8 +4,8 @@ use Rattle.desk_words.specs.Office.{is_meeting}
 use Rattle.desk_words.specs.Seen.{Party}
 use Rattle.desk_words.specs.declared.office.MeetingLists.{MeetingLists}
 use Rattle.desk_words.specs.declared.request.PartyRequest.{PartyRequest}
-use Rattle.caller_view.specs.Reads.{own_read}
-use Rattle.caller_view.specs.Views.{own_in, public_in}
+use Rattle.party_views.specs.Reads.{own_read}
+use Rattle.party_views.specs.Views.{own_in, public_in}
 use Rattle.meeting_laws.specs.Reads.{Reading, answered}
 
 -- the party's own holding is not read

@@ -13,7 +13,7 @@ use Rattle.desk_words.specs.declared.records.Appointment.{Appointment}
 use Rattle.proxy_rules.specs.Holdings.{is_given_by}
 use Rattle.proxy_rules.specs.Parties.{names}
 use Rattle.proxy_rules.specs.Shares.{row_of}
-use Rattle.caller_view.specs.Views.{own_in}
+use Rattle.party_views.specs.Views.{own_in}
 use Rattle.meeting_laws.specs.Laws.{known_in}
 use Rattle.meeting_laws.specs.OwnThings.{Telling}
 use Rattle.meeting_laws.specs.Replaced.{LeaveTheSame}

@@ -1,6 +1,6 @@
 //! What a party is told as its own is its own, and what it is told to govern governs.
 ghost use Rattle.std.specs.Prelude.{[], ◌∷◌};
-ghost use Rattle.caller_view.specs.Views.{own_in};
+ghost use Rattle.party_views.specs.Views.{own_in};
 ghost use Rattle.meeting_laws.specs.Laws.{OwnThingsTellWhatGoverns};
 ghost use Rattle.meeting_laws.specs.OwnThings.{OwnThingsAreOfTheMeeting, TellsOwnAlone};
 ghost use Rattle.meeting_laws.specs.Replaced.{TellsNoNameOrPence, TellsWhatIsLeft};

@@ -1,5 +1,5 @@
 //! What is read of a party's own things.
-ghost use Rattle.caller_view.specs.Reads.{own_read};
+ghost use Rattle.party_views.specs.Reads.{own_read};
 ghost use Rattle.meeting_laws.specs.Reads.{ReadsEnough, RowsGiveOwnThings, RowsReadAreEnough};
 ghost use Rattle.meeting_laws.specs.WrongAnswers.{a_member, own_vote};
 ghost use Rattle.meeting_laws.specs.WrongOwnThings.{quiet_meeting};

@@ -17,8 +17,8 @@ use Rattle.desk_words.specs.declared.request.Call.{Call}
 use Rattle.desk_words.specs.declared.request.PartyRequest.{PartyRequest}
 use Rattle.desk_words.specs.declared.request.Request.{Request}
 use Rattle.desk_words.specs.declared.request.Request.TheVariants as asked
-use Rattle.caller_view.specs.Public.{PublicRecord}
-use Rattle.caller_view.specs.Views.{meeting_at, own_of, public_of}
+use Rattle.party_views.specs.Public.{PublicRecord}
+use Rattle.party_views.specs.Views.{meeting_at, own_of, public_of}
 use Rattle.meeting_core.specs.Step.{decided, stepped}
 use Rattle.run_laws.specs.Isolation.{Alike, IsolatesSteps}
 use Rattle.run_laws.specs.Parts.{IsSourced, Near, Part, Viewer, is_near, is_source, near_in, part_of}

@@ -13,7 +13,7 @@ use Rattle.desk_words.specs.declared.change.MeetingChange.TheVariants.{Enter, Se
 use Rattle.desk_words.specs.declared.office.MeetingLists.{MeetingLists}
 use Rattle.desk_words.specs.declared.office.OfficeLists.{OfficeLists}
 use Rattle.desk_words.specs.declared.records.Meeting.{Meeting}
-use Rattle.caller_view.specs.Views.{meeting_at, public_in, public_of}
+use Rattle.party_views.specs.Views.{meeting_at, public_in, public_of}
 use Rattle.meeting_core.proofs.OfficeKept.{entered_meeting, entered_polls}
 
 -- no change gives a meeting another name

@@ -39,7 +39,7 @@ use Rattle.office_days.specs.Notice.{is_enough_notice}
 use Rattle.proxy_rules.specs.Cutoffs.{cutoffs_of}
 use Rattle.proxy_rules.specs.Uses.{vote_on}
 use Rattle.vote_rules.specs.Tallies.{tally_of}
-use Rattle.caller_view.specs.Views.{meeting_at, polls_in, public_in, public_of}
+use Rattle.party_views.specs.Views.{meeting_at, polls_in, public_in, public_of}
 use Rattle.office_answers.specs.Answers.{desk_ruling, office_ruling, ruling_on}
 use Rattle.office_answers.specs.Attendance.{demand_noted}
 use Rattle.office_answers.specs.Calls.{call_ruling, day_of_moment}

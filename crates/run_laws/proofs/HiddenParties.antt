@@ -35,19 +35,19 @@ use Rattle.desk_words.specs.declared.request.Request.TheVariants as asked
 use Rattle.proxy_rules.specs.Cutoffs.{is_late_poll}
 use Rattle.proxy_rules.specs.Parties.{is_cast_by}
 use Rattle.proxy_rules.specs.Uses.{vote_on}
-use Rattle.caller_view.proofs.OwnLemmas.{filter-swap}
+use Rattle.party_views.proofs.OwnLemmas.{filter-swap}
 use Rattle.caller_view.specs.Answers.{ruling_for}
 use Rattle.caller_view.specs.Attendance.{demand_mark, is_present, own_demanded, may_demand}
 use Rattle.caller_view.specs.Casts.{block_of, cast_of, has_cast_enough}
-use Rattle.caller_view.specs.Own.{known_to_proxy, own_from, poll_governed, session_governed}
-use Rattle.caller_view.specs.Reads.{cast_on, own_read}
+use Rattle.party_views.specs.Own.{known_to_proxy, own_from, poll_governed, session_governed}
+use Rattle.party_views.specs.Reads.{cast_on, own_read}
 use Rattle.caller_view.specs.Rights.{governed_for, is_against, is_not_own, is_uninstructed, may_vote_for}
-use Rattle.caller_view.specs.Rows.{rows_in, rows_of}
-use Rattle.caller_view.specs.Sessions.{each_session}
-use Rattle.caller_view.specs.Views.{meeting_at, own_of, public_in, public_of}
-use Rattle.caller_view.specs.declared.rows.MemberRows.{MemberRows}
-use Rattle.caller_view.specs.declared.rows.OwnRows.{OwnRows}
-use Rattle.caller_view.specs.declared.views.OwnView.{OwnView}
+use Rattle.party_views.specs.Rows.{rows_in, rows_of}
+use Rattle.party_views.specs.Sessions.{each_session}
+use Rattle.party_views.specs.Views.{meeting_at, own_of, public_in, public_of}
+use Rattle.party_views.specs.declared.rows.MemberRows.{MemberRows}
+use Rattle.party_views.specs.declared.rows.OwnRows.{OwnRows}
+use Rattle.party_views.specs.declared.views.OwnView.{OwnView}
 use Rattle.meeting_core.specs.Step.{decided}
 use Rattle.meeting_laws.specs.Reads.{ReadsEnough, answered}
 use Rattle.run_laws.specs.Votes.{Secret, hidden, hidden_in, is_declared_in, is_secret_cast, is_vote_request, is_vote_in, uncounted, without_count}

@@ -9,7 +9,7 @@ use Rattle.std.proofs.lemmas.List.Folds.{list_all-append}
 use Rattle.desk_lists.proofs.Kept.{all-filter}
 use Rattle.desk_terms.specs.Names.{same_name}
 use Rattle.desk_words.specs.Office.{implies}
-use Rattle.caller_view.specs.Rows.{parties_once}
+use Rattle.party_views.specs.Rows.{parties_once}
 
 -- ---- one value more
 

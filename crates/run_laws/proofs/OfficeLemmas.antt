@@ -31,8 +31,8 @@ use Rattle.desk_words.specs.declared.request.OfficeRequest.TheVariants.{LoadRegi
 use Rattle.desk_words.specs.declared.request.Request.{Request}
 use Rattle.desk_words.specs.declared.request.Request.TheVariants as asked
 use Rattle.proxy_rules.specs.Parties.{is_presence_of}
-use Rattle.caller_view.specs.Rows.{presences_of}
-use Rattle.caller_view.specs.Views.{meeting_at, public_of}
+use Rattle.party_views.specs.Rows.{presences_of}
+use Rattle.party_views.specs.Views.{meeting_at, public_of}
 use Rattle.office_answers.specs.Answers.{desk_ruling, ruling_on}
 use Rattle.office_answers.specs.Attendance.{is_marked}
 use Rattle.office_answers.specs.Calls.{call_ruling, load_cases, load_ruling, new_meeting_of}

@@ -23,11 +23,11 @@ use Rattle.desk_words.specs.declared.records.RegisterRow.{RegisterRow}
 use Rattle.proxy_rules.specs.Holdings.{is_ended_of, is_given_by}
 use Rattle.proxy_rules.specs.Parties.{authorises, is_authority_of, is_cast_by, is_demanded_by, is_presence_of, names}
 use Rattle.proxy_rules.specs.Shares.{row_of, shares_of}
-use Rattle.caller_view.specs.Rows.{authority_rows_in, givers, member_in, no_rows_of, rows_in, rows_of}
-use Rattle.caller_view.specs.Views.{meeting_at, public_of}
-use Rattle.caller_view.specs.declared.rows.AuthorityRows.{AuthorityRows}
-use Rattle.caller_view.specs.declared.rows.MemberRows.{MemberRows}
-use Rattle.caller_view.specs.declared.rows.OwnRows.{OwnRows}
+use Rattle.party_views.specs.Rows.{authority_rows_in, givers, member_in, no_rows_of, rows_in, rows_of}
+use Rattle.party_views.specs.Views.{meeting_at, public_of}
+use Rattle.party_views.specs.declared.rows.AuthorityRows.{AuthorityRows}
+use Rattle.party_views.specs.declared.rows.MemberRows.{MemberRows}
+use Rattle.party_views.specs.declared.rows.OwnRows.{OwnRows}
 use Rattle.run_laws.specs.Parts.{IsSourced, Near, Viewer, is_near, is_source, is_sourced_in, near_in, rows_near}
 use Rattle.run_laws.proofs.FoundLemmas.{after_entry, entered-name, found-changed}
 use Rattle.run_laws.proofs.ListLemmas.{all-each_once, all-more, all-of, all-within, filter-among, filter-more, implied, made-more, map-among}

@@ -25,12 +25,12 @@ use Rattle.caller_view.specs.Answers.{party_ruling, ruling_for}
 use Rattle.caller_view.specs.Appointments.{appointment_of, ending_of}
 use Rattle.caller_view.specs.Attendance.{authority_of, demand_mark, gave_authority, is_present, own_demanded, presence_of}
 use Rattle.caller_view.specs.Casts.{block_of, cast_of}
-use Rattle.caller_view.specs.Own.{own_from}
-use Rattle.caller_view.specs.Public.{PublicRecord}
-use Rattle.caller_view.specs.Reads.{given_read, rows_read}
-use Rattle.caller_view.specs.Rows.{no_rows_of, rows_in}
-use Rattle.caller_view.specs.Views.{meeting_at, own_of, public_in, public_of}
-use Rattle.caller_view.specs.declared.views.OwnView.{OwnView}
+use Rattle.party_views.specs.Own.{own_from}
+use Rattle.party_views.specs.Public.{PublicRecord}
+use Rattle.party_views.specs.Reads.{given_read, rows_read}
+use Rattle.party_views.specs.Rows.{no_rows_of, rows_in}
+use Rattle.party_views.specs.Views.{meeting_at, own_of, public_in, public_of}
+use Rattle.party_views.specs.declared.views.OwnView.{OwnView}
 use Rattle.meeting_core.specs.Step.{decided}
 use Rattle.meeting_core.proofs.RulingLemmas.{change_of, settled_within}
 use Rattle.meeting_laws.proofs.ReadLemmas.{rows_enough}

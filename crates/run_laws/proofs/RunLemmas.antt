@@ -15,8 +15,8 @@ use Rattle.desk_words.specs.declared.office.OfficeLists.{OfficeLists}
 use Rattle.desk_words.specs.declared.reply.Reply.{Reply}
 use Rattle.desk_words.specs.declared.request.Call.{Call}
 use Rattle.desk_words.specs.declared.request.Request.{Request}
-use Rattle.caller_view.specs.Public.{PublicRecord}
-use Rattle.caller_view.specs.Views.{public_of}
+use Rattle.party_views.specs.Public.{PublicRecord}
+use Rattle.party_views.specs.Views.{public_of}
 use Rattle.meeting_core.specs.Step.{after_reply, decided, stepped}
 use Rattle.meeting_laws.specs.Loads.{Deciding, after_call}
 use Rattle.run_laws.specs.Isolation.{Alike, EndAlike, IsolatesCalls, IsolatesSteps, RunsAreTheDesks, StepsIsolateRuns}

@@ -11,7 +11,7 @@ use Rattle.desk_words.specs.declared.caller.Caller.TheVariants as caller
 use Rattle.desk_words.specs.declared.office.OfficeLists.{OfficeLists}
 use Rattle.desk_words.specs.declared.reply.Reply.{Reply}
 use Rattle.desk_words.specs.declared.request.Call.{Call}
-use Rattle.caller_view.specs.Views.{public_of}
+use Rattle.party_views.specs.Views.{public_of}
 use Rattle.meeting_laws.specs.Loads.{Deciding, after_call}
 use Rattle.run_laws.specs.Secrecy.{KeepsSecretsInRuns, KeepsSecretsInSteps, StepsKeepSecretsInRuns, VotesAreSecret, are_before, replies_to_office}
 use Rattle.run_laws.specs.Traces.{is_by, replies_to, run_by}

@@ -10,7 +10,7 @@ use Rattle.desk_words.specs.declared.change.Change.{Change}
 use Rattle.desk_words.specs.declared.office.OfficeLists.{OfficeLists}
 use Rattle.desk_words.specs.declared.request.Call.{Call}
 use Rattle.desk_words.specs.declared.request.Request.{Request}
-use Rattle.caller_view.specs.Reads.{own_read}
+use Rattle.party_views.specs.Reads.{own_read}
 use Rattle.meeting_core.specs.Step.{decided, stepped}
 use Rattle.meeting_laws.specs.Reads.{ReadsEnough}
 use Rattle.meeting_laws.specs.Secrecy.{TheOfficeIsToldOfNoVotes}

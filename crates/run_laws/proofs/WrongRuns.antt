@@ -16,7 +16,7 @@ use Rattle.desk_words.specs.declared.reply.Reply.TheVariants as reply
 use Rattle.desk_words.specs.declared.request.Call.{Call}
 use Rattle.desk_words.specs.declared.request.PartyRequest.TheVariants.{Mine}
 use Rattle.proxy_rules.specs.Shares.{row_of}
-use Rattle.caller_view.specs.Views.{public_in, public_of}
+use Rattle.party_views.specs.Views.{public_in, public_of}
 use Rattle.office_days.specs.Days.{greatest_that, numbers_that}
 use Rattle.meeting_laws.specs.Loads.{Deciding, after_call}
 use Rattle.meeting_laws.specs.WrongAnswers.{a_meeting, a_member, another, meeting_with_casts, office_with, one_share}

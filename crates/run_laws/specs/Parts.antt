@@ -15,9 +15,9 @@ use Rattle.desk_words.specs.declared.records.Ending.{Ending}
 use Rattle.desk_words.specs.declared.records.RegisterRow.{RegisterRow}
 use Rattle.proxy_rules.specs.Parties.{authorises, is_cast_by, is_demanded_by, names}
 use Rattle.proxy_rules.specs.Shares.{row_of}
-use Rattle.caller_view.specs.Public.{PublicRecord}
-use Rattle.caller_view.specs.Rows.{presences_of}
-use Rattle.caller_view.specs.Views.{meeting_at, public_of}
+use Rattle.party_views.specs.Public.{PublicRecord}
+use Rattle.party_views.specs.Rows.{presences_of}
+use Rattle.party_views.specs.Views.{meeting_at, public_of}
 
 -- a party, and its sources: the parties who may name it as proxy or authorise it (sections 323 and
 -- 324)

@@ -5,7 +5,7 @@ use Rattle.desk_words.specs.Seen.{MeetingName, Party}
 use Rattle.desk_words.specs.declared.office.OfficeLists.{OfficeLists}
 use Rattle.desk_words.specs.declared.reply.Reply.{Reply}
 use Rattle.desk_words.specs.declared.request.Call.{Call}
-use Rattle.caller_view.specs.Views.{public_of}
+use Rattle.party_views.specs.Views.{public_of}
 use Rattle.meeting_laws.specs.Loads.{Deciding, after_call}
 use Rattle.run_laws.specs.Traces.{replies_to, run_by}
 use Rattle.run_laws.specs.Votes.{AreSameBut, Secret, but_result, is_declared_in, is_other_party, is_secret_call, is_the_office, without}

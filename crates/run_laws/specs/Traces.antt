@@ -17,8 +17,8 @@ use Rattle.desk_words.specs.declared.request.PartyRequest.{PartyRequest}
 use Rattle.desk_words.specs.declared.request.PartyRequest.TheVariants.{Appoint, End, Authorise}
 use Rattle.desk_words.specs.declared.request.Request.{Request}
 use Rattle.desk_words.specs.declared.request.Request.TheVariants as asked
-use Rattle.caller_view.specs.Public.{PublicRecord}
-use Rattle.caller_view.specs.Views.{public_of}
+use Rattle.party_views.specs.Public.{PublicRecord}
+use Rattle.party_views.specs.Views.{public_of}
 use Rattle.meeting_core.specs.Step.{Run, after_reply}
 use Rattle.meeting_laws.specs.Loads.{Deciding, after_call}
 use Rattle.run_laws.specs.Parts.{Viewer, is_near, is_source, rows_near}

@@ -19,7 +19,7 @@ use Rattle.desk_words.specs.declared.request.PartyRequest.{PartyRequest}
 use Rattle.desk_words.specs.declared.request.PartyRequest.TheVariants.{Cast, Instructed}
 use Rattle.desk_words.specs.declared.request.Request.{Request}
 use Rattle.desk_words.specs.declared.request.Request.TheVariants as asked
-use Rattle.caller_view.specs.Views.{public_of}
+use Rattle.party_views.specs.Views.{public_of}
 use Rattle.meeting_laws.specs.Secrecy.{declares}
 
 -- what is secret: the votes of some voters, by a test of their names, on a resolution of a meeting

@@ -26,7 +26,7 @@ use Rattle.desk_words.specs.declared.request.OfficeRequest.TheVariants.{LoadRegi
 use Rattle.desk_words.specs.declared.request.PartyRequest.{PartyRequest}
 use Rattle.desk_words.specs.declared.request.PartyRequest.TheVariants.{Authorise, Cast, Demand, Mine}
 use Rattle.desk_words.specs.declared.request.Request.TheVariants as asked
-use Rattle.caller_view.specs.Views.{meeting_at}
+use Rattle.party_views.specs.Views.{meeting_at}
 use Rattle.office_answers.specs.Attendance.{demand_noted}
 use Rattle.meeting_laws.specs.Loads.{Deciding}
 use Rattle.meeting_laws.specs.Worlds.{Answering, party_answer}

@@ -20,7 +20,7 @@ use Rattle.desk_words.specs.declared.request.Call.{Call}
 use Rattle.desk_words.specs.declared.request.PartyRequest.{PartyRequest}
 use Rattle.desk_words.specs.declared.request.PartyRequest.TheVariants.{Appoint, Cast}
 use Rattle.desk_words.specs.declared.request.Request.TheVariants as asked
-use Rattle.caller_view.specs.Views.{meeting_at}
+use Rattle.party_views.specs.Views.{meeting_at}
 use Rattle.meeting_core.specs.Step.{decided}
 use Rattle.meeting_laws.specs.Loads.{Deciding}
 use Rattle.meeting_laws.specs.Worlds.{Answering, party_answer}

@@ -2,8 +2,8 @@ use Rattle.std.proofs.Common.{ap, ◌∙◌}
 use Rattle.std.proofs.lemmas.Result.{IfOk-weaker}
 use Rattle.desk_words.specs.Rulings.{settled}
 use Rattle.caller_view.specs.Answers.{party_ruling}
-use Rattle.caller_view.specs.Own.{own_from}
-use Rattle.caller_view.specs.declared.views.OwnView.{OwnView}
+use Rattle.party_views.specs.Own.{own_from}
+use Rattle.party_views.specs.declared.views.OwnView.{OwnView}
 use Rattle.caller_view.proofs.ReadLemmas.{ruling-own_read}
 use Rattle.meeting_core.proofs.answers.answer_from.Goals as goal
 

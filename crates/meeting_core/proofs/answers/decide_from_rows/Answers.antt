@@ -12,10 +12,10 @@ use Rattle.desk_words.specs.declared.change.MeetingChange.TheVariants.{Enter}
 use Rattle.desk_words.specs.declared.office.OfficeLists.{OfficeLists}
 use Rattle.desk_words.specs.declared.request.Request.TheVariants as asked
 use Rattle.caller_view.specs.Answers.{party_ruling}
-use Rattle.caller_view.specs.Own.{own_from}
-use Rattle.caller_view.specs.Public.{PublicRecord}
-use Rattle.caller_view.specs.Rows.{rows_in}
-use Rattle.caller_view.specs.Views.{meeting_at, own_of, public_of}
+use Rattle.party_views.specs.Own.{own_from}
+use Rattle.party_views.specs.Public.{PublicRecord}
+use Rattle.party_views.specs.Rows.{rows_in}
+use Rattle.party_views.specs.Views.{meeting_at, own_of, public_of}
 use Rattle.office_answers.specs.Limits.{if_any, keeps_limits}
 use Rattle.meeting_core.specs.Decisions.{AreRead, party_call}
 use Rattle.meeting_core.specs.Step.{decided}

@@ -7,7 +7,7 @@ use Rattle.desk_words.specs.declared.change.Change.TheVariants.{InMeeting}
 use Rattle.desk_words.specs.declared.change.Entry.{Entry}
 use Rattle.desk_words.specs.declared.change.MeetingChange.TheVariants.{Enter}
 use Rattle.caller_view.specs.Answers.{party_ruling}
-use Rattle.caller_view.specs.Views.{meeting_at, own_of, public_of}
+use Rattle.party_views.specs.Views.{meeting_at, own_of, public_of}
 use Rattle.office_answers.specs.Answers.{office_ruling}
 use Rattle.office_answers.specs.Limits.{if_any, keeps_limits}
 use Rattle.meeting_core.proofs.EntryLemmas.{entry_in_limits}

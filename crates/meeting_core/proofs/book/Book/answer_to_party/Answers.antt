@@ -11,12 +11,12 @@ use Rattle.desk_words.specs.declared.change.Entry.{Entry}
 use Rattle.desk_words.specs.declared.office.MeetingLists.{MeetingLists}
 use Rattle.desk_words.specs.declared.office.OfficeLists.{OfficeLists}
 use Rattle.caller_view.specs.Answers.{party_ruling}
-use Rattle.caller_view.specs.Own.{own_from}
-use Rattle.caller_view.specs.Public.{PublicRecord}
-use Rattle.caller_view.specs.Reads.{own_read}
-use Rattle.caller_view.specs.Rows.{rows_in}
-use Rattle.caller_view.specs.Views.{own_in_some, own_of, public_in, public_of}
-use Rattle.caller_view.specs.declared.views.OwnView.{OwnView}
+use Rattle.party_views.specs.Own.{own_from}
+use Rattle.party_views.specs.Public.{PublicRecord}
+use Rattle.party_views.specs.Reads.{own_read}
+use Rattle.party_views.specs.Rows.{rows_in}
+use Rattle.party_views.specs.Views.{own_in_some, own_of, public_in, public_of}
+use Rattle.party_views.specs.declared.views.OwnView.{OwnView}
 use Rattle.caller_view.proofs.ReadLemmas.{ruling-own_read}
 use Rattle.meeting_core.proofs.FoundLemmas.{found_ascends}
 use Rattle.meeting_core.proofs.book.Book.answer_to_party.Goals as goal

@@ -7,12 +7,12 @@ use Rattle.desk_words.specs.Ordered.{ascends_by}
 use Rattle.desk_words.specs.Registers.{member_before}
 use Rattle.desk_words.specs.declared.office.MeetingLists.{MeetingLists}
 use Rattle.desk_words.specs.declared.office.OfficeLists.{OfficeLists}
-use Rattle.caller_view.specs.Own.{own_from}
-use Rattle.caller_view.specs.Public.{PublicRecord}
-use Rattle.caller_view.specs.Rows.{rows_in}
-use Rattle.caller_view.specs.Views.{own_in_some, own_of}
-use Rattle.caller_view.specs.declared.rows.OwnRows.{OwnRows}
-use Rattle.caller_view.specs.declared.views.OwnView.{OwnView}
+use Rattle.party_views.specs.Own.{own_from}
+use Rattle.party_views.specs.Public.{PublicRecord}
+use Rattle.party_views.specs.Rows.{rows_in}
+use Rattle.party_views.specs.Views.{own_in_some, own_of}
+use Rattle.party_views.specs.declared.rows.OwnRows.{OwnRows}
+use Rattle.party_views.specs.declared.views.OwnView.{OwnView}
 use Rattle.meeting_core.proofs.FoundLemmas.{found_ascends}
 use Rattle.meeting_core.proofs.book.Book.own_of.Goals as goal
 

@@ -1,0 +1,2 @@
+pub mod HomeLemmas
+mod RunLaws
