@@ -11,6 +11,8 @@ use Rattle.desk_devices.specs.declared.failure.PrintFault.{PrintFault}
 use Rattle.desk_devices.specs.declared.failure.PrintFault.TheVariants as print
 use Rattle.desk_commands.specs.declared.plan.WordsFault.{WordsFault}
 use Rattle.desk_commands.specs.declared.plan.WordsFault.TheVariants as words
+use Rattle.desk_words.specs.declared.reply.Failure.{Failure}
+use Rattle.desk_words.specs.declared.reply.Failure.TheVariants as failure
 use Rattle.desk_endings.specs.declared.line.Line.{Line}
 use Rattle.desk_endings.specs.declared.line.Line.TheVariants as line
 use Rattle.desk_endings.specs.declared.ended.Ended.{Ended}
@@ -70,6 +72,11 @@ fault_word fault.Clock = codes "Clock"
 -- a fault ends with 3 and its word
 abbrev pub ended_by : Fault → Ending
 ended_by fault = ending 3 (fault_word fault)
+
+-- how it ends where a call has no answer
+abbrev pub ended_by_failure : Failure → Ending
+ended_by_failure failure.Store = ended_by fault.Store
+ended_by_failure failure.Memory = ended_by fault.Memory
 
 -- a refusal ends with 1
 abbrev pub ended_by_refusal : Refusal → Ending

@@ -1,12 +1,13 @@
 //! How the program ends.
 ghost use Rattle.std.specs.Prelude.{◌≡◌};
-ghost use Rattle.desk_endings.specs.Endings.{ended_view, done, ending, fault_word, ended_by, ended_by_refusal, ended_by_file, ended_by_print, ended_by_words};
+ghost use Rattle.desk_endings.specs.Endings.{ended_view, done, ending, fault_word, ended_by, ended_by_failure, ended_by_refusal, ended_by_file, ended_by_print, ended_by_words};
 
 use crate::line::Line;
 use desk_commands::WordsFault;
 use desk_devices::PrintFault;
 use desk_files::FileFault;
 use desk_terms::Refusal;
+use desk_words::Failure;
 
 /// How the program ends: its status, and the line that it prints, if any: with status 0 on standard
 /// output, else on standard error.
@@ -86,6 +87,16 @@ impl Ended {
         Ended {
             status: 3,
             line: Some(Line::Name(fault.word())),
+        }
+    }
+
+    /// A call without an answer ends as its fault: the store failed, or memory ran out.
+    pub fn by_failure(failure: Failure) -> Ended
+        ensures { ended_view result ≡ ended_by_failure failure }
+    {
+        match failure {
+            Failure::Store => Ended::by(Fault::Store),
+            Failure::Memory => Ended::by(Fault::Memory),
         }
     }
 

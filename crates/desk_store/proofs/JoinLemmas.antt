@@ -20,7 +20,8 @@ use Rattle.desk_opening.proofs.WholeLemmas.{leaves_whole, whole_of}
 use Rattle.desk_opening.proofs.OpeningLemmas.{desk_same}
 use Rattle.meeting_core.specs.Step.{stepped}
 use Rattle.office_lists.specs.declared.fault.ReadFault.{ReadFault}
-use Rattle.desk_store.specs.Joins.{AreAfter, IsAsItWas, IsDeskIfOpen, Leaves, office_after, made_by}
+use Rattle.any_office.specs.Homes.{office_after, made_by}
+use Rattle.desk_store.specs.Joins.{AreAfter, IsAsItWas, IsDeskIfOpen, Leaves}
 use Rattle.desk_store.specs.Reads.{IsTold}
 use Rattle.desk_store.proofs.KeepingLemmas.{stands_same}
 
@@ -44,9 +45,9 @@ pub itself_after : {S : Type 0} (g : store.Ghosts S) (mid end : Held S) → ((s 
 itself_after g mid end settled stays over = leaves_itself g end settled stays over.1.is_open (over.1.now_is ∙ sym over.1.committed_is)
 
 -- a call that failed was not made
-pub leaves_failed : {T E : Type 0} (old new : State) (r : Result T E) (call : Call) → IsErr r → Leaves None old new → Leaves (made_by r call) old new
-leaves_failed old new (Ok x) call failed leaves = absurd cc
-leaves_failed old new (Err e) call failed leaves = leaves
+pub leaves_failed : {S T E : Type 0} (g : store.Ghosts S) (old new : Held S) (r : Result T E) (call : Call) → IsErr r → Leaves g None old new → Leaves g (made_by r call) old new
+leaves_failed g old new (Ok x) call failed leaves = absurd cc
+leaves_failed g old new (Err e) call failed leaves = leaves
 
 -- a: the desk before; first: where the transaction is begun; b: where it is to be committed; new: behind it
 module _ {S : Type 0} (g : store.Ghosts S) (a first b new : Held S) (begun : first ≡ record a { in_transaction = true }) (within : IsWithin (state g first) (state g b)) (ended : new.in_transaction ≡ false)
@@ -74,24 +75,22 @@ module _ {S : Type 0} (g : store.Ghosts S) (a first b new : Held S) (begun : fir
   over_all = survives_then (state g a) (state g b) (state g new) (λ _. ⊥) (λ db. db ≡ (state g b).now.trees) (λ db. db ≡ (state g b).now.trees) (λ _ _ none. absurd none) (λ _ _ is. is) from_desk last
 
   pub committed : (made : Option Call) → (HasCleanDisk (state g new) → Shows (state g b) (state g new) (state g b).now (state g b).now false)
-      → (HasCleanDisk (state g b) → (office : OfficeLists) → Stands (state g first) office → Stands (state g b) (office_after office made)) → Leaves made (state g a) (state g new)
+      → (HasCleanDisk (state g b) → (office : OfficeLists) → Stands (state g first) office → Stands (state g b) (office_after office made)) → Leaves g made a new
   committed made shows there = record {
-    was_clean = desk_clean;
+    was_reliable = desk_clean;
     was_open = λ clean is_open. desk_open (within.was_open (mid_clean clean) (shows clean).was_open);
     closes = over_all.closes;
     counts = over_all.counts;
-    ended = ended;
     stands = λ clean is_open office stands. stands_same (state g b) (state g new) (office_after office made) (shows clean).now_is (there (mid_clean clean) office (stands_begun office stands));
   }
 
   -- the transaction is rolled back
-  pub dropped : (HasCleanDisk (state g new) → IsRolledBack (state g b) (state g new)) → (IsTrue (state g a).is_open → (state g a).now ≡ (state g a).committed) → Leaves None (state g a) (state g new)
+  pub dropped : (HasCleanDisk (state g new) → IsRolledBack (state g b) (state g new)) → (IsTrue (state g a).is_open → (state g a).now ≡ (state g a).committed) → Leaves g None a new
   dropped undone settled = record {
-    was_clean = desk_clean;
+    was_reliable = desk_clean;
     was_open = λ clean is_open. desk_open (within.was_open (mid_clean clean) ((undone clean).was_open is_open));
     closes = over_all.closes;
     counts = over_all.counts;
-    ended = ended;
     stands = λ clean is_open office stands.
         let mid_open = (undone clean).was_open is_open in
         let kept = within.kept (mid_clean clean) office (stands_begun office stands) in
@@ -114,13 +113,12 @@ module _ {S : Type 0} (g : store.Ghosts S) (a first b new : Held S) (begun : fir
         stands_same (state g a) (state g new) office ((h.3.undone is_open).0 ∙ kept.committed mid_open ∙ committed_is ∙ sym (settled (desk_open (kept.was_open mid_open)))) stands
     undone clean is_open office stands (inr h) = absurd (true≢false (sym (inside (mid_clean clean) office (stands_begun office stands)) ∙ h.1))
 
-    pub not_committed : Leaves None (state g a) (state g new)
+    pub not_committed : Leaves g None a new
     not_committed = record {
-      was_clean = desk_clean;
+      was_reliable = desk_clean;
       was_open = λ clean is_open. desk_open (within.was_open (mid_clean clean) (opened (fails clean).1 is_open));
       closes = over_all.closes;
       counts = over_all.counts;
-      ended = ended;
       stands = λ clean is_open office stands. undone clean is_open office stands (fails clean).1;
     }
 
@@ -178,13 +176,12 @@ module _ {S : Type 0} (g : store.Ghosts S) (a first b new : Held S) (begun : fir
 
 module _ {S : Type 0} (g : store.Ghosts S) (first a : Held S) where
   -- it is not known to be: no call is made
-  pub asked_stop : {T : Type 0} {e : Failure} → (state g a).in_transaction ≡ false → AsksOpen {T = T} g first a (Err e) → Leaves None (state g first) (state g a)
-  asked_stop ended asked = record {
-    was_clean = λ clean. omega (arith, asked.crash.clean, clean);
+  pub asked_stop : {T : Type 0} {e : Failure} → AsksOpen {T = T} g first a (Err e) → Leaves g None first a
+  asked_stop asked = record {
+    was_reliable = λ clean. omega (arith, asked.crash.clean, clean);
     was_open = λ clean is_open. (asked.same clean is_open).0;
     closes = asked.crash.closes;
     counts = asked.crash.counts;
-    ended = ended;
     stands = λ clean is_open office stands. stands_same (state g first) (state g a) office (asked.same clean is_open).1 stands;
   }
 
@@ -199,14 +196,13 @@ module _ {S : Type 0} (g : store.Ghosts S) (first a : Held S) where
     pub desk_behind : IsDeskIfOpen (state g first) → HasCleanDisk (state g a) → IsDesk (state g a)
     desk_behind desk clean = let it = (asked.still clean).0.0 in desk_same (state g first) (state g a) (sym it.now_is) (desk it.was_open)
 
-    pub leaves_behind : (made : Option Call) (new : State) → Leaves made (state g a) new → Leaves made (state g first) new
+    pub leaves_behind : (made : Option Call) (new : Held S) → Leaves g made a new → Leaves g made first new
     leaves_behind made new h = record {
-      was_clean = λ clean. let early = h.was_clean clean in omega (arith, asked.crash.clean, early);
-      was_open = λ clean is_open. (asked.same (h.was_clean clean) (h.was_open clean is_open)).0;
-      closes = λ clean was_open. elim (h.closes clean (asked_open (h.was_clean clean))) [ inl still ↦ inl still | inr more ↦ inr (omega (arith, asked.crash.counts, more)) ];
+      was_reliable = λ clean. let early = h.was_reliable clean in omega (arith, asked.crash.clean, early);
+      was_open = λ clean is_open. (asked.same (h.was_reliable clean) (h.was_open clean is_open)).0;
+      closes = λ clean was_open. elim (h.closes clean (asked_open (h.was_reliable clean))) [ inl still ↦ inl still | inr more ↦ inr (omega (arith, asked.crash.counts, more)) ];
       counts = omega (arith, asked.crash.counts, h.counts);
-      ended = h.ended;
-      stands = λ clean is_open office stands. h.stands clean is_open office (asked_stands (h.was_clean clean) office stands);
+      stands = λ clean is_open office stands. h.stands clean is_open office (asked_stands (h.was_reliable clean) office stands);
     }
 
     -- in a transaction that is begun behind it, the database lists its tables as they are declared

@@ -1,4 +1,4 @@
--- Calls on a desk are a run.
+-- What a crash leaves of a desk.
 use Rattle.std.proofs.Common.{◌≡◌, ◌⊎◌, List, [], ◌∷◌, Option, Some, None, IsTrue, refl, subst, sym, inl, inr}
 use Rattle.sqlite.specs.Held.{Held, state}
 use Rattle.sqlite.specs.State.{State, HasCleanDisk, Survives}
@@ -8,35 +8,11 @@ use Rattle.desk_words.specs.declared.office.OfficeLists.{OfficeLists}
 use Rattle.desk_words.specs.declared.request.Call.{Call}
 use Rattle.desk_records.specs.Standing.{Stands}
 use Rattle.desk_opening.specs.Whole.{IsWhole, LeavesWhole}
-use Rattle.desk_store.specs.Joins.{AreAfter, IsDeskIfOpen, Leaves, office_after}
-use Rattle.desk_store.specs.Runs.{AreOfARun, Asked, CallsAreARun, CrashesLeaveARun, CrashLeaves, Leads, LeadsOn, MayBeLost, calls_answered, calls_in, made_in}
+use Rattle.any_office.specs.Homes.{office_after}
+use Rattle.desk_store.specs.Joins.{AreAfter, IsDeskIfOpen, Leaves}
+use Rattle.desk_store.specs.Runs.{AreOfARun, Asked, CrashesLeaveARun, CrashLeaves, LeadsOn, MayBeLost, calls_answered, made_in}
 use Rattle.desk_store.specs.Runs.Asked.{Reads, Answers, Fails}
 use Rattle.meeting_core.specs.Step.{run_of, stepped}
-
-module _ {S : Type 0} (g : store.Ghosts S) where
-  was_clean : (old new : Held S) (asked : List (Option Call)) → Leads g old asked new → HasCleanDisk (state g new) → HasCleanDisk (state g old)
-  was_clean old new [] leads clean = subst (λ (h : Held S). HasCleanDisk (state g h)) leads clean
-  was_clean old new (made ∷ later) leads clean = leads.1.was_clean (was_clean leads.0 new later leads.2 clean)
-
-  was_open : (old new : Held S) (asked : List (Option Call)) → Leads g old asked new → HasCleanDisk (state g new) → IsTrue (state g new).is_open → IsTrue (state g old).is_open
-  was_open old new [] leads clean is_open = subst (λ (h : Held S). IsTrue (state g h).is_open) leads is_open
-  was_open old new (made ∷ later) leads clean is_open =
-      leads.1.was_open (was_clean leads.0 new later leads.2 clean) (was_open leads.0 new later leads.2 clean is_open)
-
-  -- the run goes on from what was left first
-  left_first : (office : OfficeLists) (made : Option Call) (later : List (Option Call)) → (run_of (office_after office made) (calls_in later)).office ≡ (run_of office (calls_in (made ∷ later))).office
-  left_first office None later = refl
-  left_first office (Some call) later = refl
-
-  pub calls_run : CallsAreARun g
-  calls_run old new [] leads clean is_open office stands = subst (λ (h : Held S). Stands (state g h) office) (sym leads) stands
-  calls_run old new (made ∷ later) leads clean is_open office stands =
-      let mid_clean = was_clean leads.0 new later leads.2 clean in
-      let mid_open = was_open leads.0 new later leads.2 clean is_open in
-      let next = calls_run leads.0 new later leads.2 clean is_open (office_after office made) (leads.1.stands mid_clean mid_open office stands) in
-      subst (λ (o : OfficeLists). Stands (state g new) o) (left_first office made later) next
-
--- ---- a crash at the end
 
 -- an open store stands for the office, and a crash leaves it whole, or after a call that failed
 record Keeps (s : State) (office : OfficeLists) (lost : Call → Type 0) : Type 0 where
@@ -49,17 +25,17 @@ none_lost call = ⊥
 module _ {S : Type 0} (g : store.Ghosts S) where
   on_clean : (old new : Held S) (asked : List Asked) → LeadsOn g old asked new → HasCleanDisk (state g new) → HasCleanDisk (state g old)
   on_clean old new [] leads clean = subst (λ (h : Held S). HasCleanDisk (state g h)) leads clean
-  on_clean old new (asked ∷ later) leads clean = leads.1.was_clean (on_clean leads.0 new later leads.3 clean)
+  on_clean old new (asked ∷ later) leads clean = leads.1.was_reliable (on_clean leads.0 new later leads.3 clean)
 
   -- a reading keeps it
-  reads_keep : (old new : State) (office : OfficeLists) (lost : Call → Type 0) → Leaves None old new → (IsDeskIfOpen old → Survives old new (λ _. ⊥)) → HasCleanDisk new → Keeps old office lost → Keeps new office lost
+  reads_keep : (old new : Held S) (office : OfficeLists) (lost : Call → Type 0) → Leaves g None old new → (IsDeskIfOpen (state g old) → Survives (state g old) (state g new) (λ _. ⊥)) → HasCleanDisk (state g new) → Keeps (state g old) office lost → Keeps (state g new) office lost
   reads_keep old new office lost leaves crash clean keeps = record {
     stands = λ is_open. leaves.stands clean is_open office (keeps.stands (leaves.was_open clean is_open));
     left = λ db may. elim ((crash (λ is_open. (keeps.stands is_open).desk)).crash clean db may) [ inl was ↦ keeps.left db was | inr none ↦ absurd none ];
   }
 
   -- so does a call that fails, but that its office may be left too
-  fails_keep : (old new : State) (office : OfficeLists) (lost : Call → Type 0) (failed : Call) → Leaves None old new → Survives old new (AreAfter old failed) → HasCleanDisk new → Keeps old office lost → Keeps new office (λ call. (failed ≡ call) ⊎ lost call)
+  fails_keep : (old new : Held S) (office : OfficeLists) (lost : Call → Type 0) (failed : Call) → Leaves g None old new → Survives (state g old) (state g new) (AreAfter (state g old) failed) → HasCleanDisk (state g new) → Keeps (state g old) office lost → Keeps (state g new) office (λ call. (failed ≡ call) ⊎ lost call)
   fails_keep old new office lost failed leaves crash clean keeps = record {
     stands = λ is_open. leaves.stands clean is_open office (keeps.stands (leaves.was_open clean is_open));
     left = λ db may. elim (crash.crash clean db may) [
@@ -69,8 +45,8 @@ module _ {S : Type 0} (g : store.Ghosts S) where
   }
 
   -- a call that is answered leaves the office after its step, and no other
-  answers_keep : (old new : State) (office : OfficeLists) (lost : Call → Type 0) (call : Call) → Leaves (Some call) old new → IsTrue new.is_open × ((o : OfficeLists) → Stands old o → LeavesWhole new (stepped o call)) → HasCleanDisk new → Keeps old office lost
-      → Keeps new (stepped office call) none_lost
+  answers_keep : (old new : Held S) (office : OfficeLists) (lost : Call → Type 0) (call : Call) → Leaves g (Some call) old new → IsTrue (state g new).is_open × ((o : OfficeLists) → Stands (state g old) o → LeavesWhole (state g new) (stepped o call)) → HasCleanDisk (state g new) → Keeps (state g old) office lost
+      → Keeps (state g new) (stepped office call) none_lost
   answers_keep old new office lost call leaves behind clean keeps =
       let stood = keeps.stands (leaves.was_open clean behind.0) in
       record {
@@ -85,16 +61,16 @@ module _ {S : Type 0} (g : store.Ghosts S) where
       elim (keeps.left db (subst (λ (h : Held S). (state g h).may_leave db) leads may)) [ inl whole ↦ inl whole | inr it ↦ inr (it.0, inl it.1, it.2) ]
   left_of old new (Reads ∷ later) leads clean office lost keeps db may =
       let early = on_clean leads.0 new later leads.3 clean in
-      left_of leads.0 new later leads.3 clean office lost (reads_keep (state g old) (state g leads.0) office lost leads.1 leads.2 early keeps) db may
+      left_of leads.0 new later leads.3 clean office lost (reads_keep old leads.0 office lost leads.1 leads.2 early keeps) db may
   left_of old new (Answers call ∷ later) leads clean office lost keeps db may =
       let early = on_clean leads.0 new later leads.3 clean in
-      elim (left_of leads.0 new later leads.3 clean (stepped office call) none_lost (answers_keep (state g old) (state g leads.0) office lost call leads.1 (leads.2 early) early keeps) db may) [
+      elim (left_of leads.0 new later leads.3 clean (stepped office call) none_lost (answers_keep old leads.0 office lost call leads.1 (leads.2 early) early keeps) db may) [
         | inl whole ↦ inl whole
         | inr it ↦ inr (it.0, elim it.1 [ inl none ↦ absurd none | inr failed ↦ inr failed ], it.2)
       ]
   left_of old new (Fails failed ∷ later) leads clean office lost keeps db may =
       let early = on_clean leads.0 new later leads.3 clean in
-      elim (left_of leads.0 new later leads.3 clean office (λ call. (failed ≡ call) ⊎ lost call) (fails_keep (state g old) (state g leads.0) office lost failed leads.1 leads.2 early keeps) db may) [
+      elim (left_of leads.0 new later leads.3 clean office (λ call. (failed ≡ call) ⊎ lost call) (fails_keep old leads.0 office lost failed leads.1 leads.2 early keeps) db may) [
         | inl whole ↦ inl whole
         | inr it ↦ inr (it.0, elim it.1 [ inl one ↦ elim one [ inl is ↦ inr (inl is) | inr was ↦ inl was ] | inr more ↦ inr (inr more) ], it.2)
       ]

@@ -1,6 +1,5 @@
 -- What a reading of the tables tells, and what is decided is written into them.
-use Rattle.std.specs.Prelude.{◌≡◌, ℕ, Bool, List, Option, Some, None, find, option_map, Result, IfOk, OnOk, IsTrue}
-use Rattle.desk_terms.specs.Names.{same_name}
+use Rattle.std.specs.Prelude.{◌≡◌, ℕ, Bool, List, Option, Some, None, Result, IfOk, OnOk, IsTrue}
 use Rattle.sqlite.specs.declared.error.Error.{Error}
 use Rattle.sqlite.specs.Effect.{IsDatabase}
 use Rattle.sqlite.specs.Held.{Held, state}
@@ -9,18 +8,18 @@ use Rattle.sqlite_trees.specs.declared.store.Store as store
 use Rattle.desk_words.specs.Office.{is_office}
 use Rattle.desk_words.specs.declared.answer.Answer.{Answer}
 use Rattle.desk_words.specs.declared.caller.Caller.{Caller}
-use Rattle.desk_words.specs.declared.caller.KeyRow.{KeyRow}
 use Rattle.desk_words.specs.declared.change.Change.{Change}
 use Rattle.desk_words.specs.declared.office.OfficeLists.{OfficeLists}
 use Rattle.desk_words.specs.declared.request.Call.{Call}
 use Rattle.desk_words.specs.declared.request.DeskRequest.{DeskRequest}
 use Rattle.desk_words.specs.Seen.{MeetingName, Moment, Party}
-use Rattle.caller_view.specs.Public.{PublicRecord}
-use Rattle.caller_view.specs.Views.{own_of, public_of}
-use Rattle.caller_view.specs.declared.views.OwnView.{OwnView}
+use Rattle.party_views.specs.Public.{PublicRecord}
+use Rattle.party_views.specs.Views.{own_of, public_of}
+use Rattle.party_views.specs.declared.views.OwnView.{OwnView}
 use Rattle.desk_schema.specs.Statements.{ChangesNothing, DeclaresNothing, IsRead}
 use Rattle.office_lists.specs.declared.fault.ReadFault.{ReadFault}
 use Rattle.desk_words.specs.Changes.{after_some, can_make}
+use Rattle.meeting_core.specs.Callers.{caller_with}
 use Rattle.meeting_core.specs.Decisions.{desk_call}
 use Rattle.meeting_core.specs.Step.{decided}
 use Rattle.desk_changes.specs.Writes.{StandsIn}
@@ -52,12 +51,6 @@ pub record IsTold {S X : Type 0} (g : store.Ghosts S) (old new : Held S)
 -- the book is the office
 abbrev pub IsBookOf : OfficeLists → OfficeLists → Type 0
 IsBookOf office book = book ≡ office
-
--- the caller whose key it is, or none where no key equals it
-abbrev pub caller_with : List KeyRow → List ℕ → Option Caller
-caller_with keys key =
-    option_map (λ (row : KeyRow). row.caller)
-    (find (λ (row : KeyRow). same_name row.secret key) keys)
 
 -- it is the caller whose key that is
 abbrev pub IsCallerWith : List ℕ → OfficeLists → Option Caller → Type 0

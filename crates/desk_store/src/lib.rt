@@ -4,6 +4,7 @@
 mod deciding;
 mod desk;
 pub mod laws;
+mod office;
 mod opening;
 mod perform;
 mod reading;

@@ -1,11 +1,12 @@
 //! A call, made and kept.
-ghost use Rattle.std.specs.Prelude.{◌≡◌, IfOk, IsTrue, None, Ok, OnOk};
+ghost use Rattle.std.specs.Prelude.{◌≡◌, false, IfOk, IsTrue, None, Ok, OnOk};
 ghost use Rattle.std.specs.Fn.{FnOnceReturnsAt};
+ghost use Rattle.any_office.specs.Homes.{made_by};
 ghost use Rattle.desk_opening.specs.Crashes.{LeavesItself};
 ghost use Rattle.desk_opening.specs.Opened.{OnDone};
 ghost use Rattle.desk_opening.specs.Whole.{LeavesWhole};
 ghost use Rattle.desk_schema.specs.Statements.{DeclaresNothing, WasOpen};
-ghost use Rattle.desk_store.specs.Joins.{AreAfter, IsAsItWas, Leaves, made_by};
+ghost use Rattle.desk_store.specs.Joins.{AreAfter, IsAsItWas, Leaves};
 ghost use Rattle.desk_store.specs.Reads.{OfOffice, OfOfficeInside, WritesIfAny};
 ghost use Rattle.desk_records.specs.Standing.{Stands};
 ghost use Rattle.meeting_core.specs.Step.{decided, stepped};
@@ -89,8 +90,8 @@ impl<S: Alter> Desk<S> {
             × Stands (state S.Store self.new) (stepped office call))) }
         ensures declares { OfOffice S.Store self.old self.new (λ _. OnOk result
             (DeclaresNothing (state S.Store self.old) (state S.Store self.new))) }
-        ensures leaves { Leaves (made_by result call) (state S.Store self.old)
-            (state S.Store self.new) }
+        ensures leaves { Leaves S.Store (made_by result call) self.old self.new }
+        ensures ended { self.new.in_transaction ≡ false }
         ensures stays_open { OnDone S.Store self.new result
             (IsTrue (state S.Store self.new).is_open) }
         ensures settled { OnDone S.Store self.new result (LeavesItself (state S.Store self.new)) }

@@ -3,13 +3,13 @@ ghost use Rattle.std.specs.Prelude.{◌≡◌};
 ghost use Rattle.desk_store.specs.Faults.{failure_of, fault_of_book};
 ghost use Rattle.desk_store.specs.Reads.{AreOwn, IsCallerWith, IsPublic, IsTold, IsBookOf};
 
-use caller_view::OwnView;
 use desk_reading::{ReadFault, read_office};
 use desk_rows::records;
 use desk_tables::keys;
 use desk_words::{Caller, Failure, KeyRow, MeetingId, Moment, Party, SecretKey};
 use meeting_core::{Book, BookFault};
 use party_reading::{KeptRecord, read_own, read_public};
+use party_views::OwnView;
 use sqlite::{Alter, Transaction};
 use std::alloc::Global;
 

@@ -1,21 +1,22 @@
 //! What the tables say, without a change. Of a desk that is read a crash leaves what it left
 //! before, also where its store is shut, and after an answer the tables that are read, and nothing
 //! else.
-ghost use Rattle.std.specs.Prelude.{◌≡◌, IfOk, IsTrue, None};
+ghost use Rattle.std.specs.Prelude.{◌≡◌, false, IfOk, IsTrue, None};
 ghost use Rattle.desk_opening.specs.Crashes.{LeavesItself};
 ghost use Rattle.desk_opening.specs.Opened.{OnDone};
 ghost use Rattle.desk_store.specs.Joins.{IsDeskIfOpen, Leaves};
-ghost use Rattle.caller_view.specs.Views.{own_of, public_of};
-ghost use Rattle.desk_store.specs.Reads.{OfOffice, caller_with};
+ghost use Rattle.party_views.specs.Views.{own_of, public_of};
+ghost use Rattle.desk_store.specs.Reads.{OfOffice};
+ghost use Rattle.meeting_core.specs.Callers.{caller_with};
 ghost use Rattle.sqlite.specs.Held.{state};
 ghost use Rattle.sqlite.specs.State.{Survives};
 
 use crate::desk::Desk;
 use crate::reading::{failure_of, read_book, read_caller, read_record, read_things};
-use caller_view::OwnView;
 use desk_words::{Caller, Failure, MeetingId, Moment, Party, SecretKey};
 use meeting_core::Book;
 use party_reading::KeptRecord;
+use party_views::OwnView;
 use sqlite::Alter;
 
 impl<S: Alter> Desk<S> {
@@ -23,7 +24,8 @@ impl<S: Alter> Desk<S> {
     pub fn caller_of(&mut self, key: &SecretKey) -> Result<Option<Caller>, Failure>
         ensures found { OfOffice S.Store self.old self.new
             (λ office. IfOk result (λ caller. caller ≡ caller_with office.keys key.now)) }
-        ensures leaves { Leaves None (state S.Store self.old) (state S.Store self.new) }
+        ensures leaves { Leaves S.Store None self.old self.new }
+        ensures ended { self.new.in_transaction ≡ false }
         ensures stays_open { OnDone S.Store self.new result
             (IsTrue (state S.Store self.new).is_open) }
         ensures settled { OnDone S.Store self.new result (LeavesItself (state S.Store self.new)) }
@@ -42,7 +44,8 @@ impl<S: Alter> Desk<S> {
     pub fn book(&mut self) -> Result<Book, Failure>
         ensures held { OfOffice S.Store self.old self.new
             (λ office. IfOk result (λ book. book ≡ office)) }
-        ensures leaves { Leaves None (state S.Store self.old) (state S.Store self.new) }
+        ensures leaves { Leaves S.Store None self.old self.new }
+        ensures ended { self.new.in_transaction ≡ false }
         ensures stays_open { OnDone S.Store self.new result
             (IsTrue (state S.Store self.new).is_open) }
         ensures settled { OnDone S.Store self.new result (LeavesItself (state S.Store self.new)) }
@@ -62,7 +65,8 @@ impl<S: Alter> Desk<S> {
     pub fn read_public(&mut self, meeting: MeetingId) -> Result<KeptRecord, Failure>
         ensures held { OfOffice S.Store self.old self.new
             (λ office. IfOk result (λ kept. kept ≡ public_of office meeting)) }
-        ensures leaves { Leaves None (state S.Store self.old) (state S.Store self.new) }
+        ensures leaves { Leaves S.Store None self.old self.new }
+        ensures ended { self.new.in_transaction ≡ false }
         ensures stays_open { OnDone S.Store self.new result
             (IsTrue (state S.Store self.new).is_open) }
         ensures settled { OnDone S.Store self.new result (LeavesItself (state S.Store self.new)) }
@@ -88,7 +92,8 @@ impl<S: Alter> Desk<S> {
     ) -> Result<OwnView, Failure>
         ensures held { OfOffice S.Store self.old self.new
             (λ office. IfOk result (λ own. own ≡ own_of office party meeting now)) }
-        ensures leaves { Leaves None (state S.Store self.old) (state S.Store self.new) }
+        ensures leaves { Leaves S.Store None self.old self.new }
+        ensures ended { self.new.in_transaction ≡ false }
         ensures stays_open { OnDone S.Store self.new result
             (IsTrue (state S.Store self.new).is_open) }
         ensures settled { OnDone S.Store self.new result (LeavesItself (state S.Store self.new)) }

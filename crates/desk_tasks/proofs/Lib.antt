@@ -1,4 +1,2 @@
-pub mod AskingLemmas
 pub mod DeskLemmas
-pub mod LoadLemmas
 pub mod PrintLemmas

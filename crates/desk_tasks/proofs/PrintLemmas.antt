@@ -1,8 +1,7 @@
 -- How the printing ends where the public record was not read.
 use Rattle.std.proofs.Common.{◌≡◌, inl, inr}
-use Rattle.caller_view.specs.Public.{PublicRecord}
-use Rattle.desk_endings.specs.Endings.{Ending}
-use Rattle.desk_tasks.specs.Loading.{ended_by_failure}
+use Rattle.party_views.specs.Public.{PublicRecord}
+use Rattle.desk_endings.specs.Endings.{Ending, ended_by_failure}
 use Rattle.desk_tasks.specs.Results.{Prints, Writer}
 use Rattle.desk_words.specs.declared.reply.Failure.{Failure}
 use Rattle.desk_words.specs.declared.reply.Failure.TheVariants.{Store, Memory}

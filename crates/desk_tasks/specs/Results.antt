@@ -1,7 +1,7 @@
 -- How the command that prints results ends, and what it has written.
 use Rattle.std.specs.Prelude.{◌≡◌, ◌⊎◌, ℕ, List, Option, Some, None}
 use Rattle.std.specs.Io.KnownBytes.{Appends}
-use Rattle.caller_view.specs.Public.{PublicRecord}
+use Rattle.party_views.specs.Public.{PublicRecord}
 use Rattle.desk_devices.specs.Counts.{one_more}
 use Rattle.desk_devices.specs.Written.{AppendsPrefix}
 use Rattle.desk_papers.specs.Results.{results_of}

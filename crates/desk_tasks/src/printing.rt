@@ -1,25 +1,24 @@
 //! The command that prints results.
-ghost use Rattle.std.specs.Prelude.{◌≡◌, ◌⊎◌, IsTrue};
+ghost use Rattle.std.specs.Prelude.{◌≡◌, ◌⊎◌, IsTrue, None};
 ghost use Rattle.std.specs.Io.KnownBytes.{Appends};
-ghost use Rattle.caller_view.specs.Views.{public_of};
+ghost use Rattle.party_views.specs.Views.{public_of};
 ghost use Rattle.desk_devices.specs.Counts.{one_more};
 ghost use Rattle.desk_devices.specs.Written.{AppendsPrefix};
 ghost use Rattle.desk_endings.specs.Endings.{ended_view};
 ghost use Rattle.desk_papers.specs.Results.{results_of};
 ghost use Rattle.desk_records.specs.Standing.{Stands};
-ghost use Rattle.desk_store.specs.Joins.{ShutsByFault};
+ghost use Rattle.desk_store.specs.Joins.{Leaves};
 ghost use Rattle.desk_tasks.specs.Results.{Prints, PrintsRecord, Writer};
 ghost use Rattle.desk_words.specs.declared.office.OfficeLists.{OfficeLists};
 ghost use Rattle.sqlite.specs.Held.{state};
 ghost use Rattle.sqlite.specs.State.{HasCleanDisk};
 
-use crate::asking::by_failure;
-use caller_view::PublicRecord;
 use desk_devices::Sink;
 use desk_endings::Ended;
 use desk_papers::print_results;
 use desk_store::Desk;
 use desk_words::{MeetingId, Refusal};
+use party_views::PublicRecord;
 use sqlite::Alter;
 use std::alloc::Global;
 
@@ -60,10 +59,10 @@ pub fn results<S: Alter, W: Sink>(
     ensures same { HasCleanDisk (state S.Store desk.new) → IsTrue (state S.Store desk.new).is_open
         → (office : OfficeLists) → Stands (state S.Store desk.old) office
         → Stands (state S.Store desk.new) office }
-    ensures closes { ShutsByFault (state S.Store desk.old) (state S.Store desk.new) }
+    ensures leaves { Leaves S.Store None desk.old desk.new }
 {
     match desk.read_public(meeting) {
         Ok(kept) => print(alloc, &kept.record(), writer),
-        Err(failure) => by_failure(failure),
+        Err(failure) => Ended::by_failure(failure),
     }
 }

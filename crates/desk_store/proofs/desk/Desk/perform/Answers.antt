@@ -62,7 +62,7 @@ returns-clause-leaves g c =
     let over : HasCleanDisk end → IsTrue mid.in_transaction × Shows mid end mid.now mid.now false × KeepsCounts mid end × (end.marks ≡ []) = λ clean. mapped_on {W = IsTrue mid.in_transaction × Shows mid end mid.now mid.now false × KeepsCounts mid end × (end.marks ≡ [])} _ c.commit.result c.map_err-2.result c.in_ok-map_err.field-0 c.map_err-2.ensures.cases c.in_ok-map_err.was (c.commit.ensures.ok clean) in
     let there : HasCleanDisk mid → IsDatabase first.now → (office : OfficeLists) → Stands first office → Stands mid (stepped office c.args.call) = λ clean sound office stands.
     (mapped_is _ (λ t. FnOnceReturnsAt g.F.FnOnce c.args.show (decided office c.args.call).reply (Ok t) × Stands mid (stepped office c.args.call) × IsDatabase mid.now) c.step.result c.map_err.result c.in_ok-shown.shown c.map_err.ensures.cases c.in_ok-shown.was (c.step.ensures.shown clean inside sound office stands)).1 in
-    leaves_behind g.S.Store c.args.self.now c.ask_open.new.self asked (Some c.args.call) end
+    leaves_behind g.S.Store c.args.self.now c.ask_open.new.self asked (Some c.args.call) c.commit.new.self.0
     (committed g.S.Store c.ask_open.new.self c.transaction-tx.result.conn.now c.step.new.tx.conn.now c.commit.new.self.0 begun within c.commit.ensures.ended c.commit.ensures.survives (Some c.args.call) (λ clean. (over clean).1)
     (λ clean. there clean (begun_sound g.S.Store c.args.self.now c.ask_open.new.self asked c.transaction-tx.result.conn.now c.step.new.tx.conn.now begun within clean)))
 
@@ -80,8 +80,8 @@ returns-in_err-map_err-clause-leaves g c =
     let inside : HasCleanDisk mid → (office : OfficeLists) → Stands first office → IsTrue mid.in_transaction = λ clean office stands.
     mapped_on _ c.step.result c.map_err.result c.in_ok-shown.shown c.map_err.ensures.cases c.in_ok-shown.was (c.step.ensures.inside clean began (begun_sound g.S.Store c.args.self.now c.ask_open.new.self asked c.transaction-tx.result.conn.now c.step.new.tx.conn.now begun within clean) office stands) in
     let failed = mapped_failed _ c.commit.result c.map_err-2.result c.map_err-2.ensures.cases c.in_err-map_err.was in
-    leaves_failed (state g.S.Store c.args.self.now) end c.from_residual-in_err-map_err.result c.args.call c.from_residual-in_err-map_err.ensures.0
-    (leaves_behind g.S.Store c.args.self.now c.ask_open.new.self asked None end
+    leaves_failed g.S.Store c.args.self.now c.commit.new.self.0 c.from_residual-in_err-map_err.result c.args.call c.from_residual-in_err-map_err.ensures.0
+    (leaves_behind g.S.Store c.args.self.now c.ask_open.new.self asked None c.commit.new.self.0
     (not_committed g.S.Store c.ask_open.new.self c.transaction-tx.result.conn.now c.step.new.tx.conn.now c.commit.new.self.0 begun within c.commit.ensures.ended c.commit.ensures.survives (λ clean. error_of (FailsToCommit mid end) c.commit.result failed (c.commit.ensures.err clean)) settled inside))
 
 pub returns-clause-crash : goal.returns-clause-crash
@@ -158,4 +158,4 @@ returns-clause-whole g c = λ clean office stands.
 
 pub returns-in_err-ask_open-clause-leaves : goal.returns-in_err-ask_open-clause-leaves
 returns-in_err-ask_open-clause-leaves g c =
-    leaves_failed (state g.S.Store c.args.self.now) (state g.S.Store c.ask_open.new.self) c.from_residual.result c.args.call c.from_residual.ensures.0 (asked_stop g.S.Store c.args.self.now c.ask_open.new.self c.ask_open.ensures.ended c.in_err-ask_open.ensures.asked)
+    leaves_failed g.S.Store c.args.self.now c.ask_open.new.self c.from_residual.result c.args.call c.from_residual.ensures.0 (asked_stop g.S.Store c.args.self.now c.ask_open.new.self c.in_err-ask_open.ensures.asked)

@@ -31,7 +31,7 @@ returns-clause-leaves g c =
     let same : HasCleanDisk mid → (office : OfficeLists) → Stands first office → IsUnchanged first mid = λ clean office stands.
     mapped_on {W = IsUnchanged first mid} _ c.read_record.result c.map_err.result c.in_ok-kept.kept c.map_err.ensures.cases c.in_ok-kept.was (c.read_record.ensures.tells.same (clean, stands.desk)) in
     let over : HasCleanDisk end → IsTrue mid.in_transaction × Shows mid end mid.now mid.now false × KeepsCounts mid end × (end.marks ≡ []) = λ clean. mapped_on {W = IsTrue mid.in_transaction × Shows mid end mid.now mid.now false × KeepsCounts mid end × (end.marks ≡ [])} _ c.commit.result c.map_err-2.result c.in_ok-map_err.field-0 c.map_err-2.ensures.cases c.in_ok-map_err.was (c.commit.ensures.ok clean) in
-    leaves_behind g.S.Store c.args.self.now c.ask_open.new.self c.in_ok-ask_open.ensures.asked None end
+    leaves_behind g.S.Store c.args.self.now c.ask_open.new.self c.in_ok-ask_open.ensures.asked None c.commit.new.self.0
     (committed g.S.Store c.ask_open.new.self c.transaction-tx.result.conn.now c.read_record.new.tx.conn.now c.commit.new.self.0 begun within c.commit.ensures.ended c.commit.ensures.survives None (λ clean. (over clean).1)
     (λ clean office stands. stands_same first mid office (same clean office stands).0.now_is stands))
 
@@ -48,7 +48,7 @@ returns-in_err-map_err-clause-leaves g c =
     let settled : IsTrue old.is_open → old.now ≡ old.committed = search rules in
     let began : IsTrue first.in_transaction = ap (λ h. (state g.S.Store h).in_transaction) begun in
     let failed = mapped_failed _ c.commit.result c.map_err-2.result c.map_err-2.ensures.cases c.in_err-map_err.was in
-    leaves_behind g.S.Store c.args.self.now c.ask_open.new.self c.in_ok-ask_open.ensures.asked None end
+    leaves_behind g.S.Store c.args.self.now c.ask_open.new.self c.in_ok-ask_open.ensures.asked None c.commit.new.self.0
     (not_committed g.S.Store c.ask_open.new.self c.transaction-tx.result.conn.now c.read_record.new.tx.conn.now c.commit.new.self.0 begun within c.commit.ensures.ended c.commit.ensures.survives
     (λ clean. error_of (FailsToCommit mid end) c.commit.result failed (c.commit.ensures.err clean)) settled (λ clean office stands. (same clean office stands).0.mode ∙ began))
 
@@ -82,7 +82,7 @@ returns-clause-settled g c = λ clean.
     itself_after g.S.Store c.read_record.new.tx.conn.now c.commit.new.self.0 g.met.S.Store.settled g.met.S.Store.stays over
 
 pub returns-in_err-ask_open-clause-leaves : goal.returns-in_err-ask_open-clause-leaves
-returns-in_err-ask_open-clause-leaves g c = asked_stop g.S.Store c.args.self.now c.ask_open.new.self c.ask_open.ensures.ended c.in_err-ask_open.ensures.asked
+returns-in_err-ask_open-clause-leaves g c = asked_stop g.S.Store c.args.self.now c.ask_open.new.self c.in_err-ask_open.ensures.asked
 
 pub returns-in_err-kept-clause-leaves : goal.returns-in_err-kept-clause-leaves
 returns-in_err-kept-clause-leaves g c =
@@ -91,6 +91,6 @@ returns-in_err-kept-clause-leaves g c =
     let begun : c.transaction-tx.result.conn.now ≡ record c.ask_open.new.self { in_transaction = true } = search rules in
     let within = told_within g.S.Store c.transaction-tx.result.conn.now c.read_record.new.tx.conn.now c.read_record.result (IsPublic c.args.meeting) c.read_record.ensures.tells in
     let settled : IsTrue old.is_open → old.now ≡ old.committed = search rules in
-    leaves_behind g.S.Store c.args.self.now c.ask_open.new.self c.in_ok-ask_open.ensures.asked None end
+    leaves_behind g.S.Store c.args.self.now c.ask_open.new.self c.in_ok-ask_open.ensures.asked None c.drop-tx.new.self.0
     (dropped g.S.Store c.ask_open.new.self c.transaction-tx.result.conn.now c.read_record.new.tx.conn.now c.drop-tx.new.self.0 begun within c.drop-tx.ensures.ended
     (survives_nothing (state g.S.Store c.read_record.new.tx.conn.now) end (λ db. db ≡ (state g.S.Store c.read_record.new.tx.conn.now).now.trees) c.drop-tx.ensures.survives) c.drop-tx.ensures.undone settled)

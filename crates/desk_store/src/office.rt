@@ -1,0 +1,40 @@
+//! The desk over its tables is an office.
+use crate::desk::Desk;
+use any_office::Office;
+use desk_words::{Call, Caller, Failure, Reply, SecretKey};
+use sqlite::Alter;
+use std::alloc::AllocError;
+
+// It is reliable while the disk returns what was written, and open while its store is. After a crash
+// it may be opened as an office that the tables may then be whole of.
+impl<S: Alter> Office for Desk<S> {
+    ghost use Rattle.std.specs.Prelude.{IsTrue};
+    ghost use Rattle.desk_records.specs.Standing.{Stands};
+    ghost use Rattle.desk_store.specs.Joins.{MayBeFound};
+    ghost use Rattle.sqlite.specs.Held.{state};
+    ghost use Rattle.sqlite.specs.State.{HasCleanDisk};
+
+    ghost stands = { λ desk office. Stands (state S.Store desk) office };
+
+    ghost is_reliable = { λ desk. HasCleanDisk (state S.Store desk) };
+
+    ghost is_open = { λ desk. IsTrue (state S.Store desk).is_open };
+
+    ghost faults = { λ desk. (state S.Store desk).faults };
+
+    ghost may_find = { λ desk office. MayBeFound (state S.Store desk) office };
+
+    ghost may_fail = { λ _. Unit {0} };
+
+    fn caller_of(&mut self, key: &SecretKey) -> Result<Option<Caller>, Failure> {
+        Desk::caller_of(self, key)
+    }
+
+    fn perform<T: Drop, F: FnOnce(&Reply) -> Result<T, AllocError>>(
+        &mut self,
+        call: Call,
+        show: F,
+    ) -> Result<T, Failure> {
+        Desk::perform(self, call, show)
+    }
+}
