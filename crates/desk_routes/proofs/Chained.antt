@@ -1,8 +1,8 @@
 -- Texts written one after another, the last one in part.
-use Rattle.std.proofs.Common.{◌≡◌, ℕ, ◌+◌, List, ◌++◌, Option, Result, Ok, Err, length, take, sym, subst, arith, length-append}
+use Rattle.std.proofs.Common.{◌≡◌, ℕ, ◌+◌, List, ◌++◌, Option, Result, Ok, Err, true, length, take, sym, subst, arith, length-append}
 use Rattle.std.proofs.Math.Seq.{take-append-add}
 use Rattle.std.proofs.lemmas.List.{take-append-le}
-use Rattle.std.specs.Prelude.{OnOk, OnErr}
+use Rattle.std.specs.Prelude.{OnOk, OnErr, is_ok}
 use Rattle.std.specs.Io.KnownBytes.{Appends}
 use Rattle.desk_devices.specs.Written.{AppendsPrefix}
 use Rattle.desk_devices.proofs.Chained.{Appends-chained}
@@ -35,3 +35,8 @@ whole_if (Err error) a b c xs ys written next = tt
 pub part_if : {T E : Type 0} (r : Result T E) (a b c : Option (List ℕ)) (xs ys : List ℕ) → Appends a b xs → OnErr r (AppendsPrefix b c ys) → OnErr r (AppendsPrefix a c (xs ++ ys))
 part_if (Ok value) a b c xs ys written next = tt
 part_if (Err error) a b c xs ys written next = part_of-next a b c xs ys written next
+
+-- what holds where a value is returned
+pub if_ok : {T E P : Type 0} (r : Result T E) → is_ok r ≡ true → OnOk r P → P
+if_ok (Ok value) ok holds = holds
+if_ok (Err error) ok holds = cc
