@@ -1,8 +1,10 @@
--- How what is asked of a desk by one request joins.
-use Rattle.std.proofs.Common.{◌≡◌, ◌⊎◌, inl, inr, ℕ, ◌≤◌, true, false, List, Option, Some, None, Result, Ok, Err, IsTrue, refl, sym, ap, subst, ◌∙◌, arith}
+-- How what is asked of an office by one request joins.
+use Rattle.std.proofs.Common.{◌≡◌, ◌⊎◌, inl, inr, ℕ, true, List, Option, Some, None, Result, Ok, Err, refl, sym, ap, subst, ◌∙◌}
 use Rattle.std.specs.Prelude.{IfErr, IfOk, OnErr, OnOk, is_some}
-use Rattle.sqlite_disk.specs.Disk.{MoreFaults}
-use Rattle.sqlite.specs.State.{State, HasCleanDisk}
+use Rattle.any_office.proofs.HomeLemmas.{leaves_same, leaves_then}
+use Rattle.any_office.specs.Homes.{office_after}
+use Rattle.any_office.specs.Runs.{LeavesOffice}
+use Rattle.any_office.specs.declared.Office as office
 use Rattle.desk_terms.specs.declared.refusal.Refusal.{Refusal}
 use Rattle.desk_terms.specs.declared.refusal.Refusal.TheVariants.{Key}
 use Rattle.desk_words.specs.Seen.{Moment}
@@ -16,93 +18,43 @@ use Rattle.desk_requests.specs.Received.{is_unheard}
 use Rattle.desk_requests.specs.declared.received.Received.TheVariants.{Refused, With}
 use Rattle.desk_requests.specs.declared.received.Unheard.{Unheard}
 use Rattle.desk_requests.specs.declared.received.Unheard.TheVariants as unheard
-use Rattle.desk_records.specs.Standing.{Stands}
-use Rattle.desk_store.specs.Joins.{Leaves, office_after}
-use Rattle.desk_store.specs.Reads.{caller_with}
+use Rattle.meeting_core.specs.Callers.{caller_with}
 use Rattle.desk_http.specs.Answers.{IsAnswer, IsCutOff, IsFault, MakesCall, ShowsReply, call_received, call_of, if_ok, reply_in, reply_of, unheard_reply}
 use Rattle.desk_http.specs.declared.answers.Answered.{Answered}
 use Rattle.desk_http.specs.declared.answers.Unanswered.{Unanswered}
 use Rattle.desk_http.specs.declared.answers.Unanswered.TheVariants as unanswered
 
--- a desk that is not asked is left as it was
-pub not_asked : (s : State) → s.in_transaction ≡ false → Leaves None s s
-not_asked s ended = record {
-  was_clean = λ clean. clean;
-  was_open = λ clean is_open. is_open;
-  closes = λ clean is_open. inl is_open;
-  counts = omega arith;
-  ended = ended;
-  stands = λ clean is_open office stands. stands;
-}
+-- ---- what is replied
 
--- only a fault shuts a store, in two calls as in one
-pub closes_then : (a b c : State) → a.faults ≤ b.faults → b.faults ≤ c.faults → IsTrue b.is_open ⊎ MoreFaults a.faults b.faults → (IsTrue b.is_open → IsTrue c.is_open ⊎ MoreFaults b.faults c.faults)
-    → IsTrue c.is_open ⊎ MoreFaults a.faults c.faults
-closes_then a b c first next (inl is_open) two =
-    elim (two is_open) as (λ (_ : IsTrue c.is_open ⊎ MoreFaults b.faults c.faults). IsTrue c.is_open ⊎ MoreFaults a.faults c.faults) [ inl still ↦ inl still | inr more ↦ inr (omega (arith, more, first)) ]
-closes_then a b c first next (inr more) two = inr (omega (arith, more, next))
+module _ (Stands : OfficeLists → Type 0) (office : OfficeLists) (now : Moment) (stands : Stands office) where
+  -- to what was not heard of a caller
+  pub unheard_done : {E : Type 0} (who : Caller) (heard : Result Request Unheard) (why : Unheard) (r : Result Answered E) → heard ≡ Err why → IfOk r (IsAnswer (unheard_reply why))
+      → IfOk r (λ a. IsAnswer (reply_of office now (Some who) heard) a × Stands (office_after office (call_of now (Some who) heard)))
+  unheard_done who heard why (Err e) is shown = tt
+  unheard_done who heard why (Ok a) is shown =
+      subst (λ h. IsAnswer (reply_of office now (Some who) h) a × Stands (office_after office (call_of now (Some who) h))) (sym is) (shown, stands)
 
--- what is left of a reading is what is asked next
-pub leaves_then : (made : Option Call) (a b c : State) → Leaves None a b → Leaves made b c → Leaves made a c
-leaves_then made a b c one two = record {
-  was_clean = λ clean. one.was_clean (two.was_clean clean);
-  was_open = λ clean is_open. one.was_open (two.was_clean clean) (two.was_open clean is_open);
-  closes = λ clean is_open. closes_then a b c one.counts two.counts (one.closes (two.was_clean clean) is_open) (two.closes clean);
-  counts = omega (arith, one.counts, two.counts);
-  ended = two.ended;
-  stands = λ clean is_open office stands. two.stands clean is_open office (one.stands (two.was_clean clean) (two.was_open clean is_open) office stands);
-}
+  -- to a key that is nobody's
+  pub nobody_done : {E : Type 0} (who : Option Caller) (heard : Result Request Unheard) (r : Result Answered E) → who ≡ None → IfOk r (ShowsReply (reply.Refused Key))
+      → IfOk r (λ a. IsAnswer (reply_of office now who heard) a × Stands (office_after office (call_of now who heard)))
+  nobody_done who heard (Err e) is shown = tt
+  nobody_done who heard (Ok a) is shown =
+      subst (λ w. IsAnswer (reply_of office now w heard) a × Stands (office_after office (call_of now w heard))) (sym is) ((reply.Refused Key, refl, shown), stands)
 
--- no call is made
-pub makes_none : (call : OfficeLists → Option Call) (old new : State) → Leaves None old new → MakesCall call old new
-makes_none call old new leaves = record { made = None; leaves = leaves; by = λ clean office stands. inl refl }
+  -- to what was refused as it came
+  pub refused_done : {E : Type 0} (received : Received) (refusal : Refusal) (r : Result Answered E) → received ≡ Refused refusal → IfOk r (ShowsReply (reply.Refused refusal))
+      → IfOk r (λ a. IsAnswer (reply_in office now received) a × Stands (office_after office (call_received office now received)))
+  refused_done received refusal (Err e) is shown = tt
+  refused_done received refusal (Ok a) is shown =
+      subst (λ q. IsAnswer (reply_in office now q) a × Stands (office_after office (call_received office now q))) (sym is) ((reply.Refused refusal, refl, shown), stands)
 
 if_ok_or_none : {T E : Type 0} (r : Result T E) (call : Option Call) → (if_ok r call ≡ None) ⊎ (if_ok r call ≡ call)
 if_ok_or_none (Ok x) call = inr refl
 if_ok_or_none (Err e) call = inl refl
 
--- the call is made, if it is answered, of the caller that was found
-pub makes_found : {T E : Type 0} (r : Result T E) (found : Option Caller) (now : Moment) (heard : Result Request Unheard) (who : OfficeLists → Option Caller) (a b c : State)
-    → (HasCleanDisk b → (office : OfficeLists) → Stands a office → found ≡ who office) → Leaves None a b → Leaves (if_ok r (call_of now found heard)) b c
-    → MakesCall (λ office. call_of now (who office) heard) a c
-makes_found r found now heard who a b c is one two = record {
-  made = if_ok r (call_of now found heard);
-  leaves = leaves_then (if_ok r (call_of now found heard)) a b c one two;
-  by = λ clean office stands. subst (λ w. (if_ok r (call_of now found heard) ≡ None) ⊎ (if_ok r (call_of now found heard) ≡ call_of now w heard)) (is (two.was_clean clean) office stands) (if_ok_or_none r (call_of now found heard));
-}
-
--- what failed made no call
-pub unmade : {T E : Type 0} (r : Result T E) (call : Option Call) (e : E) (old new : State) → r ≡ Err e → Leaves (if_ok r call) old new → Leaves None old new
-unmade r call e old new is leaves = subst (λ q. Leaves (if_ok q call) old new) is leaves
-
--- nor did what failed behind a reading
-pub unmade_behind : {T E : Type 0} (r : Result T E) (call : Option Call) (a b c : State) → Leaves None a b → Leaves (if_ok r call) b c → OnErr r (Leaves None a c)
-unmade_behind (Ok x) call a b c one two = tt
-unmade_behind (Err e) call a b c one two = leaves_then None a b c one two
-
--- ---- what is replied
-
-module _ (s : State) (office : OfficeLists) (now : Moment) (stands : Stands s office) where
-  -- to what was not heard of a caller
-  pub unheard_done : {E : Type 0} (who : Caller) (heard : Result Request Unheard) (why : Unheard) (r : Result Answered E) → heard ≡ Err why → IfOk r (IsAnswer (unheard_reply why))
-      → IfOk r (λ a. IsAnswer (reply_of office now (Some who) heard) a × Stands s (office_after office (call_of now (Some who) heard)))
-  unheard_done who heard why (Err e) is shown = tt
-  unheard_done who heard why (Ok a) is shown =
-      subst (λ h. IsAnswer (reply_of office now (Some who) h) a × Stands s (office_after office (call_of now (Some who) h))) (sym is) (shown, stands)
-
-  -- to a key that is nobody's
-  pub nobody_done : {E : Type 0} (who : Option Caller) (heard : Result Request Unheard) (r : Result Answered E) → who ≡ None → IfOk r (ShowsReply (reply.Refused Key))
-      → IfOk r (λ a. IsAnswer (reply_of office now who heard) a × Stands s (office_after office (call_of now who heard)))
-  nobody_done who heard (Err e) is shown = tt
-  nobody_done who heard (Ok a) is shown =
-      subst (λ w. IsAnswer (reply_of office now w heard) a × Stands s (office_after office (call_of now w heard))) (sym is) ((reply.Refused Key, refl, shown), stands)
-
-  -- to what was refused as it came
-  pub refused_done : {E : Type 0} (received : Received) (refusal : Refusal) (r : Result Answered E) → received ≡ Refused refusal → IfOk r (ShowsReply (reply.Refused refusal))
-      → IfOk r (λ a. IsAnswer (reply_in office now received) a × Stands s (office_after office (call_received office now received)))
-  refused_done received refusal (Err e) is shown = tt
-  refused_done received refusal (Ok a) is shown =
-      subst (λ q. IsAnswer (reply_in office now q) a × Stands s (office_after office (call_received office now q))) (sym is) ((reply.Refused refusal, refl, shown), stands)
+pub always_err : {T E : Type 0} {W : Type 0} (r : Result T E) → W → OnErr r W
+always_err (Ok x) w = tt
+always_err (Err e) w = w
 
 -- a source that failed in the body has no reply to a caller
 pub cut_unheard : {E : Type 0} (heard : Result Request Unheard) (why : Unheard) (r : Result Answered E) → heard ≡ Err why → IfOk r (IsAnswer (unheard_reply why)) → is_unheard heard ≡ true → OnOk r ⊥
@@ -123,22 +75,45 @@ fault_cut (Err (unheard.Refused refusal)) why is cut = let both = sym is ∙ cut
 fault_cut (Err unheard.Memory) why is cut = let both = sym is ∙ cut in absurd (cc)
 fault_cut (Err unheard.Failed) why is cut = refl
 
--- of a caller that was found
-pub found_cut : {T : Type 0} (r : Result T Unanswered) (key : List ℕ) (heard : Result Request Unheard) (who : Caller) (a b c : State)
-    → (HasCleanDisk b → (office : OfficeLists) → Stands a office → Some who ≡ caller_with office.keys key) → (HasCleanDisk c → HasCleanDisk b) → IfErr r (IsFault heard)
-    → IfErr r (λ why. why ≡ unanswered.CutOff → IsCutOff (With key heard) a c)
-found_cut (Ok x) key heard who a b c found clean h = tt
-found_cut (Err why) key heard who a b c found clean h = λ cut. record {
-  cut_off = fault_cut heard why h cut;
-  caller = λ is_clean office stands. ap is_some (sym (found (clean is_clean) office stands));
-}
+-- ---- what is left
 
--- what was not heard makes no call
-pub unheard_leaves : {T E : Type 0} (s : State) (r : Result T E) (now : Moment) (who : Caller) (heard : Result Request Unheard) (why : Unheard) → heard ≡ Err why → s.in_transaction ≡ false
-    → Leaves (if_ok r (call_of now (Some who) heard)) s s
-unheard_leaves s (Err e) now who heard why is ended = not_asked s ended
-unheard_leaves s (Ok x) now who heard why is ended = subst (λ h. Leaves (call_of now (Some who) h) s s) (sym is) (not_asked s ended)
+module _ {O : Type 0} (g : office.Ghosts O) where
+  -- an office that is not asked is left as it was
+  pub not_asked : (o : O) → LeavesOffice g None o o
+  not_asked o = leaves_same g.is_reliable g.is_open g.stands g.faults o
 
-pub always_err : {T E : Type 0} {W : Type 0} (r : Result T E) → W → OnErr r W
-always_err (Ok x) w = tt
-always_err (Err e) w = w
+  -- no call is made
+  pub makes_none : (call : OfficeLists → Option Call) (old new : O) → LeavesOffice g None old new → MakesCall g call old new
+  makes_none call old new leaves = record { made = None; leaves = leaves; by = λ reliable office stands. inl refl }
+
+  -- the call is made, if it is answered, of the caller that was found
+  pub makes_found : {T E : Type 0} (r : Result T E) (found : Option Caller) (now : Moment) (heard : Result Request Unheard) (who : OfficeLists → Option Caller) (a b c : O)
+      → (g.is_reliable b → (office : OfficeLists) → g.stands a office → found ≡ who office) → LeavesOffice g None a b → LeavesOffice g (if_ok r (call_of now found heard)) b c
+      → MakesCall g (λ office. call_of now (who office) heard) a c
+  makes_found r found now heard who a b c is one two = record {
+    made = if_ok r (call_of now found heard);
+    leaves = leaves_then g.is_reliable g.is_open g.stands g.faults (if_ok r (call_of now found heard)) a b c one two;
+    by = λ reliable office stands.
+        subst (λ w. (if_ok r (call_of now found heard) ≡ None) ⊎ (if_ok r (call_of now found heard) ≡ call_of now w heard)) (is (two.was_reliable reliable) office stands) (if_ok_or_none r (call_of now found heard));
+  }
+
+  -- what failed behind a reading made no call
+  pub unmade_behind : {T E : Type 0} (r : Result T E) (call : Option Call) (a b c : O) → LeavesOffice g None a b → LeavesOffice g (if_ok r call) b c → OnErr r (LeavesOffice g None a c)
+  unmade_behind (Ok x) call a b c one two = tt
+  unmade_behind (Err e) call a b c one two = leaves_then g.is_reliable g.is_open g.stands g.faults None a b c one two
+
+  -- what was not heard makes no call
+  pub unheard_leaves : {T E : Type 0} (o : O) (r : Result T E) (now : Moment) (who : Caller) (heard : Result Request Unheard) (why : Unheard) → heard ≡ Err why
+      → LeavesOffice g (if_ok r (call_of now (Some who) heard)) o o
+  unheard_leaves o (Err e) now who heard why is = not_asked o
+  unheard_leaves o (Ok x) now who heard why is = subst (λ h. LeavesOffice g (call_of now (Some who) h) o o) (sym is) (not_asked o)
+
+  -- of a caller that was found, it is cut off only where its source failed
+  pub found_cut : {T : Type 0} (r : Result T Unanswered) (key : List ℕ) (heard : Result Request Unheard) (who : Caller) (a b c : O)
+      → (g.is_reliable b → (office : OfficeLists) → g.stands a office → Some who ≡ caller_with office.keys key) → (g.is_reliable c → g.is_reliable b) → IfErr r (IsFault heard)
+      → IfErr r (λ why. why ≡ unanswered.CutOff → IsCutOff g (With key heard) a c)
+  found_cut (Ok x) key heard who a b c found reliable h = tt
+  found_cut (Err why) key heard who a b c found reliable h = λ cut. record {
+    cut_off = fault_cut heard why h cut;
+    caller = λ is_reliable office stands. ap is_some (sym (found (reliable is_reliable) office stands));
+  }

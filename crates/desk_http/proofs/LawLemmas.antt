@@ -21,7 +21,7 @@ use Rattle.desk_requests.specs.declared.received.Received.{Received}
 use Rattle.desk_requests.specs.declared.received.Received.TheVariants.{Refused, With}
 use Rattle.desk_requests.specs.declared.received.Unheard.{Unheard}
 use Rattle.desk_requests.specs.declared.received.Unheard.TheVariants as unheard
-use Rattle.desk_store.specs.Reads.{caller_with}
+use Rattle.meeting_core.specs.Callers.{caller_with}
 use Rattle.meeting_laws.specs.Worlds.{ReadsTheViews, party_answer}
 use Rattle.desk_http.specs.Answers.{reply_in, reply_of}
 use Rattle.desk_http.specs.Laws.{AgreeOnRequest, AgreeTo, AgreeWith, RepliesTellNoMore, TextsTellNoMore}

@@ -1,9 +1,9 @@
 -- What is written of a reply, and of a failure.
 use Rattle.std.proofs.Common.{◌≡◌, ◌⊎◌, ℕ, inl, inr, List, None, Result, Ok, Err, refl, subst, sym, ◌∙◌}
 use Rattle.std.specs.Prelude.{IfErr, OnErr, OnOk}
-use Rattle.sqlite.specs.Held.{Held, state}
-use Rattle.sqlite.specs.State.{State, HasCleanDisk}
-use Rattle.sqlite_trees.specs.declared.store.Store as store
+use Rattle.any_office.specs.Homes.{office_after}
+use Rattle.any_office.specs.Runs.{LeavesOffice}
+use Rattle.any_office.specs.declared.Office as office
 use Rattle.desk_clocks.specs.declared.clock.Clock as clock
 use Rattle.desk_devices.specs.declared.sink.Sink as sink
 use Rattle.desk_devices.specs.declared.source.Source as source
@@ -12,8 +12,6 @@ use Rattle.desk_words.specs.declared.office.OfficeLists.{OfficeLists}
 use Rattle.desk_words.specs.declared.reply.Failure.{Failure}
 use Rattle.desk_requests.specs.declared.received.Received.{Received}
 use Rattle.desk_routes.specs.ReplyTexts.{reply_text}
-use Rattle.desk_records.specs.Standing.{Stands}
-use Rattle.desk_store.specs.Joins.{Leaves, office_after}
 use Rattle.desk_http.specs.Answers.{IsAnswer, IsCutOff, MakesCall, call_received, reply_in}
 use Rattle.desk_http.specs.Served.{FailsWriting, OnFault, Replies, Serves, ServesRequest, TellsFailure, WritesPart, WritesText, as_served, as_write, failure_text, only_at}
 use Rattle.desk_http.specs.declared.now.NowFault.{NowFault}
@@ -24,34 +22,9 @@ use Rattle.desk_http.specs.declared.serve.ServeFault.{ServeFault}
 use Rattle.desk_http.specs.declared.answers.Unanswered.TheVariants.{CutOff}
 use Rattle.desk_http.specs.declared.serve.ServeFault.TheVariants.{Read, Write}
 
--- the text of what is answered, or a part of it, is written
-pub serves_reply : (now : Moment) (received : Received) (old new : State) (answered : Answered) (IsWritten : List ℕ → Type 0)
-    → (HasCleanDisk new → (office : OfficeLists) → Stands old office → IsAnswer (reply_in office now received) answered × Stands new (office_after office (call_received office now received)))
-    → IsWritten (reply_text answered.status answered.body.items) → Serves now received old new IsWritten
-serves_reply now received old new answered IsWritten done written = λ clean office stands.
-    let it = done clean office stands in (
-      reply_text answered.status answered.body.items,
-      inl (record { reply = it.0.0; is = it.0.1; text_is = λ i. reply_text (it.0.2.0 i) (it.0.2.1 i); stands = it.1 }),
-      written,
-    )
-
 first_of_two : {A B : Type 0} → A ⊎ B → ¬ B → A
 first_of_two (inl a) none = a
 first_of_two (inr b) none = absurd (none b)
-
--- the text of a failure, or a part of it, is written
-pub serves_failure : (now : Moment) (received : Received) (old new : State) (failure : Failure) (IsWritten : List ℕ → Type 0)
-    → Leaves None old new → IsWritten (failure_text failure) → Serves now received old new IsWritten
-serves_failure now received old new failure IsWritten leaves written = λ clean office stands. (
-  failure_text failure,
-  inr (record {
-    failure = failure;
-    text_is = refl;
-    same = λ is_open. leaves.stands clean is_open office stands;
-    unfaulted = λ is_open none. leaves.stands clean (first_of_two (leaves.closes clean is_open) none) office stands;
-  }),
-  written,
-)
 
 -- what holds where all was written
 pub sent_well : {T E : Type 0} {P Q : Type 0} (written : Result T E) (told : Result T ServeFault) → told ≡ as_write written → OnOk written P → (P → Q) → OnOk told Q
@@ -63,18 +36,6 @@ pub sent_badly : {T E : Type 0} {P Q : Type 0} (written : Result T E) (told : Re
 sent_badly {T} {E} {P} {Q} (Ok x) told is h next = subst (λ r. IfErr r (λ fault. fault ≡ Write → Q)) (sym is) tt
 sent_badly {T} {E} {P} {Q} (Err e) told is h next = subst (λ r. IfErr r (λ fault. fault ≡ Write → Q)) (sym is) (λ _. next h)
 
--- where there is no answer, and its failure is told
-pub failed_served : {T E : Type 0} (r : Result T E) (now : Moment) (received : Received) (old new : State) (why : Unanswered) (IsWritten : List ℕ → Type 0)
-    → Leaves None old new → OnOk r (TellsFailure why IsWritten) → OnOk r (Serves now received old new IsWritten)
-failed_served (Ok x) now received old new why IsWritten leaves h = serves_failure now received old new h.0 IsWritten leaves h.2
-failed_served (Err e) now received old new why IsWritten leaves h = tt
-
--- and where it is told in part
-pub failed_partly : {T : Type 0} (r : Result T ServeFault) (now : Moment) (received : Received) (old new : State) (why : Unanswered) (IsWritten : List ℕ → Type 0)
-    → Leaves None old new → IfErr r (λ fault. fault ≡ Write → TellsFailure why IsWritten) → IfErr r (λ fault. fault ≡ Write → Serves now received old new IsWritten)
-failed_partly (Ok x) now received old new why IsWritten leaves h = tt
-failed_partly (Err e) now received old new why IsWritten leaves h = λ is. let told = h is in serves_failure now received old new told.0 IsWritten leaves told.2
-
 -- a write that failed is no cut-off body
 sent_read : {T E : Type 0} (P : Type 0) (written : Result T E) (told : Result T ServeFault) → told ≡ as_write written → OnFault told Read P
 sent_read {T} {E} P (Ok x) told is = subst (λ r. OnFault r Read P) (sym is) tt
@@ -84,18 +45,56 @@ on_read : {T : Type 0} (r : Result T ServeFault) {P Q : Type 0} → OnFault r Re
 on_read (Ok x) h next = tt
 on_read (Err e) h next = λ is. next (h is)
 
-module _ {S W : Type 0} (g : store.Ghosts S) (h : sink.Ghosts W) (now : Moment) (received : Received) (old new : Held S) (before after : W) where
+module _ {O : Type 0} (g : office.Ghosts O) where
+  -- the text of what is answered, or a part of it, is written
+  pub serves_reply : (now : Moment) (received : Received) (old new : O) (answered : Answered) (IsWritten : List ℕ → Type 0)
+      → (g.is_reliable new → (office : OfficeLists) → g.stands old office → IsAnswer (reply_in office now received) answered × g.stands new (office_after office (call_received office now received)))
+      → IsWritten (reply_text answered.status answered.body.items) → Serves g now received old new IsWritten
+  serves_reply now received old new answered IsWritten done written = λ reliable office stands.
+      let it = done reliable office stands in (
+        reply_text answered.status answered.body.items,
+        inl (record { reply = it.0.0; is = it.0.1; text_is = λ i. reply_text (it.0.2.0 i) (it.0.2.1 i); stands = it.1 }),
+        written,
+      )
+
+  -- the text of a failure, or a part of it, is written
+  pub serves_failure : (now : Moment) (received : Received) (old new : O) (failure : Failure) (IsWritten : List ℕ → Type 0)
+      → LeavesOffice g None old new → IsWritten (failure_text failure) → Serves g now received old new IsWritten
+  serves_failure now received old new failure IsWritten leaves written = λ reliable office stands. (
+    failure_text failure,
+    inr (record {
+      failure = failure;
+      text_is = refl;
+      same = λ is_open. leaves.stands reliable is_open office stands;
+      unfaulted = λ is_open none. leaves.stands reliable (first_of_two (leaves.closes reliable is_open) none) office stands;
+    }),
+    written,
+  )
+
+  -- where there is no answer, and its failure is told
+  pub failed_served : {T E : Type 0} (r : Result T E) (now : Moment) (received : Received) (old new : O) (why : Unanswered) (IsWritten : List ℕ → Type 0)
+      → LeavesOffice g None old new → OnOk r (TellsFailure why IsWritten) → OnOk r (Serves g now received old new IsWritten)
+  failed_served (Ok x) now received old new why IsWritten leaves h = serves_failure now received old new h.0 IsWritten leaves h.2
+  failed_served (Err e) now received old new why IsWritten leaves h = tt
+
+  -- and where it is told in part
+  pub failed_partly : {T : Type 0} (r : Result T ServeFault) (now : Moment) (received : Received) (old new : O) (why : Unanswered) (IsWritten : List ℕ → Type 0)
+      → LeavesOffice g None old new → IfErr r (λ fault. fault ≡ Write → TellsFailure why IsWritten) → IfErr r (λ fault. fault ≡ Write → Serves g now received old new IsWritten)
+  failed_partly (Ok x) now received old new why IsWritten leaves h = tt
+  failed_partly (Err e) now received old new why IsWritten leaves h = λ is. let told = h is in serves_failure now received old new told.0 IsWritten leaves told.2
+
+module _ {O W : Type 0} (g : office.Ghosts O) (h : sink.Ghosts W) (now : Moment) (received : Received) (old new : O) (before after : W) where
   -- where there is an answer, and it is written
   pub answered_replies : {T E : Type 0} (written : Result T E) (told : Result T ServeFault) (answered : Answered) → told ≡ as_write written
-      → (HasCleanDisk (state g new) → (office : OfficeLists) → Stands (state g old) office
-      → IsAnswer (reply_in office now received) answered × Stands (state g new) (office_after office (call_received office now received)))
-      → MakesCall (λ office. call_received office now received) (state g old) (state g new)
+      → (g.is_reliable new → (office : OfficeLists) → g.stands old office
+      → IsAnswer (reply_in office now received) answered × g.stands new (office_after office (call_received office now received)))
+      → MakesCall g (λ office. call_received office now received) old new
       → OnOk written (WritesText h before after (reply_text answered.status answered.body.items)) → OnErr written (WritesPart h before after (reply_text answered.status answered.body.items))
       → OnOk written (h.failures after ≡ h.failures before) → OnErr written (FailsWriting h before after)
       → Replies g h now received told old new before after
   answered_replies written told answered is done makes all part works failed = record {
-    served = sent_well written told is all (serves_reply now received (state g old) (state g new) answered (WritesText h before after) done);
-    partly = sent_badly written told is part (serves_reply now received (state g old) (state g new) answered (WritesPart h before after) done);
+    served = sent_well written told is all (serves_reply g now received old new answered (WritesText h before after) done);
+    partly = sent_badly written told is part (serves_reply g now received old new answered (WritesPart h before after) done);
     unread = sent_read _ written told is;
     makes = makes;
     works = sent_well written told is works (λ same. same);
@@ -103,14 +102,14 @@ module _ {S W : Type 0} (g : store.Ghosts S) (h : sink.Ghosts W) (now : Moment) 
   }
 
   -- where there is none, and its failure is told
-  pub unanswered_replies : {T : Type 0} (told : Result T ServeFault) (why : Unanswered) → (why ≡ CutOff → IsCutOff received (state g old) (state g new)) → Leaves None (state g old) (state g new)
-      → MakesCall (λ office. call_received office now received) (state g old) (state g new)
+  pub unanswered_replies : {T : Type 0} (told : Result T ServeFault) (why : Unanswered) → (why ≡ CutOff → IsCutOff g received old new) → LeavesOffice g None old new
+      → MakesCall g (λ office. call_received office now received) old new
       → OnOk told (TellsFailure why (WritesText h before after)) → OnFault told Write (TellsFailure why (WritesPart h before after)) → OnFault told Read ((why ≡ CutOff) × (after ≡ before))
       → OnOk told (h.failures after ≡ h.failures before) → OnFault told Write (FailsWriting h before after)
       → Replies g h now received told old new before after
   unanswered_replies told why cause leaves makes all part unread works failed = record {
-    served = failed_served told now received (state g old) (state g new) why (WritesText h before after) leaves all;
-    partly = failed_partly told now received (state g old) (state g new) why (WritesPart h before after) leaves part;
+    served = failed_served g told now received old new why (WritesText h before after) leaves all;
+    partly = failed_partly g told now received old new why (WritesPart h before after) leaves part;
     unread = on_read told unread (λ it. (cause it.0, leaves, it.1));
     makes = makes;
     works = works;
@@ -125,8 +124,8 @@ served_no_clock (Ok x) is = absurd (cc)
 served_no_clock (Err fault) is = absurd (cc)
 
 -- as by a clock that gives one moment
-pub served_only : {T S C R W : Type 0} (g : store.Ghosts S) (k : clock.Ghosts C) (r : source.Ghosts R) (h : sink.Ghosts W) (moment : Moment) (result : Result T NowFault) (told : Result T ServeFault)
-    (old new : Held S) (from till : C) (reader reader' : R) (before after : W) → ((now : Moment) → k.gives from now till → now ≡ moment) → (k.fails from till → ⊥) → result ≡ as_served told
+pub served_only : {T O C R W : Type 0} (g : office.Ghosts O) (k : clock.Ghosts C) (r : source.Ghosts R) (h : sink.Ghosts W) (moment : Moment) (result : Result T NowFault) (told : Result T ServeFault)
+    (old new : O) (from till : C) (reader reader' : R) (before after : W) → ((now : Moment) → k.gives from now till → now ≡ moment) → (k.fails from till → ⊥) → result ≡ as_served told
     → ServesRequest g k r h result old new from till reader reader' before after → ServesRequest g (only_at moment) r h (as_served told) old new tt tt reader reader' before after
 served_only g k r h moment result told old new from till reader reader' before after only never same (inl it) = inl (record {
   received = it.received;

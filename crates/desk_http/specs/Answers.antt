@@ -1,6 +1,7 @@
 -- What is replied to what was received, and which call is made of it.
 use Rattle.std.specs.Prelude.{◌≡◌, ◌⊎◌, Bool, true, false, Option, Some, None, is_some, IsTrue, Result, Ok, Err}
-use Rattle.sqlite.specs.State.{State, HasCleanDisk}
+use Rattle.any_office.specs.Runs.{LeavesOffice}
+use Rattle.any_office.specs.declared.Office as office
 use Rattle.desk_terms.specs.declared.refusal.Refusal.TheVariants.{Key}
 use Rattle.desk_words.specs.Seen.{Moment}
 use Rattle.desk_words.specs.declared.caller.Caller.{Caller}
@@ -18,9 +19,7 @@ use Rattle.desk_requests.specs.declared.received.Received.TheVariants.{Refused, 
 use Rattle.desk_requests.specs.declared.received.Unheard.{Unheard}
 use Rattle.desk_requests.specs.declared.received.Unheard.TheVariants as unheard
 use Rattle.desk_routes.specs.Statuses.{reply_status}
-use Rattle.desk_records.specs.Standing.{Stands}
-use Rattle.desk_store.specs.Joins.{Leaves}
-use Rattle.desk_store.specs.Reads.{caller_with}
+use Rattle.meeting_core.specs.Callers.{caller_with}
 use Rattle.meeting_core.specs.Step.{decided}
 use Rattle.desk_http.specs.declared.answers.Answered.{Answered}
 use Rattle.desk_http.specs.declared.answers.Unanswered.{Unanswered}
@@ -72,7 +71,7 @@ abbrev pub fault_unheard : Unheard → Unanswered
 fault_unheard unheard.Failed = unanswered.CutOff
 fault_unheard why = unanswered.Failure failure.Memory
 
--- why what was heard of a caller is not answered: a request by a failure of the desk or of memory
+-- why what was heard of a caller is not answered: a request by a failure of the office or of memory
 abbrev pub IsFault : Result Request Unheard → Unanswered → Type 0
 IsFault (Ok request) why = (failed : Failure) × (why ≡ unanswered.Failure failed)
 IsFault (Err heard) why = why ≡ fault_unheard heard
@@ -82,21 +81,23 @@ abbrev pub is_of_caller : OfficeLists → Received → Bool
 is_of_caller office (Refused refusal) = false
 is_of_caller office (With key heard) = is_some (caller_with office.keys key)
 
--- a body was cut off, with the key of a caller: a key that is nobody's comes first
-pub record IsCutOff (received : Received) (old new : State) : Type 0 where
-  pub cut_off : is_cut_off received ≡ true
-  pub caller : HasCleanDisk new → (office : OfficeLists) → Stands old office
-      → IsTrue (is_of_caller office received)
-
 -- the call, if it was answered
 abbrev pub if_ok : {T E : Type 0} → Result T E → Option Call → Option Call
 if_ok (Ok x) call = call
 if_ok (Err e) call = None
 
--- a call was made, or none: the one that the office for which the tables stood lets be made, if it
--- lets any
-pub record MakesCall (call : OfficeLists → Option Call) (old new : State) : Type 0 where
-  pub made : Option Call
-  pub leaves : Leaves made old new
-  pub by : HasCleanDisk new → (office : OfficeLists) → Stands old office
-      → (made ≡ None) ⊎ (made ≡ call office)
+-- ---- wherever the office is stored
+
+module _ {O : Type 0} (g : office.Ghosts O) where
+  -- a body was cut off, with the key of a caller: a key that is nobody's comes first
+  pub record IsCutOff (received : Received) (old new : O) : Type 0 where
+    pub cut_off : is_cut_off received ≡ true
+    pub caller : g.is_reliable new → (office : OfficeLists) → g.stands old office
+        → IsTrue (is_of_caller office received)
+
+  -- a call was made, or none: the one that the office that was stored lets be made, if it lets any
+  pub record MakesCall (call : OfficeLists → Option Call) (old new : O) : Type 0 where
+    pub made : Option Call
+    pub leaves : LeavesOffice g made old new
+    pub by : g.is_reliable new → (office : OfficeLists) → g.stands old office
+        → (made ≡ None) ⊎ (made ≡ call office)

@@ -11,7 +11,7 @@ use Rattle.desk_requests.specs.Received.{Spells}
 use Rattle.desk_requests.specs.declared.received.Received.{Received}
 use Rattle.desk_requests.specs.declared.received.Received.TheVariants.{Refused, With}
 use Rattle.desk_requests.specs.declared.received.Unheard.{Unheard}
-use Rattle.desk_store.specs.Reads.{caller_with}
+use Rattle.meeting_core.specs.Callers.{caller_with}
 use Rattle.meeting_laws.specs.Worlds.{AgreeFor}
 use Rattle.desk_http.specs.Answers.{reply_in}
 use Rattle.desk_http.specs.Served.{replied_text}

@@ -1,11 +1,10 @@
--- What is written of a reply, and what is left of the desk.
-use Rattle.std.specs.Prelude.{◌≡◌, ◌⊎◌, ℕ, ◌+◌, ◌≤◌, true, false, List, Option, Some, None, IsTrue, Result, Ok, Err}
+-- What is written of a reply, and what is left of the office.
+use Rattle.std.specs.Prelude.{◌≡◌, ◌⊎◌, ℕ, ◌+◌, ◌≤◌, true, false, List, Option, Some, None, Result, Ok, Err}
 use Rattle.std.specs.Prelude.{IfErr, OnOk}
 use Rattle.std.specs.Io.KnownBytes.{Appends}
-use Rattle.sqlite.specs.Held.{Held, state}
-use Rattle.sqlite.specs.State.{State, HasCleanDisk}
-use Rattle.sqlite_disk.specs.Disk.{MoreFaults}
-use Rattle.sqlite_trees.specs.declared.store.Store as store
+use Rattle.any_office.specs.Homes.{HasFailed, office_after}
+use Rattle.any_office.specs.Runs.{LeavesOffice}
+use Rattle.any_office.specs.declared.Office as office
 use Rattle.desk_clocks.specs.declared.clock.Clock as clock
 use Rattle.desk_devices.specs.Counts.{one_more}
 use Rattle.desk_devices.specs.Written.{AppendsPrefix}
@@ -16,13 +15,11 @@ use Rattle.desk_words.specs.Seen.{Moment}
 use Rattle.desk_words.specs.declared.office.OfficeLists.{OfficeLists}
 use Rattle.desk_words.specs.declared.reply.Failure.{Failure}
 use Rattle.desk_words.specs.declared.reply.Reply.{Reply}
-use Rattle.desk_records.specs.Standing.{Stands}
 use Rattle.desk_replies.specs.Replies.{reply_bytes}
 use Rattle.desk_requests.specs.Received.{Came, Spells, TakesRequest, is_cut_off}
 use Rattle.desk_requests.specs.declared.received.Received.{Received}
 use Rattle.desk_routes.specs.ReplyTexts.{failure_body, reply_text}
 use Rattle.desk_routes.specs.Statuses.{reply_status}
-use Rattle.desk_store.specs.Joins.{Leaves, office_after}
 use Rattle.desk_http.specs.Answers.{IsCutOff, MakesCall, call_received, reply_in}
 use Rattle.desk_http.specs.declared.answers.Unanswered.{Unanswered}
 use Rattle.desk_http.specs.declared.answers.Unanswered.TheVariants as unanswered
@@ -39,32 +36,34 @@ replied_text reply = reply_text (reply_status reply) (reply_bytes reply)
 abbrev pub failure_text : Failure → List ℕ
 failure_text failure = reply_text 503 (failure_body failure)
 
--- the text is that of the reply, and the tables are the office after the call, if one is made
-pub record IsReplied (office : OfficeLists) (now : Moment) (received : Received) (new : State)
-    (text : List ℕ) : Type 0 where
-  pub reply : Reply
-  pub is : reply_in office now received ≡ Some reply
-  pub text_is : text ≡ replied_text reply
-  pub stands : Stands new (office_after office (call_received office now received))
+module _ {O : Type 0} (g : office.Ghosts O) where
+  -- the text is that of the reply, and the office is the one after the call, if one is made
+  pub record IsReplied (office : OfficeLists) (now : Moment) (received : Received) (new : O)
+      (text : List ℕ) : Type 0 where
+    pub reply : Reply
+    pub is : reply_in office now received ≡ Some reply
+    pub text_is : text ≡ replied_text reply
+    pub stands : g.stands new (office_after office (call_received office now received))
 
--- the text tells of a failure, and the tables are the office as it was: of a store that is open,
--- and of one that was open, where the disk refused nothing in the call
-pub record IsFailed (office : OfficeLists) (old new : State) (text : List ℕ) : Type 0 where
-  pub failure : Failure
-  pub text_is : text ≡ failure_text failure
-  pub same : IsTrue new.is_open → Stands new office
-  pub unfaulted : IsTrue old.is_open → ¬ (MoreFaults old.faults new.faults) → Stands new office
+  -- the text tells of a failure, and the office is as it was: of one that is open, and of one that
+  -- was open, where no device under it failed in the call
+  pub record IsFailed (office : OfficeLists) (old new : O) (text : List ℕ) : Type 0 where
+    pub failure : Failure
+    pub text_is : text ≡ failure_text failure
+    pub same : g.is_open new → g.stands new office
+    pub unfaulted : g.is_open old → ¬ (HasFailed (g.faults old) (g.faults new))
+        → g.stands new office
 
--- the text is that of the reply, or tells of a failure
-abbrev pub IsServed : OfficeLists → Moment → Received → State → State → List ℕ → Type 0
-IsServed office now received old new text =
-    IsReplied office now received new text ⊎ IsFailed office old new text
+  -- the text is that of the reply, or tells of a failure
+  abbrev pub IsServed : OfficeLists → Moment → Received → O → O → List ℕ → Type 0
+  IsServed office now received old new text =
+      IsReplied office now received new text ⊎ IsFailed office old new text
 
--- of an office for which the tables stood, with this text or a part of it
-abbrev pub Serves : Moment → Received → State → State → (List ℕ → Type 0) → Type 0
-Serves now received old new IsWritten =
-    HasCleanDisk new → (office : OfficeLists) → Stands old office
-    → (text : List ℕ) × IsServed office now received old new text × IsWritten text
+  -- of an office that was stored, with this text or a part of it
+  abbrev pub Serves : Moment → Received → O → O → (List ℕ → Type 0) → Type 0
+  Serves now received old new IsWritten =
+      g.is_reliable new → (office : OfficeLists) → g.stands old office
+      → (text : List ℕ) × IsServed office now received old new text × IsWritten text
 
 -- what was received is what the bytes spell that came
 abbrev pub IsReceived : Option (List ℕ) → Option (List ℕ) → ℕ → ℕ → Received → Type 0
@@ -111,19 +110,17 @@ as_write (Err e) = Err Write
 
 -- ---- what one request comes to
 
--- what was received is answered on a desk at a moment, and written: the reply or a failure is told,
--- or a write failed, or the body was cut off, and then nothing is written or changed; whatever is
--- told, one call was made at most
-pub record Replies {T S W : Type 0} (g : store.Ghosts S) (h : sink.Ghosts W) (now : Moment)
-    (received : Received) (result : Result T ServeFault) (old new : Held S) (before after : W)
+-- what was received is answered by an office at a moment, and written: the reply or a failure is
+-- told, or a write failed, or the body was cut off, and then nothing is written or changed;
+-- whatever is told, one call was made at most
+pub record Replies {T O W : Type 0} (g : office.Ghosts O) (h : sink.Ghosts W) (now : Moment)
+    (received : Received) (result : Result T ServeFault) (old new : O) (before after : W)
     : Type 0 where
-  pub served : OnOk result
-      (Serves now received (state g old) (state g new) (WritesText h before after))
-  pub partly : OnFault result Write
-      (Serves now received (state g old) (state g new) (WritesPart h before after))
-  pub unread : OnFault result Read (IsCutOff received (state g old) (state g new)
-      × Leaves None (state g old) (state g new) × (after ≡ before))
-  pub makes : MakesCall (λ office. call_received office now received) (state g old) (state g new)
+  pub served : OnOk result (Serves g now received old new (WritesText h before after))
+  pub partly : OnFault result Write (Serves g now received old new (WritesPart h before after))
+  pub unread : OnFault result Read
+      (IsCutOff g received old new × LeavesOffice g None old new × (after ≡ before))
+  pub makes : MakesCall g (λ office. call_received office now received) old new
   pub works : OnOk result (h.failures after ≡ h.failures before)
   pub failed : OnFault result Write (FailsWriting h before after)
 
@@ -133,8 +130,8 @@ as_served (Ok x) = Ok x
 as_served (Err fault) = Err (Serve fault)
 
 -- a request was read; then the clock gave a moment; then it was answered at that moment
-pub record IsAnsweredAt {T S C R W : Type 0} (g : store.Ghosts S) (k : clock.Ghosts C)
-    (r : source.Ghosts R) (h : sink.Ghosts W) (result : Result T NowFault) (old new : Held S)
+pub record IsAnsweredAt {T O C R W : Type 0} (g : office.Ghosts O) (k : clock.Ghosts C)
+    (r : source.Ghosts R) (h : sink.Ghosts W) (result : Result T NowFault) (old new : O)
     (from till : C) (reader reader' : R) (before after : W) : Type 0 where
   pub received : Received
   pub read : Receives r reader reader' received
@@ -160,12 +157,12 @@ pub record IsUntimed {T C R : Type 0} (k : clock.Ghosts C) (r : source.Ghosts R)
   pub read : Receives r reader reader' received
   pub fails : k.fails from till
 
--- one request is served on a desk: it is read, then answered at the moment that a clock gives, and
--- what is told of it is written; or it is not read, or the clock gives no moment, and then nothing
--- is written or changed
-abbrev pub ServesRequest : {T S C R W : Type 0} → store.Ghosts S → clock.Ghosts C
+-- one request is served by an office: it is read, then answered at the moment that a clock gives,
+-- and what is told of it is written; or it is not read, or the clock gives no moment, and then
+-- nothing is written or changed
+abbrev pub ServesRequest : {T O C R W : Type 0} → office.Ghosts O → clock.Ghosts C
     → source.Ghosts R → sink.Ghosts W → Result T NowFault
-    → Held S → Held S → C → C → R → R → W → W → Type 0
+    → O → O → C → C → R → R → W → W → Type 0
 ServesRequest g k r h result old new from till reader reader' before after =
     IsAnsweredAt g k r h result old new from till reader reader' before after
     ⊎ ((IsUnread r result from till reader reader' ⊎ IsUntimed k r result from till reader reader')

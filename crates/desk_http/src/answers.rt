@@ -1,27 +1,23 @@
-//! What is answered of a request on a desk.
+//! What an office answers to a request.
 ghost use Rattle.std.specs.Prelude.{◌≡◌, IfErr, IfOk, OnErr, OnOk, Some, None, true};
+ghost use Rattle.any_office.specs.Homes.{OfOffice, office_after};
+ghost use Rattle.any_office.specs.Runs.{LeavesOffice};
 ghost use Rattle.desk_http.specs.Answers.{IsAnswer, IsCutOff, IsFault, MakesCall, ShowsReply};
 ghost use Rattle.desk_http.specs.Answers.{call_of, call_received, fault_unheard, if_ok};
 ghost use Rattle.desk_http.specs.Answers.{reply_in, reply_of, unheard_reply};
 ghost use Rattle.desk_http.specs.declared.answers.Unanswered.TheVariants.{CutOff};
 ghost use Rattle.desk_http.specs.declared.answers.Unanswered.TheVariants as unanswered;
-ghost use Rattle.desk_records.specs.Standing.{Stands};
 ghost use Rattle.desk_requests.specs.Received.{is_cut_off, is_unheard};
-ghost use Rattle.desk_store.specs.Joins.{Leaves, office_after};
-ghost use Rattle.desk_words.specs.declared.office.OfficeLists.{OfficeLists};
 ghost use Rattle.desk_terms.specs.declared.refusal.Refusal.TheVariants.{Key};
 ghost use Rattle.desk_words.specs.declared.reply.Failure.TheVariants as failure;
 ghost use Rattle.desk_words.specs.declared.reply.Reply.TheVariants as reply;
 ghost use Rattle.desk_requests.specs.declared.received.Received.TheVariants.{With};
-ghost use Rattle.sqlite.specs.Held.{state};
-ghost use Rattle.sqlite.specs.State.{HasCleanDisk};
 
+use any_office::Office;
 use desk_replies::reply_text;
 use desk_requests::{Received, Unheard};
 use desk_routes::{StatusCode, status_of};
-use desk_store::Desk;
 use desk_words::{Call, Caller, Failure, Moment, Refusal, Reply, Request, SecretKey};
-use sqlite::Alter;
 use std::alloc::{AllocError, Global};
 
 /// A reply, as it is sent.
@@ -36,7 +32,7 @@ pub struct Answered {
 /// Why there is no reply.
 #[derive(Clone, Copy, PartialEq, Eq)]
 pub enum Unanswered {
-    /// The desk could not be read or written, or memory was refused.
+    /// The office could not be read or written, or memory was refused.
     Failure(Failure),
     /// The request's body did not come whole, since its source failed.
     CutOff,
@@ -88,24 +84,21 @@ fn answer_unheard(alloc: Global, why: Unheard) -> Result<Answered, Unanswered>
 }
 
 /// The answer to what was heard of a caller.
-fn answer_to<S: Alter>(
+fn answer_to<O: Office>(
     alloc: Global,
-    desk: &mut Desk<S>,
+    office: &mut O,
     moment: Moment,
     caller: Caller,
     heard: Result<Request, Unheard>,
 ) -> Result<Answered, Unanswered>
-    ensures done { HasCleanDisk (state S.Store desk.new) → (office : OfficeLists)
-        → Stands (state S.Store desk.old) office
-        → IfOk result (λ a. IsAnswer (reply_of office moment (Some caller) heard) a
-        × Stands (state S.Store desk.new)
-        (office_after office (call_of moment (Some caller) heard))) }
-    ensures leaves { Leaves (if_ok result (call_of moment (Some caller) heard))
-        (state S.Store desk.old) (state S.Store desk.new) }
+    ensures done { OfOffice O.is_reliable O.stands office.old office.new (λ stored. IfOk result
+        (λ a. IsAnswer (reply_of stored moment (Some caller) heard) a
+        × O.stands office.new (office_after stored (call_of moment (Some caller) heard)))) }
+    ensures leaves { LeavesOffice O.Office (if_ok result (call_of moment (Some caller) heard))
+        office.old office.new }
     ensures cause { IfErr result (IsFault heard) }
     ensures cut_off { is_unheard heard ≡ true → OnOk result ⊥ }
 {
-    desk.rests();
     match heard {
         Ok(request) => {
             let call = Call {
@@ -113,71 +106,64 @@ fn answer_to<S: Alter>(
                 caller,
                 request,
             };
-            Ok(desk.perform(call, |reply| shown(alloc, reply))?)
+            Ok(office.perform(call, |reply| shown(alloc, reply))?)
         }
         Err(why) => answer_unheard(alloc, why),
     }
 }
 
 /// The answer to what was heard with a key. Whose key that is comes before all that is asked.
-fn answer_with<S: Alter>(
+fn answer_with<O: Office>(
     alloc: Global,
-    desk: &mut Desk<S>,
+    office: &mut O,
     moment: Moment,
     key: SecretKey,
     heard: Result<Request, Unheard>,
 ) -> Result<Answered, Unanswered>
-    ensures done { HasCleanDisk (state S.Store desk.new) → (office : OfficeLists)
-        → Stands (state S.Store desk.old) office
-        → IfOk result (λ a. IsAnswer (reply_in office moment (With key heard)) a
-        × Stands (state S.Store desk.new)
-        (office_after office (call_received office moment (With key heard)))) }
-    ensures makes { MakesCall (λ office. call_received office moment (With key heard))
-        (state S.Store desk.old) (state S.Store desk.new) }
-    ensures unmade { OnErr result
-        (Leaves None (state S.Store desk.old) (state S.Store desk.new)) }
-    ensures cause { IfErr result (λ why. why ≡ CutOff
-        → IsCutOff (With key heard) (state S.Store desk.old) (state S.Store desk.new)) }
+    ensures done { OfOffice O.is_reliable O.stands office.old office.new (λ stored. IfOk result
+        (λ a. IsAnswer (reply_in stored moment (With key heard)) a × O.stands office.new
+        (office_after stored (call_received stored moment (With key heard))))) }
+    ensures makes { MakesCall O.Office (λ stored. call_received stored moment (With key heard))
+        office.old office.new }
+    ensures unmade { OnErr result (LeavesOffice O.Office None office.old office.new) }
+    ensures cause { IfErr result
+        (λ why. why ≡ CutOff → IsCutOff O.Office (With key heard) office.old office.new) }
     ensures cut_off { is_unheard heard ≡ true → IfOk result (ShowsReply (reply.Refused Key)) }
 {
-    match desk.caller_of(&key)? {
-        Some(caller) => answer_to(alloc, desk, moment, caller, heard),
+    match office.caller_of(&key)? {
+        Some(caller) => answer_to(alloc, office, moment, caller, heard),
         None => refused(alloc, Refusal::Key),
     }
 }
 
-/// Answers on a desk what was received, at a moment.
+/// Answers what was received, at a moment, by an office.
 ///
-/// What was refused as it came is answered so, and asks no table. A key that is nobody's is
-/// answered as `Key`, whatever else was received; with a key of the office's list, what was not
+/// What was refused as it came is answered so, and the office is not asked. A key that is nobody's
+/// is answered as `Key`, whatever else was received; with a key of the office's list, what was not
 /// heard is answered by its refusal, and a request is a call of that caller at that moment, made as
-/// `Desk::perform` makes it: the reply is made before the commit.
+/// `Office::perform` makes it: the reply is made before the call is made to last.
 ///
-/// The error is a failure of the desk or want of memory, after which nothing has changed, or
+/// The error is a failure of the office or want of memory, after which nothing has changed, or
 /// `CutOff`, only where the source failed in the body and the key is a caller's. A body that was
 /// cut off so has no other reply than `Key`.
-pub fn answer<S: Alter>(
+pub fn answer<O: Office>(
     alloc: Global,
-    desk: &mut Desk<S>,
+    office: &mut O,
     moment: Moment,
     received: Received,
 ) -> Result<Answered, Unanswered>
-    ensures done { HasCleanDisk (state S.Store desk.new) → (office : OfficeLists)
-        → Stands (state S.Store desk.old) office
-        → IfOk result (λ a. IsAnswer (reply_in office moment received) a
-        × Stands (state S.Store desk.new)
-        (office_after office (call_received office moment received))) }
-    ensures makes { MakesCall (λ office. call_received office moment received)
-        (state S.Store desk.old) (state S.Store desk.new) }
-    ensures unmade { OnErr result
-        (Leaves None (state S.Store desk.old) (state S.Store desk.new)) }
-    ensures cause { IfErr result (λ why. why ≡ CutOff
-        → IsCutOff received (state S.Store desk.old) (state S.Store desk.new)) }
+    ensures done { OfOffice O.is_reliable O.stands office.old office.new (λ stored. IfOk result
+        (λ a. IsAnswer (reply_in stored moment received) a
+        × O.stands office.new (office_after stored (call_received stored moment received)))) }
+    ensures makes { MakesCall O.Office (λ stored. call_received stored moment received)
+        office.old office.new }
+    ensures unmade { OnErr result (LeavesOffice O.Office None office.old office.new) }
+    ensures cause { IfErr result
+        (λ why. why ≡ CutOff → IsCutOff O.Office received office.old office.new) }
     ensures cut_off { is_cut_off received ≡ true → IfOk result (ShowsReply (reply.Refused Key)) }
 {
-    desk.rests();
     match received {
         Received::Refused(refusal) => refused(alloc, refusal),
-        Received::With { key, asked } => answer_with(alloc, desk, moment, key, asked),
+        Received::With { key, asked } => answer_with(alloc, office, moment, key, asked),
     }
 }

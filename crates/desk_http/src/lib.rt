@@ -1,5 +1,5 @@
-//! One request over HTTP, answered on the desk of a company: what is replied to what was received,
-//! what is left of the desk, and what is written.
+//! One request over HTTP, answered by an office, wherever it is stored: what is replied to what was
+//! received, what is left of the office, and what is written.
 #![tactic(auto)]
 
 mod answers;

@@ -2,12 +2,11 @@
 ghost use Rattle.desk_http.specs.Served.{ServesRequest, as_served, only_at};
 
 use crate::serve::{ServeFault, reply_to};
+use any_office::Office;
 use desk_clocks::{Clock, ClockFailed};
 use desk_devices::{Sink, Source};
 use desk_requests::read_request;
-use desk_store::Desk;
 use desk_words::Moment;
-use sqlite::Alter;
 use std::alloc::Global;
 
 /// Why a request was not served to its end.
@@ -35,26 +34,26 @@ impl Clock for OnlyAt {
     }
 }
 
-/// Serves one request at the moment that a clock gives: reads it, then asks the clock, then answers
-/// it on a desk and writes the reply, as `reply_to` does. So what a peer sends after a moment is
-/// served after it, however early it connected.
+/// Serves one request at the moment that a clock gives: reads it, then asks the clock, then has it
+/// answered by an office and writes the reply, as `reply_to` does. So what a peer sends after a
+/// moment is served after it, however early it connected.
 ///
-/// What is written is exactly the text of the reply to what the bytes spell, and the tables are the
-/// office after that call; or it is a fixed text that tells of a failure, and the tables are as
-/// they were. `Read` and `Write` are told only where that device failed, once in the call. After
-/// `Read` nothing is written or changed, and the clock was not asked, but for a source that failed
-/// in the body; after `Write` a part of one of these texts is written, and the tables are as after
-/// that text; after `Clock` nothing is written or changed. The one call that may have been made is
-/// the one that was received. At most 8,192 + 65,536 bytes are taken, and 8,192 where the head
-/// alone is answered; those behind the request are not looked at.
-pub fn serve_now<S: Alter, C: Clock, R: Source, W: Sink>(
+/// What is written is exactly the text of the reply to what the bytes spell, and the office is the
+/// one after that call; or it is a fixed text that tells of a failure, and the office is as it was.
+/// `Read` and `Write` are told only where that device failed, once in the call. After `Read`
+/// nothing is written or changed, and the clock was not asked, but for a source that failed in the
+/// body; after `Write` a part of one of these texts is written, and the office is as after that
+/// text; after `Clock` nothing is written or changed. The one call that may have been made is the
+/// one that was received. At most 8,192 + 65,536 bytes are taken, and 8,192 where the head alone is
+/// answered; those behind the request are not looked at.
+pub fn serve_now<O: Office, C: Clock, R: Source, W: Sink>(
     alloc: Global,
-    desk: &mut Desk<S>,
+    office: &mut O,
     clock: &mut C,
     reader: &mut R,
     writer: &mut W,
 ) -> Result<(), NowFault>
-    ensures { ServesRequest S.Store C.Clock R.Source W.Sink result desk.old desk.new
+    ensures { ServesRequest O.Office C.Clock R.Source W.Sink result office.old office.new
         clock.old clock.new reader.old reader.new writer.old writer.new }
 {
     let Ok(received) = read_request(alloc, reader) else {
@@ -63,24 +62,24 @@ pub fn serve_now<S: Alter, C: Clock, R: Source, W: Sink>(
     let Ok(moment) = clock.now() else {
         return Err(NowFault::Clock);
     };
-    match reply_to(alloc, desk, moment, received, writer) {
+    match reply_to(alloc, office, moment, received, writer) {
         Ok(()) => Ok(()),
         Err(fault) => Err(NowFault::Serve(fault)),
     }
 }
 
 /// Serves one request at a moment, as `serve_now` does by a clock that gives this one.
-pub fn serve_one<S: Alter, R: Source, W: Sink>(
+pub fn serve_one<O: Office, R: Source, W: Sink>(
     alloc: Global,
-    desk: &mut Desk<S>,
+    office: &mut O,
     moment: Moment,
     reader: &mut R,
     writer: &mut W,
 ) -> Result<(), ServeFault>
-    ensures { ServesRequest S.Store (only_at moment) R.Source W.Sink (as_served result)
-        desk.old desk.new tt tt reader.old reader.new writer.old writer.new }
+    ensures { ServesRequest O.Office (only_at moment) R.Source W.Sink (as_served result)
+        office.old office.new tt tt reader.old reader.new writer.old writer.new }
 {
-    match serve_now(alloc, desk, &mut OnlyAt(moment), reader, writer) {
+    match serve_now(alloc, office, &mut OnlyAt(moment), reader, writer) {
         Ok(()) => Ok(()),
         Err(NowFault::Serve(fault)) => Err(fault),
         Err(NowFault::Clock) => unreachable!(),

@@ -7,12 +7,11 @@ ghost use Rattle.desk_http.specs.declared.serve.ServeFault.TheVariants.{Read, Wr
 ghost use Rattle.desk_routes.specs.ReplyTexts.{reply_text};
 
 use crate::answers::{Answered, Unanswered, answer};
+use any_office::Office;
 use desk_devices::{DeviceFailed, Sink, write_all};
 use desk_requests::Received;
 use desk_routes::{failure_reply, write_reply};
-use desk_store::Desk;
 use desk_words::{Failure, Moment};
-use sqlite::Alter;
 use std::alloc::Global;
 
 /// Why a request was not served to its end.
@@ -69,23 +68,23 @@ fn write_unanswered<W: Sink>(why: Unanswered, writer: &mut W) -> Result<(), Serv
     }
 }
 
-/// Answers on a desk what was received, at a moment, and writes the reply.
+/// Answers what was received, at a moment, by an office, and writes the reply.
 ///
-/// The text is that of the reply, and the tables are the office after the call, if one was made; or
-/// it is a fixed text that tells of a failure, which takes no memory, and the tables are as they
-/// were. The fault is `Write` where a write failed, and `Read` only where the source of what was
-/// received had failed in the body: nothing is then written or changed.
-pub fn reply_to<S: Alter, W: Sink>(
+/// The text is that of the reply, and the office is the one after the call, if one was made; or it
+/// is a fixed text that tells of a failure, which takes no memory, and the office is as it was. The
+/// fault is `Write` where a write failed, and `Read` only where the source of what was received had
+/// failed in the body: nothing is then written or changed.
+pub fn reply_to<O: Office, W: Sink>(
     alloc: Global,
-    desk: &mut Desk<S>,
+    office: &mut O,
     moment: Moment,
     received: Received,
     writer: &mut W,
 ) -> Result<(), ServeFault>
-    ensures { Replies S.Store W.Sink moment received result desk.old desk.new
+    ensures { Replies O.Office W.Sink moment received result office.old office.new
         writer.old writer.new }
 {
-    match answer(alloc, desk, moment, received) {
+    match answer(alloc, office, moment, received) {
         Ok(answered) => sent(write_answered(&answered, writer)),
         Err(why) => write_unanswered(why, writer),
     }

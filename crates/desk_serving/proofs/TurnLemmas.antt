@@ -1,26 +1,23 @@
 -- One turn after another.
-use Rattle.std.proofs.Common.{◌≡◌, ◌⊎◌, inl, inr, ℕ, ◌+◌, ◌≤◌, false, List, [], ◌∷◌, ◌++◌, Option, Some, None, Result, Ok, Err, refl, subst, sym, ◌∙◌, arith, length-append}
+use Rattle.std.proofs.Common.{◌≡◌, ◌⊎◌, inl, inr, ℕ, ◌+◌, ◌≤◌, List, [], ◌∷◌, ◌++◌, Option, Some, None, Result, Ok, Err, refl, subst, sym, ◌∙◌, arith, length-append}
 use Rattle.std.specs.Prelude.{MatchResult, OnErr, OnOk}
-use Rattle.sqlite.specs.Held.{Held, state}
-use Rattle.sqlite.specs.State.{State}
-use Rattle.sqlite_trees.specs.declared.store.Store as store
+use Rattle.any_office.proofs.HomeLemmas.{closes_then}
+use Rattle.any_office.specs.Homes.{office_after}
+use Rattle.any_office.specs.Runs.{calls_in}
+use Rattle.any_office.specs.declared.Office as office
 use Rattle.desk_clocks.specs.declared.clock.Clock as clock
 use Rattle.desk_devices.specs.declared.sink.Sink as sink
 use Rattle.desk_devices.specs.declared.source.Source as source
 use Rattle.desk_clocks.specs.Gives.{GaveInTurn}
-use Rattle.desk_records.specs.Standing.{Stands}
 use Rattle.desk_http.specs.Answers.{MakesCall, call_received, call_of}
 use Rattle.desk_http.specs.Served.{ServesRequest}
 use Rattle.desk_http.specs.declared.now.NowFault.{NowFault}
 use Rattle.desk_http.specs.declared.now.NowFault.TheVariants.{Clock}
-use Rattle.desk_http.proofs.AnswerLemmas.{closes_then}
 use Rattle.desk_http.proofs.ServedLemmas.{served_no_clock}
 use Rattle.desk_requests.specs.declared.received.Received.{Received}
 use Rattle.desk_requests.specs.declared.received.Received.TheVariants.{Refused, With}
 use Rattle.desk_requests.specs.declared.received.Unheard.{Unheard}
-use Rattle.desk_store.specs.Joins.{office_after}
-use Rattle.desk_store.specs.Reads.{caller_with}
-use Rattle.desk_store.specs.Runs.{calls_in}
+use Rattle.meeting_core.specs.Callers.{caller_with}
 use Rattle.desk_words.specs.Seen.{Moment}
 use Rattle.desk_words.specs.declared.office.OfficeLists.{OfficeLists}
 use Rattle.desk_words.specs.declared.caller.Caller.{Caller}
@@ -45,54 +42,6 @@ gave-then : {C : Type 0} (gives : C → Moment → C → Type 0) (a b c : C) (mo
 gave-then {C} gives a b c [] more p q = subst (λ (it : C). GaveInTurn gives it more c) p q
 gave-then gives a b c (now ∷ moments) more p q = (p.0, p.1, gave-then gives p.0 b c moments more p.2 q)
 
--- where nothing was done, all is as it was
-pub ran-none : (s : State) → s.in_transaction ≡ false → Ran [] s s
-ran-none s ended = record {
-  was_clean = λ clean. clean;
-  was_open = λ clean is_open. is_open;
-  closes = λ clean is_open. inl is_open;
-  counts = omega arith;
-  ended = ended;
-  stands = λ clean is_open office stands. ([], tt, stands);
-}
-
-pub ran-then : (a b c : State) (moments more : List Moment) → Ran moments a b → Ran more b c → Ran (moments ++ more) a c
-ran-then a b c moments more first next = record {
-  was_clean = λ clean. first.was_clean (next.was_clean clean);
-  was_open = λ clean is_open. first.was_open (next.was_clean clean) (next.was_open clean is_open);
-  closes = λ clean is_open. closes_then a b c first.counts next.counts (first.closes (next.was_clean clean) is_open) (next.closes clean);
-  counts = omega (arith, first.counts, next.counts);
-  ended = next.ended;
-  stands = λ clean is_open office stands.
-      let mid = first.stands (next.was_clean clean) (next.was_open clean is_open) office stands in
-      let end = next.stands clean is_open (run_of office (calls_in mid.0)).office mid.2 in
-      (mid.0 ++ end.0, made-then mid.0 end.0 moments more mid.1 end.1, subst (λ (o : OfficeLists). Stands c o) (run-then office mid.0 end.0) end.2);
-}
-
--- where the clock was not asked and nothing was done
-pub turned-none : {C : Type 0} (gives : C → Moment → C → Type 0) (most : ℕ) (clock : C) (s : State) → s.in_transaction ≡ false → Turned gives most clock clock s s
-turned-none gives most clock s ended = record { moments = []; gave = refl; bound = omega arith; ran = ran-none s ended }
-
--- where the clock gave one moment
-pub turned-one : {C : Type 0} (gives : C → Moment → C → Type 0) (clock clock' : C) (now : Moment) (a b : State) → gives clock now clock' → Ran (now ∷ []) a b → Turned gives 1 clock clock' a b
-turned-one gives clock clock' now a b given ran = record { moments = now ∷ []; gave = (clock', given, refl); bound = omega arith; ran = ran }
-
-pub turned-then : {C : Type 0} (gives : C → Moment → C → Type 0) (n m most : ℕ) (c0 c1 c2 : C) (s0 s1 s2 : State) → n + m ≤ most → Turned gives n c0 c1 s0 s1 → Turned gives m c1 c2 s1 s2 → Turned gives most c0 c2 s0 s2
-turned-then gives n m most c0 c1 c2 s0 s1 s2 room first next = record {
-  moments = first.moments ++ next.moments;
-  gave = gave-then gives c0 c1 c2 first.moments next.moments first.gave next.gave;
-  bound = simp length-append (omega (arith, first.bound, next.bound, room));
-  ran = ran-then s0 s1 s2 first.moments next.moments first.ran next.ran;
-}
-
-pub turned-within : {C : Type 0} (gives : C → Moment → C → Type 0) (n most : ℕ) (c0 c1 : C) (s0 s1 : State) → n ≤ most → Turned gives n c0 c1 s0 s1 → Turned gives most c0 c1 s0 s1
-turned-within gives n most c0 c1 s0 s1 room turned = record {
-  moments = turned.moments;
-  gave = turned.gave;
-  bound = omega (arith, turned.bound, room);
-  ran = turned.ran;
-}
-
 -- a call that a caller makes is made at the moment at which it is heard
 heard-at : (now : Moment) (who : Option Caller) (heard : Result Request Unheard) → IsMadeAt (call_of now who heard) now
 heard-at now None heard = tt
@@ -112,45 +61,91 @@ run-one : (office : OfficeLists) (made : Option Call) → office_after office ma
 run-one office None = refl
 run-one office (Some call) = refl
 
--- what is left of one request is left of a run at one moment
-pub ran-made : (now : Moment) (received : Received) (a b : State) → MakesCall (λ office. call_received office now received) a b → Ran (now ∷ []) a b
-ran-made now received a b makes = record {
-  was_clean = makes.leaves.was_clean;
-  was_open = makes.leaves.was_open;
-  closes = makes.leaves.closes;
-  counts = makes.leaves.counts;
-  ended = makes.leaves.ended;
-  stands = λ clean is_open office stands. (
-    makes.made ∷ [],
-    (made-at now makes.made (call_received office now received) (received-at office now received) (makes.by clean office stands), tt),
-    subst (λ (o : OfficeLists). Stands b o) (run-one office makes.made) (makes.leaves.stands clean is_open office stands),
-  );
-}
+module _ {O : Type 0} (g : office.Ghosts O) where
+  -- where nothing was done, all is as it was
+  pub ran-none : (s : O) → Ran g [] s s
+  ran-none s = record {
+    was_reliable = λ reliable. reliable;
+    was_open = λ reliable is_open. is_open;
+    closes = λ reliable is_open. inl is_open;
+    counts = omega arith;
+    stands = λ reliable is_open office stands. ([], tt, stands);
+  }
 
--- what the serving of one request leaves, where the clock gave a moment or was not asked
-pub served_turn : {T S C R W : Type 0} (g : store.Ghosts S) (k : clock.Ghosts C) (r : source.Ghosts R) (h : sink.Ghosts W) (result : Result T NowFault) (old new : Held S) (from till : C)
-    (reader reader' : R) (before after : W) → (state g old).in_transaction ≡ false → ServesRequest g k r h result old new from till reader reader' before after
-    → (result ≡ Err Clock → ⊥) → Turned k.gives 1 from till (state g old) (state g new)
-served_turn g k r h result old new from till reader reader' before after ended (inl it) timed =
-    turned-one k.gives from till it.moment (state g old) (state g new) it.given (ran-made it.moment it.received (state g old) (state g new) it.replies.makes)
-served_turn g k r h result old new from till reader reader' before after ended (inr (inl it, same, unwritten)) timed =
-    subst (λ s. Turned k.gives 1 from till (state g old) (state g s)) (sym same)
-    (subst (λ c. Turned k.gives 1 from c (state g old) (state g old)) (sym it.unasked) (turned-none k.gives 1 from (state g old) ended))
-served_turn g k r h result old new from till reader reader' before after ended (inr (inr it, same, unwritten)) timed = absurd (timed it.is)
+  pub ran-then : (a b c : O) (moments more : List Moment) → Ran g moments a b → Ran g more b c → Ran g (moments ++ more) a c
+  ran-then a b c moments more first next = record {
+    was_reliable = λ reliable. first.was_reliable (next.was_reliable reliable);
+    was_open = λ reliable is_open. first.was_open (next.was_reliable reliable) (next.was_open reliable is_open);
+    closes = λ reliable is_open. closes_then g.is_reliable g.is_open g.stands g.faults a b c first.counts next.counts (first.closes (next.was_reliable reliable) is_open) (next.closes reliable);
+    counts = omega (arith, first.counts, next.counts);
+    stands = λ reliable is_open office stands.
+        let mid = first.stands (next.was_reliable reliable) (next.was_open reliable is_open) office stands in
+        let end = next.stands reliable is_open (run_of office (calls_in mid.0)).office mid.2 in
+        (mid.0 ++ end.0, made-then mid.0 end.0 moments more mid.1 end.1, subst (λ (o : OfficeLists). g.stands c o) (run-then office mid.0 end.0) end.2);
+  }
 
--- and where it gave none
-pub served_untimed : {T S C R W : Type 0} (g : store.Ghosts S) (k : clock.Ghosts C) (r : source.Ghosts R) (h : sink.Ghosts W) (result : Result T NowFault) (old new : Held S) (from till : C)
-    (reader reader' : R) (before after : W) → ServesRequest g k r h result old new from till reader reader' before after → result ≡ Err Clock → k.fails from till × (new ≡ old)
-served_untimed g k r h result old new from till reader reader' before after (inl it) untimed = absurd (served_no_clock it.told (sym it.is ∙ untimed))
-served_untimed g k r h result old new from till reader reader' before after (inr (inl it, same, unwritten)) untimed = let both = sym it.is ∙ untimed in absurd (cc)
-served_untimed g k r h result old new from till reader reader' before after (inr (inr it, same, unwritten)) untimed = (it.fails, same)
+  -- where the clock was not asked and nothing was done
+  pub turned-none : {C : Type 0} (gives : C → Moment → C → Type 0) (most : ℕ) (clock : C) (s : O) → Turned g gives most clock clock s s
+  turned-none gives most clock s = record { moments = []; gave = refl; bound = omega arith; ran = ran-none s }
+
+  -- where the clock gave one moment
+  pub turned-one : {C : Type 0} (gives : C → Moment → C → Type 0) (clock clock' : C) (now : Moment) (a b : O) → gives clock now clock' → Ran g (now ∷ []) a b → Turned g gives 1 clock clock' a b
+  turned-one gives clock clock' now a b given ran = record { moments = now ∷ []; gave = (clock', given, refl); bound = omega arith; ran = ran }
+
+  pub turned-then : {C : Type 0} (gives : C → Moment → C → Type 0) (n m most : ℕ) (c0 c1 c2 : C) (s0 s1 s2 : O) → n + m ≤ most → Turned g gives n c0 c1 s0 s1 → Turned g gives m c1 c2 s1 s2 → Turned g gives most c0 c2 s0 s2
+  turned-then gives n m most c0 c1 c2 s0 s1 s2 room first next = record {
+    moments = first.moments ++ next.moments;
+    gave = gave-then gives c0 c1 c2 first.moments next.moments first.gave next.gave;
+    bound = simp length-append (omega (arith, first.bound, next.bound, room));
+    ran = ran-then s0 s1 s2 first.moments next.moments first.ran next.ran;
+  }
+
+  pub turned-within : {C : Type 0} (gives : C → Moment → C → Type 0) (n most : ℕ) (c0 c1 : C) (s0 s1 : O) → n ≤ most → Turned g gives n c0 c1 s0 s1 → Turned g gives most c0 c1 s0 s1
+  turned-within gives n most c0 c1 s0 s1 room turned = record {
+    moments = turned.moments;
+    gave = turned.gave;
+    bound = omega (arith, turned.bound, room);
+    ran = turned.ran;
+  }
+
+  -- what is left of one request is left of a run at one moment
+  pub ran-made : (now : Moment) (received : Received) (a b : O) → MakesCall g (λ office. call_received office now received) a b → Ran g (now ∷ []) a b
+  ran-made now received a b makes = record {
+    was_reliable = makes.leaves.was_reliable;
+    was_open = makes.leaves.was_open;
+    closes = makes.leaves.closes;
+    counts = makes.leaves.counts;
+    stands = λ reliable is_open office stands. (
+      makes.made ∷ [],
+      (made-at now makes.made (call_received office now received) (received-at office now received) (makes.by reliable office stands), tt),
+      subst (λ (o : OfficeLists). g.stands b o) (run-one office makes.made) (makes.leaves.stands reliable is_open office stands),
+    );
+  }
+
+  -- what the serving of one request leaves, where the clock gave a moment or was not asked
+  pub served_turn : {T C R W : Type 0} (k : clock.Ghosts C) (r : source.Ghosts R) (h : sink.Ghosts W) (result : Result T NowFault) (old new : O) (from till : C)
+      (reader reader' : R) (before after : W) → ServesRequest g k r h result old new from till reader reader' before after
+      → (result ≡ Err Clock → ⊥) → Turned g k.gives 1 from till old new
+  served_turn k r h result old new from till reader reader' before after (inl it) timed =
+      turned-one k.gives from till it.moment old new it.given (ran-made it.moment it.received old new it.replies.makes)
+  served_turn k r h result old new from till reader reader' before after (inr (inl it, same, unwritten)) timed =
+      subst (λ s. Turned g k.gives 1 from till old s) (sym same)
+      (subst (λ c. Turned g k.gives 1 from c old old) (sym it.unasked) (turned-none k.gives 1 from old))
+  served_turn k r h result old new from till reader reader' before after (inr (inr it, same, unwritten)) timed = absurd (timed it.is)
+
+  -- and where it gave none
+  pub served_untimed : {T C R W : Type 0} (k : clock.Ghosts C) (r : source.Ghosts R) (h : sink.Ghosts W) (result : Result T NowFault) (old new : O) (from till : C)
+      (reader reader' : R) (before after : W) → ServesRequest g k r h result old new from till reader reader' before after → result ≡ Err Clock → k.fails from till × (new ≡ old)
+  served_untimed k r h result old new from till reader reader' before after (inl it) untimed = absurd (served_no_clock it.told (sym it.is ∙ untimed))
+  served_untimed k r h result old new from till reader reader' before after (inr (inl it, same, unwritten)) untimed = let both = sym it.is ∙ untimed in absurd (cc)
+  served_untimed k r h result old new from till reader reader' before after (inr (inr it, same, unwritten)) untimed = (it.fails, same)
 
 -- the same, by what was made of the result
-module _ {T U E S C R W : Type 0} (g : store.Ghosts S) (k : clock.Ghosts C) (r : source.Ghosts R) (h : sink.Ghosts W) (result : Result T NowFault) (old new : Held S) (from till : C)
+module _ {T U E O C R W : Type 0} (g : office.Ghosts O) (k : clock.Ghosts C) (r : source.Ghosts R) (h : sink.Ghosts W) (result : Result T NowFault) (old new : O) (from till : C)
     (reader reader' : R) (before after : W) (serves : ServesRequest g k r h result old new from till reader reader' before after) where
-  pub turned_if : (told : Result U E) → (state g old).in_transaction ≡ false → MatchResult told (λ _. result ≡ Err Clock → ⊥) (λ _. result ≡ Err Clock) → OnOk told (Turned k.gives 1 from till (state g old) (state g new))
-  turned_if (Ok x) ended timed = served_turn g k r h result old new from till reader reader' before after ended serves timed
-  turned_if (Err e) ended timed = tt
+  pub turned_if : (told : Result U E) → MatchResult told (λ _. result ≡ Err Clock → ⊥) (λ _. result ≡ Err Clock) → OnOk told (Turned g k.gives 1 from till old new)
+  turned_if (Ok x) timed = served_turn g k r h result old new from till reader reader' before after serves timed
+  turned_if (Err e) timed = tt
 
   pub untimed_if : (told : Result U E) → MatchResult told (λ _. result ≡ Err Clock → ⊥) (λ _. result ≡ Err Clock) → OnErr told (k.fails from till × (new ≡ old))
   untimed_if (Ok x) timed = tt

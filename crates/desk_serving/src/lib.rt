@@ -1,5 +1,5 @@
-//! The desk of a company over sockets: one connection after another is served, each at the moment
-//! that a clock gives once its request has been read.
+//! An office over sockets, wherever it is stored: one connection after another is served, each at
+//! the moment that a clock gives once its request has been read.
 #![tactic(auto)]
 
 mod listening;

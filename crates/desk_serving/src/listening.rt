@@ -4,12 +4,11 @@ ghost use Rattle.desk_http.specs.declared.now.NowFault.TheVariants as now_fault;
 ghost use Rattle.desk_serving.specs.Turns.{RanAt};
 ghost use Rattle.desk_serving.specs.declared.listening.LoopFault.TheVariants.{Clock, Socket};
 
+use any_office::Office;
 use desk_clocks::{Clock, ClockFailed};
 use desk_devices::{ReadDevice, WriteDevice};
 use desk_http::{NowFault, serve_now};
 use desk_sockets::{Accepted, Listener, SocketFailed, end_connection};
-use desk_store::Desk;
-use sqlite::Alter;
 use std::alloc::Global;
 use std::net::{TcpListener, TcpStream};
 
@@ -50,95 +49,95 @@ fn unless_untimed(served: Result<(), NowFault>) -> Result<(), ClockFailed>
 }
 
 /// Serves the one request of a connection, and ends it, also where its peer failed.
-fn serve_connection<S: Alter + Drop, C: Clock>(
+fn serve_connection<O: Office, C: Clock>(
     alloc: Global,
-    desk: &mut Desk<S>,
+    office: &mut O,
     clock: &mut C,
     stream: TcpStream,
 ) -> Result<(), ClockFailed>
-    ensures turned { OnOk result (RanAt C.Clock S.Store 1 clock.old clock.new desk.old desk.new) }
+    ensures turned { OnOk result
+        (RanAt C.Clock O.Office 1 clock.old clock.new office.old office.new) }
     ensures failed { OnErr result (C.fails clock.old clock.new) }
-    ensures untouched { OnErr result (desk.new ≡ desk.old) }
+    ensures untouched { OnErr result (office.new ≡ office.old) }
 {
-    desk.rests();
     let mut reader = ReadDevice::new(&stream);
     let mut writer = WriteDevice::new(&stream);
-    let served = serve_now(alloc, desk, clock, &mut reader, &mut writer);
+    let served = serve_now(alloc, office, clock, &mut reader, &mut writer);
     end_connection(stream);
     unless_untimed(served)
 }
 
 /// Serves the next connection of a listener, or counts a peer that was gone before.
-fn serve_next<S: Alter + Drop, L: Listener, C: Clock>(
+fn serve_next<O: Office, L: Listener, C: Clock>(
     alloc: Global,
     listener: &mut L,
-    desk: &mut Desk<S>,
+    office: &mut O,
     clock: &mut C,
 ) -> Result<(), LoopFault>
-    ensures turned { OnOk result (RanAt C.Clock S.Store 1 clock.old clock.new desk.old desk.new) }
+    ensures turned { OnOk result
+        (RanAt C.Clock O.Office 1 clock.old clock.new office.old office.new) }
     ensures failed { IfErr result (λ fault. fault ≡ Clock → C.fails clock.old clock.new) }
     ensures unasked { IfErr result (λ fault. fault ≡ Socket
         → (clock.new ≡ clock.old) × L.fails listener.old listener.new) }
-    ensures untouched { OnErr result (desk.new ≡ desk.old) }
+    ensures untouched { OnErr result (office.new ≡ office.old) }
 {
-    desk.rests();
     match listener.next()? {
-        Accepted::Peer(stream) => Ok(serve_connection(alloc, desk, clock, stream)?),
+        Accepted::Peer(stream) => Ok(serve_connection(alloc, office, clock, stream)?),
         Accepted::Gone => Ok(()),
     }
 }
 
-/// Serves one connection of a listener after another on a desk, so many in all, each at the moment
-/// that the clock gives once its request was read. It waits for each peer as long as it takes.
+/// Serves one connection of a listener after another by an office, so many in all, each at the
+/// moment that the clock gives once its request was read. It waits for each peer as long as it
+/// takes.
 ///
 /// A connection whose peer fails counts, and so does that of a peer that is gone before it is
-/// taken. Where the store is no longer open each request is answered by 503 and changes nothing.
+/// taken. Where the office is no longer open each request is answered by 503 and changes nothing.
 ///
-/// For `Ok` and for each fault: no failure is made good, only a fault of the disk shuts the store,
-/// and where the tables stood for an office, they stand afterwards for the office of a run of
-/// further calls, at most one a connection, each at a moment that the clock gave. `Socket` is told
-/// only where the listener failed, and `Clock` only where the clock gave no moment.
-pub fn serve_listener<S: Alter + Drop, L: Listener, C: Clock>(
+/// For `Ok` and for each fault: no failure is made good, only a device that fails shuts the office,
+/// and the office that was stored is afterwards the one after a run of further calls, at most one a
+/// connection, each at a moment that the clock gave. `Socket` is told only where the listener
+/// failed, and `Clock` only where the clock gave no moment.
+pub fn serve_listener<O: Office, L: Listener, C: Clock>(
     alloc: Global,
     listener: &mut L,
-    desk: &mut Desk<S>,
+    office: &mut O,
     clock: &mut C,
     count: u32,
 ) -> Result<(), LoopFault>
     ensures served { OnOk result
-        (RanAt C.Clock S.Store count clock.old clock.new desk.old desk.new) }
+        (RanAt C.Clock O.Office count clock.old clock.new office.old office.new) }
     ensures no_listener { IfErr result (λ fault. fault ≡ Socket
-        → RanAt C.Clock S.Store count clock.old clock.new desk.old desk.new
+        → RanAt C.Clock O.Office count clock.old clock.new office.old office.new
         × ((between : L) × L.fails between listener.new)) }
     ensures no_moment { IfErr result (λ fault. fault ≡ Clock
-        → (between : C) × RanAt C.Clock S.Store count clock.old between desk.old desk.new
+        → (between : C) × RanAt C.Clock O.Office count clock.old between office.old office.new
         × C.fails between clock.new) }
 {
-    desk.rests();
     let mut served = 0;
     while served < count {
-        serve_next(alloc, listener, desk, clock)?;
+        serve_next(alloc, listener, office, clock)?;
         served += 1;
     }
     Ok(())
 }
 
-/// Serves one connection of a socket after another on a desk, as `serve_listener` does.
-pub fn serve_loop<S: Alter + Drop, C: Clock>(
+/// Serves one connection of a socket after another by an office, as `serve_listener` does.
+pub fn serve_loop<O: Office, C: Clock>(
     alloc: Global,
     listener: &TcpListener,
-    desk: &mut Desk<S>,
+    office: &mut O,
     clock: &mut C,
     count: u32,
 ) -> Result<(), LoopFault>
     ensures served { OnOk result
-        (RanAt C.Clock S.Store count clock.old clock.new desk.old desk.new) }
+        (RanAt C.Clock O.Office count clock.old clock.new office.old office.new) }
     ensures no_listener { IfErr result (λ fault. fault ≡ Socket
-        → RanAt C.Clock S.Store count clock.old clock.new desk.old desk.new) }
+        → RanAt C.Clock O.Office count clock.old clock.new office.old office.new) }
     ensures no_moment { IfErr result (λ fault. fault ≡ Clock
-        → (between : C) × RanAt C.Clock S.Store count clock.old between desk.old desk.new
+        → (between : C) × RanAt C.Clock O.Office count clock.old between office.old office.new
         × C.fails between clock.new) }
 {
     let mut sockets = listener;
-    serve_listener(alloc, &mut sockets, desk, clock, count)
+    serve_listener(alloc, &mut sockets, office, clock, count)
 }

@@ -4,12 +4,12 @@ use Rattle.desk_serving.proofs.listening.serve_listener.Goals as goal
 
 pub loop-served-preserved : goal.loop-served-preserved
 loop-served-preserved g c = record {
-  turned = turned-then _ c.loop-served.served 1 _ _ _ _ _ _ _ (omega arith) c.loop-served.invariant.turned c.in_ok-serve_next.ensures.turned;
+  turned = turned-then g.O.Office _ c.loop-served.served 1 _ _ _ _ _ _ _ (omega arith) c.loop-served.invariant.turned c.in_ok-serve_next.ensures.turned;
   bound = omega (arith, c.loop-served-test.true);
 }
 
 pub loop-served-init : goal.loop-served-init
 loop-served-init g c = record {
-  turned = turned-none _ 0 _ _ c.rests.ensures;
+  turned = turned-none g.O.Office _ 0 _ _;
   bound = omega arith;
 }

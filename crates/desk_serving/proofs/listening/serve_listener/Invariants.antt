@@ -1,12 +1,11 @@
 -- What was served so far.
 use Rattle.std.proofs.Common.{◌-◌, ◌≤◌}
-use Rattle.sqlite.specs.Held.{state}
 use Rattle.desk_serving.specs.Turns.{Turned}
 use Rattle.desk_serving.proofs.listening.serve_listener.Given as goal
 
 abbrev pub invariant-loop-served : goal.invariant-loop-served
 invariant-loop-served g l = record {
-  turned : Turned g.C.Clock.gives l.served l.initial.clock l.clock (state g.S.Store l.initial.desk) (state g.S.Store l.desk);
+  turned : Turned g.O.Office g.C.Clock.gives l.served l.initial.clock l.clock l.initial.office l.office;
   bound : l.served ≤ l.count;
 }
 
