@@ -1,4 +1,4 @@
-pub mod MemoryLine
+pub mod BookLemmas
 pub mod Progress
 pub mod RunLaws
 pub mod TurnLemmas

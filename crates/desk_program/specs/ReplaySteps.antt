@@ -1,15 +1,19 @@
 -- What one turn of a replay does: it reads a line and writes its answer.
-use Rattle.std.specs.Prelude.{◌≡◌, ℕ, ◌<◌, ◌⊎◌, List, length, Bool, true, false, Option, None, Some, ⊤}
+use Rattle.std.specs.Prelude.{◌≡◌, ℕ, ◌<◌, ◌⊎◌, List, length, Bool, true, false, Option, None, Some, IfSome, Result, Ok, Err, IfErr, ⊤}
 use Rattle.std.specs.Io.KnownBytes.{Appends, IsAtEnd, Keeps}
+use Rattle.std.specs.declared.alloc.Global.{Global}
+use Rattle.std.specs.declared.vec.Vec.{Vec}
+use Rattle.any_office.specs.declared.Office as office
 use Rattle.desk_devices.specs.Counts.{one_more}
 use Rattle.desk_devices.specs.Written.{AppendsPrefix}
 use Rattle.desk_lines.specs.Front.{StaysInLine}
 use Rattle.desk_lines.specs.Lines.{first_line, after_line}
 use Rattle.desk_lines.specs.Reading.{longest_input}
 use Rattle.desk_words.specs.declared.office.OfficeLists.{OfficeLists}
+use Rattle.desk_words.specs.declared.reply.Failure.{Failure}
 use Rattle.desk_program.specs.declared.script.ReplayFault.{ReplayFault}
 use Rattle.desk_program.specs.declared.script.ReplayFault.TheVariants.{Read, Write}
-use Rattle.desk_program.specs.Transcript.{line_answered}
+use Rattle.desk_program.specs.Transcript.{IsCause, line_answered, text_or_failure}
 
 -- where a replay stands: what is unread, as far as it is known, the office, and what is written
 pub record Standing : Type 0 where
@@ -20,47 +24,57 @@ pub record Standing : Type 0 where
 abbrev pub standing : Option (List ℕ) → OfficeLists → Option (List ℕ) → Standing
 standing unread office written = record { unread = unread; office = office; written = written }
 
--- the first of the unread lines was answered
-pub record AnswersLine (bytes rest : List ℕ) (before after : Standing) : Type 0 where
+-- why there is no text
+abbrev pub failure_of : {T : Type 0} → Result T Failure → Option Failure
+failure_of (Ok text) = None
+failure_of (Err why) = Some why
+
+-- this is the text of the answer to a line, or why it failed, and the office after it is stored
+pub record Answers {O : Type 0} (g : office.Ghosts O) (before : OfficeLists) (line : List ℕ)
+    (text : Result (Vec ℕ Global) Failure) (new : O) : Type 0 where
+  pub cause : IfErr text (IsCause g.may_fail)
+  pub text_is : text_or_failure text ≡ (line_answered (failure_of text) before line).text
+  pub stands : g.stands new (line_answered (failure_of text) before line).office
+
+-- the first of these lines was answered, and this holds of what is written for it
+pub record AnswersFirst (may_fail : Failure → Type 0) (bytes : List ℕ) (before after : OfficeLists)
+    (IsWritten : List ℕ → Type 0) : Type 0 where
   pub some_left : 0 < length bytes
-  pub rest_is : rest ≡ after_line bytes
-  pub refused : Bool
-  pub after_is : after.office ≡ (line_answered refused before.office (first_line bytes)).office
-  pub written :
-      Appends before.written after.written
-      (line_answered refused before.office (first_line bytes)).text
+  pub failed : Option Failure
+  pub cause : IfSome failed (IsCause may_fail)
+  pub after_is : after ≡ (line_answered failed before (first_line bytes)).office
+  pub written : IsWritten (line_answered failed before (first_line bytes)).text
 
--- where it is known what was unread and what is left, the first line was answered
-abbrev pub AnswersIfKnown : Option (List ℕ) → Option (List ℕ) → Standing → Standing → Type 0
-AnswersIfKnown None left before after = ⊤
-AnswersIfKnown (Some bytes) None before after = ⊥
-AnswersIfKnown (Some bytes) (Some rest) before after = AnswersLine bytes rest before after
+module _ (may_fail : Failure → Type 0) where
+  -- where it is known what was unread and what is left, the first line was answered
+  abbrev pub AnswersIfKnown : Option (List ℕ) → Option (List ℕ) → Standing → Standing → Type 0
+  AnswersIfKnown None left before after = ⊤
+  AnswersIfKnown (Some bytes) None before after = ⊥
+  AnswersIfKnown (Some bytes) (Some rest) before after =
+      (rest ≡ after_line bytes)
+      × AnswersFirst may_fail bytes before.office after.office
+      (Appends before.written after.written)
 
--- a turn that went well: the first of the unread lines was answered, or there was none
-abbrev pub Turns : Bool → Standing → Standing → Type 0
-Turns false before after = IsAtEnd before.unread × Keeps before.written after.written
-Turns true before after = AnswersIfKnown before.unread after.unread before after
+  -- a turn that went well: the first of the unread lines was answered, or there was none
+  abbrev pub Turns : Bool → Standing → Standing → Type 0
+  Turns false before after =
+      IsAtEnd before.unread × Keeps before.written after.written × (after.office ≡ before.office)
+  Turns true before after = AnswersIfKnown before.unread after.unread before after
 
--- the first of the unread lines was answered in part
-pub record AnswersInPart (bytes : List ℕ) (before : Standing) (written' : Option (List ℕ))
-    : Type 0 where
-  pub some_left : 0 < length bytes
-  pub refused : Bool
-  pub written :
-      AppendsPrefix before.written written'
-      (line_answered refused before.office (first_line bytes)).text
+  -- where it is known what was unread, its first line was answered in part
+  abbrev pub InPartIfKnown : Option (List ℕ) → Standing → Standing → Type 0
+  InPartIfKnown None before after = ⊤
+  InPartIfKnown (Some bytes) before after =
+      AnswersFirst may_fail bytes before.office after.office
+      (AppendsPrefix before.written after.written)
 
--- where it is known what was unread, its first line was answered in part
-abbrev pub InPartIfKnown : Option (List ℕ) → Standing → Option (List ℕ) → Type 0
-InPartIfKnown None before written' = ⊤
-InPartIfKnown (Some bytes) before written' = AnswersInPart bytes before written'
-
--- a turn that a device ended: the reader before the line feed of the next line came, and nothing
--- was written; or the writer, and the line's answer was written in part
-abbrev pub Stops : ReplayFault → Standing → Option (List ℕ) → Option (List ℕ) → Type 0
-Stops Read before left written' =
-    Keeps before.written written' × StaysInLine before.unread left
-Stops Write before left written' = InPartIfKnown before.unread before written'
+  -- a turn that a device ended: the reader before the line feed of the next line came, and nothing
+  -- was written; or the writer, and the line's answer was written in part
+  abbrev pub Stops : ReplayFault → Option (List ℕ) → Standing → Standing → Type 0
+  Stops Read left before after =
+      Keeps before.written after.written × StaysInLine before.unread left
+      × (after.office ≡ before.office)
+  Stops Write left before after = InPartIfKnown before.unread before after
 
 -- how often the devices of a replay have failed
 pub record Failures : Type 0 where

@@ -1,14 +1,15 @@
 -- What a replay writes.
-use Rattle.std.specs.Prelude.{◌≡◌, ℕ, ◌==◌, ◌≤◌, List, [], ◌∷◌, ◌++◌, length, take, Bool, true, false, Option, Result, Ok, Err, if◌then◌else◌}
+use Rattle.std.specs.Prelude.{◌≡◌, ◌⊎◌, ⊤, ℕ, ◌==◌, ◌≤◌, List, [], ◌∷◌, ◌++◌, length, take, All, Option, Some, None, IfSome, Result, Ok, Err, if◌then◌else◌}
 use Rattle.std.specs.Io.KnownBytes.{Appends}
-use Rattle.std.specs.declared.alloc.AllocError.{AllocError}
 use Rattle.std.specs.declared.alloc.Global.{Global}
 use Rattle.std.specs.declared.vec.Vec.{Vec}
+use Rattle.any_office.specs.declared.Office as office
 use Rattle.desk_devices.specs.Written.{AppendsPrefix}
 use Rattle.desk_lines.specs.Lines.{feeds_in, lines_of}
 use Rattle.desk_terms.specs.declared.refusal.Refusal.{Refusal}
 use Rattle.desk_words.specs.declared.office.OfficeLists.{OfficeLists}
 use Rattle.desk_words.specs.declared.request.Call.{Call}
+use Rattle.desk_words.specs.declared.reply.Failure.{Failure}
 use Rattle.desk_words.specs.declared.reply.Failure.TheVariants.{Memory}
 use Rattle.desk_words.specs.declared.reply.Reply.TheVariants.{Refused}
 use Rattle.desk_replies.specs.Replies.{reply_bytes, failure_bytes}
@@ -35,59 +36,95 @@ answered_call office (Err refusal) = record {
   office = office;
 }
 
--- where memory was refused, the line says so, and the office is as it was
-abbrev pub unless_refused : Bool → OfficeLists → List ℕ → Answered
-unless_refused true office line = record { text = as_line (failure_bytes Memory); office = office }
-unless_refused false office line = answered_call office (asked_in_line line)
+-- a line that failed is answered by the failure's text, and the office is as it was
+abbrev pub unless_failed : Option Failure → OfficeLists → List ℕ → Answered
+unless_failed (Some why) office line = record {
+  text = as_line (failure_bytes why);
+  office = office;
+}
+unless_failed None office line = answered_call office (asked_in_line line)
 
 -- an empty line is skipped
-abbrev pub line_answered : Bool → OfficeLists → List ℕ → Answered
-line_answered refused office line =
+abbrev pub line_answered : Option Failure → OfficeLists → List ℕ → Answered
+line_answered failed office line =
     if length line == 0
     then record { text = []; office = office }
-    else unless_refused refused office line
+    else unless_failed failed office line
 
--- what is written for lines, of which some were refused memory: the replies of the run of the calls
--- that the lines ask, each for its line, and for a line that is no call its own answer
-abbrev pub transcript : OfficeLists → List (List ℕ) → List Bool → List ℕ
-transcript office lines refused =
-    spread lines refused (run_of office (calls_of lines refused)).replies
+-- what is written for lines, of which some failed: the replies of the run of the calls that the
+-- lines ask, each for its line, and for a line that is no call its own answer
+abbrev pub transcript : OfficeLists → List (List ℕ) → List (Option Failure) → List ℕ
+transcript office lines failed =
+    spread lines failed (run_of office (calls_of lines failed)).replies
 
 -- the lines are answered in turn: each by its own answer, in the office after those before it
 abbrev pub LinesAreAnsweredInTurn : Type 0
 LinesAreAnsweredInTurn =
-    (office : OfficeLists) (line : List ℕ) (lines : List (List ℕ)) (r : Bool) (refused : List Bool)
-    → let answer = line_answered r office line in transcript office (line ∷ lines) (r ∷ refused)
-    ≡ answer.text ++ transcript answer.office lines refused
+    (office : OfficeLists) (line : List ℕ) (lines : List (List ℕ)) (f : Option Failure)
+    (failed : List (Option Failure))
+    → let answer = line_answered f office line in transcript office (line ∷ lines) (f ∷ failed)
+    ≡ answer.text ++ transcript answer.office lines failed
+
+-- a line fails for want of memory, or as a call on the office may fail
+abbrev pub IsCause : (Failure → Type 0) → Failure → Type 0
+IsCause may_fail why = (why ≡ Memory) ⊎ may_fail why
+
+-- why calls may fail, the office at the beginning, and what holds of the one in the end
+module _ (may_fail : Failure → Type 0) (office : OfficeLists) (IsLeft : OfficeLists → Type 0) where
+  -- these lines are answered in a run from the office, and this holds of what is written for them;
+  -- some may have failed
+  pub record AreAnsweredOn (lines : List (List ℕ)) (IsWritten : List ℕ → Type 0) : Type 0 where
+    pub failed : List (Option Failure)
+    pub each : length failed ≡ length lines
+    pub causes : All (λ (f : Option Failure). IfSome f (IsCause may_fail)) failed
+    pub written : IsWritten (transcript office lines failed)
+    pub left : IsLeft (run_of office (calls_of lines failed)).office
+
+  -- the first lines of the input are answered, at least as many as line feeds stand among the bytes
+  -- that the reader gave
+  pub record IsAnsweredSoFarOn (input : List ℕ) (given : ℕ) (old new : Option (List ℕ))
+      : Type 0 where
+    pub count : ℕ
+    pub each_that_came : feeds_in (take given input) ≤ count
+    pub answered : AreAnsweredOn (take count (lines_of input)) (Appends old new)
+
+  -- the first lines of the input are answered; some bytes from the front of their answers were
+  -- written, and not all of them
+  pub record IsAnsweredInPartOn (input : List ℕ) (old new : Option (List ℕ)) : Type 0 where
+    pub count : ℕ
+    pub answered : AreAnsweredOn (take count (lines_of input)) (AppendsPrefix old new)
+
+  -- what was written where a device ended the replay: whole answers alone where it was the reader;
+  -- the last may be cut where it was the writer
+  abbrev pub IsReplayedUntilOn : ReplayFault → List ℕ → ℕ → Option (List ℕ) → Option (List ℕ)
+      → Type 0
+  IsReplayedUntilOn Read input given old new = IsAnsweredSoFarOn input given old new
+  IsReplayedUntilOn Write input given old new = IsAnsweredInPartOn input old new
+
+-- this holds of the office that was stored, where it is reliable and can still be asked afterwards
+abbrev pub OfOpenOffice : {O : Type 0} → office.Ghosts O → O → O → (OfficeLists → Type 0) → Type 0
+OfOpenOffice g old new Holds =
+    g.is_reliable new → g.is_open new → (it : OfficeLists) → g.stands old it → Holds it
+
+-- in memory a line fails for want of memory alone
+abbrev pub IsMemory : Failure → Type 0
+IsMemory why = why ≡ Memory
+
+-- nothing is asked of the office in the end
+abbrev pub IsForgotten : OfficeLists → Type 0
+IsForgotten office = ⊤
 
 -- the answers to these lines were written, each whole, in a run from the empty office; some lines
 -- may have been refused memory
-pub record AreAnswered (lines : List (List ℕ)) (old new : Option (List ℕ)) : Type 0 where
-  pub refused : List Bool
-  pub each : length refused ≡ length lines
-  pub written : Appends old new (transcript empty_office lines refused)
+abbrev pub AreAnswered : List (List ℕ) → Option (List ℕ) → Option (List ℕ) → Type 0
+AreAnswered lines old new =
+    AreAnsweredOn IsMemory empty_office IsForgotten lines (Appends old new)
 
--- the first lines of the input are answered, at least as many as line feeds stand among the bytes
--- that the reader gave
-pub record IsAnsweredSoFar (input : List ℕ) (given : ℕ) (old new : Option (List ℕ)) : Type 0 where
-  pub count : ℕ
-  pub each_that_came : feeds_in (take given input) ≤ count
-  pub answered : AreAnswered (take count (lines_of input)) old new
-
--- some bytes from the front of the answers to all lines of the input were written, and not all of
--- them
-pub record IsAnsweredInPart (input : List ℕ) (old new : Option (List ℕ)) : Type 0 where
-  pub refused : List Bool
-  pub each : length refused ≡ length (lines_of input)
-  pub written : AppendsPrefix old new (transcript empty_office (lines_of input) refused)
-
--- what was written where a device ended the replay: whole answers alone where it was the reader;
--- the last may be cut where it was the writer
+-- what was written where a device ended such a replay
 abbrev pub IsReplayedUntil : ReplayFault → List ℕ → ℕ → Option (List ℕ) → Option (List ℕ) → Type 0
-IsReplayedUntil Read input given old new = IsAnsweredSoFar input given old new
-IsReplayedUntil Write input given old new = IsAnsweredInPart input old new
+IsReplayedUntil = IsReplayedUntilOn IsMemory empty_office IsForgotten
 
--- a text that was made, or the line that says that memory was refused
-abbrev pub text_or_failure : Result (Vec ℕ Global) AllocError → List ℕ
+-- a text that was made, or the line that tells why there is none
+abbrev pub text_or_failure : Result (Vec ℕ Global) Failure → List ℕ
 text_or_failure (Ok text) = text.items
-text_or_failure (Err refused) = as_line (failure_bytes Memory)
+text_or_failure (Err why) = as_line (failure_bytes why)

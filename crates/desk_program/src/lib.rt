@@ -6,4 +6,4 @@ mod line;
 mod script;
 
 pub use line::call_of;
-pub use script::{ReplayFault, replay};
+pub use script::{ReplayFault, replay, replay_on};

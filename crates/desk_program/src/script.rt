@@ -1,21 +1,28 @@
-//! A replay: a script of requests, answered line by line on a book in memory.
-ghost use Rattle.std.specs.Prelude.{◌≡◌, ◌≤◌, ◌<◌, ◌+◌, ◌-◌, true, false, Ok, length, IfOk, IfErr, OnOk, OnErr, IfSome, Result};
+//! A replay: a script of requests, answered line by line on an office.
+ghost use Rattle.std.specs.Prelude.{◌≡◌, ◌≤◌, ◌<◌, ◌+◌, ◌-◌, true, false, Ok, length, IfOk, IfErr, OnOk, OnErr, IfSome, Option, Result};
 ghost use Rattle.std.specs.Io.KnownBytes.{Appends, IsAtEnd};
+ghost use Rattle.any_office.specs.Runs.{LeavesOffice};
 ghost use Rattle.desk_devices.specs.Written.{AppendsPrefix};
 ghost use Rattle.desk_devices.specs.Counts.{one_more};
 ghost use Rattle.desk_lines.specs.Lines.{lines_of};
 ghost use Rattle.desk_lines.specs.Reading.{longest_input, longest_line, unread, SameWhole};
-ghost use Rattle.desk_replies.specs.Replies.{reply_bytes};
+ghost use Rattle.desk_replies.specs.Replies.{failure_bytes, reply_bytes};
+ghost use Rattle.desk_words.specs.declared.office.OfficeLists.{OfficeLists};
+ghost use Rattle.desk_words.specs.declared.reply.Failure.{Failure};
+ghost use Rattle.desk_words.specs.declared.reply.Failure.TheVariants.{Memory};
+ghost use Rattle.desk_words.specs.declared.reply.Reply.TheVariants.{Refused};
+ghost use Rattle.desk_words.specs.declared.request.Call.{Call};
 ghost use Rattle.desk_program.specs.ReplayRuns.{as_line};
-ghost use Rattle.desk_program.specs.Transcript.{text_or_failure, unless_refused, AreAnswered, IsReplayedUntil};
-ghost use Rattle.desk_program.specs.ReplaySteps.{standing, Turns, Stops, HasEndedFor};
+ghost use Rattle.desk_program.specs.Transcript.{text_or_failure, AreAnswered, AreAnsweredOn, IsReplayedUntil, IsReplayedUntilOn, OfOpenOffice};
+ghost use Rattle.desk_program.specs.ReplaySteps.{standing, Answers, Turns, Stops, HasEndedFor};
 
 use crate::line::call_of;
+use any_office::Office;
 use desk_bodies::Ask;
 use desk_devices::{DeviceFailed, Sink, Source, write_all};
 use desk_lines::{LineReader, NextLine, ReadFault};
 use desk_replies::reply_text;
-use desk_words::{Refusal, Reply};
+use desk_words::{Failure, Refusal, Reply};
 use meeting_core::Book;
 use std::alloc::{AllocError, Global};
 
@@ -59,27 +66,45 @@ fn reply_line(alloc: Global, reply: &Reply) -> Result<Vec<u8>, AllocError>
     Ok(text)
 }
 
-/// Answers one line that is not too long. The text is made before the change is, so that a text
-/// which is refused memory changes nothing.
-fn answer(alloc: Global, book: &mut Book, line: &[u8]) -> Result<Vec<u8>, AllocError>
-    requires { length line.now ≤ longest_line }
-    ensures text { IfOk result
-        (λ text. text.items ≡ (unless_refused false book.old line.now).text) }
-    ensures ok { OnOk result (book.new ≡ (unless_refused false book.old line.now).office) }
-    ensures err { OnErr result (book.new ≡ book.old) }
+/// The line that tells of a failure. It takes no memory, since there may be none left.
+fn failure_line(failure: Failure) -> &'static [u8]
+    ensures { result.now ≡ as_line (failure_bytes failure) }
 {
-    match call_of(alloc, line) {
-        Ok(call) => book.perform(call, |reply| reply_line(alloc, reply)),
-        Err(Ask::Refused(refusal)) => reply_line(alloc, &Reply::Refused(refusal)),
-        Err(Ask::Memory) => Err(AllocError),
+    match failure {
+        Failure::Store => b"{\"failed\":\"Store\"}\n",
+        Failure::Memory => b"{\"failed\":\"Memory\"}\n",
     }
 }
 
-/// Writes the line that answers, or, where memory was refused, the line that says so.
-fn write_answer<W: Sink>(
-    writer: &mut W,
-    text: Result<Vec<u8>, AllocError>,
-) -> Result<(), DeviceFailed>
+/// The line that refuses what is no call.
+fn refusal_line(alloc: Global, refusal: Refusal) -> Result<Vec<u8>, Failure>
+    ensures text { IfOk result (λ text. text.items ≡ as_line (reply_bytes (Refused refusal))) }
+    ensures cause { IfErr result (λ why. why ≡ Memory) }
+{
+    match reply_line(alloc, &Reply::Refused(refusal)) {
+        Ok(text) => Ok(text),
+        Err(AllocError) => Err(Failure::Memory),
+    }
+}
+
+/// Answers one line that is neither empty nor too long. The text is made before the call is made to
+/// last, so that a text which is refused memory changes nothing.
+fn answer<O: Office>(alloc: Global, office: &mut O, line: &[u8]) -> Result<Vec<u8>, Failure>
+    requires some { 0 < length line.now }
+    requires short { length line.now ≤ longest_line }
+    ensures answers { OfOpenOffice O.Office office.old office.new
+        (λ it. Answers O.Office it line.now result office.new) }
+    ensures leaves { (made : Option Call) × LeavesOffice O.Office made office.old office.new }
+{
+    match call_of(alloc, line) {
+        Ok(call) => office.perform(call, |reply| reply_line(alloc, reply)),
+        Err(Ask::Refused(refusal)) => refusal_line(alloc, refusal),
+        Err(Ask::Memory) => Err(Failure::Memory),
+    }
+}
+
+/// Writes the line that answers, or, where there is none, the line that tells why.
+fn write_answer<W: Sink>(writer: &mut W, text: Result<Vec<u8>, Failure>) -> Result<(), DeviceFailed>
     ensures written { OnOk result
         (Appends (W.contents writer.old) (W.contents writer.new) (text_or_failure text)) }
     ensures partly { OnErr result
@@ -89,29 +114,32 @@ fn write_answer<W: Sink>(
 {
     match text {
         Ok(text) => write_all(writer, &text),
-        Err(AllocError) => write_all(writer, b"{\"failed\":\"Memory\"}\n"),
+        Err(failure) => write_all(writer, failure_line(failure)),
     }
 }
 
 /// Reads one line and writes its answer. `false` says that there was no line.
-fn turn<R: Source, W: Sink>(
+fn turn<O: Office, R: Source, W: Sink>(
     alloc: Global,
-    book: &mut Book,
+    office: &mut O,
     lines: &mut LineReader,
     reader: &mut R,
     writer: &mut W,
 ) -> Result<bool, ReplayFault>
-    ensures turns { IfOk result
-        (λ more. Turns more
-        (standing (unread lines.old.pending (R.remaining reader.old)) book.old
+    ensures turns { IfOk result (λ more. OfOpenOffice O.Office office.old office.new
+        (λ it. (after : OfficeLists) × O.stands office.new after × Turns O.may_fail more
+        (standing (unread lines.old.pending (R.remaining reader.old)) it
         (W.contents writer.old))
-        (standing (unread lines.new.pending (R.remaining reader.new)) book.new
-        (W.contents writer.new))) }
-    ensures stops { IfErr result
-        (λ fault. Stops fault
-        (standing (unread lines.old.pending (R.remaining reader.old)) book.old
+        (standing (unread lines.new.pending (R.remaining reader.new)) after
+        (W.contents writer.new)))) }
+    ensures stops { IfErr result (λ fault. OfOpenOffice O.Office office.old office.new
+        (λ it. (after : OfficeLists) × O.stands office.new after
+        × Stops O.may_fail fault (R.remaining reader.new)
+        (standing (unread lines.old.pending (R.remaining reader.old)) it
         (W.contents writer.old))
-        (R.remaining reader.new) (W.contents writer.new)) }
+        (standing (unread lines.new.pending (R.remaining reader.new)) after
+        (W.contents writer.new)))) }
+    ensures leaves { (made : Option Call) × LeavesOffice O.Office made office.old office.new }
     ensures cause { IfErr result (λ fault. HasEndedFor fault lines.new.taken
         (record { of_reader = R.failures reader.old; of_writer = W.failures writer.old })
         (record { of_reader = R.failures reader.new; of_writer = W.failures writer.new })) }
@@ -131,30 +159,65 @@ fn turn<R: Source, W: Sink>(
 {
     let text = match lines.next_line(reader)? {
         NextLine::End => return Ok(false),
-        NextLine::TooLong => reply_line(alloc, &Reply::Refused(Refusal::TooLarge)),
+        NextLine::TooLong => refusal_line(alloc, Refusal::TooLarge),
         NextLine::Whole => {
             let line = lines.line();
             if line.is_empty() {
                 return Ok(true);
             }
-            answer(alloc, book, line)
+            answer(alloc, office, line)
         }
     };
     write_answer(writer, text)?;
     Ok(true)
 }
 
-/// Answers the lines of the reader, one by one, on a book that begins as the empty office: for each
-/// line that is not empty it writes one reply and a line feed. Each answer is written before more
-/// is read than its line needed.
+/// Answers the lines of the reader, one by one, on an office: for each line that is not empty it
+/// writes one reply and a line feed. Each answer is written before more is read than its line
+/// needed.
 ///
 /// A line is a moment, a caller, a meeting, a verb and a body, parted at its first four spaces. One
-/// whose reading, step or text was refused memory is answered by the failure's text and changes
-/// nothing. Where all goes well the reader is at its end, and gave at most 16,777,216 bytes; it is
-/// never asked for more than one byte above that. The fault is `Read` only where the reader failed
-/// in this call, or gave more bytes than that, and `Write` only where the writer failed. On `Read`
-/// the first lines are answered, each with its line feed, at least all whose own line feed came; on
-/// `Write` the last answer may be cut.
+/// whose reading, step or text was refused memory, or whose call failed, is answered by the
+/// failure's text and changes nothing. Where all goes well the reader is at its end, and gave at
+/// most 16,777,216 bytes; it is never asked for more than one byte above that. The fault is `Read`
+/// only where the reader failed in this call, or gave more bytes than that, and `Write` only where
+/// the writer failed. On `Read` the first lines are answered, each with its line feed, at least all
+/// whose own line feed came; on `Write` the last answer may be cut.
+///
+/// What is answered is promised where the office is reliable and open afterwards. It then stores
+/// the office after the run of the calls of these lines.
+pub fn replay_on<O: Office, R: Source, W: Sink>(
+    alloc: Global,
+    office: &mut O,
+    reader: &mut R,
+    writer: &mut W,
+) -> Result<(), ReplayFault>
+    ensures replayed { OnOk result (OfOpenOffice O.Office office.old office.new
+        (λ it. IfSome (R.remaining reader.old)
+        (λ input. AreAnsweredOn O.may_fail it (O.stands office.new) (lines_of input)
+        (Appends (W.contents writer.old) (W.contents writer.new))))) }
+    ensures until { IfErr result (λ fault. OfOpenOffice O.Office office.old office.new
+        (λ it. IfSome (R.remaining reader.old)
+        (λ input. IsReplayedUntilOn O.may_fail it (O.stands office.new) fault input
+        (R.passed reader.new - R.passed reader.old)
+        (W.contents writer.old) (W.contents writer.new)))) }
+    ensures works { OnOk result ((R.failures reader.new ≡ R.failures reader.old)
+        × (W.failures writer.new ≡ W.failures writer.old)) }
+    ensures cause { IfErr result (λ fault. HasEndedFor fault
+        (R.passed reader.new - R.passed reader.old)
+        (record { of_reader = R.failures reader.old; of_writer = W.failures writer.old })
+        (record { of_reader = R.failures reader.new; of_writer = W.failures writer.new })) }
+    ensures end { OnOk result (IsAtEnd (R.remaining reader.new)) }
+    ensures whole { OnOk result (R.passed reader.new - R.passed reader.old ≤ longest_input) }
+    ensures bound { R.passed reader.new - R.passed reader.old ≤ longest_input + 1 }
+{
+    let mut lines = LineReader::new();
+    while turn(alloc, office, &mut lines, reader, writer)? {}
+    Ok(())
+}
+
+/// Answers the lines of the reader as `replay_on` does, on a book that begins as the empty office.
+/// A line fails only where it was refused memory.
 pub fn replay<R: Source, W: Sink>(
     alloc: Global,
     reader: &mut R,
@@ -176,7 +239,5 @@ pub fn replay<R: Source, W: Sink>(
     ensures bound { R.passed reader.new - R.passed reader.old ≤ longest_input + 1 }
 {
     let mut book = Book::new(alloc);
-    let mut lines = LineReader::new();
-    while turn(alloc, &mut book, &mut lines, reader, writer)? {}
-    Ok(())
+    replay_on(alloc, &mut book, reader, writer)
 }

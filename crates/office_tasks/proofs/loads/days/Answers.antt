@@ -1,0 +1,13 @@
+use Rattle.desk_endings.specs.Endings.{ended_view}
+use Rattle.desk_files.specs.Days.{day_file}
+use Rattle.desk_files.specs.declared.whole.TheConstants.{DAY_FILE_LIMIT}
+use Rattle.office_tasks.specs.Reading.{Reader, with_days}
+use Rattle.office_tasks.proofs.LoadLemmas.{loads}
+use Rattle.office_tasks.proofs.loads.days.Goals as goal
+
+pub returns-clause-loads : goal.returns-clause-loads
+returns-clause-loads g c = λ reliable held stands.
+    let before : Reader = record { rest = g.R.Source.remaining c.args.reader.now; passed = g.R.Source.passed c.args.reader.now; failures = g.R.Source.failures c.args.reader.now } in
+    let after : Reader = record { rest = g.R.Source.remaining c.read_days-file.new.source; passed = g.R.Source.passed c.read_days-file.new.source; failures = g.R.Source.failures c.read_days-file.new.source } in
+    let read = c.read_days-file.ensures in
+    loads day_file with_days DAY_FILE_LIMIT before after held c.args.now (ended_view c.load.result) (g.O.Office.stands c.load.new.office) c.read_days-file.result c.days_asked.result read.spelled read.whole read.cause c.days_asked.ensures (c.load.ensures.follows reliable held stands)

@@ -1,0 +1,13 @@
+use Rattle.desk_endings.specs.Endings.{ended_view}
+use Rattle.desk_files.specs.Keys.{key_file}
+use Rattle.desk_files.specs.declared.whole.TheConstants.{FILE_LIMIT}
+use Rattle.office_tasks.specs.Reading.{Reader, with_keys}
+use Rattle.office_tasks.proofs.LoadLemmas.{loads}
+use Rattle.office_tasks.proofs.loads.keys.Goals as goal
+
+pub returns-clause-loads : goal.returns-clause-loads
+returns-clause-loads g c = λ reliable held stands.
+    let before : Reader = record { rest = g.R.Source.remaining c.args.reader.now; passed = g.R.Source.passed c.args.reader.now; failures = g.R.Source.failures c.args.reader.now } in
+    let after : Reader = record { rest = g.R.Source.remaining c.read_keys-file.new.source; passed = g.R.Source.passed c.read_keys-file.new.source; failures = g.R.Source.failures c.read_keys-file.new.source } in
+    let read = c.read_keys-file.ensures in
+    loads key_file with_keys FILE_LIMIT before after held c.args.now (ended_view c.load.result) (g.O.Office.stands c.load.new.office) c.read_keys-file.result c.keys_asked.result read.spelled read.whole read.cause c.keys_asked.ensures (c.load.ensures.follows reliable held stands)
