@@ -1,4 +1,4 @@
-mod DeskLemmas
+mod OfficeLemmas
 mod PickLemmas
 mod ReplayLemmas
 mod ResultLemmas

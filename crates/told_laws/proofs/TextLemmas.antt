@@ -2,19 +2,21 @@
 use Rattle.std.proofs.Common.{true≢false, ◌≡◌, ℕ, Bool, true, false, ◌&&◌, not, cond, List, map, refl, ap, sym, ◌∙◌, subst}
 use Rattle.std.specs.List.{AllZip}
 use Rattle.std.proofs.lemmas.List.{map-id}
+use Rattle.desk_words.specs.Changes.{empty_office}
 use Rattle.desk_words.specs.Office.{implies}
 use Rattle.desk_words.specs.declared.caller.Caller.{Caller}
 use Rattle.desk_words.specs.declared.caller.Caller.TheVariants as caller
+use Rattle.desk_words.specs.declared.office.OfficeLists.{OfficeLists}
 use Rattle.desk_words.specs.declared.reply.Reply.{Reply}
 use Rattle.desk_words.specs.declared.request.Call.{Call}
 use Rattle.meeting_core.specs.Step.{Run, decided}
-use Rattle.run_laws.specs.Isolation.{IsolatesRuns, RunsAreTheDesks}
+use Rattle.run_laws.specs.Isolation.{IsolatesCalls, IsolatesRuns, RunsAreTheDesks}
 use Rattle.run_laws.specs.Secrecy.{KeepsSecretsInRuns, replies_to_office}
 use Rattle.run_laws.specs.Traces.{replies_to, run_by}
 use Rattle.run_laws.specs.Votes.{Secret, is_secret_call, is_the_office, is_vote_in, is_voter, without, without_result}
 use Rattle.run_laws.proofs.ListLemmas.{all-of, filter-among, implied}
 use Rattle.told_laws.specs.Exchanges.{asks_declaration, is_call_by, is_open_call, texts_to}
-use Rattle.told_laws.specs.Texts.{AreSameButResult, TextsAreIsolated, TextsKeepSecrets, ToldRun, calls_told}
+use Rattle.told_laws.specs.Texts.{AreSameButResult, TextsAreIsolated, TextsFromNothingAreIsolated, TextsKeepSecrets, ToldRun, calls_told}
 use Rattle.told_laws.proofs.PickLemmas.{calls_of_office, office-picked, party-picked, pick, pick-map, texts-picked, wanted_call}
 use Rattle.told_laws.proofs.ResultLemmas.{each-but-result}
 
@@ -30,9 +32,21 @@ told-picked desk text_of test run =
     ∙ pick-map text_of test (calls_told run) (replies_in run)
 
 -- to a party
-pub to-party : RunsAreTheDesks → (text_of : Reply → List ℕ) (party : List ℕ) (run : ToldRun text_of)
+to-party : RunsAreTheDesks → (text_of : Reply → List ℕ) (party : List ℕ) (run : ToldRun text_of)
     → texts_to (is_call_by party) run.exchanges ≡ map text_of (replies_to party (calls_told run) (replies_in run))
 to-party desk text_of party run = told-picked desk text_of (is_call_by party) run ∙ ap (map text_of) (party-picked party (calls_told run) (replies_in run))
+
+-- in a run from the office that holds nothing
+to-party-from-nothing : RunsAreTheDesks → (text_of : Reply → List ℕ) (party : List ℕ) (run : ToldRun text_of) → run.office ≡ empty_office
+    → texts_to (is_call_by party) run.exchanges ≡ map text_of (replies_to party (calls_told run) (run_by decided empty_office (calls_told run)).replies)
+to-party-from-nothing desk text_of party run begins =
+    to-party desk text_of party run ∙ ap (λ (o : OfficeLists). map text_of (replies_to party (calls_told run) (run_by decided o (calls_told run)).replies)) begins
+
+pub texts_from_nothing : RunsAreTheDesks → IsolatesCalls decided → TextsFromNothingAreIsolated
+texts_from_nothing desk law text_of party one other first second same =
+    to-party-from-nothing desk text_of party one first
+    ∙ ap (map text_of) (law party (calls_told one) (calls_told other) same)
+    ∙ sym (to-party-from-nothing desk text_of party other second)
 
 pub texts_isolated : RunsAreTheDesks → IsolatesRuns decided → TextsAreIsolated
 texts_isolated desk law text_of viewer one other alike near near_again same =

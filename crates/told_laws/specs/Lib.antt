@@ -1,5 +1,5 @@
 pub mod Connections
-pub mod Desks
 pub mod Exchanges
+pub mod Offices
 pub mod Replays
 pub mod Texts

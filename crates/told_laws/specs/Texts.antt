@@ -12,7 +12,7 @@ use Rattle.meeting_core.specs.Step.{decided}
 use Rattle.run_laws.specs.Isolation.{Alike}
 use Rattle.run_laws.specs.Parts.{Viewer}
 use Rattle.run_laws.specs.Secrecy.{are_before}
-use Rattle.run_laws.specs.Traces.{Shown, is_near_call, trace_of, viewer_of}
+use Rattle.run_laws.specs.Traces.{is_near_call, trace_of, viewer_of}
 use Rattle.run_laws.specs.Votes.{AreSameBut, Secret, is_secret_call, without}
 use Rattle.told_laws.specs.Exchanges.{Exchange, TellTheRun, asks_declaration, calls_made, is_call_by, is_open_call, texts_to}
 
@@ -26,32 +26,40 @@ pub record ToldRun (text_of : Reply → List ℕ) : Type 0 where
 abbrev pub calls_told : {text_of : Reply → List ℕ} → ToldRun text_of → List Call
 calls_told run = calls_made run.exchanges
 
--- what a run shows to a viewer
-abbrev pub shown_in : {text_of : Reply → List ℕ} → Viewer → ToldRun text_of → List Shown
-shown_in viewer run = trace_of decided viewer run.office (calls_told run)
-
--- where the calls of two runs from the office that holds nothing show a party the same, with all
--- sources of either, the texts of the replies to it are the same bytes, one for one
-abbrev pub AreTextsAlike : {text_of : Reply → List ℕ} → Party → ToldRun text_of → ToldRun text_of
+-- the texts of two runs are isolated: where their calls show a viewer the same, those of the
+-- replies to it are the same bytes, one for one
+abbrev pub AreIsolatedTo : Viewer → OfficeLists → OfficeLists → List Exchange → List Exchange
     → Type 0
-AreTextsAlike party one other =
-    let calls = calls_told one in
-    let later = calls_told other in
+AreIsolatedTo viewer office other told again =
+    IsTrue (list_all (is_near_call viewer) (calls_made told))
+    → IsTrue (list_all (is_near_call viewer) (calls_made again))
+    → trace_of decided viewer office (calls_made told)
+    ≡ trace_of decided viewer other (calls_made again)
+    → texts_to (is_call_by viewer.party) told ≡ texts_to (is_call_by viewer.party) again
+
+-- from the office that holds nothing: where the calls of two runs show a party the same, with all
+-- sources of either, the texts of the replies to it are the same bytes, one for one
+abbrev pub AreIsolatedFromNothing : Party → List Exchange → List Exchange → Type 0
+AreIsolatedFromNothing party told again =
+    let calls = calls_made told in
+    let later = calls_made again in
     let viewer = viewer_of party calls later in
     trace_of decided viewer empty_office calls ≡ trace_of decided viewer empty_office later
-    → texts_to (is_call_by party) one.exchanges ≡ texts_to (is_call_by party) other.exchanges
+    → texts_to (is_call_by party) told ≡ texts_to (is_call_by party) again
 
--- isolation: where the offices of two runs are one to a party, and their calls show it the same,
--- the texts of the replies to it are the same bytes, one for one
+-- isolation: the texts of two runs are isolated, where the offices are one to the viewer
 abbrev pub TextsAreIsolated : Type 0
 TextsAreIsolated =
     (text_of : Reply → List ℕ) (viewer : Viewer) (one other : ToldRun text_of)
     → Alike viewer one.office other.office
-    → IsTrue (list_all (is_near_call viewer) (calls_told one))
-    → IsTrue (list_all (is_near_call viewer) (calls_told other))
-    → shown_in viewer one ≡ shown_in viewer other
-    → texts_to (is_call_by viewer.party) one.exchanges
-    ≡ texts_to (is_call_by viewer.party) other.exchanges
+    → AreIsolatedTo viewer one.office other.office one.exchanges other.exchanges
+
+-- and so they are from the office that holds nothing
+abbrev pub TextsFromNothingAreIsolated : Type 0
+TextsFromNothingAreIsolated =
+    (text_of : Reply → List ℕ) (party : Party) (one other : ToldRun text_of)
+    → one.office ≡ empty_office → other.office ≡ empty_office
+    → AreIsolatedFromNothing party one.exchanges other.exchanges
 
 -- two texts tell a result each
 pub record TellResults (text_of : Reply → List ℕ) (one other : List ℕ) : Type 0 where
@@ -77,12 +85,18 @@ pub record TextsTellTheSame (text_of : Reply → List ℕ) (secret : Secret) (of
       → IsTrue (not (secret.voters party))
       → texts_to (is_call_by party) told ≡ texts_to (is_call_by party) again
 
--- secrecy: where the offices of two runs are the same but for secret votes, and their calls differ
--- in such votes alone, they tell the same of them
+-- the texts of two runs keep secret votes: where the calls differ in such votes alone, they tell
+-- the same of them
+abbrev pub KeepSecret : (Reply → List ℕ) → Secret → OfficeLists → List Exchange → List Exchange
+    → Type 0
+KeepSecret text_of secret office told again =
+    without (is_secret_call secret) (calls_made told)
+    ≡ without (is_secret_call secret) (calls_made again)
+    → TextsTellTheSame text_of secret office told again
+
+-- secrecy: the texts of two runs do, where the offices are the same but for secret votes
 abbrev pub TextsKeepSecrets : Type 0
 TextsKeepSecrets =
     (text_of : Reply → List ℕ) (secret : Secret) (one other : ToldRun text_of)
     → AreSameBut secret one.office other.office
-    → without (is_secret_call secret) (calls_told one)
-    ≡ without (is_secret_call secret) (calls_told other)
-    → TextsTellTheSame text_of secret one.office one.exchanges other.exchanges
+    → KeepSecret text_of secret one.office one.exchanges other.exchanges

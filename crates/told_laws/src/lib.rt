@@ -1,13 +1,13 @@
 //! Laws of what is told, byte for byte: what holds of the replies in runs of calls holds of the
-//! texts that a replay, a desk over tables and connections write.
+//! texts that a replay, an office and connections write, wherever the office is stored.
 #![tactic(auto)]
 
-mod desks;
+mod offices;
 mod replays;
 mod texts;
 
-pub use desks::{
-    connections_are_told, connections_tell_no_more, desks_tell_no_more, desks_tell_runs, told,
+pub use offices::{
+    connections_are_told, connections_tell_no_more, offices_tell_no_more, offices_tell_runs, told,
 };
 pub use replays::{replays_tell_no_more, replays_tell_runs};
 pub use texts::texts_tell_no_more;

@@ -1,5 +1,5 @@
 //! What texts that tell runs tell.
-ghost use Rattle.told_laws.specs.Texts.{TextsAreIsolated, TextsKeepSecrets};
+ghost use Rattle.told_laws.specs.Texts.{TextsAreIsolated, TextsFromNothingAreIsolated, TextsKeepSecrets};
 
 use run_laws::{isolation, secrecy};
 
@@ -11,6 +11,7 @@ use run_laws::{isolation, secrecy};
 /// party that is none of the voters.
 pub fn texts_tell_no_more()
     ensures isolated { TextsAreIsolated }
+    ensures from_nothing { TextsFromNothingAreIsolated }
     ensures secret { TextsKeepSecrets }
 {
     isolation();
