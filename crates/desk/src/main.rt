@@ -6,10 +6,10 @@ use desk_commands::{Plan, read_words};
 use desk_devices::{ReadDevice, WriteDevice};
 use desk_disk::DiskDesk;
 use desk_endings::{Ended, Fault, Line};
-use desk_tasks::moment_at;
 use desk_words::{MeetingId, Moment};
 use jiff::Timestamp;
 use office_clock::OfficeZone;
+use office_tasks::moment_at;
 use std::io::{self, ErrorKind};
 use std::net::{Ipv4Addr, TcpListener};
 use std::process::ExitCode;
@@ -51,14 +51,14 @@ fn keys(rt: &HostRuntime, file: &str, csv: &str, zone: &OfficeZone) -> Result<En
     let mut desk = DiskDesk::open(rt, file)?;
     let now = now(rt, zone)?;
     let mut reader = open_reader(rt, csv)?;
-    Ok(desk.keys(rt.alloc(), now, &mut reader))
+    Ok(office_tasks::keys(rt.alloc(), &mut desk, now, &mut reader))
 }
 
 fn days(rt: &HostRuntime, file: &str, txt: &str, zone: &OfficeZone) -> Result<Ended, Ended> {
     let mut desk = DiskDesk::open(rt, file)?;
     let now = now(rt, zone)?;
     let mut reader = open_reader(rt, txt)?;
-    Ok(desk.days(rt.alloc(), now, &mut reader))
+    Ok(office_tasks::days(rt.alloc(), &mut desk, now, &mut reader))
 }
 
 fn register(
@@ -72,7 +72,14 @@ fn register(
     let mut desk = DiskDesk::open(rt, file)?;
     let now = now(rt, zone)?;
     let mut reader = open_reader(rt, csv)?;
-    Ok(desk.register(rt.alloc(), now, meeting, record_moment, &mut reader))
+    Ok(office_tasks::register(
+        rt.alloc(),
+        &mut desk,
+        now,
+        meeting,
+        record_moment,
+        &mut reader,
+    ))
 }
 
 /// Serves the desk on a port of this machine. It says so once it listens.
@@ -89,7 +96,7 @@ fn serve(
     ))?;
     println!(rt; "listening").map_err(|_| Ended::by(Fault::WriteFault))?;
     let mut clock = WallClock::new(rt, zone);
-    Ok(desk.serve(rt.alloc(), &listener, &mut clock, requests))
+    Ok(serving_task::serve(rt.alloc(), &listener, &mut desk, &mut clock, requests))
 }
 
 fn results(rt: &HostRuntime, file: &str, meeting: MeetingId) -> Result<Ended, Ended> {
@@ -101,7 +108,7 @@ fn results(rt: &HostRuntime, file: &str, meeting: MeetingId) -> Result<Ended, En
 fn replay(rt: &HostRuntime) -> Ended {
     let mut reader = ReadDevice::new(rt.reader());
     let mut writer = WriteDevice::new(io::writer(rt));
-    desk_tasks::replay(rt.alloc(), &mut reader, &mut writer)
+    office_tasks::replay(rt.alloc(), &mut reader, &mut writer)
 }
 
 /// Does what the words of the program ask for.

@@ -1,4 +1,4 @@
--- The tables of a desk in a file, and how its making, its opening and its serving end.
+-- The tables of a desk in a file, and how its making and its opening end.
 use Rattle.std.specs.Prelude.{◌≡◌, ◌≤◌, ◌⊎◌, ℕ, ◌==◌, ◌||◌, nat_le, if◌then◌else◌, List, Option, Some}
 use Rattle.std.specs.Prelude.{None, codes, slice_index}
 use Rattle.sqlite.specs.Files.{file_state}
@@ -7,12 +7,10 @@ use Rattle.desk_words.specs.declared.office.OfficeLists.{OfficeLists}
 use Rattle.desk_records.specs.Standing.{Stands, office_by}
 use Rattle.desk_opening.specs.Known.{AreOpened, IsMadeAs, edition_of}
 use Rattle.desk_opening.specs.declared.version.KnownVersion.{KnownVersion}
-use Rattle.desk_endings.specs.Endings.{Ending, done, ending, ended_by}
+use Rattle.desk_endings.specs.Endings.{Ending, ending, ended_by}
 use Rattle.desk_endings.specs.declared.ended.Fault.{Fault}
 use Rattle.desk_endings.specs.declared.ended.Fault.TheVariants as fault
-use Rattle.desk_serving.specs.Turns.{Turned}
 use Rattle.desk_tasks.specs.Desks.{EndsUnopened}
-use Rattle.desk_words.specs.Seen.{Moment}
 use Rattle.desk_disk.specs.declared.disk.DiskDesk.{DiskDesk}
 use Rattle.desk_disk.specs.declared.file.Log.{Log}
 use Rattle.desk_disk.specs.declared.file.Log.TheVariants as log
@@ -87,13 +85,3 @@ EndsCreating end = (end ≡ ending 0 (codes "created")) ⊎ EndsUnmade end
 -- the file is no desk that can be opened, or could not be opened, read or written
 abbrev pub EndsOpening : Ending → Type 0
 EndsOpening end = EndsUnopened end ⊎ FailsToConnect end
-
--- a clock gave some moments, at most so many, at each of which one call was made, or none; and
--- serving ended well or by the listener, or by the clock, which gave no further moment
-abbrev pub EndsServing : {C : Type 0} → (C → Moment → C → Type 0) → (C → C → Type 0) → ℕ → C → C
-    → State → State → Ending → Type 0
-EndsServing {C} gives fails most clock clock' old new end =
-    (((end ≡ done) ⊎ (end ≡ ended_by fault.Socket)) × Turned gives most clock clock' old new)
-    ⊎
-    ((end ≡ ended_by fault.Clock)
-    × ((between : C) × Turned gives most clock between old new × fails between clock'))

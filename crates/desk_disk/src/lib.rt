@@ -1,9 +1,10 @@
-//! The desk of one company in a file: it is made, opened and closed there, and does what each
-//! command asks of it. It names the store of a desk's file, which nothing above it need do.
+//! The desk of one company in a file: it is made, opened and closed there, and is an office that
+//! commands ask. It names the store of a desk's file, which nothing above it need do.
 #![tactic(auto)]
 
-mod commands;
 mod disk;
 mod file;
+mod office;
+mod printing;
 
 pub use disk::{DiskDesk, create};
