@@ -1,0 +1,27 @@
+//! The words of faults.
+use desk_store::{CreateFault, OpenFault};
+use desk_words::Failure;
+
+pub fn create_word(fault: CreateFault) -> &'static str {
+    match fault {
+        CreateFault::NotEmpty => "NotEmpty",
+        CreateFault::Store => "Store",
+        CreateFault::Memory => "Memory",
+    }
+}
+
+pub fn open_word(fault: OpenFault) -> &'static str {
+    match fault {
+        OpenFault::NotADesk => "NotADesk",
+        OpenFault::NewerVersion => "NewerVersion",
+        OpenFault::Store => "Store",
+        OpenFault::Memory => "Memory",
+    }
+}
+
+pub fn failure_word(failure: Failure) -> &'static str {
+    match failure {
+        Failure::Store => "Store",
+        Failure::Memory => "Memory",
+    }
+}

@@ -1,0 +1,164 @@
+//! What is answered to the steps of a case, and what is found where it is compared with what the
+//! case expects.
+use crate::case::{Case, Expected, Step};
+use std::alloc::{AllocError, Global};
+use std::fmt;
+
+/// The answer to a step.
+#[derive(Drop)]
+pub struct Answer {
+    pub text: String,
+    /// What is wrong beside that text, a line for each such thing.
+    pub wrong: String,
+    /// How often the same was asked with other devices, or stopped.
+    pub tries: u64,
+}
+
+/// What was counted over a case, and what was not as expected, a line for each such thing.
+#[derive(Drop)]
+pub struct Findings<'a> {
+    name: &'a str,
+    answers: u64,
+    tries: u64,
+    told: String,
+}
+
+impl Answer {
+    /// A text, and nothing wrong beside it.
+    pub fn new(alloc: Global, text: String) -> Answer {
+        Answer {
+            text,
+            wrong: String::new(alloc),
+            tries: 0,
+        }
+    }
+
+    pub fn of(alloc: Global, text: &str) -> Result<Answer, AllocError> {
+        Ok(Answer::new(alloc, String::from_str(alloc, text)?))
+    }
+}
+
+impl<'a> Findings<'a> {
+    /// Nothing is found yet in the case of this name.
+    pub fn new(alloc: Global, name: &'a str) -> Findings<'a> {
+        Findings {
+            name,
+            answers: 0,
+            tries: 0,
+            told: String::new(alloc),
+        }
+    }
+
+    /// Whether there was an answer, and nothing but what is expected.
+    pub fn is_all_expected(&self) -> bool {
+        self.answers > 0 && self.told.is_empty()
+    }
+
+    /// Tells what is wrong at a line of the file.
+    fn tell(&mut self, line: u64, what: &str) -> Result<(), AllocError> {
+        writeln!(self.told, "{}:{line}: {what}", self.name)
+    }
+
+    /// Tells the lines that have no form or no place, and the steps that expect no answer.
+    pub fn look_over(&mut self, case: &Case) -> Result<(), AllocError> {
+        for line in &case.misplaced {
+            self.tell(*line, "no line of a case, or not in its place")?;
+        }
+        for step in &case.steps {
+            if step.expected.is_empty() {
+                self.tell(step.line, "no line of the answer is expected")?;
+            }
+        }
+        if case.steps.is_empty() {
+            self.tell(case.last_line, "no step in the whole file")?;
+        }
+        Ok(())
+    }
+
+    /// Tells a line of an answer that is not the one that is wanted.
+    fn tell_other(
+        &mut self,
+        alloc: Global,
+        line: u64,
+        wanted: Option<&str>,
+        got: Option<&str>,
+    ) -> Result<(), AllocError> {
+        let wanted = wanted.unwrap_or("no further line");
+        let got = got.unwrap_or("no further line");
+        let what = format!(in alloc; "wanted {wanted}, got {got}")?;
+        self.tell(line, &what)
+    }
+
+    /// Tells the first line of an answer that is not the one that is wanted, if there is one. An
+    /// answer without text is an empty line, or none.
+    fn compare_whole(
+        &mut self,
+        alloc: Global,
+        step: &Step,
+        answer: &str,
+    ) -> Result<(), AllocError> {
+        let mut lines = answer.lines();
+        for Expected { line, text, .. } in step.expected.iter().filter(|line| !line.is_among) {
+            let got = lines.next();
+            let is_empty = answer.is_empty() && text.is_empty();
+            if got != Some(*text) && !is_empty {
+                return self.tell_other(alloc, *line, Some(*text), got);
+            }
+        }
+        match lines.next() {
+            Some(got) => self.tell_other(alloc, step.line, None, Some(got)),
+            None => Ok(()),
+        }
+    }
+
+    /// Tells each line that has to stand somewhere in an answer, and does not.
+    fn compare_among(&mut self, step: &Step, text: &str) -> Result<(), AllocError> {
+        for Expected {
+            line,
+            text: wanted,
+            ..
+        } in step.expected.iter().filter(|line| line.is_among) {
+            if !text.lines().any(|among| among == *wanted) {
+                self.tell(*line, "no line of the answer is this")?;
+            }
+        }
+        Ok(())
+    }
+
+    /// Counts an answer, and tells what differs in it. Where it is said by lines that stand somewhere
+    /// in it alone, it may have others.
+    pub fn compare(
+        &mut self,
+        alloc: Global,
+        step: &Step,
+        answer: &Answer,
+    ) -> Result<(), AllocError> {
+        self.answers = self.answers.saturating_add(1);
+        self.tries = self.tries.saturating_add(answer.tries);
+        if !step.expected.iter().all(|line| line.is_among) {
+            self.compare_whole(alloc, step, &answer.text)?;
+        }
+        self.compare_among(step, &answer.text)?;
+        for what in answer.wrong.lines() {
+            self.tell(step.line, what)?;
+        }
+        Ok(())
+    }
+}
+
+impl fmt::Display for Findings<'_> {
+    fn fmt<W: fmt::Write>(&self, f: &mut fmt::Formatter<W>) -> fmt::Result {
+        let ended = if self.is_all_expected() {
+            "all as expected"
+        } else {
+            "not as expected"
+        };
+        let Findings {
+            name,
+            answers,
+            tries,
+            told,
+        } = self;
+        write!(f, "{told}{name}: {answers} answers, {tries} tries, {ended}")
+    }
+}

@@ -1,0 +1,104 @@
+//! A desk that is asked over HTTP, beside the one that is asked by calls.
+use crate::handed::Handed;
+use crate::tables::Tables;
+use desk_devices::VecSink;
+use desk_program::call_of;
+use desk_routes::{method_of, target_route};
+use desk_words::{
+    Call, Caller, DeskRequest, KeyRow, KeyRows, ListFault, Moment, Request, read_key,
+};
+use std::alloc::{AllocError, Global};
+
+/// The key of whoever makes the call.
+const KEY: &str = "the-key-of-a-caller";
+
+/// A desk over a database in memory that is asked over HTTP wherever a verb has a method. It knows
+/// the caller of the call that is made, and nobody else.
+#[derive(Drop)]
+pub struct Served {
+    alloc: Global,
+    tables: Tables,
+}
+
+/// The request over HTTP that a line of a replay asks, where its verb has a method.
+fn request_text(alloc: Global, line: &str) -> Result<Option<String>, AllocError> {
+    let mut parts = line.splitn(5, ' ').skip(2);
+    let (Some(meeting), Some(verb)) = (parts.next(), parts.next()) else {
+        return Ok(None);
+    };
+    let body = parts.next().unwrap_or("");
+    let target = format!(in alloc; "/m/{meeting}/{verb}")?;
+    let Some(route) = target_route(target.as_bytes()) else {
+        return Ok(None);
+    };
+    let method = method_of(&route);
+    let head = format!(in alloc; "{method} {target} HTTP/1.1\nDesk-Key: {KEY}")?;
+    let text = format!(in alloc; "{head}\nContent-Length: {}\n\n{body}", body.len())?;
+    Ok(Some(text))
+}
+
+/// The call of the office by which a caller has the key, and nobody else one.
+fn call_of_key(alloc: Global, moment: Moment, caller: Caller) -> Result<Option<Call>, AllocError> {
+    let Some(secret) = read_key(KEY.as_bytes()) else {
+        return Ok(None);
+    };
+    match KeyRows::new(vec![in alloc; KeyRow { caller, secret }]?) {
+        Ok(rows) => Ok(Some(Call {
+            moment,
+            caller: Caller::Office,
+            request: Request::Desk(DeskRequest::Keys(rows)),
+        })),
+        Err(ListFault::Limit) => Ok(None),
+        Err(ListFault::Memory) => Err(AllocError),
+    }
+}
+
+impl Served {
+    /// A database without tables.
+    pub fn new(alloc: Global) -> Result<Served, AllocError> {
+        Ok(Served {
+            alloc,
+            tables: Tables::new(alloc)?,
+        })
+    }
+
+    /// Does what is done to the database itself.
+    pub fn alter(&mut self, command: &str, rest: &str) {
+        match command {
+            "create" => self.tables.create(),
+            "open" => self.tables.open(),
+            "close" => self.tables.close(),
+            "sql" => self.tables.execute(rest),
+            _ => "no command",
+        };
+    }
+
+    /// Loads a file by a command of the office.
+    pub fn load(&mut self, handed: &Handed) {
+        self.tables.load(handed);
+    }
+
+    /// Makes the call of a line, and adds a line to what is wrong where the reply over HTTP has not
+    /// this JSON. A call whose verb has no method is made without HTTP, and its reply not asked.
+    pub fn call(&mut self, line: &str, json: &[u8], wrong: &mut String) -> Result<(), AllocError> {
+        let Ok(call) = call_of(self.alloc, line.as_bytes()) else {
+            return Ok(());
+        };
+        let Some(request) = request_text(self.alloc, line)? else {
+            self.tables.perform(call, true);
+            return Ok(());
+        };
+        if let Some(keys) = call_of_key(self.alloc, call.moment, call.caller)? {
+            self.tables.perform(keys, true);
+        }
+        let mut sink = VecSink::new(self.alloc);
+        self.tables
+            .serve(call.moment, request.as_bytes(), &mut sink);
+        let text = String::from_utf8_lossy(self.alloc, sink.as_slice())?;
+        let (_, body) = text.split_once("\r\n\r\n").unwrap_or(("", ""));
+        if body.as_bytes() != json {
+            writeln!(wrong, "over HTTP it is answered otherwise: {text}")?;
+        }
+        Ok(())
+    }
+}

@@ -1,0 +1,61 @@
+//! An office in memory, in which one meeting is called, and which is asked over connections.
+use desk_clocks::Clock;
+use desk_devices::{ReadDevice, WriteDevice};
+use desk_http::{NowFault, serve_now};
+use desk_program::call_of;
+use desk_serving::{LoopFault, serve_loop};
+use desk_words::{Moment, read_moment};
+use meeting_core::Book;
+use std::alloc::Global;
+use std::net::{TcpListener, TcpStream};
+use std::test::Fail;
+
+/// The keys of two parties, and the call of a meeting.
+const LINES: [&str; 2] = [
+    r#"2026-06-01T08:00:00 OFFICE - keys {"rows":[["M1","mmmmmmmmmmmmmmmm"],["Z","zzzzzzzzzzzzzzzz"]]}"#,
+    r#"2026-06-01T09:00:00 OFFICE G1 call {"company":"private","kind":"general","given":"2026-06-01","appointed":"2026-06-18T10:00:00","record":"2026-06-16T18:00:00","resolutions":[["ordinary","Accounts"],["special","New articles"]]}"#,
+];
+
+/// An office in memory.
+#[derive(Drop)]
+pub(crate) struct Office {
+    alloc: Global,
+    book: Book,
+}
+
+pub(crate) fn moment(text: &str) -> Result<Moment, Fail> {
+    Ok(read_moment(text.as_bytes()).ok_or("a moment")?)
+}
+
+impl Office {
+    /// An office whose lines were all answered.
+    pub(crate) fn new(alloc: Global) -> Result<Office, Fail> {
+        let mut book = Book::new(alloc);
+        for line in LINES {
+            let call = call_of(alloc, line.as_bytes()).ok().ok_or("a call")?;
+            book.step(call)?;
+        }
+        Ok(Office { alloc, book })
+    }
+
+    /// Serves so many connections.
+    pub(crate) fn serve_loop<C: Clock>(
+        &mut self,
+        listener: &TcpListener,
+        clock: &mut C,
+        count: u32,
+    ) -> Result<(), LoopFault> {
+        serve_loop(self.alloc, listener, &mut self.book, clock, count)
+    }
+
+    /// Serves the request of one connection.
+    pub(crate) fn serve_now<C: Clock>(
+        &mut self,
+        stream: &TcpStream,
+        clock: &mut C,
+    ) -> Result<(), NowFault> {
+        let mut reader = ReadDevice::new(stream);
+        let mut writer = WriteDevice::new(stream);
+        serve_now(self.alloc, &mut self.book, clock, &mut reader, &mut writer)
+    }
+}
