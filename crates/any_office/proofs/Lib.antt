@@ -1,2 +1,2 @@
-pub mod HomeLemmas
-mod RunLaws
+pub mod OfficeHomeLemmas
+mod OfficeRunLaws

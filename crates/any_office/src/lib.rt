@@ -7,10 +7,10 @@ pub mod laws;
 
 ghost use Rattle.std.specs.Prelude.{◌≡◌, ℕ, IfErr, IfOk, None, Ok, OnOk};
 ghost use Rattle.std.specs.Fn.{FnOnceReturnsAt};
-ghost use Rattle.any_office.specs.Homes.{FindsAtMost, FindsOnly, Leaves, OfOffice, made_by};
+ghost use Rattle.any_office.specs.StoredOffice.{FindsAtMost, FindsOnly, IsTransition, HoldsOfOffice, made_by};
 ghost use Rattle.desk_words.specs.declared.office.OfficeLists.{OfficeLists};
 ghost use Rattle.desk_words.specs.declared.reply.Failure.{Failure};
-ghost use Rattle.meeting_core.specs.Callers.{caller_with};
+ghost use Rattle.meeting_core.specs.KeyHolders.{caller_with};
 ghost use Rattle.meeting_core.specs.Step.{decided, stepped};
 
 use desk_words::{Call, Caller, Failure, Reply, SecretKey};
@@ -40,14 +40,14 @@ pub trait Office {
 
     /// The caller whose key this is; none exactly where no key equals it.
     fn caller_of(&mut self, key: &SecretKey) -> Result<Option<Caller>, Failure>
-        ensures found { OfOffice is_reliable stands self.old self.new
+        ensures found { HoldsOfOffice is_reliable stands self.old self.new
             (λ office. IfOk result (λ caller. caller ≡ caller_with office.keys key.now)) }
         ensures cause { IfErr result may_fail }
-        ensures leaves { Leaves is_reliable is_open stands faults None self.old self.new }
+        ensures leaves { IsTransition is_reliable is_open stands faults None self.old self.new }
         ensures stays_open { OnOk result (is_reliable self.new → is_open self.new) }
-        ensures settled { OfOffice is_reliable stands self.old self.new
+        ensures settled { HoldsOfOffice is_reliable stands self.old self.new
             (λ office. OnOk result (FindsOnly may_find self.new office)) }
-        ensures crash { OfOffice is_reliable stands self.old self.new
+        ensures crash { HoldsOfOffice is_reliable stands self.old self.new
             (λ _. FindsAtMost may_find self.old self.new (λ _. ⊥)) };
 
     /// Makes one call: what it stores is then the office after the step. `show` is asked once for
@@ -62,14 +62,14 @@ pub trait Office {
         show: F,
     ) -> Result<T, Failure>
         requires callable { F.IsAlwaysCallable show }
-        ensures done { OfOffice is_reliable stands self.old self.new (λ office. IfOk result
+        ensures done { HoldsOfOffice is_reliable stands self.old self.new (λ office. IfOk result
             (λ t. FnOnceReturnsAt F.FnOnce show (decided office call).reply (Ok t))) }
         ensures cause { IfErr result may_fail }
-        ensures leaves { Leaves is_reliable is_open stands faults (made_by result call)
+        ensures leaves { IsTransition is_reliable is_open stands faults (made_by result call)
             self.old self.new }
         ensures stays_open { OnOk result (is_reliable self.new → is_open self.new) }
-        ensures settled { OfOffice is_reliable stands self.old self.new
+        ensures settled { HoldsOfOffice is_reliable stands self.old self.new
             (λ office. OnOk result (FindsOnly may_find self.new (stepped office call))) }
-        ensures crash { OfOffice is_reliable stands self.old self.new (λ office.
+        ensures crash { HoldsOfOffice is_reliable stands self.old self.new (λ office.
             FindsAtMost may_find self.old self.new (λ found. found ≡ stepped office call)) };
 }

@@ -1,3 +1,3 @@
-mod CastLemmas
-pub mod ReadLemmas
+mod PartyCastLemmas
+pub mod PartyReadLemmas
 mod RightsLemmas

@@ -1,12 +1,12 @@
 -- Places that pass a test from one to another, and what is found among a party's own things.
 use Rattle.std.proofs.Common.{◌≡◌, ℕ, zero, suc, ◌+◌, ◌<◌, ◌≤◌, Bool, true, false, not, ◌&&◌, cond, List, find, Some, None, refl, sym, ap, ◌∙◌, arith}
 use Rattle.std.specs.Prelude.{nat_eq, nat_le, nat_lt, Option, IfSome}
-use Rattle.desk_lists.proofs.Kept.{found-any, found-passes, none-found}
-use Rattle.desk_terms.specs.Names.{same_name}
+use Rattle.seq.proofs.Kept.{found-any, found-passes, none-found}
+use Rattle.vocabulary.specs.Names.{same_name}
 use Rattle.std.specs.List.{list_any}
 use Rattle.std.proofs.lemmas.Bool.{and_parts}
 use Rattle.std.proofs.lemmas.Bool.Decides.{nat_tests}
-use Rattle.desk_terms.specs.Places.{Places, holds, places_that}
+use Rattle.vocabulary.specs.Places.{Places, holds, places_that}
 use Rattle.desk_words.specs.declared.own.Received.{Received}
 use Rattle.desk_words.specs.declared.request.NewCast.{NewCast}
 use Rattle.caller_view.specs.Rights.{Governs, IsRunAt, governs_at, is_governed, some_fail}

@@ -1,8 +1,8 @@
 -- What the notice of a meeting shows.
 use Rattle.std.specs.Prelude.{List, option_map}
-use Rattle.desk_terms.specs.declared.kinds.ResKind.{ResKind}
+use Rattle.vocabulary.specs.declared.kinds.ResKind.{ResKind}
 use Rattle.desk_words.specs.Finding.{poll_on}
-use Rattle.desk_words.specs.Seen.{Day, Moment, Number, SessionNumber}
+use Rattle.desk_words.specs.ViewTypes.{Day, Moment, Number, SessionNumber}
 use Rattle.desk_words.specs.declared.records.Meeting.{Meeting}
 use Rattle.desk_words.specs.declared.records.Poll.{Poll}
 use Rattle.desk_words.specs.declared.records.Resolution.{Resolution}
@@ -14,7 +14,7 @@ use Rattle.desk_words.specs.declared.reply.NoticedSession.{NoticedSession}
 use Rattle.proxy_rules.specs.Cutoffs.{cutoffs_of, is_late_poll}
 use Rattle.proxy_rules.specs.Uses.{Votes, Vote}
 use Rattle.desk_words.specs.Majority.{result_of}
-use Rattle.party_views.specs.Sessions.{numbered}
+use Rattle.party_views.specs.SessionLists.{enumerate_from}
 
 -- a poll, with its lateness and its cutoff by the closed days as they stand, and its result once it
 -- is declared (section 327)
@@ -58,8 +58,8 @@ notice_of meeting polls closed now = record {
   kind = meeting.kind;
   given = meeting.given;
   first = noticed_session meeting closed now 1 meeting.first;
-  later = numbered (noticed_session meeting closed now) 2 meeting.later;
+  later = enumerate_from (noticed_session meeting closed now) 2 meeting.later;
   record_moment = meeting.record_moment;
   loaded = meeting.loaded;
-  resolutions = numbered (noticed_resolution meeting polls closed now) 1 meeting.resolutions;
+  resolutions = enumerate_from (noticed_resolution meeting polls closed now) 1 meeting.resolutions;
 }

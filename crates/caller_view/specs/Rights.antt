@@ -5,9 +5,9 @@ use Rattle.std.specs.List.{list_any}
 use Rattle.std.specs.Option.{option_map_or}
 use Rattle.desk_words.specs.Names.{same_name}
 use Rattle.desk_words.specs.Places.{Places, holds, places_that}
-use Rattle.desk_words.specs.Seen.{Day, Number, Party, Place, SessionNumber}
-use Rattle.desk_terms.specs.declared.kinds.Capacity.{Capacity}
-use Rattle.desk_terms.specs.declared.kinds.Capacity.TheVariants.{Member, Rep, Proxy}
+use Rattle.desk_words.specs.ViewTypes.{Day, Number, Party, Place, SessionNumber}
+use Rattle.vocabulary.specs.declared.kinds.Capacity.{Capacity}
+use Rattle.vocabulary.specs.declared.kinds.Capacity.TheVariants.{Member, Rep, Proxy}
 use Rattle.desk_words.specs.declared.own.Authorised.{Authorised}
 use Rattle.desk_words.specs.declared.own.PollGoverned.{PollGoverned}
 use Rattle.desk_words.specs.declared.own.Received.{Received}
@@ -19,7 +19,7 @@ use Rattle.proxy_rules.specs.Cutoffs.{is_late_poll}
 use Rattle.proxy_rules.specs.Shares.{is_individual}
 use Rattle.proxy_rules.specs.Instructions.{allows, instructed_on}
 use Rattle.proxy_rules.specs.Uses.{Use, Acts, Votes, Vote}
-use Rattle.party_views.specs.Sessions.{at_session}
+use Rattle.party_views.specs.SessionLists.{at_session}
 use Rattle.party_views.specs.declared.views.OwnView.{OwnView}
 
 -- the party holds shares as an individual

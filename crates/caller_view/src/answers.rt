@@ -1,8 +1,8 @@
 //! The answer to a party.
 ghost use Rattle.std.specs.Prelude.{◌≡◌, true, IfOk, IsOk, map};
-ghost use Rattle.desk_words.specs.Rulings.{refuses, settled};
-ghost use Rattle.caller_view.specs.Answers.{mine_of, party_ruling, takes_no_memory};
-ghost use Rattle.caller_view.specs.Appointments.{cutoff_in, given_use, use_by};
+ghost use Rattle.desk_words.specs.Rulings.{refuses, ruled_answer};
+ghost use Rattle.caller_view.specs.PartyRulings.{mine_of, party_ruling, party_needs_no_memory};
+ghost use Rattle.caller_view.specs.AppointmentRulings.{cutoff_in, given_use, use_by};
 
 use crate::appointments::{appoint, end, use_by};
 use crate::attendance::{attend, authorise, demand};
@@ -80,10 +80,10 @@ pub fn answer(
     now: Moment,
     asked: &PartyRequest,
 ) -> Result<Answer<Entry>, AllocError>
-    ensures answer { IfOk result (λ a. a ≡ settled
+    ensures answer { IfOk result (λ a. a ≡ ruled_answer
         (party_ruling public.now own now asked.now)) }
     ensures sure { refuses (party_ruling public.now own now asked.now) ≡ true → IsOk result }
-    ensures no_memory { takes_no_memory asked.now ≡ true → IsOk result }
+    ensures no_memory { party_needs_no_memory asked.now ≡ true → IsOk result }
 {
     let Some(meeting) = public.meeting() else {
         return Ok(refuse(Refusal::NoMeeting));

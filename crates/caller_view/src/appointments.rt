@@ -2,9 +2,9 @@
 ghost use Rattle.std.specs.Prelude.{◌≡◌, ◌==◌, true, IfOk, IsOk, find};
 ghost use Rattle.std.specs.Option.{option_copied};
 ghost use Rattle.desk_words.specs.Refusals.{first_refusal};
-ghost use Rattle.desk_words.specs.Rulings.{refuses, settled};
+ghost use Rattle.desk_words.specs.Rulings.{refuses, ruled_answer};
 ghost use Rattle.desk_words.specs.declared.own.Given.{Given};
-ghost use Rattle.caller_view.specs.Appointments.{appoint_range_cases, appoint_ruling, appointment_of, end_cases, end_ruling, given_numbered, use_by};
+ghost use Rattle.caller_view.specs.AppointmentRulings.{appoint_range_cases, appoint_ruling, appointment_of, end_cases, end_ruling, given_numbered, use_by};
 
 use crate::answers::cutoff_in;
 use desk_words::limits::MOST_APPOINTMENTS;
@@ -101,7 +101,7 @@ pub(crate) fn appoint(
     now: Moment,
     new: &NewAppointment,
 ) -> Result<Answer<Entry>, AllocError>
-    ensures answer { IfOk result (λ a. a ≡ settled
+    ensures answer { IfOk result (λ a. a ≡ ruled_answer
         (appoint_ruling public.now meeting.now own.now now new.now)) }
     ensures sure { refuses (appoint_ruling public.now meeting.now own.now now new.now) ≡ true
         → IsOk result }
@@ -136,7 +136,7 @@ fn end_refusal(own: &OwnView, number: u64) -> Option<Refusal>
 /// The answer to a party that ends an appointment that it gave (section 330): `NoSuchNumber` where
 /// it gave none of that number, `AlreadyEnded`, and else `Ended`, which enters the ending.
 pub(crate) fn end(own: &OwnView, now: Moment, number: u64) -> Answer<Entry>
-    ensures { result ≡ settled (end_ruling own.now now number) }
+    ensures { result ≡ ruled_answer (end_ruling own.now now number) }
 {
     if let Some(refusal) = end_refusal(own, number) {
         return refuse(refusal);

@@ -1,8 +1,8 @@
 //! Authorities that a party gives, its presence, and polls that it demands.
 ghost use Rattle.std.specs.Prelude.{◌≡◌};
 ghost use Rattle.desk_words.specs.Refusals.{first_refusal};
-ghost use Rattle.desk_words.specs.Rulings.{settled};
-ghost use Rattle.caller_view.specs.Attendance.{attend_ruling, authorise_cases, authorise_ruling, demand_cases, demand_ruling, gave_authority, governs_any, is_demand_now, is_present, own_demanded, may_demand, represents};
+ghost use Rattle.desk_words.specs.Rulings.{ruled_answer};
+ghost use Rattle.caller_view.specs.AttendanceRulings.{attend_ruling, authorise_cases, authorise_ruling, demand_cases, demand_ruling, gave_authority, governs_any, is_demand_now, is_present, own_demanded, may_demand, represents};
 
 use crate::rights::{governed_acts, holds_as_individual};
 use desk_words::limits::MOST_AUTHORITIES;
@@ -37,7 +37,7 @@ fn authorise_refusal(own: &OwnView, person: Party) -> Option<Refusal>
 /// them, and else `Noted`, which enters the authority unless it stands already. The register is not
 /// looked at.
 pub(crate) fn authorise(own: &OwnView, now: Moment, person: Party) -> Answer<Entry>
-    ensures { result ≡ settled (authorise_ruling own.now now person) }
+    ensures { result ≡ ruled_answer (authorise_ruling own.now now person) }
 {
     if let Some(refusal) = authorise_refusal(own, person) {
         return refuse(refusal);
@@ -63,7 +63,7 @@ fn is_present(meeting: &Meeting, own: &OwnView) -> bool
 /// which enters the mark unless it stands already. A party that has no right to be present is noted
 /// too.
 pub(crate) fn attend(meeting: &Meeting, own: &OwnView, now: Moment) -> Answer<Entry>
-    ensures { result ≡ settled (attend_ruling meeting.now own.now now) }
+    ensures { result ≡ ruled_answer (attend_ruling meeting.now own.now now) }
 {
     let presence = PresenceMark {
         session: meeting.last_number(),
@@ -158,7 +158,7 @@ pub(crate) fn demand(
     now: Moment,
     resolution: u64,
 ) -> Answer<Entry>
-    ensures { result ≡ settled (demand_ruling public.now meeting.now own.now now resolution) }
+    ensures { result ≡ ruled_answer (demand_ruling public.now meeting.now own.now now resolution) }
 {
     if let Some(refusal) = demand_refusal(public, meeting, own, resolution) {
         return refuse(refusal);

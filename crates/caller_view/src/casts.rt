@@ -1,10 +1,10 @@
 //! The answers to votes that a party casts.
 ghost use Rattle.std.specs.Prelude.{◌≡◌, Some};
 ghost use Rattle.desk_words.specs.Refusals.{first_refusal};
-ghost use Rattle.desk_words.specs.Rulings.{settled};
+ghost use Rattle.desk_words.specs.Rulings.{ruled_answer};
 ghost use Rattle.desk_words.specs.declared.change.Entry.TheVariants as entry;
 ghost use Rattle.desk_words.specs.declared.reply.Reply.TheVariants as reply;
-ghost use Rattle.caller_view.specs.Casts.{block_of, cast_of, cast_range_cases, cast_ruling, cast_count, has_cast_enough, instructed_cases, instructed_ruling, right_cases};
+ghost use Rattle.caller_view.specs.CastRulings.{block_of, cast_of, cast_range_cases, cast_ruling, cast_count, has_cast_enough, instructed_cases, instructed_ruling, right_cases};
 ghost use Rattle.caller_view.specs.Rights.{governed_at_poll};
 
 use crate::rights::{is_against, is_not_own, is_uninstructed, may_vote_for};
@@ -123,7 +123,7 @@ pub(crate) fn cast(
     now: Moment,
     new: &NewCast,
 ) -> Answer<Entry>
-    ensures { result ≡ settled (cast_ruling public.now meeting.now own.now now new.now) }
+    ensures { result ≡ ruled_answer (cast_ruling public.now meeting.now own.now now new.now) }
 {
     if !meeting.has_resolution(new.resolution) {
         return refuse(Refusal::NoResolution);
@@ -181,7 +181,7 @@ pub(crate) fn instructed(
     now: Moment,
     resolution: u64,
 ) -> Answer<Entry>
-    ensures { result ≡ settled (instructed_ruling public.now meeting.now own.now now resolution) }
+    ensures { result ≡ ruled_answer (instructed_ruling public.now meeting.now own.now now resolution) }
 {
     match instructed_refusal(public, meeting, own, resolution) {
         Some(refusal) => refuse(refusal),

@@ -1,7 +1,7 @@
 //! The notice of a meeting.
 ghost use Rattle.std.specs.Prelude.{◌≡◌, IfOk, option_map};
 ghost use Rattle.caller_view.specs.Notices.{noticed_poll, noticed_resolution, noticed_session, notice_of};
-ghost use Rattle.party_views.specs.Sessions.{numbered};
+ghost use Rattle.party_views.specs.SessionLists.{enumerate_from};
 ghost use Rattle.desk_words.specs.Finding.{poll_on};
 ghost use Rattle.desk_words.specs.Majority.{result_of};
 
@@ -83,7 +83,7 @@ fn noticed_resolutions(
     meeting: &Meeting,
     now: Moment,
 ) -> Result<Vec<NoticedResolution>, AllocError>
-    ensures { IfOk result (λ v. v.items ≡ numbered
+    ensures { IfOk result (λ v. v.items ≡ enumerate_from
         (noticed_resolution meeting.now public.now.polls public.now.closed now) 1
         meeting.now.resolutions) }
 {
@@ -118,7 +118,7 @@ fn noticed_sessions(
     closed: &Closed,
     now: Moment,
 ) -> Result<Vec<NoticedSession>, AllocError>
-    ensures { IfOk result (λ v. v.items ≡ numbered
+    ensures { IfOk result (λ v. v.items ≡ enumerate_from
         (noticed_session meeting.now closed.now now) 2 meeting.now.later) }
 {
     let mut noticed = Vec::new(alloc);

@@ -1,6 +1,6 @@
 //! What is asked of a desk, and what is answered.
 ghost use Rattle.std.specs.Prelude.{◌≡◌, false};
-ghost use Rattle.desk_opening.specs.Rising.{RowsRise};
+ghost use Rattle.sql_open.specs.Rising.{RowsRise};
 ghost use Rattle.sqlite.specs.Held.{state};
 ghost use Rattle.sqlite.specs.State.{HasCleanDisk};
 
@@ -8,8 +8,8 @@ use crate::calls;
 use crate::devices::{Request, STORE_FAILED, serve};
 use crate::faults::{failure_word, open_word};
 use crate::looking::{look, open_any, read};
-use desk_program::call_of;
 use desk_store::Desk;
+use replay::call_of;
 use sqlite::{Alter, Connection};
 use std::alloc::Global;
 

@@ -3,12 +3,12 @@ use crate::handed::Handed;
 use crate::printed::print_failing;
 use crate::reads::{Asker, is_given};
 use crate::tables::Tables;
-use desk_endings::Ended;
-use desk_replies::reply_text;
+use cli_exit::Ended;
 use desk_words::{
     Call, Caller, DayList, DeskRequest, KeyRows, MeetingId, Moment, Party, Reply, Request,
     read_party,
 };
+use json_replies::reply_text;
 use meeting_core::Book;
 use std::alloc::{AllocError, Global};
 

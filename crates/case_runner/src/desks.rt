@@ -11,10 +11,10 @@ use crate::findings::Answer;
 use crate::handed::Handed;
 use crate::served::Served;
 use crate::tables::Tables;
-use desk_devices::VecSink;
-use desk_endings::Ended;
-use desk_program::call_of;
+use byte_io::VecSink;
+use cli_exit::Ended;
 use desk_words::{Call, Caller, Moment, read_key, read_meeting, read_moment};
+use replay::call_of;
 use std::alloc::{AllocError, Global};
 
 /// A desk over a database in memory, and a book and a further desk that make the same calls.

@@ -1,6 +1,6 @@
 //! Devices of which one call fails, and a request over HTTP that is served by them.
 use crate::calls;
-use desk_devices::{DeviceFailed, FailAt, ShortReads, Sink, SliceSource, VecSink};
+use byte_io::{DeviceError, FailAt, ShortReads, Sink, SliceSource, VecSink};
 use desk_http::ServeFault;
 use desk_store::Desk;
 use desk_words::read_moment;
@@ -23,7 +23,7 @@ impl<W: Sink> Sink for ByteByByte<W> {
 
     ghost failures = { λ s. W.failures s.inner };
 
-    fn write(&mut self, bytes: &[u8]) -> Result<usize, DeviceFailed> {
+    fn write(&mut self, bytes: &[u8]) -> Result<usize, DeviceError> {
         let count = bytes.len().min(1);
         self.inner.write(&bytes[..count])
     }

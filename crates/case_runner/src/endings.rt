@@ -1,19 +1,19 @@
 //! How the program ends.
 use crate::findings::Answer;
-use desk_endings::{Ended, Fault};
+use cli_exit::{Ended, ExitError};
 use desk_words::Refusal;
 use std::alloc::{AllocError, Global};
 
-const FAULTS: [Fault; 9] = [
-    Fault::Store,
-    Fault::Memory,
-    Fault::NotADesk,
-    Fault::NewerVersion,
-    Fault::NotEmpty,
-    Fault::ReadFault,
-    Fault::WriteFault,
-    Fault::Socket,
-    Fault::Clock,
+const FAULTS: [ExitError; 9] = [
+    ExitError::Store,
+    ExitError::Memory,
+    ExitError::NotADesk,
+    ExitError::NewerVersion,
+    ExitError::NotEmpty,
+    ExitError::ReadFault,
+    ExitError::WriteFault,
+    ExitError::Socket,
+    ExitError::Clock,
 ];
 
 const REFUSALS: [Refusal; 34] = [

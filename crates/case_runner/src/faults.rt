@@ -1,12 +1,12 @@
 //! The words of faults.
-use desk_store::{CreateFault, OpenFault};
+use desk_store::{CreateError, OpenFault};
 use desk_words::Failure;
 
-pub fn create_word(fault: CreateFault) -> &'static str {
+pub fn create_word(fault: CreateError) -> &'static str {
     match fault {
-        CreateFault::NotEmpty => "NotEmpty",
-        CreateFault::Store => "Store",
-        CreateFault::Memory => "Memory",
+        CreateError::NotEmpty => "NotEmpty",
+        CreateError::Store => "Store",
+        CreateError::Memory => "Memory",
     }
 }
 

@@ -1,11 +1,11 @@
 //! What is asked of a desk that is kept in two files.
 ghost use Rattle.std.specs.Prelude.{◌≡◌, false, IfOk, IsTrue};
-ghost use Rattle.desk_opening.specs.Rising.{RowsRise};
+ghost use Rattle.sql_open.specs.Rising.{RowsRise};
 ghost use Rattle.sqlite.specs.Files.{file_state};
 ghost use Rattle.sqlite.specs.State.{HasCleanDisk};
 
 use crate::asking::{Asked, Outcome, ask};
-use desk_opening::laws::found_rows_rise;
+use sql_open::laws::found_rows_rise;
 use sqlite::{Connection, FileStore, Files, Options};
 use sqlite_disk::Disk;
 use std::alloc::Global;

@@ -5,9 +5,9 @@
 //! the file says.
 use crate::endings::ended_text;
 use crate::findings::Answer;
-use desk_devices::{FailAt, ShortReads, SliceSource};
-use desk_endings::Ended;
-use desk_papers::{FileFault, read_days, read_keys, read_register};
+use byte_io::{FailAt, ShortReads, SliceSource};
+use cli_exit::Ended;
+use desk_papers::{FileError, read_days, read_keys, read_register};
 use desk_words::{Caller, DayList, KeyRows, Register, write_day};
 use std::alloc::{AllocError, Global};
 
@@ -54,7 +54,7 @@ fn days_text(alloc: Global, days: &DayList) -> Result<String, AllocError> {
     Ok(text)
 }
 
-fn fault_text(alloc: Global, fault: FileFault) -> Result<String, AllocError> {
+fn fault_text(alloc: Global, fault: FileError) -> Result<String, AllocError> {
     ended_text(alloc, Ended::by_file(fault))
 }
 
@@ -91,7 +91,7 @@ fn read_by(
     most: usize,
     answer: &mut Answer,
 ) -> Result<(), AllocError> {
-    let failed = fault_text(alloc, FileFault::ReadFault)?;
+    let failed = fault_text(alloc, FileError::ReadFault)?;
     let reads = bytes.len().div_ceil(most.max(1)).saturating_add(1) as u64;
     for failing in 0..=reads.saturating_add(1) {
         let spelled = spelled(alloc, kind, bytes, most, failing)?;

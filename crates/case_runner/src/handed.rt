@@ -1,6 +1,6 @@
 //! The files that the office hands in.
-use desk_devices::SliceSource;
-use desk_papers::{FileFault, read_days, read_keys, read_register};
+use byte_io::SliceSource;
+use desk_papers::{FileError, read_days, read_keys, read_register};
 use desk_words::{
     DeskRequest, MeetingId, Moment, NewRegister, OfficeRequest, Request, read_meeting, read_moment,
 };
@@ -43,7 +43,7 @@ impl<'a> Handed<'a> {
     }
 
     /// What the office asks with it, or its fault.
-    pub fn request(&self, alloc: Global) -> Result<Request, FileFault> {
+    pub fn request(&self, alloc: Global) -> Result<Request, FileError> {
         let mut source = SliceSource::new(self.bytes);
         match self.kind {
             FileKind::Keys => {

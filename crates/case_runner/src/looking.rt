@@ -2,10 +2,10 @@
 use crate::asking::{Outcome, word};
 use crate::calls;
 use crate::faults::failure_word;
-use desk_program::call_of;
-use desk_replies::reply_text;
 use desk_store::{Desk, HandedBack};
+use json_replies::reply_text;
 use meeting_core::Book;
+use replay::call_of;
 use sqlite::types::ValueRef;
 use sqlite::{Alter, Connection, Row};
 use std::alloc::{AllocError, Global};

@@ -1,8 +1,8 @@
 //! What the words of the program ask.
 use crate::endings::ended_text;
 use crate::findings::Answer;
-use desk_commands::{Plan, read_words};
-use desk_endings::Ended;
+use cli_args::{Plan, read_words};
+use cli_exit::Ended;
 use desk_words::{Moment, write_moment};
 use std::alloc::{AllocError, Global};
 

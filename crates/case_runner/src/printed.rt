@@ -1,7 +1,7 @@
 //! What is printed of a book, by a device that fails.
 use crate::devices::ByteByByte;
-use desk_devices::{FailAt, VecSink};
-use desk_papers::{PrintFault, print_results};
+use byte_io::{FailAt, VecSink};
+use desk_papers::{PrintError, print_results};
 use desk_words::MeetingId;
 use meeting_core::Book;
 use std::alloc::{AllocError, Global};
@@ -21,7 +21,7 @@ fn prints_front(
     let mut sink = FailAt::new(slow, (written as u64).saturating_add(1));
     let outcome = print_results(alloc, &book.public_of(meeting), &mut sink);
     let is_ended_so = if written < text.len() {
-        outcome == Err(PrintFault::WriteFault)
+        outcome == Err(PrintError::WriteFault)
     } else {
         outcome == Ok(())
     };

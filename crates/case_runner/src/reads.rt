@@ -1,10 +1,10 @@
 //! What is read of a party's own things and of a meeting, compared with what a book gives of them.
 use caller_view::answer;
-use desk_replies::reply_text;
 use desk_words::{
     Given, Meeting, MeetingId, Moment, Party, PartyRequest, PollGoverned, Received, RegisterRow,
     Resolution, SessionGoverned,
 };
+use json_replies::reply_text;
 use meeting_core::Book;
 use party_views::{OwnView, PublicRecord};
 use std::alloc::{AllocError, Global};

@@ -1,11 +1,11 @@
 //! What bytes ask over HTTP, and what is answered where no table is asked.
 use crate::asked::asked_text;
 use crate::findings::Answer;
-use desk_devices::{DeviceFailed, FailAt, ShortReads, SliceSource, VecSink};
-use desk_replies::reply_text;
-use desk_requests::{Received, Unheard, read_request};
-use desk_routes::{status_of, write_reply};
+use byte_io::{DeviceError, FailAt, ShortReads, SliceSource, VecSink};
 use desk_words::{Refusal, Reply};
+use http_requests::{ReceiveError, ReceivedRequest, read_request};
+use http_routes::{status_of, write_reply};
+use json_replies::reply_text;
 use std::alloc::{AllocError, Global};
 
 /// The most bytes of a request that is read one byte at a time too.
@@ -44,19 +44,19 @@ fn refused_text(alloc: Global, refusal: Refusal) -> Result<String, AllocError> {
     format!(in alloc; "{first} {last}")
 }
 
-fn unheard_text(alloc: Global, why: Unheard) -> Result<String, AllocError> {
+fn unheard_text(alloc: Global, why: ReceiveError) -> Result<String, AllocError> {
     match why {
-        Unheard::Refused(refusal) => refused_text(alloc, refusal),
-        Unheard::Memory => String::from_str(alloc, "want of memory"),
-        Unheard::Failed => String::from_str(alloc, "a read failed"),
+        ReceiveError::Refused(refusal) => refused_text(alloc, refusal),
+        ReceiveError::Memory => String::from_str(alloc, "want of memory"),
+        ReceiveError::Failed => String::from_str(alloc, "a read failed"),
     }
 }
 
 /// What is asked and with which key, or the reply.
-fn received_text(alloc: Global, received: &Received) -> Result<String, AllocError> {
+fn received_text(alloc: Global, received: &ReceivedRequest) -> Result<String, AllocError> {
     match received {
-        Received::Refused(refusal) => refused_text(alloc, *refusal),
-        Received::With { key, asked } => {
+        ReceivedRequest::Refused(refusal) => refused_text(alloc, *refusal),
+        ReceivedRequest::With { key, asked } => {
             let key = key.as_str();
             let text = match asked {
                 Ok(request) => asked_text(alloc, request)?,
@@ -73,7 +73,7 @@ fn asked_by(alloc: Global, bytes: &[u8], reads: Reads) -> Result<String, AllocEr
     let mut source = FailAt::new(short, reads.failing);
     match read_request(alloc, &mut source) {
         Ok(received) => received_text(alloc, &received),
-        Err(DeviceFailed) => String::from_str(alloc, "a read failed"),
+        Err(DeviceError) => String::from_str(alloc, "a read failed"),
     }
 }
 

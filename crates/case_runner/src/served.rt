@@ -1,12 +1,12 @@
 //! A desk that is asked over HTTP, beside the one that is asked by calls.
 use crate::handed::Handed;
 use crate::tables::Tables;
-use desk_devices::VecSink;
-use desk_program::call_of;
-use desk_routes::{method_of, target_route};
+use byte_io::VecSink;
 use desk_words::{
     Call, Caller, DeskRequest, KeyRow, KeyRows, ListFault, Moment, Request, read_key,
 };
+use http_routes::{method_of, target_route};
+use replay::call_of;
 use std::alloc::{AllocError, Global};
 
 /// The key of whoever makes the call.

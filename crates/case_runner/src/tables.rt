@@ -2,8 +2,8 @@
 use crate::calls;
 use crate::handed::Handed;
 use crate::reads::Asker;
-use desk_devices::{SliceSource, VecSink};
-use desk_endings::Ended;
+use byte_io::{SliceSource, VecSink};
+use cli_exit::Ended;
 use desk_store::{Desk, HandedBack, KeptRecord};
 use desk_words::{Call, Caller, Failure, MeetingId, Moment, SecretKey};
 use meeting_core::Book;

@@ -1,34 +1,34 @@
 //! The desk of a company's general meetings.
 #![tactic(auto)]
 
-use desk_clocks::WallClock;
-use desk_commands::{Plan, read_words};
-use desk_devices::{ReadDevice, WriteDevice};
-use desk_disk::DiskDesk;
-use desk_endings::{Ended, Fault, Line};
+use byte_io::{ReadDevice, WriteDevice};
+use cli_args::{Plan, read_words};
+use cli_commands::moment_at;
+use cli_exit::{Ended, ExitError, Line};
+use clocks::WallClock;
+use desk_file::DiskDesk;
 use desk_words::{MeetingId, Moment};
 use jiff::Timestamp;
-use office_clock::OfficeZone;
-use office_tasks::moment_at;
 use std::io::{self, ErrorKind};
 use std::net::{Ipv4Addr, TcpListener};
 use std::process::ExitCode;
 use std::rt::Env;
 use std::{env, fs};
+use wall_clock::OfficeZone;
 
 /// The words of the program, without its own name. Words that are no text ask for nothing.
 fn words(rt: &(impl Env + AllocGlobal)) -> Result<Vec<String>, Ended> {
     let mut words = Vec::new(rt.alloc());
     let given = env::args(rt).map_err(by_words_error)?;
     for word in given.skip(1) {
-        words.push(word).map_err(|_| Ended::by(Fault::Memory))?;
+        words.push(word).map_err(|_| Ended::by(ExitError::Memory))?;
     }
     Ok(words)
 }
 
 fn by_words_error(error: io::Error) -> Ended {
     if error.kind() == ErrorKind::OutOfMemory {
-        return Ended::by(Fault::Memory);
+        return Ended::by(ExitError::Memory);
     }
     Ended {
         status: 2,
@@ -38,12 +38,12 @@ fn by_words_error(error: io::Error) -> Ended {
 
 /// The moment on the office's wall clock.
 fn now(rt: &HostRuntime, zone: &OfficeZone) -> Result<Moment, Ended> {
-    let instant = Timestamp::now(rt).map_err(|_| Ended::by(Fault::Clock))?;
+    let instant = Timestamp::now(rt).map_err(|_| Ended::by(ExitError::Clock))?;
     moment_at(instant, zone)
 }
 
 fn open_reader(rt: &HostRuntime, file: &str) -> Result<ReadDevice<fs::File>, Ended> {
-    let file = fs::open(rt, file).map_err(|_| Ended::by(Fault::ReadFault))?;
+    let file = fs::open(rt, file).map_err(|_| Ended::by(ExitError::ReadFault))?;
     Ok(ReadDevice::new(file))
 }
 
@@ -51,14 +51,14 @@ fn keys(rt: &HostRuntime, file: &str, csv: &str, zone: &OfficeZone) -> Result<En
     let mut desk = DiskDesk::open(rt, file)?;
     let now = now(rt, zone)?;
     let mut reader = open_reader(rt, csv)?;
-    Ok(office_tasks::keys(rt.alloc(), &mut desk, now, &mut reader))
+    Ok(cli_commands::keys(rt.alloc(), &mut desk, now, &mut reader))
 }
 
 fn days(rt: &HostRuntime, file: &str, txt: &str, zone: &OfficeZone) -> Result<Ended, Ended> {
     let mut desk = DiskDesk::open(rt, file)?;
     let now = now(rt, zone)?;
     let mut reader = open_reader(rt, txt)?;
-    Ok(office_tasks::days(rt.alloc(), &mut desk, now, &mut reader))
+    Ok(cli_commands::days(rt.alloc(), &mut desk, now, &mut reader))
 }
 
 fn register(
@@ -72,7 +72,7 @@ fn register(
     let mut desk = DiskDesk::open(rt, file)?;
     let now = now(rt, zone)?;
     let mut reader = open_reader(rt, csv)?;
-    Ok(office_tasks::register(
+    Ok(cli_commands::register(
         rt.alloc(),
         &mut desk,
         now,
@@ -92,11 +92,11 @@ fn serve(
 ) -> Result<Ended, Ended> {
     let mut desk = DiskDesk::open(rt, file)?;
     let listener = TcpListener::bind(rt, (Ipv4Addr::LOCALHOST, port)).map_err(|_| Ended::by(
-        Fault::Socket,
+        ExitError::Socket,
     ))?;
-    println!(rt; "listening").map_err(|_| Ended::by(Fault::WriteFault))?;
+    println!(rt; "listening").map_err(|_| Ended::by(ExitError::WriteFault))?;
     let mut clock = WallClock::new(rt, zone);
-    Ok(serving_task::serve(rt.alloc(), &listener, &mut desk, &mut clock, requests))
+    Ok(cli_serve::serve(rt.alloc(), &listener, &mut desk, &mut clock, requests))
 }
 
 fn results(rt: &HostRuntime, file: &str, meeting: MeetingId) -> Result<Ended, Ended> {
@@ -108,14 +108,14 @@ fn results(rt: &HostRuntime, file: &str, meeting: MeetingId) -> Result<Ended, En
 fn replay(rt: &HostRuntime) -> Ended {
     let mut reader = ReadDevice::new(rt.reader());
     let mut writer = WriteDevice::new(io::writer(rt));
-    office_tasks::replay(rt.alloc(), &mut reader, &mut writer)
+    cli_commands::replay(rt.alloc(), &mut reader, &mut writer)
 }
 
 /// Does what the words of the program ask for.
 fn run(rt: &HostRuntime) -> Result<Ended, Ended> {
     let words = words(rt)?;
     match read_words(rt.alloc(), &words).map_err(Ended::by_words)? {
-        Plan::Init { file } => Ok(desk_disk::create(rt, file)),
+        Plan::Init { file } => Ok(desk_file::create(rt, file)),
         Plan::Keys { file, csv, zone } => keys(rt, file, csv, &zone),
         Plan::Days { file, txt, zone } => days(rt, file, txt, &zone),
         Plan::Register {
@@ -157,8 +157,8 @@ fn status_of(rt: &HostRuntime, ended: &Ended) -> u8 {
     if println!(rt; "{line}").is_ok() {
         return ended.status;
     }
-    complain(rt, &Line::Name(Fault::WriteFault.word()));
-    Ended::by(Fault::WriteFault).status
+    complain(rt, &Line::Name(ExitError::WriteFault.word()));
+    Ended::by(ExitError::WriteFault).status
 }
 
 fn main(rt: HostRuntime) -> ExitCode {

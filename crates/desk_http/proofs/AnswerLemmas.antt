@@ -1,48 +1,48 @@
 -- How what is asked of an office by one request joins.
 use Rattle.std.proofs.Common.{◌≡◌, ◌⊎◌, inl, inr, ℕ, true, List, Option, Some, None, Result, Ok, Err, refl, sym, ap, subst, ◌∙◌}
 use Rattle.std.specs.Prelude.{IfErr, IfOk, OnErr, OnOk, is_some}
-use Rattle.any_office.proofs.HomeLemmas.{leaves_same, leaves_then}
-use Rattle.any_office.specs.Homes.{office_after}
-use Rattle.any_office.specs.Runs.{LeavesOffice}
+use Rattle.any_office.proofs.OfficeHomeLemmas.{leaves_same, leaves_then}
+use Rattle.any_office.specs.StoredOffice.{office_after}
+use Rattle.any_office.specs.OfficeRuns.{LeavesOffice}
 use Rattle.any_office.specs.declared.Office as office
-use Rattle.desk_terms.specs.declared.refusal.Refusal.{Refusal}
-use Rattle.desk_terms.specs.declared.refusal.Refusal.TheVariants.{Key}
-use Rattle.desk_words.specs.Seen.{Moment}
+use Rattle.vocabulary.specs.declared.refusal.Refusal.{Refusal}
+use Rattle.vocabulary.specs.declared.refusal.Refusal.TheVariants.{Key}
+use Rattle.desk_words.specs.ViewTypes.{Moment}
 use Rattle.desk_words.specs.declared.caller.Caller.{Caller}
 use Rattle.desk_words.specs.declared.office.OfficeLists.{OfficeLists}
 use Rattle.desk_words.specs.declared.reply.Reply.TheVariants as reply
 use Rattle.desk_words.specs.declared.request.Call.{Call}
 use Rattle.desk_words.specs.declared.request.Request.{Request}
-use Rattle.desk_requests.specs.declared.received.Received.{Received}
-use Rattle.desk_requests.specs.Received.{is_unheard}
-use Rattle.desk_requests.specs.declared.received.Received.TheVariants.{Refused, With}
-use Rattle.desk_requests.specs.declared.received.Unheard.{Unheard}
-use Rattle.desk_requests.specs.declared.received.Unheard.TheVariants as unheard
-use Rattle.meeting_core.specs.Callers.{caller_with}
-use Rattle.desk_http.specs.Answers.{IsAnswer, IsCutOff, IsFault, MakesCall, ShowsReply, call_received, call_of, if_ok, reply_in, reply_of, unheard_reply}
+use Rattle.http_requests.specs.declared.received.ReceivedRequest.{ReceivedRequest}
+use Rattle.http_requests.specs.ReceivedRequests.{source_failed}
+use Rattle.http_requests.specs.declared.received.ReceivedRequest.TheVariants.{Refused, With}
+use Rattle.http_requests.specs.declared.received.ReceiveError.{ReceiveError}
+use Rattle.http_requests.specs.declared.received.ReceiveError.TheVariants as unheard
+use Rattle.meeting_core.specs.KeyHolders.{caller_with}
+use Rattle.desk_http.specs.HttpAnswers.{IsAnswer, IsCutOff, AnswerMayFail, MakesCall, ShowsReply, call_received, call_of, if_ok, reply_in, reply_of, unread_reply}
 use Rattle.desk_http.specs.declared.answers.Answered.{Answered}
-use Rattle.desk_http.specs.declared.answers.Unanswered.{Unanswered}
-use Rattle.desk_http.specs.declared.answers.Unanswered.TheVariants as unanswered
+use Rattle.desk_http.specs.declared.answers.AnswerError.{AnswerError}
+use Rattle.desk_http.specs.declared.answers.AnswerError.TheVariants as unanswered
 
 -- ---- what is replied
 
 module _ (Stands : OfficeLists → Type 0) (office : OfficeLists) (now : Moment) (stands : Stands office) where
   -- to what was not heard of a caller
-  pub unheard_done : {E : Type 0} (who : Caller) (heard : Result Request Unheard) (why : Unheard) (r : Result Answered E) → heard ≡ Err why → IfOk r (IsAnswer (unheard_reply why))
+  pub unheard_done : {E : Type 0} (who : Caller) (heard : Result Request ReceiveError) (why : ReceiveError) (r : Result Answered E) → heard ≡ Err why → IfOk r (IsAnswer (unread_reply why))
       → IfOk r (λ a. IsAnswer (reply_of office now (Some who) heard) a × Stands (office_after office (call_of now (Some who) heard)))
   unheard_done who heard why (Err e) is shown = tt
   unheard_done who heard why (Ok a) is shown =
       subst (λ h. IsAnswer (reply_of office now (Some who) h) a × Stands (office_after office (call_of now (Some who) h))) (sym is) (shown, stands)
 
   -- to a key that is nobody's
-  pub nobody_done : {E : Type 0} (who : Option Caller) (heard : Result Request Unheard) (r : Result Answered E) → who ≡ None → IfOk r (ShowsReply (reply.Refused Key))
+  pub nobody_done : {E : Type 0} (who : Option Caller) (heard : Result Request ReceiveError) (r : Result Answered E) → who ≡ None → IfOk r (ShowsReply (reply.Refused Key))
       → IfOk r (λ a. IsAnswer (reply_of office now who heard) a × Stands (office_after office (call_of now who heard)))
   nobody_done who heard (Err e) is shown = tt
   nobody_done who heard (Ok a) is shown =
       subst (λ w. IsAnswer (reply_of office now w heard) a × Stands (office_after office (call_of now w heard))) (sym is) ((reply.Refused Key, refl, shown), stands)
 
   -- to what was refused as it came
-  pub refused_done : {E : Type 0} (received : Received) (refusal : Refusal) (r : Result Answered E) → received ≡ Refused refusal → IfOk r (ShowsReply (reply.Refused refusal))
+  pub refused_done : {E : Type 0} (received : ReceivedRequest) (refusal : Refusal) (r : Result Answered E) → received ≡ Refused refusal → IfOk r (ShowsReply (reply.Refused refusal))
       → IfOk r (λ a. IsAnswer (reply_in office now received) a × Stands (office_after office (call_received office now received)))
   refused_done received refusal (Err e) is shown = tt
   refused_done received refusal (Ok a) is shown =
@@ -57,19 +57,19 @@ always_err (Ok x) w = tt
 always_err (Err e) w = w
 
 -- a source that failed in the body has no reply to a caller
-pub cut_unheard : {E : Type 0} (heard : Result Request Unheard) (why : Unheard) (r : Result Answered E) → heard ≡ Err why → IfOk r (IsAnswer (unheard_reply why)) → is_unheard heard ≡ true → OnOk r ⊥
+pub cut_unheard : {E : Type 0} (heard : Result Request ReceiveError) (why : ReceiveError) (r : Result Answered E) → heard ≡ Err why → IfOk r (IsAnswer (unread_reply why)) → source_failed heard ≡ true → OnOk r ⊥
 cut_unheard heard why (Err e) is shown cut = tt
-cut_unheard heard (unheard.Refused refusal) (Ok a) is shown cut = let told : is_unheard (Err (unheard.Refused refusal)) ≡ true = subst (λ h. is_unheard h ≡ true) is cut in absurd (cc)
-cut_unheard heard unheard.Memory (Ok a) is shown cut = let told : is_unheard (Err unheard.Memory) ≡ true = subst (λ h. is_unheard h ≡ true) is cut in absurd (cc)
+cut_unheard heard (unheard.Refused refusal) (Ok a) is shown cut = let told : source_failed (Err (unheard.Refused refusal)) ≡ true = subst (λ h. source_failed h ≡ true) is cut in absurd (cc)
+cut_unheard heard unheard.Memory (Ok a) is shown cut = let told : source_failed (Err unheard.Memory) ≡ true = subst (λ h. source_failed h ≡ true) is cut in absurd (cc)
 cut_unheard heard unheard.Failed (Ok a) is shown cut = let none = shown.1 in absurd (cc)
 
 -- what was asked was heard
-pub cut_heard : {E : Type 0} {X : Type 0} (heard : Result Request Unheard) (request : Request) (r : Result X E) → heard ≡ Ok request → is_unheard heard ≡ true → OnOk r ⊥
+pub cut_heard : {E : Type 0} {X : Type 0} (heard : Result Request ReceiveError) (request : Request) (r : Result X E) → heard ≡ Ok request → source_failed heard ≡ true → OnOk r ⊥
 cut_heard heard request (Err e) is cut = tt
-cut_heard heard request (Ok a) is cut = let told : is_unheard (Ok request) ≡ true = subst (λ h. is_unheard h ≡ true) is cut in absurd (cc)
+cut_heard heard request (Ok a) is cut = let told : source_failed (Ok request) ≡ true = subst (λ h. source_failed h ≡ true) is cut in absurd (cc)
 
 -- what is not answered of a caller is cut off only where its source failed
-pub fault_cut : (heard : Result Request Unheard) (why : Unanswered) → IsFault heard why → why ≡ unanswered.CutOff → is_unheard heard ≡ true
+pub fault_cut : (heard : Result Request ReceiveError) (why : AnswerError) → AnswerMayFail heard why → why ≡ unanswered.CutOff → source_failed heard ≡ true
 fault_cut (Ok request) why (failed, is) cut = let both : unanswered.Failure failed ≡ unanswered.CutOff = sym is ∙ cut in absurd (cc)
 fault_cut (Err (unheard.Refused refusal)) why is cut = let both = sym is ∙ cut in absurd (cc)
 fault_cut (Err unheard.Memory) why is cut = let both = sym is ∙ cut in absurd (cc)
@@ -87,7 +87,7 @@ module _ {O : Type 0} (g : office.Ghosts O) where
   makes_none call old new leaves = record { made = None; leaves = leaves; by = λ reliable office stands. inl refl }
 
   -- the call is made, if it is answered, of the caller that was found
-  pub makes_found : {T E : Type 0} (r : Result T E) (found : Option Caller) (now : Moment) (heard : Result Request Unheard) (who : OfficeLists → Option Caller) (a b c : O)
+  pub makes_found : {T E : Type 0} (r : Result T E) (found : Option Caller) (now : Moment) (heard : Result Request ReceiveError) (who : OfficeLists → Option Caller) (a b c : O)
       → (g.is_reliable b → (office : OfficeLists) → g.stands a office → found ≡ who office) → LeavesOffice g None a b → LeavesOffice g (if_ok r (call_of now found heard)) b c
       → MakesCall g (λ office. call_of now (who office) heard) a c
   makes_found r found now heard who a b c is one two = record {
@@ -103,14 +103,14 @@ module _ {O : Type 0} (g : office.Ghosts O) where
   unmade_behind (Err e) call a b c one two = leaves_then g.is_reliable g.is_open g.stands g.faults None a b c one two
 
   -- what was not heard makes no call
-  pub unheard_leaves : {T E : Type 0} (o : O) (r : Result T E) (now : Moment) (who : Caller) (heard : Result Request Unheard) (why : Unheard) → heard ≡ Err why
+  pub unheard_leaves : {T E : Type 0} (o : O) (r : Result T E) (now : Moment) (who : Caller) (heard : Result Request ReceiveError) (why : ReceiveError) → heard ≡ Err why
       → LeavesOffice g (if_ok r (call_of now (Some who) heard)) o o
   unheard_leaves o (Err e) now who heard why is = not_asked o
   unheard_leaves o (Ok x) now who heard why is = subst (λ h. LeavesOffice g (call_of now (Some who) h) o o) (sym is) (not_asked o)
 
   -- of a caller that was found, it is cut off only where its source failed
-  pub found_cut : {T : Type 0} (r : Result T Unanswered) (key : List ℕ) (heard : Result Request Unheard) (who : Caller) (a b c : O)
-      → (g.is_reliable b → (office : OfficeLists) → g.stands a office → Some who ≡ caller_with office.keys key) → (g.is_reliable c → g.is_reliable b) → IfErr r (IsFault heard)
+  pub found_cut : {T : Type 0} (r : Result T AnswerError) (key : List ℕ) (heard : Result Request ReceiveError) (who : Caller) (a b c : O)
+      → (g.is_reliable b → (office : OfficeLists) → g.stands a office → Some who ≡ caller_with office.keys key) → (g.is_reliable c → g.is_reliable b) → IfErr r (AnswerMayFail heard)
       → IfErr r (λ why. why ≡ unanswered.CutOff → IsCutOff g (With key heard) a c)
   found_cut (Ok x) key heard who a b c found reliable h = tt
   found_cut (Err why) key heard who a b c found reliable h = λ cut. record {

@@ -1,3 +1,3 @@
 pub mod AnswerLemmas
-pub mod LawLemmas
+pub mod HttpLawLemmas
 pub mod ServedLemmas

@@ -1,25 +1,25 @@
 -- What is written of a reply, and of a failure.
 use Rattle.std.proofs.Common.{◌≡◌, ◌⊎◌, ℕ, inl, inr, List, None, Result, Ok, Err, refl, subst, sym, ◌∙◌}
 use Rattle.std.specs.Prelude.{IfErr, OnErr, OnOk}
-use Rattle.any_office.specs.Homes.{office_after}
-use Rattle.any_office.specs.Runs.{LeavesOffice}
+use Rattle.any_office.specs.StoredOffice.{office_after}
+use Rattle.any_office.specs.OfficeRuns.{LeavesOffice}
 use Rattle.any_office.specs.declared.Office as office
-use Rattle.desk_clocks.specs.declared.clock.Clock as clock
-use Rattle.desk_devices.specs.declared.sink.Sink as sink
-use Rattle.desk_devices.specs.declared.source.Source as source
-use Rattle.desk_words.specs.Seen.{Moment}
+use Rattle.clocks.specs.declared.clock.Clock as clock
+use Rattle.byte_io.specs.declared.sink.Sink as sink
+use Rattle.byte_io.specs.declared.source.Source as source
+use Rattle.desk_words.specs.ViewTypes.{Moment}
 use Rattle.desk_words.specs.declared.office.OfficeLists.{OfficeLists}
 use Rattle.desk_words.specs.declared.reply.Failure.{Failure}
-use Rattle.desk_requests.specs.declared.received.Received.{Received}
-use Rattle.desk_routes.specs.ReplyTexts.{reply_text}
-use Rattle.desk_http.specs.Answers.{IsAnswer, IsCutOff, MakesCall, call_received, reply_in}
+use Rattle.http_requests.specs.declared.received.ReceivedRequest.{ReceivedRequest}
+use Rattle.http_routes.specs.ReplyTexts.{reply_text}
+use Rattle.desk_http.specs.HttpAnswers.{IsAnswer, IsCutOff, MakesCall, call_received, reply_in}
 use Rattle.desk_http.specs.Served.{FailsWriting, OnFault, Replies, Serves, ServesRequest, TellsFailure, WritesPart, WritesText, as_served, as_write, failure_text, only_at}
-use Rattle.desk_http.specs.declared.now.NowFault.{NowFault}
-use Rattle.desk_http.specs.declared.now.NowFault.TheVariants.{Clock}
+use Rattle.desk_http.specs.declared.now.NowError.{NowError}
+use Rattle.desk_http.specs.declared.now.NowError.TheVariants.{Clock}
 use Rattle.desk_http.specs.declared.answers.Answered.{Answered}
-use Rattle.desk_http.specs.declared.answers.Unanswered.{Unanswered}
+use Rattle.desk_http.specs.declared.answers.AnswerError.{AnswerError}
 use Rattle.desk_http.specs.declared.serve.ServeFault.{ServeFault}
-use Rattle.desk_http.specs.declared.answers.Unanswered.TheVariants.{CutOff}
+use Rattle.desk_http.specs.declared.answers.AnswerError.TheVariants.{CutOff}
 use Rattle.desk_http.specs.declared.serve.ServeFault.TheVariants.{Read, Write}
 
 first_of_two : {A B : Type 0} → A ⊎ B → ¬ B → A
@@ -47,7 +47,7 @@ on_read (Err e) h next = λ is. next (h is)
 
 module _ {O : Type 0} (g : office.Ghosts O) where
   -- the text of what is answered, or a part of it, is written
-  pub serves_reply : (now : Moment) (received : Received) (old new : O) (answered : Answered) (IsWritten : List ℕ → Type 0)
+  pub serves_reply : (now : Moment) (received : ReceivedRequest) (old new : O) (answered : Answered) (IsWritten : List ℕ → Type 0)
       → (g.is_reliable new → (office : OfficeLists) → g.stands old office → IsAnswer (reply_in office now received) answered × g.stands new (office_after office (call_received office now received)))
       → IsWritten (reply_text answered.status answered.body.items) → Serves g now received old new IsWritten
   serves_reply now received old new answered IsWritten done written = λ reliable office stands.
@@ -58,7 +58,7 @@ module _ {O : Type 0} (g : office.Ghosts O) where
       )
 
   -- the text of a failure, or a part of it, is written
-  pub serves_failure : (now : Moment) (received : Received) (old new : O) (failure : Failure) (IsWritten : List ℕ → Type 0)
+  pub serves_failure : (now : Moment) (received : ReceivedRequest) (old new : O) (failure : Failure) (IsWritten : List ℕ → Type 0)
       → LeavesOffice g None old new → IsWritten (failure_text failure) → Serves g now received old new IsWritten
   serves_failure now received old new failure IsWritten leaves written = λ reliable office stands. (
     failure_text failure,
@@ -72,18 +72,18 @@ module _ {O : Type 0} (g : office.Ghosts O) where
   )
 
   -- where there is no answer, and its failure is told
-  pub failed_served : {T E : Type 0} (r : Result T E) (now : Moment) (received : Received) (old new : O) (why : Unanswered) (IsWritten : List ℕ → Type 0)
+  pub failed_served : {T E : Type 0} (r : Result T E) (now : Moment) (received : ReceivedRequest) (old new : O) (why : AnswerError) (IsWritten : List ℕ → Type 0)
       → LeavesOffice g None old new → OnOk r (TellsFailure why IsWritten) → OnOk r (Serves g now received old new IsWritten)
   failed_served (Ok x) now received old new why IsWritten leaves h = serves_failure now received old new h.0 IsWritten leaves h.2
   failed_served (Err e) now received old new why IsWritten leaves h = tt
 
   -- and where it is told in part
-  pub failed_partly : {T : Type 0} (r : Result T ServeFault) (now : Moment) (received : Received) (old new : O) (why : Unanswered) (IsWritten : List ℕ → Type 0)
+  pub failed_partly : {T : Type 0} (r : Result T ServeFault) (now : Moment) (received : ReceivedRequest) (old new : O) (why : AnswerError) (IsWritten : List ℕ → Type 0)
       → LeavesOffice g None old new → IfErr r (λ fault. fault ≡ Write → TellsFailure why IsWritten) → IfErr r (λ fault. fault ≡ Write → Serves g now received old new IsWritten)
   failed_partly (Ok x) now received old new why IsWritten leaves h = tt
   failed_partly (Err e) now received old new why IsWritten leaves h = λ is. let told = h is in serves_failure now received old new told.0 IsWritten leaves told.2
 
-module _ {O W : Type 0} (g : office.Ghosts O) (h : sink.Ghosts W) (now : Moment) (received : Received) (old new : O) (before after : W) where
+module _ {O W : Type 0} (g : office.Ghosts O) (h : sink.Ghosts W) (now : Moment) (received : ReceivedRequest) (old new : O) (before after : W) where
   -- where there is an answer, and it is written
   pub answered_replies : {T E : Type 0} (written : Result T E) (told : Result T ServeFault) (answered : Answered) → told ≡ as_write written
       → (g.is_reliable new → (office : OfficeLists) → g.stands old office
@@ -102,7 +102,7 @@ module _ {O W : Type 0} (g : office.Ghosts O) (h : sink.Ghosts W) (now : Moment)
   }
 
   -- where there is none, and its failure is told
-  pub unanswered_replies : {T : Type 0} (told : Result T ServeFault) (why : Unanswered) → (why ≡ CutOff → IsCutOff g received old new) → LeavesOffice g None old new
+  pub unanswered_replies : {T : Type 0} (told : Result T ServeFault) (why : AnswerError) → (why ≡ CutOff → IsCutOff g received old new) → LeavesOffice g None old new
       → MakesCall g (λ office. call_received office now received) old new
       → OnOk told (TellsFailure why (WritesText h before after)) → OnFault told Write (TellsFailure why (WritesPart h before after)) → OnFault told Read ((why ≡ CutOff) × (after ≡ before))
       → OnOk told (h.failures after ≡ h.failures before) → OnFault told Write (FailsWriting h before after)
@@ -124,7 +124,7 @@ served_no_clock (Ok x) is = absurd (cc)
 served_no_clock (Err fault) is = absurd (cc)
 
 -- as by a clock that gives one moment
-pub served_only : {T O C R W : Type 0} (g : office.Ghosts O) (k : clock.Ghosts C) (r : source.Ghosts R) (h : sink.Ghosts W) (moment : Moment) (result : Result T NowFault) (told : Result T ServeFault)
+pub served_only : {T O C R W : Type 0} (g : office.Ghosts O) (k : clock.Ghosts C) (r : source.Ghosts R) (h : sink.Ghosts W) (moment : Moment) (result : Result T NowError) (told : Result T ServeFault)
     (old new : O) (from till : C) (reader reader' : R) (before after : W) → ((now : Moment) → k.gives from now till → now ≡ moment) → (k.fails from till → ⊥) → result ≡ as_served told
     → ServesRequest g k r h result old new from till reader reader' before after → ServesRequest g (only_at moment) r h (as_served told) old new tt tt reader reader' before after
 served_only g k r h moment result told old new from till reader reader' before after only never same (inl it) = inl (record {

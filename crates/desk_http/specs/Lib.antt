@@ -1,3 +1,3 @@
-pub mod Answers
-pub mod Laws
+pub mod HttpAnswers
+pub mod ReplySecrecy
 pub mod Served

@@ -2,31 +2,31 @@
 use Rattle.std.specs.Prelude.{◌≡◌, ◌⊎◌, ℕ, ◌+◌, ◌≤◌, true, false, List, Option, Some, None, Result, Ok, Err}
 use Rattle.std.specs.Prelude.{IfErr, OnOk}
 use Rattle.std.specs.Io.KnownBytes.{Appends}
-use Rattle.any_office.specs.Homes.{HasFailed, office_after}
-use Rattle.any_office.specs.Runs.{LeavesOffice}
+use Rattle.any_office.specs.StoredOffice.{HasFailed, office_after}
+use Rattle.any_office.specs.OfficeRuns.{LeavesOffice}
 use Rattle.any_office.specs.declared.Office as office
-use Rattle.desk_clocks.specs.declared.clock.Clock as clock
-use Rattle.desk_devices.specs.Counts.{one_more}
-use Rattle.desk_devices.specs.Written.{AppendsPrefix}
-use Rattle.desk_devices.specs.declared.sink.Sink as sink
-use Rattle.desk_devices.specs.declared.source.Source as source
-use Rattle.desk_heads.specs.declared.front.TheConstants.{LONGEST_HEAD}
-use Rattle.desk_words.specs.Seen.{Moment}
+use Rattle.clocks.specs.declared.clock.Clock as clock
+use Rattle.byte_io.specs.Counts.{one_more}
+use Rattle.byte_io.specs.Written.{AppendsPrefix}
+use Rattle.byte_io.specs.declared.sink.Sink as sink
+use Rattle.byte_io.specs.declared.source.Source as source
+use Rattle.http_heads.specs.declared.front.TheConstants.{LONGEST_HEAD}
+use Rattle.desk_words.specs.ViewTypes.{Moment}
 use Rattle.desk_words.specs.declared.office.OfficeLists.{OfficeLists}
 use Rattle.desk_words.specs.declared.reply.Failure.{Failure}
 use Rattle.desk_words.specs.declared.reply.Reply.{Reply}
-use Rattle.desk_replies.specs.Replies.{reply_bytes}
-use Rattle.desk_requests.specs.Received.{Came, Spells, TakesRequest, is_cut_off}
-use Rattle.desk_requests.specs.declared.received.Received.{Received}
-use Rattle.desk_routes.specs.ReplyTexts.{failure_body, reply_text}
-use Rattle.desk_routes.specs.Statuses.{reply_status}
-use Rattle.desk_http.specs.Answers.{IsCutOff, MakesCall, call_received, reply_in}
-use Rattle.desk_http.specs.declared.answers.Unanswered.{Unanswered}
-use Rattle.desk_http.specs.declared.answers.Unanswered.TheVariants as unanswered
+use Rattle.json_replies.specs.Replies.{reply_bytes}
+use Rattle.http_requests.specs.ReceivedRequests.{TakesAtMost, Spells, TakesRequest, is_cut_off}
+use Rattle.http_requests.specs.declared.received.ReceivedRequest.{ReceivedRequest}
+use Rattle.http_routes.specs.ReplyTexts.{failure_body, reply_text}
+use Rattle.http_routes.specs.Statuses.{reply_status}
+use Rattle.desk_http.specs.HttpAnswers.{IsCutOff, MakesCall, call_received, reply_in}
+use Rattle.desk_http.specs.declared.answers.AnswerError.{AnswerError}
+use Rattle.desk_http.specs.declared.answers.AnswerError.TheVariants as unanswered
 use Rattle.desk_http.specs.declared.serve.ServeFault.{ServeFault}
 use Rattle.desk_http.specs.declared.serve.ServeFault.TheVariants.{Read, Write}
-use Rattle.desk_http.specs.declared.now.NowFault.{NowFault}
-use Rattle.desk_http.specs.declared.now.NowFault.TheVariants.{Clock, Serve}
+use Rattle.desk_http.specs.declared.now.NowError.{NowError}
+use Rattle.desk_http.specs.declared.now.NowError.TheVariants.{Clock, Serve}
 
 -- the text of a reply
 abbrev pub replied_text : Reply → List ℕ
@@ -38,7 +38,7 @@ failure_text failure = reply_text 503 (failure_body failure)
 
 module _ {O : Type 0} (g : office.Ghosts O) where
   -- the text is that of the reply, and the office is the one after the call, if one is made
-  pub record IsReplied (office : OfficeLists) (now : Moment) (received : Received) (new : O)
+  pub record IsReplied (office : OfficeLists) (now : Moment) (received : ReceivedRequest) (new : O)
       (text : List ℕ) : Type 0 where
     pub reply : Reply
     pub is : reply_in office now received ≡ Some reply
@@ -55,27 +55,28 @@ module _ {O : Type 0} (g : office.Ghosts O) where
         → g.stands new office
 
   -- the text is that of the reply, or tells of a failure
-  abbrev pub IsServed : OfficeLists → Moment → Received → O → O → List ℕ → Type 0
+  abbrev pub IsServed : OfficeLists → Moment → ReceivedRequest → O → O → List ℕ → Type 0
   IsServed office now received old new text =
       IsReplied office now received new text ⊎ IsFailed office old new text
 
   -- of an office that was stored, with this text or a part of it
-  abbrev pub Serves : Moment → Received → O → O → (List ℕ → Type 0) → Type 0
+  abbrev pub Serves : Moment → ReceivedRequest → O → O → (List ℕ → Type 0) → Type 0
   Serves now received old new IsWritten =
       g.is_reliable new → (office : OfficeLists) → g.stands old office
       → (text : List ℕ) × IsServed office now received old new text × IsWritten text
 
 -- what was received is what the bytes spell that came
-abbrev pub IsReceived : Option (List ℕ) → Option (List ℕ) → ℕ → ℕ → Received → Type 0
+abbrev pub IsReceived : Option (List ℕ) → Option (List ℕ) → ℕ → ℕ → ReceivedRequest → Type 0
 IsReceived unread left passed passed' received =
-    Came (λ input. Spells input received) (TakesRequest received) unread left passed passed'
+    TakesAtMost (λ input. Spells input received) (TakesRequest received) unread left passed passed'
 
 -- the source failed, once in the call
 abbrev pub FailsReading : {R : Type 0} → source.Ghosts R → R → R → Type 0
 FailsReading g before after = g.failures after ≡ one_more (g.failures before)
 
 -- the bytes came from this source, which failed where the body is cut off, once, and there alone
-pub record Receives {R : Type 0} (g : source.Ghosts R) (before after : R) (received : Received)
+pub record Receives {R : Type 0} (g : source.Ghosts R) (before after : R)
+    (received : ReceivedRequest)
     : Type 0 where
   pub spelled : IsReceived (g.remaining before) (g.remaining after) (g.passed before)
       (g.passed after) received
@@ -99,7 +100,7 @@ abbrev pub OnFault : {T E : Type 0} → Result T E → E → Type 0 → Type 0
 OnFault result why Holds = IfErr result (λ fault. fault ≡ why → Holds)
 
 -- there is a failure, and this holds of the text that tells of it
-abbrev pub TellsFailure : Unanswered → (List ℕ → Type 0) → Type 0
+abbrev pub TellsFailure : AnswerError → (List ℕ → Type 0) → Type 0
 TellsFailure why IsWritten =
     (failure : Failure) × (why ≡ unanswered.Failure failure) × IsWritten (failure_text failure)
 
@@ -114,7 +115,7 @@ as_write (Err e) = Err Write
 -- told, or a write failed, or the body was cut off, and then nothing is written or changed;
 -- whatever is told, one call was made at most
 pub record Replies {T O W : Type 0} (g : office.Ghosts O) (h : sink.Ghosts W) (now : Moment)
-    (received : Received) (result : Result T ServeFault) (old new : O) (before after : W)
+    (received : ReceivedRequest) (result : Result T ServeFault) (old new : O) (before after : W)
     : Type 0 where
   pub served : OnOk result (Serves g now received old new (WritesText h before after))
   pub partly : OnFault result Write (Serves g now received old new (WritesPart h before after))
@@ -125,15 +126,15 @@ pub record Replies {T O W : Type 0} (g : office.Ghosts O) (h : sink.Ghosts W) (n
   pub failed : OnFault result Write (FailsWriting h before after)
 
 -- what came of a device is told so
-abbrev pub as_served : {T : Type 0} → Result T ServeFault → Result T NowFault
+abbrev pub as_served : {T : Type 0} → Result T ServeFault → Result T NowError
 as_served (Ok x) = Ok x
 as_served (Err fault) = Err (Serve fault)
 
 -- a request was read; then the clock gave a moment; then it was answered at that moment
 pub record IsAnsweredAt {T O C R W : Type 0} (g : office.Ghosts O) (k : clock.Ghosts C)
-    (r : source.Ghosts R) (h : sink.Ghosts W) (result : Result T NowFault) (old new : O)
+    (r : source.Ghosts R) (h : sink.Ghosts W) (result : Result T NowError) (old new : O)
     (from till : C) (reader reader' : R) (before after : W) : Type 0 where
-  pub received : Received
+  pub received : ReceivedRequest
   pub read : Receives r reader reader' received
   pub moment : Moment
   pub given : k.gives from moment till
@@ -142,7 +143,7 @@ pub record IsAnsweredAt {T O C R W : Type 0} (g : office.Ghosts O) (k : clock.Gh
   pub replies : Replies g h moment received told old new before after
 
 -- the source failed before the head had come whole, and the clock was not asked
-pub record IsUnread {T C R : Type 0} (r : source.Ghosts R) (result : Result T NowFault)
+pub record IsUnread {T C R : Type 0} (r : source.Ghosts R) (result : Result T NowError)
     (from till : C) (reader reader' : R) : Type 0 where
   pub is : result ≡ Err (Serve Read)
   pub failed : FailsReading r reader reader'
@@ -151,9 +152,9 @@ pub record IsUnread {T C R : Type 0} (r : source.Ghosts R) (result : Result T No
 
 -- a request was read, and then the clock gave no moment
 pub record IsUntimed {T C R : Type 0} (k : clock.Ghosts C) (r : source.Ghosts R)
-    (result : Result T NowFault) (from till : C) (reader reader' : R) : Type 0 where
+    (result : Result T NowError) (from till : C) (reader reader' : R) : Type 0 where
   pub is : result ≡ Err Clock
-  pub received : Received
+  pub received : ReceivedRequest
   pub read : Receives r reader reader' received
   pub fails : k.fails from till
 
@@ -161,7 +162,7 @@ pub record IsUntimed {T C R : Type 0} (k : clock.Ghosts C) (r : source.Ghosts R)
 -- and what is told of it is written; or it is not read, or the clock gives no moment, and then
 -- nothing is written or changed
 abbrev pub ServesRequest : {T O C R W : Type 0} → office.Ghosts O → clock.Ghosts C
-    → source.Ghosts R → sink.Ghosts W → Result T NowFault
+    → source.Ghosts R → sink.Ghosts W → Result T NowError
     → O → O → C → C → R → R → W → W → Type 0
 ServesRequest g k r h result old new from till reader reader' before after =
     IsAnsweredAt g k r h result old new from till reader reader' before after

@@ -1,23 +1,23 @@
 //! What an office answers to a request.
 ghost use Rattle.std.specs.Prelude.{◌≡◌, IfErr, IfOk, OnErr, OnOk, Some, None, true};
-ghost use Rattle.any_office.specs.Homes.{OfOffice, office_after};
-ghost use Rattle.any_office.specs.Runs.{LeavesOffice};
-ghost use Rattle.desk_http.specs.Answers.{IsAnswer, IsCutOff, IsFault, MakesCall, ShowsReply};
-ghost use Rattle.desk_http.specs.Answers.{call_of, call_received, fault_unheard, if_ok};
-ghost use Rattle.desk_http.specs.Answers.{reply_in, reply_of, unheard_reply};
-ghost use Rattle.desk_http.specs.declared.answers.Unanswered.TheVariants.{CutOff};
-ghost use Rattle.desk_http.specs.declared.answers.Unanswered.TheVariants as unanswered;
-ghost use Rattle.desk_requests.specs.Received.{is_cut_off, is_unheard};
-ghost use Rattle.desk_terms.specs.declared.refusal.Refusal.TheVariants.{Key};
+ghost use Rattle.any_office.specs.StoredOffice.{HoldsOfOffice, office_after};
+ghost use Rattle.any_office.specs.OfficeRuns.{LeavesOffice};
+ghost use Rattle.desk_http.specs.HttpAnswers.{IsAnswer, IsCutOff, AnswerMayFail, MakesCall, ShowsReply};
+ghost use Rattle.desk_http.specs.HttpAnswers.{call_of, call_received, unread_fault, if_ok};
+ghost use Rattle.desk_http.specs.HttpAnswers.{reply_in, reply_of, unread_reply};
+ghost use Rattle.desk_http.specs.declared.answers.AnswerError.TheVariants.{CutOff};
+ghost use Rattle.desk_http.specs.declared.answers.AnswerError.TheVariants as unanswered;
+ghost use Rattle.http_requests.specs.ReceivedRequests.{is_cut_off, source_failed};
+ghost use Rattle.vocabulary.specs.declared.refusal.Refusal.TheVariants.{Key};
 ghost use Rattle.desk_words.specs.declared.reply.Failure.TheVariants as failure;
 ghost use Rattle.desk_words.specs.declared.reply.Reply.TheVariants as reply;
-ghost use Rattle.desk_requests.specs.declared.received.Received.TheVariants.{With};
+ghost use Rattle.http_requests.specs.declared.received.ReceivedRequest.TheVariants.{With};
 
 use any_office::Office;
-use desk_replies::reply_text;
-use desk_requests::{Received, Unheard};
-use desk_routes::{StatusCode, status_of};
 use desk_words::{Call, Caller, Failure, Moment, Refusal, Reply, Request, SecretKey};
+use http_requests::{ReceiveError, ReceivedRequest};
+use http_routes::{StatusCode, status_of};
+use json_replies::reply_text;
 use std::alloc::{AllocError, Global};
 
 /// A reply, as it is sent.
@@ -31,26 +31,26 @@ pub struct Answered {
 
 /// Why there is no reply.
 #[derive(Clone, Copy, PartialEq, Eq)]
-pub enum Unanswered {
+pub enum AnswerError {
     /// The office could not be read or written, or memory was refused.
     Failure(Failure),
     /// The request's body did not come whole, since its source failed.
     CutOff,
 }
 
-impl From<Failure> for Unanswered {
+impl From<Failure> for AnswerError {
     ghost from_gives = { λ failure why. why ≡ unanswered.Failure failure };
 
-    fn from(failure: Failure) -> Unanswered {
-        Unanswered::Failure(failure)
+    fn from(failure: Failure) -> AnswerError {
+        AnswerError::Failure(failure)
     }
 }
 
-impl From<AllocError> for Unanswered {
+impl From<AllocError> for AnswerError {
     ghost from_gives = { λ _ why. why ≡ unanswered.Failure failure.Memory };
 
-    fn from(_: AllocError) -> Unanswered {
-        Unanswered::Failure(Failure::Memory)
+    fn from(_: AllocError) -> AnswerError {
+        AnswerError::Failure(Failure::Memory)
     }
 }
 
@@ -64,7 +64,7 @@ pub(crate) fn shown(alloc: Global, reply: &Reply) -> Result<Answered, AllocError
 }
 
 /// A refusal, as it is sent.
-fn refused(alloc: Global, refusal: Refusal) -> Result<Answered, Unanswered>
+fn refused(alloc: Global, refusal: Refusal) -> Result<Answered, AnswerError>
     ensures shown { IfOk result (ShowsReply (reply.Refused refusal)) }
     ensures cause { IfErr result (λ why. why ≡ unanswered.Failure failure.Memory) }
 {
@@ -72,14 +72,14 @@ fn refused(alloc: Global, refusal: Refusal) -> Result<Answered, Unanswered>
 }
 
 /// The answer to what was not heard.
-fn answer_unheard(alloc: Global, why: Unheard) -> Result<Answered, Unanswered>
-    ensures shown { IfOk result (IsAnswer (unheard_reply why)) }
-    ensures cause { IfErr result (λ fault. fault ≡ fault_unheard why) }
+fn answer_unheard(alloc: Global, why: ReceiveError) -> Result<Answered, AnswerError>
+    ensures shown { IfOk result (IsAnswer (unread_reply why)) }
+    ensures cause { IfErr result (λ fault. fault ≡ unread_fault why) }
 {
     match why {
-        Unheard::Refused(refusal) => refused(alloc, refusal),
-        Unheard::Memory => Err(Unanswered::Failure(Failure::Memory)),
-        Unheard::Failed => Err(Unanswered::CutOff),
+        ReceiveError::Refused(refusal) => refused(alloc, refusal),
+        ReceiveError::Memory => Err(AnswerError::Failure(Failure::Memory)),
+        ReceiveError::Failed => Err(AnswerError::CutOff),
     }
 }
 
@@ -89,15 +89,15 @@ fn answer_to<O: Office>(
     office: &mut O,
     moment: Moment,
     caller: Caller,
-    heard: Result<Request, Unheard>,
-) -> Result<Answered, Unanswered>
-    ensures done { OfOffice O.is_reliable O.stands office.old office.new (λ stored. IfOk result
+    heard: Result<Request, ReceiveError>,
+) -> Result<Answered, AnswerError>
+    ensures done { HoldsOfOffice O.is_reliable O.stands office.old office.new (λ stored. IfOk result
         (λ a. IsAnswer (reply_of stored moment (Some caller) heard) a
         × O.stands office.new (office_after stored (call_of moment (Some caller) heard)))) }
     ensures leaves { LeavesOffice O.Office (if_ok result (call_of moment (Some caller) heard))
         office.old office.new }
-    ensures cause { IfErr result (IsFault heard) }
-    ensures cut_off { is_unheard heard ≡ true → OnOk result ⊥ }
+    ensures cause { IfErr result (AnswerMayFail heard) }
+    ensures cut_off { source_failed heard ≡ true → OnOk result ⊥ }
 {
     match heard {
         Ok(request) => {
@@ -118,9 +118,9 @@ fn answer_with<O: Office>(
     office: &mut O,
     moment: Moment,
     key: SecretKey,
-    heard: Result<Request, Unheard>,
-) -> Result<Answered, Unanswered>
-    ensures done { OfOffice O.is_reliable O.stands office.old office.new (λ stored. IfOk result
+    heard: Result<Request, ReceiveError>,
+) -> Result<Answered, AnswerError>
+    ensures done { HoldsOfOffice O.is_reliable O.stands office.old office.new (λ stored. IfOk result
         (λ a. IsAnswer (reply_in stored moment (With key heard)) a × O.stands office.new
         (office_after stored (call_received stored moment (With key heard))))) }
     ensures makes { MakesCall O.Office (λ stored. call_received stored moment (With key heard))
@@ -128,7 +128,7 @@ fn answer_with<O: Office>(
     ensures unmade { OnErr result (LeavesOffice O.Office None office.old office.new) }
     ensures cause { IfErr result
         (λ why. why ≡ CutOff → IsCutOff O.Office (With key heard) office.old office.new) }
-    ensures cut_off { is_unheard heard ≡ true → IfOk result (ShowsReply (reply.Refused Key)) }
+    ensures cut_off { source_failed heard ≡ true → IfOk result (ShowsReply (reply.Refused Key)) }
 {
     match office.caller_of(&key)? {
         Some(caller) => answer_to(alloc, office, moment, caller, heard),
@@ -150,9 +150,9 @@ pub fn answer<O: Office>(
     alloc: Global,
     office: &mut O,
     moment: Moment,
-    received: Received,
-) -> Result<Answered, Unanswered>
-    ensures done { OfOffice O.is_reliable O.stands office.old office.new (λ stored. IfOk result
+    received: ReceivedRequest,
+) -> Result<Answered, AnswerError>
+    ensures done { HoldsOfOffice O.is_reliable O.stands office.old office.new (λ stored. IfOk result
         (λ a. IsAnswer (reply_in stored moment received) a
         × O.stands office.new (office_after stored (call_received stored moment received)))) }
     ensures makes { MakesCall O.Office (λ stored. call_received stored moment received)
@@ -163,7 +163,7 @@ pub fn answer<O: Office>(
     ensures cut_off { is_cut_off received ≡ true → IfOk result (ShowsReply (reply.Refused Key)) }
 {
     match received {
-        Received::Refused(refusal) => refused(alloc, refusal),
-        Received::With { key, asked } => answer_with(alloc, office, moment, key, asked),
+        ReceivedRequest::Refused(refusal) => refused(alloc, refusal),
+        ReceivedRequest::With { key, asked } => answer_with(alloc, office, moment, key, asked),
     }
 }

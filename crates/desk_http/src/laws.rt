@@ -1,8 +1,8 @@
 //! Laws of what is told over HTTP.
-ghost use Rattle.desk_http.specs.Laws.{RepliesTellNoMore, TextsTellNoMore};
+ghost use Rattle.desk_http.specs.ReplySecrecy.{RepliesTellNoMore, TextsTellNoMore};
 
-use desk_requests::laws::one_request;
-use meeting_laws::two_worlds;
+use http_requests::laws::one_request;
+use laws_step::two_worlds;
 
 /// What a party is told over HTTP is told alike by any two offices that agree on the public record
 /// of the meeting in which it asks and on its own things there: the same reply, and, from the same

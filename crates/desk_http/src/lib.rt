@@ -7,9 +7,9 @@ pub mod laws;
 mod now;
 mod serve;
 
-pub use answers::{Answered, Unanswered, answer};
-pub use desk_bodies::request_of;
-pub use desk_replies::reply_text;
-pub use desk_routes::write_reply;
-pub use now::{NowFault, serve_now, serve_one};
+pub use answers::{AnswerError, Answered, answer};
+pub use http_routes::write_reply;
+pub use json_replies::reply_text;
+pub use json_requests::request_of;
+pub use now::{NowError, serve_now, serve_one};
 pub use serve::{ServeFault, reply_to};

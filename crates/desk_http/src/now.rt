@@ -3,15 +3,15 @@ ghost use Rattle.desk_http.specs.Served.{ServesRequest, as_served, only_at};
 
 use crate::serve::{ServeFault, reply_to};
 use any_office::Office;
-use desk_clocks::{Clock, ClockFailed};
-use desk_devices::{Sink, Source};
-use desk_requests::read_request;
+use byte_io::{Sink, Source};
+use clocks::{Clock, ClockError};
 use desk_words::Moment;
+use http_requests::read_request;
 use std::alloc::Global;
 
 /// Why a request was not served to its end.
 #[derive(Clone, Copy, Debug, PartialEq, Eq)]
-pub enum NowFault {
+pub enum NowError {
     /// A device failed.
     Serve(ServeFault),
     /// The clock gave no moment. The request was read; nothing was written or changed.
@@ -29,7 +29,7 @@ impl Clock for OnlyAt {
 
     ghost fails = { λ old new. ⊥ };
 
-    fn now(&mut self) -> Result<Moment, ClockFailed> {
+    fn now(&mut self) -> Result<Moment, ClockError> {
         Ok(self.0)
     }
 }
@@ -52,19 +52,19 @@ pub fn serve_now<O: Office, C: Clock, R: Source, W: Sink>(
     clock: &mut C,
     reader: &mut R,
     writer: &mut W,
-) -> Result<(), NowFault>
+) -> Result<(), NowError>
     ensures { ServesRequest O.Office C.Clock R.Source W.Sink result office.old office.new
         clock.old clock.new reader.old reader.new writer.old writer.new }
 {
     let Ok(received) = read_request(alloc, reader) else {
-        return Err(NowFault::Serve(ServeFault::Read));
+        return Err(NowError::Serve(ServeFault::Read));
     };
     let Ok(moment) = clock.now() else {
-        return Err(NowFault::Clock);
+        return Err(NowError::Clock);
     };
     match reply_to(alloc, office, moment, received, writer) {
         Ok(()) => Ok(()),
-        Err(fault) => Err(NowFault::Serve(fault)),
+        Err(fault) => Err(NowError::Serve(fault)),
     }
 }
 
@@ -81,7 +81,7 @@ pub fn serve_one<O: Office, R: Source, W: Sink>(
 {
     match serve_now(alloc, office, &mut OnlyAt(moment), reader, writer) {
         Ok(()) => Ok(()),
-        Err(NowFault::Serve(fault)) => Err(fault),
-        Err(NowFault::Clock) => unreachable!(),
+        Err(NowError::Serve(fault)) => Err(fault),
+        Err(NowError::Clock) => unreachable!(),
     }
 }

@@ -2,16 +2,16 @@
 ghost use Rattle.std.specs.Prelude.{◌≡◌, OnErr, OnOk};
 ghost use Rattle.desk_http.specs.Served.{FailsWriting, OnFault, Replies, TellsFailure};
 ghost use Rattle.desk_http.specs.Served.{WritesPart, WritesText, as_write, failure_text};
-ghost use Rattle.desk_http.specs.declared.answers.Unanswered.TheVariants.{CutOff};
+ghost use Rattle.desk_http.specs.declared.answers.AnswerError.TheVariants.{CutOff};
 ghost use Rattle.desk_http.specs.declared.serve.ServeFault.TheVariants.{Read, Write};
-ghost use Rattle.desk_routes.specs.ReplyTexts.{reply_text};
+ghost use Rattle.http_routes.specs.ReplyTexts.{reply_text};
 
-use crate::answers::{Answered, Unanswered, answer};
+use crate::answers::{AnswerError, Answered, answer};
 use any_office::Office;
-use desk_devices::{DeviceFailed, Sink, write_all};
-use desk_requests::Received;
-use desk_routes::{failure_reply, write_reply};
+use byte_io::{DeviceError, Sink, write_all};
 use desk_words::{Failure, Moment};
+use http_requests::ReceivedRequest;
+use http_routes::{failure_reply, write_reply};
 use std::alloc::Global;
 
 /// Why a request was not served to its end.
@@ -25,7 +25,7 @@ pub enum ServeFault {
 }
 
 /// Writes a reply.
-fn write_answered<W: Sink>(answered: &Answered, writer: &mut W) -> Result<(), DeviceFailed>
+fn write_answered<W: Sink>(answered: &Answered, writer: &mut W) -> Result<(), DeviceError>
     ensures written { OnOk result (WritesText W.Sink writer.old writer.new
         (reply_text answered.now.status answered.now.body.items)) }
     ensures works { OnOk result (W.failures writer.new ≡ W.failures writer.old) }
@@ -37,7 +37,7 @@ fn write_answered<W: Sink>(answered: &Answered, writer: &mut W) -> Result<(), De
 }
 
 /// Writes the fixed text that tells of a failure.
-fn write_failure<W: Sink>(failure: Failure, writer: &mut W) -> Result<(), DeviceFailed>
+fn write_failure<W: Sink>(failure: Failure, writer: &mut W) -> Result<(), DeviceError>
     ensures written { OnOk result (WritesText W.Sink writer.old writer.new (failure_text failure)) }
     ensures works { OnOk result (W.failures writer.new ≡ W.failures writer.old) }
     ensures failed { OnErr result (FailsWriting W.Sink writer.old writer.new) }
@@ -47,14 +47,14 @@ fn write_failure<W: Sink>(failure: Failure, writer: &mut W) -> Result<(), Device
 }
 
 /// How a write that ends a request is told.
-fn sent(written: Result<(), DeviceFailed>) -> Result<(), ServeFault>
+fn sent(written: Result<(), DeviceError>) -> Result<(), ServeFault>
     ensures { result ≡ as_write written }
 {
     written.map_err(|_| ServeFault::Write)
 }
 
 /// Writes the fixed text of a failure; nothing where the request was cut off.
-fn write_unanswered<W: Sink>(why: Unanswered, writer: &mut W) -> Result<(), ServeFault>
+fn write_unanswered<W: Sink>(why: AnswerError, writer: &mut W) -> Result<(), ServeFault>
     ensures served { OnOk result (TellsFailure why (WritesText W.Sink writer.old writer.new)) }
     ensures partly { OnFault result Write
         (TellsFailure why (WritesPart W.Sink writer.old writer.new)) }
@@ -63,8 +63,8 @@ fn write_unanswered<W: Sink>(why: Unanswered, writer: &mut W) -> Result<(), Serv
     ensures failed { OnFault result Write (FailsWriting W.Sink writer.old writer.new) }
 {
     match why {
-        Unanswered::Failure(failure) => sent(write_failure(failure, writer)),
-        Unanswered::CutOff => Err(ServeFault::Read),
+        AnswerError::Failure(failure) => sent(write_failure(failure, writer)),
+        AnswerError::CutOff => Err(ServeFault::Read),
     }
 }
 
@@ -78,7 +78,7 @@ pub fn reply_to<O: Office, W: Sink>(
     alloc: Global,
     office: &mut O,
     moment: Moment,
-    received: Received,
+    received: ReceivedRequest,
     writer: &mut W,
 ) -> Result<(), ServeFault>
     ensures { Replies O.Office W.Sink moment received result office.old office.new

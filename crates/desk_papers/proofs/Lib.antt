@@ -1,1 +1,1 @@
-pub mod ResultLemmas
+pub mod PaperResultLemmas

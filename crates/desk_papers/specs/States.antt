@@ -1,6 +1,6 @@
 -- How far a resolution has come.
 use Rattle.std.specs.Prelude.{ℕ, List, Option, Some, None, codes, if◌then◌else◌}
-use Rattle.desk_terms.specs.declared.kinds.ResKind.{ResKind}
+use Rattle.vocabulary.specs.declared.kinds.ResKind.{ResKind}
 use Rattle.desk_words.specs.declared.records.Poll.{Poll}
 use Rattle.desk_words.specs.declared.records.Tally.{Tally}
 use Rattle.desk_words.specs.Majority.{result_of}

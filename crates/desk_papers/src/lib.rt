@@ -6,8 +6,8 @@ mod print;
 mod state;
 mod text;
 
-pub use desk_devices::PrintFault;
-pub use desk_files::{
-    DAY_FILE_LIMIT, FILE_LIMIT, FileFault, Why, read_days, read_keys, read_register,
+pub use byte_io::PrintError;
+pub use csv_import::{
+    DAY_FILE_LIMIT, FILE_LIMIT, FileError, Why, read_days, read_keys, read_register,
 };
 pub use print::print_results;

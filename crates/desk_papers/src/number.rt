@@ -1,7 +1,7 @@
 //! Numbers of shares in columns.
 ghost use Rattle.std.specs.Prelude.{◌≡◌, ◌≤◌, ◌++◌, replicate, OnOk};
 ghost use Rattle.std.specs.Fmt.{decimal};
-ghost use Rattle.desk_papers.specs.Results.{figure, on_the_right};
+ghost use Rattle.desk_papers.specs.PrintedResults.{figure, on_the_right};
 
 use std::alloc::{AllocError, Global};
 

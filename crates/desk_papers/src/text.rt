@@ -1,6 +1,6 @@
 //! The text of the results.
 ghost use Rattle.std.specs.Prelude.{◌≡◌, ◌++◌, IfOk, OnOk, codes};
-ghost use Rattle.desk_papers.specs.Results.{line, not_voted, tally_text, figures, heading, resolution_text, resolutions_text, opening, session_text, sessions_text, head_text, meeting_text, results_of};
+ghost use Rattle.desk_papers.specs.PrintedResults.{line, not_voted, tally_text, figures, heading, resolution_text, resolutions_text, opening, session_text, sessions_text, head_text, meeting_text, results_of};
 
 use crate::number::{push_figure, push_number};
 use crate::state::{State, state_of, state_word};

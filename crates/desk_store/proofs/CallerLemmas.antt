@@ -9,25 +9,25 @@ use Rattle.std.proofs.lemmas.Bool.{cases_Bool, not-true}
 use Rattle.sqlite.specs.Held.{Held, state}
 use Rattle.sqlite.specs.Order.{Row}
 use Rattle.sqlite_trees.specs.declared.store.Store as store
-use Rattle.desk_lists.specs.Ordered.{ascends_by, differ_by}
-use Rattle.desk_lists.specs.Sorting.{insert_by, sort_by}
-use Rattle.desk_lists.proofs.Ascending.{differ_by_key-IsPermutation}
-use Rattle.desk_lists.proofs.Booleans.{neither_first, neither_second}
-use Rattle.desk_lists.proofs.SortingLemmas.{IsPermutation-sort_by}
-use Rattle.desk_terms.specs.Names.{name_cmp, same_name}
-use Rattle.desk_words.specs.Lists.{caller_before, is_key_list, keep_keys, same_secret}
+use Rattle.seq.specs.Ordered.{ascends_by, differ_by}
+use Rattle.seq.specs.Sorting.{insert_by, sort_by}
+use Rattle.seq.proofs.Ascending.{differ_by_key-IsPermutation}
+use Rattle.seq.proofs.Booleans.{neither_first, neither_second}
+use Rattle.seq.proofs.SortingLemmas.{IsPermutation-sort_by}
+use Rattle.vocabulary.specs.Names.{name_cmp, same_name}
+use Rattle.desk_words.specs.SortedLists.{caller_before, is_key_list, keep_keys, same_secret}
 use Rattle.desk_words.specs.declared.caller.Caller.{Caller}
 use Rattle.desk_words.specs.declared.caller.KeyRow.{KeyRow}
 use Rattle.desk_words.proofs.OfficeFacts.{office_facts}
-use Rattle.desk_words.proofs.RowLemmas.{same_name-true}
-use Rattle.desk_rows.specs.Meanings.{all_mean}
-use Rattle.desk_schema.specs.Contents as table
-use Rattle.desk_records.specs.Office.{flat_in, office_of_records}
-use Rattle.desk_schema.specs.Statements.{ChangesNothing, FindsRecords, IsRead}
-use Rattle.desk_records.proofs.FlatChanges.{keys_held}
-use Rattle.desk_records.proofs.OfficeLemmas.{are_of}
-use Rattle.desk_rows.proofs.MeaningLemmas.{bound}
-use Rattle.desk_store.specs.Reads.{IsCallerWith, IsTold}
+use Rattle.desk_words.proofs.WordRowLemmas.{same_name-true}
+use Rattle.sql_rows.specs.Meanings.{all_meanings}
+use Rattle.sql_schema.specs.Contents as table
+use Rattle.sql_model.specs.OfficeRecords.{flat_in, office_of_records}
+use Rattle.sql_schema.specs.Statements.{ChangesNothing, FindsRecords, IsRead}
+use Rattle.sql_model.proofs.FlatChanges.{keys_held}
+use Rattle.sql_model.proofs.ModelOfficeLemmas.{are_of}
+use Rattle.sql_rows.proofs.RowMeaningLemmas.{bound}
+use Rattle.desk_store.specs.TableReads.{IsCallerWith, HoldsOfTables}
 
 none_passes : {X : Type 0} (test : X → Bool) (xs : List X) → list_any test xs ≡ false → find test xs ≡ None
 none_passes test [] h = refl
@@ -92,8 +92,8 @@ module _ (key : List ℕ) where
 
   module _ {S : Type 0} (g : store.Ghosts S) (a b : Held S) where
     -- the first of the rows that are found has the caller
-    pub caller_told : (rows : List Row) (found : List KeyRow) (caller : Option Caller) → (IsRead g a b → FindsRecords g a b table.keys test rows) → ChangesNothing g a b → all_mean table.keys.means rows ≡ Some found
-        → caller ≡ option_map (λ (row : KeyRow). row.caller) (slice_get found 0) → IsTold {X = Option Caller} g a b (Ok caller) (IsCallerWith key)
+    pub caller_told : (rows : List Row) (found : List KeyRow) (caller : Option Caller) → (IsRead g a b → FindsRecords g a b table.keys test rows) → ChangesNothing g a b → all_meanings table.keys.means rows ≡ Some found
+        → caller ≡ option_map (λ (row : KeyRow). row.caller) (slice_get found 0) → HoldsOfTables {X = Option Caller} g a b (Ok caller) (IsCallerWith key)
     caller_told rows found caller finds changes mean is = record {
       told = λ clean office stands.
           let flat = bound (flat_in (state g a).now.trees) office_of_records office stands.holds in

@@ -2,24 +2,24 @@
 use Rattle.std.proofs.Common.{◌≡◌, Ok, Result, IfOk, IsTrue, subst, sym, ◌∙◌}
 use Rattle.sqlite.specs.Held.{Held}
 use Rattle.sqlite_trees.specs.declared.store.Store as store
-use Rattle.desk_words.specs.Changes.{after_some}
+use Rattle.desk_words.specs.Changes.{applied_if_any}
 use Rattle.desk_words.specs.Office.{is_office}
 use Rattle.desk_words.specs.Rulings.{refused}
 use Rattle.desk_words.specs.declared.answer.Answer.{Answer}
 use Rattle.desk_words.specs.declared.change.Change.{Change}
 use Rattle.desk_words.specs.declared.office.OfficeLists.{OfficeLists}
 use Rattle.desk_words.specs.declared.request.Call.{Call}
-use Rattle.desk_terms.specs.declared.refusal.Refusal.{Refusal}
+use Rattle.vocabulary.specs.declared.refusal.Refusal.{Refusal}
 use Rattle.meeting_core.specs.Step.{decided}
-use Rattle.office_lists.specs.declared.fault.ReadFault.{ReadFault}
-use Rattle.party_reading.specs.Telling.{IsToldOf}
-use Rattle.desk_store.specs.Reads.{IsDecided, IsTold}
-use Rattle.desk_store.proofs.ReadLemmas.{always, ok_weaker}
+use Rattle.sql_assemble.specs.declared.fault.LoadError.{LoadError}
+use Rattle.sql_load_party.specs.TableLookUps.{HoldsOfStoredOffice}
+use Rattle.desk_store.specs.TableReads.{IsDecided, HoldsOfTables}
+use Rattle.desk_store.proofs.DeskReadLemmas.{always, ok_weaker}
 
 module _ {S : Type 0} (g : store.Ghosts S) (a b : Held S) where
   -- what is made of what was told
-  pub told_made : {X Y : Type 0} (x : X) (r : Result Y ReadFault) (P : OfficeLists → X → Type 0) (Q : OfficeLists → Y → Type 0) → IsToldOf g a b (Ok x) P
-      → ((office : OfficeLists) → IsTrue (is_office office) → P office x → IfOk r (Q office)) → IsTold g a b r Q
+  pub told_made : {X Y : Type 0} (x : X) (r : Result Y LoadError) (P : OfficeLists → X → Type 0) (Q : OfficeLists → Y → Type 0) → HoldsOfStoredOffice g a b (Ok x) P
+      → ((office : OfficeLists) → IsTrue (is_office office) → P office x → IfOk r (Q office)) → HoldsOfTables g a b r Q
   told_made x r P Q told next = record {
     told = λ clean office stands. next office stands.kept (told.told (clean, stands.desk) office stands.holds stands.kept);
     same = λ read. always r (told.same read);
@@ -27,8 +27,8 @@ module _ {S : Type 0} (g : store.Ghosts S) (a b : Held S) where
   }
 
   -- what is told is so in another way too
-  pub told_also : {X : Type 0} (r : Result X ReadFault) (P Q : OfficeLists → X → Type 0) → IsTold g a b r P
-      → ((office : OfficeLists) → IsTrue (is_office office) → (x : X) → P office x → Q office x) → IsTold g a b r Q
+  pub told_also : {X : Type 0} (r : Result X LoadError) (P Q : OfficeLists → X → Type 0) → HoldsOfTables g a b r P
+      → ((office : OfficeLists) → IsTrue (is_office office) → (x : X) → P office x → Q office x) → HoldsOfTables g a b r Q
   told_also r P Q told next = record {
     told = λ clean office stands. ok_weaker (P office) (Q office) r (next office stands.kept) (told.told clean office stands);
     same = told.same;
@@ -39,5 +39,5 @@ module _ {S : Type 0} (g : store.Ghosts S) (a b : Held S) where
 pub decided_so : (call : Call) (refusal : Refusal) → ((office : OfficeLists) → decided office call ≡ refused refusal) → (office : OfficeLists) → IsTrue (is_office office) → (answer : Answer Change) → answer ≡ refused refusal → IsDecided call office answer
 decided_so call refusal so office kept answer is = record {
   is = is ∙ sym (so office);
-  kept = subst (λ (a : Answer Change). IsTrue (is_office (after_some office a.change))) (sym is) kept;
+  kept = subst (λ (a : Answer Change). IsTrue (is_office (applied_if_any office a.change))) (sym is) kept;
 }

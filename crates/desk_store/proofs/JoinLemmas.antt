@@ -11,18 +11,18 @@ use Rattle.sqlite_trees.specs.declared.store.Store as store
 use Rattle.desk_words.specs.declared.office.OfficeLists.{OfficeLists}
 use Rattle.desk_words.specs.declared.reply.Failure.{Failure}
 use Rattle.desk_words.specs.declared.request.Call.{Call}
-use Rattle.desk_records.specs.Standing.{Stands}
-use Rattle.desk_schema.specs.Statements.{IsDesk, WasOpen}
-use Rattle.desk_opening.specs.Crashes.{LeavesItself}
-use Rattle.desk_opening.specs.Whole.{AsksOpen, IsWhole, LeavesWhole}
-use Rattle.desk_opening.proofs.CrashLemmas.{leaves_itself, nothing_then}
-use Rattle.desk_opening.proofs.WholeLemmas.{leaves_whole, whole_of}
-use Rattle.desk_opening.proofs.OpeningLemmas.{desk_same}
+use Rattle.sql_model.specs.Standing.{Stands}
+use Rattle.sql_schema.specs.Statements.{IsDesk, WasOpen}
+use Rattle.sql_open.specs.Crashes.{LeavesItself}
+use Rattle.sql_open.specs.WholeDesk.{AsksOpen, IsWhole, LeavesWhole}
+use Rattle.sql_open.proofs.CrashLemmas.{leaves_itself, nothing_then}
+use Rattle.sql_open.proofs.WholeLemmas.{leaves_whole, whole_of}
+use Rattle.sql_open.proofs.OpeningLemmas.{desk_same}
 use Rattle.meeting_core.specs.Step.{stepped}
-use Rattle.office_lists.specs.declared.fault.ReadFault.{ReadFault}
-use Rattle.any_office.specs.Homes.{office_after, made_by}
-use Rattle.desk_store.specs.Joins.{AreAfter, IsAsItWas, IsDeskIfOpen, Leaves}
-use Rattle.desk_store.specs.Reads.{IsTold}
+use Rattle.sql_assemble.specs.declared.fault.LoadError.{LoadError}
+use Rattle.any_office.specs.StoredOffice.{office_after, made_by}
+use Rattle.desk_store.specs.Joins.{AreAfter, IsAsItWas, IsDeskIfOpen, LeavesDesk}
+use Rattle.desk_store.specs.TableReads.{HoldsOfTables}
 use Rattle.desk_store.proofs.KeepingLemmas.{stands_same}
 
 -- what is done within a transaction commits nothing
@@ -32,7 +32,7 @@ pub record IsWithin (old new : State) : Type 0 where
   pub kept : HasCleanDisk new → (office : OfficeLists) → Stands old office → KeepsCommit old new
 
 -- what is told in a transaction is told within it
-pub told_within : {S X : Type 0} (g : store.Ghosts S) (first b : Held S) (r : Result X ReadFault) (IsSo : OfficeLists → X → Type 0) → IsTold g first b r IsSo → IsWithin (state g first) (state g b)
+pub told_within : {S X : Type 0} (g : store.Ghosts S) (first b : Held S) (r : Result X LoadError) (IsSo : OfficeLists → X → Type 0) → HoldsOfTables g first b r IsSo → IsWithin (state g first) (state g b)
 told_within g first b r IsSo told = record { crash = told.changes.crash; was_open = told.changes.was_open; kept = λ clean office stands. told.changes.kept (clean, stands.desk) }
 
 -- a transaction is committed
@@ -45,7 +45,7 @@ pub itself_after : {S : Type 0} (g : store.Ghosts S) (mid end : Held S) → ((s 
 itself_after g mid end settled stays over = leaves_itself g end settled stays over.1.is_open (over.1.now_is ∙ sym over.1.committed_is)
 
 -- a call that failed was not made
-pub leaves_failed : {S T E : Type 0} (g : store.Ghosts S) (old new : Held S) (r : Result T E) (call : Call) → IsErr r → Leaves g None old new → Leaves g (made_by r call) old new
+pub leaves_failed : {S T E : Type 0} (g : store.Ghosts S) (old new : Held S) (r : Result T E) (call : Call) → IsErr r → LeavesDesk g None old new → LeavesDesk g (made_by r call) old new
 leaves_failed g old new (Ok x) call failed leaves = absurd cc
 leaves_failed g old new (Err e) call failed leaves = leaves
 
@@ -75,7 +75,7 @@ module _ {S : Type 0} (g : store.Ghosts S) (a first b new : Held S) (begun : fir
   over_all = survives_then (state g a) (state g b) (state g new) (λ _. ⊥) (λ db. db ≡ (state g b).now.trees) (λ db. db ≡ (state g b).now.trees) (λ _ _ none. absurd none) (λ _ _ is. is) from_desk last
 
   pub committed : (made : Option Call) → (HasCleanDisk (state g new) → Shows (state g b) (state g new) (state g b).now (state g b).now false)
-      → (HasCleanDisk (state g b) → (office : OfficeLists) → Stands (state g first) office → Stands (state g b) (office_after office made)) → Leaves g made a new
+      → (HasCleanDisk (state g b) → (office : OfficeLists) → Stands (state g first) office → Stands (state g b) (office_after office made)) → LeavesDesk g made a new
   committed made shows there = record {
     was_reliable = desk_clean;
     was_open = λ clean is_open. desk_open (within.was_open (mid_clean clean) (shows clean).was_open);
@@ -85,7 +85,7 @@ module _ {S : Type 0} (g : store.Ghosts S) (a first b new : Held S) (begun : fir
   }
 
   -- the transaction is rolled back
-  pub dropped : (HasCleanDisk (state g new) → IsRolledBack (state g b) (state g new)) → (IsTrue (state g a).is_open → (state g a).now ≡ (state g a).committed) → Leaves g None a new
+  pub dropped : (HasCleanDisk (state g new) → IsRolledBack (state g b) (state g new)) → (IsTrue (state g a).is_open → (state g a).now ≡ (state g a).committed) → LeavesDesk g None a new
   dropped undone settled = record {
     was_reliable = desk_clean;
     was_open = λ clean is_open. desk_open (within.was_open (mid_clean clean) ((undone clean).was_open is_open));
@@ -113,7 +113,7 @@ module _ {S : Type 0} (g : store.Ghosts S) (a first b new : Held S) (begun : fir
         stands_same (state g a) (state g new) office ((h.3.undone is_open).0 ∙ kept.committed mid_open ∙ committed_is ∙ sym (settled (desk_open (kept.was_open mid_open)))) stands
     undone clean is_open office stands (inr h) = absurd (true≢false (sym (inside (mid_clean clean) office (stands_begun office stands)) ∙ h.1))
 
-    pub not_committed : Leaves g None a new
+    pub not_committed : LeavesDesk g None a new
     not_committed = record {
       was_reliable = desk_clean;
       was_open = λ clean is_open. desk_open (within.was_open (mid_clean clean) (opened (fails clean).1 is_open));
@@ -176,7 +176,7 @@ module _ {S : Type 0} (g : store.Ghosts S) (a first b new : Held S) (begun : fir
 
 module _ {S : Type 0} (g : store.Ghosts S) (first a : Held S) where
   -- it is not known to be: no call is made
-  pub asked_stop : {T : Type 0} {e : Failure} → AsksOpen {T = T} g first a (Err e) → Leaves g None first a
+  pub asked_stop : {T : Type 0} {e : Failure} → AsksOpen {T = T} g first a (Err e) → LeavesDesk g None first a
   asked_stop asked = record {
     was_reliable = λ clean. omega (arith, asked.crash.clean, clean);
     was_open = λ clean is_open. (asked.same clean is_open).0;
@@ -196,7 +196,7 @@ module _ {S : Type 0} (g : store.Ghosts S) (first a : Held S) where
     pub desk_behind : IsDeskIfOpen (state g first) → HasCleanDisk (state g a) → IsDesk (state g a)
     desk_behind desk clean = let it = (asked.still clean).0.0 in desk_same (state g first) (state g a) (sym it.now_is) (desk it.was_open)
 
-    pub leaves_behind : (made : Option Call) (new : Held S) → Leaves g made a new → Leaves g made first new
+    pub leaves_behind : (made : Option Call) (new : Held S) → LeavesDesk g made a new → LeavesDesk g made first new
     leaves_behind made new h = record {
       was_reliable = λ clean. let early = h.was_reliable clean in omega (arith, asked.crash.clean, early);
       was_open = λ clean is_open. (asked.same (h.was_reliable clean) (h.was_open clean is_open)).0;

@@ -3,10 +3,10 @@ use Rattle.std.proofs.Common.{◌≡◌, sym, ap, subst, ◌∙◌}
 use Rattle.sqlite.specs.Effect.{Database}
 use Rattle.sqlite.specs.State.{State}
 use Rattle.desk_words.specs.declared.office.OfficeLists.{OfficeLists}
-use Rattle.desk_schema.specs.Contents.{desk}
-use Rattle.desk_records.specs.Office.{office_in}
-use Rattle.desk_schema.specs.Statements.{HasTables, IsRising, layout_two, records_in}
-use Rattle.desk_records.specs.Standing.{Stands}
+use Rattle.sql_schema.specs.Contents.{desk}
+use Rattle.sql_model.specs.OfficeRecords.{office_in}
+use Rattle.sql_schema.specs.Statements.{HasTables, IsRising, layout_two, records_in}
+use Rattle.sql_model.specs.Standing.{Stands}
 
 -- tables that are the same stand for the same office
 pub stands_same : (old new : State) (office : OfficeLists) → new.now ≡ old.now → Stands old office → Stands new office

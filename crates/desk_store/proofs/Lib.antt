@@ -1,8 +1,8 @@
 pub mod CallerLemmas
 pub mod DecidingLemmas
+pub mod DeskOfficeLemmas
+pub mod DeskReadLemmas
+pub mod DeskRunLaws
 pub mod JoinLemmas
 pub mod KeepingLemmas
-pub mod OfficeLemmas
-pub mod ReadLemmas
-pub mod RunLaws
 pub mod StepLemmas

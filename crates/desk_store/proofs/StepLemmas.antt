@@ -9,29 +9,29 @@ use Rattle.desk_words.specs.Office.{is_office}
 use Rattle.desk_words.specs.declared.answer.Answer.{Answer}
 use Rattle.desk_words.specs.declared.change.Change.{Change}
 use Rattle.desk_words.specs.declared.office.OfficeLists.{OfficeLists}
-use Rattle.office_lists.specs.declared.fault.ReadFault.{ReadFault}
+use Rattle.sql_assemble.specs.declared.fault.LoadError.{LoadError}
 use Rattle.desk_words.specs.declared.request.Call.{Call}
-use Rattle.desk_reading.proofs.ReadingLemmas.{keeps_then}
-use Rattle.desk_words.specs.Changes.{after_some}
+use Rattle.sql_load_office.proofs.ReadingLemmas.{keeps_then}
+use Rattle.desk_words.specs.Changes.{applied_if_any}
 use Rattle.meeting_core.specs.Decisions.{DecidedChangesCanBeMade}
 use Rattle.meeting_core.specs.Step.{decided, stepped}
-use Rattle.desk_changes.specs.Writes.{StandsIn}
-use Rattle.desk_schema.specs.Statements.{DeclaresNothing, WasOpen}
-use Rattle.desk_store.specs.Reads.{IsDecided, IsTold, WritesIfAny, can_make_if_any}
-use Rattle.desk_records.specs.Standing.{Stands}
+use Rattle.sql_write.specs.Writes.{StandsIn}
+use Rattle.sql_schema.specs.Statements.{DeclaresNothing, WasOpen}
+use Rattle.desk_store.specs.TableReads.{IsDecided, HoldsOfTables, WritesIfAny, can_make_if_any}
+use Rattle.sql_model.specs.Standing.{Stands}
 use Rattle.desk_store.proofs.KeepingLemmas.{stands_same}
 
 -- what is decided can be made
-decided_makes : DecidedChangesCanBeMade → (office : OfficeLists) (call : Call) (change : Option Change) → (decided office call).change ≡ change → is_office office ≡ true → is_office (after_some office change) ≡ true → can_make_if_any office change ≡ true
+decided_makes : DecidedChangesCanBeMade → (office : OfficeLists) (call : Call) (change : Option Change) → (decided office call).change ≡ change → is_office office ≡ true → is_office (applied_if_any office change) ≡ true → can_make_if_any office change ≡ true
 decided_makes law office call None is before later = before
 decided_makes law office call (Some change) is before later = law office call change is before later
 
 -- where the office is not read, or nothing is decided, nothing is told of it
-pub failed_told : {S X Y : Type 0} (g : store.Ghosts S) (a b : Held S) (IsSo : OfficeLists → X → Type 0) (IsThat : OfficeLists → Y → Type 0) (old : Result X ReadFault) (r : Result Y ReadFault) → IsErr r → IsTold g a b old IsSo → IsTold g a b r IsThat
+pub failed_told : {S X Y : Type 0} (g : store.Ghosts S) (a b : Held S) (IsSo : OfficeLists → X → Type 0) (IsThat : OfficeLists → Y → Type 0) (old : Result X LoadError) (r : Result Y LoadError) → IsErr r → HoldsOfTables g a b old IsSo → HoldsOfTables g a b r IsThat
 failed_told g a b IsSo IsThat old (Ok y) bad read = absurd cc
 failed_told g a b IsSo IsThat old (Err e) bad read = record { told = λ clean office stands. tt; same = λ done. tt; changes = read.changes }
 
-module _ {S : Type 0} (g : store.Ghosts S) (a b c : Held S) (call : Call) (answer : Answer Change) (told : IsTold g a b (Ok answer) (IsDecided call)) where
+module _ {S : Type 0} (g : store.Ghosts S) (a b c : Held S) (call : Call) (answer : Answer Change) (told : HoldsOfTables g a b (Ok answer) (IsDecided call)) where
   -- while a call is decided, the tables stay the office that they are
   holds : HasCleanDisk (state g b) → IsTrue (state g a).in_transaction → IsDatabase (state g a).now → (office : OfficeLists) → Stands (state g a) office → StandsIn office (state g b)
   holds clean inside sound office stands =
@@ -71,7 +71,7 @@ module _ {S : Type 0} (g : store.Ghosts S) (a b c : Held S) (call : Call) (answe
       let written = writes.written clean office (holds before inside sound office stands) (decided_makes law office call answer.change (sym change) stands.kept is.kept) in
       let there = written.0 in
       let same = told.same (before, stands.desk) in
-      let left = ap (after_some office) change in (
+      let left = ap (applied_if_any office) change in (
         (
           record {
             desk = there.desk;

@@ -4,19 +4,20 @@ use Rattle.sqlite.specs.Held.{Held, state}
 use Rattle.sqlite.specs.State.{State, HasCleanDisk, KeepsCounts, Shows}
 use Rattle.sqlite.specs.Tree.{Trees}
 use Rattle.sqlite_trees.specs.declared.store.Store as store
-use Rattle.any_office.specs.Homes as home
+use Rattle.any_office.specs.StoredOffice as home
 use Rattle.desk_words.specs.declared.office.OfficeLists.{OfficeLists}
 use Rattle.desk_words.specs.declared.request.Call.{Call}
-use Rattle.desk_opening.specs.Whole.{IsWhole}
-use Rattle.desk_records.specs.Standing.{Stands}
-use Rattle.desk_schema.specs.Statements.{IsDesk, WasOpen}
+use Rattle.sql_open.specs.WholeDesk.{IsWhole}
+use Rattle.sql_model.specs.Standing.{Stands}
+use Rattle.sql_schema.specs.Statements.{IsDesk, WasOpen}
 use Rattle.meeting_core.specs.Step.{stepped}
 
 -- what is left of a desk after a call was made, or none: no failure is made good, so a clean disk
 -- was clean before, and an open store was open before; only a fault of the disk in the call shuts
 -- the store; and where the tables stood for an office they stand for it after the call
-abbrev pub Leaves : {S : Type 0} → store.Ghosts S → Option Call → Held S → Held S → Type 0
-Leaves g = home.Leaves (λ desk. HasCleanDisk (state g desk)) (λ desk. IsTrue (state g desk).is_open)
+abbrev pub LeavesDesk : {S : Type 0} → store.Ghosts S → Option Call → Held S → Held S → Type 0
+LeavesDesk g =
+    home.IsTransition (λ desk. HasCleanDisk (state g desk)) (λ desk. IsTrue (state g desk).is_open)
     (λ desk office. Stands (state g desk) office) (λ desk. (state g desk).faults)
 
 -- the tables are the same, and so is the last commit; no row was counted as written

@@ -1,4 +1,4 @@
-pub mod Faults
+pub mod CrashRuns
 pub mod Joins
-pub mod Reads
-pub mod Runs
+pub mod StoreFailures
+pub mod TableReads

@@ -3,19 +3,19 @@ ghost use Rattle.std.specs.Prelude.{◌≡◌};
 ghost use Rattle.desk_words.specs.Rulings as ruling;
 ghost use Rattle.desk_words.specs.declared.caller.Caller.TheVariants as caller;
 ghost use Rattle.desk_words.specs.declared.request.DeskRequest.TheVariants as whole;
-ghost use Rattle.desk_store.specs.Reads.{IsDecided, IsDecidedAlways, IsTold};
+ghost use Rattle.desk_store.specs.TableReads.{IsDecided, IsDecidedAlways, HoldsOfTables};
 ghost use Rattle.meeting_core.specs.Decisions.{office_call, party_call};
 
 use crate::reading::fault_of_book;
-use desk_reading::ReadFault;
-use desk_tables::desk;
 use desk_words::{
     Answer, Call, Caller, Change, DayList, DeskRequest, KeyRows, MeetingId, Moment, NewMeeting,
     OfficeRequest, Party, PartyRequest, Refusal, Request, refuse,
 };
 use meeting_core::{decide_call, decide_closed, decide_from_rows, decide_in_meeting, decide_keys};
-use meeting_reading::{read_closed, read_count, read_days, read_keys, read_lists};
-use party_reading::{read_asked, read_public};
+use sql_desk_tables::desk;
+use sql_load_meeting::{read_closed, read_count, read_days, read_keys, read_lists};
+use sql_load_office::LoadError;
+use sql_load_party::{read_asked, read_public};
 use sqlite::{Alter, Transaction};
 use std::alloc::Global;
 
@@ -28,9 +28,9 @@ fn decide_for_party<S: Alter>(
     party: Party,
     meeting: MeetingId,
     asked: &PartyRequest,
-) -> Result<Answer<Change>, ReadFault>
+) -> Result<Answer<Change>, LoadError>
     ensures same_reference { tx.new.conn.ghost_name ≡ tx.old.conn.ghost_name }
-    ensures tells { IsTold S.Store tx.old.conn.now tx.new.conn.now result
+    ensures tells { HoldsOfTables S.Store tx.old.conn.now tx.new.conn.now result
         (IsDecided (party_call party meeting now asked.now)) }
 {
     let public = read_public(tx, alloc, meeting)?;
@@ -47,9 +47,9 @@ fn decide_for_office<S: Alter>(
     now: Moment,
     meeting: MeetingId,
     asked: &OfficeRequest,
-) -> Result<Answer<Change>, ReadFault>
+) -> Result<Answer<Change>, LoadError>
     ensures same_reference { tx.new.conn.ghost_name ≡ tx.old.conn.ghost_name }
-    ensures tells { IsTold S.Store tx.old.conn.now tx.new.conn.now result
+    ensures tells { HoldsOfTables S.Store tx.old.conn.now tx.new.conn.now result
         (IsDecided (office_call meeting now asked.now)) }
 {
     let closed = read_days(tx, alloc, asked)?;
@@ -63,9 +63,9 @@ fn decide_new_meeting<S: Alter>(
     tx: &mut Transaction<'_, S>,
     alloc: Global,
     new: &NewMeeting,
-) -> Result<Answer<Change>, ReadFault>
+) -> Result<Answer<Change>, LoadError>
     ensures same_reference { tx.new.conn.ghost_name ≡ tx.old.conn.ghost_name }
-    ensures tells { IsTold S.Store tx.old.conn.now tx.new.conn.now result
+    ensures tells { HoldsOfTables S.Store tx.old.conn.now tx.new.conn.now result
         (IsDecidedAlways (whole.CallMeeting new.now)) }
 {
     let count = read_count(tx, alloc, new.meeting)?;
@@ -78,9 +78,9 @@ fn decide_closed_days<S: Alter>(
     tx: &mut Transaction<'_, S>,
     alloc: Global,
     days: &DayList,
-) -> Result<Answer<Change>, ReadFault>
+) -> Result<Answer<Change>, LoadError>
     ensures same_reference { tx.new.conn.ghost_name ≡ tx.old.conn.ghost_name }
-    ensures tells { IsTold S.Store tx.old.conn.now tx.new.conn.now result
+    ensures tells { HoldsOfTables S.Store tx.old.conn.now tx.new.conn.now result
         (IsDecidedAlways (whole.ClosedDays days.now)) }
 {
     let held = read_closed(tx, alloc)?;
@@ -93,9 +93,9 @@ fn decide_new_keys<S: Alter>(
     tx: &mut Transaction<'_, S>,
     alloc: Global,
     rows: &KeyRows,
-) -> Result<Answer<Change>, ReadFault>
+) -> Result<Answer<Change>, LoadError>
     ensures same_reference { tx.new.conn.ghost_name ≡ tx.old.conn.ghost_name }
-    ensures tells { IsTold S.Store tx.old.conn.now tx.new.conn.now result
+    ensures tells { HoldsOfTables S.Store tx.old.conn.now tx.new.conn.now result
         (IsDecidedAlways (whole.Keys rows.now)) }
 {
     let held = read_keys(tx, alloc)?;
@@ -108,9 +108,9 @@ fn decide_for_desk<S: Alter>(
     tx: &mut Transaction<'_, S>,
     alloc: Global,
     asked: &DeskRequest,
-) -> Result<Answer<Change>, ReadFault>
+) -> Result<Answer<Change>, LoadError>
     ensures same_reference { tx.new.conn.ghost_name ≡ tx.old.conn.ghost_name }
-    ensures tells { IsTold S.Store tx.old.conn.now tx.new.conn.now result
+    ensures tells { HoldsOfTables S.Store tx.old.conn.now tx.new.conn.now result
         (IsDecidedAlways asked.now) }
 {
     match asked {
@@ -125,9 +125,9 @@ fn decide_for_desk<S: Alter>(
 fn refused<S: Alter>(
     tx: &mut Transaction<'_, S>,
     refusal: Refusal,
-) -> Result<Answer<Change>, ReadFault>
+) -> Result<Answer<Change>, LoadError>
     ensures same_reference { tx.new.conn.ghost_name ≡ tx.old.conn.ghost_name }
-    ensures tells { IsTold S.Store tx.old.conn.now tx.new.conn.now result
+    ensures tells { HoldsOfTables S.Store tx.old.conn.now tx.new.conn.now result
         (λ office answer. answer ≡ ruling.refused refusal) }
 {
     desk::all(tx)?;
@@ -140,9 +140,9 @@ fn decide_office_call<S: Alter>(
     alloc: Global,
     now: Moment,
     asked: &Request,
-) -> Result<Answer<Change>, ReadFault>
+) -> Result<Answer<Change>, LoadError>
     ensures same_reference { tx.new.conn.ghost_name ≡ tx.old.conn.ghost_name }
-    ensures tells { IsTold S.Store tx.old.conn.now tx.new.conn.now result
+    ensures tells { HoldsOfTables S.Store tx.old.conn.now tx.new.conn.now result
         (IsDecided (record { moment = now; caller = caller.Office; request = asked.now })) }
 {
     match asked {
@@ -159,9 +159,9 @@ fn decide_party_call<S: Alter>(
     now: Moment,
     party: Party,
     asked: &Request,
-) -> Result<Answer<Change>, ReadFault>
+) -> Result<Answer<Change>, LoadError>
     ensures same_reference { tx.new.conn.ghost_name ≡ tx.old.conn.ghost_name }
-    ensures tells { IsTold S.Store tx.old.conn.now tx.new.conn.now result
+    ensures tells { HoldsOfTables S.Store tx.old.conn.now tx.new.conn.now result
         (IsDecided (record { moment = now; caller = caller.Party party; request = asked.now })) }
 {
     match asked {
@@ -178,9 +178,9 @@ pub(crate) fn decide<S: Alter>(
     tx: &mut Transaction<'_, S>,
     alloc: Global,
     call: &Call,
-) -> Result<Answer<Change>, ReadFault>
+) -> Result<Answer<Change>, LoadError>
     ensures same_reference { tx.new.conn.ghost_name ≡ tx.old.conn.ghost_name }
-    ensures tells { IsTold S.Store tx.old.conn.now tx.new.conn.now result (IsDecided call.now) }
+    ensures tells { HoldsOfTables S.Store tx.old.conn.now tx.new.conn.now result (IsDecided call.now) }
 {
     match call.caller {
         Caller::Office => decide_office_call(tx, alloc, call.moment, &call.request),

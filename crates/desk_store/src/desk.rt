@@ -1,10 +1,10 @@
 //! The desk of a company over its tables.
 ghost use Rattle.std.specs.Prelude.{◌≡◌, false};
-ghost use Rattle.desk_opening.specs.Whole.{AsksOpen};
+ghost use Rattle.sql_open.specs.WholeDesk.{AsksOpen};
 
 use crate::reading::failure_of;
-use desk_opening::ask_open;
 use desk_words::Failure;
+use sql_open::ask_open;
 use sqlite::{Alter, Connection};
 use std::alloc::Global;
 use std::marker::Model;

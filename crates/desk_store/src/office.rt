@@ -9,7 +9,7 @@ use std::alloc::AllocError;
 // it may be opened as an office that the tables may then be whole of.
 impl<S: Alter> Office for Desk<S> {
     ghost use Rattle.std.specs.Prelude.{IsTrue};
-    ghost use Rattle.desk_records.specs.Standing.{Stands};
+    ghost use Rattle.sql_model.specs.Standing.{Stands};
     ghost use Rattle.desk_store.specs.Joins.{MayBeFound};
     ghost use Rattle.sqlite.specs.Held.{state};
     ghost use Rattle.sqlite.specs.State.{HasCleanDisk};

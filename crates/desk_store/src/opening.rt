@@ -1,23 +1,23 @@
 //! A new desk, and one that was kept.
 ghost use Rattle.std.specs.Prelude.{◌≡◌, ◌≢◌, ◌⊎◌, false, Err, IfErr, IfOk, IsErrAnd, IsTrue};
-ghost use Rattle.desk_opening.specs.Crashes.{LeavesAtMostMoved};
-ghost use Rattle.desk_opening.specs.Opened.{HoldsNothing, IfMadeAs, IsSettled, IsWhyUnopened};
-ghost use Rattle.desk_opening.specs.Opened.{KeepsOpenRows, KeepsOpenTables, StandsFor, StaysOpen};
-ghost use Rattle.desk_opening.specs.Opened.{SurvivesMaking, SurvivesMoving, WereKnown};
-ghost use Rattle.desk_opening.specs.Opening.{HandsBack, IsInNone};
-ghost use Rattle.desk_opening.specs.Rising.{RowsRise};
-ghost use Rattle.desk_opening.specs.Whole.{OpensWhole};
-ghost use Rattle.desk_opening.specs.declared.fault.CreateFault.TheVariants.{NotEmpty};
-ghost use Rattle.desk_opening.specs.declared.fault.CreateFault.TheVariants as creating;
-ghost use Rattle.desk_opening.specs.declared.fault.OpenFault.TheVariants as opening;
-ghost use Rattle.desk_opening.specs.declared.opening.HandedBack.TheVariants as back;
-ghost use Rattle.desk_schema.specs.Tables.{no_schema};
+ghost use Rattle.sql_open.specs.Crashes.{LeavesAtMostMoved};
+ghost use Rattle.sql_open.specs.Opened.{HoldsNothing, IfMadeAs, IsSettled, IsWhyUnopened};
+ghost use Rattle.sql_open.specs.Opened.{KeepsOpenRows, KeepsOpenTables, StandsFor, StaysOpen};
+ghost use Rattle.sql_open.specs.Opened.{SurvivesMaking, SurvivesMoving, WereKnown};
+ghost use Rattle.sql_open.specs.Opening.{HandsBack, IsInNone};
+ghost use Rattle.sql_open.specs.Rising.{RowsRise};
+ghost use Rattle.sql_open.specs.WholeDesk.{OpensWhole};
+ghost use Rattle.sql_open.specs.declared.fault.CreateError.TheVariants.{NotEmpty};
+ghost use Rattle.sql_open.specs.declared.fault.CreateError.TheVariants as creating;
+ghost use Rattle.sql_open.specs.declared.fault.OpenFault.TheVariants as opening;
+ghost use Rattle.sql_open.specs.declared.opening.HandedBack.TheVariants as back;
+ghost use Rattle.sql_schema.specs.Tables.{no_schema};
 ghost use Rattle.desk_words.specs.declared.office.OfficeLists.{OfficeLists};
 ghost use Rattle.sqlite.specs.Held.{state};
 ghost use Rattle.sqlite.specs.State.{HasCleanDisk};
 
 use crate::desk::Desk;
-use desk_opening::{CreateFault, HandedBack, OpenFault};
+use sql_open::{CreateError, HandedBack, OpenFault};
 use sqlite::{Alter, Connection};
 use std::alloc::Global;
 
@@ -32,7 +32,7 @@ impl<S: Alter + Drop> Desk<S> {
     pub fn create(
         alloc: Global,
         conn: Connection<S>,
-    ) -> Result<Desk<S>, (CreateFault, Connection<S>)>
+    ) -> Result<Desk<S>, (CreateError, Connection<S>)>
         ensures made { IfOk result (λ desk. HoldsNothing S.Store desk) }
         ensures is_open { IfOk result (λ desk. StaysOpen S.Store desk) }
         ensures empty { IfOk result (λ _. (state S.Store conn).now.schema ≡ no_schema) }
@@ -50,7 +50,7 @@ impl<S: Alter + Drop> Desk<S> {
         ensures inside { IsTrue conn.in_transaction → IsErrAnd result (λ e.
             ((e.0 ≡ NotEmpty) ⊎ (e.0 ≡ creating.Store)) × (e.1 ≡ conn)) }
     {
-        match desk_opening::create(conn) {
+        match sql_open::create(conn) {
             Ok(conn) => Ok(Desk { conn, alloc }),
             Err(refused) => Err(refused),
         }
@@ -94,7 +94,7 @@ impl<S: Alter + Drop> Desk<S> {
         ensures inside { IsTrue conn.in_transaction
             → result ≡ Err (opening.Store, back.Connection conn) }
     {
-        match desk_opening::open(alloc, conn) {
+        match sql_open::open(alloc, conn) {
             Ok((conn, _)) => Ok(Desk { conn, alloc }),
             Err(refused) => Err(refused),
         }
@@ -122,7 +122,7 @@ impl<S: Alter + Drop> Desk<S> {
         ensures settled { IfOk result (λ desk. IsSettled S.Store desk) }
         ensures crash { IfErr result (λ e. SurvivesMoving S.Store conn e.1) }
     {
-        match desk_opening::open_risen(alloc, conn) {
+        match sql_open::open_risen(alloc, conn) {
             Ok((risen, _)) => Ok(Desk { conn: risen, alloc }),
             Err(refused) => Err(refused),
         }

@@ -1,14 +1,14 @@
 //! A call, made and kept.
 ghost use Rattle.std.specs.Prelude.{◌≡◌, false, IfOk, IsTrue, None, Ok, OnOk};
 ghost use Rattle.std.specs.Fn.{FnOnceReturnsAt};
-ghost use Rattle.any_office.specs.Homes.{made_by};
-ghost use Rattle.desk_opening.specs.Crashes.{LeavesItself};
-ghost use Rattle.desk_opening.specs.Opened.{OnDone};
-ghost use Rattle.desk_opening.specs.Whole.{LeavesWhole};
-ghost use Rattle.desk_schema.specs.Statements.{DeclaresNothing, WasOpen};
-ghost use Rattle.desk_store.specs.Joins.{AreAfter, IsAsItWas, Leaves};
-ghost use Rattle.desk_store.specs.Reads.{OfOffice, OfOfficeInside, WritesIfAny};
-ghost use Rattle.desk_records.specs.Standing.{Stands};
+ghost use Rattle.any_office.specs.StoredOffice.{made_by};
+ghost use Rattle.sql_open.specs.Crashes.{LeavesItself};
+ghost use Rattle.sql_open.specs.Opened.{OnDone};
+ghost use Rattle.sql_open.specs.WholeDesk.{LeavesWhole};
+ghost use Rattle.sql_schema.specs.Statements.{DeclaresNothing, WasOpen};
+ghost use Rattle.desk_store.specs.Joins.{AreAfter, IsAsItWas, LeavesDesk};
+ghost use Rattle.desk_store.specs.TableReads.{HoldsOfDesk, HoldsOfDeskInTransaction, WritesIfAny};
+ghost use Rattle.sql_model.specs.Standing.{Stands};
 ghost use Rattle.meeting_core.specs.Step.{decided, stepped};
 ghost use Rattle.sqlite.specs.Effect.{IsDatabase};
 ghost use Rattle.sqlite.specs.Held.{state};
@@ -17,10 +17,10 @@ ghost use Rattle.sqlite.specs.State.{IsUnchanged, KeepsCommit, Survives};
 use crate::deciding::decide;
 use crate::desk::Desk;
 use crate::reading::failure_of;
-use desk_changes::write;
-use desk_reading::ReadFault;
 use desk_words::{Answer, Call, Change, Failure, Reply};
 use meeting_core::laws::decided_changes_can_be_made;
+use sql_load_office::LoadError;
+use sql_write::write;
 use sqlite::{Alter, Error, Transaction};
 use std::alloc::{AllocError, Global};
 
@@ -45,22 +45,22 @@ fn step<S: Alter, T: Drop, F: FnOnce(&Reply) -> Result<T, AllocError>>(
     alloc: Global,
     call: &Call,
     show: F,
-) -> Result<T, ReadFault>
+) -> Result<T, LoadError>
     requires callable { F.IsAlwaysCallable show }
     ensures same_reference { tx.new.conn.ghost_name ≡ tx.old.conn.ghost_name }
-    ensures shown { OfOfficeInside S.Store tx.old.conn.now tx.new.conn.now (λ office. IfOk result
+    ensures shown { HoldsOfDeskInTransaction S.Store tx.old.conn.now tx.new.conn.now (λ office. IfOk result
         (λ t. FnOnceReturnsAt F.FnOnce show (decided office call.now).reply (Ok t)
         × Stands (state S.Store tx.new.conn.now) (stepped office call.now)
         × IsDatabase (state S.Store tx.new.conn.now).now)) }
-    ensures inside { OfOfficeInside S.Store tx.old.conn.now tx.new.conn.now
+    ensures inside { HoldsOfDeskInTransaction S.Store tx.old.conn.now tx.new.conn.now
         (λ _. OnOk result (IsTrue (state S.Store tx.new.conn.now).in_transaction)) }
-    ensures declares { OfOfficeInside S.Store tx.old.conn.now tx.new.conn.now
+    ensures declares { HoldsOfDeskInTransaction S.Store tx.old.conn.now tx.new.conn.now
         (λ _. OnOk result (DeclaresNothing (state S.Store tx.old.conn.now)
         (state S.Store tx.new.conn.now))) }
-    ensures kept { OfOffice S.Store tx.old.conn.now tx.new.conn.now
+    ensures kept { HoldsOfDesk S.Store tx.old.conn.now tx.new.conn.now
         (λ _. KeepsCommit (state S.Store tx.old.conn.now) (state S.Store tx.new.conn.now)) }
     ensures was_open { WasOpen (state S.Store tx.old.conn.now) (state S.Store tx.new.conn.now) }
-    ensures still { OfOffice S.Store tx.old.conn.now tx.new.conn.now (λ office.
+    ensures still { HoldsOfDesk S.Store tx.old.conn.now tx.new.conn.now (λ office.
         (decided office call.now).change ≡ None → OnOk result
         (IsUnchanged (state S.Store tx.old.conn.now) (state S.Store tx.new.conn.now))) }
     ensures crash { Survives (state S.Store tx.old.conn.now) (state S.Store tx.new.conn.now)
@@ -85,19 +85,19 @@ impl<S: Alter> Desk<S> {
         show: F,
     ) -> Result<T, Failure>
         requires callable { F.IsAlwaysCallable show }
-        ensures done { OfOffice S.Store self.old self.new (λ office. IfOk result
+        ensures done { HoldsOfDesk S.Store self.old self.new (λ office. IfOk result
             (λ t. FnOnceReturnsAt F.FnOnce show (decided office call).reply (Ok t)
             × Stands (state S.Store self.new) (stepped office call))) }
-        ensures declares { OfOffice S.Store self.old self.new (λ _. OnOk result
+        ensures declares { HoldsOfDesk S.Store self.old self.new (λ _. OnOk result
             (DeclaresNothing (state S.Store self.old) (state S.Store self.new))) }
-        ensures leaves { Leaves S.Store (made_by result call) self.old self.new }
+        ensures leaves { LeavesDesk S.Store (made_by result call) self.old self.new }
         ensures ended { self.new.in_transaction ≡ false }
         ensures stays_open { OnDone S.Store self.new result
             (IsTrue (state S.Store self.new).is_open) }
         ensures settled { OnDone S.Store self.new result (LeavesItself (state S.Store self.new)) }
-        ensures whole { OfOffice S.Store self.old self.new (λ office. OnOk result
+        ensures whole { HoldsOfDesk S.Store self.old self.new (λ office. OnOk result
             (LeavesWhole (state S.Store self.new) (stepped office call))) }
-        ensures still { OfOffice S.Store self.old self.new (λ office.
+        ensures still { HoldsOfDesk S.Store self.old self.new (λ office.
             (decided office call).change ≡ None → OnOk result
             (IsAsItWas (state S.Store self.old) (state S.Store self.new))) }
         ensures crash { Survives (state S.Store self.old) (state S.Store self.new)

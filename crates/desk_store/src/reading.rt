@@ -1,35 +1,35 @@
 //! What the tables tell, read within a transaction.
 ghost use Rattle.std.specs.Prelude.{◌≡◌};
-ghost use Rattle.desk_store.specs.Faults.{failure_of, fault_of_book};
-ghost use Rattle.desk_store.specs.Reads.{AreOwn, IsCallerWith, IsPublic, IsTold, IsBookOf};
+ghost use Rattle.desk_store.specs.StoreFailures.{failure_of_read, fault_of_book};
+ghost use Rattle.desk_store.specs.TableReads.{IsOwnView, IsCallerWith, IsPublic, HoldsOfTables, IsBookOf};
 
-use desk_reading::{ReadFault, read_office};
-use desk_rows::records;
-use desk_tables::keys;
 use desk_words::{Caller, Failure, KeyRow, MeetingId, Moment, Party, SecretKey};
 use meeting_core::{Book, BookFault};
-use party_reading::{KeptRecord, read_own, read_public};
 use party_views::OwnView;
+use sql_desk_tables::keys;
+use sql_load_office::{LoadError, read_office};
+use sql_load_party::{KeptRecord, read_own, read_public};
+use sql_rows::records;
 use sqlite::{Alter, Transaction};
 use std::alloc::Global;
 
 /// Why rows are not read where they are no office's, or memory runs out.
-pub(crate) fn fault_of_book(fault: BookFault) -> ReadFault
+pub(crate) fn fault_of_book(fault: BookFault) -> LoadError
     ensures { result ≡ fault_of_book fault }
 {
     match fault {
-        BookFault::NoOffice => ReadFault::NoOffice,
-        BookFault::Memory => ReadFault::Memory,
+        BookFault::NoOffice => LoadError::NoOffice,
+        BookFault::Memory => LoadError::Memory,
     }
 }
 
 /// How a call fails where its tables are not read or not written.
-pub(crate) fn failure_of(fault: ReadFault) -> Failure
-    ensures { result ≡ failure_of fault }
+pub(crate) fn failure_of(fault: LoadError) -> Failure
+    ensures { result ≡ failure_of_read fault }
 {
     match fault {
-        ReadFault::NoOffice | ReadFault::Store => Failure::Store,
-        ReadFault::Memory => Failure::Memory,
+        LoadError::NoOffice | LoadError::Store => Failure::Store,
+        LoadError::Memory => Failure::Memory,
     }
 }
 
@@ -37,9 +37,9 @@ pub(crate) fn failure_of(fault: ReadFault) -> Failure
 pub(crate) fn read_book<S: Alter>(
     tx: &mut Transaction<'_, S>,
     alloc: Global,
-) -> Result<Book, ReadFault>
+) -> Result<Book, LoadError>
     ensures same_reference { tx.new.conn.ghost_name ≡ tx.old.conn.ghost_name }
-    ensures tells { IsTold S.Store tx.old.conn.now tx.new.conn.now result IsBookOf }
+    ensures tells { HoldsOfTables S.Store tx.old.conn.now tx.new.conn.now result IsBookOf }
 {
     let lists = read_office(tx, alloc)?;
     Book::of_lists(alloc, lists).map_err(fault_of_book)
@@ -50,9 +50,9 @@ pub(crate) fn read_caller<S: Alter>(
     tx: &mut Transaction<'_, S>,
     alloc: Global,
     key: &SecretKey,
-) -> Result<Option<Caller>, ReadFault>
+) -> Result<Option<Caller>, LoadError>
     ensures same_reference { tx.new.conn.ghost_name ≡ tx.old.conn.ghost_name }
-    ensures tells { IsTold S.Store tx.old.conn.now tx.new.conn.now result
+    ensures tells { HoldsOfTables S.Store tx.old.conn.now tx.new.conn.now result
         (IsCallerWith key.now) }
 {
     let rows = keys::find(tx, key)?;
@@ -65,9 +65,9 @@ pub(crate) fn read_record<S: Alter>(
     tx: &mut Transaction<'_, S>,
     alloc: Global,
     meeting: MeetingId,
-) -> Result<KeptRecord, ReadFault>
+) -> Result<KeptRecord, LoadError>
     ensures same_reference { tx.new.conn.ghost_name ≡ tx.old.conn.ghost_name }
-    ensures tells { IsTold S.Store tx.old.conn.now tx.new.conn.now result (IsPublic meeting) }
+    ensures tells { HoldsOfTables S.Store tx.old.conn.now tx.new.conn.now result (IsPublic meeting) }
 {
     read_public(tx, alloc, meeting)
 }
@@ -79,10 +79,10 @@ pub(crate) fn read_things<S: Alter>(
     party: Party,
     meeting: MeetingId,
     now: Moment,
-) -> Result<OwnView, ReadFault>
+) -> Result<OwnView, LoadError>
     ensures same_reference { tx.new.conn.ghost_name ≡ tx.old.conn.ghost_name }
-    ensures tells { IsTold S.Store tx.old.conn.now tx.new.conn.now result
-        (AreOwn party meeting now) }
+    ensures tells { HoldsOfTables S.Store tx.old.conn.now tx.new.conn.now result
+        (IsOwnView party meeting now) }
 {
     read_own(tx, alloc, party, meeting, now)
 }

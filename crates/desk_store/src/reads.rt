@@ -2,12 +2,12 @@
 //! before, also where its store is shut, and after an answer the tables that are read, and nothing
 //! else.
 ghost use Rattle.std.specs.Prelude.{◌≡◌, false, IfOk, IsTrue, None};
-ghost use Rattle.desk_opening.specs.Crashes.{LeavesItself};
-ghost use Rattle.desk_opening.specs.Opened.{OnDone};
-ghost use Rattle.desk_store.specs.Joins.{IsDeskIfOpen, Leaves};
+ghost use Rattle.sql_open.specs.Crashes.{LeavesItself};
+ghost use Rattle.sql_open.specs.Opened.{OnDone};
+ghost use Rattle.desk_store.specs.Joins.{IsDeskIfOpen, LeavesDesk};
 ghost use Rattle.party_views.specs.Views.{own_of, public_of};
-ghost use Rattle.desk_store.specs.Reads.{OfOffice};
-ghost use Rattle.meeting_core.specs.Callers.{caller_with};
+ghost use Rattle.desk_store.specs.TableReads.{HoldsOfDesk};
+ghost use Rattle.meeting_core.specs.KeyHolders.{caller_with};
 ghost use Rattle.sqlite.specs.Held.{state};
 ghost use Rattle.sqlite.specs.State.{Survives};
 
@@ -15,16 +15,16 @@ use crate::desk::Desk;
 use crate::reading::{failure_of, read_book, read_caller, read_record, read_things};
 use desk_words::{Caller, Failure, MeetingId, Moment, Party, SecretKey};
 use meeting_core::Book;
-use party_reading::KeptRecord;
 use party_views::OwnView;
+use sql_load_party::KeptRecord;
 use sqlite::Alter;
 
 impl<S: Alter> Desk<S> {
     /// The caller whose key this is; none exactly where no key equals it.
     pub fn caller_of(&mut self, key: &SecretKey) -> Result<Option<Caller>, Failure>
-        ensures found { OfOffice S.Store self.old self.new
+        ensures found { HoldsOfDesk S.Store self.old self.new
             (λ office. IfOk result (λ caller. caller ≡ caller_with office.keys key.now)) }
-        ensures leaves { Leaves S.Store None self.old self.new }
+        ensures leaves { LeavesDesk S.Store None self.old self.new }
         ensures ended { self.new.in_transaction ≡ false }
         ensures stays_open { OnDone S.Store self.new result
             (IsTrue (state S.Store self.new).is_open) }
@@ -42,9 +42,9 @@ impl<S: Alter> Desk<S> {
 
     /// The office that the tables hold, in memory.
     pub fn book(&mut self) -> Result<Book, Failure>
-        ensures held { OfOffice S.Store self.old self.new
+        ensures held { HoldsOfDesk S.Store self.old self.new
             (λ office. IfOk result (λ book. book ≡ office)) }
-        ensures leaves { Leaves S.Store None self.old self.new }
+        ensures leaves { LeavesDesk S.Store None self.old self.new }
         ensures ended { self.new.in_transaction ≡ false }
         ensures stays_open { OnDone S.Store self.new result
             (IsTrue (state S.Store self.new).is_open) }
@@ -63,9 +63,9 @@ impl<S: Alter> Desk<S> {
     /// The public record of a meeting; where there is none of that name, the closed days alone. No
     /// other meeting is read.
     pub fn read_public(&mut self, meeting: MeetingId) -> Result<KeptRecord, Failure>
-        ensures held { OfOffice S.Store self.old self.new
+        ensures held { HoldsOfDesk S.Store self.old self.new
             (λ office. IfOk result (λ kept. kept ≡ public_of office meeting)) }
-        ensures leaves { Leaves S.Store None self.old self.new }
+        ensures leaves { LeavesDesk S.Store None self.old self.new }
         ensures ended { self.new.in_transaction ≡ false }
         ensures stays_open { OnDone S.Store self.new result
             (IsTrue (state S.Store self.new).is_open) }
@@ -90,9 +90,9 @@ impl<S: Alter> Desk<S> {
         meeting: MeetingId,
         now: Moment,
     ) -> Result<OwnView, Failure>
-        ensures held { OfOffice S.Store self.old self.new
+        ensures held { HoldsOfDesk S.Store self.old self.new
             (λ office. IfOk result (λ own. own ≡ own_of office party meeting now)) }
-        ensures leaves { Leaves S.Store None self.old self.new }
+        ensures leaves { LeavesDesk S.Store None self.old self.new }
         ensures ended { self.new.in_transaction ≡ false }
         ensures stays_open { OnDone S.Store self.new result
             (IsTrue (state S.Store self.new).is_open) }

@@ -5,14 +5,14 @@ use Rattle.std.specs.Cmp.{first_so, second_so}
 use Rattle.std.specs.Cmp.Derive.{both_true}
 use Rattle.std.specs.Cmp.Lexicographic.{nat_list_cmp_total, options_total}
 use Rattle.std.proofs.lemmas.List.Sorted.{length_permutation}
-use Rattle.desk_lists.specs.Ordered.{ascends_by, differ_by}
-use Rattle.desk_lists.specs.Sorting.{sort_by}
-use Rattle.desk_lists.proofs.Ascending.{differ_by_key-IsPermutation, differs-from_ascends_by}
-use Rattle.desk_lists.proofs.SortingLemmas.{sort_by-ascending}
+use Rattle.seq.specs.Ordered.{ascends_by, differ_by}
+use Rattle.seq.specs.Sorting.{sort_by}
+use Rattle.seq.proofs.Ascending.{differ_by_key-IsPermutation, differs-from_ascends_by}
+use Rattle.seq.proofs.SortingLemmas.{sort_by-ascending}
 use Rattle.desk_words.specs.Callers.{party_in}
 use Rattle.desk_words.specs.declared.limits.TheConstants.{MOST_KEYS}
 use Rattle.desk_words.specs.declared.caller.KeyRow.{KeyRow}
-use Rattle.desk_words.specs.Lists.{keep_keys, same_secret, same_caller, caller_before, are_keys, is_key_list, key_list_of}
+use Rattle.desk_words.specs.SortedLists.{keep_keys, same_secret, same_caller, caller_before, are_keys, is_key_list, key_list_of}
 
 -- the limits of keys do not depend on their order
 keep_keys-permutation : (xs ys : List KeyRow) → IsPermutation xs ys → keep_keys xs ≡ true → keep_keys ys ≡ true

@@ -1,6 +1,6 @@
-pub mod DayLemmas
 pub mod KeyLimits
 pub mod OfficeFacts
-pub mod PairLemmas
 pub mod RegisterLimits
-pub mod RowLemmas
+pub mod WordDayLemmas
+pub mod WordPairLemmas
+pub mod WordRowLemmas

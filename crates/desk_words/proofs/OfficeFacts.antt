@@ -5,10 +5,10 @@ use Rattle.std.specs.List.{list_all}
 use Rattle.std.specs.Cmp.{first_so, second_so}
 use Rattle.std.specs.Cmp.Derive.{both_true}
 use Rattle.desk_words.specs.Finding.{meeting_named}
-use Rattle.desk_terms.specs.Names.{same_name}
-use Rattle.desk_lists.specs.Ordered.{ascends_by, differ_by}
+use Rattle.vocabulary.specs.Names.{same_name}
+use Rattle.seq.specs.Ordered.{ascends_by, differ_by}
 use Rattle.desk_words.specs.Registers.{is_register, keep_limits, member_before}
-use Rattle.desk_words.specs.Lists.{is_key_list, is_day_list, are_resolutions}
+use Rattle.desk_words.specs.SortedLists.{is_key_list, is_day_list, are_resolutions}
 use Rattle.desk_words.specs.Office.{are_numbered_after, is_appointment, implies, no_rows, is_loaded_right, are_appointments, are_endings, are_authorities, are_presences, are_demands, are_polls, are_casts, is_meeting, same_meeting, are_meetings, is_office}
 use Rattle.desk_words.specs.Sessions.{are_sessions, is_opened}
 use Rattle.desk_words.specs.declared.office.OfficeLists.{OfficeLists}

@@ -5,7 +5,7 @@ use Rattle.std.specs.Cmp.{first_so, second_so}
 use Rattle.std.proofs.lemmas.List.Sorted.{length_permutation, All-permutation, sum_by-IsPermutation}
 use Rattle.std.proofs.lemmas.List.Sums.{list_all-from_AllPass}
 use Rattle.std.specs.Cmp.Derive.{both_true}
-use Rattle.desk_terms.specs.declared.range.TheConstants.{MOST_PLACES}
+use Rattle.vocabulary.specs.declared.range.TheConstants.{MOST_PLACES}
 use Rattle.desk_words.specs.declared.limits.TheConstants.{MOST_ROWS, MOST_SHARES}
 use Rattle.std.specs.List.{list_all, All}
 use Rattle.std.proofs.lemmas.Bool.Decides.{nat_tests}

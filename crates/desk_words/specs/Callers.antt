@@ -1,6 +1,6 @@
 -- Callers, and the order of callers.
 use Rattle.std.specs.Prelude.{ℕ, Bool, true, false, List, Option, Some, None, option_map, bytes_eq, if◌then◌else◌}
-use Rattle.desk_terms.specs.Names.{office_name, party_of, same_name}
+use Rattle.vocabulary.specs.Names.{office_name, party_of, same_name}
 use Rattle.desk_words.specs.declared.caller.Caller.{Caller}
 use Rattle.desk_words.specs.declared.caller.Caller.TheVariants.{Office, Party}
 

@@ -1,12 +1,12 @@
 -- The empty office, what a change leaves, and which changes an office can make.
 use Rattle.std.specs.Prelude.{Bool, true, false, ◌&&◌, ◌==◌, List, [], ◌∷◌, ◌++◌, Option, Some, None}
 use Rattle.std.specs.Prelude.{is_some}
-use Rattle.desk_lists.specs.Sorting.{insert_by}
-use Rattle.desk_lists.specs.Lists.{change_first}
-use Rattle.desk_terms.specs.Names.{same_name}
+use Rattle.seq.specs.Sorting.{insert_by}
+use Rattle.seq.specs.Edits.{change_first}
+use Rattle.vocabulary.specs.Names.{same_name}
 use Rattle.desk_words.specs.Finding.{meeting_named}
 use Rattle.desk_words.specs.Office.{is_office, poll_before}
-use Rattle.desk_words.specs.Seen.{MeetingName, Number}
+use Rattle.desk_words.specs.ViewTypes.{MeetingName, Number}
 use Rattle.desk_words.specs.Sessions.{adjourned_to, open_last}
 use Rattle.desk_words.specs.declared.change.Change.{Change}
 use Rattle.desk_words.specs.declared.change.Change.TheVariants.{AddMeeting, SetClosedDays, SetKeys, InMeeting}
@@ -51,10 +51,10 @@ entered (entry.Demand demand) m = record m { demands = m.demands ++ demand ∷ [
 entered (entry.Cast cast) m = record m { casts = m.casts ++ cast ∷ [] }
 
 -- a poll that has come further
-abbrev pub moved : PollChange → Poll → Poll
-moved (Started moment) p = record p { started = Some moment }
-moved (Closed moment) p = record p { closed = Some moment }
-moved (Declared tally) p = record p { declared = Some tally }
+abbrev pub advanced : PollChange → Poll → Poll
+advanced (Started moment) p = record p { started = Some moment }
+advanced (Closed moment) p = record p { closed = Some moment }
+advanced (Declared tally) p = record p { declared = Some tally }
 
 -- a meeting with the poll on a resolution changed
 abbrev pub change_poll : (Poll → Poll) → Number → MeetingLists → MeetingLists
@@ -71,7 +71,7 @@ changed (SetRegister rows) m = record m {
 changed (SetOpened moment) m = record m { meeting = open_last moment m.meeting }
 changed (AddSession moment) m = record m { meeting = adjourned_to moment m.meeting }
 changed (AddPoll poll) m = record m { polls = insert_by poll_before poll m.polls }
-changed (SetPoll resolution change) m = change_poll (moved change) resolution m
+changed (SetPoll resolution change) m = change_poll (advanced change) resolution m
 changed (Enter entry) m = entered entry m
 
 -- the meetings, with that of the name changed
@@ -84,18 +84,18 @@ abbrev pub change_meeting : (MeetingLists → MeetingLists) → MeetingName → 
 change_meeting f id office = record office { meetings = change_at f id office.meetings }
 
 -- the office after a change
-abbrev pub after : OfficeLists → Change → OfficeLists
-after office (AddMeeting meeting) = record office {
+abbrev pub applied : OfficeLists → Change → OfficeLists
+applied office (AddMeeting meeting) = record office {
   meetings = office.meetings ++ new_lists meeting ∷ [];
 }
-after office (SetClosedDays days) = record office { closed = days }
-after office (SetKeys rows) = record office { keys = rows }
-after office (InMeeting id change) = change_meeting (changed change) id office
+applied office (SetClosedDays days) = record office { closed = days }
+applied office (SetKeys rows) = record office { keys = rows }
+applied office (InMeeting id change) = change_meeting (changed change) id office
 
 -- the office after a change, if there is one
-abbrev pub after_some : OfficeLists → Option Change → OfficeLists
-after_some office None = office
-after_some office (Some change) = after office change
+abbrev pub applied_if_any : OfficeLists → Option Change → OfficeLists
+applied_if_any office None = office
+applied_if_any office (Some change) = applied office change
 
 -- the meeting in which something is changed stands
 abbrev pub is_placed : OfficeLists → Change → Bool
@@ -105,7 +105,7 @@ is_placed office other = true
 -- a change that an office can make: in a meeting that stands, and it leaves the lists of an office
 abbrev pub can_make : OfficeLists → Change → Bool
 can_make office change =
-    is_office office && is_placed office change && is_office (after office change)
+    is_office office && is_placed office change && is_office (applied office change)
 
 -- in a meeting, a change that sets fields, and adds nothing
 abbrev pub sets_in_meeting : MeetingChange → Bool

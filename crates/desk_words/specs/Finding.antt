@@ -1,7 +1,7 @@
 -- What stands in an office's lists.
 use Rattle.std.specs.Prelude.{◌==◌, List, Option, find}
-use Rattle.desk_terms.specs.Names.{same_name}
-use Rattle.desk_words.specs.Seen.{MeetingName, Number}
+use Rattle.vocabulary.specs.Names.{same_name}
+use Rattle.desk_words.specs.ViewTypes.{MeetingName, Number}
 use Rattle.desk_words.specs.declared.office.MeetingLists.{MeetingLists}
 use Rattle.desk_words.specs.declared.records.Poll.{Poll}
 

@@ -1,7 +1,7 @@
 -- The majority that carries a resolution.
 use Rattle.std.specs.Prelude.{ℕ, ◌+◌, ◌*◌, Bool, ◌&&◌, nat_lt, nat_le}
-use Rattle.desk_terms.specs.declared.kinds.ResKind.{ResKind}
-use Rattle.desk_terms.specs.declared.kinds.ResKind.TheVariants.{Ordinary, Special}
+use Rattle.vocabulary.specs.declared.kinds.ResKind.{ResKind}
+use Rattle.vocabulary.specs.declared.kinds.ResKind.TheVariants.{Ordinary, Special}
 use Rattle.desk_words.specs.declared.records.Tally.{Tally}
 use Rattle.desk_words.specs.declared.reply.Declaration.{Declaration}
 

@@ -1,9 +1,9 @@
 -- What makes lists an office.
 use Rattle.std.specs.Prelude.{ℕ, suc, ◌+◌, Bool, true, false, ◌&&◌, ◌||◌, ◌==◌, nat_le, nat_lt, List, [], ◌∷◌, ◌++◌, length, count_by, Option, Some, None, is_some, if◌then◌else◌}
 use Rattle.std.specs.List.{list_all, list_any}
-use Rattle.desk_terms.specs.Names.{same_name}
-use Rattle.desk_lists.specs.Ordered.{differ_by, ascends_by}
-use Rattle.desk_terms.specs.declared.range.TheConstants.{MOST_PLACES}
+use Rattle.vocabulary.specs.Names.{same_name}
+use Rattle.seq.specs.Ordered.{differ_by, ascends_by}
+use Rattle.vocabulary.specs.declared.range.TheConstants.{MOST_PLACES}
 use Rattle.desk_words.specs.declared.limits.TheConstants.{MOST_APPOINTMENTS, MOST_AUTHORITIES, MOST_CASTS, MOST_MEETINGS}
 use Rattle.desk_words.specs.declared.office.OfficeLists.{OfficeLists}
 use Rattle.desk_words.specs.declared.office.MeetingLists.{MeetingLists}
@@ -19,7 +19,7 @@ use Rattle.desk_words.specs.declared.records.Tally.{Tally}
 use Rattle.desk_words.specs.declared.records.CastMark.{CastMark}
 use Rattle.desk_words.specs.Registers.{is_register}
 use Rattle.desk_words.specs.Sessions.{are_sessions, is_opened, is_opened_session, is_session}
-use Rattle.desk_words.specs.Lists.{is_key_list, is_day_list, are_resolutions}
+use Rattle.desk_words.specs.SortedLists.{is_key_list, is_day_list, are_resolutions}
 
 -- where the first holds, the second does
 abbrev pub implies : Bool → Bool → Bool

@@ -1,10 +1,10 @@
 -- Registers.
 use Rattle.std.specs.Prelude.{ℕ, Bool, ◌&&◌, nat_le, List, length, sum_by, Option, Some, None, if◌then◌else◌}
 use Rattle.std.specs.List.{list_all}
-use Rattle.desk_terms.specs.Names.{name_cmp}
-use Rattle.desk_terms.specs.declared.range.TheConstants.{MOST_PLACES}
-use Rattle.desk_lists.specs.Ordered.{differ_by, ascends_by, same_key, key_before}
-use Rattle.desk_lists.specs.Sorting.{sort_by}
+use Rattle.vocabulary.specs.Names.{name_cmp}
+use Rattle.vocabulary.specs.declared.range.TheConstants.{MOST_PLACES}
+use Rattle.seq.specs.Ordered.{differ_by, ascends_by, same_key, key_before}
+use Rattle.seq.specs.Sorting.{sort_by}
 use Rattle.desk_words.specs.declared.records.RegisterRow.{RegisterRow}
 use Rattle.desk_words.specs.declared.limits.TheConstants.{MOST_PENCE, MOST_ROWS, MOST_SHARES}
 

@@ -1,10 +1,10 @@
 -- What decides a call: when it is refused, and what is answered else.
 use Rattle.std.specs.Prelude.{Bool, true, false, not, List, [], ◌∷◌, length, Option, Some, None, option_map, is_some, if◌then◌else◌}
-use Rattle.desk_terms.specs.Refusals.{Case, first_refusal}
-use Rattle.desk_terms.specs.declared.refusal.Refusal.{Refusal}
-use Rattle.desk_terms.specs.declared.refusal.Refusal.TheVariants.{NoMeeting, NoResolution}
+use Rattle.vocabulary.specs.Refusals.{Case, first_refusal}
+use Rattle.vocabulary.specs.declared.refusal.Refusal.{Refusal}
+use Rattle.vocabulary.specs.declared.refusal.Refusal.TheVariants.{NoMeeting, NoResolution}
 use Rattle.desk_words.specs.Office.{is_resolution}
-use Rattle.desk_words.specs.Seen.{Number}
+use Rattle.desk_words.specs.ViewTypes.{Number}
 use Rattle.desk_words.specs.declared.answer.Answer.{Answer}
 use Rattle.desk_words.specs.declared.records.Meeting.{Meeting}
 use Rattle.desk_words.specs.declared.reply.Reply.{Reply}
@@ -17,22 +17,22 @@ pub record Ruling (C : Type 0) : Type 0 where
   pub accepted : Answer C
 
 -- a reply that changes nothing
-abbrev pub replied : {C : Type 0} → Reply → Answer C
-replied r = record { reply = r; change = None }
+abbrev pub reply_unchanged : {C : Type 0} → Reply → Answer C
+reply_unchanged r = record { reply = r; change = None }
 
 -- a refusal, which changes nothing
 abbrev pub refused : {C : Type 0} → Refusal → Answer C
-refused r = replied (reply.Refused r)
+refused r = reply_unchanged (reply.Refused r)
 
 -- a refusal, or else what is accepted
-abbrev pub unless : {C : Type 0} → Option Refusal → Answer C → Answer C
-unless (Some r) accepted = refused r
-unless None accepted = accepted
+abbrev pub refused_or : {C : Type 0} → Option Refusal → Answer C → Answer C
+refused_or (Some r) accepted = refused r
+refused_or None accepted = accepted
 
 -- the answer: the first refusal whose condition holds, which is the lowest, or else what is
 -- accepted
-abbrev pub settled : {C : Type 0} → Ruling C → Answer C
-settled ruling = unless (first_refusal ruling.cases) ruling.accepted
+abbrev pub ruled_answer : {C : Type 0} → Ruling C → Answer C
+ruled_answer ruling = refused_or (first_refusal ruling.cases) ruling.accepted
 
 -- a condition holds
 abbrev pub refuses : {C : Type 0} → Ruling C → Bool
@@ -48,8 +48,8 @@ abbrev pub is_refused : {C : Type 0} → Answer C → Bool
 is_refused answer = is_some (refusal_in answer.reply)
 
 -- nothing refuses it, and nothing is changed
-abbrev pub told : {C : Type 0} → Reply → Ruling C
-told r = record { cases = []; accepted = replied r }
+abbrev pub reply_only : {C : Type 0} → Reply → Ruling C
+reply_only r = record { cases = []; accepted = reply_unchanged r }
 
 -- a change that is noted: it is made unless it stands already, and nothing is said of which
 abbrev pub noted : {C : Type 0} → Bool → C → Answer C
@@ -57,7 +57,7 @@ noted stands change = record { reply = reply.Noted; change = if stands then None
 
 -- what is loaded: Same where it is what is held, else Loaded
 abbrev pub loaded : {C : Type 0} → Bool → C → Answer C
-loaded true change = replied reply.Same
+loaded true change = reply_unchanged reply.Same
 loaded false change = record { reply = reply.Loaded; change = Some change }
 
 -- one condition more, asked before the others
@@ -81,12 +81,12 @@ no_resolution meeting number = record {
 }
 
 -- an answer whose change is made in something larger, as a meeting's in the office
-abbrev pub within : {C D : Type 0} → (C → D) → Answer C → Answer D
-within larger answer = record { reply = answer.reply; change = option_map larger answer.change }
+abbrev pub map_change : {C D : Type 0} → (C → D) → Answer C → Answer D
+map_change larger answer = record { reply = answer.reply; change = option_map larger answer.change }
 
 -- a ruling whose change is made in something larger
-abbrev pub ruled_within : {C D : Type 0} → (C → D) → Ruling C → Ruling D
-ruled_within larger ruling = record {
+abbrev pub map_ruling_change : {C D : Type 0} → (C → D) → Ruling C → Ruling D
+map_ruling_change larger ruling = record {
   cases = ruling.cases;
-  accepted = within larger ruling.accepted;
+  accepted = map_change larger ruling.accepted;
 }

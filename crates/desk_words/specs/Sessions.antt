@@ -1,7 +1,7 @@
 -- The sessions of a meeting (sections 327 and 330 speak of an adjourned meeting).
 use Rattle.std.specs.Prelude.{zero, suc, Bool, false, ◌&&◌, nat_le, List, [], ◌∷◌, ◌++◌, length, take, ◌-◌, slice_get, slice_set, Option, Some, None, is_some, unwrap_or}
 use Rattle.std.specs.List.{list_all}
-use Rattle.desk_words.specs.Seen.{Moment, SessionNumber}
+use Rattle.desk_words.specs.ViewTypes.{Moment, SessionNumber}
 use Rattle.desk_words.specs.declared.limits.TheConstants.{MOST_SESSIONS}
 use Rattle.desk_words.specs.declared.records.Meeting.{Meeting}
 use Rattle.desk_words.specs.declared.records.Session.{Session}

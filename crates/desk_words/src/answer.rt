@@ -1,9 +1,9 @@
 //! Answers.
 ghost use Rattle.std.specs.Prelude.{◌≡◌};
-ghost use Rattle.desk_words.specs.Rulings.{noted, refused, replied};
+ghost use Rattle.desk_words.specs.Rulings.{noted, refused, reply_unchanged};
 
 use crate::reply::Reply;
-use desk_terms::Refusal;
+use vocabulary::Refusal;
 
 /// A reply, and at most one change.
 #[derive(Drop)]
@@ -14,7 +14,7 @@ pub struct Answer<C> {
 
 /// The answer that tells something, and changes nothing.
 pub fn tell<C>(reply: Reply) -> Answer<C>
-    ensures { result ≡ replied reply }
+    ensures { result ≡ reply_unchanged reply }
 {
     Answer {
         reply,

@@ -1,10 +1,10 @@
 //! Callers, and the keys by which they are known.
 ghost use Rattle.std.specs.Prelude.{◌≡◌};
 ghost use Rattle.desk_words.specs.Callers.{caller_of, is_caller, party_in};
-ghost use Rattle.desk_words.specs.Keys.{same_key_row};
+ghost use Rattle.desk_words.specs.KeyRows.{same_key_row};
 
-use desk_lists::Keyed;
-use desk_terms::{Party, SecretKey, read_party};
+use seq::Keyed;
+use vocabulary::{Party, SecretKey, read_party};
 
 /// Who calls: the office, or a party.
 #[derive(Clone, Copy, PartialEq, Eq)]

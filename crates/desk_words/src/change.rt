@@ -4,8 +4,8 @@ use crate::records::{
     Appointment, Authority, CastMark, DemandMark, Ending, Meeting, Poll, PresenceMark, Tally,
 };
 use crate::register::Register;
-use desk_calendar::Moment;
-use desk_terms::MeetingId;
+use calendar::Moment;
+use vocabulary::MeetingId;
 
 /// What is entered into a meeting's lists in order of receipt. None of it is public.
 #[derive(Drop)]

@@ -6,7 +6,7 @@ ghost use Rattle.desk_words.specs.Office.{is_resolution};
 
 use crate::office::MeetingLists;
 use crate::records::{Meeting, Poll};
-use desk_terms::MeetingId;
+use vocabulary::MeetingId;
 
 /// The lists of a meeting, or none where there is no meeting of that name.
 pub fn find_meeting(meetings: &[MeetingLists], id: MeetingId) -> Option<&MeetingLists>

@@ -1,6 +1,6 @@
 //! Laws of the words.
-ghost use Rattle.desk_words.specs.Laws.{SameRowsAreEqual};
-ghost use Rattle.desk_words.specs.Limits.{HoursAre, LimitsAre};
+ghost use Rattle.desk_words.specs.RowEquality.{SameRowsAreEqual};
+ghost use Rattle.desk_words.specs.OfficeLimits.{HoursAre, OfficeLimitsAre};
 
 /// Two lists of rows are the same, field by field, exactly where they are equal: no field of a row
 /// is left out.
@@ -10,7 +10,7 @@ pub fn same_rows_are_equal()
 
 /// Definitions cite each limit by its constant; these are its numbers.
 pub fn limits_are()
-    ensures { LimitsAre }
+    ensures { OfficeLimitsAre }
 {}
 
 /// The hours of working time by which cutoffs and late polls go (sections 327 and 330).

@@ -18,17 +18,12 @@ mod request;
 mod sessions;
 
 pub use answer::{Answer, noted, refuse, tell};
+pub use byte_io::{FailAt, Sink, Source};
+pub use calendar::{Day, Moment, read_day, read_moment, write_day, write_moment};
 pub use caller::{Caller, KeyRow, read_caller};
 pub use change::{Change, Entry, MeetingChange, PollChange};
-pub use desk_calendar::{Day, Moment, read_day, read_moment, write_day, write_moment};
-pub use desk_devices::{FailAt, Sink, Source};
-pub use desk_filed::Filed;
-pub use desk_lists::Listing;
-pub use desk_terms::{
-    Capacity, Company, HolderKind, Instr, MOST_PLACES, MeetingId, MeetingKind, Party, Range,
-    Refusal, ResKind, SecretKey, Text, TextFault, Way, read_key, read_meeting, read_party,
-};
 pub use finding::{find_meeting, find_poll};
+pub use keyed_seq::Filed;
 pub use lists::{DayList, KeyRows, ListFault, Resolutions, same_keys};
 pub use majority::{carried, result_of};
 pub use office::{MeetingLists, OfficeLists};
@@ -45,4 +40,9 @@ pub use reply::{
 pub use request::{
     Call, DeskRequest, NewAppointment, NewCast, NewMeeting, NewPoll, NewRegister, OfficeRequest,
     PartyRequest, Request,
+};
+pub use seq::Listing;
+pub use vocabulary::{
+    Capacity, Company, HolderKind, Instr, MOST_PLACES, MeetingId, MeetingKind, Party, Range,
+    Refusal, ResKind, SecretKey, Text, TextFault, Way, read_key, read_meeting, read_party,
 };

@@ -1,16 +1,16 @@
 //! The lists of resolutions, keys and closed days.
 ghost use Rattle.std.specs.Prelude.{◌≡◌, ◌<◌, ◌↔◌, ℕ, IfOk, Err, Some, None, IsTrue, false, [], Contains, IsPermutation};
-ghost use Rattle.desk_lists.specs.Ordered.{differ_by};
+ghost use Rattle.seq.specs.Ordered.{differ_by};
 ghost use Rattle.std.specs.List.{list_all, zip};
-ghost use Rattle.desk_words.specs.Keys.{same_key_row, same_keys};
-ghost use Rattle.desk_words.specs.Lists.{same_secret};
+ghost use Rattle.desk_words.specs.KeyRows.{same_key_row, same_keys};
+ghost use Rattle.desk_words.specs.SortedLists.{same_secret};
 ghost use Rattle.desk_words.specs.declared.lists.ListFault.TheVariants.{Limit, Memory};
 
 use crate::caller::KeyRow;
 use crate::limits::{MOST_CLOSED_DAYS, MOST_KEYS, MOST_RESOLUTIONS};
 use crate::records::Resolution;
-use desk_calendar::Day;
-use desk_lists::{ascend, in_order_once, into_order};
+use calendar::Day;
+use seq::{ascend, in_order_once, into_order};
 use std::alloc::{AllocError, Global};
 use std::marker::Model;
 
@@ -36,7 +36,7 @@ impl Model for Resolutions {
 
     ghost Value = { List Resolution };
 
-    ghost use Rattle.desk_words.specs.Lists.{are_resolutions};
+    ghost use Rattle.desk_words.specs.SortedLists.{are_resolutions};
 
     ghost view = { λ a. a.resolutions.items };
 
@@ -44,7 +44,7 @@ impl Model for Resolutions {
 }
 
 impl Resolutions {
-    ghost use Rattle.desk_words.specs.Lists.{are_resolutions};
+    ghost use Rattle.desk_words.specs.SortedLists.{are_resolutions};
 
     /// The list of these resolutions. The fault is `Limit` exactly where they are not
     /// 1 to `MOST_RESOLUTIONS`.
@@ -91,7 +91,7 @@ impl Model for KeyRows {
 
     ghost Value = { List KeyRow };
 
-    ghost use Rattle.desk_words.specs.Lists.{is_key_list};
+    ghost use Rattle.desk_words.specs.SortedLists.{is_key_list};
 
     ghost view = { λ a. a.rows.items };
 
@@ -110,7 +110,7 @@ impl Model for DayList {
 
     ghost Value = { List ℕ };
 
-    ghost use Rattle.desk_words.specs.Lists.{is_day_list};
+    ghost use Rattle.desk_words.specs.SortedLists.{is_day_list};
 
     ghost view = { λ a. a.days.items };
 
@@ -118,7 +118,7 @@ impl Model for DayList {
 }
 
 impl DayList {
-    ghost use Rattle.desk_words.specs.Lists.{is_day_list, day_count, day_list_of};
+    ghost use Rattle.desk_words.specs.SortedLists.{is_day_list, day_count, day_list_of};
 
     /// The days, in order, each once. The fault is `Limit` exactly where there are more than
     /// `MOST_CLOSED_DAYS` different days.
@@ -173,7 +173,7 @@ fn secrets_differ(rows: &mut Vec<KeyRow>) -> bool
 }
 
 impl KeyRows {
-    ghost use Rattle.desk_words.specs.Lists.{is_key_list, key_list_of};
+    ghost use Rattle.desk_words.specs.SortedLists.{is_key_list, key_list_of};
 
     /// The list of these keys. The fault is `Limit` exactly where there are more than
     /// `MOST_KEYS`, or a caller or a key stands twice. It takes no memory.

@@ -4,7 +4,7 @@ ghost use Rattle.desk_words.specs.Majority.{is_carried, result_of};
 
 use crate::records::Tally;
 use crate::reply::Declaration;
-use desk_terms::ResKind;
+use vocabulary::ResKind;
 
 /// Whether a resolution of this kind is carried by so many votes for and against it, in shares: an
 /// ordinary one by a simple majority (section 282), a special one by not less than 75 per cent of

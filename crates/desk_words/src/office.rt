@@ -3,8 +3,8 @@ use crate::lists::{DayList, KeyRows};
 use crate::records::{
     Appointment, Authority, CastMark, DemandMark, Ending, Meeting, Poll, PresenceMark, RegisterRow,
 };
-use desk_filed::Filed;
-use desk_lists::Listing;
+use keyed_seq::Filed;
+use seq::Listing;
 
 /// A meeting and its lists: the register in the order of members, the polls in the order of
 /// resolutions, and the others in order of receipt, filed by the parties that each record names.

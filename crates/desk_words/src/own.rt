@@ -1,8 +1,8 @@
 //! What a party may know of appointments and authorities.
 use crate::records::Appointment;
-use desk_calendar::Moment;
-use desk_lists::Listing;
-use desk_terms::{Instr, Party, Range};
+use calendar::Moment;
+use seq::Listing;
+use vocabulary::{Instr, Party, Range};
 
 /// An appointment that a party gave, with the moment of its ending if it is ended.
 #[derive(Clone, Drop)]

@@ -1,13 +1,13 @@
 //! The records of an office. Moments are seconds of the office's wall clock, shares are counts,
 //! and what is paid up is in pence on each share.
 ghost use Rattle.std.specs.Prelude.{◌≡◌, Some, None};
-ghost use Rattle.desk_words.specs.Rows.{same_row};
+ghost use Rattle.desk_words.specs.SameRows.{same_row};
 
 use crate::lists::Resolutions;
-use desk_calendar::{Day, Moment};
-use desk_filed::FiledBy;
-use desk_lists::{Keyed, Listing};
-use desk_terms::{
+use calendar::{Day, Moment};
+use keyed_seq::FiledBy;
+use seq::{Keyed, Listing};
+use vocabulary::{
     Capacity, Company, HolderKind, Instr, MeetingId, MeetingKind, Party, Range, ResKind, Text, Way,
 };
 

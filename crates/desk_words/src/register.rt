@@ -1,16 +1,16 @@
 //! Registers of members.
 ghost use Rattle.std.specs.Prelude.{◌≡◌, ◌≤◌, ◌↔◌, IfOk, Err, Some, None, IsTrue, length, IsPermutation};
 ghost use Rattle.std.specs.List.{list_all, zip};
-ghost use Rattle.desk_words.specs.Rows.{same_row, same_rows};
+ghost use Rattle.desk_words.specs.SameRows.{same_row, same_rows};
 ghost use Rattle.desk_words.specs.declared.lists.ListFault.TheVariants.{Limit, Memory};
 
 use crate::limits::{MOST_PENCE, MOST_ROWS, MOST_SHARES};
 use crate::lists::ListFault;
 use crate::records::RegisterRow;
-use desk_lists::{Listing, ascend, into_order};
-use desk_terms::MOST_PLACES;
+use seq::{Listing, ascend, into_order};
 use std::alloc::AllocError;
 use std::marker::Model;
+use vocabulary::MOST_PLACES;
 
 /// The rows of a register of members (section 113), in the order of members: 1 to `MOST_ROWS` rows
 /// of different members, each of 1 to `MOST_PLACES` shares with at most `MOST_PENCE` paid up, and

@@ -1,9 +1,9 @@
 //! Replies.
 use crate::own::{Authorised, Given, Received};
 use crate::records::{Authority, CastMark, DemandMark, RegisterRow, Tally};
-use desk_calendar::{Day, Moment};
-use desk_lists::Listing;
-use desk_terms::{Company, MeetingId, MeetingKind, Refusal, ResKind, Text};
+use calendar::{Day, Moment};
+use seq::Listing;
+use vocabulary::{Company, MeetingId, MeetingKind, Refusal, ResKind, Text};
 
 /// What an appointment counts for, by the cutoff of the last session as it stands (section 327).
 #[derive(Clone, Copy, PartialEq, Eq)]

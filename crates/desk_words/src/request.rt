@@ -2,9 +2,9 @@
 use crate::caller::Caller;
 use crate::lists::{DayList, KeyRows, Resolutions};
 use crate::register::Register;
-use desk_calendar::{Day, Moment};
-use desk_lists::Listing;
-use desk_terms::{Capacity, Company, Instr, MeetingId, MeetingKind, Party, Way};
+use calendar::{Day, Moment};
+use seq::Listing;
+use vocabulary::{Capacity, Company, Instr, MeetingId, MeetingKind, Party, Way};
 
 /// A meeting that is to be called (sections 302 and 307).
 #[derive(Drop)]

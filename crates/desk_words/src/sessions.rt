@@ -7,7 +7,7 @@ ghost use Rattle.desk_words.specs.Sessions.{last_session, open_last, session_at,
 
 use crate::limits::MOST_SESSIONS;
 use crate::records::{Meeting, Session};
-use desk_calendar::Moment;
+use calendar::Moment;
 use std::alloc::AllocError;
 
 impl Session {

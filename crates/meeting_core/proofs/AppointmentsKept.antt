@@ -9,19 +9,19 @@ use Rattle.std.proofs.lemmas.Bool.Decides.{nat_tests}
 use Rattle.std.proofs.lemmas.List.{append-nil, length-map, reverse-append}
 use Rattle.std.proofs.lemmas.List.Sums.{length-filter}
 use Rattle.std.proofs.lemmas.List.Folds.{list_all-append, list_any-append}
-use Rattle.desk_lists.proofs.Booleans.{neither_first, neither_second}
-use Rattle.desk_lists.proofs.Kept.{any-filter, none-found}
+use Rattle.seq.proofs.Booleans.{neither_first, neither_second}
+use Rattle.seq.proofs.Kept.{any-filter, none-found}
 use Rattle.std.proofs.Math.Bool.{or-false}
-use Rattle.desk_lists.proofs.Differing.{all_weaker, differ_snoc}
-use Rattle.desk_lists.specs.Ordered.{differ_by}
+use Rattle.seq.proofs.Differing.{all_weaker, differ_snoc}
+use Rattle.seq.specs.Ordered.{differ_by}
 use Rattle.desk_words.specs.Names.{same_name}
 use Rattle.desk_words.specs.Office.{are_appointments, are_endings, are_numbered_after, is_appointment, is_ending_of, is_meeting, same_ending}
 use Rattle.desk_words.specs.declared.change.Entry.TheVariants as entry
 use Rattle.desk_words.specs.declared.office.MeetingLists.{MeetingLists}
 use Rattle.desk_words.specs.declared.records.Appointment.{Appointment}
 use Rattle.desk_words.specs.declared.records.Ending.{Ending}
-use Rattle.caller_view.specs.Appointments.{given_numbered, is_given_ended}
-use Rattle.party_views.specs.Own.{ended_at, given_in}
+use Rattle.caller_view.specs.AppointmentRulings.{given_numbered, is_given_ended}
+use Rattle.party_views.specs.OwnViews.{ended_at, given_in}
 use Rattle.proxy_rules.specs.Holdings.{is_ended_of}
 use Rattle.desk_words.proofs.OfficeFacts.{meeting_facts, meeting_from_facts}
 use Rattle.desk_words.specs.Changes.{entered}

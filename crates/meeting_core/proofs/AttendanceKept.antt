@@ -7,11 +7,11 @@ use Rattle.std.specs.Cmp.Derive.{both_true}
 use Rattle.std.proofs.lemmas.Bool.Decides.{nat_tests}
 use Rattle.std.proofs.lemmas.List.Sums.{length-filter}
 use Rattle.std.proofs.lemmas.List.Folds.{list_all-append}
-use Rattle.desk_lists.proofs.Kept.{any-filter}
+use Rattle.seq.proofs.Kept.{any-filter}
 use Rattle.std.proofs.Math.Bool.{and_comm}
-use Rattle.desk_lists.proofs.Differing.{all_weaker, count_snoc, differ_snoc}
-use Rattle.desk_lists.specs.Ordered.{differ_by}
-use Rattle.desk_words.proofs.RowLemmas.{same_name-true}
+use Rattle.seq.proofs.Differing.{all_weaker, count_snoc, differ_snoc}
+use Rattle.seq.specs.Ordered.{differ_by}
+use Rattle.desk_words.proofs.WordRowLemmas.{same_name-true}
 use Rattle.desk_words.specs.Names.{same_name}
 use Rattle.desk_words.specs.Office.{are_authorities, are_demands, are_presences, is_demand, is_meeting, same_authority, same_demand, same_presence}
 use Rattle.desk_words.specs.Sessions.{is_session}

@@ -1,7 +1,7 @@
 pub mod AppointmentsKept
 pub mod AttendanceKept
-pub mod EntryLemmas
-pub mod FoundLemmas
+pub mod CoreEntryLemmas
+pub mod CoreFoundLemmas
 pub mod MeetingKept
 pub mod OfficeKept
 pub mod Placed

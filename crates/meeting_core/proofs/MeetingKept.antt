@@ -9,11 +9,11 @@ use Rattle.std.proofs.lemmas.Bool.Decides.{nat_tests}
 use Rattle.std.proofs.lemmas.List.{length-set}
 use Rattle.std.proofs.lemmas.List.Folds.{list_all-append}
 use Rattle.std.proofs.lemmas.Option.{slice_get-get_or}
-use Rattle.desk_lists.proofs.Kept.{found-any, found-passes}
-use Rattle.desk_lists.proofs.Ascending.{ascends_by-change_first}
-use Rattle.desk_lists.proofs.Differing.{all_changed_found, all_weaker, any_kept, count_filter, count_snoc}
-use Rattle.desk_lists.proofs.Inserting.{all-insert, any-insert, ascends-insert}
-use Rattle.desk_words.proofs.RowLemmas.{same_name-true}
+use Rattle.seq.proofs.Kept.{found-any, found-passes}
+use Rattle.seq.proofs.Ascending.{ascends_by-change_first}
+use Rattle.seq.proofs.Differing.{all_changed_found, all_weaker, any_kept, count_filter, count_snoc}
+use Rattle.seq.proofs.Inserting.{all-insert, any-insert, ascends-insert}
+use Rattle.desk_words.proofs.WordRowLemmas.{same_name-true}
 use Rattle.desk_words.specs.Names.{same_name}
 use Rattle.desk_words.specs.Ordered.{ascends_by, differ_by}
 use Rattle.desk_words.specs.Registers.{is_register}
@@ -31,11 +31,11 @@ use Rattle.desk_words.specs.declared.records.Session.{Session}
 use Rattle.desk_words.specs.declared.records.Poll.{Poll}
 use Rattle.desk_words.specs.declared.records.Tally.{Tally}
 use Rattle.desk_words.specs.Finding.{poll_on}
-use Rattle.caller_view.specs.Casts.{cast_count}
+use Rattle.caller_view.specs.CastRulings.{cast_count}
 use Rattle.desk_words.proofs.OfficeFacts.{meeting_facts, meeting_from_facts, find-passes}
 use Rattle.desk_words.specs.declared.change.MeetingChange.TheVariants.{SetRegister, SetOpened, AddSession, AddPoll, SetPoll}
 use Rattle.desk_words.specs.declared.change.PollChange.TheVariants.{Started, Closed, Declared}
-use Rattle.desk_words.specs.Changes.{changed, change_poll, entered, moved}
+use Rattle.desk_words.specs.Changes.{changed, change_poll, entered, advanced}
 
 pub implies_true : (b : Bool) → implies b true ≡ true
 implies_true true = refl
@@ -307,21 +307,21 @@ poll_found m r p h found =
 pub start_kept : (moment r : ℕ) (m : MeetingLists) (p : Poll) → is_meeting m ≡ true → poll_on m.polls r ≡ Some p → is_meeting (changed (SetPoll r (Started moment)) m) ≡ true
 start_kept moment r m p h found =
     let f = poll_facts m.meeting p (poll_found m r p h found) in
-    changed_kept (moved (Started moment)) r m p (λ q. refl) (λ q k. refl) h found (both_true (both_true (both_true (both_true f.session f.number) (implies_true (is_some p.closed))) f.declared) f.tally)
+    changed_kept (advanced (Started moment)) r m p (λ q. refl) (λ q k. refl) h found (both_true (both_true (both_true (both_true f.session f.number) (implies_true (is_some p.closed))) f.declared) f.tally)
 
 -- a started poll may be closed
 pub close_kept : (moment r : ℕ) (m : MeetingLists) (p : Poll) → is_meeting m ≡ true → poll_on m.polls r ≡ Some p → is_some p.started ≡ true
     → is_meeting (changed (SetPoll r (Closed moment)) m) ≡ true
 close_kept moment r m p h found started =
     let f = poll_facts m.meeting p (poll_found m r p h found) in
-    changed_kept (moved (Closed moment)) r m p (λ q. refl) (λ q k. k) h found (both_true (both_true (both_true (both_true f.session f.number) started) (implies_true (is_some p.declared))) f.tally)
+    changed_kept (advanced (Closed moment)) r m p (λ q. refl) (λ q k. k) h found (both_true (both_true (both_true (both_true f.session f.number) started) (implies_true (is_some p.declared))) f.tally)
 
 -- of a closed poll a count may be declared
 pub declare_kept : (tally : Tally) (r : ℕ) (m : MeetingLists) (p : Poll) → is_meeting m ≡ true → poll_on m.polls r ≡ Some p → is_some p.closed ≡ true
     → is_tally tally ≡ true → is_meeting (changed (SetPoll r (Declared tally)) m) ≡ true
 declare_kept tally r m p h found closed good =
     let f = poll_facts m.meeting p (poll_found m r p h found) in
-    changed_kept (moved (Declared tally)) r m p (λ q. refl) (λ q k. k) h found (both_true (both_true (both_true (both_true f.session f.number) f.closed) closed) good)
+    changed_kept (advanced (Declared tally)) r m p (λ q. refl) (λ q k. k) h found (both_true (both_true (both_true (both_true f.session f.number) f.closed) closed) good)
 
 -- ---- votes
 

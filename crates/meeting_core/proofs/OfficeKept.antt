@@ -4,19 +4,19 @@ use Rattle.std.specs.Prelude.{Option, Some, None, filter, option_map, is_some, i
 use Rattle.std.specs.Cmp.Derive.{both_true}
 use Rattle.std.proofs.lemmas.Bool.Decides.{nat_tests}
 use Rattle.std.proofs.lemmas.List.Folds.{list_all-append}
-use Rattle.desk_lists.proofs.Kept.{none-found}
+use Rattle.seq.proofs.Kept.{none-found}
 use Rattle.std.proofs.lemmas.Bool.{not-false}
-use Rattle.desk_lists.proofs.Differing.{differ_snoc, differ_changed, all_changed_found, length-change_first}
+use Rattle.seq.proofs.Differing.{differ_snoc, differ_changed, all_changed_found, length-change_first}
 use Rattle.desk_words.specs.Finding.{meeting_named, poll_on}
 use Rattle.desk_words.specs.Names.{same_name}
-use Rattle.desk_words.specs.Keys.{same_keys}
-use Rattle.desk_words.specs.Lists.{are_resolutions}
+use Rattle.desk_words.specs.KeyRows.{same_keys}
+use Rattle.desk_words.specs.SortedLists.{are_resolutions}
 use Rattle.desk_words.specs.Office.{is_resolution, is_meeting, is_poll, same_meeting, is_office}
-use Rattle.desk_words.specs.Polls.{there_is, is_waiting, is_unclosed}
+use Rattle.desk_words.specs.PollStates.{there_is, is_waiting, is_unclosed}
 use Rattle.desk_words.specs.Refusals.{first_refusal}
-use Rattle.desk_words.specs.Rows.{same_rows}
+use Rattle.desk_words.specs.SameRows.{same_rows}
 use Rattle.desk_words.specs.Sessions.{is_opened, last_number, last_later, last_session, open_there}
-use Rattle.desk_words.specs.Rulings.{Ruling, in_found, loaded, noted, ruled_within, settled}
+use Rattle.desk_words.specs.Rulings.{Ruling, in_found, loaded, noted, map_ruling_change, ruled_answer}
 use Rattle.desk_words.specs.declared.caller.Caller.{Caller}
 use Rattle.desk_words.specs.declared.caller.Caller.TheVariants as caller
 use Rattle.desk_words.specs.declared.caller.KeyRow.{KeyRow}
@@ -42,21 +42,21 @@ use Rattle.desk_words.specs.declared.request.PartyRequest.{PartyRequest}
 use Rattle.desk_words.specs.declared.request.PartyRequest.TheVariants as party
 use Rattle.desk_words.specs.declared.request.Request.{Request}
 use Rattle.desk_words.specs.declared.request.Request.TheVariants as asked
-use Rattle.desk_terms.specs.declared.refusal.Refusal.TheVariants.{Exists, TooMany, NoRegister, NotOpened, PollOrdered, NoPoll, NoResolution, PollNotOpen, NotClosed, BadInstructions, NoSuchNumber, AlreadyEnded}
-use Rattle.caller_view.specs.Answers.{party_ruling, ruling_for}
-use Rattle.caller_view.specs.Appointments.{appoint_cases, appointment_of, end_cases, ending_of}
-use Rattle.caller_view.specs.Attendance.{authorise_cases, authority_of, demand_cases, demand_mark, gave_authority, is_present, own_demanded, presence_of}
-use Rattle.caller_view.specs.Casts.{block_of, cast_cases, cast_of, instructed_cases}
+use Rattle.vocabulary.specs.declared.refusal.Refusal.TheVariants.{Exists, TooMany, NoRegister, NotOpened, PollOrdered, NoPoll, NoResolution, PollNotOpen, NotClosed, BadInstructions, NoSuchNumber, AlreadyEnded}
+use Rattle.caller_view.specs.PartyRulings.{party_ruling, ruling_for}
+use Rattle.caller_view.specs.AppointmentRulings.{appoint_cases, appointment_of, end_cases, ending_of}
+use Rattle.caller_view.specs.AttendanceRulings.{authorise_cases, authority_of, demand_cases, demand_mark, gave_authority, is_present, own_demanded, presence_of}
+use Rattle.caller_view.specs.CastRulings.{block_of, cast_cases, cast_of, instructed_cases}
 use Rattle.party_views.specs.Views.{meeting_at, own_in, own_in_some, public_in}
 use Rattle.proxy_rules.specs.Holdings.{is_ended_of}
-use Rattle.office_answers.specs.Answers.{desk_ruling, ruling_on}
-use Rattle.office_answers.specs.Attendance.{is_marked}
-use Rattle.office_answers.specs.Calls.{call_cases, call_ruling, new_meeting_of}
-use Rattle.office_answers.specs.Limits.{if_any, is_within_limits, keeps_limits}
-use Rattle.office_answers.specs.Lists.{same_days}
-use Rattle.office_answers.specs.Polls.{open_cases, adjourn_cases, order_cases, poll_of, start_cases, close_cases, declare_cases, declaration_of}
+use Rattle.office_decisions.specs.OfficeRulings.{desk_ruling, ruling_on}
+use Rattle.office_decisions.specs.PresenceRulings.{is_marked}
+use Rattle.office_decisions.specs.CallRulings.{call_cases, call_ruling, new_meeting_of}
+use Rattle.office_decisions.specs.RequestLimits.{if_any, is_within_limits, keeps_limits}
+use Rattle.office_decisions.specs.DeskRulings.{same_days}
+use Rattle.office_decisions.specs.PollRulings.{open_cases, adjourn_cases, order_cases, poll_of, start_cases, close_cases, declare_cases, declaration_of}
 use Rattle.desk_words.proofs.OfficeFacts.{OfficeFacts, office_facts, office_from_facts, meeting_from_facts, find-passes}
-use Rattle.desk_words.specs.Changes.{after_some, change_meeting, changed, entered, new_lists}
+use Rattle.desk_words.specs.Changes.{applied_if_any, change_meeting, changed, entered, new_lists}
 use Rattle.meeting_core.specs.Step.{ruling}
 use Rattle.meeting_core.proofs.AppointmentsKept.{appointment_kept, ending_kept, given_count, numbered_given, unended_none}
 use Rattle.meeting_core.proofs.AttendanceKept.{authority_kept, demand_kept, not_demanded, not_given, not_marked, not_present, presence_kept, room_left}
@@ -84,7 +84,7 @@ there_fails test poll p e h = ap (there_is test) (sym e) ∙ h
 
 -- a change within its limits leaves the lists of an office
 abbrev pub Kept : OfficeLists → Option Change → Type 0
-Kept o change = if_any keeps_limits change ≡ true → is_office (after_some o change) ≡ true
+Kept o change = if_any keeps_limits change ≡ true → is_office (applied_if_any o change) ≡ true
 
 -- a meeting without lists
 new_meeting_kept : (new : NewMeeting) → are_resolutions new.resolutions ≡ true → is_meeting (new_lists (new_meeting_of new)) ≡ true
@@ -103,7 +103,7 @@ added_kept o m f fresh room good =
       each = list_all-append is_meeting o.meetings (m ∷ []) ∙ both_true f.each (ap (λ b. b && true) good);
     })
 
-call_kept : (o : OfficeLists) (new : NewMeeting) → is_office o ≡ true → Kept o (settled (call_ruling o.meetings new)).change
+call_kept : (o : OfficeLists) (new : NewMeeting) → is_office o ≡ true → Kept o (ruled_answer (call_ruling o.meetings new)).change
 call_kept o new h = change_of (Kept o) (call_ruling o.meetings new) (λ _. h) (λ none limits.
     let cases = call_cases o.meetings new in
     added_kept o (new_lists (new_meeting_of new)) (office_facts o h) (not_some (meeting_named o.meetings new.meeting) (fails Exists cases none)) (fails TooMany cases none)
@@ -121,7 +121,7 @@ keys_kept o false rows h = λ limits.
     let f = office_facts o h in
     office_from_facts (record o { keys = rows }) (record { keys = limits; closed = f.closed; few = f.few; apart = f.apart; each = f.each })
 
-desk_kept : (o : OfficeLists) (what : DeskRequest) → is_office o ≡ true → Kept o (settled (desk_ruling o.keys o.closed o.meetings what)).change
+desk_kept : (o : OfficeLists) (what : DeskRequest) → is_office o ≡ true → Kept o (ruled_answer (desk_ruling o.keys o.closed o.meetings what)).change
 desk_kept o (desk.CallMeeting new) h = call_kept o new h
 desk_kept o (desk.ClosedDays days) h = days_kept o (same_days o.closed days) days h
 desk_kept o (desk.Keys rows) h = keys_kept o (same_keys o.keys rows) rows h
@@ -289,23 +289,23 @@ entry_kept o id m None h found stays = λ _. h
 entry_kept o id m (Some entry) h found stays = λ _. meeting_kept o id (changed (Enter entry)) m (changed_name (Enter entry)) h found stays
 
 office_kept : (o : OfficeLists) (now : ℕ) (id : List ℕ) (what : OfficeRequest) → is_office o ≡ true
-    → Kept o (settled (ruled_within (InMeeting id) (in_found (meeting_at o id) (ruling_on o.closed now what)))).change
+    → Kept o (ruled_answer (map_ruling_change (InMeeting id) (in_found (meeting_at o id) (ruling_on o.closed now what)))).change
 office_kept o now id what h =
-    (elim (meeting_at o id) as (λ found. meeting_at o id ≡ found → Kept o (settled (ruled_within (InMeeting id) (in_found found (ruling_on o.closed now what)))).change) [
+    (elim (meeting_at o id) as (λ found. meeting_at o id ≡ found → Kept o (ruled_answer (map_ruling_change (InMeeting id) (in_found found (ruling_on o.closed now what)))).change) [
       | None ↦ λ e _. h
-      | Some m ↦ λ found. change_of (Kept o) (ruled_within (InMeeting id) (in_found (Some m) (ruling_on o.closed now what))) (λ _. h) (λ none.
+      | Some m ↦ λ found. change_of (Kept o) (map_ruling_change (InMeeting id) (in_found (Some m) (ruling_on o.closed now what))) (λ _. h) (λ none.
           change_kept o id m (ruling_on o.closed now what m).accepted.change h found (office_stays m o.closed now what (good_meeting o id m h found) none))
     ]) refl
 
 -- what decides a party's request, where the meeting is found or not
 abbrev pub party_found : Option MeetingLists → List ℕ → List ℕ → ℕ → List ℕ → PartyRequest → Ruling Change
 party_found found closed who now id what =
-    ruled_within (λ e. InMeeting id (Enter e)) (party_ruling (public_in found closed) (own_in_some found closed who now) now what)
+    map_ruling_change (λ e. InMeeting id (Enter e)) (party_ruling (public_in found closed) (own_in_some found closed who now) now what)
 
 party_kept : (o : OfficeLists) (who : List ℕ) (now : ℕ) (id : List ℕ) (what : PartyRequest) → is_office o ≡ true
-    → Kept o (settled (party_found (meeting_at o id) o.closed who now id what)).change
+    → Kept o (ruled_answer (party_found (meeting_at o id) o.closed who now id what)).change
 party_kept o who now id what h =
-    (elim (meeting_at o id) as (λ found. meeting_at o id ≡ found → Kept o (settled (party_found found o.closed who now id what)).change) [
+    (elim (meeting_at o id) as (λ found. meeting_at o id ≡ found → Kept o (ruled_answer (party_found found o.closed who now id what)).change) [
       | None ↦ λ e _. h
       | Some m ↦ λ found. change_of (Kept o) (party_found (Some m) o.closed who now id what) (λ _. h) (λ none.
           entry_kept o id m (ruling_for (public_in (Some m) o.closed) (own_in m o.closed who now) now what m.meeting).accepted.change h found
@@ -313,7 +313,7 @@ party_kept o who now id what h =
     ]) refl
 
 -- each step keeps the lists of an office
-pub step_kept : (o : OfficeLists) (now : ℕ) (who : Caller) (request : Request) → is_office o ≡ true → Kept o (settled (ruling o now who request)).change
+pub step_kept : (o : OfficeLists) (now : ℕ) (who : Caller) (request : Request) → is_office o ≡ true → Kept o (ruled_answer (ruling o now who request)).change
 step_kept o now caller.Office (asked.Desk what) h = desk_kept o what h
 step_kept o now caller.Office (asked.Office id what) h = office_kept o now id what h
 step_kept o now caller.Office (asked.Party id what) h = λ _. h

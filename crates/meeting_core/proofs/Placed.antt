@@ -2,7 +2,7 @@
 use Rattle.std.proofs.Common.{◌≡◌, ℕ, Bool, true, false, List, Option, Some, None, is_some, refl, sym, ap, ◌∙◌}
 use Rattle.std.specs.Prelude.{option_map}
 use Rattle.desk_words.specs.Finding.{meeting_named}
-use Rattle.desk_words.specs.Keys.{same_keys}
+use Rattle.desk_words.specs.KeyRows.{same_keys}
 use Rattle.desk_words.specs.Rulings.{Ruling, in_found, loaded}
 use Rattle.desk_words.specs.declared.caller.Caller.{Caller}
 use Rattle.desk_words.specs.declared.caller.Caller.TheVariants as caller
@@ -18,10 +18,10 @@ use Rattle.desk_words.specs.declared.request.DeskRequest.{DeskRequest}
 use Rattle.desk_words.specs.declared.request.DeskRequest.TheVariants.{CallMeeting, ClosedDays, Keys}
 use Rattle.desk_words.specs.declared.request.Request.{Request}
 use Rattle.desk_words.specs.declared.request.Request.TheVariants as asked
-use Rattle.caller_view.specs.Answers.{ruling_for}
+use Rattle.caller_view.specs.PartyRulings.{ruling_for}
 use Rattle.party_views.specs.Views.{meeting_at, own_of, public_of}
-use Rattle.office_answers.specs.Answers.{desk_ruling, ruling_on}
-use Rattle.office_answers.specs.Lists.{same_days}
+use Rattle.office_decisions.specs.OfficeRulings.{desk_ruling, ruling_on}
+use Rattle.office_decisions.specs.DeskRulings.{same_days}
 use Rattle.desk_words.specs.Changes.{is_placed}
 use Rattle.meeting_core.specs.Decisions.{DecidedChangesCanBeMade}
 use Rattle.meeting_core.specs.Step.{decided, ruling}

@@ -3,10 +3,10 @@ use Rattle.std.proofs.Common.{◌≡◌, ℕ, Bool, true, false, cond, List, ref
 use Rattle.std.specs.Prelude.{Option, Some, None, Result, Ok, Err, IfOk, IfSome, option_map}
 use Rattle.std.specs.Cmp.Lexicographic.{nat_list_cmp_total}
 use Rattle.std.proofs.lemmas.List.Sorted.{IsPermutation-refl}
-use Rattle.desk_lists.proofs.SortingLemmas.{sort_by-ascending}
-use Rattle.desk_words.specs.Changes.{after_some}
+use Rattle.seq.proofs.SortingLemmas.{sort_by-ascending}
+use Rattle.desk_words.specs.Changes.{applied_if_any}
 use Rattle.desk_words.specs.Office.{is_meeting, is_office}
-use Rattle.desk_words.specs.Rulings.{settled, within}
+use Rattle.desk_words.specs.Rulings.{ruled_answer, map_change}
 use Rattle.desk_words.specs.declared.answer.Answer.{Answer}
 use Rattle.desk_words.specs.declared.change.Change.{Change}
 use Rattle.desk_words.specs.declared.change.Change.TheVariants.{InMeeting}
@@ -18,11 +18,11 @@ use Rattle.desk_words.specs.declared.request.Call.{Call}
 use Rattle.desk_words.specs.declared.request.OfficeRequest.{OfficeRequest}
 use Rattle.desk_words.proofs.OfficeFacts.{found_meeting, meeting_facts, office_facts, register_ascends}
 use Rattle.party_views.specs.Views.{meeting_at}
-use Rattle.office_answers.specs.Answers.{office_ruling}
-use Rattle.office_answers.specs.Limits.{if_any, is_within_limits, keeps_limits}
-use Rattle.office_answers.specs.Reads.{lists_read, reads_register}
-use Rattle.office_answers.proofs.ReadLaws.{read_meeting, read_so}
-use Rattle.office_checks.specs.InOrder.{in_order}
+use Rattle.office_decisions.specs.OfficeRulings.{office_ruling}
+use Rattle.office_decisions.specs.RequestLimits.{if_any, is_within_limits, keeps_limits}
+use Rattle.office_decisions.specs.ListsRead.{lists_read, reads_register}
+use Rattle.office_decisions.proofs.ReadLaws.{read_meeting, read_so}
+use Rattle.office_validation.specs.Validation.{in_order}
 use Rattle.meeting_core.specs.Checked.{in_order_for}
 use Rattle.meeting_core.specs.Decisions.{AreListsRead, IsNoMeeting, office_call}
 use Rattle.meeting_core.specs.Step.{decided}
@@ -50,13 +50,13 @@ found_is office id h = found_meeting office.meetings id (office_facts office h).
 
 -- what is answered from what is read is what is decided in each office of which it is read
 pub decided_so : (office : OfficeLists) (meeting : List ℕ) (now : ℕ) (what : OfficeRequest) (days : List ℕ) (found lists : Option MeetingLists) (answer : Answer MeetingChange)
-    → is_office office ≡ true → AreListsRead office meeting what days found → lists ≡ option_map (in_order_for what) found → answer ≡ settled (office_ruling days lists now what)
-    → within (InMeeting meeting) answer ≡ decided office (office_call meeting now what)
+    → is_office office ≡ true → AreListsRead office meeting what days found → lists ≡ option_map (in_order_for what) found → answer ≡ ruled_answer (office_ruling days lists now what)
+    → map_change (InMeeting meeting) answer ≡ decided office (office_call meeting now what)
 decided_so office meeting now what days found lists answer kept read same is =
     let held = meeting_at office meeting in
     let ordered = same ∙ ap (option_map (in_order_for what)) read.lists ∙ ordered_so what held (found_is office meeting kept) in
-    ap (within (InMeeting meeting))
-    (is ∙ (λ i. settled (office_ruling (read.closed i) (ordered i) now what)) ∙ ap settled (read_so what now office.closed held))
+    ap (map_change (InMeeting meeting))
+    (is ∙ (λ i. ruled_answer (office_ruling (read.closed i) (ordered i) now what)) ∙ ap ruled_answer (read_so what now office.closed held))
     ∙ sym (settled_within (InMeeting meeting) (office_ruling office.closed held now what))
 
 -- a meeting's change keeps its limits in the office
@@ -65,9 +65,9 @@ limits_within id None h = refl
 limits_within id (Some change) h = h
 
 -- what is decided within its limits leaves the lists of an office
-pub decision_kept : (office : OfficeLists) (call : Call) (answer : Answer Change) → answer ≡ decided office call → if_any keeps_limits answer.change ≡ true → is_office office ≡ true → is_office (after_some office answer.change) ≡ true
+pub decision_kept : (office : OfficeLists) (call : Call) (answer : Answer Change) → answer ≡ decided office call → if_any keeps_limits answer.change ≡ true → is_office office ≡ true → is_office (applied_if_any office answer.change) ≡ true
 decision_kept office call answer is limits kept =
-    ap (λ (a : Answer Change). is_office (after_some office a.change)) is
+    ap (λ (a : Answer Change). is_office (applied_if_any office a.change)) is
     ∙ step_kept office call.moment call.caller call.request kept (ap (λ (a : Answer Change). if_any keeps_limits a.change) (sym is) ∙ limits)
 
 -- where no lists are found none are asked to be a meeting's

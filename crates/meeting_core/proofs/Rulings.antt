@@ -1,8 +1,8 @@
 -- What each ruling accepts is no refusal.
 use Rattle.std.proofs.Common.{◌≡◌, ℕ, List, refl}
 use Rattle.std.specs.Prelude.{None}
-use Rattle.desk_words.specs.Rows.{same_rows}
-use Rattle.desk_words.specs.Keys.{same_keys}
+use Rattle.desk_words.specs.SameRows.{same_rows}
+use Rattle.desk_words.specs.KeyRows.{same_keys}
 use Rattle.desk_words.specs.Rulings.{refusal_in}
 use Rattle.desk_words.specs.declared.caller.Caller.{Caller}
 use Rattle.desk_words.specs.declared.caller.Caller.TheVariants as caller
@@ -20,12 +20,12 @@ use Rattle.desk_words.specs.declared.request.PartyRequest.{PartyRequest}
 use Rattle.desk_words.specs.declared.request.PartyRequest.TheVariants.{Notice}
 use Rattle.desk_words.specs.declared.request.Request.{Request}
 use Rattle.desk_words.specs.declared.request.Request.TheVariants as asked
-use Rattle.caller_view.specs.Answers.{party_ruling, ruling_for}
+use Rattle.caller_view.specs.PartyRulings.{party_ruling, ruling_for}
 use Rattle.party_views.specs.Views.{meeting_at, own_of, public_of}
 use Rattle.party_views.specs.declared.views.OwnView.{OwnView}
 use Rattle.party_views.specs.Public.{PublicRecord}
-use Rattle.office_answers.specs.Answers.{desk_ruling, office_ruling, ruling_on}
-use Rattle.office_answers.specs.Lists.{same_days}
+use Rattle.office_decisions.specs.OfficeRulings.{desk_ruling, office_ruling, ruling_on}
+use Rattle.office_decisions.specs.DeskRulings.{same_days}
 use Rattle.meeting_core.specs.Step.{ruling}
 use Rattle.meeting_core.proofs.RulingLemmas.{IsSound, loaded_accepted, sound_in_found, sound_within}
 

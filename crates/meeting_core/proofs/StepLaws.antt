@@ -1,7 +1,7 @@
 -- The laws of the step.
 use Rattle.std.proofs.Common.{◌≡◌, ℕ, ◌||◌, true, List, refl, ap}
 use Rattle.std.specs.Prelude.{Option, Some, None, option_map, is_some}
-use Rattle.desk_words.specs.Rulings.{Ruling, in_found, is_refused, loaded, refusal_in, ruled_within, settled}
+use Rattle.desk_words.specs.Rulings.{Ruling, in_found, is_refused, loaded, refusal_in, map_ruling_change, ruled_answer}
 use Rattle.desk_words.specs.declared.answer.Answer.{Answer}
 use Rattle.desk_words.specs.declared.caller.Caller.{Caller}
 use Rattle.desk_words.specs.declared.caller.Caller.TheVariants as caller
@@ -19,11 +19,11 @@ use Rattle.desk_words.specs.declared.request.NewRegister.{NewRegister}
 use Rattle.desk_words.specs.declared.request.OfficeRequest.TheVariants.{LoadRegister, Start, Close}
 use Rattle.desk_words.specs.declared.request.Request.{Request}
 use Rattle.desk_words.specs.declared.request.Request.TheVariants as asked
-use Rattle.desk_terms.specs.declared.refusal.Refusal.{Refusal}
+use Rattle.vocabulary.specs.declared.refusal.Refusal.{Refusal}
 use Rattle.party_views.specs.Views.{meeting_at}
-use Rattle.office_answers.specs.Answers.{is_register_held, is_some_at_once, ruling_on}
-use Rattle.office_answers.specs.Limits.{if_any, keeps_limits}
-use Rattle.desk_words.specs.Changes.{after_some, sets_fields}
+use Rattle.office_decisions.specs.OfficeRulings.{is_register_held, is_some_at_once, ruling_on}
+use Rattle.office_decisions.specs.RequestLimits.{if_any, keeps_limits}
+use Rattle.desk_words.specs.Changes.{applied_if_any, sets_fields}
 use Rattle.meeting_core.specs.Step.{decided, is_at_once_to, is_start_or_close, needs_no_memory, ruling, stepped}
 use Rattle.meeting_core.proofs.RulingLemmas.{change_of, quiet_of}
 use Rattle.meeting_core.proofs.Rulings.{sound_ruling}
@@ -39,7 +39,7 @@ no_change o call r h = quiet o call (ap (λ x. is_some (refusal_in x)) h)
 
 -- and the office after it is the office before it
 pub office_left : (o : OfficeLists) (call : Call) (r : Refusal) → (decided o call).reply ≡ reply.Refused r → stepped o call ≡ o
-office_left o call r h = ap (after_some o) (no_change o call r h)
+office_left o call r h = ap (applied_if_any o) (no_change o call r h)
 
 pub at_once_refused : (refusal : Option Refusal) → is_some_at_once refusal ≡ true → is_some refusal ≡ true
 at_once_refused None h = h
@@ -62,27 +62,27 @@ entry_limits id (Some entry) = refl
 
 sets_found : (found : Option MeetingLists) (id : List ℕ) (f : MeetingLists → Ruling MeetingChange)
     → ((m : MeetingLists) → if_any sets_fields (option_map (InMeeting id) (f m).accepted.change) ≡ true)
-    → if_any sets_fields (settled (ruled_within (InMeeting id) (in_found found f))).change ≡ true
+    → if_any sets_fields (ruled_answer (map_ruling_change (InMeeting id) (in_found found f))).change ≡ true
 sets_found None id f h = refl
 sets_found (Some m) id f h =
-    change_of (λ change. if_any sets_fields change ≡ true) (ruled_within (InMeeting id) (in_found (Some m) f)) refl (λ _. h m)
+    change_of (λ change. if_any sets_fields change ≡ true) (map_ruling_change (InMeeting id) (in_found (Some m) f)) refl (λ _. h m)
 
 -- what is held already changes nothing when it is loaded again
 sets_held : (o : OfficeLists) (now : ℕ) (found : Option MeetingLists) (id : List ℕ) (new : NewRegister) → is_register_held found (LoadRegister new) ≡ true
-    → if_any sets_fields (settled (ruled_within (InMeeting id) (in_found found (ruling_on o.closed now (LoadRegister new))))).change ≡ true
+    → if_any sets_fields (ruled_answer (map_ruling_change (InMeeting id) (in_found found (ruling_on o.closed now (LoadRegister new))))).change ≡ true
 sets_held o now None id new h = absurd (cc)
 sets_held o now (Some m) id new h =
-    change_of (λ change. if_any sets_fields change ≡ true) (ruled_within (InMeeting id) (in_found (Some m) (ruling_on o.closed now (LoadRegister new)))) refl
+    change_of (λ change. if_any sets_fields change ≡ true) (map_ruling_change (InMeeting id) (in_found (Some m) (ruling_on o.closed now (LoadRegister new)))) refl
     (λ _. ap (λ same. if_any sets_fields (option_map (InMeeting id) (loaded same (SetRegister new.rows)).change)) h)
 
 -- what needs no memory sets fields alone
 pub sets_alone : (o : OfficeLists) (now : ℕ) (who : Caller) (request : Request) → needs_no_memory o who request ≡ true
-    → if_any sets_fields (settled (ruling o now who request)).change ≡ true
+    → if_any sets_fields (ruled_answer (ruling o now who request)).change ≡ true
 sets_alone o now caller.Office (asked.Office id (Start resolution)) h = sets_found (meeting_at o id) id (ruling_on o.closed now (Start resolution)) (λ m. refl)
 sets_alone o now caller.Office (asked.Office id (Close resolution)) h = sets_found (meeting_at o id) id (ruling_on o.closed now (Close resolution)) (λ m. refl)
 sets_alone o now caller.Office (asked.Office id (LoadRegister new)) h = sets_held o now (meeting_at o id) id new h
 sets_alone o now caller.Office (asked.Office id what) h =
-    (elim (meeting_at o id) as (λ found. (is_start_or_close what || is_register_held found what) ≡ true → if_any sets_fields (settled (ruling o now caller.Office (asked.Office id what))).change ≡ true)
+    (elim (meeting_at o id) as (λ found. (is_start_or_close what || is_register_held found what) ≡ true → if_any sets_fields (ruled_answer (ruling o now caller.Office (asked.Office id what))).change ≡ true)
     [ None ↦ λ k. absurd (cc) | Some m ↦ λ k. absurd (cc) ]) h
 sets_alone o now caller.Office (asked.Desk (desk.ClosedDays days)) h = ap (λ same. if_any sets_fields (loaded same (SetClosedDays days)).change) h
 sets_alone o now caller.Office (asked.Desk (desk.Keys rows)) h = ap (λ same. if_any sets_fields (loaded same (SetKeys rows)).change) h

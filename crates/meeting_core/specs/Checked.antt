@@ -2,8 +2,8 @@
 use Rattle.std.specs.Prelude.{if◌then◌else◌}
 use Rattle.desk_words.specs.declared.office.MeetingLists.{MeetingLists}
 use Rattle.desk_words.specs.declared.request.OfficeRequest.{OfficeRequest}
-use Rattle.office_answers.specs.Reads.{reads_register}
-use Rattle.office_checks.specs.InOrder.{in_order}
+use Rattle.office_decisions.specs.ListsRead.{reads_register}
+use Rattle.office_validation.specs.Validation.{in_order}
 
 -- the lists, with the register in the order of members where the request reads it
 abbrev pub in_order_for : OfficeRequest → MeetingLists → MeetingLists

@@ -1,9 +1,9 @@
 -- What an office decides it can make, and what it decides of what a party asks.
 use Rattle.std.specs.Prelude.{◌≡◌, ℕ, Bool, false, List, length, Option, Some, option_map, is_some, IsSomeAnd, IsTrue}
-use Rattle.desk_words.specs.Changes.{after, can_make}
+use Rattle.desk_words.specs.Changes.{applied, can_make}
 use Rattle.desk_words.specs.Office.{is_meeting, is_office}
 use Rattle.desk_words.specs.Finding.{meeting_named}
-use Rattle.desk_words.specs.Seen.{Day, MeetingName, Moment, Party}
+use Rattle.desk_words.specs.ViewTypes.{Day, MeetingName, Moment, Party}
 use Rattle.desk_words.specs.declared.caller.Caller.TheVariants as caller
 use Rattle.desk_words.specs.declared.change.Change.{Change}
 use Rattle.desk_words.specs.declared.office.OfficeLists.{OfficeLists}
@@ -14,12 +14,12 @@ use Rattle.desk_words.specs.declared.request.OfficeRequest.{OfficeRequest}
 use Rattle.desk_words.specs.declared.request.PartyRequest.{PartyRequest}
 use Rattle.desk_words.specs.declared.request.Request.TheVariants as asked
 use Rattle.party_views.specs.Public.{PublicRecord}
-use Rattle.party_views.specs.Reads.{rows_read}
-use Rattle.party_views.specs.Rows.{rows_in}
+use Rattle.party_views.specs.RowsRead.{rows_read}
+use Rattle.party_views.specs.PartyRows.{rows_in}
 use Rattle.party_views.specs.Views.{meeting_at, public_of}
 use Rattle.party_views.specs.declared.rows.OwnRows.{OwnRows}
-use Rattle.office_answers.specs.Reads.{days_read, lists_read, reads_register}
-use Rattle.office_checks.specs.InOrder.{in_order}
+use Rattle.office_decisions.specs.ListsRead.{days_read, lists_read, reads_register}
+use Rattle.office_validation.specs.Validation.{in_order}
 use Rattle.meeting_core.specs.Step.{decided}
 
 -- the change that is decided in an office can be made there, where it leaves the lists of an office
@@ -28,7 +28,7 @@ DecidedChangesCanBeMade =
     (office : OfficeLists) (call : Call) (change : Change)
     → (decided office call).change ≡ Some change
     → IsTrue (is_office office)
-    → IsTrue (is_office (after office change))
+    → IsTrue (is_office (applied office change))
     → IsTrue (can_make office change)
 
 -- a call of a party, which asks something in a meeting
@@ -72,7 +72,7 @@ IsNoMeeting what found =
     IsTrue (reads_register what) × IsSomeAnd found (λ m. is_meeting (in_order m) ≡ false)
 
 -- it is told whether a meeting of the office has that name, and how many meetings it has
-pub record AreMeetingsTold (office : OfficeLists) (meeting : MeetingName) (is_named : Bool)
+pub record AreMeetingsRead (office : OfficeLists) (meeting : MeetingName) (is_named : Bool)
     (count : ℕ) : Type 0 where
   pub named : is_named ≡ is_some (meeting_named office.meetings meeting)
   pub held : count ≡ length office.meetings

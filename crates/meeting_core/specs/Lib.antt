@@ -1,4 +1,4 @@
-pub mod Callers
 pub mod Checked
 pub mod Decisions
+pub mod KeyHolders
 pub mod Step

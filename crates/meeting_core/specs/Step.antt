@@ -1,8 +1,8 @@
 -- One step of the office, and runs of steps.
 use Rattle.std.specs.Prelude.{Bool, true, false, ◌&&◌, ◌||◌, not, List, [], ◌∷◌, ◌++◌}
 use Rattle.desk_words.specs.Refusals.{Case}
-use Rattle.desk_words.specs.Rulings.{Ruling, refused, ruled_within, settled}
-use Rattle.desk_words.specs.Seen.{Moment}
+use Rattle.desk_words.specs.Rulings.{Ruling, refused, map_ruling_change, ruled_answer}
+use Rattle.desk_words.specs.ViewTypes.{Moment}
 use Rattle.desk_words.specs.declared.answer.Answer.{Answer}
 use Rattle.desk_words.specs.declared.caller.Caller.{Caller}
 use Rattle.desk_words.specs.declared.caller.Caller.TheVariants as caller
@@ -16,12 +16,12 @@ use Rattle.desk_words.specs.declared.request.OfficeRequest.{OfficeRequest}
 use Rattle.desk_words.specs.declared.request.OfficeRequest.TheVariants.{Start, Close}
 use Rattle.desk_words.specs.declared.request.Request.{Request}
 use Rattle.desk_words.specs.declared.request.Request.TheVariants as asked
-use Rattle.desk_terms.specs.declared.refusal.Refusal.{Refusal}
-use Rattle.desk_terms.specs.declared.refusal.Refusal.TheVariants.{OfficeOnly, PartyOnly}
-use Rattle.caller_view.specs.Answers.{party_ruling}
+use Rattle.vocabulary.specs.declared.refusal.Refusal.{Refusal}
+use Rattle.vocabulary.specs.declared.refusal.Refusal.TheVariants.{OfficeOnly, PartyOnly}
+use Rattle.caller_view.specs.PartyRulings.{party_ruling}
 use Rattle.party_views.specs.Views.{meeting_at, own_of, public_of}
-use Rattle.office_answers.specs.Answers.{desk_ruling, is_list_held, is_refused_at_once, is_register_held, office_ruling}
-use Rattle.desk_words.specs.Changes.{after_some}
+use Rattle.office_decisions.specs.OfficeRulings.{desk_ruling, is_list_held, is_refused_at_once, is_register_held, office_ruling}
+use Rattle.desk_words.specs.Changes.{applied_if_any}
 
 -- a party calls
 abbrev pub is_a_party : Caller → Bool
@@ -50,11 +50,11 @@ abbrev pub asked_ruling : OfficeLists → Moment → Caller → Request → Ruli
 asked_ruling office now caller.Office (asked.Desk what) =
     desk_ruling office.keys office.closed office.meetings what
 asked_ruling office now caller.Office (asked.Office meeting what) =
-    ruled_within (InMeeting meeting)
+    map_ruling_change (InMeeting meeting)
     (office_ruling office.closed (meeting_at office meeting) now what)
 asked_ruling office now caller.Office (asked.Party meeting what) = nothing_more PartyOnly
 asked_ruling office now (caller.Party party) (asked.Party meeting what) =
-    ruled_within (λ entry. InMeeting meeting (Enter entry))
+    map_ruling_change (λ entry. InMeeting meeting (Enter entry))
     (party_ruling (public_of office meeting) (own_of office party meeting now) now what)
 asked_ruling office now (caller.Party party) other = nothing_more OfficeOnly
 
@@ -92,11 +92,11 @@ is_at_once_to (caller.Party party) answer = false
 
 -- the reply to a call, and its change
 abbrev pub decided : OfficeLists → Call → Answer Change
-decided office call = settled (ruling office call.moment call.caller call.request)
+decided office call = ruled_answer (ruling office call.moment call.caller call.request)
 
 -- the office after a call
 abbrev pub stepped : OfficeLists → Call → OfficeLists
-stepped office call = after_some office (decided office call).change
+stepped office call = applied_if_any office (decided office call).change
 
 -- what a list of calls comes to: the office after them, and the replies to them
 pub record Run : Type 0 where

@@ -1,15 +1,15 @@
 //! Answers in a meeting, as answers of the office.
 ghost use Rattle.std.specs.Prelude.{◌≡◌, IfOk, IsTrue};
-ghost use Rattle.desk_words.specs.Changes.{after_some};
+ghost use Rattle.desk_words.specs.Changes.{applied_if_any};
 ghost use Rattle.desk_words.specs.Office.{is_office};
-ghost use Rattle.desk_words.specs.Rulings.{settled, within};
-ghost use Rattle.desk_words.specs.Seen.{Party};
+ghost use Rattle.desk_words.specs.Rulings.{ruled_answer, map_change};
+ghost use Rattle.desk_words.specs.ViewTypes.{Party};
 ghost use Rattle.desk_words.specs.declared.change.Change.TheVariants as change;
 ghost use Rattle.desk_words.specs.declared.change.MeetingChange.TheVariants as meeting_change;
 ghost use Rattle.desk_words.specs.declared.office.OfficeLists.{OfficeLists};
-ghost use Rattle.caller_view.specs.Answers.{party_ruling};
-ghost use Rattle.party_views.specs.Own.{own_from};
-ghost use Rattle.party_views.specs.Reads.{rows_read};
+ghost use Rattle.caller_view.specs.PartyRulings.{party_ruling};
+ghost use Rattle.party_views.specs.OwnViews.{own_from};
+ghost use Rattle.party_views.specs.RowsRead.{rows_read};
 ghost use Rattle.party_views.specs.declared.rows.OwnRows.{OwnRows};
 ghost use Rattle.meeting_core.specs.Decisions.{AreRead, party_call};
 ghost use Rattle.meeting_core.specs.Step.{decided};
@@ -21,7 +21,7 @@ use std::alloc::{AllocError, Global};
 
 /// An answer whose change is made in that meeting.
 pub(crate) fn in_meeting(meeting: MeetingId, answer: Answer<MeetingChange>) -> Answer<Change>
-    ensures { result ≡ within (change.InMeeting meeting) answer }
+    ensures { result ≡ map_change (change.InMeeting meeting) answer }
 {
     let Answer { reply, change } = answer;
     let change = match change {
@@ -33,7 +33,7 @@ pub(crate) fn in_meeting(meeting: MeetingId, answer: Answer<MeetingChange>) -> A
 
 /// An answer whose change is entered into the lists of that meeting.
 pub(crate) fn entering(meeting: MeetingId, answer: Answer<Entry>) -> Answer<Change>
-    ensures { result ≡ within (λ entry. change.InMeeting meeting (meeting_change.Enter entry))
+    ensures { result ≡ map_change (λ entry. change.InMeeting meeting (meeting_change.Enter entry))
         answer }
 {
     let Answer { reply, change } = answer;
@@ -53,7 +53,7 @@ fn answer_from(
     asked: &PartyRequest,
 ) -> Result<Answer<Entry>, AllocError>
     ensures { IfOk result (λ a. (all : OwnRows) → rows ≡ rows_read asked.now all
-        → a ≡ settled (party_ruling public.now (own_from all public.now now) now asked.now)) }
+        → a ≡ ruled_answer (party_ruling public.now (own_from all public.now now) now asked.now)) }
 {
     let own = own_for(alloc, rows, public, now, asked)?;
     answer(alloc, public, own, now, asked)
@@ -75,7 +75,7 @@ pub fn decide_from_rows(
         → a ≡ decided office (party_call party meeting now asked.now)) }
     ensures kept { IfOk result (λ a. (office : OfficeLists) (party : Party)
         → AreRead office party meeting asked.now public.now rows → IsTrue (is_office office)
-        → IsTrue (is_office (after_some office a.change))) }
+        → IsTrue (is_office (applied_if_any office a.change))) }
 {
     let answer = answer_from(alloc, public, rows, now, asked)?;
     Ok(entering(meeting, answer))

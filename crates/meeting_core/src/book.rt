@@ -1,15 +1,15 @@
 //! The book: all that an office holds, in memory.
 ghost use Rattle.std.specs.Prelude.{◌≡◌, true, IfOk, OnOk, OnErr, IsTrue, IsOk};
 ghost use Rattle.party_views.specs.Views.{meeting_at, own_of, public_of};
-ghost use Rattle.caller_view.specs.Answers.{party_ruling};
+ghost use Rattle.caller_view.specs.PartyRulings.{party_ruling};
 ghost use Rattle.desk_words.specs.Office.{is_office};
-ghost use Rattle.desk_words.specs.Rulings.{settled, within};
+ghost use Rattle.desk_words.specs.Rulings.{ruled_answer, map_change};
 ghost use Rattle.desk_words.specs.declared.change.Change.TheVariants as change;
 ghost use Rattle.desk_words.specs.declared.change.MeetingChange.TheVariants as meeting_change;
-ghost use Rattle.office_answers.specs.Answers.{is_register_held, office_ruling, refuses_at_once};
-ghost use Rattle.office_answers.specs.Answers.{takes_no_memory};
-ghost use Rattle.office_answers.specs.Limits.{if_any, is_within_limits, keeps_limits};
-ghost use Rattle.desk_words.specs.Changes.{after, after_some, empty_office, sets_fields};
+ghost use Rattle.office_decisions.specs.OfficeRulings.{is_register_held, office_ruling, refuses_at_once};
+ghost use Rattle.office_decisions.specs.OfficeRulings.{office_needs_no_memory};
+ghost use Rattle.office_decisions.specs.RequestLimits.{if_any, is_within_limits, keeps_limits};
+ghost use Rattle.desk_words.specs.Changes.{applied, applied_if_any, empty_office, sets_fields};
 ghost use Rattle.meeting_core.specs.Step.{decided, is_at_once_to, needs_no_memory, stepped};
 
 mod callers;
@@ -27,8 +27,8 @@ use desk_words::{
 };
 use found::{public_in, rows_in, rows_read};
 pub use lists::BookFault;
-use office_answers::{desk_answer, office_answer};
 use office_days::Closed;
+use office_decisions::{desk_answer, office_answer};
 use party_views::{OwnView, PublicRecord, own_for, own_from};
 use std::alloc::{AllocError, Global};
 use std::marker::Model;
@@ -115,7 +115,7 @@ impl Book {
         asked: &PartyRequest,
     ) -> Result<Answer<Entry>, AllocError>
         ensures { IfOk result (λ a. a
-            ≡ settled (party_ruling (public_of self.now meeting)
+            ≡ ruled_answer (party_ruling (public_of self.now meeting)
             (own_of self.now party meeting now) now asked.now)) }
     {
         let found = find_meeting(&self.meetings, meeting);
@@ -133,9 +133,9 @@ impl Book {
         asked: &OfficeRequest,
     ) -> Result<Answer<MeetingChange>, AllocError>
         ensures answer { IfOk result (λ a. a
-            ≡ settled (office_ruling self.now.closed (meeting_at self.now meeting) now asked.now)) }
+            ≡ ruled_answer (office_ruling self.now.closed (meeting_at self.now meeting) now asked.now)) }
         ensures limits { IfOk result (λ a. if_any is_within_limits a.change ≡ true) }
-        ensures sure { takes_no_memory asked.now ≡ true → IsOk result }
+        ensures sure { office_needs_no_memory asked.now ≡ true → IsOk result }
         ensures refusals { refuses_at_once (office_ruling self.now.closed
             (meeting_at self.now meeting) now asked.now)
             ≡ true → IsOk result }
@@ -155,8 +155,8 @@ impl Book {
         asked: &PartyRequest,
     ) -> Result<Answer<Change>, AllocError>
         ensures { IfOk result (λ a. a
-            ≡ within (λ entry. change.InMeeting meeting (meeting_change.Enter entry))
-            (settled (party_ruling (public_of self.now meeting)
+            ≡ map_change (λ entry. change.InMeeting meeting (meeting_change.Enter entry))
+            (ruled_answer (party_ruling (public_of self.now meeting)
             (own_of self.now party meeting now) now asked.now))) }
     {
         let answer = self.answer_to_party(party, meeting, now, asked)?;
@@ -200,7 +200,7 @@ impl Book {
         ensures reply { IfOk result (λ d. d.0 ≡ (decided self.now call.now).reply) }
         ensures change { IfOk result (λ d. d.1 ≡ (decided self.now call.now).change) }
         ensures held { IsTrue (is_office self.now) }
-        ensures kept { IfOk result (λ d. IsTrue (is_office (after_some self.now d.1))) }
+        ensures kept { IfOk result (λ d. IsTrue (is_office (applied_if_any self.now d.1))) }
         ensures sure { needs_no_memory self.now call.now.caller call.now.request ≡ true
             → IsOk result }
         ensures refusals { is_at_once_to call.now.caller (decided self.now call.now) ≡ true
@@ -216,8 +216,8 @@ impl Book {
     /// error is want of memory, and the book is then as it was; a change that sets fields needs
     /// none.
     pub fn apply(&mut self, change: Change) -> Result<(), AllocError>
-        requires { IsTrue (is_office (after self.old change)) }
-        ensures ok { OnOk result (self.new ≡ after self.old change) }
+        requires { IsTrue (is_office (applied self.old change)) }
+        ensures ok { OnOk result (self.new ≡ applied self.old change) }
         ensures err { OnErr result (self.new ≡ self.old) }
         ensures kept { IsTrue (is_office self.new) }
         ensures sure { sets_fields change ≡ true → IsOk result }
@@ -239,8 +239,8 @@ impl Book {
     /// Writes a change, if there is one, that leaves the lists of an office. The error is want of
     /// memory, and the book is then as it was; a change that sets fields needs none.
     fn apply_if_any(&mut self, change: Option<Change>) -> Result<(), AllocError>
-        requires { IsTrue (is_office (after_some self.old change)) }
-        ensures ok { OnOk result (self.new ≡ after_some self.old change) }
+        requires { IsTrue (is_office (applied_if_any self.old change)) }
+        ensures ok { OnOk result (self.new ≡ applied_if_any self.old change) }
         ensures err { OnErr result (self.new ≡ self.old) }
         ensures kept { IsTrue (is_office self.new) }
         ensures sure { if_any sets_fields change ≡ true → IsOk result }

@@ -2,10 +2,10 @@
 ghost use Rattle.std.specs.Prelude.{◌≡◌, ◌==◌, ◌<◌, [], ◌∷◌, ◌++◌, true, IfSome, IsOk, OnOk, OnErr, length};
 ghost use Rattle.std.specs.List.{position_from};
 ghost use Rattle.desk_words.specs.declared.records.Poll.{Poll};
-ghost use Rattle.desk_lists.specs.Sorting.{insert_by};
+ghost use Rattle.seq.specs.Sorting.{insert_by};
 ghost use Rattle.desk_words.specs.Names.{same_name};
 ghost use Rattle.desk_words.specs.Office.{poll_before};
-ghost use Rattle.desk_words.specs.Changes.{change_at, change_poll, changed, entered, moved, new_lists, sets_in_meeting};
+ghost use Rattle.desk_words.specs.Changes.{change_at, change_poll, changed, entered, advanced, new_lists, sets_in_meeting};
 
 use desk_words::{
     CastKind, CastMark, Entry, Filed, Listing, Meeting, MeetingChange, MeetingId, MeetingLists,
@@ -73,7 +73,7 @@ fn place_of_poll(polls: &[Poll], resolution: u64) -> Option<usize>
 
 /// The poll that has come further.
 fn moved(poll: Poll, change: PollChange) -> Poll
-    ensures { result ≡ moved change poll }
+    ensures { result ≡ advanced change poll }
 {
     match change {
         PollChange::Started(moment) => Poll {
@@ -93,7 +93,7 @@ fn moved(poll: Poll, change: PollChange) -> Poll
 
 /// Moves the poll on that resolution. Where there is none, nothing changes.
 fn move_poll(lists: &mut MeetingLists, resolution: u64, change: PollChange)
-    ensures { lists.new ≡ change_poll (moved change) resolution lists.old }
+    ensures { lists.new ≡ change_poll (advanced change) resolution lists.old }
 {
     let polls = lists.polls.as_slice();
     if let Some(i) = place_of_poll(polls, resolution) {

@@ -1,17 +1,17 @@
 //! What is decided of the office's calls, from what their answers read.
 ghost use Rattle.std.specs.Prelude.{◌≡◌, true, false, Err, IfErr, IfOk, IfSome, IsOk, IsTrue, None, Some, option_map};
-ghost use Rattle.desk_words.specs.Changes.{after_some};
-ghost use Rattle.desk_words.specs.Keys.{same_keys};
+ghost use Rattle.desk_words.specs.Changes.{applied_if_any};
+ghost use Rattle.desk_words.specs.KeyRows.{same_keys};
 ghost use Rattle.desk_words.specs.Office.{is_meeting, is_office};
-ghost use Rattle.desk_words.specs.Seen.{Moment};
+ghost use Rattle.desk_words.specs.ViewTypes.{Moment};
 ghost use Rattle.desk_words.specs.declared.office.OfficeLists.{OfficeLists};
 ghost use Rattle.desk_words.specs.declared.request.DeskRequest.TheVariants as desk;
-ghost use Rattle.office_answers.specs.Answers.{is_register_held, takes_no_memory};
-ghost use Rattle.office_answers.specs.Lists.{same_days};
-ghost use Rattle.office_answers.specs.Reads.{reads_register};
-ghost use Rattle.office_checks.specs.InOrder.{in_order};
+ghost use Rattle.office_decisions.specs.OfficeRulings.{is_register_held, office_needs_no_memory};
+ghost use Rattle.office_decisions.specs.DeskRulings.{same_days};
+ghost use Rattle.office_decisions.specs.ListsRead.{reads_register};
+ghost use Rattle.office_validation.specs.Validation.{in_order};
 ghost use Rattle.meeting_core.specs.Checked.{in_order_for};
-ghost use Rattle.meeting_core.specs.Decisions.{AreListsRead, AreMeetingsTold, IsNoMeeting};
+ghost use Rattle.meeting_core.specs.Decisions.{AreListsRead, AreMeetingsRead, IsNoMeeting};
 ghost use Rattle.meeting_core.specs.Decisions.{desk_call, office_call};
 ghost use Rattle.meeting_core.specs.Step.{decided};
 ghost use Rattle.meeting_core.specs.declared.book.lists.BookFault.TheVariants.{NoOffice};
@@ -21,9 +21,9 @@ use crate::book::BookFault;
 use desk_words::{
     Answer, Change, DayList, KeyRows, MeetingId, MeetingLists, Moment, NewMeeting, OfficeRequest,
 };
-use office_answers::{call_meeting, load_days, load_keys, office_answer};
-use office_checks::meeting_checked;
 use office_days::Closed;
+use office_decisions::{call_meeting, load_days, load_keys, office_answer};
+use office_validation::meeting_checked;
 use std::alloc::{AllocError, Global};
 
 /// Whether the answer to a request reads the register.
@@ -96,10 +96,10 @@ pub fn decide_in_meeting(
         → a ≡ decided office (office_call meeting now asked.now)) }
     ensures kept { IfOk result (λ a. (office : OfficeLists) → IsTrue (is_office office)
         → AreListsRead office meeting asked.now closed.now found
-        → IsTrue (is_office (after_some office a.change))) }
+        → IsTrue (is_office (applied_if_any office a.change))) }
     ensures no_office { result ≡ Err NoOffice → IsNoMeeting asked.now found }
     ensures is_none { IsNoMeeting asked.now found → result ≡ Err NoOffice }
-    ensures sure { takes_no_memory asked.now ≡ true → IfErr result (λ e. e ≡ NoOffice) }
+    ensures sure { office_needs_no_memory asked.now ≡ true → IfErr result (λ e. e ≡ NoOffice) }
     ensures same { is_register_held (option_map (in_order_for asked.now) found) asked.now ≡ true
         → IfErr result (λ e. e ≡ NoOffice) }
 {
@@ -118,11 +118,11 @@ pub fn decide_call(
     new: &NewMeeting,
 ) -> Result<Answer<Change>, AllocError>
     ensures decided { IfOk result (λ a. (office : OfficeLists) (now : Moment)
-        → AreMeetingsTold office new.now.meeting is_named held
+        → AreMeetingsRead office new.now.meeting is_named held
         → a ≡ decided office (desk_call now (desk.CallMeeting new.now))) }
     ensures kept { IfOk result (λ a. (office : OfficeLists) → IsTrue (is_office office)
-        → AreMeetingsTold office new.now.meeting is_named held
-        → IsTrue (is_office (after_some office a.change))) }
+        → AreMeetingsRead office new.now.meeting is_named held
+        → IsTrue (is_office (applied_if_any office a.change))) }
 {
     call_meeting(alloc, is_named, held, new)
 }
@@ -134,7 +134,7 @@ pub fn decide_closed(held: &Closed, days: &DayList) -> Result<Answer<Change>, Al
         → held.now ≡ office.closed
         → a ≡ decided office (desk_call now (desk.ClosedDays days.now))) }
     ensures kept { IfOk result (λ a. (office : OfficeLists) → IsTrue (is_office office)
-        → held.now ≡ office.closed → IsTrue (is_office (after_some office a.change))) }
+        → held.now ≡ office.closed → IsTrue (is_office (applied_if_any office a.change))) }
     ensures same { same_days held.now days.now ≡ true → IsOk result }
 {
     load_days(held, days)
@@ -147,7 +147,7 @@ pub fn decide_keys(held: &KeyRows, rows: &KeyRows) -> Result<Answer<Change>, All
         → held.now ≡ office.keys
         → a ≡ decided office (desk_call now (desk.Keys rows.now))) }
     ensures kept { IfOk result (λ a. (office : OfficeLists) → IsTrue (is_office office)
-        → held.now ≡ office.keys → IsTrue (is_office (after_some office a.change))) }
+        → held.now ≡ office.keys → IsTrue (is_office (applied_if_any office a.change))) }
     ensures same { same_keys held.now rows.now ≡ true → IsOk result }
 {
     load_keys(held, rows)

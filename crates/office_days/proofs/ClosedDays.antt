@@ -8,12 +8,12 @@ use Rattle.std.proofs.lemmas.Cmp.{nat_cmp_total}
 use Rattle.std.proofs.lemmas.List.Sorted.{IsNonDecreasingBy-from_default}
 use Rattle.std.proofs.lemmas.List.Sums.{sum_by-cons}
 use Rattle.std.proofs.Math.Bool.{and-true}
-use Rattle.desk_lists.specs.Ordered.{differ_by}
-use Rattle.desk_lists.proofs.Ascending.{differs-from_ascends_by}
-use Rattle.desk_lists.proofs.Finding.{before-from_ascends}
-use Rattle.desk_lists.proofs.Numbers.{is_lt-nat_cmp, differ_by-numbers}
-use Rattle.desk_words.specs.Lists.{is_day_list}
-use Rattle.office_days.specs.Days.{numbers_that, is_closed_day}
+use Rattle.seq.specs.Ordered.{differ_by}
+use Rattle.seq.proofs.Ascending.{differs-from_ascends_by}
+use Rattle.seq.proofs.Finding.{before-from_ascends}
+use Rattle.seq.proofs.Numbers.{is_lt-nat_cmp, differ_by-numbers}
+use Rattle.desk_words.specs.SortedLists.{is_day_list}
+use Rattle.office_days.specs.WorkingDays.{numbers_that, is_closed_day}
 use Rattle.office_days.proofs.Counting.{numbers_that-none, numbers_that-none_between, numbers_that-suc, numbers_that-split}
 
 -- ---- the order

@@ -1,8 +1,8 @@
 -- Counting the numbers that pass a test.
 use Rattle.std.proofs.Common.{◌≡◌, ℕ, zero, suc, ◌+◌, ◌*◌, ◌/◌, ◌%◌, ◌<◌, ◌≤◌, Bool, true, false, not, ◌&&◌, cond, Some, None, refl, sym, ap, ◌∙◌, arith, inl, inr, min}
 use Rattle.std.proofs.lemmas.Bool.{cases_lt, cases_Bool, le-leb, lt-leb, lt-ltb, le-ltb}
-use Rattle.desk_lists.proofs.Booleans.{one_at_most}
-use Rattle.office_days.specs.Days.{numbers_that, greatest_that, is_weekday}
+use Rattle.seq.proofs.Booleans.{one_at_most}
+use Rattle.office_days.specs.WorkingDays.{numbers_that, greatest_that, is_weekday}
 
 -- no number lies from one up to and without a lower one
 pub numbers_that-none_between : (test : ℕ → Bool) (from to : ℕ) → to ≤ from → numbers_that test from to ≡ 0

@@ -1,7 +1,7 @@
 -- Working days by weekdays, working seconds by days, and the search for a second.
 use Rattle.std.proofs.Common.{◌≡◌, ℕ, ◌+◌, ◌*◌, ◌/◌, ◌%◌, ◌<◌, ◌≤◌, true, false, ◌&&◌, List, Some, None, ap, arith, inl, inr}
 use Rattle.std.proofs.lemmas.Bool.{cases_Bool, cases_lt, le-leb, lt-leb}
-use Rattle.office_days.specs.Days.{numbers_that, is_weekday, is_closed_day, is_working, working_days, work, leaves_hours, back, IsBack}
+use Rattle.office_days.specs.WorkingDays.{numbers_that, is_weekday, is_closed_day, is_working, working_days, work, leaves_hours, back, IsBack}
 use Rattle.office_days.proofs.Counting.{numbers_that-split, numbers_that-parts, numbers_that-bound, numbers_that-by_days, numbers_that-day_passes, numbers_that-day_fails, numbers_that-none_between, greatest_that-is, greatest_that-none}
 
 -- the weekdays up to a day are those before another, the working days from there on and the closed weekdays

@@ -1,10 +1,10 @@
 -- The notice of a general meeting.
 use Rattle.std.specs.Prelude.{ℕ, Bool, ℤ, pos, ◌-ℤ◌, int_le}
-use Rattle.desk_words.specs.Seen.{Day}
-use Rattle.desk_terms.specs.declared.kinds.Company.{Company}
-use Rattle.desk_terms.specs.declared.kinds.Company.TheVariants as company
-use Rattle.desk_terms.specs.declared.kinds.MeetingKind.{MeetingKind}
-use Rattle.desk_terms.specs.declared.kinds.MeetingKind.TheVariants as meeting_kind
+use Rattle.desk_words.specs.ViewTypes.{Day}
+use Rattle.vocabulary.specs.declared.kinds.Company.{Company}
+use Rattle.vocabulary.specs.declared.kinds.Company.TheVariants as company
+use Rattle.vocabulary.specs.declared.kinds.MeetingKind.{MeetingKind}
+use Rattle.vocabulary.specs.declared.kinds.MeetingKind.TheVariants as meeting_kind
 
 -- the days between the day on which notice is given and the day of the meeting, both excluded
 -- (section 360); negative where the meeting is no later than the notice

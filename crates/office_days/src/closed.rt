@@ -1,9 +1,9 @@
 //! Closed days, and the working time between moments.
 ghost use Rattle.std.specs.Prelude.{◌≡◌, ◌*◌, ◌<◌, ◌≤◌, ◌↔◌, ℕ, IfOk, OnOk, OnErr, Err, IsTrue, Contains};
 ghost use Rattle.std.specs.Result.{result_ok};
-ghost use Rattle.desk_words.specs.Lists.{is_day_list, day_count};
-ghost use Rattle.office_days.specs.Days as office;
-ghost use Rattle.office_days.specs.Days.{IsBack};
+ghost use Rattle.desk_words.specs.SortedLists.{is_day_list, day_count};
+ghost use Rattle.office_days.specs.WorkingDays as office;
+ghost use Rattle.office_days.specs.WorkingDays.{IsBack};
 ghost use Rattle.office_days.specs.declared.closed.DaysFault.TheVariants.{TooMany, Memory};
 
 use crate::working;

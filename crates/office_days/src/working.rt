@@ -1,7 +1,7 @@
 //! Working days and working time over closed days in order.
 ghost use Rattle.std.specs.Prelude.{◌≡◌, ◌+◌, ◌*◌, ◌/◌, ◌<◌, ◌≤◌, ℕ, ◌&&◌, length, slice_index, count_by, IsTrue};
-ghost use Rattle.desk_words.specs.Lists.{is_day_list};
-ghost use Rattle.office_days.specs.Days as office;
+ghost use Rattle.desk_words.specs.SortedLists.{is_day_list};
+ghost use Rattle.office_days.specs.WorkingDays as office;
 
 use desk_words::Day;
 

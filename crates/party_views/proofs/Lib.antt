@@ -1,4 +1,4 @@
 pub mod FindLemmas
-pub mod KeptLemmas
 pub mod Numbering
 pub mod OwnLemmas
+pub mod ViewKeptLemmas

@@ -3,10 +3,10 @@ use Rattle.std.proofs.Common.{◌≡◌, ℕ, Bool, true, false, cond, List, [],
 use Rattle.std.specs.Prelude.{◌==◌, reverse, Option}
 use Rattle.std.specs.Option.{option_map_or}
 use Rattle.std.proofs.lemmas.Simd.{map-map}
-use Rattle.desk_terms.specs.Names.{same_name}
-use Rattle.desk_terms.specs.declared.kinds.Capacity.{Capacity}
-use Rattle.desk_terms.specs.declared.kinds.Capacity.TheVariants.{Member, Rep, Proxy}
-use Rattle.desk_words.proofs.RowLemmas.{same_name-true}
+use Rattle.vocabulary.specs.Names.{same_name}
+use Rattle.vocabulary.specs.declared.kinds.Capacity.{Capacity}
+use Rattle.vocabulary.specs.declared.kinds.Capacity.TheVariants.{Member, Rep, Proxy}
+use Rattle.desk_words.proofs.WordRowLemmas.{same_name-true}
 use Rattle.desk_words.specs.declared.own.Authorised.{Authorised}
 use Rattle.desk_words.specs.declared.own.PollGoverned.{PollGoverned}
 use Rattle.desk_words.specs.declared.own.Received.{Received}
@@ -19,12 +19,12 @@ use Rattle.proxy_rules.specs.Cutoffs.{cutoffs_of, is_late_poll}
 use Rattle.proxy_rules.specs.Holdings.{is_given_by}
 use Rattle.proxy_rules.specs.Uses as uses
 use Rattle.proxy_rules.specs.declared.papers.Cutoffs.{Cutoffs}
-use Rattle.proxy_rules.proofs.ListLemmas.{reverse-filter}
-use Rattle.party_views.specs.Own.{authorised_in_rows, governed_by, governed_kept, known_to_proxy, own_by, poll_governed, received_by, rows_by, session_governed}
-use Rattle.party_views.specs.Sessions.{each_session}
+use Rattle.proxy_rules.proofs.ProxyListLemmas.{reverse-filter}
+use Rattle.party_views.specs.OwnViews.{authorised_in_rows, governed_by, governed_in_holding, known_to_proxy, own_by, poll_governed, received_by, rows_by, session_governed}
+use Rattle.party_views.specs.SessionLists.{each_session}
 use Rattle.party_views.specs.declared.reads.Reads.{Reads}
 use Rattle.party_views.specs.declared.reads.Reads.TheVariants.{Vote, AsInstructed}
-use Rattle.party_views.specs.Reads.{appointments_read, authorised_read, authorities_read, cast_on, for_poll, members_read, own_kept, own_read, polls_kept, polls_on, polls_read, reads_of, received_read, rows_kept, rows_read}
+use Rattle.party_views.specs.RowsRead.{appointments_read, authorised_read, authorities_read, cast_on, for_poll, members_read, own_part, own_read, polls_part, polls_on, polls_read, reads_of, received_read, rows_part, rows_read}
 use Rattle.party_views.specs.declared.rows.AuthorityRows.{AuthorityRows}
 use Rattle.party_views.specs.declared.rows.MemberRows.{MemberRows}
 use Rattle.party_views.specs.declared.rows.OwnRows.{OwnRows}
@@ -75,7 +75,7 @@ governed-by_member members cutoffs member name number same =
     let found : rows_by (filter (of_member member) members) member ≡ rows_by members member =
     ap (find (of_member member)) (reverse-filter (of_member member) members) ∙ find-filter (of_member member) (reverse members) in
     subst (λ (n : List ℕ). governed_by (filter (of_member member) members) cutoffs n number ≡ governed_by members cutoffs n number) (sym (same_name-true name member same))
-    (ap (λ (o : Option MemberRows). option_map_or (λ (rows : MemberRows). governed_kept cutoffs rows.holding number) o []) found)
+    (ap (λ (o : Option MemberRows). option_map_or (λ (rows : MemberRows). governed_in_holding cutoffs rows.holding number) o []) found)
 
 module _ (members : List MemberRows) (closed : List ℕ) (meeting : Meeting) (polls : List Poll) (now : ℕ) where
   -- what a party knows of an appointment of a member is read from the member's rows
@@ -130,7 +130,7 @@ authorised-read new Proxy authorised = refl
 
 -- the own things that are read, from the rows that are read
 own-kept : (reads : Reads) (all : OwnRows) (closed : List ℕ) (meeting : Meeting) (polls : List Poll) (now : ℕ)
-    → own_by (rows_kept reads all) closed meeting (polls_kept reads polls) now ≡ own_kept reads (own_by all closed meeting polls now)
+    → own_by (rows_part reads all) closed meeting (polls_part reads polls) now ≡ own_part reads (own_by all closed meeting polls now)
 own-kept (Vote new) all closed meeting polls now =
     let received = received-read all.members closed meeting polls now new new.capacity all.received in
     let authorised = authorised-read new new.capacity all.authorised in
@@ -147,7 +147,7 @@ own-kept (Vote new) all closed meeting polls now =
     }
 own-kept (AsInstructed resolution) all closed meeting polls now =
     let received = all_for_poll all.members closed meeting polls now resolution all.received in
-    λ i. record (own_kept (AsInstructed resolution) (own_by all closed meeting polls now)) { received = received i }
+    λ i. record (own_part (AsInstructed resolution) (own_by all closed meeting polls now)) { received = received i }
 own-kept other all closed meeting polls now = refl
 
 -- the own things that an answer reads, from the rows that it reads

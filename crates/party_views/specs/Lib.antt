@@ -1,7 +1,7 @@
-pub mod Kept
-pub mod Own
+pub mod OwnViews
+pub mod PartyRows
 pub mod Public
-pub mod Reads
-pub mod Rows
-pub mod Sessions
+pub mod RowsRead
+pub mod SessionLists
 pub mod Views
+pub mod ViewsByMember

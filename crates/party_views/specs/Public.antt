@@ -1,6 +1,6 @@
 -- What is public of a meeting.
 use Rattle.std.specs.Prelude.{List, Option}
-use Rattle.desk_words.specs.Seen.{Day}
+use Rattle.desk_words.specs.ViewTypes.{Day}
 use Rattle.desk_words.specs.declared.records.Meeting.{Meeting}
 use Rattle.desk_words.specs.declared.records.Poll.{Poll}
 

@@ -1,12 +1,12 @@
 -- What a party may see of an office.
 use Rattle.std.specs.Prelude.{List, [], Option, Some, None, option_map}
 use Rattle.desk_words.specs.Finding.{meeting_named}
-use Rattle.desk_words.specs.Seen.{Day, MeetingName, Moment, Party}
+use Rattle.desk_words.specs.ViewTypes.{Day, MeetingName, Moment, Party}
 use Rattle.desk_words.specs.declared.office.OfficeLists.{OfficeLists}
 use Rattle.desk_words.specs.declared.office.MeetingLists.{MeetingLists}
 use Rattle.desk_words.specs.declared.records.Poll.{Poll}
-use Rattle.party_views.specs.Own.{own_from}
-use Rattle.party_views.specs.Rows.{rows_in, rows_of}
+use Rattle.party_views.specs.OwnViews.{own_from}
+use Rattle.party_views.specs.PartyRows.{rows_in, rows_of}
 use Rattle.party_views.specs.Public.{PublicRecord}
 use Rattle.party_views.specs.declared.views.OwnView.{OwnView}
 

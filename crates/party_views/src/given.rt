@@ -3,8 +3,8 @@ ghost use Rattle.std.specs.Prelude.{◌≡◌, ℕ, IfOk, map};
 ghost use Rattle.std.specs.BTreeMap.{get};
 ghost use Rattle.std.specs.Option.{option_copied};
 ghost use Rattle.std.specs.Ordering.{nat_cmp};
-ghost use Rattle.party_views.specs.Kept.{given_kept};
-ghost use Rattle.party_views.specs.Own.{authorised_in_rows, ended_at, given_in, shares_in};
+ghost use Rattle.party_views.specs.ViewsByMember.{given_with_ending};
+ghost use Rattle.party_views.specs.OwnViews.{authorised_in_rows, ended_at, given_in, shares_in};
 
 use crate::rows::AuthorityRows;
 use desk_words::{
@@ -31,7 +31,7 @@ fn given_with(
     given: Vec<Appointment>,
     moments: &BTreeMap<u64, Moment>,
 ) -> Result<Vec<Given>, AllocError>
-    ensures { IfOk result (λ all. all.items ≡ map (given_kept moments.now) given.items) }
+    ensures { IfOk result (λ all. all.items ≡ map (given_with_ending moments.now) given.items) }
 {
     let mut all = Vec::with_capacity(alloc, given.len())?;
     for appointment in given {

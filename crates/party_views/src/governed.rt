@@ -4,11 +4,11 @@ ghost use Rattle.std.specs.Prelude.{◌≡◌, List, ℕ, IfOk, map, filter, opt
 ghost use Rattle.std.specs.BTreeMap.{get};
 ghost use Rattle.std.specs.List.{slice_get};
 ghost use Rattle.std.specs.Option.{option_copied};
-ghost use Rattle.desk_terms.specs.Names.{name_cmp};
+ghost use Rattle.vocabulary.specs.Names.{name_cmp};
 ghost use Rattle.proxy_rules.specs.Cutoffs.{is_late_poll};
-ghost use Rattle.party_views.specs.Kept.{AreByMember, late_in_rows, late_of, received_with, same_cutoffs, session_cutoffs, session_in_rows};
-ghost use Rattle.party_views.specs.Own.{governed_by, governed_kept, received_by, rows_by};
-ghost use Rattle.party_views.specs.Sessions.{each_session};
+ghost use Rattle.party_views.specs.ViewsByMember.{AreByMember, late_in_rows, late_of, received_with, same_cutoffs, cutoffs_in_session, session_in_rows};
+ghost use Rattle.party_views.specs.OwnViews.{governed_by, governed_in_holding, received_by, rows_by};
+ghost use Rattle.party_views.specs.SessionLists.{each_session};
 
 use crate::rows::MemberRows;
 use desk_words::{
@@ -63,7 +63,7 @@ fn places_by_member(
 
 /// The cutoffs of the session of a number.
 fn session_cutoffs(meeting: &Meeting, closed: &Closed, now: Moment, number: u64) -> SessionCutoffs
-    ensures { result ≡ session_cutoffs meeting.now closed.now now number }
+    ensures { result ≡ cutoffs_in_session meeting.now closed.now now number }
 {
     SessionCutoffs {
         acts: cutoffs(meeting, Use::Acts(number), closed, now),
@@ -73,7 +73,7 @@ fn session_cutoffs(meeting: &Meeting, closed: &Closed, now: Moment, number: u64)
 
 /// The cutoffs of the first session, where acts and votes have the same.
 fn first_cutoffs(meeting: &Meeting, closed: &Closed, now: Moment) -> SessionCutoffs
-    ensures { result ≡ session_cutoffs meeting.now closed.now now 1 }
+    ensures { result ≡ cutoffs_in_session meeting.now closed.now now 1 }
 {
     let votes = cutoffs(meeting, Use::Votes(1), closed, now);
     let acts = Cutoffs {
@@ -91,7 +91,7 @@ fn all_cutoffs(
     now: Moment,
 ) -> Result<Vec<SessionCutoffs>, AllocError>
     ensures { IfOk result (λ all. all.items
-        ≡ each_session (session_cutoffs meeting.now closed.now now) meeting.now) }
+        ≡ each_session (cutoffs_in_session meeting.now closed.now now) meeting.now) }
 {
     let mut all = vec![in alloc; first_cutoffs(meeting, closed, now)]?;
     for _session in meeting.later.as_slice() {
@@ -131,7 +131,7 @@ fn governed_kept(
     holding: &Holding,
     number: u64,
 ) -> Result<Vec<Range>, AllocError>
-    ensures { IfOk result (λ runs. runs.items ≡ governed_kept cutoffs.now holding.now number) }
+    ensures { IfOk result (λ runs. runs.items ≡ governed_in_holding cutoffs.now holding.now number) }
 {
     if holding.is_kept() {
         holding.governed_by(alloc, cutoffs, number)

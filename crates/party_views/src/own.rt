@@ -1,9 +1,9 @@
 //! A party's own things, from its rows in a meeting and the public record of the meeting.
 ghost use Rattle.std.specs.Prelude.{◌≡◌, IfOk};
 ghost use Rattle.desk_words.specs.declared.office.MeetingLists.{MeetingLists};
-ghost use Rattle.party_views.specs.Own.{nothing_of, own_by, own_from};
-ghost use Rattle.party_views.specs.Reads.{own_read, polls_on, polls_read, rows_read};
-ghost use Rattle.party_views.specs.Rows.{rows_of};
+ghost use Rattle.party_views.specs.OwnViews.{nothing_of, own_by, own_from};
+ghost use Rattle.party_views.specs.RowsRead.{own_read, polls_on, polls_read, rows_read};
+ghost use Rattle.party_views.specs.PartyRows.{rows_of};
 ghost use Rattle.party_views.specs.Views.{own_in, public_in};
 ghost use Rattle.party_views.specs.declared.rows.OwnRows.{OwnRows};
 

@@ -1,6 +1,6 @@
 //! What of a party's own things the answer to its request reads.
 ghost use Rattle.std.specs.Prelude.{◌≡◌};
-ghost use Rattle.party_views.specs.Reads.{reads_of};
+ghost use Rattle.party_views.specs.RowsRead.{reads_of};
 
 use desk_words::{NewCast, PartyRequest};
 

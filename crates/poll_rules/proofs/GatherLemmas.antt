@@ -5,9 +5,9 @@ use Rattle.std.specs.Cmp.Lexicographic.{texts_ties}
 use Rattle.std.specs.List.{list_any}
 use Rattle.std.specs.Option.{option_map_or, UnwrapsOrElse}
 use Rattle.std.specs.Ordering.{is_eq}
-use Rattle.desk_lists.proofs.Kept.{any-filter}
-use Rattle.desk_terms.specs.Names.{same_name, name_cmp}
-use Rattle.desk_words.proofs.RowLemmas.{same_name-true}
+use Rattle.seq.proofs.Kept.{any-filter}
+use Rattle.vocabulary.specs.Names.{same_name, name_cmp}
+use Rattle.desk_words.proofs.WordRowLemmas.{same_name-true}
 use Rattle.desk_words.specs.declared.records.Authority.{Authority}
 use Rattle.proxy_rules.specs.Parties.{is_authority_of}
 

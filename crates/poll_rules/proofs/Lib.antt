@@ -1,4 +1,4 @@
-pub mod RoleLemmas
-pub mod DemandLemmas
 pub mod GatherLemmas
-pub mod PairLemmas
+pub mod PollDemandLemmas
+pub mod PollPairLemmas
+pub mod RoleLemmas

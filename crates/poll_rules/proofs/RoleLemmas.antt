@@ -11,15 +11,15 @@ use Rattle.std.proofs.lemmas.List.{append-nil, take_more}
 use Rattle.std.proofs.lemmas.List.Concat.{flat_map-append}
 use Rattle.std.proofs.lemmas.List.Folds.{list_any_more}
 use Rattle.std.proofs.lemmas.List.Sums.{sum_by-cons, get_or-le-sum_by}
-use Rattle.desk_lists.proofs.Booleans.{neither_first, neither_second}
+use Rattle.seq.proofs.Booleans.{neither_first, neither_second}
 use Rattle.std.proofs.Math.Bool.{or-false}
 use Rattle.std.proofs.lemmas.Bool.{not-true, or_from}
 use Rattle.std.specs.Cmp.{first_so, second_so}
-use Rattle.desk_lists.proofs.Ascending.{differs-from_ascends_by}
-use Rattle.desk_lists.specs.Ordered.{ascends_by, differ_by}
-use Rattle.desk_terms.specs.Names.{same_name, name_cmp}
-use Rattle.desk_terms.specs.declared.kinds.Capacity.{Capacity}
-use Rattle.desk_words.proofs.RowLemmas.{same_name-true}
+use Rattle.seq.proofs.Ascending.{differs-from_ascends_by}
+use Rattle.seq.specs.Ordered.{ascends_by, differ_by}
+use Rattle.vocabulary.specs.Names.{same_name, name_cmp}
+use Rattle.vocabulary.specs.declared.kinds.Capacity.{Capacity}
+use Rattle.desk_words.proofs.WordRowLemmas.{same_name-true}
 use Rattle.desk_words.specs.Registers.{all_shares}
 use Rattle.desk_words.specs.declared.records.Appointment.{Appointment}
 use Rattle.desk_words.specs.declared.records.RegisterRow.{RegisterRow}
@@ -27,9 +27,9 @@ use Rattle.proxy_rules.specs.Tiles.{ArePieces, governing_of, places_in, shares_i
 use Rattle.proxy_rules.specs.declared.holdings.Holding.{Holding}
 use Rattle.proxy_rules.specs.declared.papers.Cutoffs.{Cutoffs}
 use Rattle.proxy_rules.specs.declared.pieces.GovernedPiece.{GovernedPiece}
-use Rattle.proxy_rules.proofs.NameLemmas.{same_name-sym}
+use Rattle.proxy_rules.proofs.ProxyNameLemmas.{same_name-sym}
 use Rattle.proxy_rules.proofs.TileLemmas.{places_that-pieces}
-use Rattle.poll_rules.specs.Gathered.{are_in}
+use Rattle.poll_rules.specs.GatheredItems.{are_in}
 use Rattle.poll_rules.specs.Roles.{is_proxy_in, proxy_of, role_if}
 use Rattle.poll_rules.specs.declared.roles.Role.{Role}
 

@@ -1,8 +1,8 @@
 -- Sums of a demand, row by row. For private contracts.
 use Rattle.std.specs.Prelude.{ℕ, Bool, ◌+◌, ◌*◌, ◌<◌, ◌^◌, nat_lt, List, count_by, sum_by, if◌then◌else◌}
 use Rattle.std.specs.BTreeSet.{BTreeSet, contains}
-use Rattle.desk_terms.specs.Names.{name_cmp}
-use Rattle.desk_words.specs.Seen.{Party}
+use Rattle.vocabulary.specs.Names.{name_cmp}
+use Rattle.desk_words.specs.ViewTypes.{Party}
 use Rattle.desk_words.specs.declared.records.RegisterRow.{RegisterRow}
 use Rattle.proxy_rules.specs.Shares.{shares_of}
 use Rattle.poll_rules.specs.Demands.{is_enough, paid_on}

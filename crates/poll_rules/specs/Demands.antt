@@ -2,9 +2,9 @@
 use Rattle.std.specs.Prelude.{ℕ, Bool, false, ◌&&◌, ◌||◌, ◌==◌, ◌*◌, nat_le, nat_lt, List, Option, count_by, sum_by}
 use Rattle.std.specs.List.{list_any}
 use Rattle.std.specs.Option.{option_map_or}
-use Rattle.desk_terms.specs.Names.{same_name}
-use Rattle.desk_terms.specs.Places.{places_that}
-use Rattle.desk_words.specs.Seen.{Number, Party, Place, SessionNumber}
+use Rattle.vocabulary.specs.Names.{same_name}
+use Rattle.vocabulary.specs.Places.{places_that}
+use Rattle.desk_words.specs.ViewTypes.{Number, Party, Place, SessionNumber}
 use Rattle.desk_words.specs.declared.records.Appointment.{Appointment}
 use Rattle.desk_words.specs.declared.records.Authority.{Authority}
 use Rattle.desk_words.specs.declared.records.DemandMark.{DemandMark}

@@ -1,7 +1,7 @@
 pub mod DemandSums
 pub mod Demands
-pub mod Gathered
-pub mod Laws
+pub mod GatheredItems
+pub mod MajorityLaw
 pub mod Pairs
 pub mod Quorum
 pub mod Roles

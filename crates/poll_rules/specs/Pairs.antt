@@ -2,8 +2,8 @@
 use Rattle.std.specs.Prelude.{Bool, false, not, ◌&&◌, List, find, Option}
 use Rattle.std.specs.List.{list_any}
 use Rattle.std.specs.Option.{option_map_or}
-use Rattle.desk_terms.specs.Names.{same_name}
-use Rattle.desk_words.specs.Seen.{Party}
+use Rattle.vocabulary.specs.Names.{same_name}
+use Rattle.desk_words.specs.ViewTypes.{Party}
 use Rattle.desk_words.specs.declared.records.PresenceMark.{PresenceMark}
 use Rattle.poll_rules.specs.Quorum.{are_two, qualifies}
 use Rattle.poll_rules.specs.declared.roles.Role.{Role}

@@ -1,8 +1,8 @@
 -- The quorum of a session of a meeting (section 318).
 use Rattle.std.specs.Prelude.{Bool, true, false, not, ◌&&◌, ◌==◌, List, [], ◌∷◌, map, filter}
 use Rattle.std.specs.List.{list_any}
-use Rattle.desk_terms.specs.Names.{same_name}
-use Rattle.desk_words.specs.Seen.{Party, SessionNumber}
+use Rattle.vocabulary.specs.Names.{same_name}
+use Rattle.desk_words.specs.ViewTypes.{Party, SessionNumber}
 use Rattle.desk_words.specs.declared.records.Appointment.{Appointment}
 use Rattle.desk_words.specs.declared.records.Authority.{Authority}
 use Rattle.desk_words.specs.declared.records.Ending.{Ending}

@@ -3,11 +3,11 @@
 use Rattle.std.specs.Prelude.{Bool, false, ◌&&◌, nat_lt, List, [], ◌∷◌, ◌++◌, Option, option_map, if◌then◌else◌}
 use Rattle.std.specs.List.{list_any, flat_map}
 use Rattle.std.specs.Option.{option_map_or}
-use Rattle.desk_terms.specs.Names.{same_name}
-use Rattle.desk_terms.specs.Places.{places_that}
-use Rattle.desk_terms.specs.declared.kinds.Capacity.{Capacity}
-use Rattle.desk_terms.specs.declared.kinds.Capacity.TheVariants.{Member, Rep, Proxy}
-use Rattle.desk_words.specs.Seen.{Party, Place}
+use Rattle.vocabulary.specs.Names.{same_name}
+use Rattle.vocabulary.specs.Places.{places_that}
+use Rattle.vocabulary.specs.declared.kinds.Capacity.{Capacity}
+use Rattle.vocabulary.specs.declared.kinds.Capacity.TheVariants.{Member, Rep, Proxy}
+use Rattle.desk_words.specs.ViewTypes.{Party, Place}
 use Rattle.desk_words.specs.declared.records.Appointment.{Appointment}
 use Rattle.desk_words.specs.declared.records.Authority.{Authority}
 use Rattle.desk_words.specs.declared.records.Ending.{Ending}

@@ -1,7 +1,7 @@
 //! Values that are kept by party.
 ghost use Rattle.std.specs.Prelude.{◌≡◌, ℕ, List, [], ◌∷◌, ◌++◌, OnOk, if◌then◌else◌};
-ghost use Rattle.desk_terms.specs.Names.{same_name};
-ghost use Rattle.poll_rules.specs.Gathered.{items_at};
+ghost use Rattle.vocabulary.specs.Names.{same_name};
+ghost use Rattle.poll_rules.specs.GatheredItems.{items_at};
 
 use desk_words::Party;
 use std::alloc::AllocError;

@@ -1,12 +1,12 @@
 //! The quorum of a session of a meeting.
 ghost use Rattle.std.specs.Prelude.{◌≡◌, [], true, IfOk, filter, length, map};
 ghost use Rattle.std.specs.List.{list_any};
-ghost use Rattle.desk_lists.specs.Ordered.{differ_by};
+ghost use Rattle.seq.specs.Ordered.{differ_by};
 ghost use Rattle.desk_words.specs.Office.{are_numbered_after, same_presence, are_rows};
 ghost use Rattle.desk_words.specs.declared.records.PresenceMark.{PresenceMark};
 ghost use Rattle.proxy_rules.specs.Holdings.{are_tags};
 ghost use Rattle.poll_rules.specs.Pairs.{first_qualifying, is_second, two_with_the_first};
-ghost use Rattle.poll_rules.specs.Gathered.{items_at};
+ghost use Rattle.poll_rules.specs.GatheredItems.{items_at};
 ghost use Rattle.poll_rules.specs.Quorum.{are_as_one, are_two, is_counted, is_quorum, present_in, qualifies, quorum_of};
 
 use crate::gathered::items_of;

@@ -1,22 +1,22 @@
 //! In which roles a person may act at a meeting.
 ghost use Rattle.std.specs.Prelude.{◌≡◌, ◌≤◌, ◌^◌, ◌&&◌, ◌++◌, [], ℕ, List, filter, map, option_map, true, IfOk, OnOk};
 ghost use Rattle.std.specs.List.{filter_map, flat_map};
-ghost use Rattle.desk_terms.specs.Names.{same_name};
+ghost use Rattle.vocabulary.specs.Names.{same_name};
 ghost use Rattle.desk_words.specs.Office.{are_numbered_after};
 ghost use Rattle.desk_words.specs.Registers.{all_shares};
 ghost use Rattle.desk_words.specs.declared.records.Appointment.{Appointment};
 ghost use Rattle.desk_words.specs.declared.records.Authority.{Authority};
-ghost use Rattle.proxy_rules.specs.Holdings.{IsKept, are_tags};
+ghost use Rattle.proxy_rules.specs.Holdings.{IsValidHolding, are_tags};
 ghost use Rattle.proxy_rules.specs.Shares.{is_corporation, is_individual};
 ghost use Rattle.proxy_rules.specs.Tiles.{governing_of};
-ghost use Rattle.poll_rules.specs.Gathered.{are_in, items_at};
+ghost use Rattle.poll_rules.specs.GatheredItems.{are_in, items_at};
 ghost use Rattle.poll_rules.specs.Quorum.{same_role};
 ghost use Rattle.poll_rules.specs.Roles.{has_authority, is_proxy_in, proxy_of, role_if, roles_by};
 
 use crate::gathered::add_to;
-use desk_lists::in_order_once;
 use desk_words::{Authority, Capacity, Filed, HolderKind, Party, RegisterRow};
 use proxy_rules::{Cutoffs, GovernedPiece, Holding, Papers, authorised_by};
+use seq::in_order_once;
 use std::alloc::{AllocError, Global};
 use std::collections::BTreeMap;
 
@@ -112,7 +112,7 @@ fn proxies_of(
 
 /// The proxies who govern a share of a holding (section 324).
 fn proxies(alloc: Global, cutoffs: &Cutoffs, holding: &Holding) -> Result<Vec<Party>, AllocError>
-    requires { IsKept holding.now }
+    requires { IsValidHolding holding.now }
     ensures { IfOk result
         (λ persons. (person : List ℕ)
         → are_in persons.items person ≡ is_proxy_in cutoffs.now holding.now person) }

@@ -8,23 +8,23 @@ use Rattle.std.proofs.lemmas.Bool.{and_from, and_parts, cases_lt, eq-eqb, eqb-tr
 use Rattle.std.proofs.lemmas.Bool.Decides.{nat_tests}
 use Rattle.std.proofs.lemmas.List.{append-nil, length-drop, reverse-append, take_all}
 use Rattle.std.proofs.lemmas.List.Folds.{find-append, list_any-append, list_any_more}
-use Rattle.desk_lists.proofs.Booleans.{neither_first, neither_second}
+use Rattle.seq.proofs.Booleans.{neither_first, neither_second}
 use Rattle.std.proofs.Math.Bool.{or_comm}
-use Rattle.desk_lists.proofs.Kept.{found-any, found-passes, none-found}
-use Rattle.desk_terms.specs.Places.{Places, holds, is_range}
-use Rattle.desk_terms.specs.declared.range.TheConstants.{MOST_PLACES}
+use Rattle.seq.proofs.Kept.{found-any, found-passes, none-found}
+use Rattle.vocabulary.specs.Places.{Places, holds, is_range}
+use Rattle.vocabulary.specs.declared.range.TheConstants.{MOST_PLACES}
 use Rattle.desk_words.specs.declared.records.Appointment.{Appointment}
 use Rattle.desk_words.specs.declared.records.Ending.{Ending}
 use Rattle.proxy_rules.specs.Alone.{holding_from, is_left, is_taken}
 use Rattle.proxy_rules.specs.Governing.{ends, governed_in, governs, is_ended, is_over, unended}
 use Rattle.proxy_rules.specs.Holdings.{are_numbered_from}
-use Rattle.proxy_rules.specs.Laws.{has_number}
-use Rattle.proxy_rules.specs.Runs.{joined, runs_that}
+use Rattle.proxy_rules.specs.GoverningLaws.{has_number}
+use Rattle.proxy_rules.specs.PlaceRuns.{joined, runs_that}
 use Rattle.proxy_rules.specs.Shares.{is_share}
 use Rattle.proxy_rules.specs.declared.holdings.Holding.{Holding}
 use Rattle.proxy_rules.specs.declared.papers.Cutoffs.{Cutoffs}
 use Rattle.proxy_rules.proofs.GovernedRuns.{any-reversed, earlier_nothing, ended_or_not, none_past, not_found}
-use Rattle.proxy_rules.proofs.RunLemmas.{runs_that-alike, runs_that-stretch}
+use Rattle.proxy_rules.proofs.ProxyRunLemmas.{runs_that-alike, runs_that-stretch}
 
 -- ---- runs of places that pass or fail alike
 

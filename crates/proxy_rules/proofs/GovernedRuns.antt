@@ -7,15 +7,15 @@ use Rattle.std.proofs.lemmas.Bool.{eq-eqb, eqb-true}
 use Rattle.std.proofs.lemmas.List.{reverse-append}
 use Rattle.std.proofs.lemmas.List.Elements.{filter-append}
 use Rattle.std.proofs.lemmas.List.Folds.{find-append, list_any-append}
-use Rattle.desk_lists.proofs.Booleans.{neither_first, neither_second}
+use Rattle.seq.proofs.Booleans.{neither_first, neither_second}
 use Rattle.desk_words.specs.declared.records.Appointment.{Appointment}
 use Rattle.desk_words.specs.declared.records.Ending.{Ending}
 use Rattle.proxy_rules.specs.declared.holdings.Holding.{Holding}
 use Rattle.proxy_rules.specs.Governing.{ends, governs, has_share, is_ended, is_over, last_over, unended}
 use Rattle.proxy_rules.specs.Holdings.{holding_of, is_ended_of}
-use Rattle.proxy_rules.specs.Laws.{EarlierTakeNothing, EndingsReviveNothing, RunsHoldWhatGoverns, has_number}
-use Rattle.proxy_rules.specs.Runs.{runs_that}
-use Rattle.proxy_rules.proofs.RunLemmas.{are_in-runs_that}
+use Rattle.proxy_rules.specs.GoverningLaws.{EarlierTakeNothing, EndingsReviveNothing, RunsHoldWhatGoverns, has_number}
+use Rattle.proxy_rules.specs.PlaceRuns.{runs_that}
+use Rattle.proxy_rules.proofs.ProxyRunLemmas.{are_in-runs_that}
 
 -- ---- the runs that an appointment governs, place by place
 

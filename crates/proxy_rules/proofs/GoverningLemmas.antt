@@ -9,14 +9,14 @@ use Rattle.std.proofs.lemmas.List.{reverse-append}
 use Rattle.std.proofs.lemmas.List.Elements.{All-nil, All-cons, All-head, All-tail}
 use Rattle.std.proofs.lemmas.List.Folds.{find-append, list_all-append}
 use Rattle.std.specs.Cmp.{first_so, second_so}
-use Rattle.desk_terms.specs.declared.range.TheConstants.{MOST_PLACES}
-use Rattle.desk_terms.specs.Places.{Places, holds}
+use Rattle.vocabulary.specs.declared.range.TheConstants.{MOST_PLACES}
+use Rattle.vocabulary.specs.Places.{Places, holds}
 use Rattle.desk_words.specs.declared.records.Appointment.{Appointment}
 use Rattle.proxy_rules.specs.declared.holdings.Holding.{Holding}
 use Rattle.proxy_rules.specs.declared.papers.Cutoffs.{Cutoffs}
 use Rattle.proxy_rules.specs.declared.pieces.GovernedPiece.{GovernedPiece}
 use Rattle.proxy_rules.specs.Governing.{ends, governing_in, is_ended, is_over, last_over, unended}
-use Rattle.proxy_rules.specs.Holdings.{IsKept, are_numbered_from, are_tags}
+use Rattle.proxy_rules.specs.Holdings.{IsValidHolding, are_numbered_from, are_tags}
 use Rattle.proxy_rules.specs.Tagging.{cover_by, covers_by, held_of, if_unended, piece_by, piece_over, tag_over}
 use Rattle.proxy_rules.specs.Tiles.{ArePieces, IsGoverned, are_tiled, governed_ranges}
 use Rattle.proxy_rules.proofs.TileLemmas.{no_range, tiled-held, within_range}
@@ -126,7 +126,7 @@ by_tag cutoffs holding has_ended (Some a) fits =
       | false ↦ sym f.placed
     ]) ∙ ap (λ b. at_tag holding (cond b None (Some a.number))) (sym f.ended)
 
-module _ (admitted has_ended : ℕ → Bool) (tags_pass : (tag : ℕ) → is_tag tag ≡ true → admitted tag ≡ true) (cutoffs : Cutoffs) (holding : Holding) (kept : IsKept holding)
+module _ (admitted has_ended : ℕ → Bool) (tags_pass : (tag : ℕ) → is_tag tag ≡ true → admitted tag ≡ true) (cutoffs : Cutoffs) (holding : Holding) (kept : IsValidHolding holding)
     (ended : (tag : ℕ) → is_tag tag ≡ true → has_ended tag ≡ list_any (ends cutoffs tag) holding.ended)
     (pieces : List Piece) (newest : (place : ℕ) → is_place place ≡ true → find admitted (tags_at pieces place) ≡ newest_of admitted (covers_by cutoffs holding.appointed) place) where
   governing_tag : (place : ℕ) → 1 ≤ place → place ≤ holding.shares → governing_in cutoffs holding place ≡ at_tag holding (tag_over admitted has_ended pieces place)

@@ -2,10 +2,10 @@ pub mod AloneLemmas
 pub mod EndedTags
 pub mod GovernedRuns
 pub mod GoverningLemmas
-pub mod KeptLemmas
-pub mod ListLemmas
-pub mod NameLemmas
-pub mod RunLemmas
+pub mod ProxyKeptLemmas
+pub mod ProxyListLemmas
+pub mod ProxyNameLemmas
+pub mod ProxyRunLemmas
 pub mod ShareLemmas
 pub mod TagLemmas
 pub mod TileLemmas

@@ -5,7 +5,7 @@ use Rattle.std.specs.Cmp.{first_so, second_so}
 use Rattle.std.specs.Cmp.Derive.{both_true}
 use Rattle.std.specs.List.{list_all}
 use Rattle.std.proofs.lemmas.Bool.Decides.{nat_tests}
-use Rattle.desk_terms.specs.Names.{same_name}
+use Rattle.vocabulary.specs.Names.{same_name}
 use Rattle.desk_words.specs.Office.{is_appointment, are_appointments, are_numbered_after}
 use Rattle.desk_words.specs.declared.records.Appointment.{Appointment}
 use Rattle.share_blocks.specs.Tags.{is_tag}

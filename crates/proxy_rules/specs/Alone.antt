@@ -1,8 +1,8 @@
 -- What one appointment governs beside those that were received after it. For private contracts.
 use Rattle.std.specs.Prelude.{ℕ, Bool, ◌&&◌, not, List, ◌∷◌}
 use Rattle.std.specs.List.{list_any}
-use Rattle.desk_terms.specs.Places.{Places, holds}
-use Rattle.desk_words.specs.Seen.{Place}
+use Rattle.vocabulary.specs.Places.{Places, holds}
+use Rattle.desk_words.specs.ViewTypes.{Place}
 use Rattle.desk_words.specs.declared.records.Appointment.{Appointment}
 use Rattle.desk_words.specs.declared.records.Ending.{Ending}
 use Rattle.proxy_rules.specs.Governing.{is_over}

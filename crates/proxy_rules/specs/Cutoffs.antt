@@ -1,13 +1,13 @@
 -- Cutoffs: until when appointments and endings count (own, after sections 327 and 330).
 use Rattle.std.specs.Prelude.{ℕ, Bool, List, if◌then◌else◌}
 use Rattle.std.specs.Option.{unwrap_or}
-use Rattle.desk_words.specs.Seen.{Day, Moment}
+use Rattle.desk_words.specs.ViewTypes.{Day, Moment}
 use Rattle.desk_words.specs.declared.limits.TheConstants.{HOURS_BEFORE_LATE_POLL, HOURS_BEFORE_MEETING}
 use Rattle.desk_words.specs.declared.records.Meeting.{Meeting}
 use Rattle.desk_words.specs.declared.records.Poll.{Poll}
 use Rattle.desk_words.specs.declared.records.Session.{Session}
 use Rattle.desk_words.specs.Sessions.{session_of}
-use Rattle.office_days.specs.Days.{back, is_late}
+use Rattle.office_days.specs.WorkingDays.{back, is_late}
 use Rattle.proxy_rules.specs.Uses.{Use, Acts, Votes, Vote}
 use Rattle.proxy_rules.specs.declared.papers.Cutoffs.{Cutoffs}
 

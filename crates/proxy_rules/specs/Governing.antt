@@ -3,13 +3,13 @@
 use Rattle.std.specs.Prelude.{ℕ, Bool, false, ◌&&◌, ◌==◌, nat_le, nat_lt, List, find, reverse, Option, Some, None, option_map, option_and_then, if◌then◌else◌}
 use Rattle.std.specs.List.{list_any}
 use Rattle.std.specs.Option.{option_map_or}
-use Rattle.desk_terms.specs.Places.{Places, holds}
-use Rattle.desk_words.specs.Seen.{Place}
+use Rattle.vocabulary.specs.Places.{Places, holds}
+use Rattle.desk_words.specs.ViewTypes.{Place}
 use Rattle.desk_words.specs.declared.records.Appointment.{Appointment}
 use Rattle.desk_words.specs.declared.records.Ending.{Ending}
 use Rattle.proxy_rules.specs.declared.holdings.Holding.{Holding}
 use Rattle.proxy_rules.specs.declared.papers.Cutoffs.{Cutoffs}
-use Rattle.proxy_rules.specs.Runs.{runs_that}
+use Rattle.proxy_rules.specs.PlaceRuns.{runs_that}
 use Rattle.proxy_rules.specs.Shares.{is_share}
 
 -- received in time to count, and over the place (sections 324 and 327)

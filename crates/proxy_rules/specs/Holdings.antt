@@ -1,9 +1,9 @@
 -- One member's shares, with what was received of its appointments.
 use Rattle.std.specs.Prelude.{◌≡◌, ℕ, ◌≤◌, suc, Bool, true, ◌&&◌, ◌==◌, nat_le, List, [], ◌∷◌, filter}
 use Rattle.std.specs.List.{list_all}
-use Rattle.desk_terms.specs.declared.range.TheConstants.{MOST_PLACES}
-use Rattle.desk_terms.specs.Names.{same_name}
-use Rattle.desk_words.specs.Seen.{Party}
+use Rattle.vocabulary.specs.declared.range.TheConstants.{MOST_PLACES}
+use Rattle.vocabulary.specs.Names.{same_name}
+use Rattle.desk_words.specs.ViewTypes.{Party}
 use Rattle.desk_words.specs.declared.records.Appointment.{Appointment}
 use Rattle.desk_words.specs.declared.records.Ending.{Ending}
 use Rattle.desk_words.specs.declared.records.RegisterRow.{RegisterRow}
@@ -47,14 +47,14 @@ are_tags given = list_all (λ (a : Appointment). is_tag a.number) given
 
 -- an office keeps such a holding: its appointments are numbered 1, 2, .. up to the limit of
 -- appointments, and its shares have places
-abbrev pub is_kept : Holding → Bool
-is_kept holding =
+abbrev pub is_valid_holding : Holding → Bool
+is_valid_holding holding =
     are_numbered_from 0 holding.appointed && are_tags holding.appointed
     && nat_le holding.shares MOST_PLACES
 
 -- what an office keeps of one member: its appointments are numbered 1, 2, .. up to the limit of
 -- appointments, and its shares have places
-pub record IsKept (holding : Holding) : Type 0 where
+pub record IsValidHolding (holding : Holding) : Type 0 where
   pub numbered : are_numbered_from 0 holding.appointed ≡ true
   pub tagged : are_tags holding.appointed ≡ true
   pub few : holding.shares ≤ MOST_PLACES

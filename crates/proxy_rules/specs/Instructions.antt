@@ -2,10 +2,10 @@
 use Rattle.std.specs.Prelude.{ℕ, ◌-◌, Bool, true, false, nat_lt, List, Option, Some, None, option_and_then, if◌then◌else◌}
 use Rattle.std.specs.List.{slice_get}
 use Rattle.std.specs.Option.{option_map_or}
-use Rattle.desk_terms.specs.declared.kinds.Instr.{Instr}
-use Rattle.desk_terms.specs.declared.kinds.Instr.TheVariants as instruction
-use Rattle.desk_terms.specs.declared.kinds.Way.{Way}
-use Rattle.desk_terms.specs.declared.kinds.Way.TheVariants.{For, Against, Withheld}
+use Rattle.vocabulary.specs.declared.kinds.Instr.{Instr}
+use Rattle.vocabulary.specs.declared.kinds.Instr.TheVariants as instruction
+use Rattle.vocabulary.specs.declared.kinds.Way.{Way}
+use Rattle.vocabulary.specs.declared.kinds.Way.TheVariants.{For, Against, Withheld}
 
 -- both are the same way
 abbrev pub same_way : Way → Way → Bool

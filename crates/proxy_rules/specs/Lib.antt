@@ -1,11 +1,11 @@
 pub mod Alone
 pub mod Cutoffs
 pub mod Governing
+pub mod GoverningLaws
 pub mod Holdings
 pub mod Instructions
-pub mod Laws
 pub mod Parties
-pub mod Runs
+pub mod PlaceRuns
 pub mod Shares
 pub mod Tagging
 pub mod Tiles

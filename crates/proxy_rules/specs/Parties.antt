@@ -1,9 +1,9 @@
 -- Whose each record is, and in which capacities parties act.
 use Rattle.std.specs.Prelude.{Bool, true, false, List, filter, map}
-use Rattle.desk_terms.specs.Names.{same_name}
-use Rattle.desk_terms.specs.declared.kinds.Capacity.{Capacity}
-use Rattle.desk_terms.specs.declared.kinds.Capacity.TheVariants.{Member, Rep, Proxy}
-use Rattle.desk_words.specs.Seen.{Party}
+use Rattle.vocabulary.specs.Names.{same_name}
+use Rattle.vocabulary.specs.declared.kinds.Capacity.{Capacity}
+use Rattle.vocabulary.specs.declared.kinds.Capacity.TheVariants.{Member, Rep, Proxy}
+use Rattle.desk_words.specs.ViewTypes.{Party}
 use Rattle.desk_words.specs.declared.records.Appointment.{Appointment}
 use Rattle.desk_words.specs.declared.records.Authority.{Authority}
 use Rattle.desk_words.specs.declared.records.CastMark.{CastMark}

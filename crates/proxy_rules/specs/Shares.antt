@@ -1,12 +1,12 @@
 -- Shares. Those of a holding are numbered from 1, so a share is a row of the register and a place.
 use Rattle.std.specs.Prelude.{ℕ, Bool, true, false, ◌&&◌, nat_le, List, find, Option}
 use Rattle.std.specs.Option.{option_map_or}
-use Rattle.desk_terms.specs.Names.{same_name}
-use Rattle.desk_terms.specs.declared.kinds.HolderKind.{HolderKind}
-use Rattle.desk_terms.specs.declared.kinds.HolderKind.TheVariants.{Individual, Corporation, Treasury}
-use Rattle.desk_words.specs.Seen.{Party, Place}
+use Rattle.vocabulary.specs.Names.{same_name}
+use Rattle.vocabulary.specs.declared.kinds.HolderKind.{HolderKind}
+use Rattle.vocabulary.specs.declared.kinds.HolderKind.TheVariants.{Individual, Corporation, Treasury}
+use Rattle.desk_words.specs.ViewTypes.{Party, Place}
 use Rattle.desk_words.specs.declared.records.RegisterRow.{RegisterRow}
-use Rattle.desk_words.specs.Seen.{Party, Place}
+use Rattle.desk_words.specs.ViewTypes.{Party, Place}
 
 -- the shares of a holding, of which treasury shares are none in any rule of a poll (section 726)
 abbrev pub shares_held : HolderKind → ℕ → ℕ

@@ -2,8 +2,8 @@
 -- contracts.
 use Rattle.std.specs.Prelude.{ℕ, ◌-◌, Bool, nat_le, nat_lt, min, List, find, Option, Some, None, option_map, option_and_then, if◌then◌else◌}
 use Rattle.std.specs.List.{filter_map}
-use Rattle.desk_terms.specs.Places.{Places, range_of}
-use Rattle.desk_words.specs.Seen.{Place}
+use Rattle.vocabulary.specs.Places.{Places, range_of}
+use Rattle.desk_words.specs.ViewTypes.{Place}
 use Rattle.desk_words.specs.declared.records.Appointment.{Appointment}
 use Rattle.desk_words.specs.declared.records.Ending.{Ending}
 use Rattle.proxy_rules.specs.declared.papers.Cutoffs.{Cutoffs}

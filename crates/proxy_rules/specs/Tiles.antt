@@ -1,8 +1,8 @@
 -- The places of a holding in pieces, each of which one appointment governs, or none.
 use Rattle.std.specs.Prelude.{◌≡◌, ℕ, ◌+◌, ◌-◌, ◌==◌, Bool, true, IsTrue, ◌&&◌, nat_le, List, [], ◌∷◌, All, map, sum_by, Option, option_and_then, if◌then◌else◌}
 use Rattle.std.specs.List.{slice_get}
-use Rattle.desk_terms.specs.Places.{Places, holds, places_that}
-use Rattle.desk_words.specs.Seen.{Place}
+use Rattle.vocabulary.specs.Places.{Places, holds, places_that}
+use Rattle.desk_words.specs.ViewTypes.{Place}
 use Rattle.desk_words.specs.declared.records.Appointment.{Appointment}
 use Rattle.proxy_rules.specs.declared.holdings.Holding.{Holding}
 use Rattle.proxy_rules.specs.declared.papers.Cutoffs.{Cutoffs}

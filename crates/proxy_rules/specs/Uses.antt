@@ -1,6 +1,6 @@
 -- For what appointments of proxies, and their endings, are asked to count (sections 327 and 330).
 use Rattle.std.specs.Prelude.{Option, Some, None}
-use Rattle.desk_words.specs.Seen.{SessionNumber}
+use Rattle.desk_words.specs.ViewTypes.{SessionNumber}
 use Rattle.desk_words.specs.declared.records.Poll.{Poll}
 use Rattle.proxy_rules.specs.declared.cutoff.Use.{Use as LentUse}
 use Rattle.proxy_rules.specs.declared.cutoff.Use.TheVariants as lent

@@ -5,9 +5,9 @@ ghost use Rattle.std.specs.List.{list_any};
 ghost use Rattle.std.specs.Option.{option_copied};
 ghost use Rattle.proxy_rules.specs.Alone.{holding_from, is_left, is_taken};
 ghost use Rattle.proxy_rules.specs.Governing.{ends, governed_in, is_over};
-ghost use Rattle.proxy_rules.specs.Holdings.{IsKept};
-ghost use Rattle.proxy_rules.specs.Laws.{has_number};
-ghost use Rattle.proxy_rules.specs.Runs.{runs_that};
+ghost use Rattle.proxy_rules.specs.Holdings.{IsValidHolding};
+ghost use Rattle.proxy_rules.specs.GoverningLaws.{has_number};
+ghost use Rattle.proxy_rules.specs.PlaceRuns.{runs_that};
 
 use crate::governor::{counts, ends, is_over};
 use crate::holdings::Holding;
@@ -149,7 +149,7 @@ impl Holding {
         cutoffs: &Cutoffs,
         number: u64,
     ) -> Result<Vec<Range>, AllocError>
-        requires { IsKept self.now }
+        requires { IsValidHolding self.now }
         ensures { IfOk result (λ runs. runs.items ≡ governed_in cutoffs.now self.now number) }
     {
         let appointed = self.appointed.as_slice();

@@ -1,7 +1,7 @@
 //! One member's shares, with what was received of its appointments.
 ghost use Rattle.std.specs.Prelude.{◌≡◌, ◌<◌, true, All, IfOk, filter, length, nat_le};
 ghost use Rattle.std.specs.List.{filter_map, slice_get};
-ghost use Rattle.proxy_rules.specs.Holdings.{IsKept, are_numbered_from, are_tags, holding_by, holding_of, holding_with, is_ended_of, is_given_by, is_kept};
+ghost use Rattle.proxy_rules.specs.Holdings.{IsValidHolding, are_numbered_from, are_tags, holding_by, holding_of, holding_with, is_ended_of, is_given_by, is_valid_holding};
 
 use crate::governor::shares_by;
 use crate::papers::Papers;
@@ -147,8 +147,8 @@ impl Holding {
     /// Whether an office keeps such a holding: its appointments are numbered 1, 2, .. up to 256,
     /// and its shares have places. It takes no memory.
     pub fn is_kept(&self) -> bool
-        ensures value { result ≡ is_kept self.now }
-        ensures kept { result ≡ true → IsKept self.now }
+        ensures value { result ≡ is_valid_holding self.now }
+        ensures kept { result ≡ true → IsValidHolding self.now }
     {
         let appointed = self.appointed.as_slice();
         are_numbered(appointed) && are_tags(appointed) && have_places(self.shares)

@@ -1,5 +1,5 @@
 //! Laws of the definitions by which the contracts speak.
-ghost use Rattle.proxy_rules.specs.Laws.{EarlierTakeNothing, EndingsReviveNothing, RunsAreParted, RunsHoldWhatGoverns, RunsHoldWhatPasses};
+ghost use Rattle.proxy_rules.specs.GoverningLaws.{EarlierTakeNothing, EndingsReviveNothing, RunsAreParted, RunsHoldWhatGoverns, RunsHoldWhatPasses};
 ghost use Rattle.proxy_rules.specs.Tiles.{PiecesCountShares, TilesCountPlaces};
 
 /// Of every test, the runs hold exactly the places that pass it.

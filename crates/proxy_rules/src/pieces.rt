@@ -4,7 +4,7 @@ ghost use Rattle.std.specs.FinSet as set;
 ghost use Rattle.std.specs.List.{filter_map, list_any};
 ghost use Rattle.std.specs.Option.{option_copied};
 ghost use Rattle.proxy_rules.specs.Governing.{ends};
-ghost use Rattle.proxy_rules.specs.Holdings.{IsKept};
+ghost use Rattle.proxy_rules.specs.Holdings.{IsValidHolding};
 ghost use Rattle.proxy_rules.specs.Tagging.{cover_by, covers_by, held_of, piece_over, tag_ended, tag_over};
 ghost use Rattle.proxy_rules.specs.Tiles.{ArePieces, governing_of};
 ghost use Rattle.share_blocks.specs.Pieces.{ranges_of};
@@ -155,7 +155,7 @@ impl Holding {
     /// Its cost does not grow with the shares. For n appointments it is n log n where each lies
     /// around all before, and at most the square of n, which is 256 at most.
     pub fn pieces(&self, alloc: Global, cutoffs: &Cutoffs) -> Result<Vec<GovernedPiece>, AllocError>
-        requires { IsKept self.now }
+        requires { IsValidHolding self.now }
         ensures { IfOk result (λ pieces. ArePieces cutoffs.now self.now pieces.items) }
     {
         self.pieces_by::<PlainBlocks>(alloc, cutoffs)
@@ -167,7 +167,7 @@ impl Holding {
         alloc: Global,
         cutoffs: &Cutoffs,
     ) -> Result<Vec<GovernedPiece>, AllocError>
-        requires { IsKept self.now }
+        requires { IsValidHolding self.now }
         ensures { IfOk result (λ pieces. ArePieces cutoffs.now self.now pieces.items) }
     {
         let covers = covers_by(alloc, cutoffs, self.appointed.as_slice())?;

@@ -5,8 +5,8 @@ ghost use Rattle.desk_words.specs.Ordered.{ascends_by};
 ghost use Rattle.desk_words.specs.Registers.{member_before};
 ghost use Rattle.proxy_rules.specs.Shares.{row_of, shares_of};
 
-use desk_lists::find_by_key;
 use desk_words::{HolderKind, Party, RegisterRow};
+use seq::find_by_key;
 
 /// A member's row in a register, found in about as many steps as its length has binary digits.
 pub fn find_row(register: &[RegisterRow], member: Party) -> Option<&RegisterRow>

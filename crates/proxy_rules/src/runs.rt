@@ -3,7 +3,7 @@ ghost use Rattle.std.specs.Prelude.{◌≡◌, [], true, IfOk, OnOk};
 ghost use Rattle.desk_words.specs.Office.{are_numbered_after, are_rows};
 ghost use Rattle.proxy_rules.specs.Governing.{governed_in};
 ghost use Rattle.proxy_rules.specs.Holdings.{are_tags, holding_of};
-ghost use Rattle.proxy_rules.specs.Runs.{joined};
+ghost use Rattle.proxy_rules.specs.PlaceRuns.{joined};
 
 use crate::holdings::Holding;
 use crate::papers::{Cutoffs, Papers};

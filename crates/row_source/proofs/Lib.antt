@@ -1,3 +1,3 @@
 pub mod MemberLemmas
-pub mod RowLemmas
-pub mod TellingLemmas
+pub mod SourceRowLemmas
+pub mod SourceTellingLemmas

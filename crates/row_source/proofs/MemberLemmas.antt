@@ -6,18 +6,18 @@ use Rattle.std.specs.Ordering.{is_eq}
 use Rattle.std.proofs.lemmas.List.{append-nil, map-append, take_more}
 use Rattle.std.proofs.lemmas.List.Folds.{list_any-append}
 use Rattle.std.proofs.lemmas.List.Elements.{filter-append}
-use Rattle.desk_terms.specs.Names.{name_cmp, same_name}
-use Rattle.desk_terms.specs.declared.kinds.Capacity.{Capacity}
-use Rattle.desk_terms.specs.declared.kinds.Capacity.TheVariants.{Member, Rep, Proxy}
-use Rattle.desk_words.proofs.RowLemmas.{same_name-true, same_name-refl}
+use Rattle.vocabulary.specs.Names.{name_cmp, same_name}
+use Rattle.vocabulary.specs.declared.kinds.Capacity.{Capacity}
+use Rattle.vocabulary.specs.declared.kinds.Capacity.TheVariants.{Member, Rep, Proxy}
+use Rattle.desk_words.proofs.WordRowLemmas.{same_name-true, same_name-refl}
 use Rattle.desk_words.specs.declared.office.MeetingLists.{MeetingLists}
 use Rattle.desk_words.specs.declared.records.Appointment.{Appointment}
 use Rattle.desk_words.specs.declared.request.NewCast.{NewCast}
-use Rattle.party_views.specs.Reads.{appointments_read, members_read}
-use Rattle.party_views.specs.Rows.{parties_once, givers, member_in}
+use Rattle.party_views.specs.RowsRead.{appointments_read, members_read}
+use Rattle.party_views.specs.PartyRows.{parties_once, givers, member_in}
 use Rattle.party_views.specs.declared.rows.MemberRows.{MemberRows}
 use Rattle.party_views.proofs.OwnLemmas.{filter-map, filter-swap}
-use Rattle.proxy_rules.proofs.NameLemmas.{same_name-sym}
+use Rattle.proxy_rules.proofs.ProxyNameLemmas.{same_name-sym}
 use Rattle.proxy_rules.specs.Holdings.{is_given_by}
 
 -- the names are not the same

@@ -1,2 +1,2 @@
-pub mod Lists
-pub mod Telling
+pub mod LookUps
+pub mod TrueLookUps

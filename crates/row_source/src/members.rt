@@ -1,11 +1,11 @@
 //! The members who named a party, and the corporations that authorised it.
 ghost use Rattle.std.specs.Prelude.{◌≡◌, IfOk, map};
 ghost use Rattle.std.specs.Option.{option_map_or};
-ghost use Rattle.party_views.specs.Rows.{givers};
+ghost use Rattle.party_views.specs.PartyRows.{givers};
 ghost use Rattle.proxy_rules.specs.Shares.{shares_of};
-ghost use Rattle.row_source.specs.Lists.{authority_at, member_at, received_from, trusting_from};
-ghost use Rattle.row_source.specs.Lists.{with_members};
-ghost use Rattle.row_source.specs.Telling.{Tells};
+ghost use Rattle.row_source.specs.LookUps.{authority_at, member_at, received_from, trusting_from};
+ghost use Rattle.row_source.specs.LookUps.{with_members};
+ghost use Rattle.row_source.specs.TrueLookUps.{IsTrueLookUp};
 
 use crate::source::RowSource;
 use desk_words::{Appointment, Authority, Listing, Party, RegisterRow};
@@ -35,7 +35,7 @@ fn shares_by(row: &Option<RegisterRow>) -> u64
 
 /// A member, with its shares, its appointments and its endings.
 fn member_rows<R: RowSource>(source: &mut R, member: Party) -> Result<MemberRows, R::Error>
-    ensures { Tells R.trusted R.shows R.keeps R.leaves R.may_fail source.old source.new result
+    ensures { IsTrueLookUp R.trusted R.shows R.keeps R.leaves R.may_fail source.old source.new result
         (λ found rows. rows ≡ member_at found member) }
 {
     let row = source.row_of(member)?;
@@ -71,7 +71,7 @@ fn received_from<R: RowSource>(
     giver: Option<Party>,
     party: Party,
 ) -> Result<Listing<Appointment>, R::Error>
-    ensures { Tells R.trusted R.shows R.keeps R.leaves R.may_fail source.old source.new result
+    ensures { IsTrueLookUp R.trusted R.shows R.keeps R.leaves R.may_fail source.old source.new result
         (λ found received. received ≡ received_from found giver party) }
 {
     match giver {
@@ -88,7 +88,7 @@ pub(crate) fn named<R: RowSource>(
     giver: Option<Party>,
     party: Party,
 ) -> Result<ReceivedRows, R::Error>
-    ensures { Tells R.trusted R.shows R.keeps R.leaves R.may_fail source.old source.new result
+    ensures { IsTrueLookUp R.trusted R.shows R.keeps R.leaves R.may_fail source.old source.new result
         (λ found named. named ≡ with_members found (received_from found giver party)) }
 {
     let received = received_from(source, giver, party)?;
@@ -105,7 +105,7 @@ fn trusting_from<R: RowSource>(
     giver: Option<Party>,
     party: Party,
 ) -> Result<Listing<Authority>, R::Error>
-    ensures { Tells R.trusted R.shows R.keeps R.leaves R.may_fail source.old source.new result
+    ensures { IsTrueLookUp R.trusted R.shows R.keeps R.leaves R.may_fail source.old source.new result
         (λ found given. given ≡ trusting_from found giver party) }
 {
     match giver {
@@ -122,7 +122,7 @@ pub(crate) fn authorised<R: RowSource>(
     giver: Option<Party>,
     party: Party,
 ) -> Result<Listing<AuthorityRows>, R::Error>
-    ensures { Tells R.trusted R.shows R.keeps R.leaves R.may_fail source.old source.new result
+    ensures { IsTrueLookUp R.trusted R.shows R.keeps R.leaves R.may_fail source.old source.new result
         (λ found all. all ≡ map (authority_at found) (trusting_from found giver party)) }
 {
     let given = trusting_from(source, giver, party)?;

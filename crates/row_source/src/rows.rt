@@ -1,11 +1,11 @@
 //! Those of a party's rows in a meeting that the answer to its request reads.
 ghost use Rattle.std.specs.Prelude.{◌≡◌, map};
-ghost use Rattle.party_views.specs.Reads.{rows_kept};
-ghost use Rattle.party_views.specs.Rows.{no_rows_of, rows_in};
+ghost use Rattle.party_views.specs.RowsRead.{rows_part};
+ghost use Rattle.party_views.specs.PartyRows.{no_rows_of, rows_in};
 ghost use Rattle.party_views.specs.declared.reads.Reads.TheVariants as reads;
-ghost use Rattle.row_source.specs.Lists.{authority_at, for_member, naming_by_in, trusting_for_in};
-ghost use Rattle.row_source.specs.Lists.{with_members};
-ghost use Rattle.row_source.specs.Telling.{Tells};
+ghost use Rattle.row_source.specs.LookUps.{authority_at, for_member, naming_by_in, trusting_for_in};
+ghost use Rattle.row_source.specs.LookUps.{with_members};
+ghost use Rattle.row_source.specs.TrueLookUps.{IsTrueLookUp};
 
 use crate::members::{authorised, named};
 use crate::source::RowSource;
@@ -38,8 +38,8 @@ fn standing_of<R: RowSource>(
     alloc: Global,
     party: Party,
 ) -> Result<OwnRows, R::Error>
-    ensures { Tells R.trusted R.shows R.keeps R.leaves R.may_fail source.old source.new result
-        (λ found rows. rows ≡ rows_kept reads.Standing (rows_in found party)) }
+    ensures { IsTrueLookUp R.trusted R.shows R.keeps R.leaves R.may_fail source.old source.new result
+        (λ found rows. rows ≡ rows_part reads.Standing (rows_in found party)) }
 {
     let named = named(source, alloc, None, party)?;
     let row = source.row_of(party)?;
@@ -59,7 +59,7 @@ fn standing_of<R: RowSource>(
 
 /// All rows of a party.
 fn rows_of<R: RowSource>(source: &mut R, alloc: Global, party: Party) -> Result<OwnRows, R::Error>
-    ensures { Tells R.trusted R.shows R.keeps R.leaves R.may_fail source.old source.new result
+    ensures { IsTrueLookUp R.trusted R.shows R.keeps R.leaves R.may_fail source.old source.new result
         (λ found rows. rows ≡ rows_in found party) }
 {
     let given = source.given_by(party)?;
@@ -82,8 +82,8 @@ fn given_alone<R: RowSource>(
     alloc: Global,
     party: Party,
 ) -> Result<OwnRows, R::Error>
-    ensures { Tells R.trusted R.shows R.keeps R.leaves R.may_fail source.old source.new result
-        (λ found rows. rows ≡ rows_kept reads.Given (rows_in found party)) }
+    ensures { IsTrueLookUp R.trusted R.shows R.keeps R.leaves R.may_fail source.old source.new result
+        (λ found rows. rows ≡ rows_part reads.Given (rows_in found party)) }
 {
     let given = source.given_by(party)?;
     let ended = source.ended_by(party)?;
@@ -100,8 +100,8 @@ fn persons_alone<R: RowSource>(
     alloc: Global,
     party: Party,
 ) -> Result<OwnRows, R::Error>
-    ensures { Tells R.trusted R.shows R.keeps R.leaves R.may_fail source.old source.new result
-        (λ found rows. rows ≡ rows_kept reads.Persons (rows_in found party)) }
+    ensures { IsTrueLookUp R.trusted R.shows R.keeps R.leaves R.may_fail source.old source.new result
+        (λ found rows. rows ≡ rows_part reads.Persons (rows_in found party)) }
 {
     let persons = source.persons_of(party)?;
     Ok(OwnRows {
@@ -116,8 +116,8 @@ fn presence_alone<R: RowSource>(
     alloc: Global,
     party: Party,
 ) -> Result<OwnRows, R::Error>
-    ensures { Tells R.trusted R.shows R.keeps R.leaves R.may_fail source.old source.new result
-        (λ found rows. rows ≡ rows_kept reads.Presence (rows_in found party)) }
+    ensures { IsTrueLookUp R.trusted R.shows R.keeps R.leaves R.may_fail source.old source.new result
+        (λ found rows. rows ≡ rows_part reads.Presence (rows_in found party)) }
 {
     let presences = source.presences_of(party)?;
     Ok(OwnRows {
@@ -132,8 +132,8 @@ fn none_of_them<R: RowSource>(
     alloc: Global,
     party: Party,
 ) -> Result<OwnRows, R::Error>
-    ensures { Tells R.trusted R.shows R.keeps R.leaves R.may_fail source.old source.new result
-        (λ found rows. rows ≡ rows_kept reads.Nothing (rows_in found party)) }
+    ensures { IsTrueLookUp R.trusted R.shows R.keeps R.leaves R.may_fail source.old source.new result
+        (λ found rows. rows ≡ rows_part reads.Nothing (rows_in found party)) }
 {
     source.presences_of(party)?;
     Ok(no_rows_of(alloc, party))
@@ -146,8 +146,8 @@ fn for_instructed<R: RowSource>(
     party: Party,
     resolution: u64,
 ) -> Result<OwnRows, R::Error>
-    ensures { Tells R.trusted R.shows R.keeps R.leaves R.may_fail source.old source.new result
-        (λ found rows. rows ≡ rows_kept (reads.AsInstructed resolution) (rows_in found party)) }
+    ensures { IsTrueLookUp R.trusted R.shows R.keeps R.leaves R.may_fail source.old source.new result
+        (λ found rows. rows ≡ rows_part (reads.AsInstructed resolution) (rows_in found party)) }
 {
     let named = named(source, alloc, None, party)?;
     let casts = source.casts_on(party, resolution)?;
@@ -166,7 +166,7 @@ fn for_member<R: RowSource>(
     party: Party,
     resolution: u64,
 ) -> Result<OwnRows, R::Error>
-    ensures { Tells R.trusted R.shows R.keeps R.leaves R.may_fail source.old source.new result
+    ensures { IsTrueLookUp R.trusted R.shows R.keeps R.leaves R.may_fail source.old source.new result
         (λ found rows. rows ≡ for_member found party resolution) }
 {
     let row = source.row_of(party)?;
@@ -185,7 +185,7 @@ fn for_rep<R: RowSource>(
     party: Party,
     new: &NewCast,
 ) -> Result<OwnRows, R::Error>
-    ensures { Tells R.trusted R.shows R.keeps R.leaves R.may_fail source.old source.new result
+    ensures { IsTrueLookUp R.trusted R.shows R.keeps R.leaves R.may_fail source.old source.new result
         (λ found rows. rows ≡ record (for_member found party new.now.resolution) {
           authorised = map (authority_at found) (trusting_for_in found new.now.member party);
         }) }
@@ -203,7 +203,7 @@ fn for_proxy<R: RowSource>(
     party: Party,
     new: &NewCast,
 ) -> Result<OwnRows, R::Error>
-    ensures { Tells R.trusted R.shows R.keeps R.leaves R.may_fail source.old source.new result
+    ensures { IsTrueLookUp R.trusted R.shows R.keeps R.leaves R.may_fail source.old source.new result
         (λ found rows. rows ≡ record (for_member found party new.now.resolution) {
           received = naming_by_in found new.now.member party;
           members = (with_members found (naming_by_in found new.now.member party)).members;
@@ -226,8 +226,8 @@ fn for_vote<R: RowSource>(
     party: Party,
     new: &NewCast,
 ) -> Result<OwnRows, R::Error>
-    ensures { Tells R.trusted R.shows R.keeps R.leaves R.may_fail source.old source.new result
-        (λ found rows. rows ≡ rows_kept (reads.Vote new.now) (rows_in found party)) }
+    ensures { IsTrueLookUp R.trusted R.shows R.keeps R.leaves R.may_fail source.old source.new result
+        (λ found rows. rows ≡ rows_part (reads.Vote new.now) (rows_in found party)) }
 {
     match new.capacity {
         Capacity::Member => for_member(source, alloc, party, new.resolution),
@@ -245,8 +245,8 @@ pub fn rows_for<R: RowSource>(
     party: Party,
     what: &Reads,
 ) -> Result<OwnRows, R::Error>
-    ensures { Tells R.trusted R.shows R.keeps R.leaves R.may_fail source.old source.new result
-        (λ found rows. rows ≡ rows_kept what.now (rows_in found party)) }
+    ensures { IsTrueLookUp R.trusted R.shows R.keeps R.leaves R.may_fail source.old source.new result
+        (λ found rows. rows ≡ rows_part what.now (rows_in found party)) }
 {
     match what {
         Reads::Nothing => none_of_them(source, alloc, party),

@@ -1,15 +1,15 @@
 //! Look-ups of a meeting's records.
 ghost use Rattle.std.specs.Prelude.{◌≡◌, Option, alloc_error, filter};
-ghost use Rattle.party_views.specs.Reads.{cast_on};
-ghost use Rattle.party_views.specs.Rows.{presences_of};
+ghost use Rattle.party_views.specs.RowsRead.{cast_on};
+ghost use Rattle.party_views.specs.PartyRows.{presences_of};
 ghost use Rattle.desk_words.specs.declared.office.MeetingLists.{MeetingLists};
 ghost use Rattle.proxy_rules.specs.Holdings.{is_ended_of, is_given_by};
 ghost use Rattle.proxy_rules.specs.Parties.{is_authority_of, is_demanded_by};
 ghost use Rattle.proxy_rules.specs.Shares.{row_of};
-ghost use Rattle.row_source.specs.Lists.{appointments_in, authorities_in, cast_in, demands_in};
-ghost use Rattle.row_source.specs.Lists.{endings_in, naming_by_in, naming_in, presences_in, register_in};
-ghost use Rattle.row_source.specs.Lists.{trusting_for_in, trusting_in};
-ghost use Rattle.row_source.specs.Telling.{Tells};
+ghost use Rattle.row_source.specs.LookUps.{appointments_in, authorities_in, casts_by, demands_in};
+ghost use Rattle.row_source.specs.LookUps.{endings_in, naming_by_in, naming_in, presences_in, register_in};
+ghost use Rattle.row_source.specs.LookUps.{trusting_for_in, trusting_in};
+ghost use Rattle.row_source.specs.TrueLookUps.{IsTrueLookUp};
 
 use desk_words::{
     Appointment, Authority, CastMark, DemandMark, Ending, Listing, Party, RegisterRow,
@@ -38,17 +38,17 @@ pub trait RowSource {
 
     /// A member's row in the register (section 113), if it has one.
     fn row_of(&mut self, member: Party) -> Result<Option<RegisterRow>, Self::Error>
-        ensures { Tells trusted shows keeps leaves may_fail self.old self.new result
+        ensures { IsTrueLookUp trusted shows keeps leaves may_fail self.old self.new result
             (λ found row. row ≡ row_of (register_in found) member) };
 
     /// The appointments that a member gave (section 324).
     fn given_by(&mut self, member: Party) -> Result<Listing<Appointment>, Self::Error>
-        ensures { Tells trusted shows keeps leaves may_fail self.old self.new result
+        ensures { IsTrueLookUp trusted shows keeps leaves may_fail self.old self.new result
             (λ found given. given ≡ filter (is_given_by member) (appointments_in found)) };
 
     /// The appointments that name a party as their proxy (section 324).
     fn naming(&mut self, party: Party) -> Result<Listing<Appointment>, Self::Error>
-        ensures { Tells trusted shows keeps leaves may_fail self.old self.new result
+        ensures { IsTrueLookUp trusted shows keeps leaves may_fail self.old self.new result
             (λ found received. received ≡ naming_in found party) };
 
     /// Those of them that a member gave.
@@ -57,22 +57,22 @@ pub trait RowSource {
         member: Party,
         party: Party,
     ) -> Result<Listing<Appointment>, Self::Error>
-        ensures { Tells trusted shows keeps leaves may_fail self.old self.new result
+        ensures { IsTrueLookUp trusted shows keeps leaves may_fail self.old self.new result
             (λ found received. received ≡ naming_by_in found member party) };
 
     /// A member's endings of its appointments (section 330).
     fn ended_by(&mut self, member: Party) -> Result<Listing<Ending>, Self::Error>
-        ensures { Tells trusted shows keeps leaves may_fail self.old self.new result
+        ensures { IsTrueLookUp trusted shows keeps leaves may_fail self.old self.new result
             (λ found ended. ended ≡ filter (is_ended_of member) (endings_in found)) };
 
     /// The authorities that a party gave (section 323).
     fn persons_of(&mut self, party: Party) -> Result<Listing<Authority>, Self::Error>
-        ensures { Tells trusted shows keeps leaves may_fail self.old self.new result
+        ensures { IsTrueLookUp trusted shows keeps leaves may_fail self.old self.new result
             (λ found persons. persons ≡ filter (is_authority_of party) (authorities_in found)) };
 
     /// The authorities that were given to a party (section 323).
     fn trusting(&mut self, party: Party) -> Result<Listing<Authority>, Self::Error>
-        ensures { Tells trusted shows keeps leaves may_fail self.old self.new result
+        ensures { IsTrueLookUp trusted shows keeps leaves may_fail self.old self.new result
             (λ found given. given ≡ trusting_in found party) };
 
     /// Those of them that a corporation gave.
@@ -81,28 +81,28 @@ pub trait RowSource {
         corporation: Party,
         party: Party,
     ) -> Result<Listing<Authority>, Self::Error>
-        ensures { Tells trusted shows keeps leaves may_fail self.old self.new result
+        ensures { IsTrueLookUp trusted shows keeps leaves may_fail self.old self.new result
             (λ found given. given ≡ trusting_for_in found corporation party) };
 
     /// The sessions in which a party is marked present, by their numbers from 1 (section 318).
     fn presences_of(&mut self, party: Party) -> Result<Listing<u64>, Self::Error>
-        ensures { Tells trusted shows keeps leaves may_fail self.old self.new result
+        ensures { IsTrueLookUp trusted shows keeps leaves may_fail self.old self.new result
             (λ found sessions. sessions ≡ presences_of party (presences_in found)) };
 
     /// The polls that a party demanded (sections 321 and 329).
     fn demands_of(&mut self, party: Party) -> Result<Listing<DemandMark>, Self::Error>
-        ensures { Tells trusted shows keeps leaves may_fail self.old self.new result
+        ensures { IsTrueLookUp trusted shows keeps leaves may_fail self.old self.new result
             (λ found demands. demands ≡ filter (is_demanded_by party) (demands_in found)) };
 
     /// The votes that a party cast (sections 284 and 322).
     fn casts_of(&mut self, party: Party) -> Result<Listing<CastMark>, Self::Error>
-        ensures { Tells trusted shows keeps leaves may_fail self.old self.new result
-            (λ found casts. casts ≡ cast_in found party) };
+        ensures { IsTrueLookUp trusted shows keeps leaves may_fail self.old self.new result
+            (λ found casts. casts ≡ casts_by found party) };
 
     /// Those of them that are on a resolution.
     fn casts_on(&mut self, party: Party, resolution: u64) -> Result<Listing<CastMark>, Self::Error>
-        ensures { Tells trusted shows keeps leaves may_fail self.old self.new result
-            (λ found casts. casts ≡ cast_on resolution (cast_in found party)) };
+        ensures { IsTrueLookUp trusted shows keeps leaves may_fail self.old self.new result
+            (λ found casts. casts ≡ cast_on resolution (casts_by found party)) };
 
     ghost still_shows: { (a b : Self) → keeps a b → trusted b
         → (found : Option MeetingLists) → shows a found → shows b found };

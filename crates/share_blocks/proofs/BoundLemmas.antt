@@ -6,9 +6,9 @@ use Rattle.std.proofs.lemmas.List.{length-map}
 use Rattle.std.specs.Cmp.{second_so}
 use Rattle.desk_words.specs.Places.{Places}
 use Rattle.share_blocks.specs.Covers.{Cover, pieces_after}
-use Rattle.share_blocks.specs.Pieces.{Piece, covered, cut_at, follow_from, halves, ranges_of, straddles, tagged, uncovered}
+use Rattle.share_blocks.specs.Pieces.{Piece, covered, cut_at, follow_from, split_at, ranges_of, straddles, tagged, uncovered}
 use Rattle.std.proofs.lemmas.List.Sums.{fold-append}
-use Rattle.share_blocks.proofs.CoverLemmas.{follow_from-pieces_after}
+use Rattle.share_blocks.proofs.BlockCoverLemmas.{follow_from-pieces_after}
 use Rattle.share_blocks.proofs.CutLemmas.{follow_from-cut_at, follows, holds_all}
 
 -- pieces from the place on have it in front
@@ -16,7 +16,7 @@ uncut : (x first : ℕ) (ps : List Piece) → follow_from first (ranges_of ps) �
 uncut x first [] all low = refl
 uncut x first (p ∷ ps) all low =
     let f = follows first p.range (ranges_of ps) all in
-    ap (λ b. cond (b && nat_le x p.range.to) (halves x p) (p ∷ []) ++ cut_at x ps) (le-ltb p.range.from x (omega (arith, low, f.begins)))
+    ap (λ b. cond (b && nat_le x p.range.to) (split_at x p) (p ∷ []) ++ cut_at x ps) (le-ltb p.range.from x (omega (arith, low, f.begins)))
     ∙ ap (λ l. p ∷ l) (uncut x (p.range.to + 1) ps f.rest (omega (arith, low, f.within)))
 
 -- a cut parts one piece at most
@@ -24,7 +24,7 @@ length-cut_at : (x first : ℕ) (ps : List Piece) → follow_from first (ranges_
 length-cut_at x first [] all = omega arith
 length-cut_at x first (p ∷ ps) all =
     let f = follows first p.range (ranges_of ps) all in
-    (elim (straddles x p.range) as (λ b. straddles x p.range ≡ b → length (cond b (halves x p) (p ∷ []) ++ cut_at x ps) ≤ length (p ∷ ps) + 1) [
+    (elim (straddles x p.range) as (λ b. straddles x p.range ≡ b → length (cond b (split_at x p) (p ∷ []) ++ cut_at x ps) ≤ length (p ∷ ps) + 1) [
       | true ↦ λ is.
           let within : x ≤ p.range.to = leb-true x p.range.to (second_so (nat_lt p.range.from x) (nat_le x p.range.to) is) in
           omega (arith, ap length (uncut x (p.range.to + 1) ps f.rest (omega (arith, within))))

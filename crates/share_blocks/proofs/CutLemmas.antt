@@ -3,13 +3,13 @@ use Rattle.std.proofs.Common.{◌≡◌, ℕ, ◌+◌, ◌-◌, ◌≤◌, Bool,
 use Rattle.std.specs.Prelude.{nat_le, nat_lt, ◌==◌}
 use Rattle.std.specs.List.{list_any}
 use Rattle.std.proofs.lemmas.Bool.Decides.{nat_tests}
-use Rattle.desk_terms.specs.declared.range.TheConstants.{MOST_PLACES}
-use Rattle.desk_lists.proofs.Booleans.{choose_either, neither_first, neither_second}
+use Rattle.vocabulary.specs.declared.range.TheConstants.{MOST_PLACES}
+use Rattle.seq.proofs.Booleans.{choose_either, neither_first, neither_second}
 use Rattle.std.proofs.Math.Bool.{or-true, or_assoc}
 use Rattle.std.proofs.lemmas.Bool.{eqb-true, le-leb, leb-false, leb-true, or_from}
 use Rattle.std.specs.Cmp.{first_so, second_so}
 use Rattle.desk_words.specs.Places.{Places, holds}
-use Rattle.share_blocks.specs.Pieces.{Piece, ranges_of, tags_at, straddles, halves, cut_at, tagged, covered, follow_from, begin_at}
+use Rattle.share_blocks.specs.Pieces.{Piece, ranges_of, tags_at, straddles, split_at, cut_at, tagged, covered, follow_from, begin_at}
 
 -- whether a piece holds a place and the one before it
 abbrev astride : ℕ → Piece → Bool
@@ -42,7 +42,7 @@ second_part f t x y h k = grind (arith, nat_tests)
 tags_at-cut_at : (x : ℕ) (ps : List Piece) (i : ℕ) → tags_at (cut_at x ps) i ≡ tags_at ps i
 tags_at-cut_at x [] i = refl
 tags_at-cut_at x (p ∷ ps) i =
-    (elim (straddles x p.range) as (λ b. straddles x p.range ≡ b → tags_at (cond b (halves x p) (p ∷ []) ++ cut_at x ps) i ≡ cond (holds p.range i) p.tags (tags_at ps i)) [
+    (elim (straddles x p.range) as (λ b. straddles x p.range ≡ b → tags_at (cond b (split_at x p) (p ∷ []) ++ cut_at x ps) i ≡ cond (holds p.range i) p.tags (tags_at ps i)) [
       | true ↦ λ h.
           choose_either (nat_le p.range.from i && nat_le i (x - 1)) (nat_le x i && nat_le i p.range.to) p.tags (tags_at (cut_at x ps) i)
           ∙ ap (λ b. cond b p.tags (tags_at (cut_at x ps) i)) (same_holds p.range.from p.range.to x i h)
@@ -54,7 +54,7 @@ tags_at-cut_at x (p ∷ ps) i =
 pub follow_from-cut_at : (x : ℕ) (ps : List Piece) (first : ℕ) → follow_from first (ranges_of (cut_at x ps)) ≡ follow_from first (ranges_of ps)
 follow_from-cut_at x [] first = refl
 follow_from-cut_at x (p ∷ ps) first =
-    (elim (straddles x p.range) as (λ b. straddles x p.range ≡ b → follow_from first (ranges_of (cond b (halves x p) (p ∷ []) ++ cut_at x ps)) ≡ follow_from first (ranges_of (p ∷ ps))) [
+    (elim (straddles x p.range) as (λ b. straddles x p.range ≡ b → follow_from first (ranges_of (cond b (split_at x p) (p ∷ []) ++ cut_at x ps)) ≡ follow_from first (ranges_of (p ∷ ps))) [
       | true ↦ λ h.
           halves_follow p.range.from p.range.to x first (follow_from (p.range.to + 1) (ranges_of (cut_at x ps))) h
           ∙ ap (λ b. (p.range.from == first) && nat_le first p.range.to && b) (follow_from-cut_at x ps (p.range.to + 1))
@@ -75,7 +75,7 @@ none_begins false b c s = refl
 begin_at-cut_piece : (x : ℕ) (ps : List Piece) (q : ℕ) → begin_at (ranges_of (cut_at x ps)) q ≡ (begin_at (ranges_of ps) q || ((x == q) && list_any (astride x) ps))
 begin_at-cut_piece x [] q = elim (x == q) as (λ b. false ≡ (b && false)) [ true ↦ refl | false ↦ refl ]
 begin_at-cut_piece x (p ∷ ps) q =
-    (elim (straddles x p.range) as (λ b. straddles x p.range ≡ b → begin_at (ranges_of (cond b (halves x p) (p ∷ []) ++ cut_at x ps)) q ≡ (begin_at (ranges_of (p ∷ ps)) q || ((x == q) && (b || list_any (astride x) ps)))) [
+    (elim (straddles x p.range) as (λ b. straddles x p.range ≡ b → begin_at (ranges_of (cond b (split_at x p) (p ∷ []) ++ cut_at x ps)) q ≡ (begin_at (ranges_of (p ∷ ps)) q || ((x == q) && (b || list_any (astride x) ps)))) [
       | true ↦ λ h.
           ap (λ b. (p.range.from == q) || ((x == q) || b)) (begin_at-cut_piece x ps q)
           ∙ one_begins (p.range.from == q) (x == q) (begin_at (ranges_of ps) q) (list_any (astride x) ps)
@@ -88,7 +88,7 @@ begin_at-cut_piece x (p ∷ ps) q =
 list_any-cut_at_there : (x : ℕ) (ps : List Piece) → list_any (astride x) (cut_at x ps) ≡ false
 list_any-cut_at_there x [] = refl
 list_any-cut_at_there x (p ∷ ps) =
-    (elim (straddles x p.range) as (λ b. straddles x p.range ≡ b → list_any (astride x) (cond b (halves x p) (p ∷ []) ++ cut_at x ps) ≡ false) [
+    (elim (straddles x p.range) as (λ b. straddles x p.range ≡ b → list_any (astride x) (cond b (split_at x p) (p ∷ []) ++ cut_at x ps) ≡ false) [
       | true ↦ λ h. or_from _ _ (first_half p.range.from x) (or_from _ _ (second_half x p.range.to) (list_any-cut_at_there x ps))
       | false ↦ λ h. or_from _ _ h (list_any-cut_at_there x ps)
     ]) refl
@@ -99,7 +99,7 @@ list_any-cut_at x y [] none = refl
 list_any-cut_at x y (p ∷ ps) none =
     let here = neither_first (straddles x p.range) (list_any (astride x) ps) none in
     let later = list_any-cut_at x y ps (neither_second (straddles x p.range) (list_any (astride x) ps) none) in
-    (elim (straddles y p.range) as (λ b. straddles y p.range ≡ b → list_any (astride x) (cond b (halves y p) (p ∷ []) ++ cut_at y ps) ≡ false) [
+    (elim (straddles y p.range) as (λ b. straddles y p.range ≡ b → list_any (astride x) (cond b (split_at y p) (p ∷ []) ++ cut_at y ps) ≡ false) [
       | true ↦ λ h. or_from _ _ (first_part p.range.from p.range.to x y h here) (or_from _ _ (second_part p.range.from p.range.to x y h here) later)
       | false ↦ λ h. or_from _ _ here later
     ]) refl

@@ -1,8 +1,8 @@
+pub mod BlockCoverLemmas
 pub mod CutLemmas
-pub mod CoverLemmas
 pub mod MarkLemmas
 pub mod RangeLemmas
-mod NodeLemmas
-mod PartLemmas
-mod LinkLemmas
+mod BlockPartLemmas
 mod BoundLemmas
+mod LinkLemmas
+mod NodeLemmas

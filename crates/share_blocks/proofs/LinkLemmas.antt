@@ -8,23 +8,23 @@ use Rattle.std.specs.Ordering.{is_lt, match_ordering, nat_cmp}
 use Rattle.std.proofs.lemmas.Bool.{and_from, eqb-true, le-leb, leb-false, leb-true, lt-ltb, ltb-false, ltb-true}
 use Rattle.std.proofs.lemmas.Bool.Decides.{nat_tests}
 use Rattle.std.proofs.lemmas.Cmp.{ranked}
-use Rattle.desk_terms.specs.declared.range.TheConstants.{MOST_PLACES}
-use Rattle.desk_lists.proofs.Booleans.{neither_second, same_false}
+use Rattle.vocabulary.specs.declared.range.TheConstants.{MOST_PLACES}
+use Rattle.seq.proofs.Booleans.{neither_second, same_false}
 use Rattle.std.proofs.Math.Bool.{or-true}
 use Rattle.std.specs.Cmp.{first_so, second_so}
 use Rattle.std.proofs.lemmas.Map.Views.{All-values-insert_entry, any-filter_same}
 use Rattle.std.proofs.lemmas.List.Elements.{recursion_from_All}
-use Rattle.desk_lists.proofs.Numbers.{is_lt-nat_cmp}
-use Rattle.desk_lists.proofs.Kept.{any-filter}
+use Rattle.seq.proofs.Numbers.{is_lt-nat_cmp}
+use Rattle.seq.proofs.Kept.{any-filter}
 use Rattle.desk_words.specs.Places.{Places, holds}
-use Rattle.desk_terms.specs.Places.{is_range}
+use Rattle.vocabulary.specs.Places.{is_range}
 use Rattle.share_blocks.specs.Cuts.{ranges_between, rise_from}
 use Rattle.share_blocks.specs.declared.linked.Node.{Node}
-use Rattle.share_blocks.proofs.CoverLemmas.{above_all, no_piece}
+use Rattle.share_blocks.proofs.BlockCoverLemmas.{above_all, no_piece}
 use Rattle.share_blocks.proofs.RangeLemmas.{follow_from-ranges_between, rises}
-use Rattle.share_blocks.specs.Links.{AreLinked, Mark, Newest, begun_between, is_among_first, last_before, linked_pieces, marks_of, newest_at, parted, parted_behind, pieces_by, tagged_at, tagged_each, tags_by, tags_of_nodes}
+use Rattle.share_blocks.specs.LinkedPieces.{AreLinked, Mark, Newest, begun_between, is_among_first, last_before, linked_pieces, marks_of, newest_at, split_before, split_after, pieces_by, tagged_at, tagged_each, tags_by, tags_of_nodes}
 use Rattle.share_blocks.specs.Pieces.{covered, cut_at, follow_from, ranges_of, tagged, tags_at}
-use Rattle.share_blocks.proofs.PartLemmas.{RiseFrom, cut_at-above, insert-again, insert_entry-map, keys-map, last_before-below, last_before-map, pieces_by-insert, pieces_by-tagged, piece, ranges_of-pieces_by, remove-insert, tagged_mark, tags_at-pieces_by}
+use Rattle.share_blocks.proofs.BlockPartLemmas.{RiseFrom, cut_at-above, insert-again, insert_entry-map, keys-map, last_before-below, last_before-map, pieces_by-insert, pieces_by-tagged, piece, ranges_of-pieces_by, remove-insert, tagged_mark, tags_at-pieces_by}
 
 -- ---- tags in front, place by place
 
@@ -133,26 +133,26 @@ rise-insert first (e ∷ es) x v rise low high =
     ]) refl
 
 -- pieces still begin at places in order
-pub rise-parted : (x : ℕ) (es : Newest) → RiseFrom 1 (keys_of es) → 1 ≤ x → x ≤ MOST_PLACES → RiseFrom 1 (keys_of (parted x es))
+pub rise-parted : (x : ℕ) (es : Newest) → RiseFrom 1 (keys_of es) → 1 ≤ x → x ≤ MOST_PLACES → RiseFrom 1 (keys_of (split_before x es))
 rise-parted x es rise low high = rise-insert 1 es x (newest_at es x) rise low high
 
-pub rise-parted_behind : (x : ℕ) (es : Newest) → RiseFrom 1 (keys_of es) → RiseFrom 1 (keys_of (parted_behind x es))
+pub rise-parted_behind : (x : ℕ) (es : Newest) → RiseFrom 1 (keys_of es) → RiseFrom 1 (keys_of (split_after x es))
 rise-parted_behind x es rise =
-    (elim (nat_lt x MOST_PLACES) as (λ b. nat_lt x MOST_PLACES ≡ b → RiseFrom 1 (keys_of (cond b (parted (x + 1) es) es))) [
+    (elim (nat_lt x MOST_PLACES) as (λ b. nat_lt x MOST_PLACES ≡ b → RiseFrom 1 (keys_of (cond b (split_before (x + 1) es) es))) [
       | true ↦ λ less. (let below = ltb-true x MOST_PLACES less in rise-parted (x + 1) es rise (omega arith) (omega (arith, below)))
       | false ↦ λ _. rise
     ]) refl
 
 -- a piece begins where the range does, right behind it, or where one did
-begins : (range : Places) (es : Newest) (k : ℕ) → list_any (λ q. k == q) (keys_of (parted_behind range.to (parted range.from es))) ≡ true
+begins : (range : Places) (es : Newest) (k : ℕ) → list_any (λ q. k == q) (keys_of (split_after range.to (split_before range.from es))) ≡ true
     → ((k == range.from) || ((k == range.to + 1) || list_any (λ q. k == q) (keys_of es))) ≡ true
 begins range es k =
-    elim (nat_lt range.to MOST_PLACES) as (λ b. list_any (λ q. k == q) (keys_of (cond b (parted (range.to + 1) (parted range.from es)) (parted range.from es))) ≡ true
+    elim (nat_lt range.to MOST_PLACES) as (λ b. list_any (λ q. k == q) (keys_of (cond b (split_before (range.to + 1) (split_before range.from es)) (split_before range.from es))) ≡ true
     → ((k == range.from) || ((k == range.to + 1) || list_any (λ q. k == q) (keys_of es))) ≡ true) [
       | true ↦ λ h.
           swap (k == range.from) (k == range.to + 1) (list_any (λ q. k == q) (keys_of es))
           ∙ ap (λ b. (k == range.to + 1) || b) (sym (any-insert es range.from (newest_at es range.from) k))
-          ∙ sym (any-insert (parted range.from es) (range.to + 1) (newest_at (parted range.from es) (range.to + 1)) k) ∙ h
+          ∙ sym (any-insert (split_before range.from es) (range.to + 1) (newest_at (split_before range.from es) (range.to + 1)) k) ∙ h
       | false ↦ λ h. more (k == range.from) (k == range.to + 1) (list_any (λ q. k == q) (keys_of es)) (sym (any-insert es range.from (newest_at es range.from) k) ∙ h)
     ]
   where
@@ -167,12 +167,12 @@ begins range es k =
     more false false c h = h
 
 -- one begins where the range does
-begins_there : (range : Places) (es : Newest) → list_any (λ q. range.from == q) (keys_of (parted_behind range.to (parted range.from es))) ≡ true
+begins_there : (range : Places) (es : Newest) → list_any (λ q. range.from == q) (keys_of (split_after range.to (split_before range.from es))) ≡ true
 begins_there range es =
-    let here : list_any (λ q. range.from == q) (keys_of (parted range.from es)) ≡ true =
+    let here : list_any (λ q. range.from == q) (keys_of (split_before range.from es)) ≡ true =
     any-insert es range.from (newest_at es range.from) range.from ∙ ap (λ b. b || list_any (λ q. range.from == q) (keys_of es)) (same range.from) in
-    elim (nat_lt range.to MOST_PLACES) as (λ b. list_any (λ q. range.from == q) (keys_of (cond b (parted (range.to + 1) (parted range.from es)) (parted range.from es))) ≡ true) [
-      | true ↦ any-insert (parted range.from es) (range.to + 1) (newest_at (parted range.from es) (range.to + 1)) range.from ∙ ap (λ b. (range.from == range.to + 1) || b) here ∙ or-true (range.from == range.to + 1)
+    elim (nat_lt range.to MOST_PLACES) as (λ b. list_any (λ q. range.from == q) (keys_of (cond b (split_before (range.to + 1) (split_before range.from es)) (split_before range.from es))) ≡ true) [
+      | true ↦ any-insert (split_before range.from es) (range.to + 1) (newest_at (split_before range.from es) (range.to + 1)) range.from ∙ ap (λ b. (range.from == range.to + 1) || b) here ∙ or-true (range.from == range.to + 1)
       | false ↦ here
     ]
 
@@ -181,7 +181,7 @@ abbrev pub begins_past : Places → Newest → List ℕ
 begins_past range es = filter (λ q. nat_lt range.from q && nat_le q range.to) (keys_of es)
 
 -- those within the range are the ones where it begins, or past that and not past its end
-within : (range : Places) (es : Newest) (k : ℕ) → range.from ≤ range.to → list_any (λ q. k == q) (keys_of (parted_behind range.to (parted range.from es))) ≡ true
+within : (range : Places) (es : Newest) (k : ℕ) → range.from ≤ range.to → list_any (λ q. k == q) (keys_of (split_after range.to (split_before range.from es))) ≡ true
     → list_any (λ q. k == q) (range.from ∷ begins_past range es) ≡ holds range k
 within range es k order among =
     ap (λ b. (k == range.from) || b)
@@ -214,7 +214,7 @@ module _ (f : Option ℕ → List ℕ) (nothing : f None ≡ []) where
   abbrev pub marks : Newest → List Mark
   marks es = map (λ (e : ℕ × Option ℕ). (e.0, f e.1)) es
 
-  marks-parted : (x : ℕ) (es : Newest) → marks (parted x es) ≡ insert_entry nat_cmp (marks es) x (last_before [] (marks es) x)
+  marks-parted : (x : ℕ) (es : Newest) → marks (split_before x es) ≡ insert_entry nat_cmp (marks es) x (last_before [] (marks es) x)
   marks-parted x es =
       insert_entry-map f es x (newest_at es x)
       ∙ ap (insert_entry nat_cmp (marks es) x) (sym (last_before-map f None es x) ∙ ap (λ tags. last_before tags (marks es) x) nothing)
@@ -222,12 +222,12 @@ module _ (f : Option ℕ → List ℕ) (nothing : f None ≡ []) where
   rise-marks : (es : Newest) → RiseFrom 1 (keys_of es) → RiseFrom 1 (keys_of (marks es))
   rise-marks es rise = subst (RiseFrom 1) (sym (keys-map f es)) rise
 
-  pieces-parted : (x : ℕ) (es : Newest) → RiseFrom 1 (keys_of es) → 1 ≤ x → x ≤ MOST_PLACES → pieces_by 1 [] (marks (parted x es)) ≡ cut_at x (pieces_by 1 [] (marks es))
+  pieces-parted : (x : ℕ) (es : Newest) → RiseFrom 1 (keys_of es) → 1 ≤ x → x ≤ MOST_PLACES → pieces_by 1 [] (marks (split_before x es)) ≡ cut_at x (pieces_by 1 [] (marks es))
   pieces-parted x es rise low high = ap (pieces_by 1 []) (marks-parted x es) ∙ pieces_by-insert x 1 [] (marks es) (rise-marks es rise) low high
 
-  pieces-parted_behind : (x : ℕ) (es : Newest) → RiseFrom 1 (keys_of es) → x ≤ MOST_PLACES → pieces_by 1 [] (marks (parted_behind x es)) ≡ cut_at (x + 1) (pieces_by 1 [] (marks es))
+  pieces-parted_behind : (x : ℕ) (es : Newest) → RiseFrom 1 (keys_of es) → x ≤ MOST_PLACES → pieces_by 1 [] (marks (split_after x es)) ≡ cut_at (x + 1) (pieces_by 1 [] (marks es))
   pieces-parted_behind x es rise high =
-      (elim (nat_lt x MOST_PLACES) as (λ b. nat_lt x MOST_PLACES ≡ b → pieces_by 1 [] (marks (cond b (parted (x + 1) es) es)) ≡ cut_at (x + 1) (pieces_by 1 [] (marks es))) [
+      (elim (nat_lt x MOST_PLACES) as (λ b. nat_lt x MOST_PLACES ≡ b → pieces_by 1 [] (marks (cond b (split_before (x + 1) es) es)) ≡ cut_at (x + 1) (pieces_by 1 [] (marks es))) [
         | true ↦ λ less. pieces-parted (x + 1) es rise (omega arith) (omega (arith, ltb-true x MOST_PLACES less))
         | false ↦ λ less. sym (cut_at-above (x + 1) 1 [] (marks es) (rise-marks es rise) (omega (arith, ltb-false x MOST_PLACES less)))
       ]) refl
@@ -235,13 +235,13 @@ module _ (f : Option ℕ → List ℕ) (nothing : f None ≡ []) where
   module _ (range : Places) (tag : ℕ) (es : Newest) (rise : RiseFrom 1 (keys_of es)) (low : 1 ≤ range.from) (order : range.from ≤ range.to) (high : range.to ≤ MOST_PLACES) where
     -- the range is parted off
     abbrev pub cut : Newest
-    cut = parted_behind range.to (parted range.from es)
+    cut = split_after range.to (split_before range.from es)
 
-    rise_once : RiseFrom 1 (keys_of (parted range.from es))
+    rise_once : RiseFrom 1 (keys_of (split_before range.from es))
     rise_once = rise-parted range.from es rise low (omega (arith, order, high))
 
     rise_cut : RiseFrom 1 (keys_of cut)
-    rise_cut = rise-parted_behind range.to (parted range.from es) rise_once
+    rise_cut = rise-parted_behind range.to (split_before range.from es) rise_once
 
     tagged_cut : tagged_each tag (marks cut) (range.from ∷ begins_past range es) ≡ map (tagged_mark range tag) (marks cut)
     tagged_cut =
@@ -266,7 +266,7 @@ module _ (f : Option ℕ → List ℕ) (nothing : f None ≡ []) where
         ap (pieces_by 1 []) tagged_cut
         ∙ first_tags
         ∙ pieces_by-tagged range tag 1 [] (marks cut)
-        ∙ ap (map (tagged range tag)) (pieces-parted_behind range.to (parted range.from es) rise_once high ∙ ap (cut_at (range.to + 1)) (pieces-parted range.from es rise low (omega (arith, order, high))))
+        ∙ ap (map (tagged range tag)) (pieces-parted_behind range.to (split_before range.from es) rise_once high ∙ ap (cut_at (range.to + 1)) (pieces-parted range.from es rise low (omega (arith, order, high))))
 
 -- ---- what is between two places
 
@@ -307,16 +307,16 @@ last_among P before (e ∷ es) x own all =
 pub newest-among : (es : Newest) (nodes : List Node) (x : ℕ) → AreLinked es nodes → is_among_first (length nodes) (newest_at es x) ≡ true
 newest-among es nodes x linked = last_among (λ node. is_among_first (length nodes) node ≡ true) None es x refl (recursion_from_All _ (values_of es) linked.1)
 
-linked-parted : (es : Newest) (nodes : List Node) (x : ℕ) → AreLinked es nodes → 1 ≤ x → x ≤ MOST_PLACES → AreLinked (parted x es) nodes
+linked-parted : (es : Newest) (nodes : List Node) (x : ℕ) → AreLinked es nodes → 1 ≤ x → x ≤ MOST_PLACES → AreLinked (split_before x es) nodes
 linked-parted es nodes x linked low high = (
-  rise_back 0 (keys_of (parted x es)) (rise-parted x es (rise_of 0 (keys_of es) linked.0) low high),
+  rise_back 0 (keys_of (split_before x es)) (rise-parted x es (rise_of 0 (keys_of es) linked.0) low high),
   All-values-insert_entry nat_cmp x (newest_at es x) (λ node. is_among_first (length nodes) node ≡ true) es linked.1 (newest-among es nodes x linked),
   linked.2,
 )
 
-linked-parted_behind : (es : Newest) (nodes : List Node) (x : ℕ) → AreLinked es nodes → AreLinked (parted_behind x es) nodes
+linked-parted_behind : (es : Newest) (nodes : List Node) (x : ℕ) → AreLinked es nodes → AreLinked (split_after x es) nodes
 linked-parted_behind es nodes x linked =
-    (elim (nat_lt x MOST_PLACES) as (λ b. nat_lt x MOST_PLACES ≡ b → AreLinked (cond b (parted (x + 1) es) es) nodes) [
+    (elim (nat_lt x MOST_PLACES) as (λ b. nat_lt x MOST_PLACES ≡ b → AreLinked (cond b (split_before (x + 1) es) es) nodes) [
       | true ↦ λ less. (let below = ltb-true x MOST_PLACES less in linked-parted es nodes (x + 1) linked (omega arith) (omega (arith, below)))
       | false ↦ λ _. linked
     ]) refl
@@ -335,21 +335,21 @@ range_facts from to is =
       high = leb-true to MOST_PLACES (second_so (nat_le 1 from && nat_le from to) (nat_le to MOST_PLACES) is);
     }
 
-pub linked-parted_off : (es : Newest) (nodes : List Node) (range : Places) → AreLinked es nodes → is_range range.from range.to ≡ true → AreLinked (parted_behind range.to (parted range.from es)) nodes
+pub linked-parted_off : (es : Newest) (nodes : List Node) (range : Places) → AreLinked es nodes → is_range range.from range.to ≡ true → AreLinked (split_after range.to (split_before range.from es)) nodes
 linked-parted_off es nodes range linked is =
     let r = range_facts range.from range.to is in
-    linked-parted_behind (parted range.from es) nodes range.to (linked-parted es nodes range.from linked r.low (omega (arith, r.order, r.high)))
+    linked-parted_behind (split_before range.from es) nodes range.to (linked-parted es nodes range.from linked r.low (omega (arith, r.order, r.high)))
 
 -- ---- what is undone
 
-pub remove-parted : (es : Newest) (x : ℕ) → is_some (lookup (is_at (nat_cmp x)) es) ≡ false → remove_entry (is_at (nat_cmp x)) (parted x es) ≡ es
+pub remove-parted : (es : Newest) (x : ℕ) → is_some (lookup (is_at (nat_cmp x)) es) ≡ false → remove_entry (is_at (nat_cmp x)) (split_before x es) ≡ es
 remove-parted es x none = remove-insert es x (newest_at es x) (none_of (lookup (is_at (nat_cmp x)) es) none)
   where
     none_of : (o : Option (Option ℕ)) → is_some o ≡ false → o ≡ None
     none_of None h = refl
     none_of (Some v) h = absurd (cc)
 
-pub parted-again : (es : Newest) (x : ℕ) → rise_from 0 (keys_of es) ≡ true → is_some (lookup (is_at (nat_cmp x)) es) ≡ true → parted x es ≡ es
+pub parted-again : (es : Newest) (x : ℕ) → rise_from 0 (keys_of es) ≡ true → is_some (lookup (is_at (nat_cmp x)) es) ≡ true → split_before x es ≡ es
 parted-again es x up some = insert-again None es x 1 (rise_of 0 (keys_of es) up) (λ none. true≢false (sym some ∙ ap is_some none))
 
 -- ---- the ranges of linked pieces

@@ -8,7 +8,7 @@ use Rattle.std.proofs.lemmas.Bool.Decides.{nat_tests}
 use Rattle.std.proofs.lemmas.Cmp.{nat_cmp_total}
 use Rattle.std.proofs.lemmas.List.{get_or-replicate}
 use Rattle.share_blocks.specs.declared.tag.TheConstants.{MOST_TAGS}
-use Rattle.desk_lists.proofs.Booleans.{same_false, same_false_above}
+use Rattle.seq.proofs.Booleans.{same_false, same_false_above}
 use Rattle.std.proofs.lemmas.Bool.{eq-eqb, leb-true}
 use Rattle.std.specs.Cmp.{first_so, second_so}
 use Rattle.share_blocks.specs.Tags.{is_tag, marked_from}

@@ -16,10 +16,10 @@ use Rattle.std.proofs.lemmas.Map.Views.{All-values-set_value, IfSome-lookup_from
 use Rattle.std.proofs.lemmas.List.Elements.{All-weaker, recursion_from_All}
 use Rattle.std.proofs.lemmas.Map.Keys.{sorted_head, sorted_tail}
 use Rattle.std.proofs.lemmas.Option.{slice_get_cases, get_or_from_slice_get}
-use Rattle.desk_lists.proofs.Numbers.{is_eq-nat_cmp, is_lt-nat_cmp}
+use Rattle.seq.proofs.Numbers.{is_eq-nat_cmp, is_lt-nat_cmp}
 use Rattle.share_blocks.specs.declared.linked.Node.{Node}
 use Rattle.share_blocks.specs.Cuts.{rise_from}
-use Rattle.share_blocks.specs.Links.{AreLinked, Newest, Mark, LinksGoBack, is_among_first, marks_of, tagged_at, tags_by, tags_of_nodes, with_node}
+use Rattle.share_blocks.specs.LinkedPieces.{AreLinked, Newest, Mark, LinksGoBack, is_among_first, marks_of, tagged_at, tags_by, tags_of_nodes, with_node}
 
 -- ---- a table of tags with more nodes
 

@@ -5,18 +5,18 @@ use Rattle.std.specs.List.{list_any, flat_map}
 use Rattle.std.specs.Ordering.{is_lt, nat_cmp, eq_by_cmp}
 use Rattle.std.specs.Set.{is_member}
 use Rattle.std.proofs.lemmas.Bool.Decides.{nat_tests}
-use Rattle.desk_terms.specs.declared.range.TheConstants.{MOST_PLACES}
-use Rattle.desk_lists.proofs.Booleans.{same_false, same_false_above}
+use Rattle.vocabulary.specs.declared.range.TheConstants.{MOST_PLACES}
+use Rattle.seq.proofs.Booleans.{same_false, same_false_above}
 use Rattle.std.proofs.Math.Bool.{and-false, or-true, or_assoc}
 use Rattle.std.proofs.lemmas.Bool.{and_from, eq-eqb, eqb-true, le-leb, leb-true, lt-ltb, ltb-true}
 use Rattle.std.specs.Cmp.{first_so, second_so}
 use Rattle.desk_words.specs.Places.{Places}
-use Rattle.desk_lists.specs.Ordered.{ascends_by}
+use Rattle.seq.specs.Ordered.{ascends_by}
 use Rattle.share_blocks.specs.Pieces.{follow_from, begin_at, ranges_of}
 use Rattle.share_blocks.specs.Covers.{Cover, is_cut, pieces_after}
 use Rattle.share_blocks.specs.Cuts.{is_inner, inner, ranges_between, rise_from}
 use Rattle.share_blocks.proofs.CutLemmas.{follows}
-use Rattle.share_blocks.proofs.CoverLemmas.{follow_from-bound, follow_from-pieces_after, begin_at-pieces_after}
+use Rattle.share_blocks.proofs.BlockCoverLemmas.{follow_from-bound, follow_from-pieces_after, begin_at-pieces_after}
 
 -- ---- where ranges begin
 

@@ -3,7 +3,7 @@ use Rattle.std.specs.Prelude.{◌+◌, ◌==◌, Bool, ◌&&◌, ◌||◌, List,
 use Rattle.std.specs.List.{list_any}
 use Rattle.std.specs.Option.{option_map}
 use Rattle.desk_words.specs.Places.{Places, holds}
-use Rattle.desk_words.specs.Seen.{Place}
+use Rattle.desk_words.specs.ViewTypes.{Place}
 use Rattle.share_blocks.specs.Pieces.{Piece, uncovered, covered}
 use Rattle.share_blocks.specs.Tags.{Tag}
 

@@ -1,8 +1,8 @@
 -- The cuts in order, and the ranges between them.
 use Rattle.std.specs.Prelude.{◌-◌, Bool, true, ◌&&◌, nat_lt, nat_le, List, [], ◌∷◌, if◌then◌else◌}
-use Rattle.desk_terms.specs.declared.range.TheConstants.{MOST_PLACES}
+use Rattle.vocabulary.specs.declared.range.TheConstants.{MOST_PLACES}
 use Rattle.desk_words.specs.Places.{Places}
-use Rattle.desk_words.specs.Seen.{Place}
+use Rattle.desk_words.specs.ViewTypes.{Place}
 
 -- whether a number is that of a place with one before it
 abbrev pub is_inner : Place → Bool

@@ -1,5 +1,5 @@
 pub mod Covers
 pub mod Cuts
-pub mod Links
+pub mod LinkedPieces
 pub mod Pieces
 pub mod Tags

@@ -1,9 +1,9 @@
 -- The places of a member's shares, parted into pieces.
 use Rattle.std.specs.Prelude.{◌≡◌, ◌+◌, ◌-◌, ◌==◌, Bool, IsTrue, ◌&&◌, nat_le, nat_lt, List, [], ◌∷◌, map, if◌then◌else◌}
 use Rattle.std.specs.List.{flat_map, list_any}
-use Rattle.desk_terms.specs.declared.range.TheConstants.{MOST_PLACES}
+use Rattle.vocabulary.specs.declared.range.TheConstants.{MOST_PLACES}
 use Rattle.desk_words.specs.Places.{Places, holds}
-use Rattle.desk_words.specs.Seen.{Place}
+use Rattle.desk_words.specs.ViewTypes.{Place}
 use Rattle.share_blocks.specs.Tags.{Tag}
 
 -- places that stand together, and the tags that cover each of them, newest first
@@ -30,14 +30,14 @@ abbrev pub straddles : Place → Places → Bool
 straddles place range = nat_lt range.from place && nat_le place range.to
 
 -- what a piece holds before the place, and what from the place on
-abbrev pub halves : Place → Piece → List Piece
-halves place piece =
+abbrev pub split_at : Place → Piece → List Piece
+split_at place piece =
     record { range = record { from = piece.range.from; to = place - 1 }; tags = piece.tags }
     ∷ record { range = record { from = place; to = piece.range.to }; tags = piece.tags } ∷ []
 
 -- a piece, in two where it holds both the place and the one before it
 abbrev pub cut_piece : Place → Piece → List Piece
-cut_piece place piece = if straddles place piece.range then halves place piece else piece ∷ []
+cut_piece place piece = if straddles place piece.range then split_at place piece else piece ∷ []
 
 -- the pieces, parted before the place too
 abbrev pub cut_at : Place → List Piece → List Piece

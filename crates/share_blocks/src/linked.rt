@@ -4,7 +4,7 @@ ghost use Rattle.std.specs.Vec.{vec_capacity};
 ghost use Rattle.std.specs.Map.{keys_of};
 ghost use Rattle.std.specs.FinSet as set;
 ghost use Rattle.share_blocks.specs.Cuts.{rise_from};
-ghost use Rattle.share_blocks.specs.Links.{AreLinked, LinksGoBack, begun_between, is_among_first, linked_pieces, marks_of, newest_at, parted, parted_behind, tagged_at, tagged_each, tags_by, tags_of_nodes};
+ghost use Rattle.share_blocks.specs.LinkedPieces.{AreLinked, LinksGoBack, begun_between, is_among_first, linked_pieces, marks_of, newest_at, split_before, split_after, tagged_at, tagged_each, tags_by, tags_of_nodes};
 ghost use Rattle.share_blocks.specs.Pieces.{covered, is_place, ranges_of, tags_at};
 
 use crate::admitted::Admitted;
@@ -39,7 +39,7 @@ pub struct LinkedBlocks {
 
 impl Model for LinkedBlocks {
     ghost use Rattle.std.specs.Prelude.{List};
-    ghost use Rattle.share_blocks.specs.Links.{AreLinked, linked_pieces};
+    ghost use Rattle.share_blocks.specs.LinkedPieces.{AreLinked, linked_pieces};
     ghost use Rattle.share_blocks.specs.Pieces.{Piece};
 
     ghost Value = { List Piece };
@@ -127,7 +127,7 @@ fn begins_past(
 /// Parts the piece of a place before the place; both parts keep its newest node. With
 /// `AllocError`, all stays as it was.
 fn part(newest: &mut BTreeMap<u64, Option<usize>>, place: u64) -> Result<(), AllocError>
-    ensures ok { OnOk result (newest.new.entries ≡ parted place newest.old.entries) }
+    ensures ok { OnOk result (newest.new.entries ≡ split_before place newest.old.entries) }
     ensures err { OnErr result (newest.new.entries ≡ newest.old.entries) }
 {
     let node = newest_at(newest, place);
@@ -139,7 +139,7 @@ fn part(newest: &mut BTreeMap<u64, Option<usize>>, place: u64) -> Result<(), All
 /// all stays as it was.
 fn part_behind(newest: &mut BTreeMap<u64, Option<usize>>, place: u64) -> Result<(), AllocError>
     requires { place ≤ MOST_PLACES }
-    ensures ok { OnOk result (newest.new.entries ≡ parted_behind place newest.old.entries) }
+    ensures ok { OnOk result (newest.new.entries ≡ split_after place newest.old.entries) }
     ensures err { OnErr result (newest.new.entries ≡ newest.old.entries) }
 {
     if place < MOST_PLACES {
@@ -153,7 +153,7 @@ fn part_behind(newest: &mut BTreeMap<u64, Option<usize>>, place: u64) -> Result<
 fn part_off(newest: &mut BTreeMap<u64, Option<usize>>, range: Range) -> Result<(), AllocError>
     requires { IsTrue (rise_from 0 (keys_of newest.old.entries)) }
     ensures ok { OnOk result
-        (newest.new.entries ≡ parted_behind range.to (parted range.from newest.old.entries)) }
+        (newest.new.entries ≡ split_after range.to (split_before range.from newest.old.entries)) }
     ensures err { OnErr result (newest.new.entries ≡ newest.old.entries) }
 {
     let begins = newest.contains_key(&range.from());

@@ -11,8 +11,8 @@ use crate::admitted::Admitted;
 use crate::blocks::Blocks;
 use crate::cuts::parted_at;
 use crate::tag::Tag;
-use desk_lists::in_order_once;
 use desk_words::{MOST_PLACES, Range};
+use seq::in_order_once;
 use std::alloc::{AllocError, Global};
 
 /// The ranges as they were covered, the newest last.
@@ -66,7 +66,7 @@ fn newest_admitted(covers: &[(Range, Tag)], place: u64, admitted: &Admitted) -> 
 }
 
 /// The first admitted tag of a place that the covers hold; what is no place has none.
-#[tactic(auto, using(crate::proofs::CoverLemmas::newest_tags))]
+#[tactic(auto, using(crate::proofs::BlockCoverLemmas::newest_tags))]
 fn first_tag(covers: &[(Range, Tag)], place: u64, admitted: &Admitted) -> Option<Tag>
     ensures { result ≡ find (set.contains admitted.now) (tags_at (pieces_after covers.now) place) }
 {

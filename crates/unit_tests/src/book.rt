@@ -1,8 +1,8 @@
 //! A book in which a poll of Ada and Bo is open.
-use desk_program::call_of;
-use desk_replies::reply_text;
 use desk_words::Call;
+use json_replies::reply_text;
 use meeting_core::Book;
+use replay::call_of;
 use std::alloc::Global;
 use std::test::Fail;
 

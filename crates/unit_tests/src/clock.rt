@@ -1,8 +1,8 @@
 //! The office's wall clock.
 use desk_words::read_moment;
 use jiff::Timestamp;
-use office_clock::{ClockFault, OfficeZone, wall_clock};
 use std::test::Fail;
+use wall_clock::{ClockFault, OfficeZone, wall_clock};
 
 fn zone(rule: &str) -> Result<OfficeZone, Fail> {
     Ok(OfficeZone::read(rule).ok().ok_or("a zone")?)

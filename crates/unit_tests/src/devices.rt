@@ -1,6 +1,6 @@
 //! Devices of std that fail, and devices that are lent.
-use desk_devices::{
-    DeviceFailed, ReadDevice, ShortReads, SliceSource, Source, VecSink, WriteDevice, read_to_fill,
+use byte_io::{
+    DeviceError, ReadDevice, ShortReads, SliceSource, Source, VecSink, WriteDevice, read_to_fill,
     write_all,
 };
 use std::io;
@@ -50,13 +50,13 @@ impl io::Write for Broken {
 #[test]
 fn a_reader_that_fails(rt: HostRuntime) {
     let mut source = ReadDevice::new(Broken { takes_none: false });
-    assert!(rt; source.read(&mut [0; 4]) == Err(DeviceFailed));
+    assert!(rt; source.read(&mut [0; 4]) == Err(DeviceError));
 }
 
 #[test]
 fn a_writer_that_fails(rt: HostRuntime) {
     for takes_none in [false, true] {
         let mut sink = WriteDevice::new(Broken { takes_none });
-        assert!(rt; write_all(&mut sink, b"poll") == Err(DeviceFailed));
+        assert!(rt; write_all(&mut sink, b"poll") == Err(DeviceError));
     }
 }

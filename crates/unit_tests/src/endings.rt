@@ -1,6 +1,6 @@
 //! What a store that fails says.
-use desk_replies::failure_text;
 use desk_words::Failure;
+use json_replies::failure_text;
 
 #[test]
 fn a_failure_has_a_text(rt: HostRuntime) {

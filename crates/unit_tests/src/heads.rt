@@ -1,6 +1,6 @@
 //! What a head says.
-use desk_devices::{DeviceFailed, SliceSource};
-use desk_heads::{BodyLength, Front, HeadReader};
+use byte_io::{DeviceError, SliceSource};
+use http_heads::{BodyLength, Front, HeadReader};
 
 const HEAD: &str = "POST /m/G1/end HTTP/1.0\nHost: desk\nContent-Length:\t0012 \n\n{\"number\":1}";
 
@@ -27,7 +27,7 @@ fn endless_target() -> [u8; LONGEST + 1] {
 }
 
 /// The front of the first bytes of an endless target, so many.
-fn front_of(count: usize) -> Result<Front, DeviceFailed> {
+fn front_of(count: usize) -> Result<Front, DeviceError> {
     let input = endless_target();
     let first = &input[..count.min(LONGEST + 1)];
     HeadReader::new().read(&mut SliceSource::new(first))

@@ -7,11 +7,11 @@ mod blocks;
 #[cfg(test)]
 mod book;
 #[cfg(test)]
-mod calendar;
-#[cfg(test)]
 mod calls;
 #[cfg(test)]
 mod clock;
+#[cfg(test)]
+mod day_numbers;
 #[cfg(test)]
 mod days;
 #[cfg(test)]

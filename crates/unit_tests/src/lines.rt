@@ -1,6 +1,6 @@
 //! Lines of a source that gives one byte a read, or fails.
-use desk_devices::{FailAt, ShortReads, SliceSource, Source};
-use desk_lines::{LineReader, NextLine};
+use byte_io::{FailAt, ShortReads, SliceSource, Source};
+use line_reader::{LineReader, NextLine};
 use std::alloc::Global;
 use std::test::Fail;
 

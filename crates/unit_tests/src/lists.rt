@@ -2,9 +2,9 @@
 ghost use Rattle.std.specs.Prelude.{◌≡◌, ◌==◌, ◌↔◌, ℕ, true, find, Contains};
 ghost use Rattle.std.specs.Ordering.{nat_cmp};
 ghost use Rattle.unit_tests.specs.declared.lists.Row.{Row};
-ghost use Rattle.desk_lists.specs.Ordered.{ascends_by, differ_by, key_before, same_key};
+ghost use Rattle.seq.specs.Ordered.{ascends_by, differ_by, key_before, same_key};
 
-use desk_lists::{Keyed, Listing, ascend, find_by_key, in_order_once, into_order};
+use seq::{Keyed, Listing, ascend, find_by_key, in_order_once, into_order};
 use std::alloc::Global;
 use std::marker::Model;
 use std::test::Fail;

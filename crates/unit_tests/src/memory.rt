@@ -1,9 +1,9 @@
 //! Requests over HTTP, answered by an office in memory, without tables.
 use crate::office::moment;
-use desk_devices::{SliceSource, VecSink};
+use byte_io::{SliceSource, VecSink};
 use desk_http::serve_one;
-use desk_program::call_of;
 use meeting_core::Book;
+use replay::call_of;
 use std::alloc::Global;
 use std::test::Fail;
 

@@ -1,11 +1,11 @@
 //! An office in memory, in which one meeting is called, and which is asked over connections.
-use desk_clocks::Clock;
-use desk_devices::{ReadDevice, WriteDevice};
-use desk_http::{NowFault, serve_now};
-use desk_program::call_of;
-use desk_serving::{LoopFault, serve_loop};
+use byte_io::{ReadDevice, WriteDevice};
+use clocks::Clock;
+use desk_http::{NowError, serve_now};
 use desk_words::{Moment, read_moment};
+use http_listener::{LoopFault, serve_loop};
 use meeting_core::Book;
+use replay::call_of;
 use std::alloc::Global;
 use std::net::{TcpListener, TcpStream};
 use std::test::Fail;
@@ -53,7 +53,7 @@ impl Office {
         &mut self,
         stream: &TcpStream,
         clock: &mut C,
-    ) -> Result<(), NowFault> {
+    ) -> Result<(), NowError> {
         let mut reader = ReadDevice::new(stream);
         let mut writer = WriteDevice::new(stream);
         serve_now(self.alloc, &mut self.book, clock, &mut reader, &mut writer)

@@ -1,7 +1,7 @@
 //! That the clock is asked once a request was read.
 use crate::office::{Office, moment};
 use crate::peers::{listen, reply_to, send};
-use desk_clocks::{Clock, ClockFailed};
+use clocks::{Clock, ClockError};
 use desk_words::Moment;
 use std::net::TcpStream;
 use std::test::Fail;
@@ -30,7 +30,7 @@ impl Clock for CutoffClock<'_> {
 
     ghost fails = { λ _ _. ⊤ };
 
-    fn now(&mut self) -> Result<Moment, ClockFailed> {
+    fn now(&mut self) -> Result<Moment, ClockError> {
         Ok(if is_unread(self.stream) {
             self.before
         } else {

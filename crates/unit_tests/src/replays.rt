@@ -1,7 +1,7 @@
 //! Readers and writers that fail in the middle of the script.
 use crate::script::{LINES, REPLIES, first_line, first_replies};
-use desk_devices::{DeviceFailed, FailAt, ShortReads, Sink, SliceSource, VecSink};
-use desk_program::{ReplayFault, replay};
+use byte_io::{DeviceError, FailAt, ShortReads, Sink, SliceSource, VecSink};
+use replay::{ReplayFault, replay};
 use std::alloc::Global;
 use std::test::Fail;
 
@@ -60,7 +60,7 @@ impl<W: Sink> Sink for ByteByByte<W> {
 
     ghost failures = { λ s. W.failures s.inner };
 
-    fn write(&mut self, bytes: &[u8]) -> Result<usize, DeviceFailed> {
+    fn write(&mut self, bytes: &[u8]) -> Result<usize, DeviceError> {
         let count = bytes.len().min(1);
         self.inner.write(&bytes[..count])
     }

@@ -1,7 +1,7 @@
 //! The texts of replies.
-use desk_devices::VecSink;
-use desk_routes::{StatusCode, failure_reply, is_method_of, status_of, target_route, write_reply};
+use byte_io::VecSink;
 use desk_words::{Failure, Refusal, Reply};
+use http_routes::{StatusCode, failure_reply, is_method_of, status_of, target_route, write_reply};
 
 const REFUSED: &str =
     "HTTP/1.1 401 Unauthorized\r\nContent-Type: application/json\r\nContent-Length: 26\r\n\

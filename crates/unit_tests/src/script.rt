@@ -1,6 +1,6 @@
 //! A short script, and the replies that it is to get.
-use desk_devices::{SliceSource, VecSink};
-use desk_program::replay;
+use byte_io::{SliceSource, VecSink};
+use replay::replay;
 use std::alloc::Global;
 use std::test::Fail;
 

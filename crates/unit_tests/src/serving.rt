@@ -1,7 +1,7 @@
 //! Connections that are served.
 use crate::office::{Office, moment};
 use crate::peers::{connect, listen, reply_to, send};
-use desk_clocks::SliceClock;
+use clocks::SliceClock;
 use std::alloc::{AllocError, Global};
 use std::net::TcpListener;
 use std::test::Fail;

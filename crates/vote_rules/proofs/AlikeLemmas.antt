@@ -5,28 +5,28 @@ use Rattle.std.specs.Option.{option_or}
 use Rattle.std.specs.Cmp.{first_so, second_so}
 use Rattle.std.proofs.lemmas.Bool.{and_from, eqb-true, le-leb, leb-true}
 use Rattle.std.proofs.lemmas.Option.{MatchOption-from_none, cond_some}
-use Rattle.desk_terms.specs.declared.range.TheConstants.{MOST_PLACES}
-use Rattle.desk_terms.specs.Places.{holds, places_that}
-use Rattle.desk_terms.specs.declared.kinds.Capacity.TheVariants.{Member}
-use Rattle.desk_terms.specs.declared.kinds.Way.{Way}
-use Rattle.desk_terms.specs.declared.kinds.Way.TheVariants.{For, Against, Withheld}
+use Rattle.vocabulary.specs.declared.range.TheConstants.{MOST_PLACES}
+use Rattle.vocabulary.specs.Places.{holds, places_that}
+use Rattle.vocabulary.specs.declared.kinds.Capacity.TheVariants.{Member}
+use Rattle.vocabulary.specs.declared.kinds.Way.{Way}
+use Rattle.vocabulary.specs.declared.kinds.Way.TheVariants.{For, Against, Withheld}
 use Rattle.desk_words.specs.declared.records.Authority.{Authority}
 use Rattle.desk_words.specs.declared.records.RegisterRow.{RegisterRow}
 use Rattle.proxy_rules.specs.Shares.{is_individual, shares_of}
 use Rattle.proxy_rules.proofs.TileLemmas.{every_place}
 use Rattle.proxy_rules.proofs.TurnedLists.{filter_map-reverse}
 use Rattle.share_blocks.specs.Pieces.{is_place}
-use Rattle.share_blocks.proofs.CoverLemmas.{tags_at-place}
+use Rattle.share_blocks.proofs.BlockCoverLemmas.{tags_at-place}
 use Rattle.vote_rules.specs.Alike.{AllVote, is_own, way_of_newest, way_on_all}
 use Rattle.vote_rules.specs.Casts.{Share, find_map}
-use Rattle.vote_rules.specs.Covers.{cover_of, vote_covers, vote_pieces, vote_among, way_at, way_number, way_tagged}
+use Rattle.vote_rules.specs.VoteCovers.{cover_of, vote_covers, vote_pieces, vote_among, way_at, way_number, way_tagged}
 use Rattle.vote_rules.specs.Sums.{tally_to, with_votes}
 use Rattle.vote_rules.specs.Tallies.{is_vote, votes_to}
 use Rattle.vote_rules.specs.Votes.{first_that_applies}
 use Rattle.vote_rules.specs.declared.received.BlockCast.{BlockCast}
-use Rattle.vote_rules.proofs.CastLemmas.{cover_way, way_of_covers, way_of_tag}
-use Rattle.vote_rules.proofs.CountLemmas.{places_that-alike}
-use Rattle.vote_rules.proofs.ListLemmas.{find_map-filter_map}
+use Rattle.vote_rules.proofs.VoteCastLemmas.{cover_way, way_of_covers, way_of_tag}
+use Rattle.vote_rules.proofs.VoteCountLemmas.{places_that-alike}
+use Rattle.vote_rules.proofs.VoteListLemmas.{find_map-filter_map}
 
 -- ---- the newest of a member's own blocks
 

@@ -6,7 +6,7 @@ use Rattle.std.specs.Option.{option_or, option_map_or}
 use Rattle.std.proofs.lemmas.Bool.Decides.{nat_tests}
 use Rattle.std.proofs.lemmas.Bool.{lt-ltb}
 use Rattle.vote_rules.specs.Casts.{find_map}
-use Rattle.vote_rules.proofs.ListLemmas.{find_map-turned, or_assoc, or_none}
+use Rattle.vote_rules.proofs.VoteListLemmas.{find_map-turned, or_assoc, or_none}
 
 not_below : (a b : ℕ) → b ≤ a → nat_lt a b ≡ false
 not_below a b h = grind (arith, nat_tests)

@@ -3,13 +3,13 @@ use Rattle.std.proofs.Common.{◌≡◌, ℕ, ◌+◌, ◌<◌, ◌≤◌, true,
 use Rattle.std.specs.Cmp.{second_so}
 use Rattle.std.specs.Cmp.Lexicographic.{nat_list_cmp_total}
 use Rattle.std.proofs.lemmas.List.{get_or_default}
-use Rattle.desk_lists.specs.Ordered.{ascends_by}
-use Rattle.desk_terms.specs.Names.{name_cmp}
+use Rattle.seq.specs.Ordered.{ascends_by}
+use Rattle.vocabulary.specs.Names.{name_cmp}
 use Rattle.desk_words.specs.Registers.{keep_limits, member_before}
 use Rattle.desk_words.specs.declared.records.RegisterRow.{RegisterRow}
 use Rattle.desk_words.specs.Office.{are_rows}
-use Rattle.proxy_rules.proofs.NameLemmas.{filter-named}
-use Rattle.vote_rules.specs.Received.{is_on_shares_of, is_past_member}
+use Rattle.proxy_rules.proofs.ProxyNameLemmas.{filter-named}
+use Rattle.vote_rules.specs.InstructedCasts.{is_on_shares_of, is_past_member}
 use Rattle.vote_rules.specs.declared.received.BlockCast.{BlockCast}
 use Rattle.vote_rules.proofs.SortedBlocks.{ascends-far, wanted-past}
 

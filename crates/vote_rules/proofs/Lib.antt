@@ -1,14 +1,14 @@
 pub mod AlikeLemmas
-pub mod CastLemmas
-pub mod CountLemmas
-pub mod CoverLemmas
 pub mod LastInstructed
 pub mod LeftLemmas
-pub mod ListLemmas
 pub mod PartingLemmas
-pub mod RowLemmas
 pub mod SilentLemmas
 pub mod SortedBlocks
 pub mod TallyLemmas
+pub mod VoteCastLemmas
+pub mod VoteCountLemmas
+pub mod VoteCoverLemmas
 pub mod VoteLemmas
-mod OrderLemmas
+pub mod VoteListLemmas
+pub mod VoteRowLemmas
+mod VoteOrderLemmas

@@ -5,15 +5,15 @@ use Rattle.std.specs.List.{AllByRecursion, cons_option, filter_map}
 use Rattle.std.proofs.lemmas.Bool.{cases_lt, and_from, le-leb, leb-true, or_from}
 use Rattle.std.proofs.lemmas.Bool.Decides.{nat_tests}
 use Rattle.std.proofs.lemmas.List.Elements.{All-cons, All-from_recursion, All-head, All-nil, All-tail}
-use Rattle.desk_terms.specs.declared.range.TheConstants.{MOST_PLACES}
-use Rattle.desk_lists.proofs.Booleans.{neither_first, neither_second, same_false}
+use Rattle.vocabulary.specs.declared.range.TheConstants.{MOST_PLACES}
+use Rattle.seq.proofs.Booleans.{neither_first, neither_second, same_false}
 use Rattle.std.specs.Cmp.{first_so, second_so}
-use Rattle.desk_terms.specs.Places.{Places, holds, is_range}
+use Rattle.vocabulary.specs.Places.{Places, holds, is_range}
 use Rattle.proxy_rules.specs.Tagging.{held_of}
 use Rattle.share_blocks.specs.Covers.{Cover, is_cut, pieces_after}
 use Rattle.share_blocks.specs.Pieces.{begin_at, follow_from, ranges_of}
 use Rattle.share_blocks.proofs.CutLemmas.{follows}
-use Rattle.share_blocks.proofs.CoverLemmas.{begin_at-pieces_after, follow_from-bound, follow_from-pieces_after}
+use Rattle.share_blocks.proofs.BlockCoverLemmas.{begin_at-pieces_after, follow_from-bound, follow_from-pieces_after}
 use Rattle.vote_rules.specs.Ballots.{IsUncut}
 
 -- ---- inside of a range none begins

@@ -2,18 +2,18 @@
 use Rattle.std.proofs.Common.{◌≡◌, ℕ, Bool, true, false, cond, List, [], ◌∷◌, refl, ap, ◌∙◌}
 use Rattle.std.specs.Prelude.{Option, Some, None, option_map}
 use Rattle.std.specs.List.{cons_option, filter_map}
-use Rattle.desk_terms.specs.declared.range.TheConstants.{MOST_PLACES}
-use Rattle.desk_terms.specs.Places.{holds}
-use Rattle.desk_terms.specs.declared.kinds.Capacity.{Capacity}
-use Rattle.desk_terms.specs.declared.kinds.Capacity.TheVariants.{Proxy, Rep}
-use Rattle.desk_terms.specs.declared.kinds.Way.{Way}
+use Rattle.vocabulary.specs.declared.range.TheConstants.{MOST_PLACES}
+use Rattle.vocabulary.specs.Places.{holds}
+use Rattle.vocabulary.specs.declared.kinds.Capacity.{Capacity}
+use Rattle.vocabulary.specs.declared.kinds.Capacity.TheVariants.{Proxy, Rep}
+use Rattle.vocabulary.specs.declared.kinds.Way.{Way}
 use Rattle.desk_words.specs.declared.records.Appointment.{Appointment}
 use Rattle.desk_words.specs.declared.records.Authority.{Authority}
 use Rattle.desk_words.specs.declared.records.RegisterRow.{RegisterRow}
 use Rattle.proxy_rules.specs.Parties.{authorised_by}
 use Rattle.share_blocks.specs.Covers.{pieces_after}
 use Rattle.vote_rules.specs.Casts.{Share, find_map, instructed_way}
-use Rattle.vote_rules.specs.Covers.{as_proxy, cast_among, vote_covers, vote_among, way_at, way_tagged}
+use Rattle.vote_rules.specs.VoteCovers.{as_proxy, cast_among, vote_covers, vote_among, way_at, way_tagged}
 use Rattle.vote_rules.specs.Votes.{Casts, by_the_holder, by_the_proxy, by_the_representatives, common_way, first_that_applies, valid_vote}
 use Rattle.vote_rules.specs.declared.received.BlockCast.{BlockCast}
 

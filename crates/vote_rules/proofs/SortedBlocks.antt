@@ -9,8 +9,8 @@ use Rattle.std.proofs.lemmas.Cmp.{on_total, alike_right}
 use Rattle.std.proofs.lemmas.List.Kept.{IsSortedBy-filter}
 use Rattle.std.proofs.lemmas.List.Sorted.{ranks_by, sorted_far}
 use Rattle.std.proofs.lemmas.Map.Keys.{sorted_head}
-use Rattle.desk_lists.specs.Ordered.{ascends_by, key_before}
-use Rattle.desk_lists.proofs.Ascending.{ascends_by-tail, sorted-from_ascends}
+use Rattle.seq.specs.Ordered.{ascends_by, key_before}
+use Rattle.seq.proofs.Ascending.{ascends_by-tail, sorted-from_ascends}
 
 -- ---- the first place at which a test passes
 

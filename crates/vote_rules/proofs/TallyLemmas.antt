@@ -4,9 +4,9 @@ use Rattle.std.specs.Prelude.{All, Option, nat_le, sum_by}
 use Rattle.std.proofs.lemmas.List.Elements.{All-cons, All-nil, All-weaker}
 use Rattle.std.proofs.lemmas.List.Sums.{sum_by-cons}
 use Rattle.std.proofs.lemmas.Bool.{and_from, le-leb}
-use Rattle.desk_terms.specs.declared.range.TheConstants.{MOST_PLACES}
-use Rattle.desk_terms.specs.declared.kinds.Way.{Way}
-use Rattle.desk_terms.specs.declared.kinds.Way.TheVariants.{For, Against, Withheld}
+use Rattle.vocabulary.specs.declared.range.TheConstants.{MOST_PLACES}
+use Rattle.vocabulary.specs.declared.kinds.Way.{Way}
+use Rattle.vocabulary.specs.declared.kinds.Way.TheVariants.{For, Against, Withheld}
 use Rattle.desk_words.specs.Registers.{all_shares}
 use Rattle.desk_words.specs.declared.records.Appointment.{Appointment}
 use Rattle.desk_words.specs.declared.records.Authority.{Authority}
@@ -17,13 +17,13 @@ use Rattle.proxy_rules.specs.Holdings.{holding_by}
 use Rattle.proxy_rules.specs.Shares.{shares_of}
 use Rattle.proxy_rules.specs.declared.papers.Cutoffs.{Cutoffs}
 use Rattle.proxy_rules.proofs.ShareLemmas.{shares_of-le}
-use Rattle.vote_rules.specs.Covers.{vote_among}
-use Rattle.vote_rules.specs.Received.{blocks_on, is_on_shares_of, last_instructed}
+use Rattle.vote_rules.specs.VoteCovers.{vote_among}
+use Rattle.vote_rules.specs.InstructedCasts.{blocks_on, is_on_shares_of, last_instructed}
 use Rattle.vote_rules.specs.Tallies.{is_vote, share_at, tally_by, votes, votes_to, vote_at}
 use Rattle.vote_rules.specs.Votes.{Casts, valid_vote}
-use Rattle.vote_rules.proofs.CastLemmas.{cast_among-last_cast}
-use Rattle.vote_rules.proofs.CountLemmas.{places_that-alike}
-use Rattle.vote_rules.proofs.ListLemmas.{sum_by-agree}
+use Rattle.vote_rules.proofs.VoteCastLemmas.{cast_among-last_cast}
+use Rattle.vote_rules.proofs.VoteCountLemmas.{places_that-alike}
+use Rattle.vote_rules.proofs.VoteListLemmas.{sum_by-agree}
 
 few_each : (rows : List RegisterRow) → all_shares rows ≤ MOST_PLACES → All (λ (row : RegisterRow). row.shares ≤ MOST_PLACES) rows
 few_each [] few = All-nil (λ (row : RegisterRow). row.shares ≤ MOST_PLACES)

@@ -6,16 +6,16 @@ use Rattle.std.proofs.lemmas.List.Elements.{All-append, All-cons, All-filter, Al
 use Rattle.std.proofs.lemmas.Option.{slice_get-map}
 use Rattle.std.proofs.Math.Bool.{and-false}
 use Rattle.std.proofs.lemmas.Bool.{and_from, eqb-true, le-leb, leb-false}
-use Rattle.desk_terms.specs.declared.range.TheConstants.{MOST_PLACES}
-use Rattle.desk_terms.specs.Names.{same_name}
-use Rattle.desk_terms.specs.Places.{holds}
-use Rattle.desk_terms.specs.declared.kinds.Capacity.{Capacity}
-use Rattle.desk_terms.specs.declared.kinds.Capacity.TheVariants.{Member, Rep, Proxy}
-use Rattle.desk_terms.specs.declared.kinds.HolderKind.{HolderKind}
-use Rattle.desk_terms.specs.declared.kinds.HolderKind.TheVariants.{Individual, Corporation, Treasury}
-use Rattle.desk_terms.specs.declared.kinds.Way.{Way}
-use Rattle.desk_terms.specs.declared.kinds.Way.TheVariants.{For, Against, Withheld}
-use Rattle.desk_words.proofs.RowLemmas.{same_name-refl}
+use Rattle.vocabulary.specs.declared.range.TheConstants.{MOST_PLACES}
+use Rattle.vocabulary.specs.Names.{same_name}
+use Rattle.vocabulary.specs.Places.{holds}
+use Rattle.vocabulary.specs.declared.kinds.Capacity.{Capacity}
+use Rattle.vocabulary.specs.declared.kinds.Capacity.TheVariants.{Member, Rep, Proxy}
+use Rattle.vocabulary.specs.declared.kinds.HolderKind.{HolderKind}
+use Rattle.vocabulary.specs.declared.kinds.HolderKind.TheVariants.{Individual, Corporation, Treasury}
+use Rattle.vocabulary.specs.declared.kinds.Way.{Way}
+use Rattle.vocabulary.specs.declared.kinds.Way.TheVariants.{For, Against, Withheld}
+use Rattle.desk_words.proofs.WordRowLemmas.{same_name-refl}
 use Rattle.desk_words.specs.declared.records.Appointment.{Appointment}
 use Rattle.desk_words.specs.declared.records.Authority.{Authority}
 use Rattle.desk_words.specs.declared.records.RegisterRow.{RegisterRow}
@@ -28,18 +28,18 @@ use Rattle.proxy_rules.specs.declared.pieces.GovernedPiece.{GovernedPiece}
 use Rattle.proxy_rules.proofs.TileLemmas.{tiled}
 use Rattle.share_blocks.specs.Covers.{Cover}
 use Rattle.share_blocks.specs.Pieces.{is_place}
-use Rattle.share_blocks.proofs.CoverLemmas.{tags_at-place}
+use Rattle.share_blocks.proofs.BlockCoverLemmas.{tags_at-place}
 use Rattle.vote_rules.specs.Ballots.{capacity_for, cuts_of, governing_at, piece_at, vote_by, vote_by_governing, vote_by_proxy, vote_if, voters_for}
 use Rattle.vote_rules.specs.Casts.{Share, find_map, instructed_way}
 use Rattle.proxy_rules.specs.Parties.{authorised_by, same_capacity}
 use Rattle.proxy_rules.specs.Instructions.{instructed_on, same_way}
-use Rattle.vote_rules.specs.Covers.{as_proxy, cast_among, cover_of, vote_covers, everywhere, way_number, vote_pieces, vote_among, way_at, way_tagged}
-use Rattle.vote_rules.specs.Received.{is_after, is_before}
+use Rattle.vote_rules.specs.VoteCovers.{as_proxy, cast_among, cover_of, vote_covers, whole_cover, way_number, vote_pieces, vote_among, way_at, way_tagged}
+use Rattle.vote_rules.specs.InstructedCasts.{is_after, is_before}
 use Rattle.vote_rules.specs.Tallies.{share_at}
 use Rattle.vote_rules.specs.Votes.{Casts, common_way, first_that_applies, valid_vote}
 use Rattle.vote_rules.specs.declared.received.BlockCast.{BlockCast}
-use Rattle.vote_rules.proofs.CastLemmas.{cover_way, way_of_covers}
-use Rattle.vote_rules.proofs.ListLemmas.{All-reverse, filter_map_mapped, find-agree, find_map-agree}
+use Rattle.vote_rules.proofs.VoteCastLemmas.{cover_way, way_of_covers}
+use Rattle.vote_rules.proofs.VoteListLemmas.{All-reverse, filter_map_mapped, find-agree, find_map-agree}
 
 -- ---- the rules, by those who vote for the holder
 
@@ -182,10 +182,10 @@ module _ (cutoffs : Cutoffs) (holding : Holding) (authorities : List Authority) 
   covers_alike place other capacity voter (Some order) one two all =
       let earlier = filter_map (cover_of capacity voter) (filter (is_before order) casts) in
       let later = filter_map (cover_of capacity voter) (filter (is_after order) casts) in
-      All-append (AreAlike place other) (earlier ++ everywhere ∷ []) later
-      (All-append (AreAlike place other) earlier (everywhere ∷ [])
+      All-append (AreAlike place other) (earlier ++ whole_cover ∷ []) later
+      (All-append (AreAlike place other) earlier (whole_cover ∷ [])
       (blocks_alike place other capacity voter (filter (is_before order) casts) (All-filter (is_before order) (HoldAlike place other) casts all))
-      (All-cons (AreAlike place other) everywhere [] (one ∙ sym two) (All-nil (AreAlike place other))))
+      (All-cons (AreAlike place other) whole_cover [] (one ∙ sym two) (All-nil (AreAlike place other))))
       (blocks_alike place other capacity voter (filter (is_after order) casts) (All-filter (is_after order) (HoldAlike place other) casts all))
 
   way_alike : (instructed : Option Way) (capacity : Capacity) (voter : List ℕ) (place other : ℕ) → is_place place ≡ true → is_place other ≡ true → All (HoldAlike place other) casts

@@ -1,16 +1,16 @@
 -- Holdings whose shares all have one vote. For private contracts.
 use Rattle.std.specs.Prelude.{◌≡◌, ℕ, Bool, ◌≤◌, ◌&&◌, ◌==◌, nat_le, IsTrue, List, find, reverse, Option, Some, None, option_and_then, if◌then◌else◌}
-use Rattle.desk_terms.specs.Names.{same_name}
-use Rattle.desk_terms.specs.declared.kinds.Capacity.TheVariants.{Member}
-use Rattle.desk_terms.specs.declared.kinds.Way.{Way}
-use Rattle.desk_words.specs.Seen.{Number, Party}
+use Rattle.vocabulary.specs.Names.{same_name}
+use Rattle.vocabulary.specs.declared.kinds.Capacity.TheVariants.{Member}
+use Rattle.vocabulary.specs.declared.kinds.Way.{Way}
+use Rattle.desk_words.specs.ViewTypes.{Number, Party}
 use Rattle.desk_words.specs.declared.records.Authority.{Authority}
 use Rattle.desk_words.specs.declared.records.RegisterRow.{RegisterRow}
 use Rattle.proxy_rules.specs.Parties.{same_capacity}
 use Rattle.proxy_rules.specs.Shares.{shares_of}
 use Rattle.share_blocks.specs.Pieces.{is_place}
 use Rattle.vote_rules.specs.Casts.{Share}
-use Rattle.vote_rules.specs.Covers.{vote_among}
+use Rattle.vote_rules.specs.VoteCovers.{vote_among}
 use Rattle.vote_rules.specs.declared.received.BlockCast.{BlockCast}
 
 -- the voter casts the block as the member

@@ -2,20 +2,20 @@
 -- contracts.
 use Rattle.std.specs.Prelude.{◌≡◌, ℕ, IsTrue, List, [], ◌∷◌, ◌++◌, All, map, find, Option, Some, None, option_and_then, if◌then◌else◌}
 use Rattle.std.specs.List.{filter_map, slice_get}
-use Rattle.desk_terms.specs.Places.{Places, holds}
-use Rattle.desk_terms.specs.declared.kinds.Capacity.{Capacity}
-use Rattle.desk_terms.specs.declared.kinds.Capacity.TheVariants.{Member, Rep}
-use Rattle.desk_terms.specs.declared.kinds.HolderKind.{HolderKind}
-use Rattle.desk_terms.specs.declared.kinds.HolderKind.TheVariants.{Individual, Corporation, Treasury}
-use Rattle.desk_terms.specs.declared.kinds.Way.{Way}
-use Rattle.desk_words.specs.Seen.{Number, Party, Place}
+use Rattle.vocabulary.specs.Places.{Places, holds}
+use Rattle.vocabulary.specs.declared.kinds.Capacity.{Capacity}
+use Rattle.vocabulary.specs.declared.kinds.Capacity.TheVariants.{Member, Rep}
+use Rattle.vocabulary.specs.declared.kinds.HolderKind.{HolderKind}
+use Rattle.vocabulary.specs.declared.kinds.HolderKind.TheVariants.{Individual, Corporation, Treasury}
+use Rattle.vocabulary.specs.declared.kinds.Way.{Way}
+use Rattle.desk_words.specs.ViewTypes.{Number, Party, Place}
 use Rattle.desk_words.specs.declared.records.Appointment.{Appointment}
 use Rattle.desk_words.specs.declared.records.Authority.{Authority}
 use Rattle.proxy_rules.specs.declared.pieces.GovernedPiece.{GovernedPiece}
 use Rattle.share_blocks.specs.Covers.{Cover}
 use Rattle.share_blocks.specs.Pieces.{Piece}
 use Rattle.proxy_rules.specs.Instructions.{allows, instructed_on}
-use Rattle.vote_rules.specs.Covers.{way_at}
+use Rattle.vote_rules.specs.VoteCovers.{way_at}
 use Rattle.proxy_rules.specs.Parties.{authorised_by}
 use Rattle.proxy_rules.specs.Tiles.{are_tiled, governed_ranges}
 use Rattle.vote_rules.specs.Votes.{common_way, first_that_applies}

@@ -1,12 +1,12 @@
 -- Casts on a share of a poll. The records of all casts stand in order of receipt.
 use Rattle.std.specs.Prelude.{◌&&◌, ◌==◌, List, [], ◌∷◌, reverse, Option, Some, None, option_and_then, if◌then◌else◌}
 use Rattle.std.specs.Option.{option_or}
-use Rattle.desk_terms.specs.Names.{same_name}
-use Rattle.desk_terms.specs.Places.{holds}
-use Rattle.desk_terms.specs.declared.kinds.Capacity.{Capacity}
-use Rattle.desk_terms.specs.declared.kinds.Capacity.TheVariants.{Proxy}
-use Rattle.desk_terms.specs.declared.kinds.Way.{Way}
-use Rattle.desk_words.specs.Seen.{Number, Party, Place}
+use Rattle.vocabulary.specs.Names.{same_name}
+use Rattle.vocabulary.specs.Places.{holds}
+use Rattle.vocabulary.specs.declared.kinds.Capacity.{Capacity}
+use Rattle.vocabulary.specs.declared.kinds.Capacity.TheVariants.{Proxy}
+use Rattle.vocabulary.specs.declared.kinds.Way.{Way}
+use Rattle.desk_words.specs.ViewTypes.{Number, Party, Place}
 use Rattle.desk_words.specs.declared.records.Appointment.{Appointment}
 use Rattle.desk_words.specs.declared.records.CastKind.{CastKind}
 use Rattle.desk_words.specs.declared.records.CastKind.TheVariants as cast

@@ -1,9 +1,9 @@
 pub mod Alike
 pub mod Ballots
 pub mod Casts
-pub mod Covers
-pub mod Laws
-pub mod Received
+pub mod InstructedCasts
 pub mod Sums
 pub mod Tallies
+pub mod TallyLaws
+pub mod VoteCovers
 pub mod Votes

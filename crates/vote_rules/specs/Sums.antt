@@ -1,9 +1,9 @@
 -- Sums of counts.
 use Rattle.std.specs.Prelude.{ℕ, ◌+◌, ◌<◌, ◌^◌, List, Option, sum_by, if◌then◌else◌}
-use Rattle.desk_terms.specs.Places.{Places}
-use Rattle.desk_terms.specs.declared.kinds.Way.{Way}
-use Rattle.desk_terms.specs.declared.kinds.Way.TheVariants.{For, Against, Withheld}
-use Rattle.desk_words.specs.Seen.{Place}
+use Rattle.vocabulary.specs.Places.{Places}
+use Rattle.vocabulary.specs.declared.kinds.Way.{Way}
+use Rattle.vocabulary.specs.declared.kinds.Way.TheVariants.{For, Against, Withheld}
+use Rattle.desk_words.specs.ViewTypes.{Place}
 use Rattle.desk_words.specs.declared.records.Tally.{Tally}
 use Rattle.proxy_rules.specs.Tiles.{places_if, places_in}
 use Rattle.vote_rules.specs.Tallies.{is_vote, votes_to}

@@ -1,9 +1,9 @@
 -- The count of a poll.
 use Rattle.std.specs.Prelude.{ℕ, Bool, false, List, sum_by, Option, Some, None}
-use Rattle.desk_terms.specs.Places.{places_that}
-use Rattle.desk_terms.specs.declared.kinds.Way.{Way}
-use Rattle.desk_terms.specs.declared.kinds.Way.TheVariants.{For, Against, Withheld}
-use Rattle.desk_words.specs.Seen.{Number, Party, Place}
+use Rattle.vocabulary.specs.Places.{places_that}
+use Rattle.vocabulary.specs.declared.kinds.Way.{Way}
+use Rattle.vocabulary.specs.declared.kinds.Way.TheVariants.{For, Against, Withheld}
+use Rattle.desk_words.specs.ViewTypes.{Number, Party, Place}
 use Rattle.desk_words.specs.declared.records.Appointment.{Appointment}
 use Rattle.desk_words.specs.declared.records.Authority.{Authority}
 use Rattle.desk_words.specs.declared.records.CastMark.{CastMark}

@@ -1,10 +1,10 @@
 -- The valid vote of a share.
 use Rattle.std.specs.Prelude.{List, [], ◌∷◌, Option, Some, None, option_map, option_and_then, if◌then◌else◌}
 use Rattle.std.specs.List.{filter_map, list_all, slice_get}
-use Rattle.desk_terms.specs.declared.kinds.Capacity.{Capacity}
-use Rattle.desk_terms.specs.declared.kinds.Capacity.TheVariants.{Member, Rep, Proxy}
-use Rattle.desk_terms.specs.declared.kinds.Way.{Way}
-use Rattle.desk_words.specs.Seen.{Number, Party}
+use Rattle.vocabulary.specs.declared.kinds.Capacity.{Capacity}
+use Rattle.vocabulary.specs.declared.kinds.Capacity.TheVariants.{Member, Rep, Proxy}
+use Rattle.vocabulary.specs.declared.kinds.Way.{Way}
+use Rattle.desk_words.specs.ViewTypes.{Number, Party}
 use Rattle.desk_words.specs.declared.records.Appointment.{Appointment}
 use Rattle.desk_words.specs.declared.records.Authority.{Authority}
 use Rattle.desk_words.specs.declared.records.RegisterRow.{RegisterRow}

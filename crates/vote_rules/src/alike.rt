@@ -1,7 +1,7 @@
 //! Holdings whose shares all have one vote, as what is cast on them shows at once.
 ghost use Rattle.std.specs.Prelude.{◌≡◌, [], List, ℕ, true, IfSome, None, Some, find, is_some, reverse};
 ghost use Rattle.std.specs.BTreeMap.{get};
-ghost use Rattle.desk_terms.specs.Names.{name_cmp};
+ghost use Rattle.vocabulary.specs.Names.{name_cmp};
 ghost use Rattle.proxy_rules.specs.Shares.{is_individual};
 ghost use Rattle.vote_rules.specs.Alike.{AllVote, is_own, newest_own, way_of_newest, way_on_all};
 

@@ -3,12 +3,12 @@ ghost use Rattle.std.specs.Prelude.{◌≡◌, ℕ, IfOk, None, Some, true, fals
 ghost use Rattle.std.specs.BTreeMap.{get};
 ghost use Rattle.std.specs.List.{filter_map, list_all, slice_get};
 ghost use Rattle.std.specs.List.Sorted.{IsPartitionPoint};
-ghost use Rattle.desk_terms.specs.Names.{name_cmp};
-ghost use Rattle.desk_terms.specs.declared.kinds.Capacity.TheVariants.{Proxy};
+ghost use Rattle.vocabulary.specs.Names.{name_cmp};
+ghost use Rattle.vocabulary.specs.declared.kinds.Capacity.TheVariants.{Proxy};
 ghost use Rattle.desk_words.specs.declared.records.Appointment.{Appointment};
 ghost use Rattle.proxy_rules.specs.declared.pieces.GovernedPiece.{GovernedPiece};
 ghost use Rattle.vote_rules.specs.Ballots.{AreInOrder, capacity_for, governing_at, piece_at, vote_by, vote_by_governing, vote_by_proxy, vote_if, voters_for, ways_at};
-ghost use Rattle.vote_rules.specs.Covers.{vote_pieces, way_at};
+ghost use Rattle.vote_rules.specs.VoteCovers.{vote_pieces, way_at};
 ghost use Rattle.proxy_rules.specs.Instructions.{same_way};
 ghost use Rattle.vote_rules.specs.Votes.{common_way};
 
@@ -164,7 +164,7 @@ fn vote_by_governing<B: Blocks>(
 }
 
 /// The ways in which the holder's voters cast on the place.
-#[tactic(auto, using(crate::proofs::ListLemmas::filter_map_mapped))]
+#[tactic(auto, using(crate::proofs::VoteListLemmas::filter_map_mapped))]
 fn ways_at<B: Blocks>(alloc: Global, holders: &[B], place: u64) -> Result<Vec<Way>, AllocError>
     ensures { IfOk result (λ ways. ways.items ≡ ways_at (map B.pieces holders.now) place) }
 {

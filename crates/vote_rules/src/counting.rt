@@ -2,16 +2,16 @@
 //! a cast on it begins or has just ended, and the valid vote is asked once a part.
 ghost use Rattle.std.specs.Prelude.{◌≡◌, ◌≤◌, ◌<◌, ◌^◌, ℕ, List, [], true, IfOk, None, filter, map, sum_by};
 ghost use Rattle.std.specs.BTreeMap.{get};
-ghost use Rattle.desk_terms.specs.Names.{name_cmp};
+ghost use Rattle.vocabulary.specs.Names.{name_cmp};
 ghost use Rattle.desk_words.specs.Office.{are_numbered_after, are_rows};
 ghost use Rattle.desk_words.specs.Registers.{all_shares};
 ghost use Rattle.desk_words.specs.declared.records.RegisterRow.{RegisterRow};
-ghost use Rattle.proxy_rules.specs.Holdings.{IsKept, are_tags, holding_by};
+ghost use Rattle.proxy_rules.specs.Holdings.{IsValidHolding, are_tags, holding_by};
 ghost use Rattle.proxy_rules.specs.Shares.{shares_of};
 ghost use Rattle.proxy_rules.specs.Tiles.{places_in};
 ghost use Rattle.vote_rules.specs.Ballots.{AreInOrder, governing_at, vote_by};
-ghost use Rattle.vote_rules.specs.Covers.{vote_among};
-ghost use Rattle.vote_rules.specs.Received.{AreInMemberOrder, is_on_shares_of};
+ghost use Rattle.vote_rules.specs.VoteCovers.{vote_among};
+ghost use Rattle.vote_rules.specs.InstructedCasts.{AreInMemberOrder, is_on_shares_of};
 ghost use Rattle.vote_rules.specs.Sums.{FitsBoth, FitsMore, added, tally_over, tally_to, with_votes};
 ghost use Rattle.vote_rules.specs.Tallies.{share_at, tally_by, tally_of};
 
@@ -96,7 +96,7 @@ fn tally_row_by<B: Blocks>(
     resolution: u64,
     row: &RegisterRow,
 ) -> Result<Tally, AllocError>
-    requires { IsKept (holding_by papers.now.appointments.now papers.now.endings.now row.now) }
+    requires { IsValidHolding (holding_by papers.now.appointments.now papers.now.endings.now row.now) }
     ensures { IfOk result
         (λ tally. tally
         ≡ tally_to
@@ -149,7 +149,7 @@ fn tally_row(
     resolution: u64,
     row: &RegisterRow,
 ) -> Result<Tally, AllocError>
-    requires { IsKept (holding_by papers.now.appointments.now papers.now.endings.now row.now) }
+    requires { IsValidHolding (holding_by papers.now.appointments.now papers.now.endings.now row.now) }
     ensures { IfOk result
         (λ tally. tally
         ≡ tally_to

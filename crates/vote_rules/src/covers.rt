@@ -3,10 +3,10 @@ ghost use Rattle.std.specs.Prelude.{◌≡◌, ℕ, IsTrue, IfOk, filter, is_som
 ghost use Rattle.std.specs.BTreeMap.{get};
 ghost use Rattle.std.specs.FinSet as set;
 ghost use Rattle.std.specs.List.{filter_map};
-ghost use Rattle.desk_terms.specs.Names.{name_cmp};
+ghost use Rattle.vocabulary.specs.Names.{name_cmp};
 ghost use Rattle.share_blocks.specs.Tags.{is_tag};
-ghost use Rattle.vote_rules.specs.Covers.{cover_of, vote_covers, everywhere, vote_pieces, way_at, way_number, way_tagged};
-ghost use Rattle.vote_rules.specs.Received.{is_after, is_before};
+ghost use Rattle.vote_rules.specs.VoteCovers.{cover_of, vote_covers, whole_cover, vote_pieces, way_at, way_number, way_tagged};
+ghost use Rattle.vote_rules.specs.InstructedCasts.{is_after, is_before};
 
 use crate::received::BlockCast;
 use desk_words::{Capacity, MOST_PLACES, Party, Range, Way};
@@ -76,7 +76,7 @@ fn cover_of(cast: &BlockCast, capacity: Capacity, voter: Party) -> Option<(Range
 
 /// All places, with the tag of what is cast as instructed.
 fn everywhere() -> (Range, Tag)
-    ensures { result ≡ everywhere }
+    ensures { result ≡ whole_cover }
 {
     (Range::with_ends(1, MOST_PLACES), instructed_tag())
 }

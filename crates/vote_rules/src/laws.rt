@@ -1,5 +1,5 @@
 //! Laws of the definitions by which the contracts speak.
-ghost use Rattle.vote_rules.specs.Laws.{TalliesFitTheShares, TalliesReadTheirOwnCasts};
+ghost use Rattle.vote_rules.specs.TallyLaws.{TalliesFitTheShares, TalliesReadTheirOwnCasts};
 
 /// Of every register, and of no rows, whatever is cast and whoever governs: the votes of a tally
 /// are at most the shares, and the shares at most 10^12.

@@ -2,8 +2,8 @@
 ghost use Rattle.std.specs.Prelude.{◌≡◌, ◌≤◌, ℕ, List, Some, None, IfOk, filter, length};
 ghost use Rattle.std.specs.BTreeMap.{get};
 ghost use Rattle.std.specs.List.{enumerate_from, position_from, position_or_len};
-ghost use Rattle.desk_terms.specs.Names.{name_cmp};
-ghost use Rattle.vote_rules.specs.Received.{AreInMemberOrder, block_on, blocks_on, is_from_member, is_instructed_on, is_on_shares_of, is_past_member, last_instructed};
+ghost use Rattle.vocabulary.specs.Names.{name_cmp};
+ghost use Rattle.vote_rules.specs.InstructedCasts.{AreInMemberOrder, block_on, blocks_on, is_from_member, is_instructed_on, is_on_shares_of, is_past_member, last_instructed};
 
 use desk_words::{Block, CastKind, CastMark, Party};
 use std::alloc::{AllocError, Global};

@@ -1,6 +1,6 @@
 //! Whose key it is.
 ghost use Rattle.std.specs.Prelude.{◌≡◌};
-ghost use Rattle.meeting_core.specs.Callers.{caller_with};
+ghost use Rattle.meeting_core.specs.KeyHolders.{caller_with};
 
 use crate::book::Book;
 use desk_words::{Caller, SecretKey};

@@ -1,15 +1,15 @@
 //! What a party is told of a meeting, where it is found or where there is none.
 ghost use Rattle.std.specs.Prelude.{◌≡◌, true, IfOk, IfSome};
 ghost use Rattle.std.specs.Option.{option_copied};
-ghost use Rattle.party_views.specs.Reads.{rows_read};
-ghost use Rattle.party_views.specs.Rows.{rows_in};
+ghost use Rattle.party_views.specs.RowsRead.{rows_read};
+ghost use Rattle.party_views.specs.PartyRows.{rows_in};
 ghost use Rattle.party_views.specs.Views.{public_in};
 ghost use Rattle.desk_words.specs.Ordered.{ascends_by};
 ghost use Rattle.desk_words.specs.Registers.{member_before};
 
 use desk_words::{MeetingLists, Party, PartyRequest};
-use meeting_views::{no_rows_of, rows_for, rows_of};
 use office_days::Closed;
+use party_rows::{no_rows_of, rows_for, rows_of};
 use party_views::{OwnRows, PublicRecord};
 use std::alloc::{AllocError, Global};
 

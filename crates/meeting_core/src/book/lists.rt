@@ -1,13 +1,13 @@
 //! The book of lists that were kept elsewhere.
 ghost use Rattle.std.specs.Prelude.{◌≡◌, false, Err, IfErr, IfOk, IfSome, IsTrue, None, Some};
 ghost use Rattle.desk_words.specs.Office.{is_office};
-ghost use Rattle.office_checks.specs.InOrder.{office_in_order};
+ghost use Rattle.office_validation.specs.Validation.{office_in_order};
 ghost use Rattle.meeting_core.specs.declared.book.lists.BookFault.TheVariants.{Memory, NoOffice};
 
 use crate::book::Book;
 use desk_words::OfficeLists;
-use office_checks::office_checked;
 use office_days::Closed;
+use office_validation::office_checked;
 use std::alloc::{AllocError, Global};
 
 /// Why lists make no book.

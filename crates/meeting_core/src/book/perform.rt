@@ -1,7 +1,7 @@
 //! A call, made.
 ghost use Rattle.std.specs.Prelude.{◌≡◌, true, Err, IfErr, IfOk, IsTrue, Ok, OnErr};
 ghost use Rattle.std.specs.Fn.{FnOnceReturnsAt};
-ghost use Rattle.desk_words.specs.Changes.{after_some};
+ghost use Rattle.desk_words.specs.Changes.{applied_if_any};
 ghost use Rattle.desk_words.specs.Office.{is_office};
 ghost use Rattle.meeting_core.specs.Step.{decided, is_at_once_to, needs_no_memory, stepped};
 
@@ -22,7 +22,7 @@ impl Book {
             FnOnceReturnsAt F.FnOnce show (decided self.now call.now).reply (Ok s.0)) }
         ensures change { IfOk result (λ s. s.1 ≡ (decided self.now call.now).change) }
         ensures held { IsTrue (is_office self.now) }
-        ensures kept { IfOk result (λ s. IsTrue (is_office (after_some self.now s.1))) }
+        ensures kept { IfOk result (λ s. IsTrue (is_office (applied_if_any self.now s.1))) }
         ensures sure { needs_no_memory self.now call.now.caller call.now.request ≡ true
             → IfErr result
             (λ e. FnOnceReturnsAt F.FnOnce show (decided self.now call.now).reply (Err e)) }

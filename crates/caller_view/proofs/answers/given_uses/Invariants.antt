@@ -1,5 +1,5 @@
 use Rattle.std.proofs.Common.{◌≡◌, map}
-use Rattle.caller_view.specs.Appointments.{given_use}
+use Rattle.caller_view.specs.AppointmentRulings.{given_use}
 use Rattle.caller_view.proofs.answers.given_uses.Given as goal
 
 abbrev pub invariant-loop-one : goal.invariant-loop-one

@@ -1,11 +1,11 @@
 use Rattle.std.proofs.Common.{rules, ◌≡◌, ℕ, List, Some, true, false, ap, ◌∙◌}
-use Rattle.desk_terms.specs.Refusals.{first_refusal}
+use Rattle.vocabulary.specs.Refusals.{first_refusal}
 use Rattle.desk_words.specs.Finding.{poll_on}
-use Rattle.desk_words.specs.Polls.{is_closed, is_waiting}
+use Rattle.desk_words.specs.PollStates.{is_closed, is_waiting}
 use Rattle.proxy_rules.specs.Cutoffs.{is_late_poll}
-use Rattle.caller_view.specs.Casts.{has_cast_enough, right_cases}
+use Rattle.caller_view.specs.CastRulings.{has_cast_enough, right_cases}
 use Rattle.caller_view.specs.Rights.{governed_at_poll, may_vote_for}
-use Rattle.caller_view.proofs.CastLemmas.{refused_on}
+use Rattle.caller_view.proofs.PartyCastLemmas.{refused_on}
 use Rattle.caller_view.proofs.casts.range_refusal.Goals as goal
 
 pub returns : goal.returns

@@ -1,7 +1,7 @@
 use Rattle.std.proofs.Common.{◌≡◌, ◌+◌, ◌∷◌, ◌++◌, [], length, take, ap, sym, ◌∙◌, arith}
 use Rattle.std.proofs.lemmas.List.{take_more}
 use Rattle.caller_view.specs.Notices.{noticed_resolution}
-use Rattle.party_views.specs.Sessions.{numbered}
+use Rattle.party_views.specs.SessionLists.{enumerate_from}
 use Rattle.party_views.proofs.Numbering.{length-numbered, numbered-more}
 use Rattle.caller_view.proofs.notices.noticed_resolutions.Goals as goal
 
@@ -21,6 +21,6 @@ loop-resolution-preserved c =
     let number : length c.as_slice.result.now + 1 ≡ 1 + length (take i xs) = omega (arith, count) in
     c.in_ok-push.ensures.items
     ∙ ap (λ zs. zs ++ c.in_ok-noticed_resolution.field-0 ∷ []) c.loop-resolution.invariant
-    ∙ ap (λ y. numbered f 1 (take i xs) ++ y ∷ []) (c.in_ok-noticed_resolution.ensures ∙ ap (λ k. f k x) number)
+    ∙ ap (λ y. enumerate_from f 1 (take i xs) ++ y ∷ []) (c.in_ok-noticed_resolution.ensures ∙ ap (λ k. f k x) number)
     ∙ sym (numbered-more f 1 (take i xs) x)
-    ∙ ap (numbered f 1) (sym next)
+    ∙ ap (enumerate_from f 1) (sym next)

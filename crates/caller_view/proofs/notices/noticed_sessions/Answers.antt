@@ -1,7 +1,7 @@
 use Rattle.std.proofs.Common.{◌≡◌, ◌+◌, ◌∷◌, ◌++◌, [], length, take, ap, sym, ◌∙◌, arith}
 use Rattle.std.proofs.lemmas.List.{take_more}
 use Rattle.caller_view.specs.Notices.{noticed_session}
-use Rattle.party_views.specs.Sessions.{numbered}
+use Rattle.party_views.specs.SessionLists.{enumerate_from}
 use Rattle.party_views.proofs.Numbering.{length-numbered, numbered-more}
 use Rattle.caller_view.proofs.notices.noticed_sessions.Goals as goal
 
@@ -20,6 +20,6 @@ loop-session-preserved c =
     let number : length c.as_slice.result.now + 2 ≡ 2 + length (take i xs) = omega (arith, count) in
     c.in_ok-push.ensures.items
     ∙ ap (λ zs. zs ++ c.noticed_session.result ∷ []) c.loop-session.invariant
-    ∙ ap (λ y. numbered f 2 (take i xs) ++ y ∷ []) (c.noticed_session.ensures ∙ ap (λ k. f k x) number)
+    ∙ ap (λ y. enumerate_from f 2 (take i xs) ++ y ∷ []) (c.noticed_session.ensures ∙ ap (λ k. f k x) number)
     ∙ sym (numbered-more f 2 (take i xs) x)
-    ∙ ap (numbered f 2) (sym next)
+    ∙ ap (enumerate_from f 2) (sym next)

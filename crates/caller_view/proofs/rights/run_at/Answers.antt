@@ -1,7 +1,7 @@
 use Rattle.std.proofs.Common.{find, ap, sym, ◌∙◌}
 use Rattle.std.specs.Option.{option_copied}
-use Rattle.desk_lists.proofs.Kept.{none-found}
-use Rattle.desk_terms.specs.Places.{Places, holds}
+use Rattle.seq.proofs.Kept.{none-found}
+use Rattle.vocabulary.specs.Places.{Places, holds}
 use Rattle.caller_view.proofs.RightsLemmas.{run_found, run_lacks}
 use Rattle.caller_view.specs.Rights.{governed_at_poll, governs_at}
 use Rattle.caller_view.proofs.rights.run_at.Goals as goal

@@ -1,4 +1,4 @@
-use Rattle.desk_http.specs.Answers.{call_received}
+use Rattle.desk_http.specs.HttpAnswers.{call_received}
 use Rattle.desk_http.proofs.AnswerLemmas.{always_err, makes_none, not_asked, refused_done}
 use Rattle.desk_http.proofs.answers.answer.Goals as goal
 

@@ -1,6 +1,6 @@
 use Rattle.std.proofs.Common.{Some, sym, ◌∙◌}
-use Rattle.meeting_core.specs.Callers.{caller_with}
-use Rattle.desk_http.specs.Answers.{call_of}
+use Rattle.meeting_core.specs.KeyHolders.{caller_with}
+use Rattle.desk_http.specs.HttpAnswers.{call_of}
 use Rattle.desk_http.proofs.AnswerLemmas.{found_cut, makes_found, nobody_done, unmade_behind}
 use Rattle.desk_http.proofs.answers.answer_with.Goals as goal
 

@@ -1,4 +1,4 @@
-use Rattle.desk_http.proofs.LawLemmas.{replies_alike, texts_alike}
+use Rattle.desk_http.proofs.HttpLawLemmas.{replies_alike, texts_alike}
 use Rattle.desk_http.proofs.laws.replies_tell_no_more.Goals as goal
 
 pub returns-clause-replies : goal.returns-clause-replies

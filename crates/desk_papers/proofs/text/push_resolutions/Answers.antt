@@ -1,7 +1,7 @@
 use Rattle.std.proofs.Common.{◌++◌, ap, ◌∙◌, arith}
-use Rattle.desk_papers.specs.Results.{resolution_text}
+use Rattle.desk_papers.specs.PrintedResults.{resolution_text}
 use Rattle.desk_papers.specs.States.{state_of}
-use Rattle.desk_papers.proofs.ResultLemmas.{resolutions-more}
+use Rattle.desk_papers.proofs.PaperResultLemmas.{resolutions-more}
 use Rattle.desk_papers.proofs.text.push_resolutions.Goals as goal
 
 pub loop-resolution-preserved : goal.loop-resolution-preserved

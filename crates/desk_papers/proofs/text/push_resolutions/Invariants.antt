@@ -1,5 +1,5 @@
 use Rattle.std.proofs.Common.{◌≡◌, ◌+◌, ◌++◌, drop}
-use Rattle.desk_papers.specs.Results.{resolutions_text}
+use Rattle.desk_papers.specs.PrintedResults.{resolutions_text}
 use Rattle.desk_papers.proofs.text.push_resolutions.Given as goal
 
 -- What was added, and what the resolutions that are left will add, is the text of all.

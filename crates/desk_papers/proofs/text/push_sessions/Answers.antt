@@ -1,6 +1,6 @@
 use Rattle.std.proofs.Common.{◌++◌, ap, ◌∙◌, codes, arith}
-use Rattle.desk_papers.specs.Results.{line}
-use Rattle.desk_papers.proofs.ResultLemmas.{sessions-more}
+use Rattle.desk_papers.specs.PrintedResults.{line}
+use Rattle.desk_papers.proofs.PaperResultLemmas.{sessions-more}
 use Rattle.desk_papers.proofs.text.push_sessions.Goals as goal
 
 pub loop-session-preserved : goal.loop-session-preserved

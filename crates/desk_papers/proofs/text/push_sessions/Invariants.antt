@@ -1,5 +1,5 @@
 use Rattle.std.proofs.Common.{◌≡◌, ◌+◌, ◌++◌, drop}
-use Rattle.desk_papers.specs.Results.{sessions_text}
+use Rattle.desk_papers.specs.PrintedResults.{sessions_text}
 use Rattle.desk_papers.proofs.text.push_sessions.Given as goal
 
 -- What was added, and what the sessions that are left will add, is the text of all.

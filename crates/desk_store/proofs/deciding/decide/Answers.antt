@@ -2,15 +2,15 @@ use Rattle.std.proofs.Common.{◌≡◌, subst, sym}
 use Rattle.desk_words.specs.declared.caller.Caller.{Caller}
 use Rattle.desk_words.specs.declared.caller.Caller.TheVariants as caller
 use Rattle.desk_words.specs.declared.request.Call.{Call}
-use Rattle.desk_store.specs.Reads.{IsDecided, IsTold}
+use Rattle.desk_store.specs.TableReads.{IsDecided, HoldsOfTables}
 use Rattle.desk_store.proofs.deciding.decide.Goals as goal
 
 pub returns-in-Office-clause-tells : goal.returns-in-Office-clause-tells
 returns-in-Office-clause-tells g c =
-    subst (λ (who : Caller). IsTold g.S.Store c.args.tx.now.conn.now c.decide_office_call.new.tx.conn.now c.decide_office_call.result (IsDecided (record c.args.call.now { caller = who }))) (sym c.in-Office.is)
+    subst (λ (who : Caller). HoldsOfTables g.S.Store c.args.tx.now.conn.now c.decide_office_call.new.tx.conn.now c.decide_office_call.result (IsDecided (record c.args.call.now { caller = who }))) (sym c.in-Office.is)
     c.decide_office_call.ensures.tells
 
 pub returns-in-Party-clause-tells : goal.returns-in-Party-clause-tells
 returns-in-Party-clause-tells g c =
-    subst (λ (who : Caller). IsTold g.S.Store c.args.tx.now.conn.now c.decide_party_call.new.tx.conn.now c.decide_party_call.result (IsDecided (record c.args.call.now { caller = who }))) (sym c.in-Party.is)
+    subst (λ (who : Caller). HoldsOfTables g.S.Store c.args.tx.now.conn.now c.decide_party_call.new.tx.conn.now c.decide_party_call.result (IsDecided (record c.args.call.now { caller = who }))) (sym c.in-Party.is)
     c.decide_party_call.ensures.tells

@@ -1,9 +1,9 @@
 use Rattle.std.proofs.Common.{◌≡◌, Err, rules}
 use Rattle.desk_words.specs.declared.request.DeskRequest.TheVariants.{ClosedDays}
-use Rattle.party_reading.proofs.TellingLemmas.{told_stop}
-use Rattle.desk_store.specs.Reads.{IsDecidedAlways}
+use Rattle.sql_load_party.proofs.LoadedPartyTellingLemmas.{told_stop}
+use Rattle.desk_store.specs.TableReads.{IsDecidedAlways}
 use Rattle.desk_store.proofs.DecidingLemmas.{told_made}
-use Rattle.desk_store.proofs.ReadLemmas.{told_office}
+use Rattle.desk_store.proofs.DeskReadLemmas.{told_office}
 use Rattle.desk_store.proofs.StepLemmas.{failed_told}
 use Rattle.desk_store.proofs.deciding.decide_closed_days.Goals as goal
 

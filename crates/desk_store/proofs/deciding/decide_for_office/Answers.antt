@@ -1,10 +1,10 @@
 use Rattle.std.proofs.Common.{◌≡◌, Err, rules}
 use Rattle.meeting_core.specs.Decisions.{AreListsRead, office_call}
 use Rattle.meeting_core.proofs.ReadKept.{both_ok}
-use Rattle.party_reading.proofs.TellingLemmas.{told_after, told_both, told_stop}
-use Rattle.desk_store.specs.Reads.{IsDecided}
+use Rattle.sql_load_party.proofs.LoadedPartyTellingLemmas.{told_after, told_both, told_stop}
+use Rattle.desk_store.specs.TableReads.{IsDecided}
 use Rattle.desk_store.proofs.DecidingLemmas.{told_made}
-use Rattle.desk_store.proofs.ReadLemmas.{mapped_ok, told_office}
+use Rattle.desk_store.proofs.DeskReadLemmas.{mapped_ok, told_office}
 use Rattle.desk_store.proofs.deciding.decide_for_office.Goals as goal
 
 pub returns-in_err-closed-clause-tells : goal.returns-in_err-closed-clause-tells

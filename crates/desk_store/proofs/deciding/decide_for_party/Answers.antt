@@ -1,8 +1,8 @@
 use Rattle.std.proofs.Common.{◌≡◌, Err, ◌∙◌, rules}
 use Rattle.meeting_core.specs.Decisions.{AreRead, party_call}
-use Rattle.party_reading.proofs.TellingLemmas.{told_after, told_both, told_stop}
-use Rattle.desk_store.specs.Reads.{IsDecided}
-use Rattle.desk_store.proofs.ReadLemmas.{told_office}
+use Rattle.sql_load_party.proofs.LoadedPartyTellingLemmas.{told_after, told_both, told_stop}
+use Rattle.desk_store.specs.TableReads.{IsDecided}
+use Rattle.desk_store.proofs.DeskReadLemmas.{told_office}
 use Rattle.desk_store.proofs.StepLemmas.{failed_told}
 use Rattle.desk_store.proofs.deciding.decide_for_party.Goals as goal
 

@@ -1,11 +1,11 @@
 use Rattle.std.proofs.Common.{◌≡◌, Err, ap, rules}
 use Rattle.desk_words.specs.declared.request.DeskRequest.TheVariants.{CallMeeting}
-use Rattle.meeting_core.specs.Decisions.{AreMeetingsTold}
-use Rattle.meeting_reading.specs.declared.desk.MeetingCount.{MeetingCount}
-use Rattle.party_reading.proofs.TellingLemmas.{told_stop}
-use Rattle.desk_store.specs.Reads.{IsDecidedAlways}
+use Rattle.meeting_core.specs.Decisions.{AreMeetingsRead}
+use Rattle.sql_load_meeting.specs.declared.desk.MeetingCount.{MeetingCount}
+use Rattle.sql_load_party.proofs.LoadedPartyTellingLemmas.{told_stop}
+use Rattle.desk_store.specs.TableReads.{IsDecidedAlways}
 use Rattle.desk_store.proofs.DecidingLemmas.{told_made}
-use Rattle.desk_store.proofs.ReadLemmas.{told_office}
+use Rattle.desk_store.proofs.DeskReadLemmas.{told_office}
 use Rattle.desk_store.proofs.StepLemmas.{failed_told}
 use Rattle.desk_store.proofs.deciding.decide_new_meeting.Goals as goal
 
@@ -24,5 +24,5 @@ pub returns-clause-tells : goal.returns-clause-tells
 returns-clause-tells g c =
     told_made g.S.Store _ _ c.in_ok-count.count _ _ (IsDecidedAlways (CallMeeting c.args.new.now)) c.in_ok-count.ensures.told
     (λ office kept told now.
-    let is : AreMeetingsTold office c.args.new.now.meeting c.in_ok-count.count.is_named c.in_ok-count.count.held = record { named = ap (λ (it : MeetingCount). it.is_named) told; held = ap (λ (it : MeetingCount). it.held) told } in
+    let is : AreMeetingsRead office c.args.new.now.meeting c.in_ok-count.count.is_named c.in_ok-count.count.held = record { named = ap (λ (it : MeetingCount). it.is_named) told; held = ap (λ (it : MeetingCount). it.held) told } in
     record { is = c.in_ok-answer.ensures.decided office now is; kept = c.in_ok-answer.ensures.kept office kept is })

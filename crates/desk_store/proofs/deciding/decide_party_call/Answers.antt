@@ -3,9 +3,9 @@ use Rattle.desk_words.specs.declared.caller.Caller.TheVariants as caller
 use Rattle.desk_words.specs.declared.request.Call.{Call}
 use Rattle.desk_words.specs.declared.request.Request.{Request}
 use Rattle.desk_words.specs.declared.request.Request.TheVariants as asked
-use Rattle.desk_terms.specs.declared.refusal.Refusal.TheVariants.{OfficeOnly}
+use Rattle.vocabulary.specs.declared.refusal.Refusal.TheVariants.{OfficeOnly}
 use Rattle.desk_words.specs.Rulings as ruling
-use Rattle.desk_store.specs.Reads.{IsDecided, IsTold}
+use Rattle.desk_store.specs.TableReads.{IsDecided, HoldsOfTables}
 use Rattle.desk_store.proofs.DecidingLemmas.{decided_so, told_also}
 use Rattle.desk_store.proofs.deciding.decide_party_call.Goals as goal
 
@@ -15,5 +15,5 @@ by_party party now request = record { moment = now; caller = caller.Party party;
 
 pub returns-in-Party-clause-tells : goal.returns-in-Party-clause-tells
 returns-in-Party-clause-tells g c =
-    subst (λ (request : Request). IsTold g.S.Store c.args.tx.now.conn.now c.decide_for_party.new.tx.conn.now c.decide_for_party.result (IsDecided (by_party c.args.party c.args.now request))) (sym c.in-Party.is)
+    subst (λ (request : Request). HoldsOfTables g.S.Store c.args.tx.now.conn.now c.decide_for_party.new.tx.conn.now c.decide_for_party.result (IsDecided (by_party c.args.party c.args.now request))) (sym c.in-Party.is)
     c.decide_for_party.ensures.tells

@@ -3,9 +3,9 @@ use Rattle.desk_words.specs.Rulings as ruling
 use Rattle.desk_words.specs.declared.answer.Answer.{Answer}
 use Rattle.desk_words.specs.declared.change.Change.{Change}
 use Rattle.desk_words.specs.declared.office.OfficeLists.{OfficeLists}
-use Rattle.office_lists.specs.Yields.{fault_of_error}
-use Rattle.meeting_reading.proofs.DayLemmas.{asked_so, asked_stop}
-use Rattle.desk_store.proofs.ReadLemmas.{told_office}
+use Rattle.sql_assemble.specs.LoadResults.{fault_of_error}
+use Rattle.sql_load_meeting.proofs.LoadedMeetingDayLemmas.{asked_so, asked_stop}
+use Rattle.desk_store.proofs.DeskReadLemmas.{told_office}
 use Rattle.desk_store.proofs.deciding.refused.Goals as goal
 
 pub returns-in_err-all-clause-tells : goal.returns-in_err-all-clause-tells

@@ -1,4 +1,4 @@
-use Rattle.desk_store.proofs.ReadLemmas.{book_told}
+use Rattle.desk_store.proofs.DeskReadLemmas.{book_told}
 use Rattle.desk_store.proofs.reading.read_book.Goals as goal
 
 pub returns-clause-tells : goal.returns-clause-tells

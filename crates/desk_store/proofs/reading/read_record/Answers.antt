@@ -1,5 +1,5 @@
-use Rattle.desk_store.specs.Reads.{IsPublic}
-use Rattle.desk_store.proofs.ReadLemmas.{told_office}
+use Rattle.desk_store.specs.TableReads.{IsPublic}
+use Rattle.desk_store.proofs.DeskReadLemmas.{told_office}
 use Rattle.desk_store.proofs.reading.read_record.Goals as goal
 
 pub returns-clause-tells : goal.returns-clause-tells

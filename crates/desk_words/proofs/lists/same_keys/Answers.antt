@@ -1,4 +1,4 @@
-use Rattle.desk_words.proofs.RowLemmas.{each_same_key-Decides}
+use Rattle.desk_words.proofs.WordRowLemmas.{each_same_key-Decides}
 use Rattle.desk_words.proofs.lists.same_keys.Goals as goal
 
 pub returns-then-rows-others-clause-same : goal.returns-then-rows-others-clause-same

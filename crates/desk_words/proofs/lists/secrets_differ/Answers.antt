@@ -1,9 +1,9 @@
 use Rattle.std.proofs.Common.{Bool, ap, ◌∙◌, rules}
 use Rattle.std.specs.Cmp.Lexicographic.{nat_list_cmp_total}
 use Rattle.std.proofs.lemmas.List.Sorted.{answers_always}
-use Rattle.desk_terms.specs.Names.{name_cmp}
-use Rattle.desk_lists.specs.Ordered.{ascends_by, key_before}
-use Rattle.desk_lists.proofs.Ascending.{ascends-from_answer, ascends_by-sorted}
+use Rattle.vocabulary.specs.Names.{name_cmp}
+use Rattle.seq.specs.Ordered.{ascends_by, key_before}
+use Rattle.seq.proofs.Ascending.{ascends-from_answer, ascends_by-sorted}
 use Rattle.desk_words.specs.declared.caller.KeyRow.{KeyRow}
 use Rattle.desk_words.proofs.lists.secrets_differ.Goals as goal
 

@@ -1,4 +1,4 @@
-use Rattle.desk_words.proofs.RowLemmas.{each_same-Decides}
+use Rattle.desk_words.proofs.WordRowLemmas.{each_same-Decides}
 use Rattle.desk_words.proofs.register.same_rows.Goals as goal
 
 pub returns-then-rows-others-clause-same : goal.returns-then-rows-others-clause-same

@@ -1,8 +1,8 @@
 use Rattle.std.proofs.Common.{◌≡◌, sym, ap, ◌∙◌}
-use Rattle.desk_words.specs.Changes.{after_some}
+use Rattle.desk_words.specs.Changes.{applied_if_any}
 use Rattle.desk_words.specs.Office.{is_office}
-use Rattle.desk_words.specs.Rulings.{settled, within}
-use Rattle.desk_words.specs.Seen.{Party}
+use Rattle.desk_words.specs.Rulings.{ruled_answer, map_change}
+use Rattle.desk_words.specs.ViewTypes.{Party}
 use Rattle.desk_words.specs.declared.answer.Answer.{Answer}
 use Rattle.desk_words.specs.declared.caller.Caller.TheVariants as caller
 use Rattle.desk_words.specs.declared.change.Change.{Change}
@@ -11,15 +11,15 @@ use Rattle.desk_words.specs.declared.change.Entry.{Entry}
 use Rattle.desk_words.specs.declared.change.MeetingChange.TheVariants.{Enter}
 use Rattle.desk_words.specs.declared.office.OfficeLists.{OfficeLists}
 use Rattle.desk_words.specs.declared.request.Request.TheVariants as asked
-use Rattle.caller_view.specs.Answers.{party_ruling}
-use Rattle.party_views.specs.Own.{own_from}
+use Rattle.caller_view.specs.PartyRulings.{party_ruling}
+use Rattle.party_views.specs.OwnViews.{own_from}
 use Rattle.party_views.specs.Public.{PublicRecord}
-use Rattle.party_views.specs.Rows.{rows_in}
+use Rattle.party_views.specs.PartyRows.{rows_in}
 use Rattle.party_views.specs.Views.{meeting_at, own_of, public_of}
-use Rattle.office_answers.specs.Limits.{if_any, keeps_limits}
+use Rattle.office_decisions.specs.RequestLimits.{if_any, keeps_limits}
 use Rattle.meeting_core.specs.Decisions.{AreRead, party_call}
 use Rattle.meeting_core.specs.Step.{decided}
-use Rattle.meeting_core.proofs.EntryLemmas.{entry_in_limits}
+use Rattle.meeting_core.proofs.CoreEntryLemmas.{entry_in_limits}
 use Rattle.meeting_core.proofs.OfficeKept.{step_kept}
 use Rattle.meeting_core.proofs.RulingLemmas.{settled_within}
 use Rattle.meeting_core.proofs.answers.decide_from_rows.Goals as goal
@@ -37,9 +37,9 @@ is_decided c office party read =
     let entered = λ (entry : Entry). InMeeting meeting (Enter entry) in
     let ruled = party_ruling (public_of office meeting) (own_of office party meeting now) now what in
     c.entering.ensures
-    ∙ ap (within entered)
+    ∙ ap (map_change entered)
     (c.in_ok-answer.ensures all read.own
-    ∙ ap (λ (seen : PublicRecord). settled (party_ruling seen (own_from all seen now) now what)) read.public)
+    ∙ ap (λ (seen : PublicRecord). ruled_answer (party_ruling seen (own_from all seen now) now what)) read.public)
     ∙ sym (settled_within entered ruled)
 
 pub returns-clause-decided : goal.returns-clause-decided
@@ -52,5 +52,5 @@ returns-clause-kept c = λ office party read kept.
     let decision = is_decided c office party read in
     let entered = λ (entry : Entry). InMeeting meeting (Enter entry) in
     let ruled = party_ruling (public_of office meeting) (own_of office party meeting now) now c.args.asked.now in
-    let limits = ap (λ (a : Answer Change). if_any keeps_limits a.change) (settled_within entered ruled) ∙ entry_in_limits meeting (settled ruled).change in
-    ap (λ (a : Answer Change). is_office (after_some office a.change)) decision ∙ step_kept office now (caller.Party party) (asked.Party meeting c.args.asked.now) kept limits
+    let limits = ap (λ (a : Answer Change). if_any keeps_limits a.change) (settled_within entered ruled) ∙ entry_in_limits meeting (ruled_answer ruled).change in
+    ap (λ (a : Answer Change). is_office (applied_if_any office a.change)) decision ∙ step_kept office now (caller.Party party) (asked.Party meeting c.args.asked.now) kept limits

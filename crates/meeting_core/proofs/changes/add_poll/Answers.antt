@@ -1,7 +1,7 @@
 use Rattle.std.proofs.Common.{Bool, ap, ◌∙◌}
 use Rattle.std.proofs.lemmas.Result.{on_ok_weaker}
-use Rattle.desk_lists.specs.Sorting.{insert_by}
-use Rattle.desk_lists.proofs.Numbers.{is_lt-nat_cmp}
+use Rattle.seq.specs.Sorting.{insert_by}
+use Rattle.seq.proofs.Numbers.{is_lt-nat_cmp}
 use Rattle.desk_words.specs.declared.records.Poll.{Poll}
 use Rattle.meeting_core.proofs.changes.add_poll.Goals as goal
 

@@ -1,7 +1,7 @@
 use Rattle.std.proofs.Common.{sym, ◌∙◌, ap, slice_set}
 use Rattle.std.proofs.lemmas.Result.{on_ok_weaker}
 use Rattle.desk_words.specs.Names.{same_name}
-use Rattle.desk_lists.proofs.ChangeFirst.{change_first-some, change_first-none}
+use Rattle.seq.proofs.ChangeFirst.{change_first-some, change_first-none}
 use Rattle.desk_words.specs.Changes.{changed}
 use Rattle.meeting_core.proofs.changes.change_meeting.Goals as goal
 

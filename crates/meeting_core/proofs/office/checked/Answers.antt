@@ -2,8 +2,8 @@ use Rattle.std.proofs.Common.{◌≡◌, Some, sym, ap, ◌∙◌}
 use Rattle.std.proofs.lemmas.Result.{IfErr-weaker, IfOk-weaker}
 use Rattle.desk_words.specs.Office.{is_meeting}
 use Rattle.desk_words.specs.declared.office.MeetingLists.{MeetingLists}
-use Rattle.office_checks.specs.InOrder.{in_order, meeting_checked}
-use Rattle.office_checks.proofs.MeetingLemmas.{given-some, given-none}
+use Rattle.office_validation.specs.Validation.{in_order, meeting_checked}
+use Rattle.office_validation.proofs.ValidMeetingLemmas.{given-some, given-none}
 use Rattle.meeting_core.specs.declared.book.lists.BookFault.{BookFault}
 use Rattle.meeting_core.proofs.office.checked.Goals as goal
 

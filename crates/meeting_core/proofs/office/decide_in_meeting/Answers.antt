@@ -1,11 +1,11 @@
 use Rattle.std.proofs.Common.{◌≡◌, true, false, ap, ◌∙◌}
 use Rattle.std.specs.Prelude.{Option}
-use Rattle.desk_words.specs.Rulings.{settled}
+use Rattle.desk_words.specs.Rulings.{ruled_answer}
 use Rattle.desk_words.specs.declared.answer.Answer.{Answer}
 use Rattle.desk_words.specs.declared.change.Change.{Change}
 use Rattle.desk_words.specs.declared.office.MeetingLists.{MeetingLists}
-use Rattle.office_answers.specs.Answers.{is_register_held, office_ruling}
-use Rattle.office_answers.specs.Limits.{if_any, keeps_limits}
+use Rattle.office_decisions.specs.OfficeRulings.{is_register_held, office_ruling}
+use Rattle.office_decisions.specs.RequestLimits.{if_any, keeps_limits}
 use Rattle.meeting_core.specs.Decisions.{office_call}
 use Rattle.meeting_core.proofs.ReadKept.{decided_so, decision_kept, limits_within, never_none}
 use Rattle.meeting_core.proofs.office.decide_in_meeting.Goals as goal
@@ -16,7 +16,7 @@ returns-clause-decided c = λ office kept read.
     let what = c.args.asked.now in
     c.in_meeting.ensures
     ∙ decided_so office c.args.meeting now what c.args.closed.now c.args.found c.in_ok-lists.lists c.in_ok-answer.answer kept read c.in_ok-lists.ensures.same
-    (c.in_ok-answer.ensures.answer ∙ ap (λ (lists : Option MeetingLists). settled (office_ruling c.args.closed.now lists now what)) c.as_ref.ensures.value)
+    (c.in_ok-answer.ensures.answer ∙ ap (λ (lists : Option MeetingLists). ruled_answer (office_ruling c.args.closed.now lists now what)) c.as_ref.ensures.value)
 
 pub returns-clause-kept : goal.returns-clause-kept
 returns-clause-kept c = λ office kept read.
@@ -25,7 +25,7 @@ returns-clause-kept c = λ office kept read.
     let is =
     c.in_meeting.ensures
     ∙ decided_so office c.args.meeting now what c.args.closed.now c.args.found c.in_ok-lists.lists c.in_ok-answer.answer kept read c.in_ok-lists.ensures.same
-    (c.in_ok-answer.ensures.answer ∙ ap (λ (lists : Option MeetingLists). settled (office_ruling c.args.closed.now lists now what)) c.as_ref.ensures.value) in
+    (c.in_ok-answer.ensures.answer ∙ ap (λ (lists : Option MeetingLists). ruled_answer (office_ruling c.args.closed.now lists now what)) c.as_ref.ensures.value) in
     let limits = ap (λ (a : Answer Change). if_any keeps_limits a.change) c.in_meeting.ensures ∙ limits_within c.args.meeting c.in_ok-answer.answer.change c.in_ok-answer.ensures.limits in
     decision_kept office (office_call c.args.meeting now what) c.in_meeting.result is limits kept
 

@@ -1,6 +1,6 @@
 use Rattle.std.proofs.Common.{◌+◌, ◌-◌, ◌≤◌, ◌≡◌, sym, ◌∙◌, arith, inl, inr}
 use Rattle.std.proofs.lemmas.Bool.{cases_lt}
-use Rattle.office_days.specs.Days.{is_weekday}
+use Rattle.office_days.specs.WorkingDays.{is_weekday}
 use Rattle.office_days.proofs.ClosedDays.{days_differ, numbers_that-closed, count_by-run}
 use Rattle.office_days.proofs.working.closed_weekdays.Goals as goal
 

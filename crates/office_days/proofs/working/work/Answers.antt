@@ -1,5 +1,5 @@
 use Rattle.std.proofs.Common.{sym, arith}
-use Rattle.office_days.specs.Days.{is_working_second}
+use Rattle.office_days.specs.WorkingDays.{is_working_second}
 use Rattle.office_days.proofs.Counting.{numbers_that-none_between}
 use Rattle.office_days.proofs.WorkLemmas.{work-by_days}
 use Rattle.office_days.proofs.working.work.Goals as goal

@@ -1,7 +1,7 @@
 use Rattle.std.proofs.Common.{◌≡◌, ℕ, take}
 use Rattle.std.specs.BTreeMap.{get}
 use Rattle.std.specs.Ordering.{nat_cmp}
-use Rattle.party_views.specs.Own.{ended_at}
+use Rattle.party_views.specs.OwnViews.{ended_at}
 use Rattle.party_views.proofs.given.moments_by_number.Given as goal
 
 -- the moments of the first endings

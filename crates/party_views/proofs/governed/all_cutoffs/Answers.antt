@@ -1,8 +1,8 @@
 use Rattle.std.proofs.Common.{◌≡◌, ◌+◌, ◌∷◌, ◌++◌, [], ℕ, length, take, ap, sym, ◌∙◌, arith}
 use Rattle.std.proofs.lemmas.List.{take_more}
 use Rattle.desk_words.specs.declared.records.Session.{Session}
-use Rattle.party_views.specs.Kept.{session_cutoffs}
-use Rattle.party_views.specs.Sessions.{numbered}
+use Rattle.party_views.specs.ViewsByMember.{cutoffs_in_session}
+use Rattle.party_views.specs.SessionLists.{enumerate_from}
 use Rattle.party_views.specs.declared.governed.SessionCutoffs.{SessionCutoffs}
 use Rattle.party_views.proofs.Numbering.{length-numbered, numbered-more}
 use Rattle.party_views.proofs.governed.all_cutoffs.Goals as goal
@@ -10,7 +10,7 @@ use Rattle.party_views.proofs.governed.all_cutoffs.Goals as goal
 pub loop-session-preserved : goal.loop-session-preserved
 loop-session-preserved c =
     let meeting = c.args.meeting.now in
-    let f : ℕ → Session → SessionCutoffs = λ number s. session_cutoffs meeting c.args.closed.now c.args.now number in
+    let f : ℕ → Session → SessionCutoffs = λ number s. cutoffs_in_session meeting c.args.closed.now c.args.now number in
     let xs = meeting.later in
     let held = c.as_slice-session-items.result.now in
     let same = c.as_slice-session-items.ensures in
@@ -24,6 +24,6 @@ loop-session-preserved c =
     let number : length c.as_slice.result.now + 1 ≡ 1 + length front = omega (arith, count) in
     c.in_ok-push.ensures.items
     ∙ ap (λ zs. zs ++ c.session_cutoffs.result ∷ []) c.loop-session.invariant
-    ∙ ap (λ y. numbered f 1 front ++ y ∷ []) (c.session_cutoffs.ensures ∙ ap (λ k. f k x) number)
+    ∙ ap (λ y. enumerate_from f 1 front ++ y ∷ []) (c.session_cutoffs.ensures ∙ ap (λ k. f k x) number)
     ∙ sym (numbered-more f 1 front x)
-    ∙ ap (λ ys. numbered f 1 (meeting.first ∷ ys)) (sym next)
+    ∙ ap (λ ys. enumerate_from f 1 (meeting.first ∷ ys)) (sym next)

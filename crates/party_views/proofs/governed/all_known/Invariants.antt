@@ -1,5 +1,5 @@
 use Rattle.std.proofs.Common.{◌≡◌, map}
-use Rattle.party_views.specs.Kept.{received_with}
+use Rattle.party_views.specs.ViewsByMember.{received_with}
 use Rattle.party_views.proofs.governed.all_known.Given as goal
 
 -- the first appointments with what they govern

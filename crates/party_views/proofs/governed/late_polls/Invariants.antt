@@ -1,6 +1,6 @@
 use Rattle.std.proofs.Common.{◌≡◌, map, filter, take}
 use Rattle.proxy_rules.specs.Cutoffs.{is_late_poll}
-use Rattle.party_views.specs.Kept.{late_of}
+use Rattle.party_views.specs.ViewsByMember.{late_of}
 use Rattle.party_views.proofs.governed.late_polls.Given as goal
 
 -- the late ones of the first polls

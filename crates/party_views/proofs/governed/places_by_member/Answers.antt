@@ -3,10 +3,10 @@ use Rattle.std.specs.BTreeMap.{get}
 use Rattle.std.specs.Ordering.{is_eq}
 use Rattle.std.specs.Prelude.{Some}
 use Rattle.std.proofs.lemmas.List.{take_all}
-use Rattle.desk_terms.specs.Names.{name_cmp}
-use Rattle.party_views.specs.Own.{rows_by}
+use Rattle.vocabulary.specs.Names.{name_cmp}
+use Rattle.party_views.specs.OwnViews.{rows_by}
 use Rattle.party_views.specs.declared.rows.MemberRows.{MemberRows}
-use Rattle.party_views.proofs.KeptLemmas.{place-put}
+use Rattle.party_views.proofs.ViewKeptLemmas.{place-put}
 use Rattle.party_views.proofs.governed.places_by_member.Goals as goal
 
 pub loop-rows-preserved : goal.loop-rows-preserved

@@ -2,8 +2,8 @@ use Rattle.std.proofs.Common.{◌≡◌, ℕ, List, take}
 use Rattle.std.specs.BTreeMap.{get}
 use Rattle.std.specs.List.{slice_get}
 use Rattle.std.specs.Prelude.{option_and_then}
-use Rattle.desk_terms.specs.Names.{name_cmp}
-use Rattle.party_views.specs.Own.{rows_by}
+use Rattle.vocabulary.specs.Names.{name_cmp}
+use Rattle.party_views.specs.OwnViews.{rows_by}
 use Rattle.party_views.proofs.governed.places_by_member.Given as goal
 
 -- for each member the place of its last rows among the first

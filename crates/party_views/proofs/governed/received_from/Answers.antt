@@ -1,8 +1,8 @@
 use Rattle.std.proofs.Common.{ap, ◌∙◌}
 use Rattle.std.specs.Prelude.{List, map}
 use Rattle.desk_words.specs.declared.records.Appointment.{Appointment}
-use Rattle.party_views.specs.Kept.{received_with}
-use Rattle.party_views.proofs.KeptLemmas.{received-alike}
+use Rattle.party_views.specs.ViewsByMember.{received_with}
+use Rattle.party_views.proofs.ViewKeptLemmas.{received-alike}
 use Rattle.party_views.proofs.governed.received_from.Goals as goal
 
 pub returns : goal.returns

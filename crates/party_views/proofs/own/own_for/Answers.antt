@@ -3,8 +3,8 @@ use Rattle.std.specs.Prelude.{Option}
 use Rattle.std.specs.Option.{option_copied, option_map_or}
 use Rattle.std.proofs.lemmas.Result.{IfOk-weaker}
 use Rattle.desk_words.specs.declared.records.Meeting.{Meeting}
-use Rattle.party_views.specs.Own.{nothing_of, own_by, own_from}
-use Rattle.party_views.specs.Reads.{own_read, polls_read, rows_read}
+use Rattle.party_views.specs.OwnViews.{nothing_of, own_by, own_from}
+use Rattle.party_views.specs.RowsRead.{own_read, polls_read, rows_read}
 use Rattle.party_views.specs.Public.{PublicRecord}
 use Rattle.party_views.specs.declared.rows.OwnRows.{OwnRows}
 use Rattle.party_views.specs.declared.views.OwnView.{OwnView}

@@ -2,7 +2,7 @@ use Rattle.std.proofs.Common.{◌≡◌, ap, ◌∙◌, arith}
 use Rattle.poll_rules.specs.DemandSums.{demand_from, is_one_of}
 use Rattle.poll_rules.specs.Demands.{demand_by, has_demanded, shares_demanding}
 use Rattle.poll_rules.specs.declared.demand.Sums.{Sums}
-use Rattle.poll_rules.proofs.DemandLemmas.{demanding-le, tenfold_shares, tenfold_paid}
+use Rattle.poll_rules.proofs.PollDemandLemmas.{demanding-le, tenfold_shares, tenfold_paid}
 use Rattle.poll_rules.proofs.demand.demand_reached.Goals as goal
 
 pub is_enough-requires-clause-shares : goal.is_enough-requires-clause-shares

@@ -2,11 +2,11 @@ use Rattle.std.proofs.Common.{true, cond, take, ap, sym, ◌∙◌}
 use Rattle.std.specs.Prelude.{◌&&◌, ◌||◌}
 use Rattle.std.specs.Ordering.{is_eq}
 use Rattle.std.proofs.lemmas.List.Folds.{list_any_more}
-use Rattle.desk_terms.specs.Names.{same_name, name_cmp}
+use Rattle.vocabulary.specs.Names.{same_name, name_cmp}
 use Rattle.desk_words.specs.declared.records.DemandMark.{DemandMark}
 use Rattle.poll_rules.specs.DemandSums.{is_one_of}
 use Rattle.poll_rules.specs.Demands.{has_demanded, is_demand_in}
-use Rattle.poll_rules.proofs.DemandLemmas.{one_demander, no_demander}
+use Rattle.poll_rules.proofs.PollDemandLemmas.{one_demander, no_demander}
 use Rattle.poll_rules.proofs.demand.demanders.Goals as goal
 use Rattle.poll_rules.proofs.demand.demanders.Goals.{then-is_demand_in+in_ok-insert, else-is_demand_in}
 

@@ -1,10 +1,10 @@
 use Rattle.std.proofs.Common.{ap, sym, ◌∙◌}
 use Rattle.std.specs.Prelude.{◌||◌}
 use Rattle.std.specs.List.{list_any}
-use Rattle.desk_terms.specs.declared.kinds.HolderKind.{HolderKind}
+use Rattle.vocabulary.specs.declared.kinds.HolderKind.{HolderKind}
 use Rattle.proxy_rules.specs.Shares.{is_corporation, is_individual}
 use Rattle.std.specs.Prelude.{◌&&◌}
-use Rattle.desk_terms.specs.Names.{same_name}
+use Rattle.vocabulary.specs.Names.{same_name}
 use Rattle.desk_words.specs.declared.records.Authority.{Authority}
 use Rattle.poll_rules.specs.DemandSums.{is_one_of}
 use Rattle.poll_rules.proofs.GatherLemmas.{any-authorised}

@@ -1,6 +1,6 @@
 use Rattle.std.proofs.Common.{◌≡◌, ◌++◌, ◌∷◌, [], ap, ◌∙◌, arith}
 use Rattle.std.specs.BTreeMap.{get}
-use Rattle.desk_terms.specs.Names.{name_cmp}
+use Rattle.vocabulary.specs.Names.{name_cmp}
 use Rattle.poll_rules.proofs.GatherLemmas.{items_in, items_in-or_default, items_in-added}
 use Rattle.poll_rules.proofs.gathered.add_to.Goals as goal
 

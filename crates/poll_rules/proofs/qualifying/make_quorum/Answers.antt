@@ -1,8 +1,8 @@
 use Rattle.std.proofs.Common.{sym, ◌∙◌}
 use Rattle.std.specs.Prelude.{filter}
-use Rattle.poll_rules.specs.Gathered.{items_at}
+use Rattle.poll_rules.specs.GatheredItems.{items_at}
 use Rattle.poll_rules.specs.Quorum.{is_counted}
-use Rattle.poll_rules.proofs.PairLemmas.{quorum-one, quorum-more}
+use Rattle.poll_rules.proofs.PollPairLemmas.{quorum-one, quorum-more}
 use Rattle.poll_rules.proofs.qualifying.make_quorum.Goals as goal
 
 pub returns-then-rows-eq1 : goal.returns-then-rows-eq1

@@ -2,7 +2,7 @@ use Rattle.std.proofs.Common.{map, ap, ◌∙◌}
 use Rattle.std.specs.Prelude.{filter}
 use Rattle.desk_words.specs.declared.records.PresenceMark.{PresenceMark}
 use Rattle.proxy_rules.proofs.ShareLemmas.{all_shares-le}
-use Rattle.poll_rules.specs.Gathered.{items_at}
+use Rattle.poll_rules.specs.GatheredItems.{items_at}
 use Rattle.poll_rules.specs.Quorum.{is_counted, is_quorum, present_in}
 use Rattle.poll_rules.proofs.qualifying.quorum.Goals as goal
 

@@ -1,9 +1,9 @@
 use Rattle.std.proofs.Common.{◌≡◌, true, cond, [], ◌∷◌, ◌++◌, ap, sym, ◌∙◌}
 use Rattle.std.specs.Ordering.{is_lt}
 use Rattle.std.proofs.lemmas.List.{append-nil, take_all}
-use Rattle.desk_lists.specs.Ordered.{ascends_by}
-use Rattle.desk_terms.specs.Names.{same_name, name_cmp}
-use Rattle.poll_rules.specs.Gathered.{are_in, items_at}
+use Rattle.seq.specs.Ordered.{ascends_by}
+use Rattle.vocabulary.specs.Names.{same_name, name_cmp}
+use Rattle.poll_rules.specs.GatheredItems.{are_in, items_at}
 use Rattle.poll_rules.specs.Roles.{role_if}
 use Rattle.poll_rules.proofs.RoleLemmas.{are_in-is_member, given-more}
 use Rattle.poll_rules.proofs.roles.give_role.Goals as goal

@@ -1,5 +1,5 @@
 use Rattle.std.proofs.Common.{◌≡◌, ℕ, List, ◌++◌, take}
-use Rattle.poll_rules.specs.Gathered.{are_in, items_at}
+use Rattle.poll_rules.specs.GatheredItems.{are_in, items_at}
 use Rattle.poll_rules.specs.Roles.{role_if}
 use Rattle.poll_rules.proofs.roles.give_role.Given as goal
 

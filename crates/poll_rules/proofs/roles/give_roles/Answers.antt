@@ -1,20 +1,20 @@
 use Rattle.std.proofs.Common.{◌≡◌, ◌++◌, ap, subst, sym, ◌∙◌, append_assoc}
 use Rattle.std.specs.Prelude.{◌&&◌}
 use Rattle.std.proofs.lemmas.Result.{on_ok_weaker}
-use Rattle.desk_terms.specs.Names.{same_name}
-use Rattle.desk_terms.specs.declared.kinds.Capacity.TheVariants.{Member, Rep, Proxy}
-use Rattle.proxy_rules.specs.Holdings.{IsKept, holding_by}
+use Rattle.vocabulary.specs.Names.{same_name}
+use Rattle.vocabulary.specs.declared.kinds.Capacity.TheVariants.{Member, Rep, Proxy}
+use Rattle.proxy_rules.specs.Holdings.{IsValidHolding, holding_by}
 use Rattle.proxy_rules.specs.Shares.{is_corporation, is_individual}
 use Rattle.proxy_rules.specs.declared.holdings.Holding.{Holding}
-use Rattle.proxy_rules.proofs.KeptLemmas.{kept_by}
-use Rattle.poll_rules.specs.Gathered.{are_in, items_at}
+use Rattle.proxy_rules.proofs.ProxyKeptLemmas.{kept_by}
+use Rattle.poll_rules.specs.GatheredItems.{are_in, items_at}
 use Rattle.poll_rules.specs.Roles.{has_authority, is_proxy_in, role_if}
 use Rattle.poll_rules.proofs.roles.give_roles.Goals as goal
 
 pub proxies-requires : goal.proxies-requires
 proxies-requires c =
     let papers = c.args.papers.now in
-    subst (λ (h : Holding). IsKept h) (sym c.in_ok-holding.ensures) (kept_by papers.appointments.now papers.endings.now c.args.row.now c.requires.numbered c.requires.tags c.requires.few)
+    subst (λ (h : Holding). IsValidHolding h) (sym c.in_ok-holding.ensures) (kept_by papers.appointments.now papers.endings.now c.args.row.now c.requires.numbered c.requires.tags c.requires.few)
 
 pub returns : goal.returns
 returns c =

@@ -1,7 +1,7 @@
 use Rattle.std.proofs.Common.{◌≡◌, ℕ, List, ap, ◌∙◌}
 use Rattle.std.specs.List.{filter_map}
 use Rattle.std.proofs.lemmas.Result.{IfOk-weaker}
-use Rattle.poll_rules.specs.Gathered.{are_in}
+use Rattle.poll_rules.specs.GatheredItems.{are_in}
 use Rattle.poll_rules.specs.Roles.{is_proxy_in, proxy_of}
 use Rattle.poll_rules.proofs.RoleLemmas.{proxies-shares}
 use Rattle.poll_rules.proofs.roles.proxies.Goals as goal

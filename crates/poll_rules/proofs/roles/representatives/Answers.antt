@@ -1,10 +1,10 @@
 use Rattle.std.proofs.Common.{◌≡◌, ℕ, List, ap, sym, map, ◌∙◌}
 use Rattle.std.specs.Prelude.{◌&&◌, filter}
 use Rattle.std.proofs.lemmas.Result.{IfOk-weaker}
-use Rattle.desk_terms.specs.Names.{same_name}
+use Rattle.vocabulary.specs.Names.{same_name}
 use Rattle.desk_words.specs.declared.records.Authority.{Authority}
 use Rattle.proxy_rules.specs.Shares.{is_corporation}
-use Rattle.poll_rules.specs.Gathered.{are_in}
+use Rattle.poll_rules.specs.GatheredItems.{are_in}
 use Rattle.poll_rules.specs.Roles.{has_authority}
 use Rattle.proxy_rules.specs.Parties.{is_authority_of}
 use Rattle.poll_rules.proofs.GatherLemmas.{any-authorised}

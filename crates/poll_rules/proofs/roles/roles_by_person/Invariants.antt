@@ -1,6 +1,6 @@
 use Rattle.std.proofs.Common.{◌≡◌, ℕ, List, take}
 use Rattle.std.specs.List.{flat_map}
-use Rattle.poll_rules.specs.Gathered.{items_at}
+use Rattle.poll_rules.specs.GatheredItems.{items_at}
 use Rattle.poll_rules.specs.Roles.{roles_by}
 use Rattle.poll_rules.proofs.roles.roles_by_person.Given as goal
 

@@ -1,7 +1,7 @@
 use Rattle.std.proofs.Common.{◌≤◌, ◌-◌, ap, sym, ◌∙◌, arith}
 use Rattle.std.proofs.lemmas.Bool.Decides.{nat_tests}
 use Rattle.proxy_rules.specs.Alone.{is_left}
-use Rattle.proxy_rules.specs.Runs.{joined, runs_that}
+use Rattle.proxy_rules.specs.PlaceRuns.{joined, runs_that}
 use Rattle.proxy_rules.proofs.AloneLemmas.{nothing_before, range_ends, run_more, skipped}
 use Rattle.proxy_rules.proofs.alone.runs_left.Goals as goal
 

@@ -3,10 +3,10 @@ use Rattle.std.specs.List.{list_any}
 use Rattle.std.specs.Prelude.{nat_le}
 use Rattle.std.proofs.lemmas.Bool.Decides.{nat_tests}
 use Rattle.std.proofs.lemmas.Result.{IfOk-weaker}
-use Rattle.desk_terms.specs.Places.{Places, holds}
+use Rattle.vocabulary.specs.Places.{Places, holds}
 use Rattle.proxy_rules.specs.Alone.{holding_from, is_left}
 use Rattle.proxy_rules.specs.Governing.{ends, governed_in, is_over}
-use Rattle.proxy_rules.specs.Runs.{runs_that}
+use Rattle.proxy_rules.specs.PlaceRuns.{runs_that}
 use Rattle.proxy_rules.proofs.AloneLemmas.{begins_past, counts_not, governs_left, governs_nothing, is_over_ended}
 use Rattle.proxy_rules.proofs.alone.runs_of.Goals as goal
 use Rattle.proxy_rules.proofs.alone.runs_of.Goals.{then-last-from-via-then-last-from, then-last-from-via-else-last-from+then-ended, then-last-from-via-else-last-from+else-ended+then-not-counts}

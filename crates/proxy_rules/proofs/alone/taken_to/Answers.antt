@@ -1,6 +1,6 @@
 use Rattle.std.proofs.Common.{ap, sym, ◌∙◌}
 use Rattle.std.specs.Option.{option_copied}
-use Rattle.desk_lists.proofs.Kept.{none-found}
+use Rattle.seq.proofs.Kept.{none-found}
 use Rattle.proxy_rules.specs.Governing.{is_over}
 use Rattle.proxy_rules.proofs.AloneLemmas.{taken_through}
 use Rattle.proxy_rules.proofs.alone.taken_to.Goals as goal

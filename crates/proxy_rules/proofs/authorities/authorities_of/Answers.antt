@@ -1,5 +1,5 @@
 use Rattle.desk_words.specs.declared.records.Authority.{Authority}
-use Rattle.proxy_rules.proofs.NameLemmas.{found-named}
+use Rattle.proxy_rules.proofs.ProxyNameLemmas.{found-named}
 use Rattle.proxy_rules.proofs.authorities.authorities_of.Goals as goal
 
 pub returns : goal.returns

@@ -1,9 +1,9 @@
 use Rattle.std.proofs.Common.{◌≡◌, List, filter, ap, ◌∙◌}
 use Rattle.std.specs.List.{filter_map, slice_get}
 use Rattle.std.proofs.lemmas.Result.{IfOk-weaker}
-use Rattle.desk_terms.specs.Names.{same_name}
+use Rattle.vocabulary.specs.Names.{same_name}
 use Rattle.desk_words.specs.declared.records.Appointment.{Appointment}
-use Rattle.proxy_rules.proofs.NameLemmas.{filter-named}
+use Rattle.proxy_rules.proofs.ProxyNameLemmas.{filter-named}
 use Rattle.proxy_rules.proofs.holdings.given_by.Goals as goal
 
 pub returns : goal.returns

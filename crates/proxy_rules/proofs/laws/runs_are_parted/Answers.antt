@@ -1,4 +1,4 @@
-use Rattle.proxy_rules.proofs.RunLemmas.{are_parted-runs_that}
+use Rattle.proxy_rules.proofs.ProxyRunLemmas.{are_parted-runs_that}
 use Rattle.proxy_rules.proofs.laws.runs_are_parted.Goals as goal
 
 pub returns : goal.returns

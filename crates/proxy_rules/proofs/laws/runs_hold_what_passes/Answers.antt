@@ -1,4 +1,4 @@
-use Rattle.proxy_rules.proofs.RunLemmas.{are_in-runs_that}
+use Rattle.proxy_rules.proofs.ProxyRunLemmas.{are_in-runs_that}
 use Rattle.proxy_rules.proofs.laws.runs_hold_what_passes.Goals as goal
 
 pub returns : goal.returns

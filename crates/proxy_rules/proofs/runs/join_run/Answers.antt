@@ -1,7 +1,7 @@
 use Rattle.std.proofs.Common.{◌≡◌, ℕ, ◌+◌, ◌-◌, ◌++◌, ◌∷◌, [], set, refl, ap, ◌∙◌, arith}
 use Rattle.std.specs.Prelude.{vec_len}
 use Rattle.std.proofs.lemmas.List.{set-get_or}
-use Rattle.proxy_rules.proofs.RunLemmas.{set-joined, push-joined}
+use Rattle.proxy_rules.proofs.ProxyRunLemmas.{set-joined, push-joined}
 use Rattle.proxy_rules.proofs.runs.join_run.Goals as goal
 
 pub returns-in-Some : goal.returns-in-Some

@@ -1,8 +1,8 @@
 use Rattle.std.proofs.Common.{◌≡◌, Err, map, ap, ◌∙◌, rules}
 use Rattle.std.proofs.lemmas.List.{take_all}
-use Rattle.row_source.specs.Lists.{authority_at}
-use Rattle.row_source.proofs.RowLemmas.{made_more}
-use Rattle.row_source.proofs.TellingLemmas.{told_after, told_both, told_refused, told_so}
+use Rattle.row_source.specs.LookUps.{authority_at}
+use Rattle.row_source.proofs.SourceRowLemmas.{made_more}
+use Rattle.row_source.proofs.SourceTellingLemmas.{told_after, told_both, told_refused, told_so}
 use Rattle.row_source.proofs.members.authorised.Goals as goal
 
 pub loop-authority-init : goal.loop-authority-init

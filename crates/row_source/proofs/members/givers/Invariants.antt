@@ -1,8 +1,8 @@
 use Rattle.std.proofs.Common.{◌≡◌, ℕ, List, take}
 use Rattle.std.specs.BTreeSet.{contains}
 use Rattle.std.specs.List.{list_any}
-use Rattle.desk_terms.specs.Names.{name_cmp}
-use Rattle.party_views.specs.Rows.{givers}
+use Rattle.vocabulary.specs.Names.{name_cmp}
+use Rattle.party_views.specs.PartyRows.{givers}
 use Rattle.proxy_rules.specs.Holdings.{is_given_by}
 use Rattle.row_source.proofs.members.givers.Given as goal
 

@@ -3,7 +3,7 @@ use Rattle.std.specs.Prelude.{Option}
 use Rattle.std.specs.Option.{option_map_or}
 use Rattle.desk_words.specs.declared.records.RegisterRow.{RegisterRow}
 use Rattle.proxy_rules.specs.Shares.{shares_of}
-use Rattle.row_source.proofs.TellingLemmas.{told_after, told_both, told_so}
+use Rattle.row_source.proofs.SourceTellingLemmas.{told_after, told_both, told_so}
 use Rattle.row_source.proofs.members.member_rows.Goals as goal
 
 pub returns-in_err-appointed : goal.returns-in_err-appointed

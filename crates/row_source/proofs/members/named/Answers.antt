@@ -1,9 +1,9 @@
 use Rattle.std.proofs.Common.{◌≡◌, Err, map, ap, ◌∙◌, rules}
 use Rattle.std.proofs.lemmas.List.{take_all}
-use Rattle.party_views.specs.Rows.{givers}
-use Rattle.row_source.specs.Lists.{member_at}
-use Rattle.row_source.proofs.RowLemmas.{made_more}
-use Rattle.row_source.proofs.TellingLemmas.{told_after, told_both, told_refused, told_so}
+use Rattle.party_views.specs.PartyRows.{givers}
+use Rattle.row_source.specs.LookUps.{member_at}
+use Rattle.row_source.proofs.SourceRowLemmas.{made_more}
+use Rattle.row_source.proofs.SourceTellingLemmas.{told_after, told_both, told_refused, told_so}
 use Rattle.row_source.proofs.members.named.Goals as goal
 
 pub loop-member-init : goal.loop-member-init

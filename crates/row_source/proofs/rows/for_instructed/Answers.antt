@@ -1,6 +1,6 @@
 use Rattle.std.proofs.Common.{◌≡◌, Err, rules, ◌∙◌}
-use Rattle.row_source.proofs.RowLemmas.{instructed_are}
-use Rattle.row_source.proofs.TellingLemmas.{told_after, told_both, told_so}
+use Rattle.row_source.proofs.SourceRowLemmas.{instructed_are}
+use Rattle.row_source.proofs.SourceTellingLemmas.{told_after, told_both, told_so}
 use Rattle.row_source.proofs.rows.for_instructed.Goals as goal
 
 pub returns-in_err-casts : goal.returns-in_err-casts

@@ -1,5 +1,5 @@
 use Rattle.std.proofs.Common.{◌≡◌, Err, rules}
-use Rattle.row_source.proofs.TellingLemmas.{told_after, told_both, told_so}
+use Rattle.row_source.proofs.SourceTellingLemmas.{told_after, told_both, told_so}
 use Rattle.row_source.proofs.rows.for_proxy.Goals as goal
 
 pub returns-in_err-rows : goal.returns-in_err-rows

@@ -1,6 +1,6 @@
 use Rattle.std.proofs.Common.{◌∙◌}
-use Rattle.row_source.proofs.RowLemmas.{member_is, proxy_is, rep_is}
-use Rattle.row_source.proofs.TellingLemmas.{told_as}
+use Rattle.row_source.proofs.SourceRowLemmas.{member_is, proxy_is, rep_is}
+use Rattle.row_source.proofs.SourceTellingLemmas.{told_as}
 use Rattle.row_source.proofs.rows.for_vote.Goals as goal
 
 pub returns-in-Member : goal.returns-in-Member

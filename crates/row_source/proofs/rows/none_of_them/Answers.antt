@@ -1,6 +1,6 @@
 use Rattle.std.proofs.Common.{◌∙◌}
-use Rattle.row_source.proofs.RowLemmas.{nothing_is}
-use Rattle.row_source.proofs.TellingLemmas.{told_so}
+use Rattle.row_source.proofs.SourceRowLemmas.{nothing_is}
+use Rattle.row_source.proofs.SourceTellingLemmas.{told_so}
 use Rattle.row_source.proofs.rows.none_of_them.Goals as goal
 
 pub returns : goal.returns

@@ -1,6 +1,6 @@
 use Rattle.std.proofs.Common.{◌∙◌}
-use Rattle.row_source.proofs.RowLemmas.{presence_is}
-use Rattle.row_source.proofs.TellingLemmas.{told_so}
+use Rattle.row_source.proofs.SourceRowLemmas.{presence_is}
+use Rattle.row_source.proofs.SourceTellingLemmas.{told_so}
 use Rattle.row_source.proofs.rows.presence_alone.Goals as goal
 
 pub returns : goal.returns

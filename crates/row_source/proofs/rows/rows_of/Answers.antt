@@ -1,6 +1,6 @@
 use Rattle.std.proofs.Common.{◌≡◌, Err, rules, ◌∙◌}
-use Rattle.row_source.proofs.RowLemmas.{rows_are}
-use Rattle.row_source.proofs.TellingLemmas.{told_after, told_both, told_so}
+use Rattle.row_source.proofs.SourceRowLemmas.{rows_are}
+use Rattle.row_source.proofs.SourceTellingLemmas.{told_after, told_both, told_so}
 use Rattle.row_source.proofs.rows.rows_of.Goals as goal
 
 pub returns-in_err-ended : goal.returns-in_err-ended

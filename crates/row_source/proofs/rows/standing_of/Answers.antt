@@ -1,6 +1,6 @@
 use Rattle.std.proofs.Common.{◌≡◌, Err, rules, ◌∙◌}
-use Rattle.row_source.proofs.RowLemmas.{standing_are}
-use Rattle.row_source.proofs.TellingLemmas.{told_after, told_both, told_so}
+use Rattle.row_source.proofs.SourceRowLemmas.{standing_are}
+use Rattle.row_source.proofs.SourceTellingLemmas.{told_after, told_both, told_so}
 use Rattle.row_source.proofs.rows.standing_of.Goals as goal
 
 pub returns-in_err-row : goal.returns-in_err-row

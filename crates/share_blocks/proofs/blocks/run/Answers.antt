@@ -4,7 +4,7 @@ use Rattle.std.specs.Prelude.{find}
 use Rattle.share_blocks.specs.Covers.{pieces_after}
 use Rattle.share_blocks.specs.Pieces.{begin_at, follow_from, ranges_of, tags_at}
 use Rattle.share_blocks.proofs.BoundLemmas.{length-pieces_after}
-use Rattle.share_blocks.proofs.CoverLemmas.{begin_at-pieces_after, find-tags_at_place, follow_from-pieces_after, tags_at-place}
+use Rattle.share_blocks.proofs.BlockCoverLemmas.{begin_at-pieces_after, find-tags_at_place, follow_from-pieces_after, tags_at-place}
 use Rattle.share_blocks.proofs.blocks.run.Goals as goal
 
 -- when all ranges were covered

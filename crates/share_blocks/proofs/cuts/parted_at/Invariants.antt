@@ -1,5 +1,5 @@
 use Rattle.std.proofs.Common.{◌≡◌, ◌++◌, ◌≤◌, drop, true}
-use Rattle.desk_terms.specs.declared.range.TheConstants.{MOST_PLACES}
+use Rattle.vocabulary.specs.declared.range.TheConstants.{MOST_PLACES}
 use Rattle.share_blocks.specs.Cuts.{ranges_between, rise_from}
 use Rattle.share_blocks.proofs.cuts.parted_at.Given as goal
 

@@ -1,6 +1,6 @@
 use Rattle.std.proofs.Common.{◌≡◌, [], ◌∷◌, map, length, refl, ap, sym, subst, ◌∙◌, arith}
 use Rattle.std.specs.Map.{keys_of}
-use Rattle.share_blocks.specs.Links.{AreLinked, begun_between, linked_pieces, marks_of, parted, parted_behind, pieces_by, tagged_at, tagged_each, tags_by, tags_of_nodes}
+use Rattle.share_blocks.specs.LinkedPieces.{AreLinked, begun_between, linked_pieces, marks_of, split_before, split_after, pieces_by, tagged_at, tagged_each, tags_by, tags_of_nodes}
 use Rattle.share_blocks.specs.Pieces.{covered}
 use Rattle.share_blocks.proofs.BoundLemmas.{length-covered}
 use Rattle.share_blocks.proofs.LinkLemmas.{begins_past, follow_from-linked, keys-between, linked-parted_off, pieces-covered, range_facts, rise_of}
@@ -10,7 +10,7 @@ pub tag_piece-requires-clause-linked : goal.tag_piece-requires-clause-linked
 tag_piece-requires-clause-linked c =
     let es = c.args.newest.now.entries in
     subst (λ newest. AreLinked newest c.reserve.new.self.items) (sym c.in_ok-part_off.ensures.ok)
-    (subst (λ nodes. AreLinked (parted_behind c.args.range.to (parted c.args.range.from es)) nodes) (sym c.reserve.ensures.items)
+    (subst (λ nodes. AreLinked (split_after c.args.range.to (split_before c.args.range.from es)) nodes) (sym c.reserve.ensures.items)
     (linked-parted_off es c.args.nodes.now.items c.args.range c.requires c.from.ensures.kept))
 
 -- the pieces that begin past the first place
@@ -24,10 +24,10 @@ later c =
     ∙ keys-between c.args.range.from c.args.range.to es
 
 marks : (c : goal.After-drop-later-2) → marks_of c.tag_pieces.new.newest.entries c.tag_pieces.new.nodes.items
-    ≡ tagged_each c.args.tag (marks_of (parted_behind c.args.range.to (parted c.args.range.from c.args.newest.now.entries)) c.args.nodes.now.items) (c.args.range.from ∷ begins_past c.args.range c.args.newest.now.entries)
+    ≡ tagged_each c.args.tag (marks_of (split_after c.args.range.to (split_before c.args.range.from c.args.newest.now.entries)) c.args.nodes.now.items) (c.args.range.from ∷ begins_past c.args.range c.args.newest.now.entries)
 marks c =
     let tag = c.args.tag in
-    let cut = parted_behind c.args.range.to (parted c.args.range.from c.args.newest.now.entries) in
+    let cut = split_after c.args.range.to (split_before c.args.range.from c.args.newest.now.entries) in
     c.tag_pieces.ensures.marks
     ∙ ap (tagged_each tag (marks_of c.tag_piece.new.newest.entries c.tag_piece.new.nodes.items)) (later c)
     ∙ ap (λ ms. tagged_each tag ms (begins_past c.args.range c.args.newest.now.entries))

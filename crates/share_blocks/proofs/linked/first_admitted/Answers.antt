@@ -4,7 +4,7 @@ use Rattle.std.specs.FinSet as set
 use Rattle.std.proofs.lemmas.Bool.{lt-ltb, ltb-true}
 use Rattle.std.proofs.lemmas.Option.{slice_get_read}
 use Rattle.share_blocks.specs.declared.linked.Node.{Node}
-use Rattle.share_blocks.specs.Links.{LinksGoBack, is_among_first, tags_by, tags_of_nodes}
+use Rattle.share_blocks.specs.LinkedPieces.{LinksGoBack, is_among_first, tags_by, tags_of_nodes}
 use Rattle.share_blocks.proofs.NodeLemmas.{find-down}
 use Rattle.share_blocks.proofs.linked.first_admitted.Invariants.{height}
 use Rattle.share_blocks.proofs.linked.first_admitted.Goals as goal

@@ -1,7 +1,7 @@
 use Rattle.std.proofs.Common.{◌≡◌, ◌+◌, ℕ, length}
 use Rattle.std.specs.Prelude.{find, IsTrue, Option, Some, None}
 use Rattle.std.specs.FinSet as set
-use Rattle.share_blocks.specs.Links.{is_among_first, tags_by, tags_of_nodes}
+use Rattle.share_blocks.specs.LinkedPieces.{is_among_first, tags_by, tags_of_nodes}
 use Rattle.share_blocks.proofs.linked.first_admitted.Given as goal
 
 -- those below have the same first admitted tag

@@ -1,5 +1,5 @@
 use Rattle.std.proofs.Common.{None, sym, ◌∙◌}
-use Rattle.share_blocks.proofs.PartLemmas.{last_before-found, last_before-none}
+use Rattle.share_blocks.proofs.BlockPartLemmas.{last_before-found, last_before-none}
 use Rattle.share_blocks.proofs.linked.newest_at.Goals as goal
 
 pub returns-in-Some : goal.returns-in-Some

@@ -3,7 +3,7 @@ use Rattle.std.specs.BTreeMap.{is_at}
 use Rattle.std.specs.Map.{set_value}
 use Rattle.std.specs.Ordering.{nat_cmp}
 use Rattle.share_blocks.specs.declared.linked.Node.{Node}
-use Rattle.share_blocks.specs.Links.{AreLinked, Newest, marks_of}
+use Rattle.share_blocks.specs.LinkedPieces.{AreLinked, Newest, marks_of}
 use Rattle.share_blocks.proofs.NodeLemmas.{linked-found, linked-newest, marks-newest, marks-none}
 use Rattle.share_blocks.proofs.linked.tag_piece.Goals as goal
 

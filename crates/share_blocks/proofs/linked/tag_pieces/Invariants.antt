@@ -1,7 +1,7 @@
 use Rattle.std.proofs.Common.{◌≡◌, ◌+◌, ◌-◌, ◌≤◌, length, take}
 use Rattle.std.specs.Prelude.{vec_len}
 use Rattle.std.specs.Vec.{vec_capacity}
-use Rattle.share_blocks.specs.Links.{AreLinked, marks_of, tagged_each}
+use Rattle.share_blocks.specs.LinkedPieces.{AreLinked, marks_of, tagged_each}
 use Rattle.share_blocks.proofs.linked.tag_pieces.Given as goal
 
 -- the pieces at the places so far have the tag, and there is room for the others

@@ -1,5 +1,5 @@
 use Rattle.std.specs.BTreeMap.{get}
-use Rattle.desk_terms.specs.Names.{name_cmp}
+use Rattle.vocabulary.specs.Names.{name_cmp}
 use Rattle.vote_rules.proofs.SilentLemmas.{silent}
 use Rattle.vote_rules.proofs.alike.one_vote.Goals as goal
 

@@ -1,7 +1,7 @@
 use Rattle.std.proofs.Common.{ap, sym, ◌∙◌}
 use Rattle.std.specs.Prelude.{Some}
 use Rattle.std.specs.BTreeMap.{get}
-use Rattle.desk_terms.specs.Names.{name_cmp}
+use Rattle.vocabulary.specs.Names.{name_cmp}
 use Rattle.vote_rules.specs.Alike.{AllVote, way_of_newest}
 use Rattle.vote_rules.proofs.AlikeLemmas.{none_there, own_alike, where_some}
 use Rattle.vote_rules.proofs.alike.own_vote.Goals as goal

@@ -2,7 +2,7 @@ use Rattle.std.proofs.Common.{rules}
 use Rattle.std.specs.Prelude.{nat_lt}
 use Rattle.proxy_rules.specs.declared.pieces.GovernedPiece.{GovernedPiece}
 use Rattle.std.proofs.lemmas.List.Sorted.{IsPartitionPoint-from_clause}
-use Rattle.vote_rules.proofs.OrderLemmas.{reached_last}
+use Rattle.vote_rules.proofs.VoteOrderLemmas.{reached_last}
 use Rattle.vote_rules.proofs.ballots.first_that_reaches.Goals as goal
 
 pub returns : goal.returns

@@ -2,7 +2,7 @@ use Rattle.std.proofs.Common.{◌≡◌, ◌≤◌, None, Some, length, cond, re
 use Rattle.std.specs.Prelude.{option_and_then, slice_get}
 use Rattle.std.proofs.lemmas.Bool.{ltb-false, ltb-true}
 use Rattle.std.proofs.lemmas.Option.{slice_get_past, slice_get_read}
-use Rattle.vote_rules.proofs.OrderLemmas.{find-piece, if_has}
+use Rattle.vote_rules.proofs.VoteOrderLemmas.{find-piece, if_has}
 use Rattle.vote_rules.proofs.ballots.piece_at.Goals as goal
 
 pub returns-in_err-piece : goal.returns-in_err-piece

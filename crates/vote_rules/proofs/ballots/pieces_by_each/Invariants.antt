@@ -1,7 +1,7 @@
 use Rattle.std.proofs.Common.{◌≡◌, map, take}
 use Rattle.std.specs.BTreeMap.{get}
-use Rattle.desk_terms.specs.Names.{name_cmp}
-use Rattle.vote_rules.specs.Covers.{vote_pieces}
+use Rattle.vocabulary.specs.Names.{name_cmp}
+use Rattle.vote_rules.specs.VoteCovers.{vote_pieces}
 use Rattle.vote_rules.proofs.ballots.pieces_by_each.Given as goal
 
 -- those of the first voters

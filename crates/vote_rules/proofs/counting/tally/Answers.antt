@@ -1,12 +1,12 @@
 use Rattle.std.proofs.Common.{◌≡◌, ℕ, List, filter, ap, ◌∙◌}
 use Rattle.std.specs.BTreeMap.{get}
 use Rattle.std.proofs.lemmas.Result.{IfOk-weaker}
-use Rattle.desk_terms.specs.Names.{name_cmp}
+use Rattle.vocabulary.specs.Names.{name_cmp}
 use Rattle.desk_words.specs.declared.records.RegisterRow.{RegisterRow}
 use Rattle.proxy_rules.specs.Holdings.{holding_by}
 use Rattle.proxy_rules.proofs.ShareLemmas.{all_shares-le}
-use Rattle.vote_rules.specs.Covers.{vote_among}
-use Rattle.vote_rules.specs.Received.{blocks_on, is_on_shares_of, last_instructed}
+use Rattle.vote_rules.specs.VoteCovers.{vote_among}
+use Rattle.vote_rules.specs.InstructedCasts.{blocks_on, is_on_shares_of, last_instructed}
 use Rattle.vote_rules.specs.Tallies.{share_at, tally_by, tally_of}
 use Rattle.vote_rules.proofs.TallyLemmas.{tallies_agree}
 use Rattle.vote_rules.proofs.counting.tally.Goals as goal

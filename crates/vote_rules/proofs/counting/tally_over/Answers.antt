@@ -1,10 +1,10 @@
 use Rattle.std.proofs.Common.{ℕ, map, take, sym, subst}
 use Rattle.std.specs.Prelude.{Option}
-use Rattle.desk_terms.specs.declared.kinds.Way.{Way}
+use Rattle.vocabulary.specs.declared.kinds.Way.{Way}
 use Rattle.desk_words.specs.declared.records.Tally.{Tally}
 use Rattle.vote_rules.specs.Ballots.{governing_at, vote_by}
 use Rattle.vote_rules.specs.Sums.{FitsMore, tally_over}
-use Rattle.vote_rules.proofs.CountLemmas.{ranges_fit}
+use Rattle.vote_rules.proofs.VoteCountLemmas.{ranges_fit}
 use Rattle.vote_rules.proofs.counting.tally_over.Goals as goal
 
 pub add_shares-requires : goal.add_shares-requires

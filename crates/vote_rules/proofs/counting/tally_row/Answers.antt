@@ -1,6 +1,6 @@
 use Rattle.std.proofs.Common.{refl, sym, ◌∙◌}
 use Rattle.std.specs.BTreeMap.{get}
-use Rattle.desk_terms.specs.Names.{name_cmp}
+use Rattle.vocabulary.specs.Names.{name_cmp}
 use Rattle.proxy_rules.specs.Holdings.{holding_by}
 use Rattle.vote_rules.specs.Tallies.{share_at}
 use Rattle.vote_rules.proofs.AlikeLemmas.{row_alike}

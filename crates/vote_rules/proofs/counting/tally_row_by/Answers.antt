@@ -2,20 +2,20 @@ use Rattle.std.proofs.Common.{◌≡◌, ℕ, ◌≤◌, List, map, ap, sym, sub
 use Rattle.std.specs.Prelude.{All, sum_by}
 use Rattle.std.specs.BTreeMap.{get}
 use Rattle.std.proofs.lemmas.Result.{IfOk-weaker}
-use Rattle.desk_terms.specs.declared.range.TheConstants.{MOST_PLACES}
-use Rattle.desk_terms.specs.Names.{name_cmp}
-use Rattle.desk_terms.specs.declared.kinds.Capacity.TheVariants.{Proxy}
+use Rattle.vocabulary.specs.declared.range.TheConstants.{MOST_PLACES}
+use Rattle.vocabulary.specs.Names.{name_cmp}
+use Rattle.vocabulary.specs.declared.kinds.Capacity.TheVariants.{Proxy}
 use Rattle.desk_words.specs.declared.records.Appointment.{Appointment}
 use Rattle.proxy_rules.specs.Holdings.{holding_by}
 use Rattle.proxy_rules.specs.Shares.{shares_of}
 use Rattle.proxy_rules.specs.Tiles.{places_in}
 use Rattle.proxy_rules.specs.declared.holdings.Holding.{Holding}
 use Rattle.vote_rules.specs.Ballots.{AreInOrder, IsUncut, capacity_for, cuts_of, governing_at, vote_by, voters_for}
-use Rattle.vote_rules.specs.Covers.{vote_pieces, vote_among}
+use Rattle.vote_rules.specs.VoteCovers.{vote_pieces, vote_among}
 use Rattle.vote_rules.specs.Sums.{tally_over, tally_to}
 use Rattle.vote_rules.specs.Tallies.{share_at}
-use Rattle.vote_rules.proofs.CountLemmas.{places_in-tiles}
-use Rattle.vote_rules.proofs.RowLemmas.{counted}
+use Rattle.vote_rules.proofs.VoteCountLemmas.{places_in-tiles}
+use Rattle.vote_rules.proofs.VoteRowLemmas.{counted}
 use Rattle.vote_rules.proofs.counting.tally_row_by.Goals as goal
 
 pub tally_over-requires-clause-pieces : goal.tally_over-requires-clause-pieces

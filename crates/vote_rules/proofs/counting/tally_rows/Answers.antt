@@ -2,21 +2,21 @@ use Rattle.std.proofs.Common.{◌≡◌, ℕ, ◌+◌, get_or, take, filter, ref
 use Rattle.std.specs.Prelude.{Option}
 use Rattle.std.specs.BTreeMap.{get}
 use Rattle.std.specs.Cmp.Lexicographic.{nat_list_cmp_total}
-use Rattle.desk_terms.specs.Names.{name_cmp}
-use Rattle.desk_terms.specs.declared.kinds.Way.{Way}
+use Rattle.vocabulary.specs.Names.{name_cmp}
+use Rattle.vocabulary.specs.declared.kinds.Way.{Way}
 use Rattle.desk_words.specs.declared.records.RegisterRow.{RegisterRow}
 use Rattle.desk_words.specs.declared.records.Tally.{Tally}
 use Rattle.proxy_rules.specs.Holdings.{holding_by}
-use Rattle.proxy_rules.proofs.KeptLemmas.{kept_by}
+use Rattle.proxy_rules.proofs.ProxyKeptLemmas.{kept_by}
 use Rattle.proxy_rules.proofs.ShareLemmas.{all_shares-le}
 use Rattle.proxy_rules.specs.Shares.{shares_of}
 use Rattle.vote_rules.specs.Casts.{Share}
-use Rattle.vote_rules.specs.Covers.{vote_among}
-use Rattle.vote_rules.specs.Received.{AreInMemberOrder, is_on_shares_of, is_past_member}
+use Rattle.vote_rules.specs.VoteCovers.{vote_among}
+use Rattle.vote_rules.specs.InstructedCasts.{AreInMemberOrder, is_on_shares_of, is_past_member}
 use Rattle.vote_rules.specs.Sums.{FitsBoth, added, tally_to}
 use Rattle.vote_rules.specs.Tallies.{share_at, tally_by}
 use Rattle.vote_rules.specs.declared.received.BlockCast.{BlockCast}
-use Rattle.vote_rules.proofs.CountLemmas.{counts_fit, added-next, row-le}
+use Rattle.vote_rules.proofs.VoteCountLemmas.{counts_fit, added-next, row-le}
 use Rattle.vote_rules.proofs.LeftLemmas.{HasRest, on_this_row, rest_after}
 use Rattle.vote_rules.proofs.SortedBlocks.{kept-sorted}
 use Rattle.vote_rules.proofs.counting.tally_rows.Goals as goal

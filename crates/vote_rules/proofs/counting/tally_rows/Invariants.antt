@@ -1,10 +1,10 @@
 use Rattle.std.proofs.Common.{◌≡◌, filter, take}
 use Rattle.std.specs.BTreeMap.{get}
-use Rattle.desk_terms.specs.Names.{name_cmp}
+use Rattle.vocabulary.specs.Names.{name_cmp}
 use Rattle.desk_words.specs.declared.records.RegisterRow.{RegisterRow}
 use Rattle.proxy_rules.specs.Holdings.{holding_by}
-use Rattle.vote_rules.specs.Covers.{vote_among}
-use Rattle.vote_rules.specs.Received.{AreInMemberOrder, is_on_shares_of}
+use Rattle.vote_rules.specs.VoteCovers.{vote_among}
+use Rattle.vote_rules.specs.InstructedCasts.{AreInMemberOrder, is_on_shares_of}
 use Rattle.vote_rules.specs.Tallies.{share_at, tally_by}
 use Rattle.vote_rules.proofs.LeftLemmas.{HasRest}
 use Rattle.vote_rules.proofs.counting.tally_rows.Given as goal

@@ -2,7 +2,7 @@ use Rattle.std.proofs.Common.{◌≡◌, ◌||◌, ap, sym, ◌∙◌}
 use Rattle.std.specs.Prelude.{◌==◌}
 use Rattle.std.specs.Ordering.{nat_cmp}
 use Rattle.std.specs.FinSet as set
-use Rattle.vote_rules.proofs.CoverLemmas.{admitted_tags, instructed_too, one_tag, ways_alone}
+use Rattle.vote_rules.proofs.VoteCoverLemmas.{admitted_tags, instructed_too, one_tag, ways_alone}
 use Rattle.vote_rules.proofs.covers.admitted.Goals as goal
 use Rattle.vote_rules.proofs.covers.admitted.Goals.{then-is_some, else-is_some}
 

@@ -1,8 +1,8 @@
 use Rattle.std.proofs.Common.{ap, sym, ◌∙◌}
 use Rattle.std.specs.Prelude.{find, option_and_then}
 use Rattle.share_blocks.specs.Pieces.{tags_at}
-use Rattle.vote_rules.specs.Covers.{way_tagged}
-use Rattle.vote_rules.proofs.ListLemmas.{find-find_map}
+use Rattle.vote_rules.specs.VoteCovers.{way_tagged}
+use Rattle.vote_rules.proofs.VoteListLemmas.{find-find_map}
 use Rattle.vote_rules.proofs.covers.way_at.Goals as goal
 
 pub returns-in-Some : goal.returns-in-Some

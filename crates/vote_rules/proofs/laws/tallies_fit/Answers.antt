@@ -1,5 +1,5 @@
 use Rattle.vote_rules.specs.Tallies.{vote_at}
-use Rattle.vote_rules.proofs.CountLemmas.{is_tally-tally_by}
+use Rattle.vote_rules.proofs.VoteCountLemmas.{is_tally-tally_by}
 use Rattle.vote_rules.proofs.laws.tallies_fit.Goals as goal
 
 pub returns : goal.returns

@@ -1,17 +1,17 @@
 use Rattle.std.proofs.Common.{◌≡◌, ℕ, List, Bool, true, false, ◌&&◌, cond, refl, ap, sym, ◌∙◌}
 use Rattle.std.specs.Prelude.{◌==◌, Option, None, reverse}
-use Rattle.desk_terms.specs.Names.{same_name}
-use Rattle.desk_terms.specs.declared.kinds.Capacity.{Capacity}
-use Rattle.desk_terms.specs.declared.kinds.Way.{Way}
+use Rattle.vocabulary.specs.Names.{same_name}
+use Rattle.vocabulary.specs.declared.kinds.Capacity.{Capacity}
+use Rattle.vocabulary.specs.declared.kinds.Way.{Way}
 use Rattle.desk_words.specs.declared.records.CastMark.{CastMark}
 use Rattle.desk_words.specs.declared.records.RegisterRow.{RegisterRow}
 use Rattle.proxy_rules.specs.Holdings.{holding_by}
-use Rattle.proxy_rules.proofs.ListLemmas.{reverse-filter}
+use Rattle.proxy_rules.proofs.ProxyListLemmas.{reverse-filter}
 use Rattle.vote_rules.specs.Casts.{Share, find_map, instructed_way, last_cast, way_cast, way_over}
-use Rattle.vote_rules.specs.Laws.{casts_on}
+use Rattle.vote_rules.specs.TallyLaws.{casts_on}
 use Rattle.vote_rules.specs.Tallies.{share_at, tally_by}
 use Rattle.vote_rules.specs.Votes.{Casts, valid_vote}
-use Rattle.vote_rules.proofs.ListLemmas.{find_map-filter}
+use Rattle.vote_rules.proofs.VoteListLemmas.{find_map-filter}
 use Rattle.vote_rules.proofs.laws.tallies_read_their_own_casts.Goals as goal
 
 on_it : (right own : Bool) (o : Option Way) → cond right (cond (right && own) o None) None ≡ cond (right && own) o None

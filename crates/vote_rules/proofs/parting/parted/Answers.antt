@@ -8,7 +8,7 @@ use Rattle.proxy_rules.specs.Tiles.{are_tiled}
 use Rattle.proxy_rules.proofs.TileLemmas.{tiled-held}
 use Rattle.share_blocks.specs.Pieces.{ranges_of}
 use Rattle.share_blocks.specs.Covers.{pieces_after}
-use Rattle.share_blocks.proofs.CoverLemmas.{follow_from-pieces_after}
+use Rattle.share_blocks.proofs.BlockCoverLemmas.{follow_from-pieces_after}
 use Rattle.vote_rules.specs.Ballots.{IsUncut, cuts_of}
 use Rattle.vote_rules.proofs.PartingLemmas.{held_are_uncut, pieces_are_uncut}
 use Rattle.vote_rules.proofs.parting.parted.Goals as goal

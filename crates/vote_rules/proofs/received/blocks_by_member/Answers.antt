@@ -1,10 +1,10 @@
 use Rattle.std.proofs.Common.{ℕ, List, filter, rules, ap, sym, ◌∙◌}
 use Rattle.std.specs.Cmp.Lexicographic.{nat_list_cmp_total}
 use Rattle.std.proofs.lemmas.List.Sorted.{answers_always}
-use Rattle.desk_terms.specs.declared.kinds.Capacity.TheVariants.{Member}
-use Rattle.desk_terms.specs.declared.kinds.Way.TheVariants.{For}
-use Rattle.proxy_rules.proofs.NameLemmas.{filter-named}
-use Rattle.vote_rules.specs.Received.{is_on_shares_of}
+use Rattle.vocabulary.specs.declared.kinds.Capacity.TheVariants.{Member}
+use Rattle.vocabulary.specs.declared.kinds.Way.TheVariants.{For}
+use Rattle.proxy_rules.proofs.ProxyNameLemmas.{filter-named}
+use Rattle.vote_rules.specs.InstructedCasts.{is_on_shares_of}
 use Rattle.vote_rules.specs.declared.received.BlockCast.{BlockCast}
 use Rattle.vote_rules.proofs.SortedBlocks.{kept-stable}
 use Rattle.vote_rules.proofs.received.blocks_by_member.Goals as goal

@@ -3,9 +3,9 @@ use Rattle.std.specs.List.{cons_option, filter_map}
 use Rattle.std.proofs.lemmas.List.{append-nil}
 use Rattle.std.proofs.lemmas.List.Elements.{filter_map-append}
 use Rattle.std.specs.List.{enumerate_from}
-use Rattle.vote_rules.specs.Received.{block_on, blocks_on}
+use Rattle.vote_rules.specs.InstructedCasts.{block_on, blocks_on}
 use Rattle.vote_rules.specs.declared.received.BlockCast.{BlockCast}
-use Rattle.vote_rules.proofs.ListLemmas.{enumerate_more}
+use Rattle.vote_rules.proofs.VoteListLemmas.{enumerate_more}
 use Rattle.vote_rules.proofs.received.blocks_on.Goals as goal
 use Rattle.vote_rules.proofs.received.blocks_on.Goals.{in-Some+in_ok-push, in_default}
 

@@ -1,5 +1,5 @@
 use Rattle.std.proofs.Common.{◌≡◌, take}
-use Rattle.vote_rules.specs.Received.{blocks_on}
+use Rattle.vote_rules.specs.InstructedCasts.{blocks_on}
 use Rattle.vote_rules.proofs.received.blocks_on.Given as goal
 
 -- the blocks of the first records

@@ -1,5 +1,5 @@
 use Rattle.std.proofs.Common.{arith, sym, ◌∙◌}
-use Rattle.vote_rules.specs.Received.{is_from_member}
+use Rattle.vote_rules.specs.InstructedCasts.{is_from_member}
 use Rattle.vote_rules.proofs.SortedBlocks.{place_bound, place_none, place_some}
 use Rattle.vote_rules.proofs.received.count_before.Goals as goal
 

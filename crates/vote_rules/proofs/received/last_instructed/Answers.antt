@@ -5,10 +5,10 @@ use Rattle.std.specs.Cmp.Lexicographic.{texts_ties}
 use Rattle.std.specs.List.{enumerate_from}
 use Rattle.std.specs.Option.{option_or}
 use Rattle.std.proofs.lemmas.List.{reverse-append}
-use Rattle.desk_terms.specs.Names.{name_cmp, same_name}
+use Rattle.vocabulary.specs.Names.{name_cmp, same_name}
 use Rattle.vote_rules.specs.Casts.{find_map}
-use Rattle.vote_rules.specs.Received.{instructed_by, last_instructed}
-use Rattle.vote_rules.proofs.ListLemmas.{enumerate_more, kept_place}
+use Rattle.vote_rules.specs.InstructedCasts.{instructed_by, last_instructed}
+use Rattle.vote_rules.proofs.VoteListLemmas.{enumerate_more, kept_place}
 use Rattle.vote_rules.proofs.received.last_instructed.Goals as goal
 use Rattle.vote_rules.proofs.received.last_instructed.Goals.{then-is_instructed_on+in_ok-insert, else-is_instructed_on}
 

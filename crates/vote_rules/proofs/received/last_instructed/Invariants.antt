@@ -1,7 +1,7 @@
 use Rattle.std.proofs.Common.{◌≡◌, ℕ, List, take}
 use Rattle.std.specs.BTreeMap.{get}
-use Rattle.desk_terms.specs.Names.{name_cmp}
-use Rattle.vote_rules.specs.Received.{last_instructed}
+use Rattle.vocabulary.specs.Names.{name_cmp}
+use Rattle.vote_rules.specs.InstructedCasts.{last_instructed}
 use Rattle.vote_rules.proofs.received.last_instructed.Given as goal
 
 -- among the first records

@@ -1,8 +1,8 @@
 use Rattle.std.proofs.Common.{◌≡◌, ℕ, List, drop, take, filter, ap, ◌∙◌}
 use Rattle.std.specs.List.{position_or_len}
 use Rattle.std.specs.Cmp.Lexicographic.{nat_list_cmp_total}
-use Rattle.proxy_rules.proofs.NameLemmas.{filter-named}
-use Rattle.vote_rules.specs.Received.{is_from_member, is_past_member}
+use Rattle.proxy_rules.proofs.ProxyNameLemmas.{filter-named}
+use Rattle.vote_rules.specs.InstructedCasts.{is_from_member, is_past_member}
 use Rattle.vote_rules.specs.declared.received.BlockCast.{BlockCast}
 use Rattle.vote_rules.proofs.SortedBlocks.{drop-from, drop-past, kept-sorted, only-wanted, past-from, take-past}
 use Rattle.vote_rules.proofs.received.parted_at.Goals as goal

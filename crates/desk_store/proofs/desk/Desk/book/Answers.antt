@@ -3,13 +3,13 @@ use Rattle.sqlite.specs.Held.{state}
 use Rattle.sqlite.specs.State.{HasCleanDisk, IsUnchanged, KeepsCounts, Shows}
 use Rattle.sqlite.specs.Steps.{FailsToCommit}
 use Rattle.desk_words.specs.declared.office.OfficeLists.{OfficeLists}
-use Rattle.desk_records.specs.Standing.{Stands}
-use Rattle.desk_schema.specs.Statements.{IsDesk}
-use Rattle.desk_store.specs.Reads.{IsBookOf}
-use Rattle.desk_opening.proofs.CrashLemmas.{nothing_then}
+use Rattle.sql_model.specs.Standing.{Stands}
+use Rattle.sql_schema.specs.Statements.{IsDesk}
+use Rattle.desk_store.specs.TableReads.{IsBookOf}
+use Rattle.sql_open.proofs.CrashLemmas.{nothing_then}
 use Rattle.desk_store.proofs.JoinLemmas.{IsOver, asked_stands, asked_stop, desk_behind, desk_clean, leaves_behind, committed, dropped, itself_after, not_committed, survives_nothing, survives_read, told_within}
 use Rattle.desk_store.proofs.KeepingLemmas.{stands_same}
-use Rattle.desk_store.proofs.ReadLemmas.{error_of, mapped_failed, mapped_is, mapped_on}
+use Rattle.desk_store.proofs.DeskReadLemmas.{error_of, mapped_failed, mapped_is, mapped_on}
 use Rattle.desk_store.proofs.desk.Desk.book.Goals as goal
 
 pub returns-clause-held : goal.returns-clause-held

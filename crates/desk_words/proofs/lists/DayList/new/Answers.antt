@@ -3,10 +3,10 @@ use Rattle.std.proofs.lemmas.Bool.{and_from, le-leb}
 use Rattle.std.specs.Ordering.{nat_cmp, eq_by_cmp}
 use Rattle.std.specs.Set.{distinct_count}
 use Rattle.std.specs.FinMap.{nat_cmp-IsAntisymmetric}
-use Rattle.desk_lists.proofs.Numbers.{is_eq-nat_cmp}
-use Rattle.desk_words.specs.Lists.{day_count}
+use Rattle.seq.proofs.Numbers.{is_eq-nat_cmp}
+use Rattle.desk_words.specs.SortedLists.{day_count}
 use Rattle.desk_words.specs.declared.limits.TheConstants.{MOST_CLOSED_DAYS}
-use Rattle.desk_words.proofs.DayLemmas.{day_list_of-is}
+use Rattle.desk_words.proofs.WordDayLemmas.{day_list_of-is}
 use Rattle.desk_words.proofs.lists.DayList.new.Goals as goal
 
 same_test : eq_by_cmp nat_cmp ≡ nat_eq

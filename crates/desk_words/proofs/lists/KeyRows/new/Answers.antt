@@ -3,8 +3,8 @@ use Rattle.std.specs.Prelude.{nat_le, Some, IsPermutation}
 use Rattle.std.specs.Cmp.Derive.{both_true}
 use Rattle.std.proofs.lemmas.Bool.Decides.{nat_tests}
 use Rattle.std.proofs.lemmas.List.Sorted.{IsPermutation-trans}
-use Rattle.desk_lists.specs.Ordered.{ascends_by}
-use Rattle.desk_words.specs.Lists.{caller_before, keep_keys, is_key_list, key_list_of}
+use Rattle.seq.specs.Ordered.{ascends_by}
+use Rattle.desk_words.specs.SortedLists.{caller_before, keep_keys, is_key_list, key_list_of}
 use Rattle.desk_words.proofs.KeyLimits.{is_key_list-sorted, key_list_of-sorted, key_list_of-repeated}
 use Rattle.desk_words.specs.declared.limits.TheConstants.{MOST_KEYS}
 use Rattle.desk_words.proofs.lists.KeyRows.new.Goals as goal

@@ -1,10 +1,10 @@
 use Rattle.std.proofs.Common.{◌≡◌, true, cond, ap, sym, ◌∙◌}
 use Rattle.std.specs.Prelude.{Some, None}
 use Rattle.std.specs.Cmp.Lexicographic.{nat_list_cmp_total}
-use Rattle.desk_lists.specs.Sorting.{sort_by}
-use Rattle.desk_lists.proofs.SortingLemmas.{sort_by-ascending}
+use Rattle.seq.specs.Sorting.{sort_by}
+use Rattle.seq.proofs.SortingLemmas.{sort_by-ascending}
 use Rattle.desk_words.specs.declared.records.RegisterRow.{RegisterRow}
-use Rattle.desk_lists.specs.Ordered.{ascends_by}
+use Rattle.seq.specs.Ordered.{ascends_by}
 use Rattle.std.specs.Cmp.Derive.{both_true}
 use Rattle.desk_words.specs.Registers.{keep_limits, member_before, is_register, are_holdings, register_of}
 use Rattle.desk_words.proofs.RegisterLimits.{keep_limits-permutation}

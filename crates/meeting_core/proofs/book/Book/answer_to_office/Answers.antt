@@ -5,13 +5,13 @@ use Rattle.desk_words.specs.Finding.{meeting_named}
 use Rattle.desk_words.specs.Office.{is_meeting}
 use Rattle.desk_words.specs.declared.office.OfficeLists.{OfficeLists}
 use Rattle.desk_words.specs.declared.office.MeetingLists.{MeetingLists}
-use Rattle.desk_words.specs.Rulings.{settled}
+use Rattle.desk_words.specs.Rulings.{ruled_answer}
 use Rattle.desk_words.specs.declared.answer.Answer.{Answer}
 use Rattle.desk_words.specs.declared.change.MeetingChange.{MeetingChange}
 use Rattle.std.specs.Option.{option_copied}
-use Rattle.office_answers.specs.Answers.{office_ruling}
+use Rattle.office_decisions.specs.OfficeRulings.{office_ruling}
 use Rattle.desk_words.proofs.OfficeFacts.{found_meeting, office_facts}
-use Rattle.office_answers.specs.Reads.{reads_register}
+use Rattle.office_decisions.specs.ListsRead.{reads_register}
 use Rattle.meeting_core.proofs.ReadKept.{weaker}
 use Rattle.meeting_core.proofs.book.Book.answer_to_office.Goals as goal
 
@@ -31,8 +31,8 @@ returns-clause-answer c =
     let now = c.args.now in
     let asked = c.args.asked.now in
     let same : found ≡ meeting_named o.meetings c.args.meeting = c.find_meeting-found.ensures ∙ ap (λ meetings. meeting_named meetings c.args.meeting) c.deref.ensures.value in
-    let ruled = λ (found : Option MeetingLists). settled (office_ruling o.closed found now asked) in
-    subst (λ (held : OfficeLists). IfOk c.office_answer.result (λ (a : Answer MeetingChange). a ≡ settled (office_ruling held.closed (meeting_named held.meetings c.args.meeting) now asked)))
+    let ruled = λ (found : Option MeetingLists). ruled_answer (office_ruling o.closed found now asked) in
+    subst (λ (held : OfficeLists). IfOk c.office_answer.result (λ (a : Answer MeetingChange). a ≡ ruled_answer (office_ruling held.closed (meeting_named held.meetings c.args.meeting) now asked)))
     c.self.view_is
     (IfOk-weaker c.office_answer.result (λ (a : Answer MeetingChange). a ≡ ruled found) (λ (a : Answer MeetingChange). a ≡ ruled (meeting_named o.meetings c.args.meeting))
     (λ a is. is ∙ ap ruled same) c.office_answer.ensures.answer)

@@ -5,20 +5,20 @@ use Rattle.std.specs.Option.{option_copied}
 use Rattle.desk_words.specs.Finding.{meeting_named}
 use Rattle.desk_words.specs.Ordered.{ascends_by}
 use Rattle.desk_words.specs.Registers.{member_before}
-use Rattle.desk_words.specs.Rulings.{settled}
+use Rattle.desk_words.specs.Rulings.{ruled_answer}
 use Rattle.desk_words.specs.declared.answer.Answer.{Answer}
 use Rattle.desk_words.specs.declared.change.Entry.{Entry}
 use Rattle.desk_words.specs.declared.office.MeetingLists.{MeetingLists}
 use Rattle.desk_words.specs.declared.office.OfficeLists.{OfficeLists}
-use Rattle.caller_view.specs.Answers.{party_ruling}
-use Rattle.party_views.specs.Own.{own_from}
+use Rattle.caller_view.specs.PartyRulings.{party_ruling}
+use Rattle.party_views.specs.OwnViews.{own_from}
 use Rattle.party_views.specs.Public.{PublicRecord}
-use Rattle.party_views.specs.Reads.{own_read}
-use Rattle.party_views.specs.Rows.{rows_in}
+use Rattle.party_views.specs.RowsRead.{own_read}
+use Rattle.party_views.specs.PartyRows.{rows_in}
 use Rattle.party_views.specs.Views.{own_in_some, own_of, public_in, public_of}
 use Rattle.party_views.specs.declared.views.OwnView.{OwnView}
-use Rattle.caller_view.proofs.ReadLemmas.{ruling-own_read}
-use Rattle.meeting_core.proofs.FoundLemmas.{found_ascends}
+use Rattle.caller_view.proofs.PartyReadLemmas.{ruling-own_read}
+use Rattle.meeting_core.proofs.CoreFoundLemmas.{found_ascends}
 use Rattle.meeting_core.proofs.book.Book.answer_to_party.Goals as goal
 
 pub rows_read-requires : goal.rows_read-requires
@@ -38,12 +38,12 @@ returns c =
     let same : found ≡ meeting_named o.meetings c.args.meeting = c.find_meeting-found.ensures ∙ ap (λ meetings. meeting_named meetings c.args.meeting) c.deref.ensures.value in
     let public = public_in found o.closed in
     let own = own_in_some found o.closed party now in
-    let given = settled (party_ruling c.public_in-public.result c.in_ok-own.own now what) in
-    let due = settled (party_ruling (public_of o c.args.meeting) (own_of o party c.args.meeting now) now what) in
+    let given = ruled_answer (party_ruling c.public_in-public.result c.in_ok-own.own now what) in
+    let due = ruled_answer (party_ruling (public_of o c.args.meeting) (own_of o party c.args.meeting now) now what) in
     let made = c.in_ok-own.ensures (rows_in found party) c.in_ok-rows.ensures ∙ ap (λ (r : PublicRecord). own_read what (own_from (rows_in found party) r now)) c.public_in-public.ensures in
-    let read : given ≡ due = ap (λ (r : PublicRecord). settled (party_ruling r c.in_ok-own.own now what)) c.public_in-public.ensures
-    ∙ ap (λ (o : OwnView). settled (party_ruling public o now what)) made
-    ∙ ap settled (ruling-own_read public own now what)
-    ∙ ap (λ (f : Option MeetingLists). settled (party_ruling (public_in f o.closed) (own_in_some f o.closed party now) now what)) same in
-    subst (λ (held : OfficeLists). IfOk c.answer.result (λ (a : Answer Entry). a ≡ settled (party_ruling (public_of held c.args.meeting) (own_of held party c.args.meeting now) now what))) c.self.view_is
+    let read : given ≡ due = ap (λ (r : PublicRecord). ruled_answer (party_ruling r c.in_ok-own.own now what)) c.public_in-public.ensures
+    ∙ ap (λ (o : OwnView). ruled_answer (party_ruling public o now what)) made
+    ∙ ap ruled_answer (ruling-own_read public own now what)
+    ∙ ap (λ (f : Option MeetingLists). ruled_answer (party_ruling (public_in f o.closed) (own_in_some f o.closed party now) now what)) same in
+    subst (λ (held : OfficeLists). IfOk c.answer.result (λ (a : Answer Entry). a ≡ ruled_answer (party_ruling (public_of held c.args.meeting) (own_of held party c.args.meeting now) now what))) c.self.view_is
     (IfOk-weaker c.answer.result (λ (a : Answer Entry). a ≡ given) (λ (a : Answer Entry). a ≡ due) (λ a is. is ∙ read) c.answer.ensures.answer)

@@ -7,13 +7,13 @@ use Rattle.desk_words.specs.Ordered.{ascends_by}
 use Rattle.desk_words.specs.Registers.{member_before}
 use Rattle.desk_words.specs.declared.office.MeetingLists.{MeetingLists}
 use Rattle.desk_words.specs.declared.office.OfficeLists.{OfficeLists}
-use Rattle.party_views.specs.Own.{own_from}
+use Rattle.party_views.specs.OwnViews.{own_from}
 use Rattle.party_views.specs.Public.{PublicRecord}
-use Rattle.party_views.specs.Rows.{rows_in}
+use Rattle.party_views.specs.PartyRows.{rows_in}
 use Rattle.party_views.specs.Views.{own_in_some, own_of}
 use Rattle.party_views.specs.declared.rows.OwnRows.{OwnRows}
 use Rattle.party_views.specs.declared.views.OwnView.{OwnView}
-use Rattle.meeting_core.proofs.FoundLemmas.{found_ascends}
+use Rattle.meeting_core.proofs.CoreFoundLemmas.{found_ascends}
 use Rattle.meeting_core.proofs.book.Book.own_of.Goals as goal
 
 pub rows_in-requires : goal.rows_in-requires

@@ -1,5 +1,5 @@
 use Rattle.std.proofs.Common.{◌≡◌, true, false, ap, ◌∙◌}
-use Rattle.office_answers.specs.Limits.{if_any}
+use Rattle.office_decisions.specs.RequestLimits.{if_any}
 use Rattle.meeting_core.proofs.StepLaws.{at_once_quiet, sets_alone}
 use Rattle.desk_words.specs.Changes.{sets_fields}
 use Rattle.meeting_core.proofs.book.Book.step.Goals as goal

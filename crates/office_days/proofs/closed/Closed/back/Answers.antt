@@ -1,6 +1,6 @@
 use Rattle.std.proofs.Common.{◌*◌, sym, ◌∙◌, arith}
-use Rattle.desk_calendar.proofs.Dates.{some_only}
-use Rattle.office_days.specs.Days.{IsBack}
+use Rattle.calendar.proofs.Dates.{some_only}
+use Rattle.office_days.specs.WorkingDays.{IsBack}
 use Rattle.office_days.proofs.WorkLemmas.{back-is, back-none, few_from_first}
 use Rattle.office_days.proofs.closed.Closed.back.Goals as goal
 

@@ -1,5 +1,5 @@
 use Rattle.std.proofs.Common.{◌≡◌, map, take}
-use Rattle.party_views.specs.Kept.{late_in_rows}
+use Rattle.party_views.specs.ViewsByMember.{late_in_rows}
 use Rattle.party_views.proofs.governed.Members.polls_governed.Given as goal
 
 -- what is governed for the first polls

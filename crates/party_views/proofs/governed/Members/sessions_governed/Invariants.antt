@@ -1,5 +1,5 @@
 use Rattle.std.proofs.Common.{◌≡◌, map, take}
-use Rattle.party_views.specs.Kept.{session_in_rows}
+use Rattle.party_views.specs.ViewsByMember.{session_in_rows}
 use Rattle.party_views.proofs.governed.Members.sessions_governed.Given as goal
 
 -- what is governed in the first sessions

@@ -8,7 +8,7 @@ use Rattle.desk_words.specs.declared.records.Ending.{Ending}
 use Rattle.proxy_rules.specs.Alone.{holding_from}
 use Rattle.proxy_rules.specs.Governing.{governed_in}
 use Rattle.proxy_rules.specs.Holdings.{are_numbered_from}
-use Rattle.proxy_rules.specs.Laws.{has_number}
+use Rattle.proxy_rules.specs.GoverningLaws.{has_number}
 use Rattle.proxy_rules.proofs.AloneLemmas.{governed_among, governed_none, none_numbered, rest_is, stands}
 use Rattle.proxy_rules.proofs.holdings.Holding.governed_by.Goals as goal
 

@@ -7,7 +7,7 @@ use Rattle.proxy_rules.specs.Tagging.{covers_by, piece_over}
 use Rattle.proxy_rules.specs.Tiles.{ArePieces}
 use Rattle.proxy_rules.specs.declared.pieces.GovernedPiece.{GovernedPiece}
 use Rattle.proxy_rules.proofs.GoverningLemmas.{are_pieces}
-use Rattle.share_blocks.proofs.CoverLemmas.{alike}
+use Rattle.share_blocks.proofs.BlockCoverLemmas.{alike}
 use Rattle.share_blocks.specs.Covers.{newest_of}
 use Rattle.share_blocks.specs.Pieces.{ranges_of}
 use Rattle.proxy_rules.proofs.holdings.Holding.pieces_by.Goals as goal

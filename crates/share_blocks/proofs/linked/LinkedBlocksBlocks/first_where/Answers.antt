@@ -1,7 +1,7 @@
 use Rattle.std.proofs.Common.{length, ap, sym, ◌∙◌, arith}
 use Rattle.std.specs.Prelude.{find}
 use Rattle.std.specs.FinSet as set
-use Rattle.share_blocks.specs.Links.{is_among_first, tags_by, tags_of_nodes}
+use Rattle.share_blocks.specs.LinkedPieces.{is_among_first, tags_by, tags_of_nodes}
 use Rattle.share_blocks.specs.Pieces.{tags_at}
 use Rattle.share_blocks.proofs.LinkLemmas.{newest-among, tags_at-linked, tags_at-past}
 use Rattle.share_blocks.proofs.linked.LinkedBlocksBlocks.first_where.Goals as goal

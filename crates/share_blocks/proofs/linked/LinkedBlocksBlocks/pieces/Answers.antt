@@ -2,7 +2,7 @@ use Rattle.std.proofs.Common.{◌≡◌, ap, sym, ◌∙◌}
 use Rattle.std.proofs.lemmas.Result.{IfOk-weaker}
 use Rattle.share_blocks.specs.Cuts.{ranges_between, rise_from}
 use Rattle.share_blocks.specs.Pieces.{follow_from, ranges_of}
-use Rattle.share_blocks.proofs.CoverLemmas.{alike}
+use Rattle.share_blocks.proofs.BlockCoverLemmas.{alike}
 use Rattle.share_blocks.proofs.LinkLemmas.{follow_from-linked, ranges-linked, rise-linked}
 use Rattle.share_blocks.proofs.linked.LinkedBlocksBlocks.pieces.Goals as goal
 

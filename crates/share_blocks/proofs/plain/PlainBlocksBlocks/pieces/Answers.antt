@@ -1,5 +1,5 @@
 use Rattle.share_blocks.specs.Covers.{pieces_after}
-use Rattle.share_blocks.proofs.CoverLemmas.{follow_from-pieces_after, alike}
+use Rattle.share_blocks.proofs.BlockCoverLemmas.{follow_from-pieces_after, alike}
 use Rattle.share_blocks.proofs.plain.PlainBlocksBlocks.pieces.Goals as goal
 
 pub returns-clause-in_order : goal.returns-clause-in_order

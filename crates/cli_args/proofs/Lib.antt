@@ -1,0 +1,3 @@
+pub mod AppLemmas
+pub mod ArgsNumberLemmas
+pub mod PlanLemmas

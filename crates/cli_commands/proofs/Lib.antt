@@ -1,0 +1,2 @@
+mod CommandAskingLemmas
+mod CommandLoadLemmas

@@ -1,0 +1,3 @@
+pub mod FileReading
+pub mod LoadCommands
+pub mod ReplayCommand

@@ -1,0 +1,2 @@
+pub mod CommandDeskLemmas
+pub mod PrintLemmas

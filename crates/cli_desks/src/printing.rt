@@ -1,0 +1,68 @@
+//! The command that prints results.
+ghost use Rattle.std.specs.Prelude.{◌≡◌, ◌⊎◌, IsTrue, None};
+ghost use Rattle.std.specs.Io.KnownBytes.{Appends};
+ghost use Rattle.party_views.specs.Views.{public_of};
+ghost use Rattle.byte_io.specs.Counts.{one_more};
+ghost use Rattle.byte_io.specs.Written.{AppendsPrefix};
+ghost use Rattle.cli_exit.specs.Endings.{ended_view};
+ghost use Rattle.desk_papers.specs.PrintedResults.{results_of};
+ghost use Rattle.sql_model.specs.Standing.{Stands};
+ghost use Rattle.desk_store.specs.Joins.{LeavesDesk};
+ghost use Rattle.cli_desks.specs.ResultPrinting.{Prints, PrintsRecord, Writer};
+ghost use Rattle.desk_words.specs.declared.office.OfficeLists.{OfficeLists};
+ghost use Rattle.sqlite.specs.Held.{state};
+ghost use Rattle.sqlite.specs.State.{HasCleanDisk};
+
+use byte_io::Sink;
+use cli_exit::Ended;
+use desk_papers::print_results;
+use desk_store::Desk;
+use desk_words::{MeetingId, Refusal};
+use party_views::PublicRecord;
+use sqlite::Alter;
+use std::alloc::Global;
+
+/// Prints what a public record shows, or refuses where it has no meeting.
+fn print<W: Sink>(alloc: Global, public: &PublicRecord<'_>, writer: &mut W) -> Ended
+    ensures { PrintsRecord public.now
+        (record { contents = W.contents writer.old; failures = W.failures writer.old })
+        (record { contents = W.contents writer.new; failures = W.failures writer.new })
+        (ended_view result) }
+{
+    if public.meeting().is_none() {
+        return Ended::by_refusal(Refusal::NoMeeting);
+    }
+    match print_results(alloc, public, writer) {
+        Ok(()) => Ended::done(),
+        Err(fault) => Ended::by_print(fault),
+    }
+}
+
+/// Prints the results of a meeting as its public record shows them, and ends with status 0 and no
+/// line. A meeting that there is not ends with 1 and its refusal, and nothing is written.
+///
+/// `WriteFault` says that a write failed; what was written is then a part of the text from its
+/// front. After `Store` and `Memory` nothing was written. The tables stay as they are.
+#[tactic(auto, using(crate::proofs::PrintLemmas::not_begun))]
+pub fn results<S: Alter, W: Sink>(
+    alloc: Global,
+    desk: &mut Desk<S>,
+    meeting: MeetingId,
+    writer: &mut W,
+) -> Ended
+    ensures prints { HasCleanDisk (state S.Store desk.new) → (office : OfficeLists)
+        → Stands (state S.Store desk.old) office
+        → Prints (public_of office meeting)
+        (record { contents = W.contents writer.old; failures = W.failures writer.old })
+        (record { contents = W.contents writer.new; failures = W.failures writer.new })
+        (ended_view result) }
+    ensures same { HasCleanDisk (state S.Store desk.new) → IsTrue (state S.Store desk.new).is_open
+        → (office : OfficeLists) → Stands (state S.Store desk.old) office
+        → Stands (state S.Store desk.new) office }
+    ensures leaves { LeavesDesk S.Store None desk.old desk.new }
+{
+    match desk.read_public(meeting) {
+        Ok(kept) => print(alloc, &kept.record(), writer),
+        Err(failure) => Ended::by_failure(failure),
+    }
+}

@@ -1,0 +1,8 @@
+//! How the program ends: its status, and the line that it prints.
+#![tactic(auto)]
+
+mod ended;
+mod line;
+
+pub use ended::{Ended, ExitError};
+pub use line::Line;

@@ -1,0 +1,32 @@
+//! The command that serves an office, wherever it is stored, and how it ends.
+#![tactic(auto)]
+
+ghost use Rattle.cli_exit.specs.Endings.{ended_view};
+ghost use Rattle.cli_serve.specs.Serving.{EndsServing};
+
+use any_office::Office;
+use cli_exit::{Ended, ExitError};
+use clocks::Clock;
+use http_listener::{LoopFault, serve_loop};
+use std::alloc::Global;
+use std::net::TcpListener;
+
+/// Serves one connection of a listener after another, so many in all, as
+/// `http_listener::serve_loop` does, and ends with status 0. It ends before that with status 3 and
+/// `Socket` or `Clock`, and what was served until then stands.
+pub fn serve<O: Office, C: Clock>(
+    alloc: Global,
+    listener: &TcpListener,
+    office: &mut O,
+    clock: &mut C,
+    requests: u32,
+) -> Ended
+    ensures { EndsServing C.Clock O.Office requests clock.old clock.new office.old office.new
+        (ended_view result) }
+{
+    match serve_loop(alloc, listener, office, clock, requests) {
+        Ok(()) => Ended::done(),
+        Err(LoopFault::Socket) => Ended::by(ExitError::Socket),
+        Err(LoopFault::Clock) => Ended::by(ExitError::Clock),
+    }
+}

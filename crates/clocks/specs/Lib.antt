@@ -1,0 +1,2 @@
+pub mod GivenMoments
+pub mod WallMoments

@@ -1,0 +1,9 @@
+pub mod CsvTables
+pub mod DayFiles
+pub mod Decimals
+pub mod FileErrors
+pub mod FileLimits
+pub mod GatheredRows
+pub mod KeyFiles
+pub mod RegisterFiles
+pub mod WholeFiles

@@ -1,5 +1,0 @@
-pub mod Dates
-pub mod Digits
-pub mod Named
-pub mod Parts
-pub mod Unique

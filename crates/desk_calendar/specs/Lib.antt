@@ -1,2 +1,0 @@
-pub mod Calendar
-pub mod Texts

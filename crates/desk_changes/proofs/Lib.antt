@@ -1,9 +1,0 @@
-pub mod EntryLemmas
-pub mod MeetingAdded
-pub mod MoveLemmas
-pub mod OpenLemmas
-pub mod Possible
-pub mod SessionAdded
-pub mod SessionLemmas
-pub mod SetLemmas
-pub mod TurnLemmas

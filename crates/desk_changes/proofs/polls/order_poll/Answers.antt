@@ -1,6 +1,0 @@
-use Rattle.desk_changes.proofs.MoveLemmas.{ordered}
-use Rattle.desk_changes.proofs.polls.order_poll.Goals as goal
-
-pub returns-clause-writes : goal.returns-clause-writes
-returns-clause-writes g c =
-    ordered g.S.Store c.args.tx.now.conn.now c.add.new.tx.conn.now c.args.meeting c.in_ok-add.field-0 c.in_ok-add.ensures.commits c.args.poll.now c.in_ok-add.ensures.added

@@ -1,8 +1,0 @@
--- What a wall clock shows.
-use Rattle.std.specs.Prelude.{ℕ, ℤ}
-use Rattle.office_clock.specs.Clock.{Shows, unix_seconds}
-use Rattle.office_clock.specs.Zones.{Zone}
-
--- a zone's clock shows the moment at some instant
-abbrev pub IsShown : Zone → ℕ → Type 0
-IsShown zone moment = (instant : ℤ) × Shows zone instant (unix_seconds moment)

@@ -1,3 +1,0 @@
-pub mod AppLemmas
-pub mod NumberLemmas
-pub mod PlanLemmas

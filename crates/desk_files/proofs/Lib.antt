@@ -1,5 +1,0 @@
-pub mod DayLemmas
-pub mod FaultlessLemmas
-pub mod GatheredLemmas
-pub mod RecordLemmas
-pub mod RowLemmas

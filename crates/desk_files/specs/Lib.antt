@@ -1,9 +1,0 @@
-pub mod Days
-pub mod Faults
-pub mod Gathered
-pub mod Keys
-pub mod Limits
-pub mod Numbers
-pub mod Registers
-pub mod Tables
-pub mod Whole

@@ -1,3 +1,0 @@
-pub mod FieldLemmas
-pub mod HeadLemmas
-pub mod ReadLemmas

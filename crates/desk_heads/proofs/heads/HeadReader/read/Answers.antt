@@ -1,5 +1,0 @@
-use Rattle.desk_heads.proofs.ReadLemmas.{found_read}
-use Rattle.desk_heads.proofs.heads.HeadReader.read.Goals as goal
-
-pub returns-in-Some-clause-read : goal.returns-in-Some-clause-read
-returns-in-Some-clause-read g c = found_read c.in-Some.front c.judge.new.self c.in-Some.ensures.found

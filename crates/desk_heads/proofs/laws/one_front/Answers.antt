@@ -1,5 +1,0 @@
-use Rattle.desk_heads.proofs.HeadLemmas as lemmas
-use Rattle.desk_heads.proofs.laws.one_front.Goals as goal
-
-pub returns : goal.returns
-returns c = lemmas.one_front

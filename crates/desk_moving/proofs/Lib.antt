@@ -1,2 +1,0 @@
-pub mod MeaningLemmas
-pub mod MovingLemmas

@@ -1,4 +1,0 @@
-pub mod BookLemmas
-pub mod Progress
-pub mod RunLaws
-pub mod TurnLemmas

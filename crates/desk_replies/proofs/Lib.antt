@@ -1,4 +1,0 @@
-pub mod Depths
-pub mod Moments
-pub mod FailureTexts
-pub mod WritingLemmas

@@ -1,7 +1,0 @@
-use Rattle.std.proofs.Common.{refl}
-use Rattle.serde_json.specs.Data.{string}
-use Rattle.desk_replies.proofs.WritingLemmas.{object_written, seen_as, then, token_written}
-use Rattle.desk_replies.proofs.appointment.write_appointed.Goals as goal
-
-pub returns : goal.returns
-returns c = object_written (token_written c.in_ok-begin_object.ensures) (then c.in_ok-put_number.ensures (then c.in_ok-put_text.ensures ((seen_as string c.use_word.ensures c.in_ok-put_text-2.ensures)))) c.end_object.ensures refl

@@ -1,7 +1,0 @@
-use Rattle.std.proofs.Common.{refl}
-use Rattle.serde_json.specs.Data.{string}
-use Rattle.desk_replies.proofs.WritingLemmas.{object_written, seen_as, then, token_written}
-use Rattle.desk_replies.proofs.mine.RegisterRowShown.write.Goals as goal
-
-pub returns : goal.returns
-returns c = object_written (token_written c.in_ok-begin_object.ensures) (then (seen_as string c.word.ensures c.in_ok-put_text.ensures) (then (seen_as string c.as_str.ensures.value c.in_ok-put_text-2.ensures) (then c.in_ok-put_number.ensures c.in_ok-put_number-2.ensures))) c.end_object.ensures refl

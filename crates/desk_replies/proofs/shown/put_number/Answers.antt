@@ -1,6 +1,0 @@
-use Rattle.std.proofs.lemmas.Result.{on_ok_weaker}
-use Rattle.desk_replies.proofs.WritingLemmas.{member_written, token_written}
-use Rattle.desk_replies.proofs.shown.put_number.Goals as goal
-
-pub returns : goal.returns
-returns c = on_ok_weaker c.write_number.result (member_written (token_written c.in_ok-key.ensures)) c.write_number.ensures

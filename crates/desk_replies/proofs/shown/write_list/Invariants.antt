@@ -1,6 +1,0 @@
-use Rattle.std.proofs.Common.{take, map}
-use Rattle.desk_replies.proofs.WritingLemmas.{WritesFirst}
-use Rattle.desk_replies.proofs.shown.write_list.Given as goal
-
-abbrev pub invariant-loop-item : goal.invariant-loop-item
-invariant-loop-item g l = WritesFirst (map g.T.Shown.shown (take l.item-index l.items)) l.fn.out l.out

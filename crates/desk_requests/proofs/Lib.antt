@@ -1,4 +1,0 @@
-mod BodyLemmas
-mod CameLemmas
-mod LawLemmas
-mod SpellLemmas

@@ -1,3 +1,0 @@
-pub mod Chained
-mod PhraseLemmas
-mod TargetLemmas

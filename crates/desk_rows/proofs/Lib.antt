@@ -1,4 +1,0 @@
-pub mod ColumnLemmas
-pub mod InstructionLemmas
-pub mod MeaningLemmas
-mod ReadUpTo

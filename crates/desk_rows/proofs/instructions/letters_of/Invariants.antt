@@ -1,6 +1,0 @@
-use Rattle.std.proofs.Common.{◌≡◌, map, take, string_bytes}
-use Rattle.desk_rows.specs.Instructions.{instruction_letter}
-use Rattle.desk_rows.proofs.instructions.letters_of.Given as goal
-
-abbrev pub invariant-loop-instruction : goal.invariant-loop-instruction
-invariant-loop-instruction l = string_bytes l.letters ≡ map instruction_letter (take l.instruction-index l.instructions)

@@ -1,5 +1,0 @@
-use Rattle.desk_serving.proofs.TurnLemmas.{turned-none}
-use Rattle.desk_serving.proofs.listening.serve_next.Goals as goal
-
-pub returns-in-Gone-clause-turned : goal.returns-in-Gone-clause-turned
-returns-in-Gone-clause-turned g c = turned-none g.O.Office _ 1 _ _

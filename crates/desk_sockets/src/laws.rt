@@ -1,7 +1,0 @@
-//! The limit by its number.
-ghost use Rattle.desk_sockets.specs.Laws.{LimitIs};
-
-/// Definitions cite the limit by its constant; this is its number.
-pub fn limit_is()
-    ensures { LimitIs }
-{}

@@ -1,7 +1,0 @@
-//! Laws of numbers.
-ghost use Rattle.desk_statements.specs.Numbers.{OfficesAreKept};
-
-/// Each number of the records of an office is below 2^63, so that none is refused as too big.
-pub fn numbers_of_an_office_are_kept()
-    ensures { OfficesAreKept }
-{}

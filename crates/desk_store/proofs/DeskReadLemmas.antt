@@ -1,0 +1,71 @@
+-- What is told of the office for which the tables stand.
+use Rattle.std.proofs.Common.{◌≡◌, Option, Some, Ok, Err, Result, IfErr, IfOk, OnOk, IsErr, IsErrAnd, refl, sym, ap, subst, ◌∙◌}
+use Rattle.std.specs.Prelude.{MatchResult}
+use Rattle.sqlite.specs.Held.{Held}
+use Rattle.sqlite_trees.specs.declared.store.Store as store
+use Rattle.desk_words.specs.Office.{is_office}
+use Rattle.desk_words.specs.declared.office.OfficeLists.{OfficeLists}
+use Rattle.sql_model.specs.OfficeRecords.{office_in}
+use Rattle.sql_assemble.specs.declared.fault.LoadError.{LoadError}
+use Rattle.sql_load_office.specs.WholeReading.{IsReading}
+use Rattle.office_validation.specs.Validation.{office_in_order}
+use Rattle.sql_load_party.specs.TableLookUps.{HoldsOfStoredOffice, HoldsOrFails}
+use Rattle.desk_store.specs.TableReads.{HoldsOfTables, IsBookOf}
+use Rattle.sql_open.proofs.OrderedOffice.{office_ordered}
+
+pub mapped_ok : {X E D : Type 0} (Q : E → D → Type 0) (P : X → Type 0) (s : Result X E) (r : Result X D) → MatchResult s (λ x. r ≡ Ok x) (λ e. IsErrAnd r (Q e)) → IfOk s P → IfOk r P
+mapped_ok Q P (Ok x) r is h = subst (λ q. IfOk q P) (sym is) h
+mapped_ok Q P (Err e) (Ok x) is h = absurd is
+mapped_ok Q P (Err e) (Err d) is h = tt
+
+pub always : {X E : Type 0} {W : Type 0} (r : Result X E) → W → OnOk r W
+always (Ok x) w = w
+always (Err e) w = tt
+
+pub ok_weaker : {X E : Type 0} (P Q : X → Type 0) (r : Result X E) → ((x : X) → P x → Q x) → IfOk r P → IfOk r Q
+ok_weaker P Q (Ok x) next h = next x h
+ok_weaker P Q (Err e) next h = tt
+
+module _ {S : Type 0} (g : store.Ghosts S) (a b : Held S) where
+  -- the lists that are read are the office, and so is the book of them
+  pub book_told : {E : Type 0} (Q : E → LoadError → Type 0) (lists : OfficeLists) (made : Result OfficeLists E) (r : Result OfficeLists LoadError) → IsReading g a b is_office (Ok lists) office_in
+      → IfOk made (λ book. book ≡ office_in_order lists) → MatchResult made (λ x. r ≡ Ok x) (λ e. IsErrAnd r (Q e)) → HoldsOfTables g a b r IsBookOf
+  book_told Q lists made r reading is mapped = record {
+    told = λ clean office stands.
+        let found : ◌≡◌ {A = Option OfficeLists} (Some lists) (Some office) = sym (reading.told (clean, stands.desk)) ∙ stands.holds in
+        let same : lists ≡ office = cc in
+        mapped_ok Q (IsBookOf office) made r mapped (ok_weaker (λ book. book ≡ office_in_order lists) (IsBookOf office) made (λ book ordered. ordered ∙ ap office_in_order same ∙ office_ordered office stands.kept) is);
+    same = λ read. always r (reading.same read);
+    changes = reading.changes;
+  }
+
+-- ---- what is given where an error is told as another
+
+pub mapped_is : {X E D : Type 0} (Q : E → D → Type 0) (P : X → Type 0) (s : Result X E) (r : Result X D) (x : X) → MatchResult s (λ x. r ≡ Ok x) (λ e. IsErrAnd r (Q e)) → r ≡ Ok x → IfOk s P → P x
+mapped_is Q P s r x is got h = subst (λ q. IfOk q P) got (mapped_ok Q P s r is h)
+
+pub mapped_on : {X E D : Type 0} {W : Type 0} (Q : E → D → Type 0) (s : Result X E) (r : Result X D) (x : X) → MatchResult s (λ x. r ≡ Ok x) (λ e. IsErrAnd r (Q e)) → r ≡ Ok x → OnOk s W → W
+mapped_on Q (Ok y) r x is got h = h
+mapped_on Q (Err e) r x is got h = absurd (subst (λ q. IsErrAnd q (Q e)) got is)
+
+pub mapped_failed : {X E D : Type 0} (Q : E → D → Type 0) (s : Result X E) (r : Result X D) {d : D} → MatchResult s (λ x. r ≡ Ok x) (λ e. IsErrAnd r (Q e)) → r ≡ Err d → IsErr s
+mapped_failed Q (Ok x) r is got = absurd cc
+mapped_failed Q (Err e) r is got = refl
+
+pub error_of : {X E : Type 0} (P : E → Type 0) (r : Result X E) → IsErr r → IfErr r P → (e : E) × P e
+error_of P (Ok x) failed h = absurd cc
+error_of P (Err e) failed h = (e, h)
+
+-- ---- what is told of the office that the tables hold
+
+if_told : {X : Type 0} (P : X → Type 0) (r : Result X LoadError) → HoldsOrFails P r → IfOk r P
+if_told P (Ok x) h = h
+if_told P (Err e) h = tt
+
+-- is told of the office for which they stand
+pub told_office : {S X : Type 0} (g : store.Ghosts S) (a b : Held S) (r : Result X LoadError) (P : OfficeLists → X → Type 0) → HoldsOfStoredOffice g a b r P → HoldsOfTables g a b r P
+told_office g a b r P told = record {
+  told = λ clean office stands. if_told (P office) r (told.told (clean, stands.desk) office stands.holds stands.kept);
+  same = told.same;
+  changes = told.changes;
+}

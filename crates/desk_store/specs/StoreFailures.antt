@@ -1,0 +1,18 @@
+-- What a fault is told as.
+use Rattle.meeting_core.specs.declared.book.lists.BookFault.{BookFault}
+use Rattle.meeting_core.specs.declared.book.lists.BookFault.TheVariants as book
+use Rattle.sql_assemble.specs.declared.fault.LoadError.{LoadError}
+use Rattle.sql_assemble.specs.declared.fault.LoadError.TheVariants as reading
+use Rattle.desk_words.specs.declared.reply.Failure.{Failure}
+use Rattle.desk_words.specs.declared.reply.Failure.TheVariants.{Store, Memory}
+
+-- lists that are no book's are no office's
+abbrev pub fault_of_book : BookFault → LoadError
+fault_of_book book.NoOffice = reading.NoOffice
+fault_of_book book.Memory = reading.Memory
+
+-- rows that are no office's fail a call as a store that refuses does
+abbrev pub failure_of_read : LoadError → Failure
+failure_of_read reading.NoOffice = Store
+failure_of_read reading.Store = Store
+failure_of_read reading.Memory = Memory

@@ -1,2 +1,0 @@
-pub mod DeskLemmas
-pub mod PrintLemmas

@@ -1,9 +1,0 @@
-use Rattle.std.proofs.Common.{sym, ap, ◌∙◌}
-use Rattle.desk_terms.proofs.NameLemmas.{letters_of-position, cut}
-use Rattle.desk_terms.proofs.names.letters_of.Goals as goal
-
-pub returns-in-Some : goal.returns-in-Some
-returns-in-Some c = sym (letters_of-position c.args.places.now ∙ ap (cut c.args.places.now) (sym c.first_zero.ensures.first ∙ c.in-Some.is))
-
-pub returns-in-None : goal.returns-in-None
-returns-in-None c = sym (letters_of-position c.args.places.now ∙ ap (cut c.args.places.now) (sym c.first_zero.ensures.first ∙ c.in-None.is))

@@ -1,9 +1,0 @@
-pub mod Itself
-pub mod Kinds
-pub mod Limits
-pub mod Names
-pub mod Options
-pub mod Places
-pub mod Refusals
-pub mod Results
-pub mod Texts

@@ -1,0 +1,156 @@
+-- One turn after another.
+use Rattle.std.proofs.Common.{◌≡◌, ◌⊎◌, inl, inr, ℕ, ◌+◌, ◌≤◌, List, [], ◌∷◌, ◌++◌, Option, Some, None, Result, Ok, Err, refl, subst, sym, ◌∙◌, arith, length-append}
+use Rattle.std.specs.Prelude.{MatchResult, OnErr, OnOk}
+use Rattle.any_office.proofs.OfficeHomeLemmas.{closes_then}
+use Rattle.any_office.specs.StoredOffice.{office_after}
+use Rattle.any_office.specs.OfficeRuns.{calls_in}
+use Rattle.any_office.specs.declared.Office as office
+use Rattle.clocks.specs.declared.clock.Clock as clock
+use Rattle.byte_io.specs.declared.sink.Sink as sink
+use Rattle.byte_io.specs.declared.source.Source as source
+use Rattle.clocks.specs.GivenMoments.{GivesMoments}
+use Rattle.desk_http.specs.HttpAnswers.{MakesCall, call_received, call_of}
+use Rattle.desk_http.specs.Served.{ServesRequest}
+use Rattle.desk_http.specs.declared.now.NowError.{NowError}
+use Rattle.desk_http.specs.declared.now.NowError.TheVariants.{Clock}
+use Rattle.desk_http.proofs.ServedLemmas.{served_no_clock}
+use Rattle.http_requests.specs.declared.received.ReceivedRequest.{ReceivedRequest}
+use Rattle.http_requests.specs.declared.received.ReceivedRequest.TheVariants.{Refused, With}
+use Rattle.http_requests.specs.declared.received.ReceiveError.{ReceiveError}
+use Rattle.meeting_core.specs.KeyHolders.{caller_with}
+use Rattle.desk_words.specs.ViewTypes.{Moment}
+use Rattle.desk_words.specs.declared.office.OfficeLists.{OfficeLists}
+use Rattle.desk_words.specs.declared.caller.Caller.{Caller}
+use Rattle.desk_words.specs.declared.request.Call.{Call}
+use Rattle.desk_words.specs.declared.request.Request.{Request}
+use Rattle.meeting_core.specs.Step.{run_of, stepped}
+use Rattle.http_listener.specs.Turns.{AreMadeAt, IsMadeAt, Ran, Turned}
+
+-- a run goes on from the office that another left
+run-then : (office : OfficeLists) (made later : List (Option Call)) → (run_of (run_of office (calls_in made)).office (calls_in later)).office ≡ (run_of office (calls_in (made ++ later))).office
+run-then office [] later = refl
+run-then office (None ∷ made) later = run-then office made later
+run-then office (Some call ∷ made) later = run-then (stepped office call) made later
+
+made-then : (made later : List (Option Call)) (moments more : List Moment) → AreMadeAt made moments → AreMadeAt later more → AreMadeAt (made ++ later) (moments ++ more)
+made-then [] later [] more p q = q
+made-then [] later (now ∷ moments) more p q = absurd p
+made-then (one ∷ made) later [] more p q = absurd p
+made-then (one ∷ made) later (now ∷ moments) more p q = (p.0, made-then made later moments more p.1 q)
+
+gave-then : {C : Type 0} (gives : C → Moment → C → Type 0) (a b c : C) (moments more : List Moment) → GivesMoments gives a moments b → GivesMoments gives b more c → GivesMoments gives a (moments ++ more) c
+gave-then {C} gives a b c [] more p q = subst (λ (it : C). GivesMoments gives it more c) p q
+gave-then gives a b c (now ∷ moments) more p q = (p.0, p.1, gave-then gives p.0 b c moments more p.2 q)
+
+-- a call that a caller makes is made at the moment at which it is heard
+heard-at : (now : Moment) (who : Option Caller) (heard : Result Request ReceiveError) → IsMadeAt (call_of now who heard) now
+heard-at now None heard = tt
+heard-at now (Some who) (Ok request) = refl
+heard-at now (Some who) (Err why) = tt
+
+received-at : (office : OfficeLists) (now : Moment) (received : ReceivedRequest) → IsMadeAt (call_received office now received) now
+received-at office now (Refused refusal) = tt
+received-at office now (With key heard) = heard-at now (caller_with office.keys key) heard
+
+made-at : (now : Moment) (made call : Option Call) → IsMadeAt call now → (made ≡ None) ⊎ (made ≡ call) → IsMadeAt made now
+made-at now made call at (inl none) = subst (λ (c : Option Call). IsMadeAt c now) (sym none) tt
+made-at now made call at (inr same) = subst (λ (c : Option Call). IsMadeAt c now) (sym same) at
+
+-- a run of one call, or of none
+run-one : (office : OfficeLists) (made : Option Call) → office_after office made ≡ (run_of office (calls_in (made ∷ []))).office
+run-one office None = refl
+run-one office (Some call) = refl
+
+module _ {O : Type 0} (g : office.Ghosts O) where
+  -- where nothing was done, all is as it was
+  pub ran-none : (s : O) → Ran g [] s s
+  ran-none s = record {
+    was_reliable = λ reliable. reliable;
+    was_open = λ reliable is_open. is_open;
+    closes = λ reliable is_open. inl is_open;
+    counts = omega arith;
+    stands = λ reliable is_open office stands. ([], tt, stands);
+  }
+
+  pub ran-then : (a b c : O) (moments more : List Moment) → Ran g moments a b → Ran g more b c → Ran g (moments ++ more) a c
+  ran-then a b c moments more first next = record {
+    was_reliable = λ reliable. first.was_reliable (next.was_reliable reliable);
+    was_open = λ reliable is_open. first.was_open (next.was_reliable reliable) (next.was_open reliable is_open);
+    closes = λ reliable is_open. closes_then g.is_reliable g.is_open g.stands g.faults a b c first.counts next.counts (first.closes (next.was_reliable reliable) is_open) (next.closes reliable);
+    counts = omega (arith, first.counts, next.counts);
+    stands = λ reliable is_open office stands.
+        let mid = first.stands (next.was_reliable reliable) (next.was_open reliable is_open) office stands in
+        let end = next.stands reliable is_open (run_of office (calls_in mid.0)).office mid.2 in
+        (mid.0 ++ end.0, made-then mid.0 end.0 moments more mid.1 end.1, subst (λ (o : OfficeLists). g.stands c o) (run-then office mid.0 end.0) end.2);
+  }
+
+  -- where the clock was not asked and nothing was done
+  pub turned-none : {C : Type 0} (gives : C → Moment → C → Type 0) (most : ℕ) (clock : C) (s : O) → Turned g gives most clock clock s s
+  turned-none gives most clock s = record { moments = []; gave = refl; bound = omega arith; ran = ran-none s }
+
+  -- where the clock gave one moment
+  pub turned-one : {C : Type 0} (gives : C → Moment → C → Type 0) (clock clock' : C) (now : Moment) (a b : O) → gives clock now clock' → Ran g (now ∷ []) a b → Turned g gives 1 clock clock' a b
+  turned-one gives clock clock' now a b given ran = record { moments = now ∷ []; gave = (clock', given, refl); bound = omega arith; ran = ran }
+
+  pub turned-then : {C : Type 0} (gives : C → Moment → C → Type 0) (n m most : ℕ) (c0 c1 c2 : C) (s0 s1 s2 : O) → n + m ≤ most → Turned g gives n c0 c1 s0 s1 → Turned g gives m c1 c2 s1 s2 → Turned g gives most c0 c2 s0 s2
+  turned-then gives n m most c0 c1 c2 s0 s1 s2 room first next = record {
+    moments = first.moments ++ next.moments;
+    gave = gave-then gives c0 c1 c2 first.moments next.moments first.gave next.gave;
+    bound = simp length-append (omega (arith, first.bound, next.bound, room));
+    ran = ran-then s0 s1 s2 first.moments next.moments first.ran next.ran;
+  }
+
+  pub turned-within : {C : Type 0} (gives : C → Moment → C → Type 0) (n most : ℕ) (c0 c1 : C) (s0 s1 : O) → n ≤ most → Turned g gives n c0 c1 s0 s1 → Turned g gives most c0 c1 s0 s1
+  turned-within gives n most c0 c1 s0 s1 room turned = record {
+    moments = turned.moments;
+    gave = turned.gave;
+    bound = omega (arith, turned.bound, room);
+    ran = turned.ran;
+  }
+
+  -- what is left of one request is left of a run at one moment
+  pub ran-made : (now : Moment) (received : ReceivedRequest) (a b : O) → MakesCall g (λ office. call_received office now received) a b → Ran g (now ∷ []) a b
+  ran-made now received a b makes = record {
+    was_reliable = makes.leaves.was_reliable;
+    was_open = makes.leaves.was_open;
+    closes = makes.leaves.closes;
+    counts = makes.leaves.counts;
+    stands = λ reliable is_open office stands. (
+      makes.made ∷ [],
+      (made-at now makes.made (call_received office now received) (received-at office now received) (makes.by reliable office stands), tt),
+      subst (λ (o : OfficeLists). g.stands b o) (run-one office makes.made) (makes.leaves.stands reliable is_open office stands),
+    );
+  }
+
+  -- what the serving of one request leaves, where the clock gave a moment or was not asked
+  pub served_turn : {T C R W : Type 0} (k : clock.Ghosts C) (r : source.Ghosts R) (h : sink.Ghosts W) (result : Result T NowError) (old new : O) (from till : C)
+      (reader reader' : R) (before after : W) → ServesRequest g k r h result old new from till reader reader' before after
+      → (result ≡ Err Clock → ⊥) → Turned g k.gives 1 from till old new
+  served_turn k r h result old new from till reader reader' before after (inl it) timed =
+      turned-one k.gives from till it.moment old new it.given (ran-made it.moment it.received old new it.replies.makes)
+  served_turn k r h result old new from till reader reader' before after (inr (inl it, same, unwritten)) timed =
+      subst (λ s. Turned g k.gives 1 from till old s) (sym same)
+      (subst (λ c. Turned g k.gives 1 from c old old) (sym it.unasked) (turned-none k.gives 1 from old))
+  served_turn k r h result old new from till reader reader' before after (inr (inr it, same, unwritten)) timed = absurd (timed it.is)
+
+  -- and where it gave none
+  pub served_untimed : {T C R W : Type 0} (k : clock.Ghosts C) (r : source.Ghosts R) (h : sink.Ghosts W) (result : Result T NowError) (old new : O) (from till : C)
+      (reader reader' : R) (before after : W) → ServesRequest g k r h result old new from till reader reader' before after → result ≡ Err Clock → k.fails from till × (new ≡ old)
+  served_untimed k r h result old new from till reader reader' before after (inl it) untimed = absurd (served_no_clock it.told (sym it.is ∙ untimed))
+  served_untimed k r h result old new from till reader reader' before after (inr (inl it, same, unwritten)) untimed = let both = sym it.is ∙ untimed in absurd (cc)
+  served_untimed k r h result old new from till reader reader' before after (inr (inr it, same, unwritten)) untimed = (it.fails, same)
+
+-- the same, by what was made of the result
+module _ {T U E O C R W : Type 0} (g : office.Ghosts O) (k : clock.Ghosts C) (r : source.Ghosts R) (h : sink.Ghosts W) (result : Result T NowError) (old new : O) (from till : C)
+    (reader reader' : R) (before after : W) (serves : ServesRequest g k r h result old new from till reader reader' before after) where
+  pub turned_if : (told : Result U E) → MatchResult told (λ _. result ≡ Err Clock → ⊥) (λ _. result ≡ Err Clock) → OnOk told (Turned g k.gives 1 from till old new)
+  turned_if (Ok x) timed = served_turn g k r h result old new from till reader reader' before after serves timed
+  turned_if (Err e) timed = tt
+
+  pub untimed_if : (told : Result U E) → MatchResult told (λ _. result ≡ Err Clock → ⊥) (λ _. result ≡ Err Clock) → OnErr told (k.fails from till × (new ≡ old))
+  untimed_if (Ok x) timed = tt
+  untimed_if (Err e) timed = served_untimed g k r h result old new from till reader reader' before after serves timed
+
+pub on_err : {U E : Type 0} {P Q : Type 0} (told : Result U E) → OnErr told P → (P → Q) → OnErr told Q
+on_err (Ok x) p next = tt
+on_err (Err e) p next = next p

@@ -1,0 +1,4 @@
+mod CameLemmas
+mod RequestBodyLemmas
+mod RequestLawLemmas
+mod SpellLemmas

@@ -1,0 +1,3 @@
+pub mod ReceivedRequests
+pub mod RequestOfHead
+pub mod RequestUniqueness

@@ -1,0 +1,3 @@
+pub mod RouteChained
+mod PhraseLemmas
+mod TargetLemmas

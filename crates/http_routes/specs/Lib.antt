@@ -1,0 +1,5 @@
+pub mod Methods
+pub mod ReplyTexts
+pub mod RouteSpelling
+pub mod Statuses
+pub mod Targets

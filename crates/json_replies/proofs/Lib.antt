@@ -1,0 +1,4 @@
+pub mod Depths
+pub mod FailureTexts
+pub mod Moments
+pub mod WritingLemmas

@@ -1,0 +1,6 @@
+use Rattle.std.proofs.Common.{refl}
+use Rattle.json_replies.proofs.WritingLemmas.{object_written, then, token_written}
+use Rattle.json_replies.proofs.mine.write_as_instructed.Goals as goal
+
+pub returns : goal.returns
+returns c = object_written (token_written c.in_ok-begin_object.ensures) (then c.in_ok-put_text.ensures c.in_ok-put_number.ensures) c.end_object.ensures refl

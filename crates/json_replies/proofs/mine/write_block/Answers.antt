@@ -1,0 +1,8 @@
+use Rattle.std.proofs.Common.{refl}
+use Rattle.serde_json.specs.Data.{string}
+use Rattle.json_replies.specs.Forms.{decimal_data}
+use Rattle.json_replies.proofs.WritingLemmas.{object_written, seen_as, then, token_written}
+use Rattle.json_replies.proofs.mine.write_block.Goals as goal
+
+pub returns : goal.returns
+returns c = object_written (token_written c.in_ok-begin_object.ensures) (then (seen_as string c.word.ensures c.in_ok-put_text.ensures) (then (seen_as decimal_data c.from.ensures.value c.in_ok-put_number.ensures) (then (seen_as string c.as_str.ensures.value c.in_ok-put_text-2.ensures) (then c.in_ok-put_number-2.ensures (then (seen_as decimal_data c.to.ensures.value c.in_ok-put_number-3.ensures) ((seen_as string c.word-2.ensures c.in_ok-put_text-3.ensures))))))) c.end_object.ensures refl

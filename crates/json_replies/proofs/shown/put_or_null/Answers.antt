@@ -1,0 +1,6 @@
+use Rattle.std.proofs.lemmas.Result.{on_ok_weaker}
+use Rattle.json_replies.proofs.WritingLemmas.{member_written, token_written}
+use Rattle.json_replies.proofs.shown.put_or_null.Goals as goal
+
+pub returns : goal.returns
+returns g c = on_ok_weaker c.write_or_null.result (member_written (token_written c.in_ok-key.ensures)) c.write_or_null.ensures

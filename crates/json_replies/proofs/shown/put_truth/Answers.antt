@@ -1,0 +1,6 @@
+use Rattle.std.proofs.lemmas.Result.{on_ok_weaker}
+use Rattle.json_replies.proofs.WritingLemmas.{member_written, token_written, truth_written}
+use Rattle.json_replies.proofs.shown.put_truth.Goals as goal
+
+pub returns : goal.returns
+returns c = on_ok_weaker c.boolean.result (member_written (token_written c.in_ok-key.ensures)) (truth_written c.boolean.ensures)

@@ -1,0 +1,15 @@
+pub mod AppointmentBodies
+pub mod Bodies
+pub mod CallBodies
+pub mod DayBodies
+pub mod JsonFields
+pub mod KeyBodies
+pub mod ParsedBodies
+pub mod PollBodies
+pub mod PresenceBodies
+pub mod RefusalResults
+pub mod RegisterBodies
+pub mod Requests
+pub mod RouteLaws
+pub mod Routes
+pub mod Verbs

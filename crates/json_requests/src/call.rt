@@ -1,0 +1,85 @@
+//! The calling of a meeting.
+ghost use Rattle.serde_json.specs.View.{view, items_view};
+ghost use Rattle.vocabulary.specs.Identity.{id};
+ghost use Rattle.json_requests.specs.ParsedBodies.{BodyAgrees};
+ghost use Rattle.json_requests.specs.JsonFields.{json_at, all_items};
+ghost use Rattle.json_requests.specs.CallBodies.{resolution_at, checked_resolutions, resolutions_in, call_body};
+
+use crate::ask::BodyError;
+use crate::place::{
+    company_in, day_in, exactly_fields, exactly_items, items_in, meeting_kind_in, moment_in,
+    resolution_kind_in, text_in,
+};
+use desk_words::{ListFault, MeetingId, NewMeeting, Resolution, Resolutions};
+use serde_json::Value;
+use std::alloc::Global;
+
+/// A resolution is a pair of its kind and its text.
+#[tactic(auto, unfolding(crate::specs::CallBodies::resolution_at))]
+fn resolution(alloc: Global, value: &Value) -> Result<Resolution, BodyError>
+    ensures { BodyAgrees id result (resolution_at (view value.now)) }
+{
+    exactly_items(value, 2)?;
+    let kind = resolution_kind_in(value.get(0))?;
+    let text = text_in(alloc, value.get(1))?;
+    Ok(Resolution { kind, text })
+}
+
+fn resolutions_from(alloc: Global, items: &[Value]) -> Result<Vec<Resolution>, BodyError>
+    ensures { BodyAgrees (λ v. v.items) result (all_items resolution_at (items_view items.now)) }
+{
+    let mut found = Vec::new(alloc);
+    for item in items {
+        found.push(resolution(alloc, item)?)?;
+    }
+    Ok(found)
+}
+
+fn counted(resolutions: Vec<Resolution>) -> Result<Resolutions, BodyError>
+    ensures { BodyAgrees id result (checked_resolutions resolutions.items) }
+{
+    match Resolutions::new(resolutions) {
+        Ok(resolutions) => Ok(resolutions),
+        Err(ListFault::Limit) => Err(BodyError::Unreadable),
+        Err(ListFault::Memory) => Err(BodyError::Memory),
+    }
+}
+
+#[tactic(auto, unfolding(crate::specs::CallBodies::resolutions_in))]
+fn resolutions_in(alloc: Global, place: Option<&Value>) -> Result<Resolutions, BodyError>
+    ensures { BodyAgrees id result (resolutions_in (json_at place.entry)) }
+{
+    let items = items_in(place)?;
+    let resolutions = resolutions_from(alloc, items)?;
+    counted(resolutions)
+}
+
+/// The meeting that a value calls. It has the fields `company` (`private` or `public`), `kind`
+/// (`annual` or `general`), `given` (the day of the notice), `appointed` and `record` (moments),
+/// and `resolutions` (1 to `MOST_RESOLUTIONS` pairs of a kind, `ordinary` or `special`, and a
+/// text).
+#[tactic(auto, unfolding(crate::specs::CallBodies::call_body))]
+pub(crate) fn call(
+    alloc: Global,
+    meeting: MeetingId,
+    value: &Value,
+) -> Result<NewMeeting, BodyError>
+    ensures { BodyAgrees id result (call_body meeting (view value.now)) }
+{
+    exactly_fields(value, 6)?;
+    let company = company_in(value.get("company"))?;
+    let kind = meeting_kind_in(value.get("kind"))?;
+    let given = day_in(value.get("given"))?;
+    let appointed = moment_in(value.get("appointed"))?;
+    let record_moment = moment_in(value.get("record"))?;
+    let resolutions = resolutions_in(alloc, value.get("resolutions"))?;
+    Ok(NewMeeting {
+        meeting,
+        company,
+        kind,
+        given,
+        appointed,
+        record_moment,
+        resolutions,
+    })
+}

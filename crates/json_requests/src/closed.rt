@@ -1,0 +1,59 @@
+//! The loading of closed days.
+ghost use Rattle.serde_json.specs.View.{view, items_view};
+ghost use Rattle.vocabulary.specs.Identity.{id};
+ghost use Rattle.json_requests.specs.ParsedBodies.{BodyAgrees};
+ghost use Rattle.json_requests.specs.DayBodies.{day_at, days_body, closed_body};
+ghost use Rattle.desk_words.specs.SortedLists.{day_list_of};
+ghost use Rattle.json_requests.specs.JsonFields.{json_at, all_items};
+
+use crate::ask::BodyError;
+use crate::place::{day_in, exactly_fields, items_in};
+use desk_words::{Day, DayList, ListFault};
+use serde_json::Value;
+use std::alloc::Global;
+
+#[tactic(auto, unfolding(crate::specs::DayBodies::day_at))]
+fn day(value: &Value) -> Result<Day, BodyError>
+    ensures { BodyAgrees id result (day_at (view value.now)) }
+{
+    day_in(Some(value))
+}
+
+fn days_from(alloc: Global, items: &[Value]) -> Result<Vec<Day>, BodyError>
+    ensures { BodyAgrees (λ v. v.items) result (all_items day_at (items_view items.now)) }
+{
+    let mut found = Vec::new(alloc);
+    for item in items {
+        found.push(day(item)?)?;
+    }
+    Ok(found)
+}
+
+fn day_list(days: Vec<Day>) -> Result<DayList, BodyError>
+    ensures { BodyAgrees id result (day_list_of days.items) }
+{
+    match DayList::new(days) {
+        Ok(days) => Ok(days),
+        Err(ListFault::Limit) => Err(BodyError::Unreadable),
+        Err(ListFault::Memory) => Err(BodyError::Memory),
+    }
+}
+
+#[tactic(auto, unfolding(crate::specs::DayBodies::days_body))]
+fn days_in(alloc: Global, place: Option<&Value>) -> Result<DayList, BodyError>
+    ensures { BodyAgrees id result (days_body (json_at place.entry)) }
+{
+    let items = items_in(place)?;
+    let days = days_from(alloc, items)?;
+    day_list(days)
+}
+
+/// The closed days that a value loads. It has the field `days`, an array of days, of which at most
+/// `MOST_CLOSED_DAYS` are different.
+#[tactic(auto, unfolding(crate::specs::DayBodies::closed_body))]
+pub(crate) fn closed(alloc: Global, value: &Value) -> Result<DayList, BodyError>
+    ensures { BodyAgrees id result (closed_body (view value.now)) }
+{
+    exactly_fields(value, 1)?;
+    days_in(alloc, value.get("days"))
+}

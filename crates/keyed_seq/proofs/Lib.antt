@@ -1,0 +1,2 @@
+pub mod KeptPlaces
+pub mod KeyedPlaceLemmas

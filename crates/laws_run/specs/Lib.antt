@@ -1,0 +1,9 @@
+pub mod Isolation
+pub mod NearParts
+pub mod RunSecrecy
+pub mod SecretCalls
+pub mod Traces
+pub mod WrongCounts
+pub mod WrongMoments
+pub mod WrongTellings
+pub mod WrongWays

@@ -1,0 +1,25 @@
+mod AdjournedLemmas
+mod AnyLemmas
+mod CapacityLemmas
+mod GovernedLemmas
+mod MemberRows
+mod NamedLemmas
+mod OfficeReadLemmas
+mod OneSessionLemmas
+mod OwnThingsLemmas
+mod ProxyLemmas
+mod ReplacedLemmas
+mod SecrecyLemmas
+mod StepCastLemmas
+mod StepLoadLemmas
+mod StepNumberLemmas
+pub mod StepReadLemmas
+mod StepOrderLemmas
+mod StepPlaceLemmas
+mod StepRunLemmas
+mod StepSessionLemmas
+mod WorldLemmas
+mod WrongAdjourned
+mod WrongAnswers
+mod WrongReplaced
+mod WrongTellings

@@ -1,0 +1,118 @@
+-- What is read of the rows gives what is read of the own things.
+use Rattle.std.proofs.Common.{◌≡◌, ℕ, Bool, true, false, cond, List, [], ◌∷◌, filter, refl, ap, sym, ◌∙◌, true≢false}
+use Rattle.std.specs.Prelude.{◌==◌, Some, None}
+use Rattle.std.specs.Option.{option_map_or}
+use Rattle.vocabulary.specs.Names.{same_name}
+use Rattle.vocabulary.specs.declared.kinds.Capacity.{Capacity}
+use Rattle.vocabulary.specs.declared.kinds.Capacity.TheVariants.{Rep, Proxy}
+use Rattle.desk_words.specs.Rulings.{is_refused, ruled_answer}
+use Rattle.desk_words.specs.declared.answer.Answer.{Answer}
+use Rattle.desk_words.specs.declared.change.Entry.{Entry}
+use Rattle.desk_words.specs.declared.records.Appointment.{Appointment}
+use Rattle.desk_words.specs.declared.records.CastMark.{CastMark}
+use Rattle.desk_words.specs.declared.request.NewCast.{NewCast}
+use Rattle.desk_words.specs.declared.request.PartyRequest.{PartyRequest}
+use Rattle.desk_words.specs.declared.request.PartyRequest.TheVariants.{Mine, Cast, Instructed}
+use Rattle.proxy_rules.specs.Holdings.{is_given_by}
+use Rattle.caller_view.specs.PartyRulings.{party_ruling}
+use Rattle.party_views.specs.OwnViews.{nothing_of, own_by, own_from}
+use Rattle.party_views.specs.Public.{PublicRecord}
+use Rattle.party_views.specs.RowsRead.{appointments_read, authorities_read, cast_on, members_read, own_read, polls_read, rows_read}
+use Rattle.party_views.specs.PartyRows.{no_rows_of, rows_in}
+use Rattle.party_views.specs.Views.{own_in, public_in, meeting_at}
+use Rattle.party_views.specs.declared.rows.AuthorityRows.{AuthorityRows}
+use Rattle.party_views.specs.declared.rows.MemberRows.{MemberRows}
+use Rattle.party_views.specs.declared.rows.OwnRows.{OwnRows}
+use Rattle.party_views.proofs.OwnLemmas.{own-read}
+use Rattle.caller_view.proofs.PartyReadLemmas.{ruling-own_read}
+use Rattle.laws_step.specs.WrongAnswers.{a_member, own_vote}
+use Rattle.laws_step.specs.WrongOwnThings.{quiet_meeting}
+use Rattle.laws_step.specs.WrongReads.{ReadsTooLittle, reads_no_row}
+use Rattle.laws_step.specs.PartyReads.{ReadsEnough, RowsGiveOwnThings, RowsReadAreEnough}
+
+-- what passes a test passes it again
+filter-again : {X : Type 0} (test : X → Bool) (xs : List X) → filter test (filter test xs) ≡ filter test xs
+filter-again test [] = refl
+filter-again test (x ∷ xs) =
+    (elim (test x) as (λ b. test x ≡ b → filter test (cond b (x ∷ filter test xs) (filter test xs)) ≡ cond b (x ∷ filter test xs) (filter test xs)) [
+      | true ↦ λ passes. ap (λ b. cond b (x ∷ filter test (filter test xs)) (filter test (filter test xs))) passes ∙ ap (λ l. x ∷ l) (filter-again test xs)
+      | false ↦ λ fails. filter-again test xs
+    ]) refl
+
+appointments-again : (new : NewCast) (given : List Appointment) (capacity : Capacity)
+    → appointments_read new (appointments_read new given capacity) capacity ≡ appointments_read new given capacity
+appointments-again new given Proxy = filter-again (is_given_by new.member) given
+appointments-again new given other = refl
+
+members-again : (new : NewCast) (members : List MemberRows) (capacity : Capacity) → members_read new (members_read new members capacity) capacity ≡ members_read new members capacity
+members-again new members Proxy = filter-again (λ (rows : MemberRows). same_name rows.member new.member) members
+members-again new members other = refl
+
+authorities-again : (new : NewCast) (authorised : List AuthorityRows) (capacity : Capacity)
+    → authorities_read new (authorities_read new authorised capacity) capacity ≡ authorities_read new authorised capacity
+authorities-again new authorised Rep = filter-again (λ (rows : AuthorityRows). same_name rows.authority.corporation new.member) authorised
+authorities-again new authorised other = refl
+
+casts-again : (resolution : ℕ) (casts : List CastMark) → cast_on resolution (cast_on resolution casts) ≡ cast_on resolution casts
+casts-again resolution casts = filter-again (λ (c : CastMark). c.resolution == resolution) casts
+
+-- of the rows that are read the same are read
+rows-again : (asked : PartyRequest) (rows : OwnRows) → rows_read asked (rows_read asked rows) ≡ rows_read asked rows
+rows-again Mine rows = refl
+rows-again (Cast new) rows =
+    let received = appointments-again new rows.received new.capacity in
+    let members = members-again new rows.members new.capacity in
+    let authorised = authorities-again new rows.authorised new.capacity in
+    let casts = casts-again new.resolution rows.casts in
+    λ i. record (no_rows_of rows.party) {
+      row = rows.row;
+      received = received i;
+      members = members i;
+      authorised = authorised i;
+      casts = casts i;
+    }
+rows-again (Instructed resolution) rows = λ i. record (rows_read (Instructed resolution) rows) { casts = casts-again resolution rows.casts i }
+rows-again other rows = refl
+
+-- and they are the same party's
+party-read : (asked : PartyRequest) (rows : OwnRows) → (rows_read asked rows).party ≡ rows.party
+party-read Mine rows = refl
+party-read other rows = refl
+
+-- what is read of own things that are made of the rows that are read
+read-alike : (rows : OwnRows) (public : PublicRecord) (now : ℕ) (asked : PartyRequest)
+    → own_read asked (own_from (rows_read asked rows) public now) ≡ own_read asked (own_from rows public now)
+read-alike rows public now asked =
+    elim (public.meeting) as (λ found. own_read asked (option_map_or (λ meeting. own_by (rows_read asked rows) public.closed meeting public.polls now) found (nothing_of (rows_read asked rows).party))
+    ≡ own_read asked (option_map_or (λ meeting. own_by rows public.closed meeting public.polls now) found (nothing_of rows.party))) [
+      | None ↦ ap (λ party. own_read asked (nothing_of party)) (party-read asked rows)
+      | Some meeting ↦
+          sym (own-read asked (rows_read asked rows) public.closed meeting public.polls now)
+          ∙ ap (λ read. own_by read public.closed meeting (polls_read asked public.polls) now) (rows-again asked rows)
+          ∙ own-read asked rows public.closed meeting public.polls now
+    ]
+
+pub own_enough : ReadsEnough own_read
+own_enough public own now asked = ap ruled_answer (ruling-own_read public own now asked)
+
+pub rows_enough : RowsReadAreEnough
+rows_enough rows public now asked =
+    sym (own_enough public (own_from (rows_read asked rows) public now) now asked)
+    ∙ ap (λ own. ruled_answer (party_ruling public own now asked)) (read-alike rows public now asked)
+    ∙ own_enough public (own_from rows public now) now asked
+
+pub own_of_rows : RowsGiveOwnThings
+own_of_rows office meeting rows public now same known =
+    ap (λ made. own_from made public now) same
+    ∙ ap (λ record_of. own_from (rows_in (meeting_at office meeting) rows.party) record_of now) known
+
+-- ---- a wrong reading
+
+pub row_missed : ReadsTooLittle reads_no_row quiet_meeting a_member own_vote
+row_missed = record {
+  is_one = refl;
+  apart = λ h. absurd (true≢false (ap (λ (a : Answer Entry). is_refused a) h));
+}
+
+pub row_missed_caught : ReadsEnough reads_no_row → ⊥
+row_missed_caught law = row_missed.apart (law (public_in (Some quiet_meeting) []) (own_in quiet_meeting [] a_member 0) 0 own_vote)

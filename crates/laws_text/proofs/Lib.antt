@@ -1,0 +1,5 @@
+mod PickLemmas
+mod ReplayLemmas
+mod TextLemmas
+mod TextOfficeLemmas
+mod TextResultLemmas

@@ -1,0 +1,5 @@
+pub mod Connections
+pub mod Exchanges
+pub mod Offices
+pub mod ReplayLaws
+pub mod TextSecrecy

@@ -1,5 +1,0 @@
-use Rattle.meeting_laws.proofs.CapacityLemmas.{may_demand-qualifies}
-use Rattle.meeting_laws.proofs.demands_by_capacity.Goals as goal
-
-pub returns : goal.returns
-returns c = λ m closed party now h. may_demand-qualifies m closed party now h

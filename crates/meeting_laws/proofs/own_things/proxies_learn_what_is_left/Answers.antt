@@ -1,8 +1,0 @@
-use Rattle.meeting_laws.proofs.ReplacedLemmas.{no_name_or_pence, what_is_left}
-use Rattle.meeting_laws.proofs.own_things.proxies_learn_what_is_left.Goals as goal
-
-pub returns-clause-left : goal.returns-clause-left
-returns-clause-left c = what_is_left
-
-pub returns-clause-rows : goal.returns-clause-rows
-returns-clause-rows c = no_name_or_pence

@@ -1,8 +1,0 @@
-use Rattle.meeting_laws.proofs.ReadLemmas.{own_enough, rows_enough}
-use Rattle.meeting_laws.proofs.reads.what_is_read_is_enough.Goals as goal
-
-pub returns-clause-own : goal.returns-clause-own
-returns-clause-own c = own_enough
-
-pub returns-clause-rows : goal.returns-clause-rows
-returns-clause-rows c = rows_enough

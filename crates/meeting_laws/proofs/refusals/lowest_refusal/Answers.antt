@@ -1,8 +1,0 @@
-use Rattle.meeting_laws.proofs.OrderLemmas.{in_order, lowest}
-use Rattle.meeting_laws.proofs.refusals.lowest_refusal.Goals as goal
-
-pub returns-clause-order : goal.returns-clause-order
-returns-clause-order c = in_order
-
-pub returns-clause-lowest : goal.returns-clause-lowest
-returns-clause-lowest c = lowest

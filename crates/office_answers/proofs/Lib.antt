@@ -1,3 +1,0 @@
-pub mod MeetingRules
-pub mod ReadLaws
-pub mod CountLemmas

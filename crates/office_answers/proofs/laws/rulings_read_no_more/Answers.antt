@@ -1,5 +1,0 @@
-use Rattle.office_answers.proofs.ReadLaws.{no_more}
-use Rattle.office_answers.proofs.laws.rulings_read_no_more.Goals as goal
-
-pub returns : goal.returns
-returns c = no_more

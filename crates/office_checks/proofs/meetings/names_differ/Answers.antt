@@ -1,8 +1,0 @@
-use Rattle.std.proofs.Common.{◌∙◌}
-use Rattle.desk_words.specs.Office.{same_meeting}
-use Rattle.office_checks.proofs.KeyLemmas.{differ-once}
-use Rattle.office_checks.proofs.TieLemmas.{meeting-self, meeting-turned}
-use Rattle.office_checks.proofs.meetings.names_differ.Goals as goal
-
-pub returns : goal.returns
-returns c = c.are_named_once.ensures ∙ differ-once same_meeting meeting-self meeting-turned c.args.meetings.now

@@ -1,7 +1,0 @@
-use Rattle.std.proofs.Common.{◌∙◌}
-use Rattle.desk_lists.proofs.Numbers.{ascends_by-numbers}
-use Rattle.desk_words.specs.declared.records.Poll.{Poll}
-use Rattle.office_checks.proofs.polls.stand_in_order.Goals as goal
-
-pub returns : goal.returns
-returns c = c.ascend.ensures ∙ ascends_by-numbers (λ (p : Poll). p.resolution) c.args.polls.now

@@ -1,8 +1,0 @@
-//! The office's wall clock, and its zone.
-#![tactic(auto)]
-
-mod clock;
-mod zone;
-
-pub use clock::{ClockFault, wall_clock};
-pub use zone::{NoRule, OfficeZone};

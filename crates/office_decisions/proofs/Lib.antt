@@ -1,0 +1,3 @@
+pub mod DecidedCountLemmas
+pub mod MeetingRules
+pub mod ReadLaws

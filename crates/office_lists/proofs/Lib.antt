@@ -1,4 +1,0 @@
-pub mod GivingLemmas
-pub mod ListLemmas
-pub mod OfficeLemmas
-pub mod OrderLemmas

@@ -1,6 +1,0 @@
-use Rattle.office_lists.specs.Own.{are_few, at_most, sessions_own}
-use Rattle.office_lists.proofs.ListLemmas.{not_few, yields_by}
-use Rattle.office_lists.proofs.lists.session_list.Goals as goal
-
-pub returns : goal.returns
-returns c = yields_by (at_most 9) are_few c.numbered_list.result (sessions_own c.args.rows) not_few c.numbered_list.ensures

@@ -1,4 +1,0 @@
-pub mod Flat
-pub mod Giving
-pub mod Own
-pub mod Yields

@@ -1,2 +1,0 @@
-mod AskingLemmas
-mod LoadLemmas

@@ -1,3 +1,0 @@
-pub mod Loading
-pub mod Reading
-pub mod Replays

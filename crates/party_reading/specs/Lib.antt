@@ -1,4 +1,0 @@
-pub mod Home
-pub mod HomeLaws
-pub mod Lists
-pub mod Telling

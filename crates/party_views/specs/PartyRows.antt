@@ -1,0 +1,77 @@
+-- The rows of a meeting from which a party's own things are made: look-ups and filters alone.
+use Rattle.std.specs.Prelude.{not, List, [], ◌∷◌, map, filter, Option, Some, None}
+use Rattle.desk_words.specs.Names.{same_name}
+use Rattle.desk_words.specs.ViewTypes.{Party, SessionNumber}
+use Rattle.desk_words.specs.declared.office.MeetingLists.{MeetingLists}
+use Rattle.desk_words.specs.declared.records.Appointment.{Appointment}
+use Rattle.desk_words.specs.declared.records.Authority.{Authority}
+use Rattle.desk_words.specs.declared.records.PresenceMark.{PresenceMark}
+use Rattle.proxy_rules.specs.Holdings.{holding_of, is_ended_of, is_given_by}
+use Rattle.proxy_rules.specs.Parties.{authorises, is_authority_of, is_cast_by, is_demanded_by, is_presence_of, names}
+use Rattle.proxy_rules.specs.Shares.{row_of}
+use Rattle.party_views.specs.declared.rows.AuthorityRows.{AuthorityRows}
+use Rattle.party_views.specs.declared.rows.MemberRows.{MemberRows}
+use Rattle.party_views.specs.declared.rows.OwnRows.{OwnRows}
+
+-- the parties, each once, where it first stands
+abbrev pub parties_once : List Party → List Party
+parties_once [] = []
+parties_once (party ∷ parties) =
+    party ∷ filter (λ other. not (same_name other party)) (parties_once parties)
+
+-- the members who gave these appointments, each once
+abbrev pub givers : List Appointment → List Party
+givers given = parties_once (map (λ (a : Appointment). a.member) given)
+
+-- a member, with its shares, its appointments and its endings in a meeting
+abbrev pub member_in : MeetingLists → Party → MemberRows
+member_in m member = record {
+  member = member;
+  holding = holding_of m.register m.appointments m.endings member;
+}
+
+-- an authority, with its corporation's row in the register of a meeting
+abbrev pub authority_rows_in : MeetingLists → Authority → AuthorityRows
+authority_rows_in m a = record { authority = a; row = row_of m.register a.corporation }
+
+-- the sessions in which a party is marked present, in order of receipt
+abbrev pub presences_of : Party → List PresenceMark → List SessionNumber
+presences_of party presences =
+    map (λ (mark : PresenceMark). mark.session) (filter (is_presence_of party) presences)
+
+-- the rows of a party in a meeting
+abbrev pub rows_of : MeetingLists → Party → OwnRows
+rows_of m party = record {
+  party = party;
+  row = row_of m.register party;
+  given = filter (is_given_by party) m.appointments;
+  ended = filter (is_ended_of party) m.endings;
+  persons = filter (is_authority_of party) m.authorities;
+  received = filter (names party) m.appointments;
+  members = map (member_in m) (givers (filter (names party) m.appointments));
+  authorised = map (authority_rows_in m) (filter (authorises party) m.authorities);
+  presences = presences_of party m.presences;
+  demands = filter (is_demanded_by party) m.demands;
+  casts = filter (is_cast_by party) m.casts;
+}
+
+-- the rows of a party where there is no meeting
+abbrev pub no_rows_of : Party → OwnRows
+no_rows_of party = record {
+  party = party;
+  row = None;
+  given = [];
+  ended = [];
+  persons = [];
+  received = [];
+  members = [];
+  authorised = [];
+  presences = [];
+  demands = [];
+  casts = [];
+}
+
+-- the rows of a party in a meeting, if there is one
+abbrev pub rows_in : Option MeetingLists → Party → OwnRows
+rows_in None party = no_rows_of party
+rows_in (Some m) party = rows_of m party

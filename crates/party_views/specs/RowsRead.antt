@@ -1,0 +1,146 @@
+-- What of a party's own things the answer to its request reads.
+use Rattle.std.specs.Prelude.{List, [], map, filter, ◌==◌}
+use Rattle.desk_words.specs.Names.{same_name}
+use Rattle.desk_words.specs.ViewTypes.{Number}
+use Rattle.vocabulary.specs.declared.kinds.Capacity.{Capacity}
+use Rattle.vocabulary.specs.declared.kinds.Capacity.TheVariants.{Rep, Proxy}
+use Rattle.desk_words.specs.declared.own.Authorised.{Authorised}
+use Rattle.desk_words.specs.declared.own.PollGoverned.{PollGoverned}
+use Rattle.desk_words.specs.declared.own.Received.{Received}
+use Rattle.desk_words.specs.declared.records.Appointment.{Appointment}
+use Rattle.desk_words.specs.declared.records.CastMark.{CastMark}
+use Rattle.desk_words.specs.declared.records.Poll.{Poll}
+use Rattle.desk_words.specs.declared.request.NewCast.{NewCast}
+use Rattle.desk_words.specs.declared.request.PartyRequest.{PartyRequest}
+use Rattle.desk_words.specs.declared.request.PartyRequest.TheVariants.{Notice, Mine, Appoint, End, Authorise, Attend, Demand, Cast, Instructed}
+use Rattle.proxy_rules.specs.Holdings.{is_given_by}
+use Rattle.party_views.specs.OwnViews.{nothing_of}
+use Rattle.party_views.specs.PartyRows.{no_rows_of}
+use Rattle.party_views.specs.declared.reads.Reads.{Reads}
+use Rattle.party_views.specs.declared.reads.Reads.TheVariants.{Nothing, Everything, Given, Persons, Presence, Standing, Vote, AsInstructed}
+use Rattle.party_views.specs.declared.rows.AuthorityRows.{AuthorityRows}
+use Rattle.party_views.specs.declared.rows.MemberRows.{MemberRows}
+use Rattle.party_views.specs.declared.rows.OwnRows.{OwnRows}
+use Rattle.party_views.specs.declared.views.OwnView.{OwnView}
+
+-- those of the votes that are on a resolution
+abbrev pub cast_on : Number → List CastMark → List CastMark
+cast_on resolution casts = filter (λ (c : CastMark). c.resolution == resolution) casts
+
+-- the poll on a resolution, if there is one
+abbrev pub polls_on : Number → List Poll → List Poll
+polls_on resolution polls = filter (λ (p : Poll). p.resolution == resolution) polls
+
+-- an appointment, with what it governs in each session and for the late poll on a resolution, and
+-- for no other poll
+abbrev pub for_poll : Number → Received → Received
+for_poll resolution r = record r {
+  polls = filter (λ (p : PollGoverned). p.resolution == resolution) r.polls;
+}
+
+-- what a vote reads of the corporations that authorised the party: as a representative, that of the
+-- member
+abbrev pub authorised_read : NewCast → List Authorised → Capacity → List Authorised
+authorised_read new authorised Rep =
+    filter (λ (a : Authorised). same_name a.corporation new.member) authorised
+authorised_read new authorised other = []
+
+-- what a vote reads of the appointments that name the party: as a proxy, those of the member
+abbrev pub received_read : NewCast → List Received → Capacity → List Received
+received_read new received Proxy =
+    map (for_poll new.resolution)
+    (filter (λ (r : Received). same_name r.member new.member) received)
+received_read new received other = []
+
+-- what of a party's own things the answer to a request reads
+abbrev pub reads_of : PartyRequest → Reads
+reads_of Notice = Nothing
+reads_of Mine = Everything
+reads_of (Appoint new) = Given
+reads_of (End number) = Given
+reads_of (Authorise person) = Persons
+reads_of Attend = Presence
+reads_of (Demand resolution) = Standing
+reads_of (Cast new) = Vote new
+reads_of (Instructed resolution) = AsInstructed resolution
+
+-- those of the own things that are read, and nothing in place of the others
+abbrev pub own_part : Reads → OwnView → OwnView
+own_part Nothing own = nothing_of own.party
+own_part Everything own = own
+own_part Given own = record (nothing_of own.party) { given = own.given }
+own_part Persons own = record (nothing_of own.party) { persons = own.persons }
+own_part Presence own = record (nothing_of own.party) { presences = own.presences }
+own_part Standing own = record own { given = []; persons = []; casts = [] }
+own_part (Vote new) own = record (nothing_of own.party) {
+  row = own.row;
+  received = received_read new own.received new.capacity;
+  authorised = authorised_read new own.authorised new.capacity;
+  casts = cast_on new.resolution own.casts;
+}
+own_part (AsInstructed resolution) own = record (nothing_of own.party) {
+  received = map (for_poll resolution) own.received;
+  casts = cast_on resolution own.casts;
+}
+
+-- those of the own things that the answer to a request reads
+abbrev pub own_read : PartyRequest → OwnView → OwnView
+own_read asked own = own_part (reads_of asked) own
+
+-- what a vote reads of the authorities that were given to the party: as a representative, that of
+-- the member
+abbrev pub authorities_read : NewCast → List AuthorityRows → Capacity → List AuthorityRows
+authorities_read new authorised Rep =
+    filter (λ (rows : AuthorityRows). same_name rows.authority.corporation new.member) authorised
+authorities_read new authorised other = []
+
+-- what a vote reads of the appointments that name the party: as a proxy, those of the member
+abbrev pub appointments_read : NewCast → List Appointment → Capacity → List Appointment
+appointments_read new received Proxy = filter (is_given_by new.member) received
+appointments_read new received other = []
+
+-- what a vote reads of the members who named the party: as a proxy, the member
+abbrev pub members_read : NewCast → List MemberRows → Capacity → List MemberRows
+members_read new members Proxy =
+    filter (λ (rows : MemberRows). same_name rows.member new.member) members
+members_read new members other = []
+
+-- of the rows of a party the appointments that it gave, and their endings
+abbrev pub given_read : OwnRows → OwnRows
+given_read rows = record (no_rows_of rows.party) { given = rows.given; ended = rows.ended }
+
+-- those of the rows from which what is read is made, and nothing in place of the others
+abbrev pub rows_part : Reads → OwnRows → OwnRows
+rows_part Nothing rows = no_rows_of rows.party
+rows_part Everything rows = rows
+rows_part Given rows = given_read rows
+rows_part Persons rows = record (no_rows_of rows.party) { persons = rows.persons }
+rows_part Presence rows = record (no_rows_of rows.party) { presences = rows.presences }
+rows_part Standing rows = record rows { given = []; ended = []; persons = []; casts = [] }
+rows_part (Vote new) rows = record (no_rows_of rows.party) {
+  row = rows.row;
+  received = appointments_read new rows.received new.capacity;
+  members = members_read new rows.members new.capacity;
+  authorised = authorities_read new rows.authorised new.capacity;
+  casts = cast_on new.resolution rows.casts;
+}
+rows_part (AsInstructed resolution) rows = record (no_rows_of rows.party) {
+  received = rows.received;
+  members = rows.members;
+  casts = cast_on resolution rows.casts;
+}
+
+-- those of the rows from which what the answer to a request reads is made
+abbrev pub rows_read : PartyRequest → OwnRows → OwnRows
+rows_read asked rows = rows_part (reads_of asked) rows
+
+-- the polls for which what appointments govern is read: of a vote that on its resolution, and else
+-- all
+abbrev pub polls_part : Reads → List Poll → List Poll
+polls_part (Vote new) polls = polls_on new.resolution polls
+polls_part (AsInstructed resolution) polls = polls_on resolution polls
+polls_part other polls = polls
+
+-- the polls for which the answer to a request reads what appointments govern
+abbrev pub polls_read : PartyRequest → List Poll → List Poll
+polls_read asked polls = polls_part (reads_of asked) polls

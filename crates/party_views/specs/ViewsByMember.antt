@@ -1,0 +1,71 @@
+-- What is looked up by member and number while a party's own things are made. For private
+-- contracts.
+use Rattle.std.specs.Prelude.{◌≡◌, ℕ, Bool, ◌&&◌, ◌==◌, List, map, option_and_then}
+use Rattle.std.specs.BTreeMap.{BTreeMap, get}
+use Rattle.std.specs.List.{slice_get}
+use Rattle.std.specs.Ordering.{nat_cmp}
+use Rattle.vocabulary.specs.Names.{name_cmp}
+use Rattle.desk_words.specs.ViewTypes.{Day, Moment, Number, Party, SessionNumber}
+use Rattle.desk_words.specs.declared.own.Given.{Given}
+use Rattle.desk_words.specs.declared.own.PollGoverned.{PollGoverned}
+use Rattle.desk_words.specs.declared.own.Received.{Received}
+use Rattle.desk_words.specs.declared.own.SessionGoverned.{SessionGoverned}
+use Rattle.desk_words.specs.declared.records.Appointment.{Appointment}
+use Rattle.desk_words.specs.declared.records.Meeting.{Meeting}
+use Rattle.desk_words.specs.declared.records.Poll.{Poll}
+use Rattle.proxy_rules.specs.Cutoffs.{cutoffs_of}
+use Rattle.proxy_rules.specs.Uses.{Acts, Votes, Vote}
+use Rattle.proxy_rules.specs.declared.papers.Cutoffs.{Cutoffs}
+use Rattle.party_views.specs.OwnViews.{governed_by, known_to_proxy, rows_by}
+use Rattle.party_views.specs.declared.governed.LatePoll.{LatePoll}
+use Rattle.party_views.specs.declared.governed.SessionCutoffs.{SessionCutoffs}
+use Rattle.party_views.specs.declared.rows.MemberRows.{MemberRows}
+
+-- a map has the place of each member's rows, and of no others
+abbrev pub AreByMember : List MemberRows → BTreeMap Party ℕ → Type 0
+AreByMember members places =
+    (member : Party)
+    → option_and_then (slice_get members) (get name_cmp places member) ≡ rows_by members member
+
+-- the cutoffs of the session of a number (sections 327 and 330)
+abbrev pub cutoffs_in_session : Meeting → List Day → Moment → SessionNumber → SessionCutoffs
+cutoffs_in_session meeting closed now number = record {
+  acts = cutoffs_of meeting (Acts number) closed now;
+  votes = cutoffs_of meeting (Votes number) closed now;
+}
+
+-- both are the same cutoffs
+abbrev pub same_cutoffs : Cutoffs → Cutoffs → Bool
+same_cutoffs a b = a.appointments == b.appointments && a.endings == b.endings
+
+-- a late poll with the cutoffs for votes on it (section 327)
+abbrev pub late_of : Meeting → List Day → Moment → Poll → LatePoll
+late_of meeting closed now poll = record {
+  resolution = poll.resolution;
+  cutoffs = cutoffs_of meeting (Vote poll) closed now;
+}
+
+-- what a member's appointment of a number governs in a session
+abbrev pub session_in_rows : List MemberRows → Party → Number → SessionCutoffs → SessionGoverned
+session_in_rows members member number session = record {
+  acts = governed_by members session.acts member number;
+  votes = governed_by members session.votes member number;
+}
+
+-- what a member's appointment of a number governs for a late poll
+abbrev pub late_in_rows : List MemberRows → Party → Number → LatePoll → PollGoverned
+late_in_rows members member number late = record {
+  resolution = late.resolution;
+  governs = governed_by members late.cutoffs member number;
+}
+
+-- an appointment as its proxy knows it, with what it governs in sessions and for late polls
+abbrev pub received_with : List MemberRows → List SessionCutoffs → List LatePoll → Appointment
+    → Received
+received_with members sessions late a =
+    known_to_proxy a (map (session_in_rows members a.member a.number) sessions)
+    (map (late_in_rows members a.member a.number) late)
+
+-- an appointment, with its ending as a map keeps it by number
+abbrev pub given_with_ending : BTreeMap Number Moment → Appointment → Given
+given_with_ending ended a = record { appointment = a; ended = get nat_cmp ended a.number }

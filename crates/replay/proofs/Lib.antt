@@ -1,0 +1,4 @@
+pub mod BookLemmas
+pub mod Progress
+pub mod ReplayRunLaws
+pub mod ReplayTurnLemmas

@@ -1,0 +1,127 @@
+-- A party's rows, from what was told of each list.
+use Rattle.std.proofs.Common.{◌≡◌, ◌+◌, ◌<◌, ℕ, List, [], ◌∷◌, ◌++◌, length, get_or, map, take, filter, Option, Some, None, sym, ap, ◌∙◌, refl}
+use Rattle.std.proofs.lemmas.List.{map-append, take_more}
+use Rattle.vocabulary.specs.Names.{same_name}
+use Rattle.vocabulary.specs.declared.kinds.Capacity.{Capacity}
+use Rattle.vocabulary.specs.declared.kinds.Capacity.TheVariants as capacity
+use Rattle.desk_words.specs.ViewTypes.{Party}
+use Rattle.desk_words.specs.declared.office.MeetingLists.{MeetingLists}
+use Rattle.desk_words.specs.declared.request.NewCast.{NewCast}
+use Rattle.party_views.specs.RowsRead.{rows_part}
+use Rattle.party_views.specs.PartyRows.{authority_rows_in, no_rows_of, presences_of, rows_in}
+use Rattle.party_views.specs.declared.reads.Reads.TheVariants as reads
+use Rattle.party_views.specs.declared.rows.AuthorityRows.{AuthorityRows}
+use Rattle.party_views.specs.declared.rows.OwnRows.{OwnRows}
+use Rattle.party_views.proofs.OwnLemmas.{filter-map}
+use Rattle.proxy_rules.specs.Holdings.{is_ended_of, is_given_by}
+use Rattle.proxy_rules.specs.Parties.{is_authority_of, is_demanded_by}
+use Rattle.proxy_rules.specs.Shares.{row_of}
+use Rattle.row_source.specs.LookUps.{appointments_in, authorities_in, authority_at, casts_by, demands_in, endings_in, for_member, naming_by_in, naming_in, presences_in, register_in, trusting_for_in, trusting_in, with_members}
+use Rattle.row_source.proofs.MemberLemmas.{members-read}
+
+-- one record more, each made into something
+pub made_more : {X Y : Type 0} (make : X → Y) (xs : List X) (i : ℕ) (x : X) (made after : List Y) (y : Y) → i < length xs → x ≡ get_or xs i x → made ≡ map make (take i xs) → y ≡ make x → after ≡ made ++ y ∷ []
+    → after ≡ map make (take (i + 1) xs)
+made_more make xs i x made after y h is so_far new put =
+    put ∙ (λ j. so_far j ++ new j ∷ []) ∙ sym (map-append make (take i xs) (x ∷ [])) ∙ ap (map make) (sym (take_more xs i x h ∙ ap (λ z. take i xs ++ z ∷ []) (sym is)))
+
+-- ---- all rows
+
+-- the rows are what it may act by, and the rest
+pub rows_are : (found : Option MeetingLists) (party : Party)
+    → record (rows_in found party) {
+      given = filter (is_given_by party) (appointments_in found);
+      ended = filter (is_ended_of party) (endings_in found);
+      persons = filter (is_authority_of party) (authorities_in found);
+      casts = casts_by found party;
+    } ≡ rows_in found party
+rows_are None party = refl
+rows_are (Some m) party = refl
+
+-- what it may act by is read of each list
+pub standing_are : (found : Option MeetingLists) (party : Party)
+    → record (no_rows_of party) {
+      row = row_of (register_in found) party;
+      received = naming_in found party;
+      members = (with_members found (naming_in found party)).members;
+      authorised = map (authority_at found) (trusting_in found party);
+      presences = presences_of party (presences_in found);
+      demands = filter (is_demanded_by party) (demands_in found);
+    } ≡ rows_part reads.Standing (rows_in found party)
+standing_are None party = refl
+standing_are (Some m) party = refl
+
+pub instructed_are : (found : Option MeetingLists) (party : Party) (resolution : ℕ)
+    → record (no_rows_of party) {
+      received = naming_in found party;
+      members = (with_members found (naming_in found party)).members;
+      casts = (for_member found party resolution).casts;
+    } ≡ rows_part (reads.AsInstructed resolution) (rows_in found party)
+instructed_are None party resolution = refl
+instructed_are (Some m) party resolution = refl
+
+pub given_are : (found : Option MeetingLists) (party : Party)
+    → record (no_rows_of party) {
+      given = filter (is_given_by party) (appointments_in found);
+      ended = filter (is_ended_of party) (endings_in found);
+    } ≡ rows_part reads.Given (rows_in found party)
+given_are None party = refl
+given_are (Some m) party = refl
+
+pub persons_are : (found : Option MeetingLists) (party : Party)
+    → record (no_rows_of party) { persons = filter (is_authority_of party) (authorities_in found) } ≡ rows_part reads.Persons (rows_in found party)
+persons_are None party = refl
+persons_are (Some m) party = refl
+
+pub presence_is : (found : Option MeetingLists) (party : Party)
+    → record (no_rows_of party) { presences = presences_of party (presences_in found) } ≡ rows_part reads.Presence (rows_in found party)
+presence_is None party = refl
+presence_is (Some m) party = refl
+
+pub nothing_is : (found : Option MeetingLists) (party : Party) → no_rows_of party ≡ rows_part reads.Nothing (rows_in found party)
+nothing_is None party = refl
+nothing_is (Some m) party = refl
+
+-- ---- a vote
+
+-- what it reads in a capacity
+abbrev read_as : Option MeetingLists → Party → NewCast → Capacity → OwnRows
+read_as found party new capacity = rows_part (reads.Vote (record new { capacity = capacity })) (rows_in found party)
+
+vote_kept : (found : Option MeetingLists) (party : Party) (new : NewCast) (as_what : Capacity) → new.capacity ≡ as_what → read_as found party new as_what ≡ rows_part (reads.Vote new) (rows_in found party)
+vote_kept found party new as_what is = ap (read_as found party new) (sym is)
+
+pub member_is : (found : Option MeetingLists) (party : Party) (new : NewCast) → new.capacity ≡ capacity.Member → for_member found party new.resolution ≡ rows_part (reads.Vote new) (rows_in found party)
+member_is found party new is = go found ∙ vote_kept found party new capacity.Member is
+  where
+    go : (found : Option MeetingLists) → for_member found party new.resolution ≡ read_as found party new capacity.Member
+    go None = refl
+    go (Some m) = refl
+
+pub rep_is : (found : Option MeetingLists) (party : Party) (new : NewCast) → new.capacity ≡ capacity.Rep
+    → record (for_member found party new.resolution) { authorised = map (authority_at found) (trusting_for_in found new.member party) } ≡ rows_part (reads.Vote new) (rows_in found party)
+rep_is found party new is = go found ∙ vote_kept found party new capacity.Rep is
+  where
+    go : (found : Option MeetingLists) → record (for_member found party new.resolution) { authorised = map (authority_at found) (trusting_for_in found new.member party) } ≡ read_as found party new capacity.Rep
+    go None = refl
+    go (Some m) =
+        let those = filter-map (λ (rows : AuthorityRows). same_name rows.authority.corporation new.member) (authority_rows_in m) (trusting_in (Some m) party) in
+        λ i. record (for_member (Some m) party new.resolution) { authorised = sym those i }
+
+pub proxy_is : (found : Option MeetingLists) (party : Party) (new : NewCast) → new.capacity ≡ capacity.Proxy
+    → record (for_member found party new.resolution) {
+      received = naming_by_in found new.member party;
+      members = (with_members found (naming_by_in found new.member party)).members;
+    } ≡ rows_part (reads.Vote new) (rows_in found party)
+proxy_is found party new is = go found ∙ vote_kept found party new capacity.Proxy is
+  where
+    go : (found : Option MeetingLists)
+        → record (for_member found party new.resolution) {
+          received = naming_by_in found new.member party;
+          members = (with_members found (naming_by_in found new.member party)).members;
+        } ≡ read_as found party new capacity.Proxy
+    go None = refl
+    go (Some m) = λ i. record (for_member (Some m) party new.resolution) {
+      received = naming_by_in (Some m) new.member party;
+      members = members-read m new capacity.Proxy (naming_in (Some m) party) i;
+    }

@@ -1,0 +1,109 @@
+-- What a meeting that is found holds, list by list; where none is found, nothing.
+use Rattle.std.specs.Prelude.{List, [], filter, map, Option, Some, None}
+use Rattle.std.specs.Option.{option_map_or}
+use Rattle.desk_words.specs.ViewTypes.{Number, Party}
+use Rattle.desk_words.specs.declared.office.MeetingLists.{MeetingLists}
+use Rattle.desk_words.specs.declared.records.Appointment.{Appointment}
+use Rattle.desk_words.specs.declared.records.Authority.{Authority}
+use Rattle.desk_words.specs.declared.records.CastMark.{CastMark}
+use Rattle.desk_words.specs.declared.records.DemandMark.{DemandMark}
+use Rattle.desk_words.specs.declared.records.Ending.{Ending}
+use Rattle.desk_words.specs.declared.records.PresenceMark.{PresenceMark}
+use Rattle.desk_words.specs.declared.records.RegisterRow.{RegisterRow}
+use Rattle.proxy_rules.specs.Holdings.{holding_of, is_given_by}
+use Rattle.proxy_rules.specs.Parties.{authorises, is_authority_of, is_cast_by, names}
+use Rattle.proxy_rules.specs.Shares.{row_of}
+use Rattle.party_views.specs.RowsRead.{cast_on}
+use Rattle.party_views.specs.PartyRows.{givers, no_rows_of}
+use Rattle.party_views.specs.declared.rows.AuthorityRows.{AuthorityRows}
+use Rattle.party_views.specs.declared.rows.MemberRows.{MemberRows}
+use Rattle.party_views.specs.declared.rows.OwnRows.{OwnRows}
+use Rattle.row_source.specs.declared.members.ReceivedRows.{ReceivedRows}
+
+-- a list of a meeting that is found
+abbrev pub list_in : {A : Type 0} → (MeetingLists → List A) → Option MeetingLists → List A
+list_in list found = option_map_or list found []
+
+-- its register (section 113)
+abbrev pub register_in : Option MeetingLists → List RegisterRow
+register_in found = list_in (λ m. m.register) found
+
+-- its appointments (section 324)
+abbrev pub appointments_in : Option MeetingLists → List Appointment
+appointments_in found = list_in (λ m. m.appointments) found
+
+-- its endings (section 330)
+abbrev pub endings_in : Option MeetingLists → List Ending
+endings_in found = list_in (λ m. m.endings) found
+
+-- its authorities (section 323)
+abbrev pub authorities_in : Option MeetingLists → List Authority
+authorities_in found = list_in (λ m. m.authorities) found
+
+-- its presences (section 318)
+abbrev pub presences_in : Option MeetingLists → List PresenceMark
+presences_in found = list_in (λ m. m.presences) found
+
+-- its demands (sections 321 and 329)
+abbrev pub demands_in : Option MeetingLists → List DemandMark
+demands_in found = list_in (λ m. m.demands) found
+
+-- its votes (sections 284 and 322)
+abbrev pub casts_in : Option MeetingLists → List CastMark
+casts_in found = list_in (λ m. m.casts) found
+
+-- its appointments that name a party (section 324)
+abbrev pub naming_in : Option MeetingLists → Party → List Appointment
+naming_in found party = filter (names party) (appointments_in found)
+
+-- those of them that a member gave
+abbrev pub naming_by_in : Option MeetingLists → Party → Party → List Appointment
+naming_by_in found member party = filter (is_given_by member) (naming_in found party)
+
+-- or of all, where no giver is named
+abbrev pub received_from : Option MeetingLists → Option Party → Party → List Appointment
+received_from found None party = naming_in found party
+received_from found (Some member) party = naming_by_in found member party
+
+-- its authorities that a party was given (section 323)
+abbrev pub trusting_in : Option MeetingLists → Party → List Authority
+trusting_in found party = filter (authorises party) (authorities_in found)
+
+-- those of them that a corporation gave
+abbrev pub trusting_for_in : Option MeetingLists → Party → Party → List Authority
+trusting_for_in found corporation party =
+    filter (is_authority_of corporation) (trusting_in found party)
+
+-- or of all, where no giver is named
+abbrev pub trusting_from : Option MeetingLists → Option Party → Party → List Authority
+trusting_from found None party = trusting_in found party
+trusting_from found (Some corporation) party = trusting_for_in found corporation party
+
+-- its votes that a party cast
+abbrev pub casts_by : Option MeetingLists → Party → List CastMark
+casts_by found party = filter (is_cast_by party) (casts_in found)
+
+-- a member, with its shares, its appointments and its endings
+abbrev pub member_at : Option MeetingLists → Party → MemberRows
+member_at found member = record {
+  member = member;
+  holding = holding_of (register_in found) (appointments_in found) (endings_in found) member;
+}
+
+-- appointments, and the members who gave them, each once
+abbrev pub with_members : Option MeetingLists → List Appointment → ReceivedRows
+with_members found received = record {
+  received = received;
+  members = map (member_at found) (givers received);
+}
+
+-- an authority, with its corporation's row in the register
+abbrev pub authority_at : Option MeetingLists → Authority → AuthorityRows
+authority_at found a = record { authority = a; row = row_of (register_in found) a.corporation }
+
+-- what a vote reads in each capacity: the party's own row, and its votes on that resolution
+abbrev pub for_member : Option MeetingLists → Party → Number → OwnRows
+for_member found party resolution = record (no_rows_of party) {
+  row = row_of (register_in found) party;
+  casts = cast_on resolution (casts_by found party);
+}

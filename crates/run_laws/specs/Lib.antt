@@ -1,9 +1,0 @@
-pub mod Isolation
-pub mod Parts
-pub mod Secrecy
-pub mod Traces
-pub mod Votes
-pub mod WrongCounts
-pub mod WrongMoments
-pub mod WrongTellings
-pub mod WrongWays

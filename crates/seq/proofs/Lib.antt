@@ -1,0 +1,10 @@
+pub mod Ascending
+pub mod Booleans
+pub mod ChangeFirst
+pub mod Differing
+pub mod Finding
+pub mod Inserting
+pub mod Kept
+pub mod Numbers
+pub mod Once
+pub mod SortingLemmas

@@ -1,0 +1,4 @@
+pub mod AssembledListLemmas
+pub mod AssembledOfficeLemmas
+pub mod AssembledOrderLemmas
+pub mod GivingLemmas

@@ -1,0 +1,4 @@
+pub mod Flat
+pub mod Grouping
+pub mod LoadResults
+pub mod OwnLists

@@ -1,0 +1,14 @@
+use Rattle.sqlite.specs.Held.{state}
+use Rattle.sql_lemmas.proofs.Commits.{writes_nothing}
+use Rattle.sql_desk_tables.proofs.TableKeyLemmas.{adds_key}
+use Rattle.sql_desk_tables.proofs.keys.add.Goals as goal
+
+pub returns-clause-added : goal.returns-clause-added
+returns-clause-added g c = λ clean inside desk.
+    adds_key c.args.key.now c.caller_text.result.now c.key_text.result.now
+    c.caller_text.ensures c.key_text.ensures
+    (state g.S.Store c.args.tx.now.conn.now) (state g.S.Store c.execute.new.self.conn.now) c.execute.result desk inside
+    (rw (c.params-to_sql.ensures, c.params-to_sql-2.ensures) at (c.execute.ensures.runs clean inside))
+
+pub returns-clause-commits : goal.returns-clause-commits
+returns-clause-commits g c = writes_nothing g.S.Store c.args.tx.now.conn.now c.execute.new.self.conn.now _ _ c.execute.result c.execute.ensures.ended c.execute.ensures.runs c.execute.ensures.survives

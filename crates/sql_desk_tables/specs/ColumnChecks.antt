@@ -1,0 +1,61 @@
+-- What asking for columns tells.
+use Rattle.std.specs.Prelude.{◌≡◌, ℕ, List, [], ◌∷◌, map, Result, Err, IsOk, IsTrue, OnOk}
+use Rattle.std.specs.List.{AllByRecursion}
+use Rattle.sqlite.specs.Held.{Held, state}
+use Rattle.sqlite.specs.Listing.{understood}
+use Rattle.sqlite.specs.Schema.{Schema}
+use Rattle.sqlite.specs.State.{HasCleanDisk, Survives}
+use Rattle.sqlite.specs.Table.{Table}
+use Rattle.sqlite_trees.specs.declared.store.Store as store
+use Rattle.sql_schema.specs.Tables.{desk_table, keys_table, closed_table, meetings_table, resolutions_table, register_table, appointments_table, endings_table, authorities_table, presences_table, demands_table, polls_table, casts_table, sessions_table, presences2_table, demands2_table, polls2_table, asked_two}
+use Rattle.sql_schema.specs.SqlTexts.{asking_text}
+use Rattle.sql_desk_tables.specs.declared.columns.ColumnError.{ColumnError}
+use Rattle.sql_desk_tables.specs.declared.columns.ColumnError.TheVariants.{Missing}
+
+-- the columns of the desk, of its meetings, and of their resolutions and registers
+abbrev pub meeting_columns : List (List ℕ)
+meeting_columns =
+    map asking_text
+    (desk_table ∷ keys_table ∷ closed_table ∷ meetings_table ∷ resolutions_table ∷ register_table
+    ∷ [])
+
+-- the columns of what is handed in
+abbrev pub paper_columns : List (List ℕ)
+paper_columns =
+    map asking_text
+    (appointments_table ∷ endings_table ∷ authorities_table ∷ presences_table ∷ [])
+
+-- the columns of demands, polls and votes
+abbrev pub poll_columns : List (List ℕ)
+poll_columns = map asking_text (demands_table ∷ polls_table ∷ casts_table ∷ [])
+
+-- the columns of the tables that version 2 adds
+abbrev pub session_columns : List (List ℕ)
+session_columns =
+    map asking_text (sessions_table ∷ presences2_table ∷ demands2_table ∷ polls2_table ∷ [])
+
+-- over tables of this schema each text is a statement
+abbrev pub AreUnderstood : Schema → List (List ℕ) → Type 0
+AreUnderstood schema texts = AllByRecursion (λ text. IsOk (understood schema text)) texts
+
+-- each column of these tables stands
+unfoldable pub HasColumnsOf : List Table → Schema → Type 0
+HasColumnsOf tables schema = AreUnderstood schema (map asking_text tables)
+
+-- each column that is read of a desk stands
+abbrev pub HasColumns : Schema → Type 0
+HasColumns = HasColumnsOf asked_two
+
+-- outside a transaction nothing is changed, and a crash leaves what it left before; the columns
+-- are told to stand where the store is open and the texts that name them are understood, and one is
+-- told to be missing where they are not
+pub record AsksFor {S T : Type 0} (g : store.Ghosts S) (old new : Held S) (texts : List (List ℕ))
+    (result : Result T ColumnError) : Type 0 where
+  pub crash : Survives (state g old) (state g new) (λ _. ⊥)
+  pub same : HasCleanDisk (state g new) → IsTrue (state g new).is_open
+      → IsTrue (state g old).is_open × ((state g new).now ≡ (state g old).now)
+  pub stand : HasCleanDisk (state g new)
+      → OnOk result (IsTrue (state g old).is_open × IsTrue (state g new).is_open
+      × AreUnderstood (state g old).now.schema texts)
+  pub missed : HasCleanDisk (state g new) → result ≡ Err Missing
+      → IsTrue (state g old).is_open × ¬ AreUnderstood (state g old).now.schema texts

@@ -1,0 +1,2 @@
+pub mod ColumnChecks
+pub mod Versions

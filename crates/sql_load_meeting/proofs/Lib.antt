@@ -1,0 +1,3 @@
+pub mod LoadedMeetingCountLemmas
+pub mod LoadedMeetingDayLemmas
+pub mod LoadedMeetingPartLemmas

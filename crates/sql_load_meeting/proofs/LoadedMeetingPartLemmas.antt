@@ -1,0 +1,40 @@
+-- A meeting with some of its lists, from what was told of each.
+use Rattle.std.proofs.Common.{◌≡◌, ℕ, Bool, true, false, ◌||◌, cond, List, Option, Some, None, IsTrue, refl, ap, ◌∙◌}
+use Rattle.std.specs.Cmp.{first_so}
+use Rattle.std.specs.Prelude.{option_map}
+use Rattle.desk_words.specs.Finding.{meeting_named}
+use Rattle.desk_words.specs.Office.{implies, is_office, no_rows, are_rows}
+use Rattle.desk_words.specs.Registers.{is_register}
+use Rattle.desk_words.specs.Sessions.{is_opened}
+use Rattle.desk_words.specs.declared.office.MeetingLists.{MeetingLists}
+use Rattle.desk_words.specs.declared.office.OfficeLists.{OfficeLists}
+use Rattle.desk_words.specs.declared.records.RegisterRow.{RegisterRow}
+use Rattle.desk_words.proofs.OfficeFacts.{found_facts}
+use Rattle.row_source.specs.LookUps.{register_in}
+use Rattle.sql_load_party.proofs.LoadedPartyMeetingLemmas.{the_same}
+
+module _ {X : Type 0} (before : MeetingLists → X) (after : MeetingLists → MeetingLists) where
+  -- where there is no meeting, nothing is made of it
+  pub none_so : (found : Option MeetingLists) → None ≡ option_map before found → None ≡ option_map after found
+  none_so None e = refl
+  none_so (Some m) e = absurd cc
+
+  -- what was told of a meeting, with a list more
+  pub joined : {Y : Type 0} (part : Option MeetingLists → Y) (join : X → Y → MeetingLists) → ((m : MeetingLists) → join (before m) (part (Some m)) ≡ after m)
+      → (found : Option MeetingLists) (x : X) (y : Y) → Some x ≡ option_map before found → y ≡ part found → Some (join x y) ≡ option_map after found
+  joined part join same None x y e is = absurd cc
+  joined part join same (Some m) x y e is = let its : x ≡ before m = the_same e in (λ i. Some (join (its i) (is i))) ∙ ap (λ (z : MeetingLists). Some z) (same m)
+
+-- a register that is loaded is one, and before that there are no rows
+rows_right : (loaded : Bool) (rows : List RegisterRow) → cond loaded (is_register rows) (no_rows rows) ≡ true → are_rows rows ≡ true
+rows_right true rows h = elim (no_rows rows) as (λ b. (b || is_register rows) ≡ true) [ true ↦ refl | false ↦ h ]
+rows_right false rows h = ap (λ b. b || is_register rows) h
+
+pub register_right : (office : OfficeLists) (id : List ℕ) → IsTrue (is_office office) → are_rows (register_in (meeting_named office.meetings id)) ≡ true
+register_right office id kept = go (meeting_named office.meetings id) refl
+  where
+    go : (found : Option MeetingLists) → meeting_named office.meetings id ≡ found → are_rows (register_in found) ≡ true
+    go None is = refl
+    go (Some m) is =
+        rows_right m.meeting.loaded m.register
+        (first_so (cond m.meeting.loaded (is_register m.register) (no_rows m.register)) (implies (is_opened m.meeting.first) m.meeting.loaded) (found_facts office id m kept is).loaded)

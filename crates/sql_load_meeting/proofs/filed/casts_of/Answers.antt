@@ -1,0 +1,12 @@
+use Rattle.std.proofs.Common.{refl}
+use Rattle.sql_schema.specs.Contents as table
+use Rattle.sql_model.proofs.ListChanges.{list_of}
+use Rattle.sql_model.proofs.Names.ListName.{Casts}
+use Rattle.sql_load_party.proofs.LoadedPartyFoundLemmas.{items_told}
+use Rattle.sql_load_party.proofs.LoadedPartyMeetingLemmas.{list_is}
+use Rattle.sql_load_meeting.proofs.filed.casts_of.Goals as goal
+
+pub returns-clause-told : goal.returns-clause-told
+returns-clause-told g c =
+    items_told g.S.Store c.args.tx.now.conn.now c.casts.new.tx.conn.now (λ v. v.items) table.casts (λ flat. flat.casts) (λ trees flat held. held.casts) _ c.casts.result c.casts.ensures.rows c.casts.ensures.changes
+    c.found.result c.found.ensures c.filed.result c.filed.ensures _ (λ flat office of kept. list_is (list_of Casts) refl flat office c.args.meeting of)

@@ -1,0 +1,12 @@
+use Rattle.std.proofs.Common.{refl}
+use Rattle.proxy_rules.specs.Holdings.{is_ended_of}
+use Rattle.sql_schema.specs.Contents as table
+use Rattle.sql_model.proofs.ListChanges.{list_of}
+use Rattle.sql_model.proofs.Names.ListName.{Endings}
+use Rattle.sql_load_party.proofs.LoadedPartyFoundLemmas.{items_told, received_so}
+use Rattle.sql_load_party.proofs.rows.ended_by.Goals as goal
+
+pub returns-clause-told : goal.returns-clause-told
+returns-clause-told g c =
+    items_told g.S.Store c.args.tx.now.conn.now c.made_by.new.tx.conn.now (λ v. v.items) table.endings (λ flat. flat.endings) (λ trees flat held. held.endings) _ c.made_by.result c.made_by.ensures.rows c.made_by.ensures.changes
+    c.found.result c.found.ensures c.items.result c.items.ensures _ (λ flat office of kept. received_so (list_of Endings) (λ l. refl) c.args.meeting (is_ended_of c.args.member) flat office of)

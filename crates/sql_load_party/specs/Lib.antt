@@ -1,0 +1,4 @@
+pub mod LookUpLaws
+pub mod LookUpSteps
+pub mod MeetingRecords
+pub mod TableLookUps

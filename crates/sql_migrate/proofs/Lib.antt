@@ -1,0 +1,2 @@
+pub mod MigratedMeaningLemmas
+pub mod MigratedMovingLemmas

@@ -1,0 +1,48 @@
+//! The move of tables of version 1 to version 2.
+ghost use Rattle.std.specs.Prelude.{◌≡◌};
+ghost use Rattle.sql_migrate.specs.Migration.{CopiesAll, DoesAll, EmptiesAll, MovesTables};
+ghost use Rattle.sql_schema.specs.Statements.{CommitsNothing};
+
+use crate::making::make_later;
+use sql_desk_tables::desk;
+use sql_meeting_tables::{demands, demands_one, polls, polls_one, presences, presences_one};
+use sqlite::{Alter, Error, Transaction};
+
+/// Copies presences, demands and polls into the tables of version 2.
+fn copy_tables<S: Alter>(tx: &mut Transaction<'_, S>) -> Result<(), Error>
+    ensures same_reference { tx.new.conn.ghost_name ≡ tx.old.conn.ghost_name }
+    ensures copied { DoesAll S.Store tx.old.conn.now tx.new.conn.now result
+        (CopiesAll S.Store tx.old.conn.now tx.new.conn.now) }
+    ensures commits { CommitsNothing S.Store tx.old.conn.now tx.new.conn.now }
+{
+    presences::copy(tx)?;
+    demands::copy(tx)?;
+    polls::copy(tx)?;
+    Ok(())
+}
+
+/// Takes out every row of the tables of version 1 that were copied.
+fn empty_tables<S: Alter>(tx: &mut Transaction<'_, S>) -> Result<(), Error>
+    ensures same_reference { tx.new.conn.ghost_name ≡ tx.old.conn.ghost_name }
+    ensures emptied { DoesAll S.Store tx.old.conn.now tx.new.conn.now result
+        (EmptiesAll S.Store tx.old.conn.now tx.new.conn.now) }
+    ensures commits { CommitsNothing S.Store tx.old.conn.now tx.new.conn.now }
+{
+    presences_one::empty(tx)?;
+    demands_one::empty(tx)?;
+    polls_one::empty(tx)?;
+    Ok(())
+}
+
+/// Moves the tables of version 1 to version 2: the new tables and indexes are made, presences,
+/// demands and polls stand in the new tables alone, and the version is noted. Nothing is committed.
+pub fn move_tables<S: Alter>(tx: &mut Transaction<'_, S>) -> Result<(), Error>
+    ensures same_reference { tx.new.conn.ghost_name ≡ tx.old.conn.ghost_name }
+    ensures moves { MovesTables S.Store tx.old.conn.now tx.new.conn.now result }
+{
+    make_later(tx)?;
+    copy_tables(tx)?;
+    empty_tables(tx)?;
+    desk::raise(tx)?;
+    Ok(())
+}

@@ -1,0 +1,11 @@
+pub mod FlatChanges
+pub mod ListChanges
+pub mod MeetingChanges
+pub mod ModelListLemmas
+pub mod ModelMovingLemmas
+pub mod ModelOfficeLemmas
+pub mod ModelRecordLemmas
+pub mod ModelSessionLemmas
+pub mod Names
+pub mod PollChanges
+pub mod SessionChanges

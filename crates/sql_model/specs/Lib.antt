@@ -1,0 +1,3 @@
+pub mod MigratedRecords
+pub mod OfficeRecords
+pub mod Standing

@@ -1,0 +1,13 @@
+pub mod CrashLemmas
+pub mod EmptyLemmas
+pub mod FaultLemmas
+pub mod MakingLemmas
+pub mod OneSchema
+pub mod OpenedAskingLemmas
+pub mod OpenedFoundLemmas
+pub mod OpenedKeptLemmas
+pub mod OpenedMoveLemmas
+pub mod OpeningLemmas
+pub mod OrderedOffice
+pub mod RisingLemmas
+pub mod WholeLemmas

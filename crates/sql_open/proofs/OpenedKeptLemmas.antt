@@ -1,0 +1,199 @@
+-- What is known of tables once their version was judged, whichever it is.
+use Rattle.std.proofs.Common.{◌≡◌, ◌≢◌, ◌⊎◌, true, [], IsTrue, refl, Ok, Err, Result, IfErr, IfOk, OnErr, OnOk, sym, ap, subst, ◌∙◌, inl, inr, arith}
+use Rattle.sqlite.specs.Effect.{Database}
+use Rattle.sqlite.specs.Held.{Held, state}
+use Rattle.sqlite.specs.State.{State, HasCleanDisk, IsLive, Survives}
+use Rattle.sqlite.specs.Tree.{Trees}
+use Rattle.sqlite.proofs.StateLemmas.{survives_then}
+use Rattle.sqlite_trees.specs.declared.store.Store as store
+use Rattle.desk_words.specs.declared.office.OfficeLists.{OfficeLists}
+use Rattle.sql_model.specs.MigratedRecords.{IsMoved}
+use Rattle.sql_model.specs.OfficeRecords.{are_left_empty, flat_one, flat_two}
+use Rattle.sql_model.specs.Standing.{HasNoVersion, IsVersion, IsVersionOf, one}
+use Rattle.sql_schema.specs.Contents as table
+use Rattle.sql_schema.specs.Contents.{demands_one, polls_one, presences_one}
+use Rattle.sql_schema.specs.CopiedRows.{Copied}
+use Rattle.sql_schema.specs.Tables.{desk_schema}
+use Rattle.sql_desk_tables.specs.ColumnChecks.{HasColumnsOf}
+use Rattle.sql_desk_tables.specs.Versions.{AreNoted, NotesVersion}
+use Rattle.sql_open.specs.Crashes.{AreMoved}
+use Rattle.sql_open.specs.Known.{AreOpened, IsMadeAs, ShowsKnown, WereOf, edition_of}
+use Rattle.sql_open.specs.OpeningByMigration.{MayMove}
+use Rattle.sql_open.specs.Opened.{IsWhyUnopened, KeepsOpenRows, StandsFor, StandsWhole, WereKnown}
+use Rattle.sql_open.specs.Opening.{IsFaultOf, IsNoDeskOf, IsOpenCause, ShowsLater}
+use Rattle.sql_open.specs.Rising.{RowsRise}
+use Rattle.sql_open.specs.WholeDesk.{IsWholeAs, OpensWhole}
+use Rattle.sql_open.specs.declared.fault.OpenFault.{OpenFault}
+use Rattle.sql_open.specs.declared.fault.OpenFault.TheVariants.{NotADesk, NewerVersion}
+use Rattle.sql_open.specs.declared.opening.HandedBack.TheVariants as back
+use Rattle.sql_open.specs.declared.version.KnownVersion.{KnownVersion}
+use Rattle.sql_open.specs.declared.version.KnownVersion.TheVariants.{One, Two}
+use Rattle.sql_open.proofs.FaultLemmas.{by_known, by_version}
+use Rattle.sql_open.proofs.RisingLemmas.{are_noted}
+use Rattle.sql_open.proofs.WholeLemmas.{no_fault_of_whole, notes_so, opens_whole, same_version}
+
+-- ---- the same tables
+
+-- tables that were moved were moved, whatever else is known of the stores
+pub moved_same : (a b c d : State) → a.now ≡ c.now → b.now ≡ d.now → IsMoved a b → IsMoved c d
+moved_same a b c d p q h = record {
+  schema = subst (λ (x : Database). x.schema ≡ desk_schema) q h.schema;
+  version = subst (λ (x : Database). IsVersion (record b { now = x })) q h.version;
+  sessions = subst (λ (x : Database). x.trees 29 ≡ []) q h.sessions;
+  presences = both (λ x y. Copied presences_one table.presences x.trees y.trees) h.presences;
+  demands = both (λ x y. Copied demands_one table.demands x.trees y.trees) h.demands;
+  polls = both (λ x y. Copied polls_one table.polls x.trees y.trees) h.polls;
+  left = subst (λ (x : Database). are_left_empty x.trees ≡ true) q h.left;
+  others = λ number stays. both (λ x y. y.trees number ≡ x.trees number) (h.others number stays);
+  records = both (λ x y. flat_two y.trees ≡ flat_one x.trees) h.records;
+}
+  where
+    both : (P : Database → Database → Type 0) → P a.now b.now → P c.now d.now
+    both P it = subst (λ x. P x d.now) p (subst (P a.now) q it)
+
+pub made_same : (known : KnownVersion) (s t : State) → s.now ≡ t.now → IsMadeAs known s.now.schema → IsMadeAs known t.now.schema
+made_same known s t same = subst (λ (d : Database). IsMadeAs known d.schema) same
+
+pub version_same : (known : KnownVersion) (s t : State) → s.now ≡ t.now → IsVersionOf (edition_of known) s → IsVersionOf (edition_of known) t
+version_same known s t same = subst (λ (d : Database). IsVersionOf (edition_of known) (record s { now = d })) same
+
+pub columns_same : (known : KnownVersion) (s t : State) → s.now ≡ t.now → HasColumnsOf (edition_of known).asked s.now.schema → HasColumnsOf (edition_of known).asked t.now.schema
+columns_same known s t same = subst (λ (d : Database). HasColumnsOf (edition_of known).asked d.schema) same
+
+pub none_same : (known : KnownVersion) (s t : State) → s.now ≡ t.now → IsNoDeskOf known s → IsNoDeskOf known t
+none_same known s t same = subst (λ (d : Database). IsNoDeskOf known (record s { now = d })) same
+
+pub opened_same : (known : KnownVersion) (s t new : State) → s.now ≡ t.now → AreOpened known s new → AreOpened known t new
+opened_same One s t new same h = λ made. moved_same s new t new same refl (h (made_same One t s (sym same) made))
+opened_same Two s t new same h = h ∙ same
+
+-- ---- tables whose version was told, and what was then told of them
+
+module _ {S : Type 0} (g : store.Ghosts S) (known : KnownVersion) (old told new : Held S) (live : IsLive (state g old))
+    (same : HasCleanDisk (state g told) → IsTrue (state g told).is_open → IsTrue (state g old).is_open × ((state g told).now ≡ (state g old).now)) (early : HasCleanDisk (state g new) → HasCleanDisk (state g told))
+    (noted : HasCleanDisk (state g told) → NotesVersion (state g old).now.schema → IsVersionOf (edition_of known) (state g old)) (shown : HasCleanDisk (state g told) → ShowsKnown g (state g old).now known) where
+  -- the tables that were told are those that were
+  as_told : HasCleanDisk (state g new) → IsTrue (state g told).is_open → (state g told).now ≡ (state g old).now
+  as_told clean is_open = (same (early clean) is_open).1
+
+  abbrev pub StandsIfTold : OfficeLists → Type 0
+  StandsIfTold office = IsMadeAs known (state g told).now.schema → IsVersionOf (edition_of known) (state g told) → StandsFor (state g told) (state g new) office known
+
+  stands_from : HasCleanDisk (state g new) → IsTrue (state g told).is_open → (office : OfficeLists) → StandsIfTold office → (k : KnownVersion) → IsMadeAs k (state g old).now.schema → IsVersionOf (edition_of k) (state g old)
+      → StandsFor (state g old) (state g new) office k
+  stands_from clean is_open office stands k made version =
+      let there_is = as_told clean is_open in
+      let here = noted (early clean) (notes_so k (state g old).now.schema made) in
+      let is : known ≡ k = same_version known k (state g old) here version in
+      let made_here : IsMadeAs known (state g old).now.schema = subst (λ j. IsMadeAs j (state g old).now.schema) (sym is) made in
+      let there = stands (made_same known (state g old) (state g told) (sym there_is) made_here) (version_same known (state g old) (state g told) (sym there_is) here) in
+      subst (λ j. StandsFor (state g old) (state g new) office j) is (subst (λ (d : Database). StandsFor (record (state g told) { now = d }) (state g new) office known) there_is there)
+
+  module _ (r : Result OfficeLists OpenFault) where
+    abbrev pub StandsTold : Type 0
+    StandsTold = HasCleanDisk (state g new) → IsMadeAs known (state g told).now.schema → IsVersionOf (edition_of known) (state g told) → IfOk r (λ office. StandsFor (state g told) (state g new) office known)
+
+    abbrev pub OpenedTold : Type 0 → Type 0
+    OpenedTold More = HasCleanDisk (state g new) → OnOk r (IsTrue (state g told).is_open × HasColumnsOf (edition_of known).asked (state g told).now.schema × More)
+
+  pub kept_stands : (r : Result OfficeLists OpenFault) (More : Type 0) → StandsTold r → OpenedTold r More → IfOk r (λ office. StandsWhole g old new office)
+  kept_stands (Ok office) More stands opened = λ clean. stands_from clean (opened clean).0 office (stands clean)
+  kept_stands (Err e) More stands opened = tt
+
+  pub kept_whole : (r : Result OfficeLists OpenFault) (More : Type 0) → StandsTold r → OpenedTold r More → OnOk r (OpensWhole g old new)
+  kept_whole (Ok office) More stands opened = λ clean was whole.
+      let is_open = (opened clean).0 in
+      opens_whole (state g old) (state g new) office live (same (early clean) is_open).0 (stands_from clean is_open office (stands clean)) was whole
+  kept_whole (Err e) More stands opened = tt
+
+  were_of : HasCleanDisk (state g new) → IsTrue (state g told).is_open → HasColumnsOf (edition_of known).asked (state g told).now.schema → WereOf g known (state g old)
+  were_of clean is_open columns = record {
+    shown = shown (early clean);
+    noted = noted (early clean);
+    columns = columns_same known (state g told) (state g old) (as_told clean is_open) columns;
+  }
+
+  -- what they became, where their version was noted
+  pub are_if_noted : HasCleanDisk (state g new) → IsTrue (state g told).is_open → (IsVersionOf (edition_of known) (state g told) → AreOpened known (state g told) (state g new)) → NotesVersion (state g old).now.schema
+      → AreOpened known (state g old) (state g new)
+  are_if_noted clean is_open are notes =
+      let there_is = as_told clean is_open in
+      opened_same known (state g told) (state g old) (state g new) there_is (are (version_same known (state g old) (state g told) (sym there_is) (noted (early clean) notes)))
+
+  pub are_as_told : HasCleanDisk (state g new) → IsTrue (state g told).is_open → AreOpened known (state g told) (state g new) → AreOpened known (state g old) (state g new)
+  are_as_told clean is_open are = opened_same known (state g told) (state g old) (state g new) (as_told clean is_open) are
+
+  pub kept_known : (r : Result OfficeLists OpenFault) (More : Type 0) → OpenedTold r More → (HasCleanDisk (state g new) → IsTrue (state g told).is_open → More → AreOpened known (state g old) (state g new)) → OnOk r (WereKnown g old new)
+  kept_known (Ok office) More opened are = λ clean. let it = opened clean in (known, were_of clean it.0 it.1, are clean it.0 it.2)
+  kept_known (Err e) More opened are = tt
+
+  pub kept_cause : (r : Result OfficeLists OpenFault)
+      → (HasCleanDisk (state g new) → r ≡ Err NotADesk → IsTrue (state g told).is_open × (IsVersionOf (edition_of known) (state g told) → IsNoDeskOf known (state g told)))
+      → r ≢ Err NewerVersion → IfErr r (λ fault. IsWhyUnopened g old fault (back.Connection new))
+  kept_cause (Ok office) none other = tt
+  kept_cause (Err fault) none other = record { cause = cause; newer = λ clean why. absurd (not_newer why); whole = λ clean office whole. no_fault_of_whole fault (state g old) office whole live (opened clean) (cause clean) }
+    where
+      as_one : (f : OpenFault) → fault ≡ f → ◌≡◌ {A = Result OfficeLists OpenFault} (Err fault) (Err f)
+      as_one f e = ap (λ (x : OpenFault). Err x) e
+
+      not_newer : fault ≢ NewerVersion
+      not_newer e = other (as_one NewerVersion e)
+
+      opened : HasCleanDisk (state g new) → (fault ≡ NotADesk) ⊎ (fault ≡ NewerVersion) → IsTrue (state g old).is_open
+      opened clean (inl e) = (same (early clean) (none clean (as_one NotADesk e)).0).0
+      opened clean (inr e) = absurd (not_newer e)
+
+      cause : HasCleanDisk (state g new) → NotesVersion (state g old).now.schema → IsOpenCause fault (state g old)
+      cause clean notes = by_known fault known (state g old) (noted (early clean) notes) not_newer λ e.
+          let it = none clean (as_one NotADesk e) in
+          let there_is = as_told clean it.0 in
+          none_same known (state g told) (state g old) there_is (it.1 (version_same known (state g old) (state g told) (sym there_is) (noted (early clean) notes)))
+
+  pub kept_rows : (r : Result OfficeLists OpenFault) → (HasCleanDisk (state g new) → IsTrue (state g new).is_open → OnErr r (IsTrue (state g told).is_open × ((state g new).now.trees ≡ (state g told).now.trees)))
+      → OnErr r (KeepsOpenRows g old new)
+  kept_rows (Ok office) kept = tt
+  kept_rows (Err e) kept = λ clean is_open. let it = kept clean is_open in it.1 ∙ ap (λ (d : Database). d.trees) (as_told clean it.0)
+
+module _ {S : Type 0} (g : store.Ghosts S) (old told new : Held S) (judged : Survives (state g old) (state g told) (λ _. ⊥)) where
+  -- of version 2 a crash leaves what it left before
+  pub survives_as_is : Survives (state g told) (state g new) (λ _. ⊥) → Survives (state g old) (state g new) (AreMoved g (state g old))
+  survives_as_is later = survives_then (state g old) (state g told) (state g new) (λ _. ⊥) (λ _. ⊥) (AreMoved g (state g old)) (λ _ _ none. absurd none) (λ _ _ none. absurd none) judged later
+
+  -- and of version 1 also the tables, moved
+  pub survives_moved : (same : HasCleanDisk (state g told) → IsTrue (state g told).is_open → IsTrue (state g old).is_open × ((state g told).now ≡ (state g old).now))
+      → (HasCleanDisk (state g told) → NotesVersion (state g old).now.schema → IsVersionOf one (state g old)) → (HasCleanDisk (state g told) → ShowsKnown g (state g old).now One)
+      → Survives (state g told) (state g new) (MayMove (state g told)) → Survives (state g old) (state g new) (AreMoved g (state g old))
+  survives_moved same noted shown later =
+      survives_then (state g old) (state g told) (state g new) (λ _. ⊥) (MayMove (state g told)) (AreMoved g (state g old)) (λ _ _ none. absurd none)
+      (λ clean db may.
+      let early : HasCleanDisk (state g told) = omega (arith, later.clean, clean) in
+      let there_is = (same early may.was_open).1 in
+      record {
+        were = record { shown = shown early; noted = noted early; columns = columns_same One (state g told) (state g old) there_is may.columns };
+        whole = λ office whole. may.whole office (subst (λ (d : Database). IsWholeAs One d.trees office) (sym there_is) whole);
+      })
+      judged later
+
+-- why their version was not told
+pub version_cause : {S : Type 0} (g : store.Ghosts S) (old new : Held S) (fault : OpenFault) → IsLive (state g old) → (HasCleanDisk (state g new) → RowsRise (state g old)) → (HasCleanDisk (state g new) → AreNoted (state g old) → IsFaultOf HasNoVersion fault (state g old))
+    → (HasCleanDisk (state g new) → fault ≡ NewerVersion → ShowsLater g (state g old).now) → (HasCleanDisk (state g new) → (fault ≡ NotADesk) ⊎ (fault ≡ NewerVersion) → IsTrue (state g old).is_open) → IsWhyUnopened g old fault (back.Connection new)
+version_cause g old new fault live rise cause newer was_open = record { cause = why; newer = newer; whole = λ clean office whole. no_fault_of_whole fault (state g old) office whole live (was_open clean) (why clean) }
+  where
+    why : HasCleanDisk (state g new) → NotesVersion (state g old).now.schema → IsOpenCause fault (state g old)
+    why clean notes = by_version fault (state g old) (cause clean (are_noted (state g old) notes (rise clean)))
+
+-- ---- tables that were opened once more
+
+module _ {S : Type 0} (g : store.Ghosts S) (conn opened : Held S) (same : (state g opened).now ≡ (state g conn).now) where
+  pub were_same : (known : KnownVersion) → WereOf g known (state g opened) → WereOf g known (state g conn)
+  were_same known were = record {
+    shown = subst (λ (d : Database). ShowsKnown g d known) same were.shown;
+    noted = λ notes. version_same known (state g opened) (state g conn) same (were.noted (subst (λ (d : Database). NotesVersion d.schema) (sym same) notes));
+    columns = columns_same known (state g opened) (state g conn) same were.columns;
+  }
+
+  pub are_moved_same : (db : Trees) → AreMoved g (state g opened) db → AreMoved g (state g conn) db
+  are_moved_same db moved = record { were = were_same One moved.were; whole = λ office whole. moved.whole office (subst (λ (d : Database). IsWholeAs One d.trees office) (sym same) whole) }
+
+  pub stands_as_opened : (new : State) (office : OfficeLists) (known : KnownVersion) → StandsFor (state g opened) new office known → StandsFor (state g conn) new office known
+  stands_as_opened new office known = subst (λ (d : Database). StandsFor (record (state g opened) { now = d }) new office known) same

@@ -1,0 +1,50 @@
+-- What the move of tables of version 1 promises, and what a crash leaves of it.
+use Rattle.std.specs.Prelude.{◌≡◌, ◌≢◌, Some, Result, Err, IfOk, IsTrue}
+use Rattle.sqlite.specs.Effect.{IsDatabase}
+use Rattle.sqlite.specs.Held.{Held, state}
+use Rattle.sqlite.specs.State.{State, HasCleanDisk, Survives}
+use Rattle.sqlite.specs.Tree.{Trees}
+use Rattle.sqlite_trees.specs.declared.store.Store as store
+use Rattle.desk_words.specs.declared.office.OfficeLists.{OfficeLists}
+use Rattle.sql_schema.specs.Statements.{WasOpen}
+use Rattle.sql_model.specs.MigratedRecords.{IsMoved}
+use Rattle.sql_model.specs.OfficeRecords.{office_one}
+use Rattle.sql_model.specs.Standing.{HasNoOfficeBy, Stands, one}
+use Rattle.sql_desk_tables.specs.ColumnChecks.{HasColumnsOf}
+use Rattle.sql_migrate.specs.Migration.{IsFirst}
+use Rattle.sql_open.specs.WholeDesk.{IsWhole, IsWholeAs}
+use Rattle.sql_open.specs.declared.fault.OpenFault.{OpenFault}
+use Rattle.sql_open.specs.declared.fault.OpenFault.TheVariants.{NotADesk, NewerVersion}
+use Rattle.sql_open.specs.declared.version.KnownVersion.TheVariants.{One}
+
+-- the tables stand for the office that tables of version 1 held, and are those, moved
+pub record HoldsMoved (old new : State) (office : OfficeLists) : Type 0 where
+  pub stands : Stands new office
+  pub sound : IsDatabase new.now
+  pub was : office_one old.now.trees ≡ Some office
+  pub moved : IsMoved old new
+
+-- in a transaction tables of version 1 are moved, and this is the office that they hold, or they
+-- hold none; nothing is committed
+pub record IsMove {S : Type 0} (g : store.Ghosts S) (old new : Held S)
+    (result : Result OfficeLists OpenFault) : Type 0 where
+  pub right : HasCleanDisk (state g new) → IsTrue (state g old).in_transaction
+      → IsFirst (state g old) → IfOk result (HoldsMoved (state g old) (state g new))
+  pub none : HasCleanDisk (state g new) → IsTrue (state g old).in_transaction
+      → IsFirst (state g old) → result ≡ Err NotADesk → HasNoOfficeBy one (state g old)
+  pub other : result ≢ Err NewerVersion
+  pub was_open : WasOpen (state g old) (state g new)
+  pub crash : Survives (state g old) (state g new) (λ _. ⊥)
+
+-- what is committed of tables of version 1: where they were an office, these are whole of the same
+abbrev pub MovesWhole : State → Trees → Type 0
+MovesWhole old db =
+    IsFirst old
+    → (office : OfficeLists) → office_one old.now.trees ≡ Some office → IsWhole db office
+
+-- the tables that are committed where tables of version 1 are moved: each column that is read of
+-- those stood, and where they were whole of an office, these are whole of the same
+pub record MayMove (old : State) (db : Trees) : Type 0 where
+  pub was_open : IsTrue old.is_open
+  pub columns : HasColumnsOf one.asked old.now.schema
+  pub whole : (office : OfficeLists) → IsWholeAs One old.now.trees office → IsWhole db office

@@ -1,0 +1,89 @@
+//! The tables of a desk that holds nothing yet.
+ghost use Rattle.std.specs.Prelude.{◌≡◌};
+ghost use Rattle.sql_migrate.specs.NewTables.{IsMaking};
+ghost use Rattle.sql_open.specs.NewDesk.{LeavesEmptyDesk};
+ghost use Rattle.sql_schema.specs.Tables.{desk_schema, no_schema, schema_one, up_to_casts};
+ghost use Rattle.sql_schema.specs.Tables.{up_to_presences, up_to_register};
+
+use sql_desk_tables::{closed, desk, keys, meetings, register, resolutions};
+use sql_meeting_tables::{
+    appointments, authorities, casts, demands_one, endings, indexes, polls_one, presences_one,
+};
+use sql_migrate::make_later;
+use sqlite::{Alter, Error, Transaction};
+
+/// Makes the tables of the desk, of its meetings, and of their resolutions and registers.
+fn make_meetings<S: Alter>(tx: &mut Transaction<'_, S>) -> Result<(), Error>
+    ensures same_reference { tx.new.conn.ghost_name ≡ tx.old.conn.ghost_name }
+    ensures made { IsMaking S.Store tx.old.conn.now tx.new.conn.now result
+        no_schema up_to_register }
+{
+    desk::make(tx)?;
+    keys::make(tx)?;
+    closed::make(tx)?;
+    meetings::make(tx)?;
+    resolutions::make(tx)?;
+    register::make(tx)?;
+    Ok(())
+}
+
+/// Makes the tables of what is handed in: appointments, endings, authorities and presences.
+fn make_papers<S: Alter>(tx: &mut Transaction<'_, S>) -> Result<(), Error>
+    ensures same_reference { tx.new.conn.ghost_name ≡ tx.old.conn.ghost_name }
+    ensures made { IsMaking S.Store tx.old.conn.now tx.new.conn.now result
+        up_to_register up_to_presences }
+{
+    appointments::make(tx)?;
+    endings::make(tx)?;
+    authorities::make(tx)?;
+    presences_one::make(tx)?;
+    Ok(())
+}
+
+/// Makes the tables of demands, polls and votes.
+fn make_polls<S: Alter>(tx: &mut Transaction<'_, S>) -> Result<(), Error>
+    ensures same_reference { tx.new.conn.ghost_name ≡ tx.old.conn.ghost_name }
+    ensures made { IsMaking S.Store tx.old.conn.now tx.new.conn.now result
+        up_to_presences up_to_casts }
+{
+    demands_one::make(tx)?;
+    polls_one::make(tx)?;
+    casts::make(tx)?;
+    Ok(())
+}
+
+/// Makes the indexes of these tables.
+fn make_indexes<S: Alter>(tx: &mut Transaction<'_, S>) -> Result<(), Error>
+    ensures same_reference { tx.new.conn.ghost_name ≡ tx.old.conn.ghost_name }
+    ensures made { IsMaking S.Store tx.old.conn.now tx.new.conn.now result
+        up_to_casts schema_one }
+{
+    indexes::make_appointments_by_proxy(tx)?;
+    indexes::make_authorities_by_person(tx)?;
+    indexes::make_demands_by_party(tx)?;
+    indexes::make_casts_by_voter(tx)?;
+    Ok(())
+}
+
+/// Makes the tables and indexes, all empty: first those that version 1 has already.
+fn make_tables<S: Alter>(tx: &mut Transaction<'_, S>) -> Result<(), Error>
+    ensures same_reference { tx.new.conn.ghost_name ≡ tx.old.conn.ghost_name }
+    ensures made { IsMaking S.Store tx.old.conn.now tx.new.conn.now result
+        no_schema desk_schema }
+{
+    make_meetings(tx)?;
+    make_papers(tx)?;
+    make_polls(tx)?;
+    make_indexes(tx)?;
+    make_later(tx)
+}
+
+/// Makes the tables of a desk that holds nothing, and notes their version.
+pub(crate) fn make_empty_desk<S: Alter>(tx: &mut Transaction<'_, S>) -> Result<(), Error>
+    ensures same_reference { tx.new.conn.ghost_name ≡ tx.old.conn.ghost_name }
+    ensures made { LeavesEmptyDesk S.Store tx.old.conn.now tx.new.conn.now result }
+{
+    make_tables(tx)?;
+    desk::add(tx)?;
+    Ok(())
+}

@@ -1,0 +1,11 @@
+use Rattle.sql_queries.proofs.Queries.{finds_rows, nothing_changed}
+use Rattle.sql_queries.proofs.AuthorityQueries.{naming_by}
+use Rattle.sql_queries.proofs.authorities.naming_by.Goals as goal
+
+pub returns-clause-rows : goal.returns-clause-rows
+returns-clause-rows g c = finds_rows g.S.Store c.args.tx.now.conn.now c.query_all.new.self.conn.now (λ v. v.items) c.query_all.result (naming_by c.args.meeting c.meeting_text.result.now c.args.corporation c.party_text.result.now c.args.person c.party_text-2.result.now c.meeting_text.ensures c.party_text.ensures c.party_text-2.ensures) (λ clean. rw (c.params-to_sql.ensures, c.params-to_sql-2.ensures, c.params-to_sql-3.ensures) at (c.query_all.ensures.ok clean))
+
+pub returns-clause-changes : goal.returns-clause-changes
+returns-clause-changes g c =
+    nothing_changed g.S.Store c.args.tx.now.conn.now c.query_all.new.self.conn.now (λ v. v.items) c.query_all.result (naming_by c.args.meeting c.meeting_text.result.now c.args.corporation c.party_text.result.now c.args.person c.party_text-2.result.now c.meeting_text.ensures c.party_text.ensures c.party_text-2.ensures) (λ clean. rw (c.params-to_sql.ensures, c.params-to_sql-2.ensures, c.params-to_sql-3.ensures) at (c.query_all.ensures.ok clean))
+    (λ clean. rw (c.params-to_sql.ensures, c.params-to_sql-2.ensures, c.params-to_sql-3.ensures) at (c.query_all.ensures.err clean)) c.query_all.ensures.survives

@@ -1,0 +1,4 @@
+pub mod InstructionLemmas
+pub mod RowColumnLemmas
+pub mod RowMeaningLemmas
+mod RowReadUpTo

@@ -1,0 +1,5 @@
+pub mod Contents
+pub mod CopiedRows
+pub mod SqlTexts
+pub mod Statements
+pub mod Tables

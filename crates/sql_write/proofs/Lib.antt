@@ -1,0 +1,9 @@
+pub mod MeetingAdded
+pub mod OpenLemmas
+pub mod Possible
+pub mod SessionAdded
+pub mod SetLemmas
+pub mod WrittenEntryLemmas
+pub mod WrittenMoveLemmas
+pub mod WrittenSessionLemmas
+pub mod WrittenTurnLemmas

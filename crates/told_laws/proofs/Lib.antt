@@ -1,5 +1,0 @@
-mod OfficeLemmas
-mod PickLemmas
-mod ReplayLemmas
-mod ResultLemmas
-mod TextLemmas

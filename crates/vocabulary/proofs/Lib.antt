@@ -1,0 +1,3 @@
+pub mod VocabularyNameLemmas
+pub mod VocabularyOrderLemmas
+pub mod VocabularyTextLemmas

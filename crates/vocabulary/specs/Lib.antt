@@ -1,0 +1,9 @@
+pub mod Identity
+pub mod Kinds
+pub mod Names
+pub mod OptionSteps
+pub mod PlaceAndTextLimits
+pub mod Places
+pub mod PlainTexts
+pub mod Refusals
+pub mod ResultSteps
