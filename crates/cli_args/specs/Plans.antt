@@ -1,6 +1,7 @@
 -- What the words of the program ask for.
 use Rattle.std.specs.Prelude.{◌≡◌, ⊤, ℕ, List, Option, Some, None, Result, Ok, Err, ok_or, bytes_eq, codes, if◌then◌else◌}
 use Rattle.std.specs.Str.Parse.{digits_value, without_leading_plus}
+use Rattle.vocabulary.specs.Agreement.{Agrees}
 use Rattle.vocabulary.specs.ResultSteps.{◌>>=◌}
 use Rattle.clap.specs.ValueTests.{is_unsigned_in}
 use Rattle.clap.specs.declared.error.kind.ErrorKind.{ErrorKind}
@@ -56,8 +57,7 @@ PlanErrAgrees fault.Memory answer = ⊤
 
 -- what was returned, as contracts see it, is the answer, unless memory ran out
 abbrev pub PlanAgrees : {X Y : Type 0} → (X → Y) → Result X WordsFault → Result Y Wrong → Type 0
-PlanAgrees seen (Ok x) answer = answer ≡ Ok (seen x)
-PlanAgrees seen (Err wrong) answer = PlanErrAgrees wrong answer
+PlanAgrees seen planned answer = Agrees Ok PlanErrAgrees seen planned answer
 
 -- the fault of words that `clap` refuses for this cause: their text, or want of memory
 abbrev pub IsRefused : ErrorKind → WordsFault → Type 0

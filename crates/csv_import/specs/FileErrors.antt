@@ -1,5 +1,6 @@
 -- What reading gives: a thing, or the first fault.
 use Rattle.std.specs.Prelude.{◌≡◌, ℕ, ⊤, Bool, true, false, List, Result, Ok, Err, codes}
+use Rattle.vocabulary.specs.Agreement.{Agrees}
 use Rattle.csv_import.specs.declared.fault.Why.{Why}
 use Rattle.csv_import.specs.declared.fault.Why.TheVariants as why
 use Rattle.csv_import.specs.declared.fault.FileError.{FileError}
@@ -20,14 +21,16 @@ why_word why.Key = codes "key"
 why_word why.Total = codes "total"
 why_word why.Day = codes "day"
 
--- what was returned, as contracts see it, is the answer; of want of memory nothing is said, and no
--- read can have failed
+-- the answer is that error; of want of memory nothing is said, and no read can have failed
+abbrev pub FileErrAgrees : {Y : Type 0} → FileError → Result Y FileError → Type 0
+FileErrAgrees (BadRow line why) answer = answer ≡ Err (BadRow line why)
+FileErrAgrees (Twice line) answer = answer ≡ Err (Twice line)
+FileErrAgrees ReadFault answer = ⊥
+FileErrAgrees Memory answer = ⊤
+
+-- what was returned, as contracts see it, is the answer
 abbrev pub FileAgrees : {X Y : Type 0} → (X → Y) → Result X FileError → Result Y FileError → Type 0
-FileAgrees seen (Ok x) answer = answer ≡ Ok (seen x)
-FileAgrees seen (Err (BadRow line why)) answer = answer ≡ Err (BadRow line why)
-FileAgrees seen (Err (Twice line)) answer = answer ≡ Err (Twice line)
-FileAgrees seen (Err ReadFault) answer = ⊥
-FileAgrees seen (Err Memory) answer = ⊤
+FileAgrees seen looked answer = Agrees Ok FileErrAgrees seen looked answer
 
 -- the fault is of the file's own records
 abbrev pub IsOfRecords : FileError → Type 0 → Type 0

@@ -43,6 +43,7 @@ pub use request::{
 };
 pub use seq::Listing;
 pub use vocabulary::{
-    Capacity, Company, HolderKind, Instr, MOST_PLACES, MeetingId, MeetingKind, Party, Range,
-    Refusal, ResKind, SecretKey, Text, TextFault, Way, read_key, read_meeting, read_party,
+    Capacity, Company, HolderKind, Instr, Instructions, MOST_INSTRUCTIONS, MOST_PLACES, MeetingId,
+    MeetingKind, Party, Range, Refusal, ResKind, SecretKey, Text, TextFault, Way, read_key,
+    read_meeting, read_party,
 };

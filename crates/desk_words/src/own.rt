@@ -2,10 +2,10 @@
 use crate::records::Appointment;
 use calendar::Moment;
 use seq::Listing;
-use vocabulary::{Instr, Party, Range};
+use vocabulary::{Instructions, Party, Range};
 
 /// An appointment that a party gave, with the moment of its ending if it is ended.
-#[derive(Clone, Drop)]
+#[derive(Clone, Copy)]
 pub struct Given {
     pub appointment: Appointment,
     pub ended: Option<Moment>,
@@ -37,7 +37,7 @@ pub struct Received {
     pub member: Party,
     pub range: Range,
     /// One instruction for each resolution (section 324A).
-    pub instructions: Listing<Instr>,
+    pub instructions: Instructions,
     /// When it was received.
     pub moment: Moment,
     /// What it governs in each session, in order.

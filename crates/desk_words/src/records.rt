@@ -8,7 +8,8 @@ use calendar::{Day, Moment};
 use keyed_seq::FiledBy;
 use seq::{Keyed, Listing};
 use vocabulary::{
-    Capacity, Company, HolderKind, Instr, MeetingId, MeetingKind, Party, Range, ResKind, Text, Way,
+    Capacity, Company, HolderKind, Instructions, MeetingId, MeetingKind, Party, Range, ResKind,
+    Text, Way,
 };
 
 /// A resolution of which notice was given (section 283(6)).
@@ -81,7 +82,7 @@ impl Keyed for RegisterRow {
 }
 
 /// An appointment of a proxy over a block of the member's shares (section 324).
-#[derive(Clone, Drop)]
+#[derive(Clone, Copy)]
 pub struct Appointment {
     pub member: Party,
     /// The member's own count: 1, 2, .. in order of receipt.
@@ -89,7 +90,7 @@ pub struct Appointment {
     pub proxy: Party,
     pub range: Range,
     /// One instruction for each resolution (section 324A).
-    pub instructions: Listing<Instr>,
+    pub instructions: Instructions,
     /// When it was received.
     pub moment: Moment,
 }

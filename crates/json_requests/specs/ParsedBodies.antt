@@ -1,5 +1,6 @@
 -- What reading a body gives: a thing, or nothing where the body is unreadable.
 use Rattle.std.specs.Prelude.{◌≡◌, Bool, true, false, Option, Some, None, Result, Ok, Err}
+use Rattle.vocabulary.specs.Agreement.{Agrees}
 use Rattle.vocabulary.specs.declared.refusal.Refusal.TheVariants.{Unreadable as NotRead}
 use Rattle.json_requests.specs.declared.ask.Ask.{Ask}
 use Rattle.json_requests.specs.declared.ask.Ask.TheVariants as ask
@@ -13,8 +14,7 @@ BodyErrAgrees Memory read = Unit {0}
 
 -- what was returned, as contracts see it, is what was read, unless memory ran out
 abbrev pub BodyAgrees : {X Y : Type 0} → (X → Y) → Result X BodyError → Option Y → Type 0
-BodyAgrees seen (Ok x) read = read ≡ Some (seen x)
-BodyAgrees seen (Err unread) read = BodyErrAgrees unread read
+BodyAgrees seen result read = Agrees Some BodyErrAgrees seen result read
 
 -- what is not read is refused as unreadable
 abbrev pub ask_of : BodyError → Ask

@@ -1,5 +1,7 @@
 -- What is made of records, and why nothing is.
 use Rattle.std.specs.Prelude.{◌≡◌, Bool, true, false, Option, Some, Result, Ok, Err}
+use Rattle.vocabulary.specs.Agreement.{Agrees}
+use Rattle.vocabulary.specs.Identity.{id}
 use Rattle.sqlite.specs.declared.error.Error.{Error}
 use Rattle.sqlite.specs.declared.error.Error.TheVariants.{SqliteFailure}
 use Rattle.sqlite.specs.declared.error.ErrorCode.TheVariants.{OutOfMemory}
@@ -26,8 +28,7 @@ ReadErrAgrees right Memory said = Unit {0}
 
 -- what is given is what is said; where that is no office, it is nothing, or not right
 abbrev pub ReadAgrees : {X : Type 0} → (X → Bool) → Result X LoadError → Option X → Type 0
-ReadAgrees right (Ok x) said = said ≡ Some x
-ReadAgrees right (Err fault) said = ReadErrAgrees right fault said
+ReadAgrees right read said = Agrees Some (ReadErrAgrees right) id read said
 
 -- whatever is said is right
 abbrev pub any_at_all : {X : Type 0} → X → Bool

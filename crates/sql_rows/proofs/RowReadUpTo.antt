@@ -1,6 +1,6 @@
 use Rattle.std.proofs.Common.{◌≡◌, ℕ, List, ◌++◌, drop, Option, Some, None}
 use Rattle.sql_rows.specs.Meanings.{all_meanings}
-use Rattle.sql_rows.specs.InstructionLetters.{instructions_of}
+use Rattle.sql_rows.specs.InstructionLetters.{each_instruction_of}
 use Rattle.sqlite.specs.Order.{Row}
 use Rattle.vocabulary.specs.declared.kinds.Instr.{Instr}
 
@@ -15,4 +15,4 @@ pub record AreReadUpTo {A : Type 0} (means : Row → Option A) (rows : List Row)
 
 -- of the letters, those before an index are read
 pub record AreLettersUpTo (letters : List ℕ) (found : List Instr) (i : ℕ) : Type 0 where
-  pub so_far : instructions_of letters ≡ onto found (instructions_of (drop i letters))
+  pub so_far : each_instruction_of letters ≡ onto found (each_instruction_of (drop i letters))

@@ -2,6 +2,7 @@
 use Rattle.std.specs.Prelude.{ℕ, ◌==◌, List, [], ◌∷◌, Option, Some, None, if◌then◌else◌}
 use Rattle.vocabulary.specs.declared.kinds.Instr.{Instr}
 use Rattle.vocabulary.specs.declared.kinds.Instr.TheVariants.{For, Against, Withheld, Free}
+use Rattle.vocabulary.specs.InstructionPlaces.{as_instructions}
 use Rattle.vocabulary.specs.OptionSteps.{◌>>=◌}
 
 -- the letter of an instruction: F, A, W, or - where it is free
@@ -20,10 +21,16 @@ instruction_of_letter letter =
     else if letter == 45 then Some Free
     else None
 
--- the instructions of some letters
-abbrev pub instructions_of : List ℕ → Option (List Instr)
-instructions_of [] = Some []
-instructions_of (letter ∷ letters) = do
+-- the instruction of each letter
+abbrev pub each_instruction_of : List ℕ → Option (List Instr)
+each_instruction_of [] = Some []
+each_instruction_of (letter ∷ letters) = do
   first ← instruction_of_letter letter
-  rest ← instructions_of letters
+  rest ← each_instruction_of letters
   Some (first ∷ rest)
+
+-- the instructions of at most `MOST_INSTRUCTIONS` letters
+abbrev pub instructions_of : List ℕ → Option (List Instr)
+instructions_of letters = do
+  each ← each_instruction_of letters
+  as_instructions each

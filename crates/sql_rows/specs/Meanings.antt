@@ -1,5 +1,6 @@
 -- What rows mean: a thing, or nothing.
 use Rattle.std.specs.Prelude.{◌≡◌, List, [], ◌∷◌, Option, Some, None, Result, Ok, Err, Bool, true, false}
+use Rattle.vocabulary.specs.Agreement.{Agrees}
 use Rattle.vocabulary.specs.OptionSteps.{◌>>=◌}
 use Rattle.sqlite.specs.Order.{Row}
 use Rattle.sql_rows.specs.declared.fault.RowError.{RowError}
@@ -12,14 +13,13 @@ RowErrAgrees Memory meaning = Unit {0}
 
 -- what was returned, as contracts see it, is what is meant, unless memory ran out
 abbrev pub RowAgrees : {X Y : Type 0} → (X → Y) → Result X RowError → Option Y → Type 0
-RowAgrees seen (Ok x) meaning = meaning ≡ Some (seen x)
-RowAgrees seen (Err fault) meaning = RowErrAgrees fault meaning
+RowAgrees seen read meaning = Agrees Some RowErrAgrees seen read meaning
 
 -- what was returned, as contracts see it, is what is meant, and where that is nothing it is told as
 -- unreadable; no memory is asked for
 abbrev pub RowAgreesExactly : {X Y : Type 0} → (X → Y) → Result X RowError → Option Y → Type 0
-RowAgreesExactly seen (Ok x) meaning = meaning ≡ Some (seen x)
-RowAgreesExactly seen (Err fault) meaning = (fault ≡ Unreadable) × (meaning ≡ None)
+RowAgreesExactly seen read meaning =
+    Agrees Some (λ fault meaning. (fault ≡ Unreadable) × (meaning ≡ None)) seen read meaning
 
 -- what each row means, or nothing where one of them means nothing
 abbrev pub all_meanings : {A : Type 0} → (Row → Option A) → List Row → Option (List A)

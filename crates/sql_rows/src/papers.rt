@@ -12,12 +12,12 @@ use crate::fault::RowError;
 use crate::instructions::instructions_of;
 use crate::kept::InMeeting;
 use crate::list::FromRow;
-use desk_words::{Appointment, Authority, Ending, Instr, Listing, Range};
+use desk_words::{Appointment, Authority, Ending, Instructions, Range};
 use sqlite::Row;
 use std::alloc::Global;
 
 #[tactic(auto, unfolding(crate::specs::ColumnValues::parsed_in))]
-fn instructions_in(alloc: Global, row: &Row, at: usize) -> Result<Listing<Instr>, RowError>
+fn instructions_in(alloc: Global, row: &Row, at: usize) -> Result<Instructions, RowError>
     ensures { RowAgrees id result (parsed_in instructions_of row.now at) }
 {
     instructions_of(alloc, bytes_in(row, at)?)

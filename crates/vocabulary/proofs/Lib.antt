@@ -1,3 +1,4 @@
+pub mod VocabularyInstructionLemmas
 pub mod VocabularyNameLemmas
 pub mod VocabularyOrderLemmas
 pub mod VocabularyTextLemmas

@@ -1,4 +1,6 @@
+pub mod Agreement
 pub mod Identity
+pub mod InstructionPlaces
 pub mod Kinds
 pub mod Names
 pub mod OptionSteps

@@ -10,7 +10,7 @@ pub returns : goal.returns
 returns c =
     let from = seen_as decimal_data c.from.ensures.value c.in_ok-put_number.ensures in
     let governs = seen_as (array_of run_data) (c.last_votes.ensures ∙ ap last_votes c.as_slice.ensures) c.in_ok-put_list.ensures in
-    let instructions = seen_as (array_of instruction_data) c.as_slice-2.ensures c.in_ok-put_list-2.ensures in
+    let instructions = seen_as (array_of instruction_data) c.as_slice-2.ensures.value c.in_ok-put_list-2.ensures in
     let member = seen_as string c.as_str.ensures.value c.in_ok-put_text.ensures in
     let polls = seen_as (array_of poll_governed_data) c.as_slice-3.ensures c.in_ok-put_list-3.ensures in
     on_ok_weaker c.put_shown.result (λ rest. then from (then governs (then instructions (then member (then polls rest))))) c.put_shown.ensures

@@ -1,10 +1,11 @@
-use Rattle.std.proofs.Common.{◌≡◌, map, string_bytes, arith}
-use Rattle.std.proofs.lemmas.Grind.{common_steps}
-use Rattle.sql_rows.specs.InstructionLetters.{instruction_letter}
+use Rattle.std.proofs.Common.{◌≡◌, map, Some, ap, ◌∙◌, string_bytes}
+use Rattle.std.proofs.lemmas.Result.{IfOk-weaker}
+use Rattle.sql_rows.specs.InstructionLetters.{instruction_letter, instructions_of}
 use Rattle.sql_rows.proofs.InstructionLemmas.{letters_read}
 use Rattle.sql_rows.proofs.instructions.letters_of.Goals as goal
 
 pub returns-clause-read_back : goal.returns-clause-read_back
 returns-clause-read_back c =
-    let all : string_bytes c.loop-instruction.letters ≡ map instruction_letter c.args.instructions.now = grind (arith, common_steps) in
-    rw all (letters_read c.args.instructions.now)
+    let kinds = c.args.instructions.now in
+    IfOk-weaker c.each_letter.result (λ s. string_bytes s ≡ map instruction_letter c.as_slice.result.now) (λ s. instructions_of (string_bytes s) ≡ Some kinds)
+    (λ s spelled. ap instructions_of (spelled ∙ ap (map instruction_letter) c.as_slice.ensures.value) ∙ letters_read kinds c.as_slice.ensures.kept) c.each_letter.ensures
