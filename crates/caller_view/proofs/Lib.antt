@@ -1,3 +1,4 @@
 mod PartyCastLemmas
 pub mod PartyReadLemmas
+pub mod PublicReadLemmas
 mod RightsLemmas

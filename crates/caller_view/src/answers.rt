@@ -71,8 +71,8 @@ fn mine(
 
 /// The answer to a party: a function of what it may see, the moment and the request. It is refused
 /// as `NoMeeting` where there is no meeting, and else as its request is. The own things are taken,
-/// since the reply may be made of them. The error is want of memory: a notice, own things and an
-/// appointment that is recorded take some, and nothing else does.
+/// since the reply may be made of them. The error is want of memory: a notice and own things take
+/// some, and nothing else does.
 pub fn answer(
     alloc: Global,
     public: &PublicRecord,
@@ -91,7 +91,7 @@ pub fn answer(
     match asked {
         PartyRequest::Notice => { Ok(tell(Reply::Notice(notice_in(alloc, public, meeting, now)?))) }
         PartyRequest::Mine => { Ok(tell(Reply::Mine(mine(alloc, public, meeting, own, now)?))) }
-        PartyRequest::Appoint(new) => appoint(public, meeting, &own, now, new),
+        PartyRequest::Appoint(new) => Ok(appoint(public, meeting, &own, now, new)),
         PartyRequest::End(number) => Ok(end(&own, now, *number)),
         PartyRequest::Authorise(person) => Ok(authorise(&own, now, *person)),
         PartyRequest::Attend => Ok(attend(meeting, &own, now)),

@@ -1,19 +1,20 @@
 //! The answers to a party that gives or ends an appointment of a proxy.
-ghost use Rattle.std.specs.Prelude.{◌≡◌, ◌==◌, true, IfOk, IsOk, find};
+ghost use Rattle.std.specs.Prelude.{◌≡◌, ◌==◌, None, Some, MatchResult, find, length, if◌then◌else◌};
 ghost use Rattle.std.specs.Option.{option_copied};
 ghost use Rattle.desk_words.specs.Refusals.{first_refusal};
-ghost use Rattle.desk_words.specs.Rulings.{refuses, ruled_answer};
+ghost use Rattle.desk_words.specs.Rulings.{ruled_answer};
+ghost use Rattle.desk_words.specs.declared.change.Entry.TheVariants as entry;
 ghost use Rattle.desk_words.specs.declared.own.Given.{Given};
+ghost use Rattle.desk_words.specs.declared.reply.Reply.TheVariants as reply;
 ghost use Rattle.caller_view.specs.AppointmentRulings.{appoint_range_cases, appoint_ruling, appointment_of, end_cases, end_ruling, given_numbered, use_by};
 
 use crate::answers::cutoff_in;
 use desk_words::limits::MOST_APPOINTMENTS;
 use desk_words::{
-    Answer, Appointment, AppointmentReceipt, AppointmentUse, Ending, Entry, Given, Instr, Listing,
-    Meeting, Moment, NewAppointment, Range, Refusal, Reply, refuse,
+    Answer, Appointment, AppointmentReceipt, AppointmentUse, Ending, Entry, Given, Instr,
+    Instructions, Meeting, Moment, NewAppointment, Range, Refusal, Reply, refuse,
 };
 use party_views::{OwnView, PublicRecord};
-use std::alloc::AllocError;
 
 /// What an appointment of a moment counts for, where the last session has that cutoff.
 pub(crate) fn use_by(cutoff: Moment, moment: Moment) -> AppointmentUse
@@ -26,26 +27,39 @@ pub(crate) fn use_by(cutoff: Moment, moment: Moment) -> AppointmentUse
     }
 }
 
-/// Why an appointment over a range of places is not recorded.
-fn appoint_refusal(meeting: &Meeting, own: &OwnView, new: &NewAppointment) -> Option<Refusal>
-    ensures { result ≡ first_refusal (appoint_range_cases meeting.now own.now new.now) }
+/// The instructions, or none where there is not one for each resolution of the meeting.
+fn one_for_each(meeting: &Meeting, instructions: &[Instr]) -> Option<Instructions>
+    ensures { result ≡ (if length instructions.now == length meeting.now.resolutions
+        then Some instructions.now else None) }
 {
-    if new.proxy.is(own.party) {
-        return Some(Refusal::SelfNamed);
+    if instructions.len() != meeting.resolutions.as_slice().len() {
+        return None;
     }
-    if new.instructions.len() != meeting.resolutions.as_slice().len() {
-        return Some(Refusal::BadInstructions);
-    }
-    if own.given.len() >= MOST_APPOINTMENTS {
-        return Some(Refusal::TooMany);
-    }
-    None
+    Instructions::new(instructions)
 }
 
-fn copy_instructions(instructions: &Listing<Instr>) -> Result<Listing<Instr>, AllocError>
-    ensures { IfOk result (λ l. l ≡ instructions.now) }
+/// The instructions of an appointment over a range of places, or why it is not recorded.
+fn unless_refused(
+    meeting: &Meeting,
+    own: &OwnView,
+    new: &NewAppointment,
+) -> Result<Instructions, Refusal>
+    ensures { MatchResult result
+        (λ instructions. (instructions ≡ new.now.instructions)
+        × (first_refusal (appoint_range_cases meeting.now own.now new.now) ≡ None))
+        (λ refusal. first_refusal (appoint_range_cases meeting.now own.now new.now)
+        ≡ Some refusal) }
 {
-    instructions.clone()
+    if new.proxy.is(own.party) {
+        return Err(Refusal::SelfNamed);
+    }
+    let Some(instructions) = one_for_each(meeting, new.instructions.as_slice()) else {
+        return Err(Refusal::BadInstructions);
+    };
+    if own.given.len() >= MOST_APPOINTMENTS {
+        return Err(Refusal::TooMany);
+    }
+    Ok(instructions)
 }
 
 fn new_appointment(
@@ -53,66 +67,61 @@ fn new_appointment(
     now: Moment,
     new: &NewAppointment,
     range: Range,
-) -> Result<Appointment, AllocError>
-    requires { range ≡ record { from = new.now.from; to = new.now.to } }
-    ensures { IfOk result (λ a. a ≡ appointment_of own.now now new.now) }
+    instructions: Instructions,
+) -> Appointment
+    requires range { range ≡ record { from = new.now.from; to = new.now.to } }
+    requires instructions { instructions ≡ new.now.instructions }
+    ensures { result ≡ appointment_of own.now now new.now }
 {
-    Ok(Appointment {
+    Appointment {
         member: own.party,
         number: own.given.as_slice().len() as u64 + 1,
         proxy: new.proxy,
         range,
-        instructions: copy_instructions(&new.instructions)?,
+        instructions,
         moment: now,
-    })
+    }
 }
 
-fn appointed(
-    public: &PublicRecord,
-    meeting: &Meeting,
-    own: &OwnView,
-    now: Moment,
-    new: &NewAppointment,
-    range: Range,
-) -> Result<Answer<Entry>, AllocError>
-    requires { range ≡ record { from = new.now.from; to = new.now.to } }
-    ensures { IfOk result
-        (λ a. a ≡ (appoint_ruling public.now meeting.now own.now now new.now).accepted) }
+/// The answer that records an appointment.
+fn appointed(used: AppointmentUse, appointment: Appointment) -> Answer<Entry>
+    ensures { result ≡ record {
+      reply = reply.Appointed (record { number = appointment.number; used = used });
+      change = Some (entry.Appointment appointment);
+    } }
 {
-    let appointment = new_appointment(own, now, new, range)?;
-    Ok(Answer {
+    Answer {
         reply: Reply::Appointed(AppointmentReceipt {
             number: appointment.number,
-            used: use_by(cutoff_in(public, meeting, now), now),
+            used,
         }),
         change: Some(Entry::Appointment(appointment)),
-    })
+    }
 }
 
 /// The answer to a party that appoints a proxy over some of its own shares (sections 324 and 324A):
 /// the first that holds of `BadRange`, `SelfNamed` where it names itself, `BadInstructions` where
 /// there is not one for each resolution, and `TooMany` where it gave `MOST_APPOINTMENTS` in the
 /// meeting; and else `Appointed` with its next number, which enters the appointment. The register
-/// is not looked at. The error is want of memory; a refusal takes none.
+/// is not looked at.
 pub(crate) fn appoint(
     public: &PublicRecord,
     meeting: &Meeting,
     own: &OwnView,
     now: Moment,
     new: &NewAppointment,
-) -> Result<Answer<Entry>, AllocError>
-    ensures answer { IfOk result (λ a. a ≡ ruled_answer
-        (appoint_ruling public.now meeting.now own.now now new.now)) }
-    ensures sure { refuses (appoint_ruling public.now meeting.now own.now now new.now) ≡ true
-        → IsOk result }
+) -> Answer<Entry>
+    ensures { result ≡ ruled_answer (appoint_ruling public.now meeting.now own.now now new.now) }
 {
     let Some(range) = Range::new(new.from, new.to) else {
-        return Ok(refuse(Refusal::BadRange));
+        return refuse(Refusal::BadRange);
     };
-    if let Some(refusal) = appoint_refusal(meeting, own, new) {
-        return Ok(refuse(refusal));
-    }
-    appointed(public, meeting, own, now, new, range)
+    let instructions = match unless_refused(meeting, own, new) {
+        Ok(instructions) => instructions,
+        Err(refusal) => return refuse(refusal),
+    };
+    let used = use_by(cutoff_in(public, meeting, now), now);
+    appointed(used, new_appointment(own, now, new, range, instructions))
 }
 
 fn find_given(given: &[Given], number: u64) -> Option<&Given>

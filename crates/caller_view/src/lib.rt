@@ -5,6 +5,7 @@ mod answers;
 mod appointments;
 mod attendance;
 mod casts;
+pub mod laws;
 mod notices;
 mod rights;
 

@@ -4,7 +4,6 @@ ghost use Rattle.proxy_rules.specs.Holdings.{is_given_by};
 ghost use Rattle.proxy_rules.specs.Parties.{names};
 
 use desk_words::{Appointment, Filed, Listing, Party};
-use proxy_rules::copies_at;
 use std::alloc::{AllocError, Global};
 
 /// The appointments that name a party as their proxy, in order of receipt.
@@ -15,14 +14,8 @@ pub(crate) fn naming(
 ) -> Result<Listing<Appointment>, AllocError>
     ensures { IfOk result (λ received. received ≡ filter (names party) appointments.now) }
 {
-    let places = appointments.places_by_second(party);
-    copies_at(alloc, appointments.as_slice(), places)
-}
-
-fn copy_appointment(appointment: &Appointment) -> Result<Appointment, AllocError>
-    ensures { IfOk result (λ a. a ≡ appointment.now) }
-{
-    appointment.clone()
+    let received = appointments.by_second(alloc, party)?;
+    Ok(Listing::from_vec(received))
 }
 
 /// Those of them that a member gave.
@@ -38,9 +31,9 @@ pub(crate) fn naming_by(
     let all = appointments.as_slice();
     let mut found = Listing::new(alloc);
     for place in appointments.places_by_first(member) {
-        let appointment = &all[*place];
+        let appointment = all[*place];
         if appointment.proxy.is(party) {
-            found.push(copy_appointment(appointment)?)?;
+            found.push(appointment)?;
         }
     }
     Ok(found)

@@ -1,3 +1,4 @@
+pub mod CountedLemmas
 pub mod FindLemmas
 pub mod Numbering
 pub mod OwnLemmas

@@ -11,7 +11,7 @@ mod roles;
 pub use demand::{Demand, demand_reached};
 pub use desk_words::{carried, result_of};
 pub use proxy_rules::{
-    Cutoffs, GovernedPiece, Holding, Papers, Use, copies_at, cutoffs, given_by, governed,
-    governing, is_late_poll, shares,
+    Cutoffs, GovernedPiece, Holding, Papers, Use, cutoffs, given_by, governed, governing,
+    is_late_poll, shares,
 };
 pub use qualifying::quorum;

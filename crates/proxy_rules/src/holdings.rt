@@ -1,6 +1,5 @@
 //! One member's shares, with what was received of its appointments.
-ghost use Rattle.std.specs.Prelude.{◌≡◌, ◌<◌, true, All, IfOk, filter, length, nat_le};
-ghost use Rattle.std.specs.List.{filter_map, slice_get};
+ghost use Rattle.std.specs.Prelude.{◌≡◌, true, IfOk, filter, nat_le};
 ghost use Rattle.proxy_rules.specs.Holdings.{IsValidHolding, are_numbered_from, are_tags, holding_by, holding_of, holding_with, is_ended_of, is_given_by, is_valid_holding};
 
 use crate::governor::shares_by;
@@ -21,28 +20,6 @@ pub struct Holding {
     pub ended: Listing<Ending>,
 }
 
-fn copy_appointment(appointment: &Appointment) -> Result<Appointment, AllocError>
-    ensures { IfOk result (λ copy. copy ≡ appointment.now) }
-{
-    appointment.clone()
-}
-
-/// Copies of the appointments at the places. The error is want of memory.
-pub fn copies_at(
-    alloc: Global,
-    appointments: &[Appointment],
-    places: &[usize],
-) -> Result<Listing<Appointment>, AllocError>
-    requires { All (λ place. place < length appointments.now) places.now }
-    ensures { IfOk result (λ copies. copies ≡ filter_map (slice_get appointments.now) places.now) }
-{
-    let mut copies = Vec::with_capacity(alloc, places.len())?;
-    for place in places {
-        copies.push(copy_appointment(&appointments[*place])?)?;
-    }
-    Ok(Listing::from_vec(copies))
-}
-
 /// A member's appointments, in order of receipt. The error is want of memory.
 pub fn given_by(
     alloc: Global,
@@ -51,8 +28,8 @@ pub fn given_by(
 ) -> Result<Listing<Appointment>, AllocError>
     ensures { IfOk result (λ given. given ≡ filter (is_given_by member) appointments.now) }
 {
-    let places = appointments.places_by_first(member);
-    copies_at(alloc, appointments.as_slice(), places)
+    let given = appointments.by_first(alloc, member)?;
+    Ok(Listing::from_vec(given))
 }
 
 /// A member's endings, in order of receipt.

@@ -17,7 +17,7 @@ mod runs;
 pub use authorities::authorised_by;
 pub use cutoff::{Use, cutoffs, is_late_poll};
 pub use governor::governing;
-pub use holdings::{Holding, copies_at, given_by};
+pub use holdings::{Holding, given_by};
 pub use instructions::{allows, instructed_on};
 pub use papers::{Cutoffs, Papers};
 pub use pieces::{GovernedPiece, held};

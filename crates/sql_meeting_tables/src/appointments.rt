@@ -37,7 +37,7 @@ pub fn add<S: Alter>(
 {
     let number = whole(appointment.number)?;
     let (first, last) = range_numbers(appointment.range);
-    let letters = letters_of(alloc, appointment.instructions.as_slice())?;
+    let letters = letters_of(alloc, &appointment.instructions)?;
     tx.execute(
         "INSERT INTO appointments (meeting, member, number, proxy, first, last, instructions, moment) VALUES (?1, ?2, ?3, ?4, ?5, ?6, ?7, ?8)",
         params![
