@@ -6,7 +6,7 @@ use Rattle.std.proofs.lemmas.List.Sorted.{IsPermutation-refl}
 use Rattle.seq.proofs.SortingLemmas.{sort_by-ascending}
 use Rattle.desk_words.specs.Changes.{applied_if_any}
 use Rattle.desk_words.specs.Office.{is_meeting, is_office}
-use Rattle.desk_words.specs.Rulings.{ruled_answer, map_change}
+use Rattle.desk_words.specs.Rulings.{refused, ruled_answer, map_change}
 use Rattle.desk_words.specs.declared.answer.Answer.{Answer}
 use Rattle.desk_words.specs.declared.change.Change.{Change}
 use Rattle.desk_words.specs.declared.change.Change.TheVariants.{InMeeting}
@@ -16,11 +16,14 @@ use Rattle.desk_words.specs.declared.office.OfficeLists.{OfficeLists}
 use Rattle.desk_words.specs.declared.records.RegisterRow.{RegisterRow}
 use Rattle.desk_words.specs.declared.request.Call.{Call}
 use Rattle.desk_words.specs.declared.request.OfficeRequest.{OfficeRequest}
+use Rattle.vocabulary.specs.declared.refusal.Refusal.{Refusal}
 use Rattle.desk_words.proofs.OfficeFacts.{found_meeting, meeting_facts, office_facts, register_ascends}
 use Rattle.party_views.specs.Views.{meeting_at}
 use Rattle.office_decisions.specs.OfficeRulings.{office_ruling}
 use Rattle.office_decisions.specs.RequestLimits.{if_any, is_within_limits, keeps_limits}
-use Rattle.office_decisions.specs.ListsRead.{lists_read, reads_register}
+use Rattle.office_decisions.specs.Early.{early_refusal}
+use Rattle.office_decisions.specs.ListsRead.{lists_read, polls_alone, reads_register}
+use Rattle.office_decisions.proofs.EarlyLemmas.{refusals_stand}
 use Rattle.office_decisions.proofs.ReadLaws.{read_meeting, read_so}
 use Rattle.office_validation.specs.Validation.{in_order}
 use Rattle.meeting_core.specs.Checked.{in_order_for}
@@ -57,6 +60,14 @@ decided_so office meeting now what days found lists answer kept read same is =
     let ordered = same ∙ ap (option_map (in_order_for what)) read.lists ∙ ordered_so what held (found_is office meeting kept) in
     ap (map_change (InMeeting meeting))
     (is ∙ (λ i. ruled_answer (office_ruling (read.closed i) (ordered i) now what)) ∙ ap ruled_answer (read_so what now office.closed held))
+    ∙ sym (settled_within (InMeeting meeting) (office_ruling office.closed held now what))
+
+-- what the meeting and its polls refuse is decided so in each office whose meeting and polls they are
+pub decided_early : (office : OfficeLists) (meeting : List ℕ) (now : ℕ) (what : OfficeRequest) (found : Option MeetingLists) (refusal : Refusal)
+    → found ≡ option_map polls_alone (meeting_at office meeting) → early_refusal found now what ≡ Some refusal → refused refusal ≡ decided office (office_call meeting now what)
+decided_early office meeting now what found refusal read is =
+    let held = meeting_at office meeting in
+    ap (map_change (InMeeting meeting)) (sym (refusals_stand office.closed held now what refusal (ap (λ polls. early_refusal polls now what) (sym read) ∙ is)))
     ∙ sym (settled_within (InMeeting meeting) (office_ruling office.closed held now what))
 
 -- a meeting's change keeps its limits in the office

@@ -9,4 +9,4 @@ mod office;
 
 pub use answers::decide_from_rows;
 pub use book::{Book, BookFault};
-pub use office::{decide_call, decide_closed, decide_in_meeting, decide_keys};
+pub use office::{decide_call, decide_closed, decide_in_meeting, decide_keys, go_on_in_meeting};

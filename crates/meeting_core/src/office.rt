@@ -1,15 +1,17 @@
 //! What is decided of the office's calls, from what their answers read.
-ghost use Rattle.std.specs.Prelude.{◌≡◌, true, false, Err, IfErr, IfOk, IfSome, IsOk, IsTrue, None, Some, option_map};
+ghost use Rattle.std.specs.Prelude.{◌≡◌, true, false, Err, IfErr, IfOk, IfSome, IsOk, IsTrue, None, Some, is_err, is_some, option_map};
 ghost use Rattle.desk_words.specs.Changes.{applied_if_any};
 ghost use Rattle.desk_words.specs.KeyRows.{same_keys};
 ghost use Rattle.desk_words.specs.Office.{is_meeting, is_office};
-ghost use Rattle.desk_words.specs.ViewTypes.{Moment};
+ghost use Rattle.desk_words.specs.ViewTypes.{MeetingName, Moment};
 ghost use Rattle.desk_words.specs.declared.office.OfficeLists.{OfficeLists};
 ghost use Rattle.desk_words.specs.declared.request.DeskRequest.TheVariants as desk;
 ghost use Rattle.office_decisions.specs.OfficeRulings.{is_register_held, office_needs_no_memory};
 ghost use Rattle.office_decisions.specs.DeskRulings.{same_days};
-ghost use Rattle.office_decisions.specs.ListsRead.{reads_register};
+ghost use Rattle.office_decisions.specs.Early.{early_refusal};
+ghost use Rattle.office_decisions.specs.ListsRead.{polls_alone, reads_register};
 ghost use Rattle.office_validation.specs.Validation.{in_order};
+ghost use Rattle.party_views.specs.Views.{meeting_at};
 ghost use Rattle.meeting_core.specs.Checked.{in_order_for};
 ghost use Rattle.meeting_core.specs.Decisions.{AreListsRead, AreMeetingsRead, IsNoMeeting};
 ghost use Rattle.meeting_core.specs.Decisions.{desk_call, office_call};
@@ -20,9 +22,10 @@ use crate::answers::in_meeting;
 use crate::book::BookFault;
 use desk_words::{
     Answer, Change, DayList, KeyRows, MeetingId, MeetingLists, Moment, NewMeeting, OfficeRequest,
+    refuse,
 };
 use office_days::Closed;
-use office_decisions::{call_meeting, load_days, load_keys, office_answer};
+use office_decisions::{call_meeting, load_days, load_keys, office_answer, unless_refused};
 use office_validation::meeting_checked;
 use std::alloc::{AllocError, Global};
 
@@ -76,6 +79,28 @@ fn checked_for(
         return Ok(Some(lists));
     }
     Ok(Some(checked(alloc, lists)?))
+}
+
+/// The meeting that was found, unless the meeting and its polls decide that the request is refused.
+/// Only the polls of its lists are read. The error is the answer that refuses: it is decided so in
+/// every office whose meeting and polls these are, and so for `NoMeeting` where none was found. It
+/// takes no memory.
+pub fn go_on_in_meeting(
+    found: Option<MeetingLists>,
+    now: Moment,
+    asked: &OfficeRequest,
+) -> Result<MeetingLists, Answer<Change>>
+    ensures found { IfOk result (λ lists. found ≡ Some lists) }
+    ensures refused { is_err result ≡ is_some (early_refusal found now asked.now) }
+    ensures decided { IfErr result (λ a. (office : OfficeLists) (meeting : MeetingName)
+        → found ≡ option_map polls_alone (meeting_at office meeting)
+        → a ≡ decided office (office_call meeting now asked.now)) }
+    ensures unchanged { IfErr result (λ a. a.change ≡ None) }
+{
+    match unless_refused(found, now, asked) {
+        Ok(lists) => Ok(lists),
+        Err(refusal) => Err(refuse(refusal)),
+    }
 }
 
 /// What is decided of what the office asks in a meeting, from those of the closed days and of the

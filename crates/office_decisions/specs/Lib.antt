@@ -1,5 +1,6 @@
 pub mod CallRulings
 pub mod DeskRulings
+pub mod Early
 pub mod ListsRead
 pub mod OfficeRulings
 pub mod PollRulings

@@ -1,13 +1,15 @@
 -- What the answer to a request of the office in a meeting reads.
-use Rattle.std.specs.Prelude.{◌≡◌, Bool, true, false, not, List, [], filter, Option, option_map, if◌then◌else◌}
+use Rattle.std.specs.Prelude.{◌≡◌, ◌==◌, Bool, true, false, not, List, [], filter, Option, option_map, if◌then◌else◌}
 use Rattle.desk_words.specs.Names.{same_name}
 use Rattle.desk_words.specs.Office.{is_meeting}
 use Rattle.desk_words.specs.ViewTypes.{Day, Moment}
 use Rattle.desk_words.specs.declared.office.MeetingLists.{MeetingLists}
+use Rattle.desk_words.specs.declared.records.Poll.{Poll}
 use Rattle.desk_words.specs.declared.records.PresenceMark.{PresenceMark}
 use Rattle.desk_words.specs.declared.request.OfficeRequest.{OfficeRequest}
 use Rattle.desk_words.specs.declared.request.OfficeRequest.TheVariants.{LoadRegister, Presence, OpenMeeting, Adjourn, Order, Start, Close, Declare}
 use Rattle.office_decisions.specs.OfficeRulings.{office_ruling}
+use Rattle.vote_rules.specs.TallyLaws.{casts_on}
 
 -- the meeting with its resolutions and its polls, and nothing in place of its other lists
 abbrev pub polls_alone : MeetingLists → MeetingLists
@@ -27,7 +29,7 @@ polls_alone m = record {
 -- others: a register is compared with the one that is held (section 113); of the presences that of
 -- the party is asked; a quorum is of the shares of those who are present (section 318), a demand of
 -- the shares of those who make it, unless the chair orders the poll (section 321), and a count of
--- the shares that are voted (section 284)
+-- the shares that are voted on its resolution (section 284)
 abbrev pub lists_read : OfficeRequest → MeetingLists → MeetingLists
 lists_read (LoadRegister new) m = record (polls_alone m) { register = m.register }
 lists_read (Presence party) m = record (polls_alone m) {
@@ -39,7 +41,12 @@ lists_read (Order new) m =
     if new.chair then polls_alone m else record m { presences = []; casts = [] }
 lists_read (Start resolution) m = polls_alone m
 lists_read (Close resolution) m = polls_alone m
-lists_read (Declare resolution) m = record m { presences = []; demands = [] }
+lists_read (Declare resolution) m = record m {
+  presences = [];
+  demands = [];
+  polls = filter (λ (poll : Poll). poll.resolution == resolution) m.polls;
+  casts = casts_on resolution m.casts;
+}
 
 -- the closed days, where shares are counted by cutoffs, or it is asked whether a poll is late
 -- (section 327)

@@ -1,6 +1,6 @@
 -- The opening and the adjournment of a meeting, and the way of a poll: ordered, started, closed,
 -- declared.
-use Rattle.std.specs.Prelude.{Bool, suc, false, not, ◌&&◌, ◌||◌, ◌-◌, nat_le, nat_lt, List, [], ◌∷◌, Option, Some, None, is_some, is_none}
+use Rattle.std.specs.Prelude.{Bool, suc, false, not, ◌&&◌, ◌||◌, ◌-◌, nat_le, nat_lt, List, [], ◌∷◌, ◌++◌, Option, Some, None, is_some, is_none}
 use Rattle.std.specs.List.{list_any, slice_get}
 use Rattle.desk_words.specs.Finding.{poll_on}
 use Rattle.desk_words.specs.PollStates.{there_is, is_started, is_waiting, is_closed, is_unclosed, is_declared, is_taken_after}
@@ -28,14 +28,19 @@ use Rattle.proxy_rules.specs.Uses.{vote_on}
 use Rattle.vote_rules.specs.Tallies.{tally_of}
 use Rattle.desk_words.specs.Majority.{result_of}
 
--- when the last session of a meeting is not opened (section 318)
+-- when the last session of a meeting is not opened, whoever is present
+abbrev pub opening_cases : Meeting → Moment → List Case
+opening_cases meeting now =
+    record { refusal = NoRegister; holds = not meeting.loaded }
+    ∷ record { refusal = Opened; holds = is_opened (last_session meeting) }
+    ∷ record { refusal = Early; holds = nat_lt now (last_session meeting).appointed }
+    ∷ []
+
+-- when it is not opened (section 318)
 abbrev pub open_cases : MeetingLists → List Day → Moment → List Case
 open_cases m closed now =
-    record { refusal = NoRegister; holds = not m.meeting.loaded }
-    ∷ record { refusal = Opened; holds = is_opened (last_session m.meeting) }
-    ∷ record { refusal = Early; holds = nat_lt now (last_session m.meeting).appointed }
-    ∷ record { refusal = NoQuorum; holds = not (quorum_in m closed now) }
-    ∷ []
+    opening_cases m.meeting now
+    ++ record { refusal = NoQuorum; holds = not (quorum_in m closed now) } ∷ []
 
 -- the last session of a meeting is opened
 abbrev pub open_ruling : MeetingLists → List Day → Moment → Ruling MeetingChange
@@ -49,14 +54,19 @@ open_ruling m closed now = record {
 abbrev pub is_running : List Day → Poll → Bool
 is_running closed p = is_unclosed p && (is_started p || not (is_late_poll closed p))
 
--- when a meeting is not adjourned to a further session, by the closed days as they stand
+-- when a meeting is not adjourned to a further session, whichever polls run
+abbrev pub adjourning_cases : Meeting → Moment → Moment → List Case
+adjourning_cases meeting now appointed =
+    record { refusal = TooMany; holds = nat_le MOST_SESSIONS (last_number meeting) }
+    ∷ record { refusal = NotOpened; holds = not (is_opened (last_session meeting)) }
+    ∷ record { refusal = Early; holds = nat_le appointed now }
+    ∷ []
+
+-- when it is not adjourned, by the closed days as they stand
 abbrev pub adjourn_cases : MeetingLists → List Day → Moment → Moment → List Case
 adjourn_cases m closed now appointed =
-    record { refusal = TooMany; holds = nat_le MOST_SESSIONS (last_number m.meeting) }
-    ∷ record { refusal = NotOpened; holds = not (is_opened (last_session m.meeting)) }
-    ∷ record { refusal = Early; holds = nat_le appointed now }
-    ∷ record { refusal = PollRunning; holds = list_any (is_running closed) m.polls }
-    ∷ []
+    adjourning_cases m.meeting now appointed
+    ++ record { refusal = PollRunning; holds = list_any (is_running closed) m.polls } ∷ []
 
 -- a meeting is adjourned to a session that is appointed for a moment
 abbrev pub adjourn_ruling : MeetingLists → List Day → Moment → Moment → Ruling MeetingChange
@@ -68,14 +78,20 @@ adjourn_ruling m closed now appointed = record {
   };
 }
 
--- when a poll is not ordered (section 321); the chair may order it without a demand
-abbrev pub order_cases : MeetingLists → List Day → Moment → NewPoll → List Case
-order_cases m closed now new =
+-- when a poll is not ordered, whoever demands it
+abbrev pub ordering_cases : MeetingLists → Moment → NewPoll → List Case
+ordering_cases m now new =
     no_resolution m.meeting new.resolution
     ∷ record { refusal = NotOpened; holds = not (is_opened (last_session m.meeting)) }
     ∷ record { refusal = Early; holds = nat_lt new.take now }
     ∷ record { refusal = PollOrdered; holds = is_some (poll_on m.polls new.resolution) }
-    ∷ record {
+    ∷ []
+
+-- when it is not ordered (section 321); the chair may order it without a demand
+abbrev pub order_cases : MeetingLists → List Day → Moment → NewPoll → List Case
+order_cases m closed now new =
+    ordering_cases m now new
+    ++ record {
       refusal = DemandTooSmall;
       holds = not new.chair && not (demand_noted m closed now new.resolution).reached;
     }

@@ -74,7 +74,8 @@ pub fn call_meeting(
     })
 }
 
-fn load_refusal(meeting: &Meeting, now: Moment, new: &NewRegister) -> Option<Refusal>
+/// Why a register is not loaded for a meeting.
+pub(crate) fn load_refusal(meeting: &Meeting, now: Moment, new: &NewRegister) -> Option<Refusal>
     ensures { result ≡ first_refusal (load_cases meeting.now now new.now) }
 {
     if meeting.record_moment != new.record_moment {

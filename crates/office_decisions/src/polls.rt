@@ -2,6 +2,7 @@
 //! declared.
 ghost use Rattle.std.specs.Prelude.{◌≡◌, ◌-◌, ◌&&◌, not, true, false, Err, IfOk, IsOk, IsTrue, MatchResult, Ok, Some, length};
 ghost use Rattle.std.specs.List.{list_any, slice_get};
+ghost use Rattle.std.specs.Result.{result_err};
 ghost use Rattle.desk_words.specs.Finding.{poll_on};
 ghost use Rattle.desk_words.specs.Office.{is_meeting, is_resolution, is_tally};
 ghost use Rattle.desk_words.specs.PollStates.{there_is, is_started};
@@ -10,8 +11,8 @@ ghost use Rattle.desk_words.specs.Rulings.{refuses, ruled_answer};
 ghost use Rattle.office_decisions.specs.OfficeRulings.{is_some_at_once, refuses_at_once};
 ghost use Rattle.office_decisions.specs.PresenceRulings.{demand_noted, quorum_in};
 ghost use Rattle.office_decisions.specs.RequestLimits.{if_any, is_within_limits};
-ghost use Rattle.office_decisions.specs.PollRulings.{adjourn_cases, adjourn_ruling, is_running};
-ghost use Rattle.office_decisions.specs.PollRulings.{open_cases, open_ruling, order_cases, order_ruling, poll_of, start_cases, start_ruling, close_cases, close_ruling, declare_ruling, result_cases, result_on, declared_answer, tally_in};
+ghost use Rattle.office_decisions.specs.PollRulings.{adjourn_cases, adjourn_ruling, adjourning_cases, is_running};
+ghost use Rattle.office_decisions.specs.PollRulings.{open_cases, open_ruling, opening_cases, order_cases, order_ruling, ordering_cases, poll_of, start_cases, start_ruling, close_cases, close_ruling, declare_cases, declare_ruling, result_cases, result_on, declared_answer, tally_in};
 
 use crate::attendance::{demand_in, papers_of, quorum_in};
 use desk_words::limits::MOST_SESSIONS;
@@ -23,6 +24,23 @@ use office_days::Closed;
 use poll_rules::{Use, cutoffs, is_late_poll, result_of};
 use std::alloc::{AllocError, Global};
 use vote_rules::tally;
+
+/// Why the last session of a meeting is not opened, whoever is present.
+pub(crate) fn opening_refusal(meeting: &Meeting, now: Moment) -> Option<Refusal>
+    ensures { result ≡ first_refusal (opening_cases meeting.now now) }
+{
+    if !meeting.loaded {
+        return Some(Refusal::NoRegister);
+    }
+    let last = meeting.last_session();
+    if last.is_opened() {
+        return Some(Refusal::Opened);
+    }
+    if now < last.appointed {
+        return Some(Refusal::Early);
+    }
+    None
+}
 
 fn open_refusal(
     alloc: Global,
@@ -36,15 +54,8 @@ fn open_refusal(
     ensures sure { is_some_at_once (first_refusal (open_cases lists.now closed.now now)) ≡ true
         → IsOk result }
 {
-    if !lists.meeting.loaded {
-        return Ok(Some(Refusal::NoRegister));
-    }
-    let last = lists.meeting.last_session();
-    if last.is_opened() {
-        return Ok(Some(Refusal::Opened));
-    }
-    if now < last.appointed {
-        return Ok(Some(Refusal::Early));
+    if let Some(refusal) = opening_refusal(&lists.meeting, now) {
+        return Ok(Some(refusal));
     }
     if !quorum_in(alloc, closed, lists, now)? {
         return Ok(Some(Refusal::NoQuorum));
@@ -90,6 +101,26 @@ fn any_running(closed: &Closed, polls: &[Poll]) -> bool
     polls.iter().any(|poll| is_running(closed, poll))
 }
 
+/// Why a meeting is not adjourned to a further session, whichever polls run.
+pub(crate) fn adjourning_refusal(
+    meeting: &Meeting,
+    now: Moment,
+    appointed: Moment,
+) -> Option<Refusal>
+    ensures { result ≡ first_refusal (adjourning_cases meeting.now now appointed) }
+{
+    if meeting.last_number() >= MOST_SESSIONS as u64 {
+        return Some(Refusal::TooMany);
+    }
+    if !meeting.last_session().is_opened() {
+        return Some(Refusal::NotOpened);
+    }
+    if appointed <= now {
+        return Some(Refusal::Early);
+    }
+    None
+}
+
 fn adjourn_refusal(
     closed: &Closed,
     lists: &MeetingLists,
@@ -98,14 +129,8 @@ fn adjourn_refusal(
 ) -> Option<Refusal>
     ensures { result ≡ first_refusal (adjourn_cases lists.now closed.now now appointed) }
 {
-    if lists.meeting.last_number() >= MOST_SESSIONS as u64 {
-        return Some(Refusal::TooMany);
-    }
-    if !lists.meeting.last_session().is_opened() {
-        return Some(Refusal::NotOpened);
-    }
-    if appointed <= now {
-        return Some(Refusal::Early);
+    if let Some(refusal) = adjourning_refusal(&lists.meeting, now, appointed) {
+        return Some(refusal);
     }
     if any_running(closed, lists.polls.as_slice()) {
         return Some(Refusal::PollRunning);
@@ -156,6 +181,25 @@ fn is_unwanted(
     Ok(!demand_in(alloc, closed, lists, now, new.resolution)?.reached)
 }
 
+/// Why a poll is not ordered, whoever demands it.
+pub(crate) fn ordering_refusal(lists: &MeetingLists, now: Moment, new: &NewPoll) -> Option<Refusal>
+    ensures { result ≡ first_refusal (ordering_cases lists.now now new.now) }
+{
+    if !lists.meeting.has_resolution(new.resolution) {
+        return Some(Refusal::NoResolution);
+    }
+    if !lists.meeting.last_session().is_opened() {
+        return Some(Refusal::NotOpened);
+    }
+    if new.take < now {
+        return Some(Refusal::Early);
+    }
+    if find_poll(lists.polls.as_slice(), new.resolution).is_some() {
+        return Some(Refusal::PollOrdered);
+    }
+    None
+}
+
 fn order_refusal(
     alloc: Global,
     closed: &Closed,
@@ -170,17 +214,8 @@ fn order_refusal(
         ≡ true → IsOk result }
     ensures chair { new.now.chair ≡ true → IsOk result }
 {
-    if !lists.meeting.has_resolution(new.resolution) {
-        return Ok(Some(Refusal::NoResolution));
-    }
-    if !lists.meeting.last_session().is_opened() {
-        return Ok(Some(Refusal::NotOpened));
-    }
-    if new.take < now {
-        return Ok(Some(Refusal::Early));
-    }
-    if find_poll(lists.polls.as_slice(), new.resolution).is_some() {
-        return Ok(Some(Refusal::PollOrdered));
+    if let Some(refusal) = ordering_refusal(lists, now, new) {
+        return Ok(Some(refusal));
     }
     if is_unwanted(alloc, closed, lists, now, new)? {
         return Ok(Some(Refusal::DemandTooSmall));
@@ -243,7 +278,7 @@ fn has_started(poll: &Option<Poll>) -> bool
     }
 }
 
-fn start_refusal(lists: &MeetingLists, now: Moment, resolution: u64) -> Option<Refusal>
+pub(crate) fn start_refusal(lists: &MeetingLists, now: Moment, resolution: u64) -> Option<Refusal>
     ensures { result ≡ first_refusal (start_cases lists.now now resolution) }
 {
     let poll = find_poll(lists.polls.as_slice(), resolution);
@@ -285,7 +320,7 @@ pub(crate) fn start_poll(
     }
 }
 
-fn close_refusal(lists: &MeetingLists, resolution: u64) -> Option<Refusal>
+pub(crate) fn close_refusal(lists: &MeetingLists, resolution: u64) -> Option<Refusal>
     ensures { result ≡ first_refusal (close_cases lists.now resolution) }
 {
     if !lists.meeting.has_resolution(resolution) {
@@ -337,6 +372,25 @@ fn declare_refusal(poll: &Poll) -> Option<Refusal>
         return Some(Refusal::Declared);
     }
     None
+}
+
+/// The poll on a resolution whose result may be declared, or why it is not declared.
+pub(crate) fn poll_to_declare(lists: &MeetingLists, resolution: u64) -> Result<Poll, Refusal>
+    ensures poll { IfOk result (λ poll. poll_on lists.now.polls resolution ≡ Some poll) }
+    ensures resolution { IfOk result
+        (λ _. is_resolution (length lists.now.meeting.resolutions) resolution ≡ true) }
+    ensures refusal { result_err result ≡ first_refusal (declare_cases lists.now resolution) }
+{
+    if !lists.meeting.has_resolution(resolution) {
+        return Err(Refusal::NoResolution);
+    }
+    let Some(poll) = find_poll(lists.polls.as_slice(), resolution) else {
+        return Err(Refusal::NoPoll);
+    };
+    match declare_refusal(&poll) {
+        Some(refusal) => Err(refusal),
+        None => Ok(poll),
+    }
 }
 
 /// The result of a poll on a resolution of the meeting.
@@ -410,15 +464,10 @@ pub(crate) fn declare_poll(
     ensures sure { refuses (declare_ruling lists.now closed.now now resolution) ≡ true
         → IsOk result }
 {
-    if !lists.meeting.has_resolution(resolution) {
-        return Ok(refuse(Refusal::NoResolution));
-    }
-    let Some(poll) = find_poll(lists.polls.as_slice(), resolution) else {
-        return Ok(refuse(Refusal::NoPoll));
+    let poll = match poll_to_declare(lists, resolution) {
+        Ok(poll) => poll,
+        Err(refusal) => return Ok(refuse(refusal)),
     };
-    if let Some(refusal) = declare_refusal(&poll) {
-        return Ok(refuse(refusal));
-    }
     let count = tally_in(alloc, closed, lists, now, resolution, &poll);
     declare(lists, resolution, count)
 }

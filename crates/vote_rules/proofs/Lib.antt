@@ -1,6 +1,7 @@
 pub mod AlikeLemmas
 pub mod LastInstructed
 pub mod LeftLemmas
+pub mod OwnCastLemmas
 pub mod PartingLemmas
 pub mod SilentLemmas
 pub mod SortedBlocks

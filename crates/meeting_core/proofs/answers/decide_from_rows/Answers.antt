@@ -12,6 +12,7 @@ use Rattle.desk_words.specs.declared.change.MeetingChange.TheVariants.{Enter}
 use Rattle.desk_words.specs.declared.office.OfficeLists.{OfficeLists}
 use Rattle.desk_words.specs.declared.request.Request.TheVariants as asked
 use Rattle.caller_view.specs.PartyRulings.{party_ruling}
+use Rattle.caller_view.proofs.PublicReadLemmas.{no_more_of_the_public}
 use Rattle.party_views.specs.OwnViews.{own_from}
 use Rattle.party_views.specs.Public.{PublicRecord}
 use Rattle.party_views.specs.PartyRows.{rows_in}
@@ -24,7 +25,7 @@ use Rattle.meeting_core.proofs.OfficeKept.{step_kept}
 use Rattle.meeting_core.proofs.RulingLemmas.{settled_within}
 use Rattle.meeting_core.proofs.answers.decide_from_rows.Goals as goal
 
--- the answer from the views is what is decided in each office whose views they are
+-- the answer from what is read is what is decided in each office of which it is read
 is_decided : (c : goal.After-entering) (office : OfficeLists) (party : Party)
     → AreRead office party c.args.meeting c.args.asked.now c.args.public.now c.args.rows
     → c.entering.result ≡ decided office (party_call party c.args.meeting c.args.now c.args.asked.now)
@@ -39,7 +40,8 @@ is_decided c office party read =
     c.entering.ensures
     ∙ ap (map_change entered)
     (c.in_ok-answer.ensures all read.own
-    ∙ ap (λ (seen : PublicRecord). ruled_answer (party_ruling seen (own_from all seen now) now what)) read.public)
+    ∙ ap (λ (seen : PublicRecord). ruled_answer (party_ruling seen (own_from all seen now) now what)) read.public
+    ∙ ap ruled_answer (no_more_of_the_public (public_of office meeting) all now what))
     ∙ sym (settled_within entered ruled)
 
 pub returns-clause-decided : goal.returns-clause-decided
