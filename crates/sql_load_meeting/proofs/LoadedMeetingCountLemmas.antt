@@ -9,7 +9,7 @@ use Rattle.sql_rows.specs.declared.kept.MeetingRow.{MeetingRow}
 use Rattle.sql_rows.proofs.RowMeaningLemmas.{bound}
 use Rattle.sql_model.specs.OfficeRecords.{FlatLists, lists_of, lists_of_all}
 use Rattle.sql_model.proofs.ModelOfficeLemmas.{AreOf}
-use Rattle.sql_load_party.proofs.LoadedPartyMeetingLemmas.{IsFoundAs, has_name, meeting_found}
+use Rattle.sql_load_public.proofs.NamedMeetingLemmas.{IsFoundAs, has_name, meeting_found}
 
 -- one passes where one is found
 any_found : {X : Type 0} (test : X → Bool) (xs : List X) → list_any test xs ≡ is_some (find test xs)

@@ -1,5 +1,5 @@
 -- A meeting with some of its lists, from what was told of each.
-use Rattle.std.proofs.Common.{◌≡◌, ℕ, Bool, true, false, ◌||◌, cond, List, Option, Some, None, IsTrue, refl, ap, ◌∙◌}
+use Rattle.std.proofs.Common.{◌≡◌, ℕ, Bool, true, false, ◌||◌, cond, List, Option, Some, None, Result, IsTrue, refl, sym, subst, ap, ap₂, ◌∙◌}
 use Rattle.std.specs.Cmp.{first_so}
 use Rattle.std.specs.Prelude.{option_map}
 use Rattle.desk_words.specs.Finding.{meeting_named}
@@ -10,8 +10,18 @@ use Rattle.desk_words.specs.declared.office.MeetingLists.{MeetingLists}
 use Rattle.desk_words.specs.declared.office.OfficeLists.{OfficeLists}
 use Rattle.desk_words.specs.declared.records.RegisterRow.{RegisterRow}
 use Rattle.desk_words.proofs.OfficeFacts.{found_facts}
+use Rattle.desk_words.specs.declared.request.OfficeRequest.{OfficeRequest}
+use Rattle.sqlite.specs.Held.{Held}
+use Rattle.sqlite_trees.specs.declared.store.Store as store
+use Rattle.party_views.specs.Views.{meeting_at}
+use Rattle.office_decisions.specs.ListsRead.{days_read, lists_read, polls_alone}
 use Rattle.row_source.specs.LookUps.{register_in}
-use Rattle.sql_load_party.proofs.LoadedPartyMeetingLemmas.{the_same}
+use Rattle.sql_assemble.specs.declared.fault.LoadError.{LoadError}
+use Rattle.sql_load_public.specs.TableLookUps.{HoldsOfStoredOffice}
+use Rattle.sql_load_public.proofs.NamedMeetingLemmas.{the_same}
+use Rattle.sql_load_public.proofs.StoredOfficeLemmas.{tells_weaker}
+use Rattle.sql_load_meeting.specs.MeetingParts.{AreReadFor}
+use Rattle.sql_load_meeting.specs.declared.asked.OfficeReads.{OfficeReads}
 
 module _ {X : Type 0} (before : MeetingLists → X) (after : MeetingLists → MeetingLists) where
   -- where there is no meeting, nothing is made of it
@@ -24,6 +34,23 @@ module _ {X : Type 0} (before : MeetingLists → X) (after : MeetingLists → Me
       → (found : Option MeetingLists) (x : X) (y : Y) → Some x ≡ option_map before found → y ≡ part found → Some (join x y) ≡ option_map after found
   joined part join same None x y e is = absurd cc
   joined part join same (Some m) x y e is = let its : x ≡ before m = the_same e in (λ i. Some (join (its i) (is i))) ∙ ap (λ (z : MeetingLists). Some z) (same m)
+
+-- what is told of a meeting that is read with its polls is what the request reads of it, where it is so of each meeting
+module _ {S : Type 0} (g : store.Ghosts S) (a b : Held S) (r : Result OfficeReads LoadError) (asked what : OfficeRequest) (is_what : asked ≡ what) (id : List ℕ) (polls : MeetingLists) (days : List ℕ → List ℕ) (rest : MeetingLists → Option MeetingLists → MeetingLists)
+    (closed : (all : List ℕ) → days all ≡ days_read what all) (lists : (m : MeetingLists) → rest (polls_alone m) (Some m) ≡ lists_read what m) where
+  read_for : (office : OfficeLists) (read : OfficeReads) → read ≡ record { closed = days office.closed; lists = rest polls (meeting_at office id) } → (m : MeetingLists) → meeting_at office id ≡ Some m → polls ≡ polls_alone m → AreReadFor asked office m read
+  read_for office read is m found alone = subst (λ (it : OfficeRequest). AreReadFor it office m read) (sym is_what) (record {
+    closed = ap (λ (it : OfficeReads). it.closed) is ∙ closed office.closed;
+    lists = ap (λ (it : OfficeReads). it.lists) is ∙ ap₂ rest alone found ∙ lists m;
+  })
+
+  pub rest_told : HoldsOfStoredOffice g a b r (λ office read. read ≡ record { closed = days office.closed; lists = rest polls (meeting_at office id) })
+      → HoldsOfStoredOffice g a b r (λ office read. (m : MeetingLists) → meeting_at office id ≡ Some m → polls ≡ polls_alone m → AreReadFor asked office m read)
+  rest_told one = record {
+    told = λ read office holds kept. tells_weaker _ _ r (read_for office) (one.told read office holds kept);
+    same = one.same;
+    changes = one.changes;
+  }
 
 -- a register that is loaded is one, and before that there are no rows
 rows_right : (loaded : Bool) (rows : List RegisterRow) → cond loaded (is_register rows) (no_rows rows) ≡ true → are_rows rows ≡ true

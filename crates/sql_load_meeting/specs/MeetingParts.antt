@@ -1,13 +1,15 @@
--- A meeting with some of its lists, and nothing in place of the others. For private contracts.
-use Rattle.std.specs.Prelude.{[], List, Option, filter}
-use Rattle.desk_words.specs.ViewTypes.{Party}
+-- A meeting with its polls, and with the lists that a request reads besides. For private contracts.
+use Rattle.std.specs.Prelude.{◌≡◌, ◌==◌, [], List, Option, filter}
+use Rattle.desk_words.specs.ViewTypes.{Number}
 use Rattle.desk_words.specs.declared.office.MeetingLists.{MeetingLists}
+use Rattle.desk_words.specs.declared.office.OfficeLists.{OfficeLists}
 use Rattle.desk_words.specs.declared.records.Meeting.{Meeting}
 use Rattle.desk_words.specs.declared.records.Poll.{Poll}
-use Rattle.office_decisions.specs.ListsRead.{polls_alone}
+use Rattle.desk_words.specs.declared.request.OfficeRequest.{OfficeRequest}
+use Rattle.office_decisions.specs.ListsRead.{days_read, lists_read}
 use Rattle.row_source.specs.LookUps.{appointments_in, authorities_in, endings_in, register_in}
-use Rattle.proxy_rules.specs.Parties.{is_presence_of}
 use Rattle.sql_load_meeting.specs.declared.parts.ShareLists.{ShareLists}
+use Rattle.sql_load_meeting.specs.declared.asked.OfficeReads.{OfficeReads}
 
 -- a meeting with its polls
 abbrev pub meeting_with : Meeting → List Poll → MeetingLists
@@ -21,16 +23,6 @@ meeting_with meeting polls = record {
   demands = [];
   polls = polls;
   casts = [];
-}
-
--- a meeting that is found with its polls and its register
-abbrev pub register_alone : MeetingLists → MeetingLists
-register_alone m = record (polls_alone m) { register = m.register }
-
--- and with the presence of a party
-abbrev pub presence_alone : Party → MeetingLists → MeetingLists
-presence_alone party m = record (polls_alone m) {
-  presences = filter (is_presence_of party) m.presences;
 }
 
 -- the lists by which the shares of a meeting that is found are counted; where none is, nothing
@@ -51,18 +43,12 @@ with_shares m shares = record m {
   authorities = shares.authorities;
 }
 
--- a meeting that is found with its polls and these lists
-abbrev pub shares_alone : MeetingLists → MeetingLists
-shares_alone m = record m { presences = []; demands = []; casts = [] }
+-- those of the polls that are on a resolution
+abbrev pub polls_on : Number → List Poll → List Poll
+polls_on resolution polls = filter (λ (poll : Poll). poll.resolution == resolution) polls
 
--- and with its presences
-abbrev pub shares_and_presences : MeetingLists → MeetingLists
-shares_and_presences m = record m { demands = []; casts = [] }
-
--- or with its demands
-abbrev pub shares_and_demands : MeetingLists → MeetingLists
-shares_and_demands m = record m { presences = []; casts = [] }
-
--- or with its votes
-abbrev pub shares_and_casts : MeetingLists → MeetingLists
-shares_and_casts m = record m { presences = []; demands = [] }
+-- these are the closed days and the lists of a meeting that the answer to a request reads
+pub record AreReadFor (asked : OfficeRequest) (office : OfficeLists) (m : MeetingLists)
+    (read : OfficeReads) : Type 0 where
+  pub closed : read.closed ≡ days_read asked office.closed
+  pub lists : read.lists ≡ lists_read asked m

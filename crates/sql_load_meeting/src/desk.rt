@@ -4,7 +4,7 @@ ghost use Rattle.std.specs.List.{list_any};
 ghost use Rattle.vocabulary.specs.Names.{same_name};
 ghost use Rattle.sql_rows.specs.declared.kept.MeetingRow.{MeetingRow};
 ghost use Rattle.party_views.specs.Views.{meeting_at};
-ghost use Rattle.sql_load_party.specs.TableLookUps.{HoldsOfStoredOffice};
+ghost use Rattle.sql_load_public.specs.TableLookUps.{HoldsOfStoredOffice};
 
 use desk_words::{KeyRows, MeetingId};
 use sql_assemble::{LoadError, key_rows};

@@ -5,9 +5,10 @@ ghost use Rattle.party_views.specs.Views.{meeting_at};
 ghost use Rattle.sql_assemble.specs.declared.fault.LoadError.TheVariants.{Memory};
 ghost use Rattle.row_source.specs.LookUps.{appointments_in, authorities_in, casts_in};
 ghost use Rattle.row_source.specs.LookUps.{demands_in, endings_in, presences_in};
-ghost use Rattle.sql_load_party.specs.MeetingRecords.{without_meeting};
-ghost use Rattle.sql_load_party.specs.TableLookUps.{HoldsOfStoredOffice};
+ghost use Rattle.sql_load_public.specs.MeetingRecords.{without_meeting};
+ghost use Rattle.sql_load_public.specs.TableLookUps.{HoldsOfStoredOffice};
 ghost use Rattle.proxy_rules.specs.Parties.{is_presence_of};
+ghost use Rattle.vote_rules.specs.TallyLaws.{casts_on};
 
 use desk_words::{
     Appointment, Authority, CastMark, DemandMark, Ending, Filed, Listing, MeetingId, Party,
@@ -15,8 +16,8 @@ use desk_words::{
 };
 use keyed_seq::FiledBy;
 use sql_assemble::LoadError;
-use sql_load_party::found::found;
-use sql_queries::{lists, presences};
+use sql_load_public::found::found;
+use sql_queries::{casts, lists, presences};
 use sql_rows::InMeeting;
 use sqlite::{Alter, Transaction};
 use std::alloc::Global;
@@ -118,15 +119,19 @@ pub(crate) fn demands_of<S: Alter>(
     filed(alloc, found(alloc, lists::demands(tx, meeting)))
 }
 
-/// The votes of a meeting (sections 284 and 322), in order of receipt.
-pub(crate) fn casts_of<S: Alter>(
+/// The votes on a resolution in a meeting (sections 284 and 322), in order of receipt.
+pub(crate) fn casts_on<S: Alter>(
     tx: &mut Transaction<'_, S>,
     alloc: Global,
     meeting: MeetingId,
+    resolution: u64,
 ) -> Result<Filed<CastMark>, LoadError>
     ensures same_reference { tx.new.conn.ghost_name ≡ tx.old.conn.ghost_name }
     ensures told { HoldsOfStoredOffice S.Store tx.old.conn.now tx.new.conn.now result
-        (λ office casts. casts ≡ casts_in (meeting_at office meeting)) }
+        (λ office on. on ≡ casts_on resolution (casts_in (meeting_at office meeting))) }
 {
-    filed(alloc, found(alloc, lists::casts(tx, meeting)))
+    filed(
+        alloc,
+        found(alloc, casts::on_resolution(tx, meeting, resolution)),
+    )
 }

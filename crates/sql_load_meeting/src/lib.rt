@@ -1,5 +1,5 @@
-//! What the tables hold of one meeting for the office's calls: of its lists those that the answer
-//! to a request reads.
+//! What the tables hold of one meeting for the office's calls: the meeting with its polls, and then
+//! those of its other lists that the answer to a request still reads.
 #![tactic(auto)]
 
 mod asked;
@@ -7,6 +7,7 @@ mod desk;
 mod filed;
 mod parts;
 
-pub use asked::{read_days, read_lists};
+pub use asked::{OfficeReads, read_rest};
 pub use desk::{MeetingCount, read_count, read_keys};
-pub use sql_load_party::read_closed;
+pub use parts::read_polls;
+pub use sql_load_public::read_closed;

@@ -1,24 +1,23 @@
-//! A meeting with some of its lists, and nothing in place of the others.
-ghost use Rattle.std.specs.Prelude.{◌≡◌, [], option_map};
+//! A meeting with its polls, and with the lists that a request reads besides.
+ghost use Rattle.std.specs.Prelude.{◌≡◌, filter, option_map};
 ghost use Rattle.party_views.specs.Views.{meeting_at};
 ghost use Rattle.office_decisions.specs.ListsRead.{polls_alone};
-ghost use Rattle.row_source.specs.LookUps.{register_in};
-ghost use Rattle.sql_load_party.specs.TableLookUps.{HoldsOfStoredOffice};
+ghost use Rattle.row_source.specs.LookUps.{casts_in, demands_in, presences_in, register_in};
+ghost use Rattle.sql_load_public.specs.TableLookUps.{HoldsOfStoredOffice};
 ghost use Rattle.proxy_rules.specs.Parties.{is_presence_of};
-ghost use Rattle.sql_load_meeting.specs.MeetingParts.{meeting_with, shares_alone, share_lists_in, with_shares};
-ghost use Rattle.sql_load_meeting.specs.MeetingParts.{register_alone, presence_alone};
-ghost use Rattle.sql_load_meeting.specs.MeetingParts.{shares_and_presences, shares_and_demands, shares_and_casts};
+ghost use Rattle.vote_rules.specs.TallyLaws.{casts_on};
+ghost use Rattle.sql_load_meeting.specs.MeetingParts.{meeting_with, polls_on, share_lists_in, with_shares};
 
 use crate::filed::{
-    appointments_of, authorities_of, casts_of, demands_of, endings_of, presence_of, presences_of,
+    appointments_of, authorities_of, casts_on, demands_of, endings_of, presence_of, presences_of,
 };
 use desk_words::{
     Appointment, Authority, Ending, Filed, Listing, Meeting, MeetingId, MeetingLists, Party, Poll,
     RegisterRow,
 };
 use sql_assemble::{LoadError, register_rows};
-use sql_load_party::found::{found, items};
-use sql_load_party::{meeting_of, polls_of};
+use sql_load_public::found::{found, items};
+use sql_load_public::{meeting_of, polls_of};
 use sql_queries::lists;
 use sqlite::{Alter, Transaction};
 use std::alloc::Global;
@@ -86,8 +85,9 @@ fn meeting_with(alloc: Global, meeting: Meeting, polls: Listing<Poll>) -> Meetin
     }
 }
 
-/// The meeting with its sessions, its resolutions and its polls.
-pub(crate) fn polls_alone<S: Alter>(
+/// The meeting of a name with its sessions, its resolutions and its polls, and nothing in place of
+/// its other lists; where there is none of that name, none.
+pub fn read_polls<S: Alter>(
     tx: &mut Transaction<'_, S>,
     alloc: Global,
     meeting: MeetingId,
@@ -103,44 +103,43 @@ pub(crate) fn polls_alone<S: Alter>(
     Ok(Some(meeting_with(alloc, kept, polls)))
 }
 
-/// The same with the register.
-pub(crate) fn register_alone<S: Alter>(
+/// The same lists with the register.
+pub(crate) fn with_register<S: Alter>(
     tx: &mut Transaction<'_, S>,
     alloc: Global,
     meeting: MeetingId,
-) -> Result<Option<MeetingLists>, LoadError>
+    lists: MeetingLists,
+) -> Result<MeetingLists, LoadError>
     ensures same_reference { tx.new.conn.ghost_name ≡ tx.old.conn.ghost_name }
     ensures told { HoldsOfStoredOffice S.Store tx.old.conn.now tx.new.conn.now result
-        (λ office lists. lists ≡ option_map register_alone (meeting_at office meeting)) }
+        (λ office whole. whole
+        ≡ record lists { register = register_in (meeting_at office meeting) }) }
 {
-    let Some(lists) = polls_alone(tx, alloc, meeting)? else {
-        return Ok(None);
-    };
     let register = register_of(tx, alloc, meeting)?;
-    Ok(Some(MeetingLists { register, ..lists }))
+    Ok(MeetingLists { register, ..lists })
 }
 
-/// The meeting with its polls and the presence of one party.
-pub(crate) fn presence_alone<S: Alter>(
+/// The same lists with the presence of one party.
+pub(crate) fn with_presence<S: Alter>(
     tx: &mut Transaction<'_, S>,
     alloc: Global,
     meeting: MeetingId,
+    lists: MeetingLists,
     party: Party,
-) -> Result<Option<MeetingLists>, LoadError>
+) -> Result<MeetingLists, LoadError>
     ensures same_reference { tx.new.conn.ghost_name ≡ tx.old.conn.ghost_name }
     ensures told { HoldsOfStoredOffice S.Store tx.old.conn.now tx.new.conn.now result
-        (λ office lists. lists
-        ≡ option_map (presence_alone party) (meeting_at office meeting)) }
+        (λ office whole. whole
+        ≡ record lists {
+          presences = filter (is_presence_of party) (presences_in (meeting_at office meeting));
+        }) }
 {
-    let Some(lists) = polls_alone(tx, alloc, meeting)? else {
-        return Ok(None);
-    };
     let presences = presence_of(tx, alloc, meeting, party)?;
-    Ok(Some(MeetingLists { presences, ..lists }))
+    Ok(MeetingLists { presences, ..lists })
 }
 
 /// A meeting with the lists by which shares are counted.
-fn with_shares(lists: MeetingLists, shares: ShareLists) -> MeetingLists
+fn joined(lists: MeetingLists, shares: ShareLists) -> MeetingLists
     ensures { result ≡ with_shares lists shares }
 {
     MeetingLists {
@@ -152,72 +151,92 @@ fn with_shares(lists: MeetingLists, shares: ShareLists) -> MeetingLists
     }
 }
 
-/// The meeting with its polls and the lists by which shares are counted.
-fn shares_alone<S: Alter>(
+/// The same lists with those by which shares are counted.
+fn with_shares<S: Alter>(
     tx: &mut Transaction<'_, S>,
     alloc: Global,
     meeting: MeetingId,
-) -> Result<Option<MeetingLists>, LoadError>
+    lists: MeetingLists,
+) -> Result<MeetingLists, LoadError>
     ensures same_reference { tx.new.conn.ghost_name ≡ tx.old.conn.ghost_name }
     ensures told { HoldsOfStoredOffice S.Store tx.old.conn.now tx.new.conn.now result
-        (λ office lists. lists ≡ option_map shares_alone (meeting_at office meeting)) }
+        (λ office whole. whole
+        ≡ with_shares lists (share_lists_in (meeting_at office meeting))) }
 {
-    let Some(lists) = polls_alone(tx, alloc, meeting)? else {
-        return Ok(None);
-    };
     let shares = shares_of(tx, alloc, meeting)?;
-    Ok(Some(with_shares(lists, shares)))
+    Ok(joined(lists, shares))
 }
 
 /// The same with the presences: by these a quorum is counted (section 318).
-pub(crate) fn shares_and_presences<S: Alter>(
+pub(crate) fn with_presences<S: Alter>(
     tx: &mut Transaction<'_, S>,
     alloc: Global,
     meeting: MeetingId,
-) -> Result<Option<MeetingLists>, LoadError>
+    lists: MeetingLists,
+) -> Result<MeetingLists, LoadError>
     ensures same_reference { tx.new.conn.ghost_name ≡ tx.old.conn.ghost_name }
     ensures told { HoldsOfStoredOffice S.Store tx.old.conn.now tx.new.conn.now result
-        (λ office lists. lists ≡ option_map shares_and_presences (meeting_at office meeting)) }
+        (λ office whole. whole
+        ≡ record (with_shares lists (share_lists_in (meeting_at office meeting))) {
+          presences = presences_in (meeting_at office meeting);
+        }) }
 {
-    let Some(lists) = shares_alone(tx, alloc, meeting)? else {
-        return Ok(None);
-    };
+    let lists = with_shares(tx, alloc, meeting, lists)?;
     let presences = presences_of(tx, alloc, meeting)?;
-    Ok(Some(MeetingLists { presences, ..lists }))
+    Ok(MeetingLists { presences, ..lists })
 }
 
-/// The meeting with its polls, the lists by which shares are counted and the demands, the shares of
-/// which are (section 321).
-pub(crate) fn shares_and_demands<S: Alter>(
+/// Or with the demands, the shares of which are counted (section 321).
+pub(crate) fn with_demands<S: Alter>(
     tx: &mut Transaction<'_, S>,
     alloc: Global,
     meeting: MeetingId,
-) -> Result<Option<MeetingLists>, LoadError>
+    lists: MeetingLists,
+) -> Result<MeetingLists, LoadError>
     ensures same_reference { tx.new.conn.ghost_name ≡ tx.old.conn.ghost_name }
     ensures told { HoldsOfStoredOffice S.Store tx.old.conn.now tx.new.conn.now result
-        (λ office lists. lists ≡ option_map shares_and_demands (meeting_at office meeting)) }
+        (λ office whole. whole
+        ≡ record (with_shares lists (share_lists_in (meeting_at office meeting))) {
+          demands = demands_in (meeting_at office meeting);
+        }) }
 {
-    let Some(lists) = shares_alone(tx, alloc, meeting)? else {
-        return Ok(None);
-    };
+    let lists = with_shares(tx, alloc, meeting, lists)?;
     let demands = demands_of(tx, alloc, meeting)?;
-    Ok(Some(MeetingLists { demands, ..lists }))
+    Ok(MeetingLists { demands, ..lists })
 }
 
-/// The meeting with its polls, the lists by which shares are counted and the votes, which are
-/// counted by them (section 284).
-pub(crate) fn shares_and_casts<S: Alter>(
+/// Those of the polls that are on a resolution, of which there is one at most.
+fn polls_on(polls: Listing<Poll>, resolution: u64) -> Listing<Poll>
+    ensures { result ≡ polls_on resolution polls }
+{
+    let mut on = polls.into_vec();
+    on.retain(|poll| poll.resolution == resolution);
+    Listing::from_vec(on)
+}
+
+/// Or with the votes on a resolution, which are counted (section 284), and of the polls that on it
+/// alone.
+pub(crate) fn with_casts<S: Alter>(
     tx: &mut Transaction<'_, S>,
     alloc: Global,
     meeting: MeetingId,
-) -> Result<Option<MeetingLists>, LoadError>
+    lists: MeetingLists,
+    resolution: u64,
+) -> Result<MeetingLists, LoadError>
     ensures same_reference { tx.new.conn.ghost_name ≡ tx.old.conn.ghost_name }
     ensures told { HoldsOfStoredOffice S.Store tx.old.conn.now tx.new.conn.now result
-        (λ office lists. lists ≡ option_map shares_and_casts (meeting_at office meeting)) }
+        (λ office whole. whole
+        ≡ record (with_shares lists (share_lists_in (meeting_at office meeting))) {
+          polls = polls_on resolution lists.polls;
+          casts = casts_on resolution (casts_in (meeting_at office meeting));
+        }) }
 {
-    let Some(lists) = shares_alone(tx, alloc, meeting)? else {
-        return Ok(None);
-    };
-    let casts = casts_of(tx, alloc, meeting)?;
-    Ok(Some(MeetingLists { casts, ..lists }))
+    let lists = with_shares(tx, alloc, meeting, lists)?;
+    let casts = casts_on(tx, alloc, meeting, resolution)?;
+    let polls = polls_on(lists.polls, resolution);
+    Ok(MeetingLists {
+        polls,
+        casts,
+        ..lists
+    })
 }

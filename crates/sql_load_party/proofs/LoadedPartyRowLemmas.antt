@@ -26,15 +26,11 @@ use Rattle.sql_model.proofs.Names.ListName.{Register}
 use Rattle.sql_model.proofs.ModelOfficeLemmas.{AreOf}
 use Rattle.proxy_rules.specs.Shares.{row_of}
 use Rattle.row_source.specs.LookUps.{register_in}
-use Rattle.sql_load_party.specs.MeetingRecords.{without_meeting}
-use Rattle.sql_load_party.proofs.LoadedPartyMeetingLemmas.{list_is, passing}
+use Rattle.sql_load_public.specs.MeetingRecords.{without_meeting}
+use Rattle.sql_load_public.proofs.FoundRecordLemmas.{first_passing}
+use Rattle.sql_load_public.proofs.NamedMeetingLemmas.{list_is, passing}
 
 -- ---- the first that passes
-
-pub first_passing : {X : Type 0} (test : X → Bool) (xs : List X) → slice_get (filter test xs) 0 ≡ find test xs
-first_passing test [] = refl
-first_passing test (x ∷ xs) =
-    elim (test x) as (λ b. slice_get (cond b (x ∷ filter test xs) (filter test xs)) 0 ≡ cond b (Some x) (find test xs)) [ true ↦ refl | false ↦ first_passing test xs ]
 
 -- where no two that pass stand in a list, its order is nothing to what is found
 module _ {X : Type 0} (alike : X → X → Bool) (test : X → Bool) (apart : (x y : X) → test x ≡ true → alike x y ≡ false → test y ≡ false) where

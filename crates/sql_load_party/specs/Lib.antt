@@ -1,4 +1,2 @@
 pub mod LookUpLaws
 pub mod LookUpSteps
-pub mod MeetingRecords
-pub mod TableLookUps

@@ -12,7 +12,7 @@ use Rattle.sql_load_office.proofs.ReadingLemmas.{changes_then, desk_same, read_f
 use Rattle.sql_assemble.specs.declared.fault.LoadError.{LoadError}
 use Rattle.sql_assemble.specs.declared.fault.LoadError.TheVariants.{Memory}
 use Rattle.sql_load_party.specs.LookUpSteps.{KeepsStoredTables, LeavesTables, ShowsMeeting}
-use Rattle.sql_load_party.specs.TableLookUps.{IsLookUpFailure}
+use Rattle.sql_load_public.specs.TableLookUps.{IsLookUpFailure}
 
 -- want of memory may be met
 pub memory_may_fail : (fault : LoadError) → fault ≡ Memory → IsLookUpFailure fault

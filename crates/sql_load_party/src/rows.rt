@@ -10,14 +10,14 @@ ghost use Rattle.party_views.specs.PartyRows.{presences_of};
 ghost use Rattle.party_views.specs.Views.{meeting_at};
 ghost use Rattle.row_source.specs.LookUps.{appointments_in, authorities_in, casts_by, casts_in, naming_by_in, trusting_for_in};
 ghost use Rattle.row_source.specs.LookUps.{demands_in, endings_in, presences_in, register_in};
-ghost use Rattle.sql_load_party.specs.TableLookUps.{HoldsOfStoredOffice};
+ghost use Rattle.sql_load_public.specs.TableLookUps.{HoldsOfStoredOffice};
 
-use crate::found::{first, found, items};
 use desk_words::{
     Appointment, Authority, CastMark, DemandMark, Ending, Listing, MeetingId, Party, PresenceMark,
     RegisterRow,
 };
 use sql_assemble::LoadError;
+use sql_load_public::found::{first, found, items};
 use sql_queries::{appointments, authorities, casts, demands, endings, presences, register};
 use sqlite::{Alter, Transaction};
 use std::alloc::Global;

@@ -14,7 +14,7 @@ use Rattle.vocabulary.specs.Names.{meeting_of, party_of, same_name}
 use Rattle.sql_schema.specs.Contents.{casts}
 use Rattle.sql_schema.specs.Statements.{columns_of, HasTables, layout_two}
 use Rattle.sql_lemmas.proofs.Reading.{sought, AsksAs}
-use Rattle.sql_queries.proofs.Queries.{IsQuery, names_both, both_tell, names_meeting, names_three, numbered_tell, one_tells}
+use Rattle.sql_queries.proofs.Queries.{IsQuery, names_both, both_tell, names_three, number_tells, numbered_tell}
 use Rattle.sql_lemmas.proofs.Frames.{wide_one}
 use Rattle.sqlite.specs.Schema.{Schema}
 
@@ -57,25 +57,26 @@ cast_by m meeting n party meeting_is party_is = record {
   same = λ cells x h. let of = names_in (columns_of casts cells) x h in both_tell cells 2 4 meeting m party n x.meeting x.item.voter of.0 meeting_is of.1 party_is;
 }
 
-abbrev of_meeting_text : List ℕ
-of_meeting_text = codes "SELECT meeting, resolution, voter, capacity, member, first, last, way, moment FROM casts WHERE meeting = ?1 ORDER BY seq"
+abbrev on_resolution_text : List ℕ
+on_resolution_text = codes "SELECT meeting, resolution, voter, capacity, member, first, last, way, moment FROM casts WHERE meeting = ?1 AND resolution = ?2 ORDER BY seq"
 
-of_meeting_asks : (s : Schema) → HasTables layout_two s → AsksAs s of_meeting_text (sought 24 (names_meeting 2) shows) names
+on_resolution_asks : (s : Schema) → HasTables layout_two s → AsksAs s on_resolution_text (sought 24 (names_both 2 3) shows) names
 unfolding understood everything
-of_meeting_asks = wide_one (λ s. AsksAs s of_meeting_text (sought 24 (names_meeting 2) shows) names) (λ others apart indexes views. record { is = refl; plain = (refl, refl); unlisted = refl })
+on_resolution_asks = wide_one (λ s. AsksAs s on_resolution_text (sought 24 (names_both 2 3) shows) names) (λ others apart indexes views. record { is = refl; plain = (refl, refl); unlisted = refl })
 
--- the rows of the meeting
-pub of_meeting : (m meeting : List ℕ) → meeting_of meeting ≡ Some m → IsQuery casts of_meeting_text (Text meeting ∷ []) (λ x. same_name x.meeting m)
-unfolding parsed_in
-of_meeting m meeting meeting_is = record {
-  tests = names_meeting 2;
+-- the rows of the meeting and on the resolution
+pub on_resolution : (m meeting : List ℕ) (z : ℤ) (k : ℕ) → meeting_of meeting ≡ Some m → natural_of z ≡ Some k
+    → IsQuery casts on_resolution_text (Text meeting ∷ Int z ∷ []) (λ x. same_name x.meeting m && x.item.resolution == k)
+unfolding parsed_in number_in
+on_resolution m meeting z k meeting_is number_is = record {
+  tests = names_both 2 3;
   project = shows;
   names = names;
-  asks = of_meeting_asks;
+  asks = on_resolution_asks;
   none = refl;
   numbered = refl;
   columns = λ cells. refl;
-  same = λ cells x h. one_tells cells 2 meeting m x.meeting (names_in (columns_of casts cells) x h).0 meeting_is;
+  same = λ cells x h. let of = names_in (columns_of casts cells) x h in number_tells cells 2 3 meeting m x.meeting z k x.item.resolution of.0 meeting_is of.2 number_is;
 }
 
 abbrev cast_on_text : List ℕ

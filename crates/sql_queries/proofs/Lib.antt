@@ -2,6 +2,7 @@ pub mod AppointmentQueries
 pub mod Asking
 pub mod AuthorityQueries
 pub mod CastQueries
+pub mod Counting
 pub mod DemandQueries
 pub mod EndingQueries
 pub mod MeetingQueries

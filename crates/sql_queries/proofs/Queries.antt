@@ -12,7 +12,9 @@ use Rattle.sqlite.specs.Term.{Term, col, op2, eval_all}
 use Rattle.sqlite.specs.Program.{given_at}
 use Rattle.sqlite.specs.Schema.{Schema}
 use Rattle.sqlite.specs.Held.{Held, state}
+use Rattle.sqlite.specs.Listing.{understood}
 use Rattle.sqlite.specs.State.{HasCleanDisk, Shown, FailsToQuery, IsTooLate, Survives}
+use Rattle.sqlite.proofs.Callers.{IsPlain}
 use Rattle.sqlite_sql.specs.declared.ops.BinaryOp.TheVariants.{Compare}
 use Rattle.sqlite_sql.specs.declared.ops.CompareOp.TheVariants.{Eq}
 use Rattle.sqlite_trees.specs.declared.store.Store as store
@@ -64,6 +66,11 @@ pub three_tell : (cells : Row) (at other third : ℕ) (s m t n u p a b d : List 
 three_tell cells at other third s m t n u p a b d here is there party last proxy =
     ap₂ ◌&&◌ (names_tell (column cells at) s a m here is) (ap₂ ◌&&◌ (parties_tell (column cells other) t b n there party) (and-true _ ∙ parties_tell (column cells third) u d p last proxy))
 
+-- the second parameter is a number
+pub number_tells : (cells : Row) (at other : ℕ) (s m a : List ℕ) (z : ℤ) (k b : ℕ) → parsed_of meeting_of (column cells at) ≡ Some a → meeting_of s ≡ Some m → natural_value (column cells other) ≡ Some b → natural_of z ≡ Some k
+    → passes (names_both at other) (Text s ∷ Int z ∷ []) cells ≡ (same_name a m && b == k)
+number_tells cells at other s m a z k b here is there number = ap₂ ◌&&◌ (names_tell (column cells at) s a m here is) (and-true _ ∙ numbers_tell (column cells other) z b k there number)
+
 -- the third parameter is a number
 pub numbered_tell : (cells : Row) (at other third : ℕ) (s m t n a b : List ℕ) (z : ℤ) (k d : ℕ) → parsed_of meeting_of (column cells at) ≡ Some a → meeting_of s ≡ Some m → parsed_of party_of (column cells other) ≡ Some b → party_of t ≡ Some n
     → natural_value (column cells third) ≡ Some d → natural_of z ≡ Some k → passes (names_three at other third) (Text s ∷ Text t ∷ Int z ∷ []) cells ≡ (same_name a m && (same_name b n && d == k))
@@ -83,6 +90,17 @@ pub record IsQuery {A : Type 0} (it : TableOf A) (sql : List ℕ) (params : Row)
   pub columns : (row : Row) → eval_all project (params ∷ row ∷ []) ≡ columns_of it row
   pub same : (row : Row) (x : A) → it.means (columns_of it row) ≡ Some x → passes tests params row ≡ test x
 
+-- a query changes nothing
+pub asked_alone : {S V : Type 0} (g : store.Ghosts S) (a b : Held S) (items : V → List Row) (sql : List ℕ) (params : Row) (r : Result V Error) → (IsRead g a b → IsPlain (understood (state g a).now.schema sql))
+    → (HasCleanDisk (state g b) → IfOk r (λ v. Shown sql params (state g a) (state g b) (items v)))
+    → (HasCleanDisk (state g b) → IfErr r (λ e. FailsToQuery sql params (state g a) (state g b) e ⊎ IsTooLate sql params (state g a) (state g b) e))
+    → Survives (state g a) (state g b) (λ _. ⊥) → ChangesNothing g a b
+asked_alone g a b items sql params r plain ok err crash = record {
+  kept = λ read. query_keeps items sql params (state g a) (state g b) (state g a).now.schema (plain read) r refl (ok read.0) (err read.0);
+  was_open = λ clean. query_opened items sql params (state g a) (state g b) r (ok clean) (err clean);
+  crash = crash;
+}
+
 module _ {S V A : Type 0} (g : store.Ghosts S) (a b : Held S) (items : V → List Row) (r : Result V Error) {it : TableOf A} {sql : List ℕ} {params : Row} {test : A → Bool} (q : IsQuery it sql params test)
     (ok : HasCleanDisk (state g b) → IfOk r (λ v. Shown sql params (state g a) (state g b) (items v))) where
   pub finds_rows : IsRead g a b → IfOk r (λ v. FindsRecords g a b it test (items v))
@@ -91,8 +109,4 @@ module _ {S V A : Type 0} (g : store.Ghosts S) (a b : Held S) (items : V → Lis
 
   pub nothing_changed : (HasCleanDisk (state g b) → IfErr r (λ e. FailsToQuery sql params (state g a) (state g b) e ⊎ IsTooLate sql params (state g a) (state g b) e))
       → Survives (state g a) (state g b) (λ _. ⊥) → ChangesNothing g a b
-  nothing_changed err crash = record {
-    kept = λ read. query_keeps items sql params (state g a) (state g b) (state g a).now.schema (q.asks (state g a).now.schema read.1.schema).plain r refl (ok read.0) (err read.0);
-    was_open = λ clean. query_opened items sql params (state g a) (state g b) r (ok clean) (err clean);
-    crash = crash;
-  }
+  nothing_changed = asked_alone g a b items sql params r (λ read. (q.asks (state g a).now.schema read.1.schema).plain) ok

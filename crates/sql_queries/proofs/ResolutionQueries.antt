@@ -16,6 +16,7 @@ use Rattle.vocabulary.specs.Names.{meeting_of, same_name}
 use Rattle.sql_schema.specs.Contents.{resolutions}
 use Rattle.sql_schema.specs.Statements.{columns_of, HasTables, layout_two}
 use Rattle.sql_lemmas.proofs.Reading.{sought, AsksAs}
+use Rattle.sql_queries.proofs.Counting.{IsCount, unordered}
 use Rattle.sql_queries.proofs.Queries.{IsQuery, names_meeting, one_tells}
 use Rattle.sql_lemmas.proofs.Frames.{wide_one}
 use Rattle.sqlite.specs.Schema.{Schema}
@@ -54,5 +55,24 @@ of_meeting m meeting meeting_is = record {
   none = refl;
   numbered = refl;
   columns = λ cells. refl;
+  same = λ cells x h. one_tells cells 1 meeting m x.meeting (names_in (columns_of resolutions cells) x h) meeting_is;
+}
+
+abbrev count_of_meeting_text : List ℕ
+count_of_meeting_text = codes "SELECT number FROM resolutions WHERE meeting = ?1"
+
+count_of_meeting_asks : (s : Schema) → HasTables layout_two s → AsksAs s count_of_meeting_text (unordered 8 (names_meeting 1) (col 1 2 ∷ [])) (codes "number" ∷ [])
+unfolding understood everything
+count_of_meeting_asks = wide_one (λ s. AsksAs s count_of_meeting_text (unordered 8 (names_meeting 1) (col 1 2 ∷ [])) (codes "number" ∷ [])) (λ others apart indexes views. record { is = refl; plain = (refl, refl); unlisted = refl })
+
+-- as many rows as the meeting has
+pub count_of_meeting : (m meeting : List ℕ) → meeting_of meeting ≡ Some m → IsCount resolutions count_of_meeting_text (Text meeting ∷ []) (λ x. same_name x.meeting m)
+unfolding parsed_in
+count_of_meeting m meeting meeting_is = record {
+  tests = names_meeting 1;
+  project = col 1 2 ∷ [];
+  names = codes "number" ∷ [];
+  asks = count_of_meeting_asks;
+  none = refl;
   same = λ cells x h. one_tells cells 1 meeting m x.meeting (names_in (columns_of resolutions cells) x h) meeting_is;
 }

@@ -110,18 +110,3 @@ pub fn demands<S: Alter>(tx: &mut Transaction<'_, S>, meeting: MeetingId) -> Res
         params![meeting_text(&meeting)],
     )
 }
-
-/// The rows of the votes of a meeting (sections 284 and 322), in order of receipt.
-pub fn casts<S: Alter>(tx: &mut Transaction<'_, S>, meeting: MeetingId) -> Result<Vec<Row>, Error>
-    ensures same_reference { tx.new.conn.ghost_name ≡ tx.old.conn.ghost_name }
-    ensures rows { IsRead S.Store tx.old.conn.now tx.new.conn.now
-        → IfOk result
-        (λ rows. FindsRecords S.Store tx.old.conn.now tx.new.conn.now contents.casts
-        (λ it. same_name it.meeting meeting) rows.items) }
-    ensures changes { ChangesNothing S.Store tx.old.conn.now tx.new.conn.now }
-{
-    tx.query_all(
-        "SELECT meeting, resolution, voter, capacity, member, first, last, way, moment FROM casts WHERE meeting = ?1 ORDER BY seq",
-        params![meeting_text(&meeting)],
-    )
-}

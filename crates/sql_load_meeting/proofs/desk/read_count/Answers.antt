@@ -2,9 +2,9 @@ use Rattle.std.proofs.Common.{◌≡◌, Err, ap, ◌∙◌, rules}
 use Rattle.std.specs.List.{list_any}
 use Rattle.sql_schema.specs.Contents as table
 use Rattle.sql_schema.specs.Statements.{records_in}
-use Rattle.sql_load_party.proofs.LoadedPartyMeetingLemmas.{all_held, has_name}
-use Rattle.sql_load_party.proofs.PublicLemmas.{reading_told}
-use Rattle.sql_load_party.proofs.LoadedPartyTellingLemmas.{told_so, told_stop}
+use Rattle.sql_load_public.proofs.NamedMeetingLemmas.{all_held, has_name}
+use Rattle.sql_load_public.proofs.PublicRecordLemmas.{reading_told}
+use Rattle.sql_load_public.proofs.StoredOfficeLemmas.{told_so, told_stop}
 use Rattle.sql_load_meeting.proofs.LoadedMeetingCountLemmas.{AreCounted, counted}
 use Rattle.sql_load_meeting.proofs.desk.read_count.Goals as goal
 

@@ -2,8 +2,8 @@ use Rattle.std.proofs.Common.{refl}
 use Rattle.sql_schema.specs.Contents as table
 use Rattle.sql_model.proofs.ListChanges.{list_of}
 use Rattle.sql_model.proofs.Names.ListName.{Presences}
-use Rattle.sql_load_party.proofs.LoadedPartyFoundLemmas.{items_told}
-use Rattle.sql_load_party.proofs.LoadedPartyMeetingLemmas.{list_is}
+use Rattle.sql_load_public.proofs.FoundRecordLemmas.{items_told}
+use Rattle.sql_load_public.proofs.NamedMeetingLemmas.{list_is}
 use Rattle.sql_load_meeting.proofs.filed.presences_of.Goals as goal
 
 pub returns-clause-told : goal.returns-clause-told

@@ -9,9 +9,9 @@ use Rattle.sql_model.proofs.ListChanges.{list_of}
 use Rattle.sql_model.proofs.Names.ListName.{Register}
 use Rattle.desk_words.specs.Office.{are_rows}
 use Rattle.row_source.specs.LookUps.{register_in}
-use Rattle.sql_load_party.proofs.LoadedPartyFoundLemmas.{items_told, yields_tell}
-use Rattle.sql_load_party.proofs.LoadedPartyMeetingLemmas.{list_is}
-use Rattle.sql_load_party.proofs.LoadedPartyTellingLemmas.{told_so, told_stop}
+use Rattle.sql_load_public.proofs.FoundRecordLemmas.{items_told, yields_tell}
+use Rattle.sql_load_public.proofs.NamedMeetingLemmas.{list_is}
+use Rattle.sql_load_public.proofs.StoredOfficeLemmas.{told_so, told_stop}
 use Rattle.sql_load_meeting.proofs.LoadedMeetingPartLemmas.{register_right}
 use Rattle.sql_load_meeting.proofs.parts.register_of.Goals as goal
 

@@ -1,5 +1,5 @@
 use Rattle.std.proofs.Common.{◌≡◌, Err, rules}
-use Rattle.sql_load_party.proofs.LoadedPartyTellingLemmas.{told_after, told_both, told_so, told_stop}
+use Rattle.sql_load_public.proofs.StoredOfficeLemmas.{told_after, told_both, told_so, told_stop}
 use Rattle.sql_load_meeting.proofs.parts.shares_of.Goals as goal
 
 pub returns-in_err-appointments-clause-told : goal.returns-in_err-appointments-clause-told

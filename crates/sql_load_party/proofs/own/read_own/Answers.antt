@@ -5,7 +5,7 @@ use Rattle.party_views.specs.Public.{PublicRecord}
 use Rattle.party_views.specs.Views.{public_of}
 use Rattle.party_views.specs.declared.rows.OwnRows.{OwnRows}
 use Rattle.sql_assemble.specs.declared.fault.LoadError.TheVariants as fault
-use Rattle.sql_load_party.proofs.LoadedPartyTellingLemmas.{made_tells, told_after, told_both, told_so, told_stop}
+use Rattle.sql_load_public.proofs.StoredOfficeLemmas.{made_tells, told_after, told_both, told_so, told_stop}
 use Rattle.sql_load_party.proofs.own.read_own.Goals as goal
 
 pub returns-in_err-rows-clause-told : goal.returns-in_err-rows-clause-told

@@ -7,7 +7,7 @@ use Rattle.row_source.specs.LookUps.{casts_in}
 use Rattle.sql_schema.specs.Contents as table
 use Rattle.sql_model.proofs.ListChanges.{list_of}
 use Rattle.sql_model.proofs.Names.ListName.{Casts}
-use Rattle.sql_load_party.proofs.LoadedPartyFoundLemmas.{items_told, received_so}
+use Rattle.sql_load_public.proofs.FoundRecordLemmas.{items_told, received_so}
 use Rattle.sql_load_party.proofs.LoadedPartyRowLemmas.{both_pass}
 use Rattle.sql_load_party.proofs.rows.casts_on.Goals as goal
 

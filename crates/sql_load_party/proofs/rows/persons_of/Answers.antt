@@ -3,7 +3,7 @@ use Rattle.proxy_rules.specs.Parties.{is_authority_of}
 use Rattle.sql_schema.specs.Contents as table
 use Rattle.sql_model.proofs.ListChanges.{list_of}
 use Rattle.sql_model.proofs.Names.ListName.{Authorities}
-use Rattle.sql_load_party.proofs.LoadedPartyFoundLemmas.{items_told, received_so}
+use Rattle.sql_load_public.proofs.FoundRecordLemmas.{items_told, received_so}
 use Rattle.sql_load_party.proofs.rows.persons_of.Goals as goal
 
 pub returns-clause-told : goal.returns-clause-told

@@ -1,0 +1,5 @@
+pub mod CountedRecordLemmas
+pub mod FoundRecordLemmas
+pub mod NamedMeetingLemmas
+pub mod PublicRecordLemmas
+pub mod StoredOfficeLemmas

@@ -1,0 +1,92 @@
+-- One telling of the tables after another.
+use Rattle.std.proofs.Common.{◌≡◌, Some, Ok, Err, Result, OnOk, IsTrue, sym, subst}
+use Rattle.std.specs.Prelude.{MatchResult}
+use Rattle.std.proofs.lemmas.Result.{on_ok_weaker}
+use Rattle.sqlite.specs.Effect.{Database}
+use Rattle.sqlite.specs.Held.{Held, state}
+use Rattle.sqlite_trees.specs.declared.store.Store as store
+use Rattle.desk_words.specs.Office.{is_office}
+use Rattle.desk_words.specs.declared.office.OfficeLists.{OfficeLists}
+use Rattle.sql_model.specs.OfficeRecords.{office_in}
+use Rattle.sql_load_office.proofs.ReadingLemmas.{changes_then, read_first, read_second, unchanged_then}
+use Rattle.sql_assemble.specs.declared.fault.LoadError.{LoadError}
+use Rattle.sql_assemble.specs.declared.fault.LoadError.TheVariants.{NoOffice, Store, Memory}
+use Rattle.sql_load_public.specs.TableLookUps.{HoldsOfStoredOffice, HoldsOrFails}
+
+-- what is told is so in another way too
+pub tells_weaker : {X : Type 0} (P Q : X → Type 0) (r : Result X LoadError) → ((x : X) → P x → Q x) → HoldsOrFails P r → HoldsOrFails Q r
+tells_weaker P Q (Ok x) next h = next x h
+tells_weaker P Q (Err NoOffice) next h = h
+tells_weaker P Q (Err Store) next h = h
+tells_weaker P Q (Err Memory) next h = h
+
+-- a fault says the same, whatever was to be told
+pub tells_fault : {X Y : Type 0} (P : X → Type 0) (Q : Y → Type 0) (e : LoadError) → HoldsOrFails {X = X} P (Err e) → HoldsOrFails {X = Y} Q (Err e)
+tells_fault P Q NoOffice h = h
+tells_fault P Q Store h = h
+tells_fault P Q Memory h = h
+
+-- what is made tells what it is, where nothing but memory can fail
+pub made_tells : {X : Type 0} (P : X → Type 0) (r : Result X LoadError) → MatchResult r P (λ e. e ≡ Memory) → HoldsOrFails P r
+made_tells P (Ok x) h = h
+made_tells P (Err e) h = subst (λ f. HoldsOrFails P (Err f)) (sym h) tt
+
+always : {X W : Type 0} (r : Result X LoadError) → W → OnOk r W
+always (Ok x) w = w
+always (Err e) w = tt
+
+module _ {S : Type 0} (g : store.Ghosts S) where
+  -- what was told first is known of what is told then
+  told_then : {X Y : Type 0} (a b c : Held S) (x : X) (r : Result Y LoadError) (P : OfficeLists → X → Type 0) (R : OfficeLists → Y → Type 0)
+      → HoldsOfStoredOffice g a b (Ok x) P → HoldsOfStoredOffice g b c r (λ office y. P office x → R office y) → HoldsOfStoredOffice g a c r R
+  told_then a b c x r P R one two = record {
+    told = λ read office holds kept.
+        let first = read_first g a b c two.changes.crash read in
+        let same = one.same first in
+        let there : office_in (state g b).now.trees ≡ Some office = subst (λ (d : Database). office_in d.trees ≡ Some office) (sym same.0.now_is) holds in
+        tells_weaker (λ y. P office x → R office y) (R office) r (λ y next. next (one.told first office holds kept)) (two.told (read_second g a b c same read) office there kept);
+    same = λ read.
+        let first = read_first g a b c two.changes.crash read in
+        let same = one.same first in
+        on_ok_weaker r (unchanged_then (state g a) (state g b) (state g c) same) (two.same (read_second g a b c same read));
+    changes = changes_then g a b c one.same one.changes two.changes;
+  }
+
+  -- what was told first stays known
+  pub told_both : {X Y : Type 0} (a b c : Held S) (x : X) (y : Y) (P : OfficeLists → X → Type 0) (Q : OfficeLists → Y → Type 0)
+      → HoldsOfStoredOffice g a b (Ok x) P → HoldsOfStoredOffice g b c (Ok y) Q → HoldsOfStoredOffice g a c (Ok y) (λ office z. P office x × Q office z)
+  told_both a b c x y P Q one two = told_then a b c x (Ok y) P (λ office z. P office x × Q office z) one (record {
+    told = λ read office holds kept first. (first, two.told read office holds kept);
+    same = two.same;
+    changes = two.changes;
+  })
+
+  -- and a telling after it may fail
+  pub told_after : {X Y : Type 0} (a b c : Held S) (x : X) (r : Result Y LoadError) (P : OfficeLists → X → Type 0) (Q : OfficeLists → Y → Type 0)
+      → HoldsOfStoredOffice g a b (Ok x) P → HoldsOfStoredOffice g b c r Q → HoldsOfStoredOffice g a c r Q
+  told_after a b c x r P Q one two = told_then a b c x r P Q one (record {
+    told = λ read office holds kept. tells_weaker (Q office) (λ y. P office x → Q office y) r (λ y is _. is) (two.told read office holds kept);
+    same = two.same;
+    changes = two.changes;
+  })
+
+  module _ {X Y : Type 0} (a b : Held S) (P : OfficeLists → X → Type 0) (R : OfficeLists → Y → Type 0) where
+    -- where a telling fails, the whole does
+    pub told_stop : (e : LoadError) (r : Result Y LoadError) → r ≡ Err e → HoldsOfStoredOffice g a b (Err e) P → HoldsOfStoredOffice g a b r R
+    told_stop e r is one = subst (λ (q : Result Y LoadError). HoldsOfStoredOffice g a b q R) (sym is) (record {
+      told = λ read office holds kept. tells_fault (P office) (R office) e (one.told read office holds kept);
+      same = λ _. tt;
+      changes = one.changes;
+    })
+
+    -- what is made of what was told last
+    pub told_so : (x : X) (r : Result Y LoadError) → HoldsOfStoredOffice g a b (Ok x) P → ((office : OfficeLists) → IsTrue (is_office office) → P office x → HoldsOrFails (R office) r) → HoldsOfStoredOffice g a b r R
+    told_so x r one next = record {
+      told = λ read office holds kept. next office kept (one.told read office holds kept);
+      same = λ read. always r (one.same read);
+      changes = one.changes;
+    }
+
+    -- and why nothing is made of it
+    pub told_refused : (x : X) (e : LoadError) (r : Result Y LoadError) → r ≡ Err e → HoldsOfStoredOffice g a b (Ok x) P → ((office : OfficeLists) → IsTrue (is_office office) → P office x → HoldsOrFails {X = Y} (R office) (Err e)) → HoldsOfStoredOffice g a b r R
+    told_refused x e r is one next = told_so x r one (λ office kept p. subst (HoldsOrFails (R office)) (sym is) (next office kept p))

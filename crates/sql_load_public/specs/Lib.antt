@@ -1,0 +1,2 @@
+pub mod MeetingRecords
+pub mod TableLookUps

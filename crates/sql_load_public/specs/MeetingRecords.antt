@@ -1,0 +1,14 @@
+-- The records that were found in a meeting.
+use Rattle.std.specs.Prelude.{List, [], Option}
+use Rattle.std.specs.Option.{option_map_or}
+use Rattle.desk_words.specs.declared.office.MeetingLists.{MeetingLists}
+use Rattle.desk_words.specs.declared.records.Session.{Session}
+use Rattle.sql_rows.specs.declared.kept.InMeeting.{InMeeting}
+
+-- a record without its meeting
+abbrev pub without_meeting : {A : Type 0} → InMeeting A → A
+without_meeting r = r.item
+
+-- the sessions to which a meeting that is found was adjourned
+abbrev pub later_in : Option MeetingLists → List Session
+later_in found = option_map_or (λ (m : MeetingLists). m.meeting.later) found []

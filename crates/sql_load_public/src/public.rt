@@ -1,0 +1,269 @@
+//! What is public of a meeting, read from the tables by its name.
+ghost use Rattle.std.specs.Prelude.{◌≡◌, [], Some, length, option_map};
+ghost use Rattle.sql_model.specs.OfficeRecords.{whole_meeting};
+ghost use Rattle.desk_words.specs.declared.office.MeetingLists.{MeetingLists};
+ghost use Rattle.desk_words.specs.SortedLists.{are_resolutions};
+ghost use Rattle.sql_assemble.specs.LoadResults.{ReadAgrees};
+ghost use Rattle.party_views.specs.PublicRead.{counted, meeting_alone, public_read, unread, with_counted};
+ghost use Rattle.party_views.specs.Views.{meeting_at, polls_in, public_of};
+ghost use Rattle.sql_load_public.specs.MeetingRecords.{later_in};
+ghost use Rattle.sql_load_public.specs.TableLookUps.{HoldsOfStoredOffice};
+
+use crate::found::{first, found, items};
+use desk_words::{
+    DayList, Listing, Meeting, MeetingId, PartyRequest, Poll, ResKind, Resolution, Resolutions,
+    Session, Text,
+};
+use office_days::Closed;
+use party_views::PublicRecord;
+use sql_assemble::{LoadError, day_list, poll_list, resolution_list, session_list};
+use sql_load_office::listing;
+use sql_queries::{meetings, polls, resolutions, sessions};
+use sql_rows::MeetingRow;
+use sqlite::{Alter, Transaction};
+use std::alloc::Global;
+use std::marker::Model;
+
+/// The public record of a meeting, kept apart from the tables. Contracts see it as that record.
+#[derive(Drop)]
+pub struct KeptRecord {
+    closed: Closed,
+    meeting: Option<Meeting>,
+    polls: Listing<Poll>,
+}
+
+impl Model for KeptRecord {
+    ghost use Rattle.party_views.specs.Public.{PublicRecord};
+
+    ghost Value = { PublicRecord };
+
+    ghost view = { λ k. record { closed = k.closed; meeting = k.meeting; polls = k.polls } };
+}
+
+impl KeptRecord {
+    /// The record, lent.
+    pub fn record(&self) -> PublicRecord<'_>
+        ensures { result ≡ self.now }
+    {
+        PublicRecord::new(&self.closed, self.meeting.as_ref(), self.polls.as_slice())
+    }
+}
+
+/// The days that the office has closed (section 1173).
+pub fn read_closed<S: Alter>(
+    tx: &mut Transaction<'_, S>,
+    alloc: Global,
+) -> Result<Closed, LoadError>
+    ensures same_reference { tx.new.conn.ghost_name ≡ tx.old.conn.ghost_name }
+    ensures told { HoldsOfStoredOffice S.Store tx.old.conn.now tx.new.conn.now result
+        (λ office closed. closed ≡ office.closed) }
+{
+    let days = listing(tx, alloc)?;
+    Ok(Closed::from_list(day_list(days)?))
+}
+
+/// A meeting, with its further sessions and its resolutions.
+fn whole_meeting(row: MeetingRow, later: Listing<Session>, resolutions: Resolutions) -> Meeting
+    ensures { result ≡ whole_meeting row later resolutions }
+{
+    Meeting {
+        id: row.id,
+        company: row.company,
+        kind: row.kind,
+        given: row.given,
+        first: Session {
+            appointed: row.appointed,
+            opened: row.opened,
+        },
+        later,
+        record_moment: row.record_moment,
+        resolutions,
+        loaded: row.loaded,
+    }
+}
+
+/// The sessions to which a meeting was adjourned, in order; where there is no meeting of that name,
+/// none.
+fn later_of<S: Alter>(
+    tx: &mut Transaction<'_, S>,
+    alloc: Global,
+    meeting: MeetingId,
+) -> Result<Listing<Session>, LoadError>
+    ensures same_reference { tx.new.conn.ghost_name ≡ tx.old.conn.ghost_name }
+    ensures told { HoldsOfStoredOffice S.Store tx.old.conn.now tx.new.conn.now result
+        (λ office later. later ≡ later_in (meeting_at office meeting)) }
+{
+    let rows = items(alloc, found(alloc, sessions::of_meeting(tx, meeting)))?;
+    session_list(alloc, rows)
+}
+
+/// The meeting of a name with its sessions and its resolutions (section 307), if there is one.
+pub fn meeting_of<S: Alter>(
+    tx: &mut Transaction<'_, S>,
+    alloc: Global,
+    meeting: MeetingId,
+) -> Result<Option<Meeting>, LoadError>
+    ensures same_reference { tx.new.conn.ghost_name ≡ tx.old.conn.ghost_name }
+    ensures told { HoldsOfStoredOffice S.Store tx.old.conn.now tx.new.conn.now result
+        (λ office kept. kept
+        ≡ option_map (λ (m : MeetingLists). m.meeting) (meeting_at office meeting)) }
+{
+    let rows = found(alloc, meetings::named(tx, meeting))?;
+    let Some(row) = first(rows) else {
+        return Ok(None);
+    };
+    let later = later_of(tx, alloc, meeting)?;
+    let rows = items(alloc, found(alloc, resolutions::of_meeting(tx, meeting)))?;
+    let resolutions = resolution_list(alloc, rows)?;
+    Ok(Some(whole_meeting(row, later, resolutions)))
+}
+
+/// The polls of a meeting (section 321), in the order of resolutions.
+pub fn polls_of<S: Alter>(
+    tx: &mut Transaction<'_, S>,
+    alloc: Global,
+    meeting: MeetingId,
+) -> Result<Listing<Poll>, LoadError>
+    ensures same_reference { tx.new.conn.ghost_name ≡ tx.old.conn.ghost_name }
+    ensures told { HoldsOfStoredOffice S.Store tx.old.conn.now tx.new.conn.now result
+        (λ office kept. kept ≡ polls_in (meeting_at office meeting)) }
+{
+    let rows = items(alloc, found(alloc, polls::of_meeting(tx, meeting)))?;
+    poll_list(rows)
+}
+
+/// The public record of a meeting; where there is none of that name, the closed days alone. Of the
+/// tables it reads the closed days and what names the meeting.
+pub fn read_public<S: Alter>(
+    tx: &mut Transaction<'_, S>,
+    alloc: Global,
+    meeting: MeetingId,
+) -> Result<KeptRecord, LoadError>
+    ensures same_reference { tx.new.conn.ghost_name ≡ tx.old.conn.ghost_name }
+    ensures told { HoldsOfStoredOffice S.Store tx.old.conn.now tx.new.conn.now result
+        (λ office kept. kept ≡ public_of office meeting) }
+{
+    let closed = read_closed(tx, alloc)?;
+    let kept = meeting_of(tx, alloc, meeting)?;
+    let polls = polls_of(tx, alloc, meeting)?;
+    Ok(KeptRecord {
+        closed,
+        meeting: kept,
+        polls,
+    })
+}
+
+/// How many resolutions a meeting has.
+fn count_of<S: Alter>(tx: &mut Transaction<'_, S>, meeting: MeetingId) -> Result<usize, LoadError>
+    ensures same_reference { tx.new.conn.ghost_name ≡ tx.old.conn.ghost_name }
+    ensures told { HoldsOfStoredOffice S.Store tx.old.conn.now tx.new.conn.now result
+        (λ office count. (m : MeetingLists) → meeting_at office meeting ≡ Some m
+        → count ≡ length m.meeting.resolutions) }
+{
+    let count = resolutions::count_of_meeting(tx, meeting)?;
+    Ok(count)
+}
+
+/// So many resolutions, none of which is read. The fault is want of memory, or `NoOffice` where a
+/// meeting has not so many.
+fn unread(alloc: Global, count: usize) -> Result<Resolutions, LoadError>
+    ensures { ReadAgrees are_resolutions result (Some (unread count)) }
+{
+    let Ok(text) = Text::new(alloc, b"-") else {
+        return Err(LoadError::Memory);
+    };
+    let kind = ResKind::Ordinary;
+    let each = Resolution { kind, text };
+    match Resolutions::new(vec![in alloc; each; count]?) {
+        Ok(resolutions) => Ok(resolutions),
+        Err(_) => Err(LoadError::NoOffice),
+    }
+}
+
+/// The meeting of a name with its sessions, its resolutions counted and not read, if there is one.
+fn counted_of<S: Alter>(
+    tx: &mut Transaction<'_, S>,
+    alloc: Global,
+    meeting: MeetingId,
+) -> Result<Option<Meeting>, LoadError>
+    ensures same_reference { tx.new.conn.ghost_name ≡ tx.old.conn.ghost_name }
+    ensures told { HoldsOfStoredOffice S.Store tx.old.conn.now tx.new.conn.now result
+        (λ office kept. kept
+        ≡ option_map counted (public_of office meeting).meeting) }
+{
+    let rows = found(alloc, meetings::named(tx, meeting))?;
+    let Some(row) = first(rows) else {
+        return Ok(None);
+    };
+    let later = later_of(tx, alloc, meeting)?;
+    let count = count_of(tx, meeting)?;
+    let resolutions = unread(alloc, count)?;
+    Ok(Some(whole_meeting(row, later, resolutions)))
+}
+
+/// The record of a meeting alone, without closed days and polls.
+fn alone(alloc: Global, meeting: Option<Meeting>) -> KeptRecord
+    ensures { result ≡ record { closed = []; meeting = meeting; polls = [] } }
+{
+    KeptRecord {
+        closed: Closed::from_list(DayList::empty(alloc)),
+        meeting,
+        polls: Listing::new(alloc),
+    }
+}
+
+/// The public record of a meeting, without the closed days and the polls, its resolutions counted
+/// and not read.
+fn read_alone<S: Alter>(
+    tx: &mut Transaction<'_, S>,
+    alloc: Global,
+    meeting: MeetingId,
+) -> Result<KeptRecord, LoadError>
+    ensures same_reference { tx.new.conn.ghost_name ≡ tx.old.conn.ghost_name }
+    ensures told { HoldsOfStoredOffice S.Store tx.old.conn.now tx.new.conn.now result
+        (λ office kept. kept ≡ meeting_alone (public_of office meeting)) }
+{
+    let kept = counted_of(tx, alloc, meeting)?;
+    Ok(alone(alloc, kept))
+}
+
+/// The public record of a meeting, its resolutions counted and not read.
+fn read_counted<S: Alter>(
+    tx: &mut Transaction<'_, S>,
+    alloc: Global,
+    meeting: MeetingId,
+) -> Result<KeptRecord, LoadError>
+    ensures same_reference { tx.new.conn.ghost_name ≡ tx.old.conn.ghost_name }
+    ensures told { HoldsOfStoredOffice S.Store tx.old.conn.now tx.new.conn.now result
+        (λ office kept. kept ≡ with_counted (public_of office meeting)) }
+{
+    let closed = read_closed(tx, alloc)?;
+    let kept = counted_of(tx, alloc, meeting)?;
+    let polls = polls_of(tx, alloc, meeting)?;
+    Ok(KeptRecord {
+        closed,
+        meeting: kept,
+        polls,
+    })
+}
+
+/// What of a meeting's public record the answer to a party's request reads. Texts of resolutions are
+/// read for the notice alone (section 307).
+pub fn read_public_for<S: Alter>(
+    tx: &mut Transaction<'_, S>,
+    alloc: Global,
+    meeting: MeetingId,
+    asked: &PartyRequest,
+) -> Result<KeptRecord, LoadError>
+    ensures same_reference { tx.new.conn.ghost_name ≡ tx.old.conn.ghost_name }
+    ensures told { HoldsOfStoredOffice S.Store tx.old.conn.now tx.new.conn.now result
+        (λ office kept. kept ≡ public_read asked.now (public_of office meeting)) }
+{
+    match asked {
+        PartyRequest::Notice => read_public(tx, alloc, meeting),
+        PartyRequest::End(_) | PartyRequest::Authorise(_) | PartyRequest::Attend => {
+            read_alone(tx, alloc, meeting)
+        }
+        _ => read_counted(tx, alloc, meeting),
+    }
+}
