@@ -6,3 +6,4 @@ pub mod TableKeyLemmas
 pub mod TableMeetingLemmas
 pub mod TableRegisterLemmas
 pub mod TableSessionLemmas
+pub mod TogetherLemmas

@@ -1,2 +1,3 @@
 pub mod ColumnChecks
+pub mod Together
 pub mod Versions

@@ -1,14 +1,22 @@
 //! The table `register`: the rows of the registers (section 113).
-ghost use Rattle.std.specs.Prelude.{◌≡◌, IfOk};
-ghost use Rattle.vocabulary.specs.Names.{same_name};
+ghost use Rattle.std.specs.Prelude.{◌≡◌, ℕ, List, ◌∷◌, ◌++◌, IfOk, OnOk, Some, flat_map};
+ghost use Rattle.vocabulary.specs.Names.{meeting_of, same_name};
 ghost use Rattle.sql_schema.specs.Contents.{register};
 ghost use Rattle.sql_schema.specs.Statements.{Adds, ChangesNothing, CommitsNothing, Does, IsRead, Makes, ReadsTable, TakesOut};
 ghost use Rattle.sql_schema.specs.Tables.{up_to_resolutions, up_to_register};
+ghost use Rattle.sql_desk_tables.specs.Together.{AddsAll, AreValuesOf, EachMeans, RowValues, rows_of_meeting, values_row};
+ghost use Rattle.sqlite.specs.Values.{bound};
+ghost use Rattle.sqlite.specs.declared.types.Value.TheVariants.{Text};
 
 use desk_words::{MeetingId, RegisterRow};
 use sql_lemmas::whole;
 use sql_rows::{holder_kind_text, meeting_text, party_text, text_value};
+use sqlite::types::{ToSql, ValueRef};
 use sqlite::{Alter, Error, Row, Transaction, params};
+use std::alloc::Global;
+
+/// How many rows `add_together` adds.
+pub const TOGETHER: usize = 8;
 
 /// Makes the table, after that of resolutions.
 pub fn make<S: Alter>(tx: &mut Transaction<'_, S>) -> Result<usize, Error>
@@ -46,6 +54,59 @@ pub fn add<S: Alter>(
             shares,
             paid
         ],
+    )
+}
+
+/// Pushes the values of a row: its member, its kind, its name, its shares, and what is paid up on
+/// each.
+fn push_values<'a>(values: &mut Vec<ValueRef<'a>>, row: &'a RegisterRow) -> Result<(), Error>
+    ensures { OnOk result ((v : RowValues) × AreValuesOf v row.now
+        × (bound values.new.items ≡ bound values.old.items ++ values_row v)) }
+{
+    let shares = whole(row.shares)?;
+    let paid = whole(row.paid)?;
+    values.push(party_text(&row.member).to_sql())?;
+    values.push(holder_kind_text(row.kind).to_sql())?;
+    values.push(text_value(&row.name).to_sql())?;
+    values.push(shares.to_sql())?;
+    values.push(paid.to_sql())?;
+    Ok(())
+}
+
+/// The name of a meeting, and behind it the values of rows of its register.
+fn values_of<'a>(
+    alloc: Global,
+    meeting: &'a MeetingId,
+    rows: &'a [RegisterRow],
+) -> Result<Vec<ValueRef<'a>>, Error>
+    ensures { IfOk result (λ values. (name : List ℕ) × (each : List RowValues)
+        × (bound values.items ≡ Text name ∷ flat_map values_row each)
+        × (meeting_of name ≡ Some meeting.now) × EachMeans each rows.now) }
+{
+    let mut values = Vec::new(alloc);
+    values.push(meeting_text(meeting).to_sql())?;
+    for row in rows {
+        push_values(&mut values, row)?;
+    }
+    Ok(values)
+}
+
+/// Adds `TOGETHER` rows of a meeting's register by one statement, in their order.
+pub fn add_together<S: Alter>(
+    alloc: Global,
+    tx: &mut Transaction<'_, S>,
+    meeting: MeetingId,
+    rows: &[RegisterRow; TOGETHER],
+) -> Result<usize, Error>
+    ensures same_reference { tx.new.conn.ghost_name ≡ tx.old.conn.ghost_name }
+    ensures added { Does S.Store tx.old.conn.now tx.new.conn.now result
+        (AddsAll register (rows_of_meeting meeting rows.now)) }
+    ensures commits { CommitsNothing S.Store tx.old.conn.now tx.new.conn.now }
+{
+    let values = values_of(alloc, &meeting, rows)?;
+    tx.execute(
+        "INSERT INTO register (meeting, member, kind, name, shares, paid) VALUES (?1, ?2, ?3, ?4, ?5, ?6), (?1, ?7, ?8, ?9, ?10, ?11), (?1, ?12, ?13, ?14, ?15, ?16), (?1, ?17, ?18, ?19, ?20, ?21), (?1, ?22, ?23, ?24, ?25, ?26), (?1, ?27, ?28, ?29, ?30, ?31), (?1, ?32, ?33, ?34, ?35, ?36), (?1, ?37, ?38, ?39, ?40, ?41)",
+        values.as_slice(),
     )
 }
 

@@ -29,6 +29,7 @@ use Rattle.sql_rows.proofs.RowMeaningLemmas.{bound}
 use Rattle.std.proofs.lemmas.Bool.{and_parts}
 use Rattle.desk_words.specs.Changes.{applied}
 use Rattle.sql_write.specs.Writes.{HoldsRecords, Rewrites, Writes, all_in, any_records, no_days, numbered_on, days_added, keys_added, resolutions_added, rows_added}
+use Rattle.sql_desk_tables.specs.Together.{AddsAll}
 use Rattle.sql_write.proofs.Possible.{Possible, possible, version_kept}
 
 on_ok : {T : Type 0} {P Q : Type 0} (r : Result T Error) → OnOk r P → (P → Q) → OnOk r Q
@@ -147,17 +148,22 @@ module _ {S : Type 0} (g : store.Ghosts S) where
     crash = turns.crash;
   }
 
-  -- ---- one record more
+  -- rows of a register behind those that were added
+  pub rows_then : {T : Type 0} (a b c : Held S) (r : Result T Error) (id : List ℕ) (rows more : List RegisterRow) → Rewrites {T = Unit {0}} g a b (Ok tt) any_records (rows_added id rows) → Rewrites g b c r any_records (rows_added id more)
+      → Rewrites g a c r any_records (rows_added id (rows ++ more))
+  rows_then a b c r id rows more turns later =
+      turns_same a c r any_records (λ flat. rows_added id more (rows_added id rows flat)) (rows_added id (rows ++ more))
+      (λ flat. ap (λ l. record flat { register = l }) (append_assoc flat.register (all_in id rows) (all_in id more) ∙ ap (λ l. flat.register ++ l) (sym (map-append (in_meeting id) rows more))))
+      (turns_then a b c any_records (rows_added id rows) turns r any_records (rows_added id more) later (λ flat good. refl))
+
+  -- ---- records more
 
   module _ (a b c : Held S) (n : ℕ) (commits : CommitsNothing g b c) where
-    pub row_more : (id : List ℕ) (rows : List RegisterRow) (row : RegisterRow) → Rewrites {T = Unit {0}} g a b (Ok tt) any_records (rows_added id rows) → Does g b c (Ok n) (Adds table.register (in_meeting id row))
-        → Rewrites {T = Unit {0}} g a c (Ok tt) any_records (rows_added id (rows ++ row ∷ []))
-    row_more id rows row turns does =
-        let more = λ (flat : FlatLists). record flat { register = flat.register ++ in_meeting id row ∷ [] } in
-        turns_same a c (Ok tt) any_records (λ flat. more (rows_added id rows flat)) (rows_added id (rows ++ row ∷ []))
-        (λ flat. ap (λ l. record flat { register = l }) (append_assoc flat.register (all_in id rows) (in_meeting id row ∷ []) ∙ ap (λ l. flat.register ++ l) (sym (map-append (in_meeting id) rows (row ∷ [])))))
-        (turns_then a b c any_records (rows_added id rows) turns (Ok tt) any_records more
-        (turns_by b c n table.register (λ was. was ++ in_meeting id row ∷ []) more refl does commits (λ flat held. table_changed (state g b) (state g c) flat held (Each Register) (λ was. was ++ in_meeting id row ∷ []))) (λ flat good. refl))
+    pub rows_more : (id : List ℕ) (rows more : List RegisterRow) → Rewrites {T = Unit {0}} g a b (Ok tt) any_records (rows_added id rows) → Does g b c (Ok n) (AddsAll table.register (all_in id more))
+        → Rewrites {T = Unit {0}} g a c (Ok tt) any_records (rows_added id (rows ++ more))
+    rows_more id rows more turns does =
+        rows_then a b c (Ok tt) id rows more turns
+        (turns_by b c n table.register (λ was. was ++ all_in id more) (rows_added id more) refl does commits (λ flat held. table_changed (state g b) (state g c) flat held (Each Register) (λ was. was ++ all_in id more)))
 
     pub key_more : (keys : List KeyRow) (key : KeyRow) → Rewrites {T = Unit {0}} g a b (Ok tt) any_records (keys_added keys) → Does g b c (Ok n) (Adds table.keys key)
         → Rewrites {T = Unit {0}} g a c (Ok tt) any_records (keys_added (keys ++ key ∷ []))

@@ -24,7 +24,7 @@ fn write_in_meeting<S: Alter>(
         (of_desk.InMeeting meeting change.now) }
 {
     match change {
-        MeetingChange::SetRegister(register) => set_register(tx, meeting, register),
+        MeetingChange::SetRegister(register) => set_register(alloc, tx, meeting, register),
         MeetingChange::SetOpened(moment) => open_meeting(tx, meeting, *moment),
         MeetingChange::AddSession(moment) => add_session(tx, meeting, *moment),
         MeetingChange::AddPoll(poll) => order_poll(tx, meeting, poll),

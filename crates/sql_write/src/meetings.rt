@@ -6,8 +6,10 @@ ghost use Rattle.sql_write.specs.Writes.{Rewrites, Writes, any_records};
 ghost use Rattle.sql_write.specs.Writes.{resolutions_added, rows_added};
 
 use desk_words::{Meeting, MeetingId, Moment, Register, RegisterRow, Resolution, Session};
+use sql_desk_tables::register::TOGETHER;
 use sql_desk_tables::{meetings, register, resolutions, sessions};
 use sqlite::{Alter, Error, Transaction};
+use std::alloc::Global;
 
 fn add_resolutions<S: Alter>(
     tx: &mut Transaction<'_, S>,
@@ -54,9 +56,30 @@ fn add_rows<S: Alter>(
     Ok(())
 }
 
+/// Adds the rows of a register: `TOGETHER` of them by each statement, and those that are left one
+/// by one. What a statement costs beside its rows is a third of what a row costs.
+fn add_register<S: Alter>(
+    alloc: Global,
+    tx: &mut Transaction<'_, S>,
+    meeting: MeetingId,
+    rows: &[RegisterRow],
+) -> Result<(), Error>
+    ensures same_reference { tx.new.conn.ghost_name ≡ tx.old.conn.ghost_name }
+    ensures turns { Rewrites S.Store tx.old.conn.now tx.new.conn.now result any_records
+        (rows_added meeting rows.now) }
+{
+    let mut rest = rows;
+    while let Some((first, more)) = rest.split_first_chunk::<TOGETHER>() {
+        register::add_together(alloc, tx, meeting, first)?;
+        rest = more;
+    }
+    add_rows(tx, meeting, rest)
+}
+
 /// Puts a register in place of the one that a meeting has, and notes that it is loaded. The error
 /// is what the database answered.
 pub(crate) fn set_register<S: Alter>(
+    alloc: Global,
     tx: &mut Transaction<'_, S>,
     meeting: MeetingId,
     rows: &Register,
@@ -66,7 +89,7 @@ pub(crate) fn set_register<S: Alter>(
         (change.InMeeting meeting (meeting_change.SetRegister rows.now)) }
 {
     register::empty(tx, meeting)?;
-    add_rows(tx, meeting, rows.rows())?;
+    add_register(alloc, tx, meeting, rows.rows())?;
     meetings::load(tx, meeting)?;
     Ok(())
 }

@@ -1,7 +1,7 @@
 use Rattle.std.proofs.Common.{◌++◌, ◌∷◌, [], Ok, take, sym, ap, subst, ◌∙◌}
 use Rattle.std.proofs.lemmas.List.{take_more}
 use Rattle.sql_write.specs.Writes.{Rewrites, any_records, rows_added}
-use Rattle.sql_write.proofs.WrittenTurnLemmas.{row_more, turns_failed}
+use Rattle.sql_write.proofs.WrittenTurnLemmas.{rows_more, turns_failed}
 use Rattle.sql_write.proofs.meetings.add_rows.Goals as goal
 
 pub returns-in_err-add-clause-turns : goal.returns-in_err-add-clause-turns
@@ -18,5 +18,5 @@ loop-row-preserved g c =
     record {
       same = c.in_ok-add.ensures.same_reference ∙ c.loop-row.invariant.same;
       turns = subst (λ l. Rewrites {T = Unit {0}} g.S.Store c.args.tx.now.conn.now c.add.new.tx.conn.now (Ok tt) any_records (rows_added c.args.meeting l)) (sym next)
-          (row_more g.S.Store c.args.tx.now.conn.now c.loop-row.tx.conn.now c.add.new.tx.conn.now c.in_ok-add.field-0 c.in_ok-add.ensures.commits c.args.meeting (take i all) it c.loop-row.invariant.turns c.in_ok-add.ensures.added);
+          (rows_more g.S.Store c.args.tx.now.conn.now c.loop-row.tx.conn.now c.add.new.tx.conn.now c.in_ok-add.field-0 c.in_ok-add.ensures.commits c.args.meeting (take i all) (it ∷ []) c.loop-row.invariant.turns c.in_ok-add.ensures.added);
     }
