@@ -1,5 +1,6 @@
 -- What is decided of what was told of the office.
-use Rattle.std.proofs.Common.{◌≡◌, Ok, Result, IfOk, IsTrue, subst, sym, ◌∙◌}
+use Rattle.std.proofs.Common.{◌≡◌, Option, Some, None, Ok, Result, IfOk, IsTrue, refl, subst, sym, ◌∙◌}
+use Rattle.std.specs.Prelude.{option_map}
 use Rattle.sqlite.specs.Held.{Held}
 use Rattle.sqlite_trees.specs.declared.store.Store as store
 use Rattle.desk_words.specs.Changes.{applied_if_any}
@@ -7,12 +8,14 @@ use Rattle.desk_words.specs.Office.{is_office}
 use Rattle.desk_words.specs.Rulings.{refused}
 use Rattle.desk_words.specs.declared.answer.Answer.{Answer}
 use Rattle.desk_words.specs.declared.change.Change.{Change}
+use Rattle.desk_words.specs.declared.office.MeetingLists.{MeetingLists}
 use Rattle.desk_words.specs.declared.office.OfficeLists.{OfficeLists}
 use Rattle.desk_words.specs.declared.request.Call.{Call}
 use Rattle.vocabulary.specs.declared.refusal.Refusal.{Refusal}
+use Rattle.office_decisions.specs.ListsRead.{polls_alone}
 use Rattle.meeting_core.specs.Step.{decided}
 use Rattle.sql_assemble.specs.declared.fault.LoadError.{LoadError}
-use Rattle.sql_load_party.specs.TableLookUps.{HoldsOfStoredOffice}
+use Rattle.sql_load_public.specs.TableLookUps.{HoldsOfStoredOffice}
 use Rattle.desk_store.specs.TableReads.{IsDecided, HoldsOfTables}
 use Rattle.desk_store.proofs.DeskReadLemmas.{always, ok_weaker}
 
@@ -41,3 +44,10 @@ decided_so call refusal so office kept answer is = record {
   is = is ∙ sym (so office);
   kept = subst (λ (a : Answer Change). IsTrue (is_office (applied_if_any office a.change))) (sym is) kept;
 }
+
+-- the meeting whose polls were read is found in the office
+pub meeting_found : (held found : Option MeetingLists) (lists : MeetingLists) → found ≡ Some lists → found ≡ option_map polls_alone held → (m : MeetingLists) × (held ≡ Some m) × (lists ≡ polls_alone m)
+meeting_found None found lists is read = absurd (cc)
+meeting_found (Some m) found lists is read =
+    let same : ◌≡◌ {A = Option MeetingLists} (Some lists) (Some (polls_alone m)) = sym is ∙ read in
+    (m, refl, cc)

@@ -9,7 +9,7 @@ use Rattle.sql_model.specs.OfficeRecords.{office_in}
 use Rattle.sql_assemble.specs.declared.fault.LoadError.{LoadError}
 use Rattle.sql_load_office.specs.WholeReading.{IsReading}
 use Rattle.office_validation.specs.Validation.{office_in_order}
-use Rattle.sql_load_party.specs.TableLookUps.{HoldsOfStoredOffice, HoldsOrFails}
+use Rattle.sql_load_public.specs.TableLookUps.{HoldsOfStoredOffice, HoldsOrFails}
 use Rattle.desk_store.specs.TableReads.{HoldsOfTables, IsBookOf}
 use Rattle.sql_open.proofs.OrderedOffice.{office_ordered}
 

@@ -11,11 +11,14 @@ use desk_words::{
     Answer, Call, Caller, Change, DayList, DeskRequest, KeyRows, MeetingId, Moment, NewMeeting,
     OfficeRequest, Party, PartyRequest, Refusal, Request, refuse,
 };
-use meeting_core::{decide_call, decide_closed, decide_from_rows, decide_in_meeting, decide_keys};
+use meeting_core::{
+    decide_call, decide_closed, decide_from_rows, decide_in_meeting, decide_keys, go_on_in_meeting,
+};
 use sql_desk_tables::desk;
-use sql_load_meeting::{read_closed, read_count, read_days, read_keys, read_lists};
+use sql_load_meeting::{OfficeReads, read_closed, read_count, read_keys, read_polls, read_rest};
 use sql_load_office::LoadError;
-use sql_load_party::{read_asked, read_public};
+use sql_load_party::read_asked;
+use sql_load_public::read_public_for;
 use sqlite::{Alter, Transaction};
 use std::alloc::Global;
 
@@ -33,14 +36,15 @@ fn decide_for_party<S: Alter>(
     ensures tells { HoldsOfTables S.Store tx.old.conn.now tx.new.conn.now result
         (IsDecided (party_call party meeting now asked.now)) }
 {
-    let public = read_public(tx, alloc, meeting)?;
+    let public = read_public_for(tx, alloc, meeting, asked)?;
     let rows = read_asked(tx, alloc, meeting, party, asked)?;
     let answer = decide_from_rows(alloc, meeting, &public.record(), rows, now, asked)?;
     Ok(answer)
 }
 
-/// What is decided of what the office asks in a meeting, from those of the closed days and of that
-/// meeting's lists that the answer reads.
+/// What is decided of what the office asks in a meeting: from the meeting and its polls, where they
+/// refuse it, and else from those of the closed days and of the meeting's other lists too that the
+/// answer reads.
 fn decide_for_office<S: Alter>(
     tx: &mut Transaction<'_, S>,
     alloc: Global,
@@ -52,9 +56,14 @@ fn decide_for_office<S: Alter>(
     ensures tells { HoldsOfTables S.Store tx.old.conn.now tx.new.conn.now result
         (IsDecided (office_call meeting now asked.now)) }
 {
-    let closed = read_days(tx, alloc, asked)?;
-    let found = read_lists(tx, alloc, meeting, asked)?;
-    decide_in_meeting(alloc, meeting, &closed, found, now, asked).map_err(fault_of_book)
+    let found = read_polls(tx, alloc, meeting)?;
+    let lists = match go_on_in_meeting(found, now, asked) {
+        Ok(lists) => lists,
+        Err(refused) => return Ok(refused),
+    };
+    let read = read_rest(tx, alloc, meeting, lists, asked)?;
+    let OfficeReads { closed, lists } = read;
+    decide_in_meeting(alloc, meeting, &closed, Some(lists), now, asked).map_err(fault_of_book)
 }
 
 /// What is decided of the call of a meeting, from how many meetings there are and whether one has

@@ -36,11 +36,13 @@ impl<S: Alter> Model for Desk<S> {
 }
 
 impl<S: Alter> Desk<S> {
-    /// Nothing is done: a desk is in no transaction, which contracts elsewhere see of it here.
-    pub fn rests(&self)
-        ensures { self.now.in_transaction ≡ false }
+    /// The desk over the tables that a connection shows, as `sql_open` opened them. They are not
+    /// read once more.
+    pub fn of_opened(alloc: Global, conn: Connection<S>) -> Desk<S>
+        requires { conn.in_transaction ≡ false }
+        ensures { result ≡ conn }
     {
-        let _ = self.conn.is_autocommit();
+        Desk { conn, alloc }
     }
 
     /// Asks whether the store is open. Nothing is changed. A store that is shut commits nothing, so

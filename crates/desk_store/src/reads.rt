@@ -16,7 +16,7 @@ use crate::reading::{failure_of, read_book, read_caller, read_record, read_thing
 use desk_words::{Caller, Failure, MeetingId, Moment, Party, SecretKey};
 use meeting_core::Book;
 use party_views::OwnView;
-use sql_load_party::KeptRecord;
+use sql_load_public::KeptRecord;
 use sqlite::Alter;
 
 impl<S: Alter> Desk<S> {

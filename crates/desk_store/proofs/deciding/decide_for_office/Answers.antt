@@ -1,32 +1,55 @@
-use Rattle.std.proofs.Common.{◌≡◌, Err, rules}
+use Rattle.std.proofs.Common.{◌≡◌, Err, Some, IsTrue, sym, ap, subst, ◌∙◌, rules}
+use Rattle.std.specs.Prelude.{Option, option_map}
+use Rattle.desk_words.specs.Changes.{applied_if_any}
+use Rattle.desk_words.specs.Office.{is_office}
+use Rattle.desk_words.specs.declared.change.Change.{Change}
+use Rattle.desk_words.specs.declared.office.MeetingLists.{MeetingLists}
+use Rattle.party_views.specs.Views.{meeting_at}
+use Rattle.office_decisions.specs.ListsRead.{lists_read}
 use Rattle.meeting_core.specs.Decisions.{AreListsRead, office_call}
 use Rattle.meeting_core.proofs.ReadKept.{both_ok}
-use Rattle.sql_load_party.proofs.LoadedPartyTellingLemmas.{told_after, told_both, told_stop}
+use Rattle.sql_load_public.proofs.StoredOfficeLemmas.{told_after, told_both, told_stop}
 use Rattle.desk_store.specs.TableReads.{IsDecided}
-use Rattle.desk_store.proofs.DecidingLemmas.{told_made}
+use Rattle.desk_store.proofs.DecidingLemmas.{meeting_found, told_made}
 use Rattle.desk_store.proofs.DeskReadLemmas.{mapped_ok, told_office}
 use Rattle.desk_store.proofs.deciding.decide_for_office.Goals as goal
-
-pub returns-in_err-closed-clause-tells : goal.returns-in_err-closed-clause-tells
-returns-in_err-closed-clause-tells g c =
-    let call = office_call c.args.meeting c.args.now c.args.asked.now in
-    let is : c.from_residual.result ≡ Err c.in_err-closed.field-0.0 = search rules in
-    told_office g.S.Store _ _ _ (IsDecided call) (told_stop g.S.Store _ _ _ (IsDecided call) c.in_err-closed.field-0.0 c.from_residual.result is c.in_err-closed.ensures.told)
 
 pub returns-in_err-found-clause-tells : goal.returns-in_err-found-clause-tells
 returns-in_err-found-clause-tells g c =
     let call = office_call c.args.meeting c.args.now c.args.asked.now in
-    let is : c.from_residual-in_err-found.result ≡ Err c.in_err-found.field-0.0 = search rules in
+    let is : c.from_residual.result ≡ Err c.in_err-found.field-0.0 = search rules in
+    told_office g.S.Store _ _ _ (IsDecided call) (told_stop g.S.Store _ _ _ (IsDecided call) c.in_err-found.field-0.0 c.from_residual.result is c.in_err-found.ensures.told)
+
+-- the meeting and its polls refuse it
+pub returns-in-Err-clause-tells : goal.returns-in-Err-clause-tells
+returns-in-Err-clause-tells g c =
+    let call = office_call c.args.meeting c.args.now c.args.asked.now in
+    told_made g.S.Store _ _ c.in_ok-found.found _ _ (IsDecided call) c.in_ok-found.ensures.told
+    (λ office kept p. record {
+      is = c.in-Err.ensures.decided office c.args.meeting p;
+      kept = subst (λ (change : Option Change). IsTrue (is_office (applied_if_any office change))) (sym c.in-Err.ensures.unchanged) kept;
+    })
+
+pub returns-in_err-read-clause-tells : goal.returns-in_err-read-clause-tells
+returns-in_err-read-clause-tells g c =
+    let call = office_call c.args.meeting c.args.now c.args.asked.now in
+    let is : c.from_residual-in_err-read.result ≡ Err c.in_err-read.field-0.0 = search rules in
     told_office g.S.Store _ _ _ (IsDecided call)
-    (told_after g.S.Store _ _ _ c.in_ok-closed.closed _ _ (IsDecided call) c.in_ok-closed.ensures.told
-    (told_stop g.S.Store _ _ _ (IsDecided call) c.in_err-found.field-0.0 c.from_residual-in_err-found.result is c.in_err-found.ensures.told))
+    (told_after g.S.Store _ _ _ c.in_ok-found.found _ _ (IsDecided call) c.in_ok-found.ensures.told
+    (told_stop g.S.Store _ _ _ (IsDecided call) c.in_err-read.field-0.0 c.from_residual-in_err-read.result is c.in_err-read.ensures.told))
 
 pub returns-clause-tells : goal.returns-clause-tells
 returns-clause-tells g c =
     let call = office_call c.args.meeting c.args.now c.args.asked.now in
-    let both = told_both g.S.Store _ _ _ c.in_ok-closed.closed c.in_ok-found.found _ _ c.in_ok-closed.ensures.told c.in_ok-found.ensures.told in
-    told_made g.S.Store _ _ c.in_ok-found.found c.map_err.result _ (IsDecided call) both
+    let rest = c.in_ok-read.read in
+    let both = told_both g.S.Store _ _ _ c.in_ok-found.found rest _ _ c.in_ok-found.ensures.told c.in_ok-read.ensures.told in
+    told_made g.S.Store _ _ rest c.map_err.result _ (IsDecided call) both
     (λ office kept p.
-    let read : AreListsRead office c.args.meeting c.args.asked.now c.in_ok-closed.closed c.in_ok-found.found = record { closed = p.0; lists = p.1 } in
+    let there = meeting_found (meeting_at office c.args.meeting) c.in_ok-found.found c.in-Ok.lists c.in-Ok.ensures.found p.0 in
+    let reads = p.1 there.0 there.1 there.2 in
+    let read : AreListsRead office c.args.meeting c.args.asked.now rest.closed (Some rest.lists) = record {
+      closed = reads.closed;
+      lists = ap (λ (m : MeetingLists). Some m) reads.lists ∙ ap (option_map (lists_read c.args.asked.now)) (sym there.1);
+    } in
     mapped_ok _ (IsDecided call office) c.decide_in_meeting.result c.map_err.result c.map_err.ensures.cases
     (both_ok c.decide_in_meeting.result _ _ (IsDecided call office) (λ a is leaves. record { is = is office kept read; kept = leaves office kept read }) c.decide_in_meeting.ensures.decided c.decide_in_meeting.ensures.kept))

@@ -1,6 +1,6 @@
 use Rattle.std.proofs.Common.{◌≡◌, Err, ◌∙◌, rules}
 use Rattle.meeting_core.specs.Decisions.{AreRead, party_call}
-use Rattle.sql_load_party.proofs.LoadedPartyTellingLemmas.{told_after, told_both, told_stop}
+use Rattle.sql_load_public.proofs.StoredOfficeLemmas.{told_after, told_both, told_stop}
 use Rattle.desk_store.specs.TableReads.{IsDecided}
 use Rattle.desk_store.proofs.DeskReadLemmas.{told_office}
 use Rattle.desk_store.proofs.StepLemmas.{failed_told}
