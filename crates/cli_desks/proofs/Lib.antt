@@ -1,2 +1,1 @@
 pub mod CommandDeskLemmas
-pub mod PrintLemmas

@@ -1,11 +1,8 @@
 -- How the making and the opening of a desk end.
 use Rattle.std.specs.Prelude.{◌≡◌, ◌≢◌, ◌⊎◌, codes}
-use Rattle.sqlite.specs.Held.{Held, state}
+use Rattle.sqlite.specs.Held.{Held}
 use Rattle.sqlite.specs.State.{State, HasCleanDisk}
 use Rattle.sqlite_trees.specs.declared.store.Store as store
-use Rattle.sqlite.specs.declared.error.Error.{Error}
-use Rattle.sqlite.specs.declared.error.Error.TheVariants.{SqliteFailure}
-use Rattle.sqlite.specs.declared.error.ErrorCode.TheVariants.{OutOfMemory}
 use Rattle.sql_schema.specs.Tables.{no_schema}
 use Rattle.desk_words.specs.Changes.{empty_office}
 use Rattle.cli_exit.specs.Endings.{Ending, ending, ended_by}
@@ -42,17 +39,9 @@ open_fault opening.NewerVersion = fault.NewerVersion
 open_fault opening.Store = fault.Store
 open_fault opening.Memory = fault.Memory
 
--- the program ends by a fault for which a database was not opened as a desk
-abbrev pub EndsUnopened : Ending → Type 0
-EndsUnopened end = (why : OpenFault) × (end ≡ ended_by (open_fault why))
-
--- so it ends over these tables, whatever they are: the fault is why they are not opened
+-- so the program ends over tables that were not opened as a desk, whatever they are: the fault is
+-- why they are not
 abbrev pub IsUnopened : {S : Type 0} → store.Ghosts S → Held S → Ending → Held S → Type 0
 IsUnopened g conn end back =
     (why : OpenFault) × (end ≡ ended_by (open_fault why))
     × IsWhyUnopened g conn why (handed.Connection back)
-
--- the fault for which a file was not opened as a database
-abbrev pub file_fault : Error → ExitError
-file_fault (SqliteFailure OutOfMemory) = fault.Memory
-file_fault other = fault.Store

@@ -4,14 +4,14 @@ ghost use Rattle.cli_exit.specs.Endings.{ended_by, ended_view};
 ghost use Rattle.sql_open.specs.Opened.{IfMadeAs, KeepsOpenRows, StandsFor, StaysOpen};
 ghost use Rattle.sql_open.specs.Opened.{WereKnown};
 ghost use Rattle.sql_open.specs.Rising.{RowsRise};
-ghost use Rattle.cli_desks.specs.Desks.{Creates, IsUnopened, create_fault, file_fault, open_fault};
+ghost use Rattle.cli_desks.specs.Desks.{Creates, IsUnopened, create_fault, open_fault};
 ghost use Rattle.desk_words.specs.declared.office.OfficeLists.{OfficeLists};
 ghost use Rattle.sqlite.specs.Held.{state};
 ghost use Rattle.sqlite.specs.State.{HasCleanDisk};
 
 use cli_exit::{Ended, ExitError};
-use desk_store::{CreateError, Desk, OpenFault};
-use sqlite::{Alter, Connection, Error, ErrorCode};
+use sql_open::{CreateError, OpenFault};
+use sqlite::{Alter, Connection};
 use std::alloc::Global;
 
 /// Makes a new desk in a database that holds nothing, and ends with status 0 and `created`. It ends
@@ -20,14 +20,14 @@ use std::alloc::Global;
 /// back, in no transaction where it was in none; with any other status than 0 its tables are as
 /// they were.
 #[tactic(auto, using(crate::proofs::CommandDeskLemmas::unmade))]
-pub fn init<S: Alter + Drop>(alloc: Global, conn: Connection<S>) -> (Ended, Connection<S>)
+pub fn init<S: Alter + Drop>(conn: Connection<S>) -> (Ended, Connection<S>)
     ensures creates { Creates (state S.Store conn) (state S.Store result.1) (ended_view result.0) }
     ensures same { HasCleanDisk (state S.Store result.1) → IsTrue (state S.Store result.1).is_open
         → result.0.status ≢ 0 → (state S.Store result.1).now ≡ (state S.Store conn).now }
     ensures ended { conn.in_transaction ≡ false → result.1.in_transaction ≡ false }
 {
-    match Desk::create(alloc, conn) {
-        Ok(desk) => (Ended::told("created"), desk.close()),
+    match sql_open::create(conn) {
+        Ok(conn) => (Ended::told("created"), conn),
         Err((fault, conn)) => (by_create(fault), conn),
     }
 }
@@ -55,38 +55,36 @@ fn by_open(fault: OpenFault) -> Ended
     })
 }
 
-/// Opens the desk that a database holds, which was just opened itself, so that the numbers of the
-/// rows of each table are known to rise. Tables of version 2 are opened as they are, and those of
-/// version 1 are moved to version 2. Where it holds none, this is how the program ends, with status 3
-/// and the fault, and the connection is handed back, its tables as they were.
+/// Opens the tables of the desk that a database holds, which was just opened itself, so that the
+/// numbers of the rows of each table are known to rise. Tables of version 2 are opened as they are,
+/// and those of version 1 are moved to version 2. Where it holds none, this is how the program ends,
+/// with status 3 and the fault, and the connection is handed back, its tables as they were.
 pub fn open<S: Alter + Drop>(
     alloc: Global,
     conn: Connection<S>,
-) -> Result<Desk<S>, (Ended, Connection<S>)>
+) -> Result<Connection<S>, (Ended, Connection<S>)>
     requires none { conn.in_transaction ≡ false }
     requires rising { HasCleanDisk (state S.Store conn) → RowsRise (state S.Store conn) }
-    ensures stands { IfOk result (λ desk. IfMadeAs S.Store conn desk (λ known.
+    ensures stands { IfOk result (λ opened. IfMadeAs S.Store conn opened (λ known.
         (office : OfficeLists)
-        × StandsFor (state S.Store conn) (state S.Store desk) office known)) }
-    ensures known { IfOk result (λ desk. WereKnown S.Store conn desk) }
-    ensures is_open { IfOk result (λ desk. StaysOpen S.Store desk) }
+        × StandsFor (state S.Store conn) (state S.Store opened) office known)) }
+    ensures known { IfOk result (λ opened. WereKnown S.Store conn opened) }
+    ensures is_open { IfOk result (λ opened. StaysOpen S.Store opened) }
+    ensures none { IfOk result (λ opened. opened.in_transaction ≡ false) }
     ensures fault { IfErr result (λ e. IsUnopened S.Store conn (ended_view e.0) e.1) }
     ensures kept { IfErr result (λ e. KeepsOpenRows S.Store conn e.1) }
     ensures ended { IfErr result (λ e. e.1.in_transaction ≡ false) }
 {
-    match Desk::open_risen(alloc, conn) {
-        Ok(desk) => Ok(desk),
+    match sql_open::open_risen(alloc, conn) {
+        Ok((opened, _)) => Ok(opened),
         Err((fault, conn)) => Err((by_open(fault), conn)),
     }
 }
 
-/// How the program ends where a file is not opened as a database: with status 3, and `Memory` or
-/// `Store`.
-pub fn by_file_error(error: Error) -> Ended
-    ensures { ended_view result ≡ ended_by (file_fault error) }
+/// How the program ends where a desk is not opened. The connection that was handed back is dropped.
+pub fn ended_of<S: Alter + Drop>(refused: (Ended, Connection<S>)) -> Ended
+    ensures { result ≡ refused.0 }
 {
-    Ended::by(match error {
-        Error::SqliteFailure(ErrorCode::OutOfMemory) => ExitError::Memory,
-        _ => ExitError::Store,
-    })
+    let (ended, _) = refused;
+    ended
 }

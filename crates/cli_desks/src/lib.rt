@@ -1,9 +1,7 @@
-//! What commands of the program do on a desk over tables, in any store: how it is made and opened,
-//! and how its results are printed.
+//! The making and the opening of a desk's tables in a database, in any store, and how the program
+//! ends.
 #![tactic(auto)]
 
 mod desks;
-mod printing;
 
-pub use desks::{by_file_error, init, open};
-pub use printing::results;
+pub use desks::{ended_of, init, open};

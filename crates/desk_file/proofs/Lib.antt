@@ -1,1 +1,1 @@
-mod DiskOfficeLemmas
+mod PrintLemmas

@@ -2,25 +2,26 @@
 use crate::disk::DiskDesk;
 use any_office::Office;
 use desk_words::{Call, Caller, Failure, Reply, SecretKey};
+use sql_file::TableFile;
 use std::alloc::AllocError;
 
 // What is said of it is said of its tables, as the connection to the file shows them.
-impl Office for DiskDesk {
+impl<S: TableFile> Office for DiskDesk<S> {
     ghost use Rattle.std.specs.Prelude.{IsTrue};
-    ghost use Rattle.desk_file.specs.DeskFiles.{tables_of};
     ghost use Rattle.sql_model.specs.Standing.{Stands};
     ghost use Rattle.desk_store.specs.Joins.{MayBeFound};
+    ghost use Rattle.sqlite.specs.Held.{state};
     ghost use Rattle.sqlite.specs.State.{HasCleanDisk};
 
-    ghost stands = { λ disk office. Stands (tables_of disk) office };
+    ghost stands = { λ disk office. Stands (state S.Store disk.desk) office };
 
-    ghost is_reliable = { λ disk. HasCleanDisk (tables_of disk) };
+    ghost is_reliable = { λ disk. HasCleanDisk (state S.Store disk.desk) };
 
-    ghost is_open = { λ disk. IsTrue (tables_of disk).is_open };
+    ghost is_open = { λ disk. IsTrue (state S.Store disk.desk).is_open };
 
-    ghost faults = { λ disk. (tables_of disk).faults };
+    ghost faults = { λ disk. (state S.Store disk.desk).faults };
 
-    ghost may_find = { λ disk office. MayBeFound (tables_of disk) office };
+    ghost may_find = { λ disk office. MayBeFound (state S.Store disk.desk) office };
 
     ghost may_fail = { λ _. Unit {0} };
 

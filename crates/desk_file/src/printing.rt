@@ -1,32 +1,46 @@
-//! The results of a meeting, printed of a desk in a file.
-ghost use Rattle.std.specs.Prelude.{IsTrue};
+//! The command that prints results.
+ghost use Rattle.std.specs.Prelude.{IsTrue, None};
 ghost use Rattle.party_views.specs.Views.{public_of};
-ghost use Rattle.desk_file.specs.DeskFiles.{tables_of};
 ghost use Rattle.cli_exit.specs.Endings.{ended_view};
+ghost use Rattle.cli_results.specs.ResultPrinting.{Prints};
 ghost use Rattle.sql_model.specs.Standing.{Stands};
-ghost use Rattle.cli_desks.specs.ResultPrinting.{Prints};
+ghost use Rattle.desk_store.specs.Joins.{LeavesDesk};
 ghost use Rattle.desk_words.specs.declared.office.OfficeLists.{OfficeLists};
+ghost use Rattle.sqlite.specs.Held.{state};
 ghost use Rattle.sqlite.specs.State.{HasCleanDisk};
 
-use crate::disk::DiskDesk;
 use byte_io::Sink;
 use cli_exit::Ended;
+use desk_store::Desk;
 use desk_words::MeetingId;
+use sqlite::Alter;
 use std::alloc::Global;
 
-impl DiskDesk {
-    /// Prints the results of a meeting, as `cli_desks::results` does.
-    pub fn results<W: Sink>(&mut self, alloc: Global, meeting: MeetingId, writer: &mut W) -> Ended
-        ensures prints { HasCleanDisk (tables_of self.new) → (office : OfficeLists)
-            → Stands (tables_of self.old) office
-            → Prints (public_of office meeting)
-            (record { contents = W.contents writer.old; failures = W.failures writer.old })
-            (record { contents = W.contents writer.new; failures = W.failures writer.new })
-            (ended_view result) }
-        ensures same { HasCleanDisk (tables_of self.new) → IsTrue (tables_of self.new).is_open
-            → (office : OfficeLists) → Stands (tables_of self.old) office
-            → Stands (tables_of self.new) office }
-    {
-        cli_desks::results(alloc, &mut self.desk, meeting, writer)
+/// Prints the results of a meeting as its public record shows them, and ends with status 0 and no
+/// line. A meeting that there is not ends with 1 and its refusal, and nothing is written.
+///
+/// `WriteFault` says that a write failed; what was written is then a part of the text from its
+/// front. After `Store` and `Memory` nothing was written. The tables stay as they are.
+#[tactic(auto, using(crate::proofs::PrintLemmas::not_begun))]
+pub fn results<S: Alter, W: Sink>(
+    alloc: Global,
+    desk: &mut Desk<S>,
+    meeting: MeetingId,
+    writer: &mut W,
+) -> Ended
+    ensures prints { HasCleanDisk (state S.Store desk.new) → (office : OfficeLists)
+        → Stands (state S.Store desk.old) office
+        → Prints (public_of office meeting)
+        (record { contents = W.contents writer.old; failures = W.failures writer.old })
+        (record { contents = W.contents writer.new; failures = W.failures writer.new })
+        (ended_view result) }
+    ensures same { HasCleanDisk (state S.Store desk.new) → IsTrue (state S.Store desk.new).is_open
+        → (office : OfficeLists) → Stands (state S.Store desk.old) office
+        → Stands (state S.Store desk.new) office }
+    ensures leaves { LeavesDesk S.Store None desk.old desk.new }
+{
+    match desk.read_public(meeting) {
+        Ok(kept) => cli_results::print(alloc, &kept.record(), writer),
+        Err(failure) => Ended::by_failure(failure),
     }
 }

@@ -1,0 +1,2 @@
+pub mod FileEndings
+pub mod FoundFiles

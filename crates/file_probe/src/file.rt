@@ -1,0 +1,169 @@
+//! What stands under the name of a desk's file, before it is opened as a database.
+ghost use Rattle.std.specs.Prelude.{◌≡◌, ◌↔◌, IfErr, IsTrue};
+ghost use Rattle.file_probe.specs.FileEndings.{EndsUnmade, FailsToConnect};
+ghost use Rattle.file_probe.specs.FoundFiles.{IsBegun, found_at, making_fault, opening_fault};
+ghost use Rattle.cli_exit.specs.Endings.{ended_view};
+
+use cli_exit::{Ended, ExitError};
+use std::fs::{self, OpenOptions};
+use std::io::{self, ErrorKind, Read};
+use std::os::unix::fs::OpenOptionsExt;
+use std::rt::HostRuntime;
+
+/// What stands in the log beside a desk's file.
+#[derive(Clone, Copy)]
+enum Log {
+    /// No log, or an empty one.
+    Nothing,
+    /// What a stopped `init` left, with no page of a desk.
+    Begun,
+    /// What a desk left.
+    Left,
+}
+
+/// What stands under a name and in the log beside it, before either is opened as a database.
+#[derive(Clone, Copy)]
+pub enum Found {
+    /// No file, and no log that a desk left.
+    Nothing,
+    /// No file, but the log that a desk left.
+    LoneLog,
+    /// A file that is empty or a single byte, and no log that a desk left; or what a stopped `init`
+    /// left.
+    Blank,
+    /// A file that is empty or a single byte, and the log that a desk left.
+    Emptied,
+    /// Another file, or what is no file.
+    Full,
+}
+
+impl Found {
+    /// Why no desk is made there: a log would be lost.
+    fn making_fault(self) -> Option<ExitError>
+        ensures { result ≡ making_fault self }
+    {
+        match self {
+            Found::LoneLog | Found::Emptied => Some(ExitError::NotEmpty),
+            Found::Nothing | Found::Blank | Found::Full => None,
+        }
+    }
+
+    /// Why no desk is opened there. The library would make a database of such a file, and empty its
+    /// log.
+    pub fn opening_fault(self) -> Option<ExitError>
+        ensures { result ≡ opening_fault self }
+    {
+        match self {
+            Found::Nothing | Found::LoneLog | Found::Emptied => Some(ExitError::Store),
+            Found::Blank => Some(ExitError::NotADesk),
+            Found::Full => None,
+        }
+    }
+}
+
+/// How the program ends where the system refuses a file.
+fn by_system(error: io::Error) -> Ended
+    ensures { FailsToConnect (ended_view result) }
+{
+    if error.kind() == ErrorKind::OutOfMemory {
+        return Ended::by(ExitError::Memory);
+    }
+    Ended::by(ExitError::Store)
+}
+
+/// Makes an empty file that its owner alone can read and write, and tells whether it did. What
+/// stands under that name already is left as it is. It ends with `NotEmpty`, and makes no file,
+/// where a desk left a log and no file beside it, or one that is empty or a single byte.
+pub fn make_file(rt: &HostRuntime, file: &str) -> Result<bool, Ended>
+    ensures { IfErr result (λ ended. EndsUnmade (ended_view ended)) }
+{
+    if let Some(fault) = find(rt, file)?.making_fault() {
+        return Err(Ended::by(fault));
+    }
+    let made = OpenOptions::new()
+        .write(true)
+        .create_new(true)
+        .mode(0o600)
+        .open(rt, file);
+    match made {
+        Ok(_) => Ok(true),
+        Err(error) if error.kind() == ErrorKind::AlreadyExists => Ok(false),
+        Err(error) => Err(by_system(error)),
+    }
+}
+
+/// Whether a log of so many bytes that begins so is what a stopped `init` left. The library writes
+/// 41 bytes of a new log, the first of them last, before it writes the file, and this number of
+/// checkpoints only then.
+fn is_begun(size: u64, head: &[u8; 16]) -> bool
+    ensures { IsTrue result ↔ IsBegun size head.now }
+{
+    size <= 41 && (head[0] == 0 || head[12..] == [0xff; 4])
+}
+
+/// The front of a file. Bytes that it does not have are 1.
+fn front(rt: &HostRuntime, file: &str) -> io::Result<[u8; 16]> {
+    let mut front = [1; 16];
+    let _ = fs::open(rt, file)?.read(&mut front)?;
+    Ok(front)
+}
+
+/// What stands in the log of this name.
+fn read_log(rt: &HostRuntime, log: &str) -> io::Result<Log> {
+    let size = match fs::metadata(rt, log) {
+        Ok(found) => found.len(),
+        Err(error) if error.kind() == ErrorKind::NotFound => 0,
+        Err(error) => return Err(error),
+    };
+    if size == 0 {
+        return Ok(Log::Nothing);
+    }
+    let is_begun = is_begun(size, &front(rt, log)?);
+    Ok(if is_begun { Log::Begun } else { Log::Left })
+}
+
+/// What stands in the log beside the file of this name, which leads over no link.
+fn log_beside(rt: &HostRuntime, file: &str) -> Result<Log, Ended>
+    ensures { IfErr result (λ ended. FailsToConnect (ended_view ended)) }
+{
+    let log = format!(in rt.alloc(); "{}-wal", file).map_err(|_| Ended::by(ExitError::Memory))?;
+    read_log(rt, &log).map_err(by_system)
+}
+
+/// What a file of so many bytes, of which this is the first, is beside such a log. The first byte
+/// of a file that `init` makes is 0 until the file is a database.
+fn judge(size: u64, first: u8, log: Log) -> Found
+    ensures { result ≡ found_at size first log }
+{
+    match log {
+        Log::Nothing if size <= 1 => Found::Blank,
+        Log::Begun if size <= 1 || first == 0 => Found::Blank,
+        Log::Left if size <= 1 => Found::Emptied,
+        _ => Found::Full,
+    }
+}
+
+/// What stands in a file of so many bytes. Its log lies where a link leads.
+fn find_in(rt: &HostRuntime, file: &str, size: u64) -> Result<Found, Ended>
+    ensures { IfErr result (λ ended. FailsToConnect (ended_view ended)) }
+{
+    let front = front(rt, file).map_err(by_system)?;
+    let real = fs::canonicalize(rt, file).map_err(by_system)?;
+    let log = log_beside(rt, real.as_str())?;
+    Ok(judge(size, front[0], log))
+}
+
+/// What stands under the name of a desk's file.
+pub fn find(rt: &HostRuntime, file: &str) -> Result<Found, Ended>
+    ensures { IfErr result (λ ended. FailsToConnect (ended_view ended)) }
+{
+    match fs::metadata(rt, file) {
+        Ok(found) if found.is_file() => find_in(rt, file, found.len()),
+        Ok(_) => Ok(Found::Full),
+        Err(error) if error.kind() == ErrorKind::NotFound => Ok(match log_beside(rt, file)? {
+            Log::Left => Found::LoneLog,
+            Log::Nothing | Log::Begun => Found::Nothing,
+        }),
+        Err(error) => Err(by_system(error)),
+    }
+}

@@ -1,0 +1,7 @@
+//! What stands under the name of a desk's file and in the log beside it, before either is opened as
+//! a database.
+#![tactic(auto)]
+
+mod file;
+
+pub use file::{Found, find, make_file};
