@@ -1,8 +1,9 @@
 //! Books of lists that were kept elsewhere.
 use crate::book::open_poll;
 use desk_words::{
-    Appointment, DayList, Filed, HolderKind, Instr, KeyRows, Listing, Meeting, MeetingLists,
-    OfficeLists, Party, Range, RegisterRow, Text, read_meeting, read_moment, read_party,
+    Appointment, DayList, Filed, HolderKind, Instr, Instructions, KeyRows, Listing, Meeting,
+    MeetingLists, OfficeLists, Party, Range, RegisterRow, Text, read_meeting, read_moment,
+    read_party,
 };
 use meeting_core::{Book, BookFault};
 use std::alloc::Global;
@@ -49,16 +50,13 @@ fn shuffled(alloc: Global) -> Result<MeetingLists, Fail> {
     })
 }
 
-fn appointment(alloc: Global, number: u64) -> Result<Appointment, Fail> {
-    let mut instructions: Listing<Instr> = Listing::new(alloc);
-    instructions.push(Instr::Free)?;
-    instructions.push(Instr::Free)?;
+fn appointment(number: u64) -> Result<Appointment, Fail> {
     Ok(Appointment {
         member: party(b"M1")?,
         number,
         proxy: party(b"P")?,
         range: Range::new(1, 10).ok_or("a range")?,
-        instructions,
+        instructions: Instructions::new(&[Instr::Free, Instr::Free]).ok_or("instructions")?,
         moment: read_moment(b"2026-06-02T09:00:00").ok_or("a moment")?,
     })
 }
@@ -94,8 +92,8 @@ fn a_register_comes_in_any_order(rt: HostRuntime) -> Result<(), Fail> {
 #[test]
 fn appointments_numbered_1_and_3_are_no_office(rt: HostRuntime) -> Result<(), Fail> {
     let mut lists = shuffled(rt.alloc())?;
-    lists.appointments.push(appointment(rt.alloc(), 1)?)?;
-    lists.appointments.push(appointment(rt.alloc(), 3)?)?;
+    lists.appointments.push(appointment(1)?)?;
+    lists.appointments.push(appointment(3)?)?;
     let fault = book_of(rt.alloc(), Some(lists))?.err();
     assert!(rt; fault == Some(BookFault::NoOffice));
     Ok(())

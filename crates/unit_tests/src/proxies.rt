@@ -7,7 +7,7 @@ ghost use Rattle.desk_words.specs.declared.records.Appointment.{Appointment};
 ghost use Rattle.proxy_rules.specs.Holdings.{are_tags};
 
 use crate::papers::{Lists, moment, party, register};
-use desk_words::{Appointment, Ending, Filed, HolderKind, Listing, Party, Range};
+use desk_words::{Appointment, Ending, Filed, HolderKind, Instructions, Listing, Party, Range};
 use proxy_rules::{Cutoffs, Holding, governed, governing};
 use share_blocks::LinkedBlocks;
 use std::alloc::Global;
@@ -28,7 +28,6 @@ pub(crate) fn cutoffs() -> Result<Cutoffs, Fail> {
 
 /// An appointment of the proxy by M1, of that number and over these places.
 pub(crate) fn appointment(
-    alloc: Global,
     number: u64,
     proxy: &str,
     from: u64,
@@ -40,7 +39,7 @@ pub(crate) fn appointment(
         number,
         proxy: party(proxy)?,
         range: Range::new(from, to).ok_or("a range")?,
-        instructions: Listing::new(alloc),
+        instructions: Instructions::new(&[]).ok_or("instructions")?,
         moment: moment(at)?,
     })
 }
@@ -48,10 +47,10 @@ pub(crate) fn appointment(
 /// Number 1 over all shares, 2 over 41 to 60, 3 over 55 to 200, and 4, which is late.
 fn appointments(alloc: Global) -> Result<Filed<Appointment>, Fail> {
     let mut given = Filed::new(alloc);
-    given.push(appointment(alloc, 1, "P", 1, 200, IN_TIME)?)?;
-    given.push(appointment(alloc, 2, "P", 41, 60, IN_TIME)?)?;
-    given.push(appointment(alloc, 3, "P", 55, 200, IN_TIME)?)?;
-    given.push(appointment(alloc, 4, "P", 10, 20, LATE)?)?;
+    given.push(appointment(1, "P", 1, 200, IN_TIME)?)?;
+    given.push(appointment(2, "P", 41, 60, IN_TIME)?)?;
+    given.push(appointment(3, "P", 55, 200, IN_TIME)?)?;
+    given.push(appointment(4, "P", 10, 20, LATE)?)?;
     Ok(given)
 }
 
@@ -191,8 +190,8 @@ fn ends(alloc: Global, holding: &Holding) -> Result<Vec<u64>, Fail> {
 /// A hundred shares, all of which M1 appointed for; 41 to 60 again, and this appointment is ended.
 fn replaced(alloc: Global) -> Result<Holding, Fail> {
     let mut given = Vec::new(alloc);
-    given.push(appointment(alloc, 1, "P", 1, 100, "2026-06-02T09:00:00")?)?;
-    given.push(appointment(alloc, 2, "Q", 41, 60, "2026-06-03T09:00:00")?)?;
+    given.push(appointment(1, "P", 1, 100, "2026-06-02T09:00:00")?)?;
+    given.push(appointment(2, "Q", 41, 60, "2026-06-03T09:00:00")?)?;
     Ok(Holding {
         shares: 100,
         appointed: Listing::from_vec(given),

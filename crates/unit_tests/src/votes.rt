@@ -66,9 +66,9 @@ fn in_all(votes_for: u64, votes_against: u64, eligible: u64) -> Tally {
 /// M1 appointed P for 1 to 100 and Q for 41 to 60, and ended what names Q.
 fn appointed(alloc: Global) -> Result<Lists, Fail> {
     let mut lists = Lists::new(alloc);
-    let first = appointment(alloc, 1, "P", 1, 100, "2026-06-02T09:00:00")?;
+    let first = appointment(1, "P", 1, 100, "2026-06-02T09:00:00")?;
     lists.appointments.push(first)?;
-    let second = appointment(alloc, 2, "Q", 41, 60, "2026-06-03T09:00:00")?;
+    let second = appointment(2, "Q", 41, 60, "2026-06-03T09:00:00")?;
     lists.appointments.push(second)?;
     lists.endings.push(ending(2, "2026-06-04T09:00:00")?)?;
     Ok(lists)
