@@ -132,10 +132,8 @@ def work_of(pid):
 
 
 def report(times):
-    """Prints what all took and the parts, and writes what the crates took as a table, in seconds of a processor."""
+    """Prints what each crate took, all and the parts, and writes the table of the crates, in seconds of a processor."""
     parts = {part: sum(seconds for (_, each), seconds in times.items() if each == part) for part in PARTS}
-    print(f"in all {minutes(time.monotonic() - BEGUN)} of wall time, {minutes(sum(parts.values()))} of processor time")
-    print("processor time: " + ", ".join(f"{part} {minutes(seconds)}" for part, seconds in parts.items()) + f"; by crates in {TABLE}")
     crates = collections.defaultdict(dict)
     for (name, part), seconds in times.items():
         if name:
@@ -146,6 +144,9 @@ def report(times):
     os.makedirs(os.path.dirname(TABLE), exist_ok=True)
     with open(TABLE, "w", encoding="utf-8") as file:
         file.write("\n".join(lines) + "\n")
+    print(*lines, sep="\n")
+    print(f"in all {minutes(time.monotonic() - BEGUN)} of wall time, {minutes(sum(parts.values()))} of processor time")
+    print("processor time: " + ", ".join(f"{part} {minutes(seconds)}" for part, seconds in parts.items()) + f"; by crates in {TABLE}")
 
 
 def minutes(seconds):

@@ -1,7 +1,7 @@
 """Checks the texts, proves and tests every crate from nothing, and runs the built program and the cases.
 
-Each line of the toolchain's gate has the time before it, and its last line is the last one here. The two lines before
-that have the wall time and the processor time, by parts; out/times has the processor time by crates.
+Each line of the toolchain's gate has the time before it, and its last line is the last one here. Before that stand the
+processor time by crates, which out/times has too, and the wall time and the processor time by parts.
 """
 import os
 import re
