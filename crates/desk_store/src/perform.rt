@@ -76,9 +76,9 @@ impl<S: Alter> Desk<S> {
     /// Makes one call, in one transaction with one commit: the tables are then the office after the
     /// step, and no table, index or view is made, changed or dropped. `show` is asked once for what is
     /// answered of the reply, before the commit. After a failure, that of `show` included, the tables
-    /// are as they were; a call that changes nothing writes nothing. After an answer a crash leaves the tables that are read, whole, and nothing
-    /// else. After a failure it leaves what it left before, or whole the office after the step. A
-    /// store that is shut commits nothing.
+    /// are as they were; a call that changes nothing writes nothing. After an answer a crash leaves
+    /// the tables that are read, whole, and nothing else. After a failure it leaves what it left
+    /// before, or whole the office after the step. A store that is shut commits nothing.
     pub fn perform<T: Drop, F: FnOnce(&Reply) -> Result<T, AllocError>>(
         &mut self,
         call: Call,
