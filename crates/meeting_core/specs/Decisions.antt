@@ -40,8 +40,8 @@ party_call party meeting now what = record {
   request = asked.Party meeting what;
 }
 
--- these are what of the meeting's public record, and those of the party's rows in it, that the answer
--- to a request reads
+-- these are what the answer to a request reads of the meeting's public record, and those of the
+-- party's rows in it that it reads
 pub record AreRead (office : OfficeLists) (party : Party) (meeting : MeetingName)
     (what : PartyRequest) (seen : PublicRecord) (rows : OwnRows) : Type 0 where
   pub public : seen ≡ public_read what (public_of office meeting)
