@@ -17,9 +17,9 @@ use Rattle.desk_words.specs.Finding.{poll_on}
 use Rattle.desk_words.specs.PollStates.{is_closed, is_waiting, there_is}
 use Rattle.desk_words.specs.Rulings.{in_found, no_resolution}
 use Rattle.desk_words.specs.Sessions.{last_number}
-use Rattle.desk_words.specs.declared.own.Authorised.{Authorised}
-use Rattle.desk_words.specs.declared.own.PollGoverned.{PollGoverned}
-use Rattle.desk_words.specs.declared.own.Received.{Received}
+use Rattle.desk_words.specs.declared.own_things.Authorised.{Authorised}
+use Rattle.desk_words.specs.declared.own_things.PollGoverned.{PollGoverned}
+use Rattle.desk_words.specs.declared.own_things.Received.{Received}
 use Rattle.desk_words.specs.declared.records.CastMark.{CastMark}
 use Rattle.desk_words.specs.declared.records.Meeting.{Meeting}
 use Rattle.desk_words.specs.declared.records.Poll.{Poll}

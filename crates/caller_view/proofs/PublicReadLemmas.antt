@@ -21,7 +21,7 @@ use Rattle.caller_view.specs.PublicReadLaws.{RulingsReadNoMoreOfThePublic}
 use Rattle.party_views.specs.OwnViews.{own_by, own_from}
 use Rattle.party_views.specs.Public.{PublicRecord}
 use Rattle.party_views.specs.PublicRead.{counted, public_read, with_counted}
-use Rattle.party_views.specs.declared.rows.OwnRows.{OwnRows}
+use Rattle.party_views.specs.declared.own_rows.OwnRows.{OwnRows}
 use Rattle.party_views.specs.declared.views.OwnView.{OwnView}
 use Rattle.party_views.proofs.CountedLemmas.{own-counted}
 

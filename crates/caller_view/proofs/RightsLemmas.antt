@@ -7,7 +7,7 @@ use Rattle.std.specs.List.{list_any}
 use Rattle.std.proofs.lemmas.Bool.{and_parts}
 use Rattle.std.proofs.lemmas.Bool.Decides.{nat_tests}
 use Rattle.vocabulary.specs.Places.{Places, holds, places_that}
-use Rattle.desk_words.specs.declared.own.Received.{Received}
+use Rattle.desk_words.specs.declared.own_things.Received.{Received}
 use Rattle.desk_words.specs.declared.request.NewCast.{NewCast}
 use Rattle.caller_view.specs.Rights.{Governs, IsRunAt, governs_at, is_governed, some_fail}
 

@@ -13,7 +13,7 @@ use Rattle.desk_words.specs.declared.records.Ending.{Ending}
 use Rattle.desk_words.specs.declared.records.Meeting.{Meeting}
 use Rattle.desk_words.specs.declared.change.Entry.{Entry}
 use Rattle.desk_words.specs.declared.change.Entry.TheVariants as entry
-use Rattle.desk_words.specs.declared.own.Given.{Given}
+use Rattle.desk_words.specs.declared.own_things.Given.{Given}
 use Rattle.desk_words.specs.declared.reply.AppointmentReceipt.{AppointmentReceipt}
 use Rattle.desk_words.specs.declared.reply.AppointmentUse.{AppointmentUse}
 use Rattle.desk_words.specs.declared.reply.AppointmentUse.TheVariants.{Meeting as ForTheMeeting, LaterPolls}

@@ -6,7 +6,7 @@ use Rattle.caller_view.specs.PartyRulings.{party_ruling}
 use Rattle.party_views.specs.OwnViews.{own_from}
 use Rattle.party_views.specs.Public.{PublicRecord}
 use Rattle.party_views.specs.PublicRead.{public_read}
-use Rattle.party_views.specs.declared.rows.OwnRows.{OwnRows}
+use Rattle.party_views.specs.declared.own_rows.OwnRows.{OwnRows}
 
 -- a request is ruled from what it reads of the public record as from all of the record
 abbrev pub RulingsReadNoMoreOfThePublic : Type 0

@@ -8,10 +8,10 @@ use Rattle.desk_words.specs.Places.{Places, holds, places_that}
 use Rattle.desk_words.specs.ViewTypes.{Day, Number, Party, Place, SessionNumber}
 use Rattle.vocabulary.specs.declared.kinds.Capacity.{Capacity}
 use Rattle.vocabulary.specs.declared.kinds.Capacity.TheVariants.{Member, Rep, Proxy}
-use Rattle.desk_words.specs.declared.own.Authorised.{Authorised}
-use Rattle.desk_words.specs.declared.own.PollGoverned.{PollGoverned}
-use Rattle.desk_words.specs.declared.own.Received.{Received}
-use Rattle.desk_words.specs.declared.own.SessionGoverned.{SessionGoverned}
+use Rattle.desk_words.specs.declared.own_things.Authorised.{Authorised}
+use Rattle.desk_words.specs.declared.own_things.PollGoverned.{PollGoverned}
+use Rattle.desk_words.specs.declared.own_things.Received.{Received}
+use Rattle.desk_words.specs.declared.own_things.SessionGoverned.{SessionGoverned}
 use Rattle.desk_words.specs.declared.records.Poll.{Poll}
 use Rattle.desk_words.specs.declared.records.RegisterRow.{RegisterRow}
 use Rattle.desk_words.specs.declared.request.NewCast.{NewCast}

@@ -10,7 +10,7 @@ use crate::casts::{cast, instructed};
 use crate::notices::notice_in;
 use desk_words::{
     Answer, AppointmentUse, Entry, Given, GivenUse, Listing, Meeting, Mine, Moment, PartyRequest,
-    Refusal, Reply, refuse, tell,
+    Refusal, Reply, refuse, reply_unchanged,
 };
 use party_views::{OwnView, PublicRecord};
 use proxy_rules::{Use, cutoffs};
@@ -89,8 +89,12 @@ pub fn answer(
         return Ok(refuse(Refusal::NoMeeting));
     };
     match asked {
-        PartyRequest::Notice => { Ok(tell(Reply::Notice(notice_in(alloc, public, meeting, now)?))) }
-        PartyRequest::Mine => { Ok(tell(Reply::Mine(mine(alloc, public, meeting, own, now)?))) }
+        PartyRequest::Notice => {
+            Ok(reply_unchanged(Reply::Notice(notice_in(alloc, public, meeting, now)?)))
+        }
+        PartyRequest::Mine => {
+            Ok(reply_unchanged(Reply::Mine(mine(alloc, public, meeting, own, now)?)))
+        }
         PartyRequest::Appoint(new) => Ok(appoint(public, meeting, &own, now, new)),
         PartyRequest::End(number) => Ok(end(&own, now, *number)),
         PartyRequest::Authorise(person) => Ok(authorise(&own, now, *person)),

@@ -4,7 +4,7 @@ ghost use Rattle.std.specs.Option.{option_copied};
 ghost use Rattle.desk_words.specs.Refusals.{first_refusal};
 ghost use Rattle.desk_words.specs.Rulings.{ruled_answer};
 ghost use Rattle.desk_words.specs.declared.change.Entry.TheVariants as entry;
-ghost use Rattle.desk_words.specs.declared.own.Given.{Given};
+ghost use Rattle.desk_words.specs.declared.own_things.Given.{Given};
 ghost use Rattle.desk_words.specs.declared.reply.Reply.TheVariants as reply;
 ghost use Rattle.caller_view.specs.AppointmentRulings.{appoint_range_cases, appoint_ruling, appointment_of, end_cases, end_ruling, given_numbered, use_by};
 

@@ -4,8 +4,8 @@ ghost use Rattle.std.specs.List.{list_any};
 ghost use Rattle.std.specs.Option.{option_copied};
 ghost use Rattle.desk_words.specs.Names.{same_name};
 ghost use Rattle.desk_words.specs.Places.{Places, holds};
-ghost use Rattle.desk_words.specs.declared.own.Authorised.{Authorised};
-ghost use Rattle.desk_words.specs.declared.own.PollGoverned.{PollGoverned};
+ghost use Rattle.desk_words.specs.declared.own_things.Authorised.{Authorised};
+ghost use Rattle.desk_words.specs.declared.own_things.PollGoverned.{PollGoverned};
 ghost use Rattle.caller_view.specs.Rights.{IsRunAt, forbids, governed_acts, governed_at_poll, governed_late, governed_votes, governs_at, holds_as_individual, instructs, is_against, is_governed, is_not_own, is_past, is_uninstructed, may_vote_for, meets, represented, some_fail};
 ghost use Rattle.party_views.specs.SessionLists.{at_number, at_session};
 

@@ -37,8 +37,8 @@ fn meeting_of(request: &Request) -> Option<MeetingId> {
 /// How a command ends by the reply to what it loads.
 fn ended_by(reply: &Reply) -> Ended {
     match reply {
-        Reply::Loaded => Ended::told("loaded"),
-        Reply::Same => Ended::told("same"),
+        Reply::Loaded => Ended::with_word("loaded"),
+        Reply::Same => Ended::with_word("same"),
         Reply::Refused(refusal) => Ended::by_refusal(*refusal),
         _ => Ended::done(),
     }

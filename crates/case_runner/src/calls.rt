@@ -9,7 +9,7 @@ use cli_commands::{days, keys, register};
 use cli_exit::Ended;
 use desk_file::results;
 use desk_http::{ServeFault, serve_one};
-use desk_store::{Desk, HandedBack, KeptRecord};
+use desk_store::{Desk, HandedBack, OwnedRecord};
 use desk_words::{Call, Caller, Failure, MeetingId, Moment, SecretKey};
 use json_replies::reply_text;
 use meeting_core::Book;
@@ -86,7 +86,7 @@ pub fn book<S: Alter>(desk: &mut Desk<S>) -> Result<Book, Failure> {
 }
 
 /// What a desk reads of a meeting for everyone; none where that fails.
-pub fn read_public<S: Alter>(desk: &mut Desk<S>, asker: &Asker) -> Option<KeptRecord> {
+pub fn read_public<S: Alter>(desk: &mut Desk<S>, asker: &Asker) -> Option<OwnedRecord> {
     desk.read_public(asker.meeting).ok()
 }
 

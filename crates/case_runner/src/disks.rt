@@ -1,6 +1,6 @@
 //! A database file and the log beside it, in memory, of which one stops after so many calls.
 use crate::asking::{Asked, Outcome};
-use crate::filed::ask_in;
+use crate::two_files::ask_in;
 use sqlite::Files;
 use sqlite_disk::{Crash, Disk, Fuse, Memory};
 use std::alloc::{AllocError, Global};

@@ -55,28 +55,28 @@ impl<'a> Findings<'a> {
     }
 
     /// Tells what is wrong at a line of the file.
-    fn tell(&mut self, line: u64, what: &str) -> Result<(), AllocError> {
+    fn report(&mut self, line: u64, what: &str) -> Result<(), AllocError> {
         writeln!(self.told, "{}:{line}: {what}", self.name)
     }
 
     /// Tells the lines that have no form or no place, and the steps that expect no answer.
     pub fn look_over(&mut self, case: &Case) -> Result<(), AllocError> {
         for line in &case.misplaced {
-            self.tell(*line, "no line of a case, or not in its place")?;
+            self.report(*line, "no line of a case, or not in its place")?;
         }
         for step in &case.steps {
             if step.expected.is_empty() {
-                self.tell(step.line, "no line of the answer is expected")?;
+                self.report(step.line, "no line of the answer is expected")?;
             }
         }
         if case.steps.is_empty() {
-            self.tell(case.last_line, "no step in the whole file")?;
+            self.report(case.last_line, "no step in the whole file")?;
         }
         Ok(())
     }
 
     /// Tells a line of an answer that is not the one that is wanted.
-    fn tell_other(
+    fn report_other(
         &mut self,
         alloc: Global,
         line: u64,
@@ -86,7 +86,7 @@ impl<'a> Findings<'a> {
         let wanted = wanted.unwrap_or("no further line");
         let got = got.unwrap_or("no further line");
         let what = format!(in alloc; "wanted {wanted}, got {got}")?;
-        self.tell(line, &what)
+        self.report(line, &what)
     }
 
     /// Tells the first line of an answer that is not the one that is wanted, if there is one. An
@@ -102,11 +102,11 @@ impl<'a> Findings<'a> {
             let got = lines.next();
             let is_empty = answer.is_empty() && text.is_empty();
             if got != Some(*text) && !is_empty {
-                return self.tell_other(alloc, *line, Some(*text), got);
+                return self.report_other(alloc, *line, Some(*text), got);
             }
         }
         match lines.next() {
-            Some(got) => self.tell_other(alloc, step.line, None, Some(got)),
+            Some(got) => self.report_other(alloc, step.line, None, Some(got)),
             None => Ok(()),
         }
     }
@@ -119,7 +119,7 @@ impl<'a> Findings<'a> {
             ..
         } in step.expected.iter().filter(|line| line.is_among) {
             if !text.lines().any(|among| among == *wanted) {
-                self.tell(*line, "no line of the answer is this")?;
+                self.report(*line, "no line of the answer is this")?;
             }
         }
         Ok(())
@@ -140,7 +140,7 @@ impl<'a> Findings<'a> {
         }
         self.compare_among(step, &answer.text)?;
         for what in answer.wrong.lines() {
-            self.tell(step.line, what)?;
+            self.report(step.line, what)?;
         }
         Ok(())
     }

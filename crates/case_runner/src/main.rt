@@ -6,7 +6,6 @@
 //! all is as expected.
 #![tactic(auto)]
 
-mod asked;
 mod asking;
 mod beside;
 mod calls;
@@ -16,7 +15,6 @@ mod devices;
 mod disks;
 mod endings;
 mod faults;
-mod filed;
 mod files;
 mod findings;
 mod given;
@@ -25,12 +23,14 @@ mod looking;
 mod plans;
 mod printed;
 mod reads;
+mod request_words;
 mod requests;
 mod served;
 mod steps;
 mod stops;
 mod tables;
 mod trial;
+mod two_files;
 
 use crate::case::read_case;
 use crate::findings::Findings;

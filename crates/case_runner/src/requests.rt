@@ -1,6 +1,6 @@
 //! What bytes ask over HTTP, and what is answered where no table is asked.
-use crate::asked::asked_text;
 use crate::findings::Answer;
+use crate::request_words::asked_text;
 use byte_io::{DeviceError, FailAt, ShortReads, SliceSource, VecSink};
 use desk_words::{Refusal, Reply};
 use http_requests::{ReceiveError, ReceivedRequest, read_request};
@@ -44,7 +44,7 @@ fn refused_text(alloc: Global, refusal: Refusal) -> Result<String, AllocError> {
     format!(in alloc; "{first} {last}")
 }
 
-fn unheard_text(alloc: Global, why: ReceiveError) -> Result<String, AllocError> {
+fn unreceived_text(alloc: Global, why: ReceiveError) -> Result<String, AllocError> {
     match why {
         ReceiveError::Refused(refusal) => refused_text(alloc, refusal),
         ReceiveError::Memory => String::from_str(alloc, "want of memory"),
@@ -60,7 +60,7 @@ fn received_text(alloc: Global, received: &ReceivedRequest) -> Result<String, Al
             let key = key.as_str();
             let text = match asked {
                 Ok(request) => asked_text(alloc, request)?,
-                Err(why) => unheard_text(alloc, *why)?,
+                Err(why) => unreceived_text(alloc, *why)?,
             };
             format!(in alloc; "{key}: {text}")
         }

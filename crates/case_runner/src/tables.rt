@@ -4,7 +4,7 @@ use crate::handed::Handed;
 use crate::reads::Asker;
 use byte_io::{SliceSource, VecSink};
 use cli_exit::Ended;
-use desk_store::{Desk, HandedBack, KeptRecord};
+use desk_store::{Desk, HandedBack, OwnedRecord};
 use desk_words::{Call, Caller, Failure, MeetingId, Moment, SecretKey};
 use meeting_core::Book;
 use party_views::OwnView;
@@ -169,7 +169,7 @@ impl Tables {
     }
 
     /// What the desk reads of a meeting for everyone; none where there is no desk, or it fails.
-    pub fn read_public(&mut self, asker: &Asker) -> Option<KeptRecord> {
+    pub fn read_public(&mut self, asker: &Asker) -> Option<OwnedRecord> {
         calls::read_public(self.desk()?, asker)
     }
 

@@ -43,7 +43,7 @@ impl Tries {
         }
     }
 
-    fn tell(&mut self, what: &str) -> Result<(), AllocError> {
+    fn report(&mut self, what: &str) -> Result<(), AllocError> {
         writeln!(self.wrong, "{what}")
     }
 
@@ -60,7 +60,7 @@ impl Tries {
     /// behind that.
     fn end(&mut self, is_change: bool) -> Result<(), AllocError> {
         if self.after == 0 || is_change && self.before == 0 {
-            self.tell("no stop leaves the office before the command, or none the one after it")
+            self.report("no stop leaves the office before the command, or none the one after it")
         } else {
             Ok(())
         }
@@ -131,7 +131,7 @@ impl Trial<'_> {
         if is_after || is_before && !is_answered {
             Ok(())
         } else {
-            tries.tell("a stop leaves another office")
+            tries.report("a stop leaves another office")
         }
     }
 
@@ -143,7 +143,7 @@ impl Trial<'_> {
         let is_answered = outcome_bytes(&outcome) == self.outcome;
         let has_stopped = left.have_stopped();
         if !is_answered && (outcome != Err("Store") || !has_stopped) {
-            tries.tell("a stop leads to another answer")?;
+            tries.report("a stop leads to another answer")?;
         }
         self.judge(&left, is_answered, tries)?;
         left.cut_power();
@@ -162,7 +162,7 @@ impl Trial<'_> {
             let has_stopped = self.stop(asked, stop, tries)?;
             stop = stop.next(has_stopped);
         }
-        tries.tell("it makes too many calls")
+        tries.report("it makes too many calls")
     }
 
     /// Stops a command at each call of its files; it changes what is told, or does not.
@@ -173,7 +173,7 @@ impl Trial<'_> {
         tries: &mut Tries,
     ) -> Result<(), AllocError> {
         if self.is_same() == is_change {
-            tries.tell("it changes nothing that is told, or something")?;
+            tries.report("it changes nothing that is told, or something")?;
         }
         self.stop_at_each(asked, tries)?;
         tries.end(is_change)
@@ -192,7 +192,7 @@ impl Trial<'_> {
         if outcome_bytes(&outcome) == written && wanted.is_in(&left, self.watched)? {
             Ok(())
         } else {
-            tries.tell("a device that fails leads to another reply, or to another office")
+            tries.report("a device that fails leads to another reply, or to another office")
         }
     }
 

@@ -32,14 +32,14 @@ AnswersCall held call end Stands =
     ((end ≡ ended_by_reply (decided held call).reply) × Stands (stepped held call))
     ⊎ ((end ≡ ended_by fault.Store) ⊎ (end ≡ ended_by fault.Memory))
 
--- what a file asks was answered so; or its fault was told, and the office is stored as it was
+-- what a file asks was answered so; or its fault was reported, and the office is stored as it was
 abbrev pub AnswersFile : OfficeLists → Moment → Result Request FileError → Ending
     → (OfficeLists → Type 0) → Type 0
 AnswersFile held now (Err fault) end Stands = (end ≡ ended_by_file fault) × Stands held
 AnswersFile held now (Ok request) end Stands = AnswersCall held (by_office now request) end Stands
 
 -- the whole file was read: `bytes` came, and what they spell was asked of the office, or the first
--- fault that they have was told
+-- fault that they have was reported
 pub record HasAsked {X : Type 0} (spelled_by : List ℕ → Result X FileError) (asking : X → Request)
     (limit : ℕ) (before after : Reader) (held : OfficeLists) (now : Moment) (end : Ending)
     (Stands : OfficeLists → Type 0) : Type 0 where

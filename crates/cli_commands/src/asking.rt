@@ -14,8 +14,8 @@ fn by_reply(reply: &Reply) -> Result<Ended, AllocError>
     ensures { IfOk result (λ ended. ended_view ended ≡ ended_by_reply reply.now) }
 {
     Ok(match reply {
-        Reply::Loaded => Ended::told("loaded"),
-        Reply::Same => Ended::told("same"),
+        Reply::Loaded => Ended::with_word("loaded"),
+        Reply::Same => Ended::with_word("same"),
         Reply::Refused(refusal) => Ended::by_refusal(*refusal),
         _ => Ended::done(),
     })

@@ -16,7 +16,7 @@ use Rattle.sql_open.specs.declared.fault.OpenFault.{OpenFault}
 use Rattle.sql_open.specs.declared.fault.OpenFault.TheVariants as opening
 use Rattle.sql_open.specs.declared.opening.HandedBack.TheVariants as handed
 
--- a database that held something is told to be not empty, and no other is; one that held nothing
+-- a database that held something is reported as not empty, and no other is; one that held nothing
 -- is a desk that holds nothing, or the store failed, or memory ran out
 abbrev pub Creates : State → State → Ending → Type 0
 Creates before after end =

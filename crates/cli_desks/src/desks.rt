@@ -27,7 +27,7 @@ pub fn init<S: Alter + Drop>(conn: Connection<S>) -> (Ended, Connection<S>)
     ensures ended { conn.in_transaction ≡ false → result.1.in_transaction ≡ false }
 {
     match sql_open::create(conn) {
-        Ok(conn) => (Ended::told("created"), conn),
+        Ok(conn) => (Ended::with_word("created"), conn),
         Err((fault, conn)) => (by_create(fault), conn),
     }
 }

@@ -71,7 +71,7 @@ impl Ended {
     }
 
     /// The end of a command that did its work and says so: status 0, and the word.
-    pub fn told(word: &'static str) -> Ended
+    pub fn with_word(word: &'static str) -> Ended
         ensures { ended_view result ≡ ending 0 word.now }
     {
         Ended {

@@ -17,7 +17,7 @@ use Rattle.http_requests.specs.declared.received.ReceivedRequest.{ReceivedReques
 use Rattle.http_requests.specs.ReceivedRequests.{source_failed}
 use Rattle.http_requests.specs.declared.received.ReceivedRequest.TheVariants.{Refused, With}
 use Rattle.http_requests.specs.declared.received.ReceiveError.{ReceiveError}
-use Rattle.http_requests.specs.declared.received.ReceiveError.TheVariants as unheard
+use Rattle.http_requests.specs.declared.received.ReceiveError.TheVariants as unreceived
 use Rattle.meeting_core.specs.KeyHolders.{caller_with}
 use Rattle.desk_http.specs.HttpAnswers.{IsAnswer, IsCutOff, AnswerMayFail, MakesCall, ShowsReply, call_received, call_of, if_ok, reply_in, reply_of, unread_reply}
 use Rattle.desk_http.specs.declared.answers.Answered.{Answered}
@@ -59,9 +59,9 @@ always_err (Err e) w = w
 -- a source that failed in the body has no reply to a caller
 pub cut_unheard : {E : Type 0} (heard : Result Request ReceiveError) (why : ReceiveError) (r : Result Answered E) → heard ≡ Err why → IfOk r (IsAnswer (unread_reply why)) → source_failed heard ≡ true → OnOk r ⊥
 cut_unheard heard why (Err e) is shown cut = tt
-cut_unheard heard (unheard.Refused refusal) (Ok a) is shown cut = let told : source_failed (Err (unheard.Refused refusal)) ≡ true = subst (λ h. source_failed h ≡ true) is cut in absurd (cc)
-cut_unheard heard unheard.Memory (Ok a) is shown cut = let told : source_failed (Err unheard.Memory) ≡ true = subst (λ h. source_failed h ≡ true) is cut in absurd (cc)
-cut_unheard heard unheard.Failed (Ok a) is shown cut = let none = shown.1 in absurd (cc)
+cut_unheard heard (unreceived.Refused refusal) (Ok a) is shown cut = let told : source_failed (Err (unreceived.Refused refusal)) ≡ true = subst (λ h. source_failed h ≡ true) is cut in absurd (cc)
+cut_unheard heard unreceived.Memory (Ok a) is shown cut = let told : source_failed (Err unreceived.Memory) ≡ true = subst (λ h. source_failed h ≡ true) is cut in absurd (cc)
+cut_unheard heard unreceived.Failed (Ok a) is shown cut = let none = shown.1 in absurd (cc)
 
 -- what was asked was heard
 pub cut_heard : {E : Type 0} {X : Type 0} (heard : Result Request ReceiveError) (request : Request) (r : Result X E) → heard ≡ Ok request → source_failed heard ≡ true → OnOk r ⊥
@@ -71,9 +71,9 @@ cut_heard heard request (Ok a) is cut = let told : source_failed (Ok request) �
 -- what is not answered of a caller is cut off only where its source failed
 pub fault_cut : (heard : Result Request ReceiveError) (why : AnswerError) → AnswerMayFail heard why → why ≡ unanswered.CutOff → source_failed heard ≡ true
 fault_cut (Ok request) why (failed, is) cut = let both : unanswered.Failure failed ≡ unanswered.CutOff = sym is ∙ cut in absurd (cc)
-fault_cut (Err (unheard.Refused refusal)) why is cut = let both = sym is ∙ cut in absurd (cc)
-fault_cut (Err unheard.Memory) why is cut = let both = sym is ∙ cut in absurd (cc)
-fault_cut (Err unheard.Failed) why is cut = refl
+fault_cut (Err (unreceived.Refused refusal)) why is cut = let both = sym is ∙ cut in absurd (cc)
+fault_cut (Err unreceived.Memory) why is cut = let both = sym is ∙ cut in absurd (cc)
+fault_cut (Err unreceived.Failed) why is cut = refl
 
 -- ---- what is left
 

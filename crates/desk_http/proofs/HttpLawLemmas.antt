@@ -20,11 +20,11 @@ use Rattle.http_requests.specs.ReceivedRequests.{AgreesWith, IsWith, Spells, Spe
 use Rattle.http_requests.specs.declared.received.ReceivedRequest.{ReceivedRequest}
 use Rattle.http_requests.specs.declared.received.ReceivedRequest.TheVariants.{Refused, With}
 use Rattle.http_requests.specs.declared.received.ReceiveError.{ReceiveError}
-use Rattle.http_requests.specs.declared.received.ReceiveError.TheVariants as unheard
+use Rattle.http_requests.specs.declared.received.ReceiveError.TheVariants as unreceived
 use Rattle.meeting_core.specs.KeyHolders.{caller_with}
 use Rattle.laws_step.specs.Worlds.{ReadsTheViews, party_answer}
 use Rattle.desk_http.specs.HttpAnswers.{reply_in, reply_of}
-use Rattle.desk_http.specs.ReplySecrecy.{AgreeOnRequest, AgreeTo, AgreeWith, RepliesTellNoMore, TextsTellNoMore}
+use Rattle.desk_http.specs.ReplySecrecy.{AgreeOnRequest, AgreeTo, AgreeWith, RepliesShowNoMore, TextsShowNoMore}
 use Rattle.desk_http.specs.Served.{replied_text}
 
 party_alike : ReadsTheViews party_answer → (one other : OfficeLists) (now : Moment) (party : Party) (heard : Result Request ReceiveError) → AgreeOnRequest one other now party heard
@@ -39,22 +39,22 @@ sender_alike law one other now (Some caller.Office) them heard agree = absurd ag
 sender_alike law one other now (Some (caller.Party party)) them heard agree =
     party_alike law one other now party heard agree.1 ∙ ap (λ w. reply_of other now w heard) (sym agree.0)
 
-pub replies_alike : ReadsTheViews party_answer → RepliesTellNoMore
+pub replies_alike : ReadsTheViews party_answer → RepliesShowNoMore
 replies_alike law one other now (Refused refusal) agree = refl
 replies_alike law one other now (With key heard) agree = sender_alike law one other now (caller_with one.keys key) (caller_with other.keys key) heard agree
 
 -- ---- from bytes
 
 -- what is heard where nothing fails
-abbrev told_as : Result Request Refusal → Result Request ReceiveError
-told_as (Ok request) = Ok request
-told_as (Err why) = Err (unheard.Refused why)
+abbrev holds_as : Result Request Refusal → Result Request ReceiveError
+holds_as (Ok request) = Ok request
+holds_as (Err why) = Err (unreceived.Refused why)
 
-told_hears : (whole : Bool) (said : Result Request Refusal) → AgreesWith whole said (told_as said)
+told_hears : (whole : Bool) (said : Result Request Refusal) → AgreesWith whole said (holds_as said)
 told_hears whole (Ok request) = refl
 told_hears whole (Err why) = refl
 
-told_said : (said : Result Request Refusal) → is_definite (told_as said) ≡ true
+told_said : (said : Result Request Refusal) → is_definite (holds_as said) ≡ true
 told_said (Ok request) = refl
 told_said (Err why) = refl
 
@@ -71,11 +71,11 @@ record HasTold (Says : ReceivedRequest → Type 0) (a : ReceivedRequest) : Type 
 
 heard_told : (key : List ℕ) (whole : Bool) (said : Result Request Refusal) (a : ReceivedRequest) (heard : Result Request ReceiveError) → a ≡ With key heard → AgreesWith whole said heard → HasTold (IsWith (Some key) whole said) a
 heard_told key whole said a (Ok request) is hears = record { told = a; says = (Ok request, is, hears); is = ap is_definite_received is; alike = inl refl }
-heard_told key whole said a (Err (unheard.Refused why)) is hears = record { told = a; says = (Err (unheard.Refused why), is, hears); is = ap is_definite_received is; alike = inl refl }
-heard_told key whole said a (Err unheard.Memory) is hears =
-    record { told = With key (told_as said); says = (told_as said, refl, told_hears whole said); is = told_said said; alike = inr (key, Err unheard.Memory, told_as said, is, refl, refl) }
-heard_told key whole said a (Err unheard.Failed) is hears =
-    record { told = With key (told_as said); says = (told_as said, refl, told_hears whole said); is = told_said said; alike = inr (key, Err unheard.Failed, told_as said, is, refl, refl) }
+heard_told key whole said a (Err (unreceived.Refused why)) is hears = record { told = a; says = (Err (unreceived.Refused why), is, hears); is = ap is_definite_received is; alike = inl refl }
+heard_told key whole said a (Err unreceived.Memory) is hears =
+    record { told = With key (holds_as said); says = (holds_as said, refl, told_hears whole said); is = told_said said; alike = inr (key, Err unreceived.Memory, holds_as said, is, refl, refl) }
+heard_told key whole said a (Err unreceived.Failed) is hears =
+    record { told = With key (holds_as said); says = (holds_as said, refl, told_hears whole said); is = told_said said; alike = inr (key, Err unreceived.Failed, holds_as said, is, refl, refl) }
 
 with_told : (key : Option (List ℕ)) (whole : Bool) (said : Result Request Refusal) (a : ReceivedRequest) → IsWith key whole said a → HasTold (IsWith key whole said) a
 with_told None whole said a is = record { told = a; says = is; is = ap is_definite_received is; alike = inl refl }
@@ -98,9 +98,9 @@ nobodys : (office : OfficeLists) (now : Moment) (who : Option Caller) (heard : R
     → (who ≡ None) × (Some (reply.Refused Key) ≡ Some x)
 nobodys office now None heard x untold replies = (refl, replies)
 nobodys office now (Some who) (Ok request) x untold replies = absurd cc
-nobodys office now (Some who) (Err (unheard.Refused why)) x untold replies = absurd cc
-nobodys office now (Some who) (Err unheard.Memory) x untold replies = absurd cc
-nobodys office now (Some who) (Err unheard.Failed) x untold replies = absurd cc
+nobodys office now (Some who) (Err (unreceived.Refused why)) x untold replies = absurd cc
+nobodys office now (Some who) (Err unreceived.Memory) x untold replies = absurd cc
+nobodys office now (Some who) (Err unreceived.Failed) x untold replies = absurd cc
 
 -- what is replied is replied to what the bytes tell
 told_reply : (office : OfficeLists) (now : Moment) (a told : ReceivedRequest) (x : Reply) → (a ≡ told) ⊎ IsUntold a told → reply_in office now a ≡ Some x → reply_in office now told ≡ Some x
@@ -120,7 +120,7 @@ told_agree one another now a told x (inr (key, heard, other, is, untold, is_told
 some_same : {A : Type 0} (x y : A) → ◌≡◌ {A = Option A} (Some x) (Some y) → x ≡ y
 some_same x y same = cc
 
-pub texts_alike : ReadsTheViews party_answer → SpellsOne → TextsTellNoMore
+pub texts_alike : ReadsTheViews party_answer → SpellsOne → TextsShowNoMore
 texts_alike law one_request one other now input a b spells_a spells_b agree x y is_x is_y =
     let first = spelled_told input a spells_a in
     let second = spelled_told input b spells_b in

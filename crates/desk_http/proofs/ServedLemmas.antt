@@ -13,7 +13,7 @@ use Rattle.desk_words.specs.declared.reply.Failure.{Failure}
 use Rattle.http_requests.specs.declared.received.ReceivedRequest.{ReceivedRequest}
 use Rattle.http_routes.specs.ReplyTexts.{reply_text}
 use Rattle.desk_http.specs.HttpAnswers.{IsAnswer, IsCutOff, MakesCall, call_received, reply_in}
-use Rattle.desk_http.specs.Served.{FailsWriting, OnFault, Replies, Serves, ServesRequest, TellsFailure, WritesPart, WritesText, as_served, as_write, failure_text, only_at}
+use Rattle.desk_http.specs.Served.{FailsWriting, OnFault, Replies, Serves, ServesRequest, FailureTextHolds, WritesPart, WritesText, as_served, as_write, failure_text, only_at}
 use Rattle.desk_http.specs.declared.now.NowError.{NowError}
 use Rattle.desk_http.specs.declared.now.NowError.TheVariants.{Clock}
 use Rattle.desk_http.specs.declared.answers.Answered.{Answered}
@@ -73,13 +73,13 @@ module _ {O : Type 0} (g : office.Ghosts O) where
 
   -- where there is no answer, and its failure is told
   pub failed_served : {T E : Type 0} (r : Result T E) (now : Moment) (received : ReceivedRequest) (old new : O) (why : AnswerError) (IsWritten : List ℕ → Type 0)
-      → LeavesOffice g None old new → OnOk r (TellsFailure why IsWritten) → OnOk r (Serves g now received old new IsWritten)
+      → LeavesOffice g None old new → OnOk r (FailureTextHolds why IsWritten) → OnOk r (Serves g now received old new IsWritten)
   failed_served (Ok x) now received old new why IsWritten leaves h = serves_failure now received old new h.0 IsWritten leaves h.2
   failed_served (Err e) now received old new why IsWritten leaves h = tt
 
   -- and where it is told in part
   pub failed_partly : {T : Type 0} (r : Result T ServeFault) (now : Moment) (received : ReceivedRequest) (old new : O) (why : AnswerError) (IsWritten : List ℕ → Type 0)
-      → LeavesOffice g None old new → IfErr r (λ fault. fault ≡ Write → TellsFailure why IsWritten) → IfErr r (λ fault. fault ≡ Write → Serves g now received old new IsWritten)
+      → LeavesOffice g None old new → IfErr r (λ fault. fault ≡ Write → FailureTextHolds why IsWritten) → IfErr r (λ fault. fault ≡ Write → Serves g now received old new IsWritten)
   failed_partly (Ok x) now received old new why IsWritten leaves h = tt
   failed_partly (Err e) now received old new why IsWritten leaves h = λ is. let told = h is in serves_failure now received old new told.0 IsWritten leaves told.2
 
@@ -104,7 +104,7 @@ module _ {O W : Type 0} (g : office.Ghosts O) (h : sink.Ghosts W) (now : Moment)
   -- where there is none, and its failure is told
   pub unanswered_replies : {T : Type 0} (told : Result T ServeFault) (why : AnswerError) → (why ≡ CutOff → IsCutOff g received old new) → LeavesOffice g None old new
       → MakesCall g (λ office. call_received office now received) old new
-      → OnOk told (TellsFailure why (WritesText h before after)) → OnFault told Write (TellsFailure why (WritesPart h before after)) → OnFault told Read ((why ≡ CutOff) × (after ≡ before))
+      → OnOk told (FailureTextHolds why (WritesText h before after)) → OnFault told Write (FailureTextHolds why (WritesPart h before after)) → OnFault told Read ((why ≡ CutOff) × (after ≡ before))
       → OnOk told (h.failures after ≡ h.failures before) → OnFault told Write (FailsWriting h before after)
       → Replies g h now received told old new before after
   unanswered_replies told why cause leaves makes all part unread works failed = record {

@@ -17,7 +17,7 @@ use Rattle.http_requests.specs.ReceivedRequests.{is_cut_off}
 use Rattle.http_requests.specs.declared.received.ReceivedRequest.{ReceivedRequest}
 use Rattle.http_requests.specs.declared.received.ReceivedRequest.TheVariants.{Refused, With}
 use Rattle.http_requests.specs.declared.received.ReceiveError.{ReceiveError}
-use Rattle.http_requests.specs.declared.received.ReceiveError.TheVariants as unheard
+use Rattle.http_requests.specs.declared.received.ReceiveError.TheVariants as unreceived
 use Rattle.http_routes.specs.Statuses.{reply_status}
 use Rattle.meeting_core.specs.KeyHolders.{caller_with}
 use Rattle.meeting_core.specs.Step.{decided}
@@ -40,9 +40,9 @@ call_received office now (With key heard) = call_of now (caller_with office.keys
 
 -- what was not heard is refused; want of memory and a source that failed have no reply
 abbrev pub unread_reply : ReceiveError → Option Reply
-unread_reply (unheard.Refused refusal) = Some (reply.Refused refusal)
-unread_reply unheard.Memory = None
-unread_reply unheard.Failed = None
+unread_reply (unreceived.Refused refusal) = Some (reply.Refused refusal)
+unread_reply unreceived.Memory = None
+unread_reply unreceived.Failed = None
 
 -- the reply to a caller: to nobody `Key`, whatever was heard, and to a request what is decided
 abbrev pub reply_of : OfficeLists → Moment → Option Caller → Result Request ReceiveError
@@ -69,7 +69,7 @@ IsAnswer found a = (reply : Reply) × (found ≡ Some reply) × ShowsReply reply
 -- why what was not heard is not answered: its source failed; else memory was refused, for the text
 -- of its refusal too
 abbrev pub unread_fault : ReceiveError → AnswerError
-unread_fault unheard.Failed = unanswered.CutOff
+unread_fault unreceived.Failed = unanswered.CutOff
 unread_fault why = unanswered.Failure failure.Memory
 
 -- why what was heard of a caller is not answered: a request by a failure of the office or of memory

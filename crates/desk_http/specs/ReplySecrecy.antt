@@ -41,16 +41,16 @@ AgreeWith one other now (With key heard) =
     AgreeTo one other now (caller_with one.keys key) (caller_with other.keys key) heard
 
 -- such offices reply alike
-abbrev pub RepliesTellNoMore : Type 0
-RepliesTellNoMore =
+abbrev pub RepliesShowNoMore : Type 0
+RepliesShowNoMore =
     (one other : OfficeLists) (now : Moment) (received : ReceivedRequest)
     → AgreeWith one other now received
     → reply_in one now received ≡ reply_in other now received
 
 -- from bytes to bytes: where the same bytes came to both, the texts of their replies are the same
 -- bytes, but where the first 8,192 bytes hold no head and end inside the target
-abbrev pub TextsTellNoMore : Type 0
-TextsTellNoMore =
+abbrev pub TextsShowNoMore : Type 0
+TextsShowNoMore =
     (one other : OfficeLists) (now : Moment) (input : List ℕ) (a b : ReceivedRequest)
     → Spells input a → Spells input b
     → AgreeWith one other now a

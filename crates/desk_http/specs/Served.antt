@@ -32,7 +32,7 @@ use Rattle.desk_http.specs.declared.now.NowError.TheVariants.{Clock, Serve}
 abbrev pub replied_text : Reply → List ℕ
 replied_text reply = reply_text (reply_status reply) (reply_bytes reply)
 
--- the text that tells of a failure
+-- the text that reports a failure
 abbrev pub failure_text : Failure → List ℕ
 failure_text failure = reply_text 503 (failure_body failure)
 
@@ -45,7 +45,7 @@ module _ {O : Type 0} (g : office.Ghosts O) where
     pub text_is : text ≡ replied_text reply
     pub stands : g.stands new (office_after office (call_received office now received))
 
-  -- the text tells of a failure, and the office is as it was: of one that is open, and of one that
+  -- the text reports a failure, and the office is as it was: of one that is open, and of one that
   -- was open, where no device under it failed in the call
   pub record IsFailed (office : OfficeLists) (old new : O) (text : List ℕ) : Type 0 where
     pub failure : Failure
@@ -54,7 +54,7 @@ module _ {O : Type 0} (g : office.Ghosts O) where
     pub unfaulted : g.is_open old → ¬ (HasFailed (g.faults old) (g.faults new))
         → g.stands new office
 
-  -- the text is that of the reply, or tells of a failure
+  -- the text is that of the reply, or reports a failure
   abbrev pub IsServed : OfficeLists → Moment → ReceivedRequest → O → O → List ℕ → Type 0
   IsServed office now received old new text =
       IsReplied office now received new text ⊎ IsFailed office old new text
@@ -99,12 +99,12 @@ FailsWriting g before after = g.failures after ≡ one_more (g.failures before)
 abbrev pub OnFault : {T E : Type 0} → Result T E → E → Type 0 → Type 0
 OnFault result why Holds = IfErr result (λ fault. fault ≡ why → Holds)
 
--- there is a failure, and this holds of the text that tells of it
-abbrev pub TellsFailure : AnswerError → (List ℕ → Type 0) → Type 0
-TellsFailure why IsWritten =
+-- there is a failure, and this holds of the text that reports it
+abbrev pub FailureTextHolds : AnswerError → (List ℕ → Type 0) → Type 0
+FailureTextHolds why IsWritten =
     (failure : Failure) × (why ≡ unanswered.Failure failure) × IsWritten (failure_text failure)
 
--- a write that failed is told as `Write`
+-- a write that failed is reported as `Write`
 abbrev pub as_write : {T E : Type 0} → Result T E → Result T ServeFault
 as_write (Ok x) = Ok x
 as_write (Err e) = Err Write
@@ -113,7 +113,7 @@ as_write (Err e) = Err Write
 
 -- what was received is answered by an office at a moment, and written: the reply or a failure is
 -- told, or a write failed, or the body was cut off, and then nothing is written or changed;
--- whatever is told, one call was made at most
+-- whatever is reported, one call was made at most
 pub record Replies {T O W : Type 0} (g : office.Ghosts O) (h : sink.Ghosts W) (now : Moment)
     (received : ReceivedRequest) (result : Result T ServeFault) (old new : O) (before after : W)
     : Type 0 where
@@ -125,7 +125,7 @@ pub record Replies {T O W : Type 0} (g : office.Ghosts O) (h : sink.Ghosts W) (n
   pub works : OnOk result (h.failures after ≡ h.failures before)
   pub failed : OnFault result Write (FailsWriting h before after)
 
--- what came of a device is told so
+-- what came of a device is reported so
 abbrev pub as_served : {T : Type 0} → Result T ServeFault → Result T NowError
 as_served (Ok x) = Ok x
 as_served (Err fault) = Err (Serve fault)

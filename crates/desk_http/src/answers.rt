@@ -72,7 +72,7 @@ fn refused(alloc: Global, refusal: Refusal) -> Result<Answered, AnswerError>
 }
 
 /// The answer to what was not heard.
-fn answer_unheard(alloc: Global, why: ReceiveError) -> Result<Answered, AnswerError>
+fn answer_unreceived(alloc: Global, why: ReceiveError) -> Result<Answered, AnswerError>
     ensures shown { IfOk result (IsAnswer (unread_reply why)) }
     ensures cause { IfErr result (λ fault. fault ≡ unread_fault why) }
 {
@@ -108,7 +108,7 @@ fn answer_to<O: Office>(
             };
             Ok(office.perform(call, |reply| shown(alloc, reply))?)
         }
-        Err(why) => answer_unheard(alloc, why),
+        Err(why) => answer_unreceived(alloc, why),
     }
 }
 

@@ -1,6 +1,6 @@
 //! What was received, answered and written.
 ghost use Rattle.std.specs.Prelude.{◌≡◌, OnErr, OnOk};
-ghost use Rattle.desk_http.specs.Served.{FailsWriting, OnFault, Replies, TellsFailure};
+ghost use Rattle.desk_http.specs.Served.{FailsWriting, OnFault, Replies, FailureTextHolds};
 ghost use Rattle.desk_http.specs.Served.{WritesPart, WritesText, as_write, failure_text};
 ghost use Rattle.desk_http.specs.declared.answers.AnswerError.TheVariants.{CutOff};
 ghost use Rattle.desk_http.specs.declared.serve.ServeFault.TheVariants.{Read, Write};
@@ -55,9 +55,9 @@ fn sent(written: Result<(), DeviceError>) -> Result<(), ServeFault>
 
 /// Writes the fixed text of a failure; nothing where the request was cut off.
 fn write_unanswered<W: Sink>(why: AnswerError, writer: &mut W) -> Result<(), ServeFault>
-    ensures served { OnOk result (TellsFailure why (WritesText W.Sink writer.old writer.new)) }
+    ensures served { OnOk result (FailureTextHolds why (WritesText W.Sink writer.old writer.new)) }
     ensures partly { OnFault result Write
-        (TellsFailure why (WritesPart W.Sink writer.old writer.new)) }
+        (FailureTextHolds why (WritesPart W.Sink writer.old writer.new)) }
     ensures unread { OnFault result Read ((why ≡ CutOff) × (writer.new ≡ writer.old)) }
     ensures works { OnOk result (W.failures writer.new ≡ W.failures writer.old) }
     ensures failed { OnFault result Write (FailsWriting W.Sink writer.old writer.new) }

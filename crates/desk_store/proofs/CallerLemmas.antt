@@ -95,7 +95,7 @@ module _ (key : List ℕ) where
     pub caller_told : (rows : List Row) (found : List KeyRow) (caller : Option Caller) → (IsRead g a b → FindsRecords g a b table.keys test rows) → ChangesNothing g a b → all_meanings table.keys.means rows ≡ Some found
         → caller ≡ option_map (λ (row : KeyRow). row.caller) (slice_get found 0) → HoldsOfTables {X = Option Caller} g a b (Ok caller) (IsCallerWith key)
     caller_told rows found caller finds changes mean is = record {
-      told = λ clean office stands.
+      holds = λ clean office stands.
           let flat = bound (flat_in (state g a).now.trees) office_of_records office stands.holds in
           let own = are_of flat.0 office flat.2 in
           let passing : ◌≡◌ {A = Option (List KeyRow)} (Some found) (Some (filter test flat.0.keys)) = sym mean ∙ (finds (clean, stands.desk)).0 flat.0.keys (keys_held (state g a).now.trees flat.0 flat.1) in

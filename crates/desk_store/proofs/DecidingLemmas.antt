@@ -24,7 +24,7 @@ module _ {S : Type 0} (g : store.Ghosts S) (a b : Held S) where
   pub told_made : {X Y : Type 0} (x : X) (r : Result Y LoadError) (P : OfficeLists → X → Type 0) (Q : OfficeLists → Y → Type 0) → HoldsOfStoredOffice g a b (Ok x) P
       → ((office : OfficeLists) → IsTrue (is_office office) → P office x → IfOk r (Q office)) → HoldsOfTables g a b r Q
   told_made x r P Q told next = record {
-    told = λ clean office stands. next office stands.kept (told.told (clean, stands.desk) office stands.holds stands.kept);
+    holds = λ clean office stands. next office stands.kept (told.holds (clean, stands.desk) office stands.holds stands.kept);
     same = λ read. always r (told.same read);
     changes = told.changes;
   }
@@ -33,7 +33,7 @@ module _ {S : Type 0} (g : store.Ghosts S) (a b : Held S) where
   pub told_also : {X : Type 0} (r : Result X LoadError) (P Q : OfficeLists → X → Type 0) → HoldsOfTables g a b r P
       → ((office : OfficeLists) → IsTrue (is_office office) → (x : X) → P office x → Q office x) → HoldsOfTables g a b r Q
   told_also r P Q told next = record {
-    told = λ clean office stands. ok_weaker (P office) (Q office) r (next office stands.kept) (told.told clean office stands);
+    holds = λ clean office stands. ok_weaker (P office) (Q office) r (next office stands.kept) (told.holds clean office stands);
     same = told.same;
     changes = told.changes;
   }

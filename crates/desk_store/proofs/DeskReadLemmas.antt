@@ -31,8 +31,8 @@ module _ {S : Type 0} (g : store.Ghosts S) (a b : Held S) where
   pub book_told : {E : Type 0} (Q : E → LoadError → Type 0) (lists : OfficeLists) (made : Result OfficeLists E) (r : Result OfficeLists LoadError) → IsReading g a b is_office (Ok lists) office_in
       → IfOk made (λ book. book ≡ office_in_order lists) → MatchResult made (λ x. r ≡ Ok x) (λ e. IsErrAnd r (Q e)) → HoldsOfTables g a b r IsBookOf
   book_told Q lists made r reading is mapped = record {
-    told = λ clean office stands.
-        let found : ◌≡◌ {A = Option OfficeLists} (Some lists) (Some office) = sym (reading.told (clean, stands.desk)) ∙ stands.holds in
+    holds = λ clean office stands.
+        let found : ◌≡◌ {A = Option OfficeLists} (Some lists) (Some office) = sym (reading.holds (clean, stands.desk)) ∙ stands.holds in
         let same : lists ≡ office = cc in
         mapped_ok Q (IsBookOf office) made r mapped (ok_weaker (λ book. book ≡ office_in_order lists) (IsBookOf office) made (λ book ordered. ordered ∙ ap office_in_order same ∙ office_ordered office stands.kept) is);
     same = λ read. always r (reading.same read);
@@ -65,7 +65,7 @@ if_told P (Err e) h = tt
 -- is told of the office for which they stand
 pub told_office : {S X : Type 0} (g : store.Ghosts S) (a b : Held S) (r : Result X LoadError) (P : OfficeLists → X → Type 0) → HoldsOfStoredOffice g a b r P → HoldsOfTables g a b r P
 told_office g a b r P told = record {
-  told = λ clean office stands. if_told (P office) r (told.told (clean, stands.desk) office stands.holds stands.kept);
+  holds = λ clean office stands. if_told (P office) r (told.holds (clean, stands.desk) office stands.holds stands.kept);
   same = told.same;
   changes = told.changes;
 }

@@ -32,8 +32,8 @@ pub record IsWithin (old new : State) : Type 0 where
   pub kept : HasCleanDisk new → (office : OfficeLists) → Stands old office → KeepsCommit old new
 
 -- what is told in a transaction is told within it
-pub told_within : {S X : Type 0} (g : store.Ghosts S) (first b : Held S) (r : Result X LoadError) (IsSo : OfficeLists → X → Type 0) → HoldsOfTables g first b r IsSo → IsWithin (state g first) (state g b)
-told_within g first b r IsSo told = record { crash = told.changes.crash; was_open = told.changes.was_open; kept = λ clean office stands. told.changes.kept (clean, stands.desk) }
+pub holds_within : {S X : Type 0} (g : store.Ghosts S) (first b : Held S) (r : Result X LoadError) (IsSo : OfficeLists → X → Type 0) → HoldsOfTables g first b r IsSo → IsWithin (state g first) (state g b)
+holds_within g first b r IsSo told = record { crash = told.changes.crash; was_open = told.changes.was_open; kept = λ clean office stands. told.changes.kept (clean, stands.desk) }
 
 -- a transaction is committed
 abbrev pub IsOver : State → State → Type 0

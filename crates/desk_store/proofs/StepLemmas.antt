@@ -29,7 +29,7 @@ decided_makes law office call (Some change) is before later = law office call ch
 -- where the office is not read, or nothing is decided, nothing is told of it
 pub failed_told : {S X Y : Type 0} (g : store.Ghosts S) (a b : Held S) (IsSo : OfficeLists → X → Type 0) (IsThat : OfficeLists → Y → Type 0) (old : Result X LoadError) (r : Result Y LoadError) → IsErr r → HoldsOfTables g a b old IsSo → HoldsOfTables g a b r IsThat
 failed_told g a b IsSo IsThat old (Ok y) bad read = absurd cc
-failed_told g a b IsSo IsThat old (Err e) bad read = record { told = λ clean office stands. tt; same = λ done. tt; changes = read.changes }
+failed_told g a b IsSo IsThat old (Err e) bad read = record { holds = λ clean office stands. tt; same = λ done. tt; changes = read.changes }
 
 module _ {S : Type 0} (g : store.Ghosts S) (a b c : Held S) (call : Call) (answer : Answer Change) (told : HoldsOfTables g a b (Ok answer) (IsDecided call)) where
   -- while a call is decided, the tables stay the office that they are
@@ -57,7 +57,7 @@ module _ {S : Type 0} (g : store.Ghosts S) (a b c : Held S) (call : Call) (answe
     pub step_still : HasCleanDisk (state g c) → (office : OfficeLists) → Stands (state g a) office → (decided office call).change ≡ None → IsUnchanged (state g a) (state g c)
     step_still clean office stands none =
         let before = early clean in
-        let is = told.told before office stands in
+        let is = told.holds before office stands in
         let same = writes.still (ap (λ (it : Answer Change). it.change) is.is ∙ none) in
         subst (λ (h : Held S). IsUnchanged (state g a) (state g h)) (sym same) (told.same (before, stands.desk))
 
@@ -66,7 +66,7 @@ module _ {S : Type 0} (g : store.Ghosts S) (a b c : Held S) (call : Call) (answe
       → (Stands (state g c) (stepped office call) × IsDatabase (state g c).now) × IsTrue (state g c).in_transaction × ((decided office call).reply ≡ answer.reply) × DeclaresNothing (state g a) (state g c)
   step_holds x law writes clean inside sound office stands =
       let before = early (Ok x) writes clean in
-      let is = told.told before office stands in
+      let is = told.holds before office stands in
       let change = ap (λ (it : Answer Change). it.change) is.is in
       let written = writes.written clean office (holds before inside sound office stands) (decided_makes law office call answer.change (sym change) stands.kept is.kept) in
       let there = written.0 in

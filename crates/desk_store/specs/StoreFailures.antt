@@ -1,6 +1,6 @@
--- What a fault is told as.
-use Rattle.meeting_core.specs.declared.book.lists.BookFault.{BookFault}
-use Rattle.meeting_core.specs.declared.book.lists.BookFault.TheVariants as book
+-- The failure that a fault is answered as.
+use Rattle.meeting_core.specs.declared.book.of_lists.BookFault.{BookFault}
+use Rattle.meeting_core.specs.declared.book.of_lists.BookFault.TheVariants as book
 use Rattle.sql_assemble.specs.declared.fault.LoadError.{LoadError}
 use Rattle.sql_assemble.specs.declared.fault.LoadError.TheVariants as reading
 use Rattle.desk_words.specs.declared.reply.Failure.{Failure}

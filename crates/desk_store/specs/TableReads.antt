@@ -1,4 +1,4 @@
--- What a reading of the tables tells, and what is decided is written into them.
+-- What a reading of the tables returns, and what is decided is written into them.
 use Rattle.std.specs.Prelude.{◌≡◌, ℕ, Bool, List, Option, Some, None, Result, IfOk, OnOk, IsTrue}
 use Rattle.sqlite.specs.declared.error.Error.{Error}
 use Rattle.sqlite.specs.Effect.{IsDatabase}
@@ -40,10 +40,10 @@ HoldsOfDeskInTransaction g old new Holds =
     HasCleanDisk (state g new) → IsTrue (state g old).in_transaction → IsDatabase (state g old).now
     → (office : OfficeLists) → Stands (state g old) office → Holds office
 
--- what is told is so of the office for which the tables stand, and nothing is changed
+-- what is returned holds of the office stored in the tables, and nothing is changed
 pub record HoldsOfTables {S X : Type 0} (g : store.Ghosts S) (old new : Held S)
     (result : Result X LoadError) (IsSo : OfficeLists → X → Type 0) : Type 0 where
-  pub told : HasCleanDisk (state g new) → (office : OfficeLists) → Stands (state g old) office
+  pub holds : HasCleanDisk (state g new) → (office : OfficeLists) → Stands (state g old) office
       → IfOk result (IsSo office)
   pub same : IsRead g old new → OnOk result (IsUnchanged (state g old) (state g new))
   pub changes : ChangesNothing g old new

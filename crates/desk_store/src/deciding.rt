@@ -33,7 +33,7 @@ fn decide_for_party<S: Alter>(
     asked: &PartyRequest,
 ) -> Result<Answer<Change>, LoadError>
     ensures same_reference { tx.new.conn.ghost_name ≡ tx.old.conn.ghost_name }
-    ensures tells { HoldsOfTables S.Store tx.old.conn.now tx.new.conn.now result
+    ensures holds { HoldsOfTables S.Store tx.old.conn.now tx.new.conn.now result
         (IsDecided (party_call party meeting now asked.now)) }
 {
     let public = read_public_for(tx, alloc, meeting, asked)?;
@@ -53,7 +53,7 @@ fn decide_for_office<S: Alter>(
     asked: &OfficeRequest,
 ) -> Result<Answer<Change>, LoadError>
     ensures same_reference { tx.new.conn.ghost_name ≡ tx.old.conn.ghost_name }
-    ensures tells { HoldsOfTables S.Store tx.old.conn.now tx.new.conn.now result
+    ensures holds { HoldsOfTables S.Store tx.old.conn.now tx.new.conn.now result
         (IsDecided (office_call meeting now asked.now)) }
 {
     let found = read_polls(tx, alloc, meeting)?;
@@ -74,7 +74,7 @@ fn decide_new_meeting<S: Alter>(
     new: &NewMeeting,
 ) -> Result<Answer<Change>, LoadError>
     ensures same_reference { tx.new.conn.ghost_name ≡ tx.old.conn.ghost_name }
-    ensures tells { HoldsOfTables S.Store tx.old.conn.now tx.new.conn.now result
+    ensures holds { HoldsOfTables S.Store tx.old.conn.now tx.new.conn.now result
         (IsDecidedAlways (whole.CallMeeting new.now)) }
 {
     let count = read_count(tx, alloc, new.meeting)?;
@@ -89,7 +89,7 @@ fn decide_closed_days<S: Alter>(
     days: &DayList,
 ) -> Result<Answer<Change>, LoadError>
     ensures same_reference { tx.new.conn.ghost_name ≡ tx.old.conn.ghost_name }
-    ensures tells { HoldsOfTables S.Store tx.old.conn.now tx.new.conn.now result
+    ensures holds { HoldsOfTables S.Store tx.old.conn.now tx.new.conn.now result
         (IsDecidedAlways (whole.ClosedDays days.now)) }
 {
     let held = read_closed(tx, alloc)?;
@@ -104,7 +104,7 @@ fn decide_new_keys<S: Alter>(
     rows: &KeyRows,
 ) -> Result<Answer<Change>, LoadError>
     ensures same_reference { tx.new.conn.ghost_name ≡ tx.old.conn.ghost_name }
-    ensures tells { HoldsOfTables S.Store tx.old.conn.now tx.new.conn.now result
+    ensures holds { HoldsOfTables S.Store tx.old.conn.now tx.new.conn.now result
         (IsDecidedAlways (whole.Keys rows.now)) }
 {
     let held = read_keys(tx, alloc)?;
@@ -119,7 +119,7 @@ fn decide_for_desk<S: Alter>(
     asked: &DeskRequest,
 ) -> Result<Answer<Change>, LoadError>
     ensures same_reference { tx.new.conn.ghost_name ≡ tx.old.conn.ghost_name }
-    ensures tells { HoldsOfTables S.Store tx.old.conn.now tx.new.conn.now result
+    ensures holds { HoldsOfTables S.Store tx.old.conn.now tx.new.conn.now result
         (IsDecidedAlways asked.now) }
 {
     match asked {
@@ -136,7 +136,7 @@ fn refused<S: Alter>(
     refusal: Refusal,
 ) -> Result<Answer<Change>, LoadError>
     ensures same_reference { tx.new.conn.ghost_name ≡ tx.old.conn.ghost_name }
-    ensures tells { HoldsOfTables S.Store tx.old.conn.now tx.new.conn.now result
+    ensures holds { HoldsOfTables S.Store tx.old.conn.now tx.new.conn.now result
         (λ office answer. answer ≡ ruling.refused refusal) }
 {
     desk::all(tx)?;
@@ -151,7 +151,7 @@ fn decide_office_call<S: Alter>(
     asked: &Request,
 ) -> Result<Answer<Change>, LoadError>
     ensures same_reference { tx.new.conn.ghost_name ≡ tx.old.conn.ghost_name }
-    ensures tells { HoldsOfTables S.Store tx.old.conn.now tx.new.conn.now result
+    ensures holds { HoldsOfTables S.Store tx.old.conn.now tx.new.conn.now result
         (IsDecided (record { moment = now; caller = caller.Office; request = asked.now })) }
 {
     match asked {
@@ -170,7 +170,7 @@ fn decide_party_call<S: Alter>(
     asked: &Request,
 ) -> Result<Answer<Change>, LoadError>
     ensures same_reference { tx.new.conn.ghost_name ≡ tx.old.conn.ghost_name }
-    ensures tells { HoldsOfTables S.Store tx.old.conn.now tx.new.conn.now result
+    ensures holds { HoldsOfTables S.Store tx.old.conn.now tx.new.conn.now result
         (IsDecided (record { moment = now; caller = caller.Party party; request = asked.now })) }
 {
     match asked {
@@ -189,7 +189,7 @@ pub(crate) fn decide<S: Alter>(
     call: &Call,
 ) -> Result<Answer<Change>, LoadError>
     ensures same_reference { tx.new.conn.ghost_name ≡ tx.old.conn.ghost_name }
-    ensures tells { HoldsOfTables S.Store tx.old.conn.now tx.new.conn.now result (IsDecided call.now) }
+    ensures holds { HoldsOfTables S.Store tx.old.conn.now tx.new.conn.now result (IsDecided call.now) }
 {
     match call.caller {
         Caller::Office => decide_office_call(tx, alloc, call.moment, &call.request),

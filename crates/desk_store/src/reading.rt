@@ -1,4 +1,4 @@
-//! What the tables tell, read within a transaction.
+//! What the tables hold, read within a transaction.
 ghost use Rattle.std.specs.Prelude.{◌≡◌};
 ghost use Rattle.desk_store.specs.StoreFailures.{failure_of_read, fault_of_book};
 ghost use Rattle.desk_store.specs.TableReads.{IsOwnView, IsCallerWith, IsPublic, HoldsOfTables, IsBookOf};
@@ -9,7 +9,7 @@ use party_views::OwnView;
 use sql_desk_tables::keys;
 use sql_load_office::{LoadError, read_office};
 use sql_load_party::read_own;
-use sql_load_public::{KeptRecord, read_public};
+use sql_load_public::{OwnedRecord, read_public};
 use sql_rows::records;
 use sqlite::{Alter, Transaction};
 use std::alloc::Global;
@@ -40,7 +40,7 @@ pub(crate) fn read_book<S: Alter>(
     alloc: Global,
 ) -> Result<Book, LoadError>
     ensures same_reference { tx.new.conn.ghost_name ≡ tx.old.conn.ghost_name }
-    ensures tells { HoldsOfTables S.Store tx.old.conn.now tx.new.conn.now result IsBookOf }
+    ensures holds { HoldsOfTables S.Store tx.old.conn.now tx.new.conn.now result IsBookOf }
 {
     let lists = read_office(tx, alloc)?;
     Book::of_lists(alloc, lists).map_err(fault_of_book)
@@ -53,7 +53,7 @@ pub(crate) fn read_caller<S: Alter>(
     key: &SecretKey,
 ) -> Result<Option<Caller>, LoadError>
     ensures same_reference { tx.new.conn.ghost_name ≡ tx.old.conn.ghost_name }
-    ensures tells { HoldsOfTables S.Store tx.old.conn.now tx.new.conn.now result
+    ensures holds { HoldsOfTables S.Store tx.old.conn.now tx.new.conn.now result
         (IsCallerWith key.now) }
 {
     let rows = keys::find(tx, key)?;
@@ -66,9 +66,9 @@ pub(crate) fn read_record<S: Alter>(
     tx: &mut Transaction<'_, S>,
     alloc: Global,
     meeting: MeetingId,
-) -> Result<KeptRecord, LoadError>
+) -> Result<OwnedRecord, LoadError>
     ensures same_reference { tx.new.conn.ghost_name ≡ tx.old.conn.ghost_name }
-    ensures tells { HoldsOfTables S.Store tx.old.conn.now tx.new.conn.now result (IsPublic meeting) }
+    ensures holds { HoldsOfTables S.Store tx.old.conn.now tx.new.conn.now result (IsPublic meeting) }
 {
     read_public(tx, alloc, meeting)
 }
@@ -82,7 +82,7 @@ pub(crate) fn read_things<S: Alter>(
     now: Moment,
 ) -> Result<OwnView, LoadError>
     ensures same_reference { tx.new.conn.ghost_name ≡ tx.old.conn.ghost_name }
-    ensures tells { HoldsOfTables S.Store tx.old.conn.now tx.new.conn.now result
+    ensures holds { HoldsOfTables S.Store tx.old.conn.now tx.new.conn.now result
         (IsOwnView party meeting now) }
 {
     read_own(tx, alloc, party, meeting, now)

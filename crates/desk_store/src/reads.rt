@@ -16,7 +16,7 @@ use crate::reading::{failure_of, read_book, read_caller, read_record, read_thing
 use desk_words::{Caller, Failure, MeetingId, Moment, Party, SecretKey};
 use meeting_core::Book;
 use party_views::OwnView;
-use sql_load_public::KeptRecord;
+use sql_load_public::OwnedRecord;
 use sqlite::Alter;
 
 impl<S: Alter> Desk<S> {
@@ -62,7 +62,7 @@ impl<S: Alter> Desk<S> {
 
     /// The public record of a meeting; where there is none of that name, the closed days alone. No
     /// other meeting is read.
-    pub fn read_public(&mut self, meeting: MeetingId) -> Result<KeptRecord, Failure>
+    pub fn read_public(&mut self, meeting: MeetingId) -> Result<OwnedRecord, Failure>
         ensures held { HoldsOfDesk S.Store self.old self.new
             (λ office. IfOk result (λ kept. kept ≡ public_of office meeting)) }
         ensures leaves { LeavesDesk S.Store None self.old self.new }

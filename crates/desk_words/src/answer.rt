@@ -13,7 +13,7 @@ pub struct Answer<C> {
 }
 
 /// The answer that tells something, and changes nothing.
-pub fn tell<C>(reply: Reply) -> Answer<C>
+pub fn reply_unchanged<C>(reply: Reply) -> Answer<C>
     ensures { result ≡ reply_unchanged reply }
 {
     Answer {
@@ -26,7 +26,7 @@ pub fn tell<C>(reply: Reply) -> Answer<C>
 pub fn refuse<C>(refusal: Refusal) -> Answer<C>
     ensures { result ≡ refused refusal }
 {
-    tell(Reply::Refused(refusal))
+    reply_unchanged(Reply::Refused(refusal))
 }
 
 /// The answer that notes what is changed, unless it stands already.

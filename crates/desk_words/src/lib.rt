@@ -7,27 +7,27 @@ mod change;
 mod finding;
 pub mod laws;
 pub mod limits;
-mod lists;
+mod list_types;
 mod majority;
 mod office;
-mod own;
+mod own_things;
 mod records;
 mod register;
 mod reply;
 mod request;
 mod sessions;
 
-pub use answer::{Answer, noted, refuse, tell};
+pub use answer::{Answer, noted, refuse, reply_unchanged};
 pub use byte_io::{FailAt, Sink, Source};
 pub use calendar::{Day, Moment, read_day, read_moment, write_day, write_moment};
 pub use caller::{Caller, KeyRow, read_caller};
 pub use change::{Change, Entry, MeetingChange, PollChange};
 pub use finding::{find_meeting, find_poll};
 pub use keyed_seq::Filed;
-pub use lists::{DayList, KeyRows, ListFault, Resolutions, same_keys};
+pub use list_types::{DayList, KeyRows, ListFault, Resolutions, same_keys};
 pub use majority::{carried, result_of};
 pub use office::{MeetingLists, OfficeLists};
-pub use own::{Authorised, Given, PollGoverned, Received, SessionGoverned};
+pub use own_things::{Authorised, Given, PollGoverned, Received, SessionGoverned};
 pub use records::{
     Appointment, Authority, Block, CastKind, CastMark, DemandMark, Ending, Meeting, Poll,
     PresenceMark, RegisterRow, Resolution, Session, Tally,

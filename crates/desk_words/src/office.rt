@@ -1,5 +1,5 @@
 //! The lists of an office.
-use crate::lists::{DayList, KeyRows};
+use crate::list_types::{DayList, KeyRows};
 use crate::records::{
     Appointment, Authority, CastMark, DemandMark, Ending, Meeting, Poll, PresenceMark, RegisterRow,
 };

@@ -3,7 +3,7 @@
 ghost use Rattle.std.specs.Prelude.{◌≡◌, Some, None};
 ghost use Rattle.desk_words.specs.SameRows.{same_row};
 
-use crate::lists::Resolutions;
+use crate::list_types::Resolutions;
 use calendar::{Day, Moment};
 use keyed_seq::FiledBy;
 use seq::{Keyed, Listing};

@@ -2,10 +2,10 @@
 ghost use Rattle.std.specs.Prelude.{◌≡◌, ◌≤◌, ◌↔◌, IfOk, Err, Some, None, IsTrue, length, IsPermutation};
 ghost use Rattle.std.specs.List.{list_all, zip};
 ghost use Rattle.desk_words.specs.SameRows.{same_row, same_rows};
-ghost use Rattle.desk_words.specs.declared.lists.ListFault.TheVariants.{Limit, Memory};
+ghost use Rattle.desk_words.specs.declared.list_types.ListFault.TheVariants.{Limit, Memory};
 
 use crate::limits::{MOST_PENCE, MOST_ROWS, MOST_SHARES};
-use crate::lists::ListFault;
+use crate::list_types::ListFault;
 use crate::records::RegisterRow;
 use seq::{Listing, ascend, into_order};
 use std::alloc::AllocError;

@@ -1,5 +1,5 @@
 //! Replies.
-use crate::own::{Authorised, Given, Received};
+use crate::own_things::{Authorised, Given, Received};
 use crate::records::{Authority, CastMark, DemandMark, RegisterRow, Tally};
 use calendar::{Day, Moment};
 use seq::Listing;

@@ -1,6 +1,6 @@
 //! Requests, parted by who may ask them and of what, and calls.
 use crate::caller::Caller;
-use crate::lists::{DayList, KeyRows, Resolutions};
+use crate::list_types::{DayList, KeyRows, Resolutions};
 use crate::register::Register;
 use calendar::{Day, Moment};
 use seq::Listing;

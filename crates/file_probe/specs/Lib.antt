@@ -1,2 +1,2 @@
 pub mod FileEndings
-pub mod FoundFiles
+pub mod FileStates

@@ -1,7 +1,7 @@
 //! What stands under the name of a desk's file, before it is opened as a database.
 ghost use Rattle.std.specs.Prelude.{◌≡◌, ◌↔◌, IfErr, IsTrue};
 ghost use Rattle.file_probe.specs.FileEndings.{EndsUnmade, FailsToConnect};
-ghost use Rattle.file_probe.specs.FoundFiles.{IsBegun, found_at, making_fault, opening_fault};
+ghost use Rattle.file_probe.specs.FileStates.{IsBegun, file_state_at, making_fault, opening_fault};
 ghost use Rattle.cli_exit.specs.Endings.{ended_view};
 
 use cli_exit::{Ended, ExitError};
@@ -23,7 +23,7 @@ enum Log {
 
 /// What stands under a name and in the log beside it, before either is opened as a database.
 #[derive(Clone, Copy)]
-pub enum Found {
+pub enum FileState {
     /// No file, and no log that a desk left.
     Nothing,
     /// No file, but the log that a desk left.
@@ -37,14 +37,14 @@ pub enum Found {
     Full,
 }
 
-impl Found {
+impl FileState {
     /// Why no desk is made there: a log would be lost.
     fn making_fault(self) -> Option<ExitError>
         ensures { result ≡ making_fault self }
     {
         match self {
-            Found::LoneLog | Found::Emptied => Some(ExitError::NotEmpty),
-            Found::Nothing | Found::Blank | Found::Full => None,
+            FileState::LoneLog | FileState::Emptied => Some(ExitError::NotEmpty),
+            FileState::Nothing | FileState::Blank | FileState::Full => None,
         }
     }
 
@@ -54,9 +54,9 @@ impl Found {
         ensures { result ≡ opening_fault self }
     {
         match self {
-            Found::Nothing | Found::LoneLog | Found::Emptied => Some(ExitError::Store),
-            Found::Blank => Some(ExitError::NotADesk),
-            Found::Full => None,
+            FileState::Nothing | FileState::LoneLog | FileState::Emptied => Some(ExitError::Store),
+            FileState::Blank => Some(ExitError::NotADesk),
+            FileState::Full => None,
         }
     }
 }
@@ -132,19 +132,19 @@ fn log_beside(rt: &HostRuntime, file: &str) -> Result<Log, Ended>
 
 /// What a file of so many bytes, of which this is the first, is beside such a log. The first byte
 /// of a file that `init` makes is 0 until the file is a database.
-fn judge(size: u64, first: u8, log: Log) -> Found
-    ensures { result ≡ found_at size first log }
+fn judge(size: u64, first: u8, log: Log) -> FileState
+    ensures { result ≡ file_state_at size first log }
 {
     match log {
-        Log::Nothing if size <= 1 => Found::Blank,
-        Log::Begun if size <= 1 || first == 0 => Found::Blank,
-        Log::Left if size <= 1 => Found::Emptied,
-        _ => Found::Full,
+        Log::Nothing if size <= 1 => FileState::Blank,
+        Log::Begun if size <= 1 || first == 0 => FileState::Blank,
+        Log::Left if size <= 1 => FileState::Emptied,
+        _ => FileState::Full,
     }
 }
 
 /// What stands in a file of so many bytes. Its log lies where a link leads.
-fn find_in(rt: &HostRuntime, file: &str, size: u64) -> Result<Found, Ended>
+fn find_in(rt: &HostRuntime, file: &str, size: u64) -> Result<FileState, Ended>
     ensures { IfErr result (λ ended. FailsToConnect (ended_view ended)) }
 {
     let front = front(rt, file).map_err(by_system)?;
@@ -154,15 +154,15 @@ fn find_in(rt: &HostRuntime, file: &str, size: u64) -> Result<Found, Ended>
 }
 
 /// What stands under the name of a desk's file.
-pub fn find(rt: &HostRuntime, file: &str) -> Result<Found, Ended>
+pub fn find(rt: &HostRuntime, file: &str) -> Result<FileState, Ended>
     ensures { IfErr result (λ ended. FailsToConnect (ended_view ended)) }
 {
     match fs::metadata(rt, file) {
         Ok(found) if found.is_file() => find_in(rt, file, found.len()),
-        Ok(_) => Ok(Found::Full),
+        Ok(_) => Ok(FileState::Full),
         Err(error) if error.kind() == ErrorKind::NotFound => Ok(match log_beside(rt, file)? {
-            Log::Left => Found::LoneLog,
-            Log::Nothing | Log::Begun => Found::Nothing,
+            Log::Left => FileState::LoneLog,
+            Log::Nothing | Log::Begun => FileState::Nothing,
         }),
         Err(error) => Err(by_system(error)),
     }

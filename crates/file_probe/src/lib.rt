@@ -4,4 +4,4 @@
 
 mod file;
 
-pub use file::{Found, find, make_file};
+pub use file::{FileState, find, make_file};

@@ -12,19 +12,19 @@ use Rattle.http_requests.specs.ReceivedRequests.{HeadAsks, AgreesWith, IsWith, S
 use Rattle.http_requests.specs.declared.received.ReceivedRequest.{ReceivedRequest}
 use Rattle.http_requests.specs.declared.received.ReceivedRequest.TheVariants.{With}
 use Rattle.http_requests.specs.declared.received.ReceiveError.{ReceiveError}
-use Rattle.http_requests.specs.declared.received.ReceiveError.TheVariants as unheard
+use Rattle.http_requests.specs.declared.received.ReceiveError.TheVariants as unreceived
 
 -- what is heard where nothing fails
 abbrev unheard_of : Result Request Refusal → Result Request ReceiveError
 unheard_of (Ok request) = Ok request
-unheard_of (Err why) = Err (unheard.Refused why)
+unheard_of (Err why) = Err (unreceived.Refused why)
 
 -- what is heard, where it is said
 heard-said : (whole : Bool) (said : Result Request Refusal) (heard : Result Request ReceiveError) → AgreesWith whole said heard → is_definite heard ≡ true → heard ≡ unheard_of said
 heard-said whole said (Ok request) h told = rw h refl
-heard-said whole said (Err (unheard.Refused why)) h told = rw h refl
-heard-said whole said (Err unheard.Memory) h told = absurd (cc)
-heard-said whole said (Err unheard.Failed) h told = absurd (cc)
+heard-said whole said (Err (unreceived.Refused why)) h told = rw h refl
+heard-said whole said (Err unreceived.Memory) h told = absurd (cc)
+heard-said whole said (Err unreceived.Failed) h told = absurd (cc)
 
 with-one : (key : Option (List ℕ)) (whole : Bool) (said : Result Request Refusal) (a b : ReceivedRequest) → IsWith key whole said a → IsWith key whole said b → is_definite_received a ≡ true → is_definite_received b ≡ true → a ≡ b
 with-one None whole said a b x y told_a told_b = x ∙ sym y

@@ -19,11 +19,11 @@ use Rattle.http_heads.specs.declared.length.TheConstants.{LONGEST_BODY}
 use Rattle.httparse.specs.Grammar.{print_request}
 use Rattle.http_requests.specs.RequestOfHead.{front_of, has_front, is_whole, request_by, request_in, size_on, size_read, way_in}
 use Rattle.http_requests.specs.ReceivedRequests.{EndInBody, HeadAsks, TakesAtMost, AgreesWith, IsBody, Spells, TakesBody, TakesRequest, most_body, most_read}
-use Rattle.http_requests.specs.declared.asked.Way.{Way}
+use Rattle.http_requests.specs.declared.head_request.Way.{Way}
 use Rattle.http_requests.specs.declared.received.ReceivedRequest.{ReceivedRequest}
 use Rattle.http_requests.specs.declared.received.ReceivedRequest.TheVariants.{Refused}
 use Rattle.http_requests.specs.declared.received.ReceiveError.{ReceiveError}
-use Rattle.http_requests.specs.declared.received.ReceiveError.TheVariants as unheard
+use Rattle.http_requests.specs.declared.received.ReceiveError.TheVariants as unreceived
 use Rattle.http_requests.proofs.CameLemmas.{came-read}
 
 -- ---- what is asked
@@ -47,7 +47,7 @@ asked-way head way rest behind bytes heard is same h = rw (is, ← same) h
 
 -- and what has none is refused
 pub asked-nowhere : (head : HeadContent) (why : Refusal) (behind : List ℕ) (heard : Result Request ReceiveError) → way_in head ≡ Err why
-    → IsErrAnd heard (λ e. e ≡ unheard.Refused why) → AgreesWith (is_whole head behind) (request_in head behind) heard
+    → IsErrAnd heard (λ e. e ≡ unreceived.Refused why) → AgreesWith (is_whole head behind) (request_in head behind) heard
 unfolding request_in
 asked-nowhere head why behind (Ok request) is h = absurd h
 asked-nowhere head why behind (Err e) is h = rw (h, is) refl
@@ -69,9 +69,9 @@ unreadable-why route size behind why is = by (front_of size behind) is
 
 read-whole : (whole : Bool) (route : Route) (size : ℕ) (behind : List ℕ) (heard : Result Request ReceiveError) → AgreesWith whole (request_by route size behind) heard → most_read heard ≡ LONGEST_BODY
 read-whole whole route size behind (Ok request) h = refl
-read-whole whole route size behind (Err (unheard.Refused why)) h = ap (λ w. most_read (Err (unheard.Refused w))) (unreadable-why route size behind why h)
-read-whole whole route size behind (Err unheard.Memory) h = refl
-read-whole whole route size behind (Err unheard.Failed) h = refl
+read-whole whole route size behind (Err (unreceived.Refused why)) h = ap (λ w. most_read (Err (unreceived.Refused w))) (unreadable-why route size behind why h)
+read-whole whole route size behind (Err unreceived.Memory) h = refl
+read-whole whole route size behind (Err unreceived.Failed) h = refl
 
 -- of no body
 pub takes-nothing : (size most : ℕ) (came : List ℕ) → TakesBody size came most []

@@ -16,19 +16,19 @@ use Rattle.http_requests.specs.RequestOfHead.{front_of, is_whole, key_of_head, r
 use Rattle.http_requests.specs.declared.received.ReceivedRequest.{ReceivedRequest}
 use Rattle.http_requests.specs.declared.received.ReceivedRequest.TheVariants.{Refused, With}
 use Rattle.http_requests.specs.declared.received.ReceiveError.{ReceiveError}
-use Rattle.http_requests.specs.declared.received.ReceiveError.TheVariants as unheard
+use Rattle.http_requests.specs.declared.received.ReceiveError.TheVariants as unreceived
 
 -- why nothing is asked, where the body was not read
 abbrev pub unread_by : Ask → ReceiveError
-unread_by (ask.Refused refusal) = unheard.Refused refusal
-unread_by ask.Memory = unheard.Memory
+unread_by (ask.Refused refusal) = unreceived.Refused refusal
+unread_by ask.Memory = unreceived.Memory
 
 -- it is refused so; memory is wanted for a body that is whole, and for nothing else; a source that
 -- failed says nothing
 abbrev pub IsWhy : Bool → Result Request Refusal → ReceiveError → Type 0
-IsWhy whole said (unheard.Refused refusal) = said ≡ Err refusal
-IsWhy whole said unheard.Memory = IsTrue whole
-IsWhy whole said unheard.Failed = ⊤
+IsWhy whole said (unreceived.Refused refusal) = said ≡ Err refusal
+IsWhy whole said unreceived.Memory = IsTrue whole
+IsWhy whole said unreceived.Failed = ⊤
 
 -- what is said, by a body that is whole or not, is heard so
 abbrev pub AgreesWith : Bool → Result Request Refusal → Result Request ReceiveError → Type 0
@@ -65,9 +65,9 @@ Spells input received = (front : Front) × SpellsAt front input received
 -- whether the source failed in the body
 abbrev pub source_failed : Result Request ReceiveError → Bool
 source_failed (Ok request) = false
-source_failed (Err (unheard.Refused refusal)) = false
-source_failed (Err unheard.Memory) = false
-source_failed (Err unheard.Failed) = true
+source_failed (Err (unreceived.Refused refusal)) = false
+source_failed (Err unreceived.Memory) = false
+source_failed (Err unreceived.Failed) = true
 
 abbrev pub is_cut_off : ReceivedRequest → Bool
 is_cut_off (Refused refusal) = false
@@ -91,9 +91,9 @@ IsBody whole body bytes = front_of (length body) bytes ≡ (if whole then Some b
 -- the most bytes that are read of a body: none where the head alone is answered by `Route`,
 -- `Method` or `TooLarge`
 abbrev pub most_read : Result Request ReceiveError → ℕ
-most_read (Err (unheard.Refused refusal.Route)) = 0
-most_read (Err (unheard.Refused refusal.Method)) = 0
-most_read (Err (unheard.Refused refusal.TooLarge)) = 0
+most_read (Err (unreceived.Refused refusal.Route)) = 0
+most_read (Err (unreceived.Refused refusal.Method)) = 0
+most_read (Err (unreceived.Refused refusal.TooLarge)) = 0
 most_read heard = LONGEST_BODY
 
 -- nor where it is refused whoever sent it

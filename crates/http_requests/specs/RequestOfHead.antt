@@ -17,7 +17,7 @@ use Rattle.http_heads.specs.declared.length.BodyLength.{BodyLength}
 use Rattle.http_heads.specs.declared.length.BodyLength.TheVariants.{Bytes, TooLarge, Unreadable}
 use Rattle.http_routes.specs.Methods.{is_method_of}
 use Rattle.http_routes.specs.Targets.{target_route}
-use Rattle.http_requests.specs.declared.asked.Way.{Way}
+use Rattle.http_requests.specs.declared.head_request.Way.{Way}
 
 -- the name of the field that holds the key
 abbrev pub key_name : List ℕ

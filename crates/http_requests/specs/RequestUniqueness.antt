@@ -6,14 +6,14 @@ use Rattle.http_requests.specs.ReceivedRequests.{Spells}
 use Rattle.http_requests.specs.declared.received.ReceivedRequest.{ReceivedRequest}
 use Rattle.http_requests.specs.declared.received.ReceivedRequest.TheVariants.{Refused, With}
 use Rattle.http_requests.specs.declared.received.ReceiveError.{ReceiveError}
-use Rattle.http_requests.specs.declared.received.ReceiveError.TheVariants as unheard
+use Rattle.http_requests.specs.declared.received.ReceiveError.TheVariants as unreceived
 
 -- whether it is what was asked, and not that memory ran out or the source failed
 abbrev pub is_definite : Result Request ReceiveError → Bool
 is_definite (Ok request) = true
-is_definite (Err (unheard.Refused refusal)) = true
-is_definite (Err unheard.Memory) = false
-is_definite (Err unheard.Failed) = false
+is_definite (Err (unreceived.Refused refusal)) = true
+is_definite (Err unreceived.Memory) = false
+is_definite (Err unreceived.Failed) = false
 
 abbrev pub is_definite_received : ReceivedRequest → Bool
 is_definite_received (Refused refusal) = true

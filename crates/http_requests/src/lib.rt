@@ -1,8 +1,8 @@
 //! Requests over HTTP, read from a source: with which key a request is sent, and what it asks.
 #![tactic(auto)]
 
-mod asked;
 mod body;
+mod head_request;
 pub mod laws;
 mod received;
 mod request;

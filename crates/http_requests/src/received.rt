@@ -1,7 +1,7 @@
 //! What a request over HTTP asks, or why it asks nothing.
 ghost use Rattle.std.specs.Prelude.{◌≡◌};
 ghost use Rattle.http_requests.specs.ReceivedRequests.{unread_by};
-ghost use Rattle.http_requests.specs.declared.received.ReceiveError.TheVariants as unheard;
+ghost use Rattle.http_requests.specs.declared.received.ReceiveError.TheVariants as unreceived;
 
 use desk_words::{Refusal, Request, SecretKey};
 use json_requests::Ask;
@@ -33,7 +33,7 @@ pub enum ReceiveError {
 }
 
 impl From<Refusal> for ReceiveError {
-    ghost from_gives = { λ refusal why. why ≡ unheard.Refused refusal };
+    ghost from_gives = { λ refusal why. why ≡ unreceived.Refused refusal };
 
     fn from(refusal: Refusal) -> ReceiveError {
         ReceiveError::Refused(refusal)

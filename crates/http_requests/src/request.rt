@@ -9,8 +9,8 @@ ghost use Rattle.http_requests.specs.ReceivedRequests.{HeadAsks, TakesAtMost, Ag
 ghost use Rattle.http_requests.specs.RequestOfHead.{is_whole};
 ghost use Rattle.http_requests.specs.ReceivedRequests.{TakesBody, TakesRequest, most_body, most_read};
 
-use crate::asked::{Way, key_in, way_in};
 use crate::body::read_body;
+use crate::head_request::{Way, key_in, way_in};
 use crate::received::{ReceiveError, ReceivedRequest};
 use byte_io::{DeviceError, Source};
 use desk_words::{Refusal, Request};

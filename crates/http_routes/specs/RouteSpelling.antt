@@ -23,7 +23,7 @@ ResponseIsSpelled =
     ++ codes "Content-Length: 133\r\nConnection: close\r\n\r\n" ++ body
 
 -- targets with the method of their route, and such as have no route
-pub record TargetsAreToldApart : Type 0 where
+pub record TargetsDiffer : Type 0 where
   pub own : option_map method_of (target_route (codes "/m/G1/mine")) ≡ Some (codes "GET")
   pub notice : option_map method_of (target_route (codes "/m/G1/notice")) ≡ Some (codes "GET")
   pub call : option_map method_of (target_route (codes "/m/G1/call")) ≡ Some (codes "POST")

@@ -1,5 +1,5 @@
 //! Laws of what is asked and answered over HTTP.
-ghost use Rattle.http_routes.specs.RouteSpelling.{RulesConflict, ResponseIsSpelled, TargetsAreSpelled, TargetsAreToldApart};
+ghost use Rattle.http_routes.specs.RouteSpelling.{RulesConflict, ResponseIsSpelled, TargetsAreSpelled, TargetsDiffer};
 
 /// What a rule of the office refuses is a conflict.
 pub fn rules_conflict()
@@ -17,6 +17,6 @@ pub fn targets_are_spelled()
 {}
 
 /// Targets with a route, and such as have none.
-pub fn targets_are_told_apart()
-    ensures { TargetsAreToldApart }
+pub fn targets_differ()
+    ensures { TargetsDiffer }
 {}

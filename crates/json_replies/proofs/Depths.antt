@@ -9,9 +9,9 @@ use Rattle.desk_words.specs.declared.records.CastKind.{CastKind}
 use Rattle.desk_words.specs.declared.records.CastKind.TheVariants as cast
 use Rattle.desk_words.specs.declared.reply.GivenUse.{GivenUse}
 use Rattle.desk_words.specs.declared.reply.Mine.{Mine}
-use Rattle.desk_words.specs.declared.own.PollGoverned.{PollGoverned}
-use Rattle.desk_words.specs.declared.own.Received.{Received}
-use Rattle.desk_words.specs.declared.own.SessionGoverned.{SessionGoverned}
+use Rattle.desk_words.specs.declared.own_things.PollGoverned.{PollGoverned}
+use Rattle.desk_words.specs.declared.own_things.Received.{Received}
+use Rattle.desk_words.specs.declared.own_things.SessionGoverned.{SessionGoverned}
 use Rattle.desk_words.specs.declared.reply.NoticedPoll.{NoticedPoll}
 use Rattle.desk_words.specs.declared.reply.NoticedResolution.{NoticedResolution}
 use Rattle.desk_words.specs.declared.reply.NoticedSession.{NoticedSession}

@@ -9,8 +9,8 @@ use Rattle.vocabulary.specs.declared.kinds.Instr.TheVariants.{Free}
 use Rattle.vocabulary.specs.declared.kinds.MeetingKind.TheVariants.{General}
 use Rattle.vocabulary.specs.declared.kinds.ResKind.TheVariants.{Ordinary}
 use Rattle.desk_words.specs.ViewTypes.{Day, Moment, SessionNumber}
-use Rattle.desk_words.specs.declared.own.Received.{Received}
-use Rattle.desk_words.specs.declared.own.SessionGoverned.{SessionGoverned}
+use Rattle.desk_words.specs.declared.own_things.Received.{Received}
+use Rattle.desk_words.specs.declared.own_things.SessionGoverned.{SessionGoverned}
 use Rattle.desk_words.specs.declared.reply.Mine.{Mine}
 use Rattle.desk_words.specs.declared.reply.Notice.{Notice}
 use Rattle.desk_words.specs.declared.reply.NoticedPoll.{NoticedPoll}

@@ -11,9 +11,9 @@ use Rattle.desk_words.specs.declared.reply.AppointmentReceipt.{AppointmentReceip
 use Rattle.desk_words.specs.declared.reply.AppointmentUse.{AppointmentUse}
 use Rattle.desk_words.specs.declared.reply.AppointmentUse.TheVariants.{Meeting, LaterPolls}
 use Rattle.desk_words.specs.declared.reply.GivenUse.{GivenUse}
-use Rattle.desk_words.specs.declared.own.PollGoverned.{PollGoverned}
-use Rattle.desk_words.specs.declared.own.Received.{Received}
-use Rattle.desk_words.specs.declared.own.SessionGoverned.{SessionGoverned}
+use Rattle.desk_words.specs.declared.own_things.PollGoverned.{PollGoverned}
+use Rattle.desk_words.specs.declared.own_things.Received.{Received}
+use Rattle.desk_words.specs.declared.own_things.SessionGoverned.{SessionGoverned}
 use Rattle.json_replies.specs.Forms.{decimal_data, name_data, moment_data, or_null, array_of, numbered_array, only_if, is_adjourned, object_of}
 
 -- an instruction, as its word

@@ -49,7 +49,7 @@ abbrev pub only_if : Bool → List ℕ × Data → List (List ℕ × Data) → L
 only_if true m ms = m ∷ ms
 only_if false m ms = ms
 
--- a meeting of so many sessions was adjourned; what tells its sessions apart stands only then
+-- a meeting of so many sessions was adjourned; what distinguishes its sessions stands only then
 abbrev pub is_adjourned : ℕ → Bool
 is_adjourned sessions = nat_lt 1 sessions
 

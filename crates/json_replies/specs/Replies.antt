@@ -14,7 +14,7 @@ use Rattle.desk_words.specs.declared.records.CastKind.{CastKind}
 use Rattle.desk_words.specs.declared.records.CastKind.TheVariants as cast
 use Rattle.desk_words.specs.declared.records.CastMark.{CastMark}
 use Rattle.desk_words.specs.declared.reply.Declaration.{Declaration}
-use Rattle.desk_words.specs.declared.own.Authorised.{Authorised}
+use Rattle.desk_words.specs.declared.own_things.Authorised.{Authorised}
 use Rattle.desk_words.specs.declared.reply.Mine.{Mine}
 use Rattle.desk_words.specs.declared.reply.Reply.{Reply}
 use Rattle.desk_words.specs.declared.reply.Reply.TheVariants as reply

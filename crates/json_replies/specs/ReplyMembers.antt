@@ -2,9 +2,9 @@
 use Rattle.std.specs.Prelude.{ℕ, Bool, List, [], ◌∷◌, length, codes}
 use Rattle.serde_json.specs.Data.{Data, boolean, string}
 use Rattle.vocabulary.specs.Kinds.{company_word, meeting_kind_word}
-use Rattle.desk_words.specs.declared.own.Given.{Given}
-use Rattle.desk_words.specs.declared.own.Received.{Received}
-use Rattle.desk_words.specs.declared.own.SessionGoverned.{SessionGoverned}
+use Rattle.desk_words.specs.declared.own_things.Given.{Given}
+use Rattle.desk_words.specs.declared.own_things.Received.{Received}
+use Rattle.desk_words.specs.declared.own_things.SessionGoverned.{SessionGoverned}
 use Rattle.desk_words.specs.declared.reply.Declaration.{Declaration}
 use Rattle.desk_words.specs.declared.reply.Mine.{Mine}
 use Rattle.desk_words.specs.declared.reply.Notice.{Notice}

@@ -45,8 +45,8 @@ use Rattle.caller_view.specs.Rights.{governed_for, is_against, is_not_own, is_un
 use Rattle.party_views.specs.PartyRows.{rows_in, rows_of}
 use Rattle.party_views.specs.SessionLists.{each_session}
 use Rattle.party_views.specs.Views.{meeting_at, own_of, public_in, public_of}
-use Rattle.party_views.specs.declared.rows.MemberRows.{MemberRows}
-use Rattle.party_views.specs.declared.rows.OwnRows.{OwnRows}
+use Rattle.party_views.specs.declared.own_rows.MemberRows.{MemberRows}
+use Rattle.party_views.specs.declared.own_rows.OwnRows.{OwnRows}
 use Rattle.party_views.specs.declared.views.OwnView.{OwnView}
 use Rattle.meeting_core.specs.Step.{decided}
 use Rattle.laws_step.specs.PartyReads.{ReadsEnough, answered}

@@ -24,7 +24,7 @@ use Rattle.laws_run.specs.Isolation.{AreIndistinguishable, IsolatesSteps}
 use Rattle.laws_run.specs.NearParts.{IsSourced, Near, Part, Viewer, is_near, is_source, near_in, part_of}
 use Rattle.laws_run.specs.Traces.{Shown, ShownRequest, Whole, Office, is_by, is_giving, is_near_by, is_shown, names_party, shown_of, shown_request}
 use Rattle.laws_run.proofs.RunsFoundLemmas.{after_entry, public-entry}
-use Rattle.laws_run.proofs.RunsOfficeLemmas.{near_told, near-office, office_after, office-kept, public-office}
+use Rattle.laws_run.proofs.RunsOfficeLemmas.{near_shown, near-office, office_after, office-kept, public-office}
 use Rattle.laws_run.proofs.RunsPartLemmas.{is_near_some, near_at, near_at-stays, near_some, near-after, sourced-entry}
 use Rattle.laws_run.proofs.RunsRunLemmas.{call_in}
 use Rattle.laws_run.proofs.PartyLemmas.{answer_to, by-party, entry-of, own-answer, own-party, source-answer, sourced-what, unseen-entry}
@@ -74,7 +74,7 @@ unseen-by : (viewer : Viewer) (o : OfficeLists) (now : ℕ) (who : Caller) (requ
 unseen-by viewer o now caller.Office request h id =
     let none = untold (shown_request viewer now request) (public_of (office_after o now request)) h in
     part-of viewer (office_after o now request) o id (public-office viewer o now request id none)
-    (near-office viewer o now request id ∙ ap (λ told. near_told told id (public_of o id).meeting (near_in viewer (meeting_at o id))) none)
+    (near-office viewer o now request id ∙ ap (λ told. near_shown told id (public_of o id).meeting (near_in viewer (meeting_at o id))) none)
 unseen-by viewer o now (caller.Party party) request h id =
     party-unseen viewer o party now request id (not-whole (is_shown viewer party request) (party_call now party request) h)
 
@@ -155,7 +155,7 @@ office-seen viewer one other now request then again shown alike first second id 
     let public : public_of one id ≡ public_of other id = ap (λ (part : Part). part.public) (alike.parts id) in
     let near : near_in viewer (meeting_at one id) ≡ near_in viewer (meeting_at other id) = ap (λ (part : Part). part.near) (alike.parts id) in
     part-of viewer (office_after one now request) (office_after other then again) id (λ i. after i id)
-    (near-office viewer one now request id ∙ (λ i. near_told (what i) id (public i).meeting (near i)) ∙ sym (near-office viewer other then again id))
+    (near-office viewer one now request id ∙ (λ i. near_shown (what i) id (public i).meeting (near i)) ∙ sym (near-office viewer other then again id))
 
 seen-by : (viewer : Viewer) (one other : OfficeLists) (now : ℕ) (who : Caller) (request : Request) (then : ℕ) (whom : Caller) (again : Request) (shown : Shown) → AreIndistinguishable viewer one other
     → shown_of decided viewer one (record { moment = now; caller = who; request = request }) ≡ Some shown

@@ -263,11 +263,11 @@ near-presence viewer o at now who =
 -- ---- what is told
 
 -- what is near after a call of the office, by what is told of it
-abbrev pub near_told : Option ShownRequest → List ℕ → Option Meeting → Near → Near
-near_told None id meeting n = n
-near_told (Some Public) id meeting n = n
-near_told (Some (Register at now record_moment rows)) id meeting n = cond (same_name at id) (near_loaded meeting now record_moment rows n) n
-near_told (Some (Present at)) id meeting n = cond (same_name at id) (near_by meeting (λ m n. record n { presences = with_last m n.presences }) n) n
+abbrev pub near_shown : Option ShownRequest → List ℕ → Option Meeting → Near → Near
+near_shown None id meeting n = n
+near_shown (Some Public) id meeting n = n
+near_shown (Some (Register at now record_moment rows)) id meeting n = cond (same_name at id) (near_loaded meeting now record_moment rows n) n
+near_shown (Some (Present at)) id meeting n = cond (same_name at id) (near_by meeting (λ m n. record n { presences = with_last m n.presences }) n) n
 
 -- the meeting of the name, or another
 by-name : (viewer : Viewer) (o : OfficeLists) (at id : List ℕ) (f : MeetingLists → Ruling MeetingChange) (g : Option Meeting → Near → Near)
@@ -284,10 +284,10 @@ by-name viewer o at id f g here =
 
 -- a presence is told where it is the viewer's
 told-presence : (viewer : Viewer) (at id : List ℕ) (meeting : Option Meeting) (who : List ℕ) (n : Near)
-    → cond (same_name at id) (near_by meeting (near_marked viewer who) n) n ≡ near_told (cond (same_name who viewer.party) (Some (Present at)) None) id meeting n
+    → cond (same_name at id) (near_by meeting (near_marked viewer who) n) n ≡ near_shown (cond (same_name who viewer.party) (Some (Present at)) None) id meeting n
 told-presence viewer at id meeting who n =
     elim (same_name who viewer.party) as (λ b. cond (same_name at id) (near_by meeting (λ m x. record x { presences = cond b (with_last m x.presences) x.presences }) n) n
-    ≡ near_told (cond b (Some (Present at)) None) id meeting n) [
+    ≡ near_shown (cond b (Some (Present at)) None) id meeting n) [
       | true ↦ refl
       | false ↦ elim (same_name at id) as (λ b. cond b (near_by meeting (λ m x. x) n) n ≡ n) [
         | true ↦ elim (meeting) as (λ found. near_by found (λ m x. x) n ≡ n) [ None ↦ refl | Some x ↦ refl ]
@@ -296,7 +296,7 @@ told-presence viewer at id meeting who n =
     ]
 
 pub near-office : (viewer : Viewer) (o : OfficeLists) (now : ℕ) (request : Request) (id : List ℕ)
-    → near_in viewer (meeting_at (office_after o now request) id) ≡ near_told (shown_request viewer now request) id (public_of o id).meeting (near_in viewer (meeting_at o id))
+    → near_in viewer (meeting_at (office_after o now request) id) ≡ near_shown (shown_request viewer now request) id (public_of o id).meeting (near_in viewer (meeting_at o id))
 near-office viewer o now (asked.Desk (desk.CallMeeting new)) id = desk-view (near_in viewer) o (desk.CallMeeting new) id (λ meeting. refl)
 near-office viewer o now (asked.Desk (desk.ClosedDays days)) id = desk-view (near_in viewer) o (desk.ClosedDays days) id (λ meeting. refl)
 near-office viewer o now (asked.Desk (desk.Keys rows)) id = desk-view (near_in viewer) o (desk.Keys rows) id (λ meeting. refl)

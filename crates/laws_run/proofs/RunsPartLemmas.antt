@@ -25,9 +25,9 @@ use Rattle.proxy_rules.specs.Parties.{authorises, is_authority_of, is_cast_by, i
 use Rattle.proxy_rules.specs.Shares.{row_of, shares_of}
 use Rattle.party_views.specs.PartyRows.{authority_rows_in, givers, member_in, no_rows_of, rows_in, rows_of}
 use Rattle.party_views.specs.Views.{meeting_at, public_of}
-use Rattle.party_views.specs.declared.rows.AuthorityRows.{AuthorityRows}
-use Rattle.party_views.specs.declared.rows.MemberRows.{MemberRows}
-use Rattle.party_views.specs.declared.rows.OwnRows.{OwnRows}
+use Rattle.party_views.specs.declared.own_rows.AuthorityRows.{AuthorityRows}
+use Rattle.party_views.specs.declared.own_rows.MemberRows.{MemberRows}
+use Rattle.party_views.specs.declared.own_rows.OwnRows.{OwnRows}
 use Rattle.laws_run.specs.NearParts.{IsSourced, Near, Viewer, is_near, is_source, is_sourced_in, near_in, rows_near}
 use Rattle.laws_run.proofs.RunsFoundLemmas.{after_entry, entered-name, found-changed}
 use Rattle.laws_run.proofs.RunsListLemmas.{all-each_once, all-more, all-of, all-within, filter-among, filter-more, implied, made-more, map-among}

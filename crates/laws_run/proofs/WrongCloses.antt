@@ -7,15 +7,15 @@ use Rattle.desk_words.specs.declared.request.Call.{Call}
 use Rattle.laws_step.specs.Loads.{Deciding}
 use Rattle.laws_step.specs.WrongAnswers.{office_with}
 use Rattle.laws_run.specs.RunSecrecy.{KeepsSecretsInSteps, VotesAreSecret}
-use Rattle.laws_run.specs.WrongCounts.{TellsVotes, all_votes, calls_without_votes, closes_after_votes, declares_after_five, four_votes, meeting_of_two, tells_turnout, tells_turnout_of_others, vote_and_call, vote_and_close, vote_and_declare, vote_and_declare_another}
+use Rattle.laws_run.specs.WrongCounts.{ShowsVotes, all_votes, calls_without_votes, closes_after_votes, declares_after_five, four_votes, meeting_of_two, shows_turnout, shows_turnout_of_others, vote_and_call, vote_and_close, vote_and_declare, vote_and_declare_another}
 use Rattle.laws_step.specs.WrongOfficeReads.{lone_office}
 use Rattle.laws_run.proofs.SecretRuns.{secrets_kept_in_runs, votes_left_out}
 
 -- the number that the first reply tells, and whether the last reply is a refusal
-abbrev number_told : List Reply → ℕ
-number_told (reply.Ended number ∷ replies) = number
-number_told (reply.Declared result ∷ replies) = result.tally.withheld
-number_told other = 0
+abbrev number_shown : List Reply → ℕ
+number_shown (reply.Ended number ∷ replies) = number
+number_shown (reply.Declared result ∷ replies) = result.tally.withheld
+number_shown other = 0
 
 abbrev is_refused_at : Reply → Bool
 is_refused_at (reply.Refused refusal) = true
@@ -26,41 +26,41 @@ is_refusal [] = false
 is_refusal (told ∷ []) = is_refused_at told
 is_refusal (told ∷ replies) = is_refusal replies
 
-pub turnout_told : TellsVotes tells_turnout (office_with []) vote_and_close
-turnout_told = record {
+pub turnout_shown : ShowsVotes shows_turnout (office_with []) vote_and_close
+turnout_shown = record {
   is_one = refl;
-  apart = λ h. (let told : 1 ≡ 0 = ap number_told h in absurd (omega arith));
+  apart = λ h. (let told : 1 ≡ 0 = ap number_shown h in absurd (omega arith));
 }
 
-pub others_told : TellsVotes tells_turnout_of_others (lone_office meeting_of_two) vote_and_declare_another
-others_told = record {
+pub others_shown : ShowsVotes shows_turnout_of_others (lone_office meeting_of_two) vote_and_declare_another
+others_shown = record {
   is_one = refl;
-  apart = λ h. (let told : 1 ≡ 0 = ap number_told h in absurd (omega arith));
+  apart = λ h. (let told : 1 ≡ 0 = ap number_shown h in absurd (omega arith));
 }
 
-pub turnout_asked : TellsVotes closes_after_votes (office_with []) vote_and_close
+pub turnout_asked : ShowsVotes closes_after_votes (office_with []) vote_and_close
 turnout_asked = record {
   is_one = refl;
   apart = λ h. (let told : false ≡ true = ap is_refusal h in absurd (true≢false (sym told)));
 }
 
-pub five_asked : TellsVotes declares_after_five (office_with four_votes) vote_and_declare
+pub five_asked : ShowsVotes declares_after_five (office_with four_votes) vote_and_declare
 five_asked = record {
   is_one = refl;
   apart = λ h. (let told : false ≡ true = ap is_refusal h in absurd (true≢false (sym told)));
 }
 
-pub votes_asked : TellsVotes calls_without_votes (office_with []) vote_and_call
+pub votes_asked : ShowsVotes calls_without_votes (office_with []) vote_and_call
 votes_asked = record {
   is_one = refl;
   apart = λ h. (let told : true ≡ false = ap is_refusal h in absurd (true≢false told));
 }
 
 -- what tells the office of votes breaks the law
-pub told_caught : (deciding : Deciding) (office : OfficeLists) (calls : List Call) → TellsVotes deciding office calls → VotesAreSecret deciding → ⊥
-told_caught deciding office calls tells law = tells.apart (law all_votes office calls).office
+pub shown_caught : (deciding : Deciding) (office : OfficeLists) (calls : List Call) → ShowsVotes deciding office calls → VotesAreSecret deciding → ⊥
+shown_caught deciding office calls tells law = tells.apart (law all_votes office calls).office
 
 -- and so its steps do not all keep votes secret
-pub told_caught_in_steps : (deciding : Deciding) (office : OfficeLists) (calls : List Call) → TellsVotes deciding office calls → KeepsSecretsInSteps deciding → ⊥
-told_caught_in_steps deciding office calls tells steps =
-    told_caught deciding office calls tells (votes_left_out deciding (secrets_kept_in_runs deciding steps))
+pub shown_caught_in_steps : (deciding : Deciding) (office : OfficeLists) (calls : List Call) → ShowsVotes deciding office calls → KeepsSecretsInSteps deciding → ⊥
+shown_caught_in_steps deciding office calls tells steps =
+    shown_caught deciding office calls tells (votes_left_out deciding (secrets_kept_in_runs deciding steps))

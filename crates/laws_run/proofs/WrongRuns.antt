@@ -24,10 +24,10 @@ use Rattle.laws_run.specs.Isolation.{AreIndistinguishable, IsolatesRuns}
 use Rattle.laws_run.specs.RunSecrecy.{VotesAreSecret}
 use Rattle.laws_run.specs.SecretCalls.{Secret, all_but}
 use Rattle.laws_run.specs.NearParts.{IsSourced, Viewer, is_near, is_sourced_in, rows_near}
-use Rattle.laws_run.specs.WrongMoments.{another_meeting, appoints_elsewhere, asks_notice, both_appoint_apart, meeting_elsewhere, moves_the_record, office_of_both, tells_the_row}
-use Rattle.laws_run.specs.WrongTellings.{load_of, loaded_alone, loaded_both, meeting_unloaded, tells_the_place, the_other, both_authorise, both_demand, limits_all, meeting_of_unequals, meeting_with_authorities, meeting_with_proxy, member_asks, member_authorises, member_demands, proxy_votes_first, tells_voters_turnout, tells_votes_on_shares, tells_whether_enough}
+use Rattle.laws_run.specs.WrongMoments.{another_meeting, appoints_elsewhere, asks_notice, both_appoint_apart, meeting_elsewhere, moves_the_record, office_of_both, shows_the_row}
+use Rattle.laws_run.specs.WrongReplies.{load_of, loaded_alone, loaded_both, meeting_unloaded, shows_the_place, the_other, both_authorise, both_demand, limits_all, meeting_of_unequals, meeting_with_authorities, meeting_with_proxy, member_asks, member_authorises, member_demands, proxy_votes_first, shows_voters_turnout, shows_votes_on_shares, shows_whether_enough}
 use Rattle.laws_run.specs.Traces.{Office, Register, Whole}
-use Rattle.laws_run.specs.WrongWays.{call_by, TellsRunsApart, both_appoint, both_vote, member_appoints, member_votes, tells_all_numbers, tells_the_count, the_member}
+use Rattle.laws_run.specs.WrongWays.{call_by, DistinguishesRuns, both_appoint, both_vote, member_appoints, member_votes, shows_all_numbers, shows_the_count, the_member}
 
 -- nobody named or authorised the member in the office
 sourced : IsSourced the_member (office_with [])
@@ -38,41 +38,41 @@ itself : AreIndistinguishable the_member (office_with []) (office_with [])
 itself = record { parts = λ id. refl; first = sourced; second = sourced }
 
 -- a number that a reply tells: of votes for the resolution, of an appointment, or of all votes
-abbrev number_told : List Reply → ℕ
-number_told [] = 0
-number_told (reply.Ended number ∷ replies) = number
-number_told (reply.Declared declared ∷ replies) = declared.tally.votes_for
-number_told (reply.Appointed receipt ∷ replies) = receipt.number
-number_told (other ∷ replies) = 0
+abbrev number_shown : List Reply → ℕ
+number_shown [] = 0
+number_shown (reply.Ended number ∷ replies) = number
+number_shown (reply.Declared declared ∷ replies) = declared.tally.votes_for
+number_shown (reply.Appointed receipt ∷ replies) = receipt.number
+number_shown (other ∷ replies) = 0
 
-pub votes_apart : TellsRunsApart tells_the_count the_member (office_with []) member_votes both_vote
+pub votes_apart : DistinguishesRuns shows_the_count the_member (office_with []) member_votes both_vote
 votes_apart = record {
   is_one = refl;
   alike = itself;
   near = refl;
   near_again = refl;
   same = refl;
-  apart = λ h. (let told : 0 ≡ 1 = ap number_told h in absurd (omega arith));
+  apart = λ h. (let told : 0 ≡ 1 = ap number_shown h in absurd (omega arith));
 }
 
-pub numbers_apart : TellsRunsApart tells_all_numbers the_member (office_with []) member_appoints both_appoint
+pub numbers_apart : DistinguishesRuns shows_all_numbers the_member (office_with []) member_appoints both_appoint
 numbers_apart = record {
   is_one = refl;
   alike = itself;
   near = refl;
   near_again = refl;
   same = refl;
-  apart = λ h. (let told : 1 ≡ 2 = ap number_told h in absurd (omega arith));
+  apart = λ h. (let told : 1 ≡ 2 = ap number_shown h in absurd (omega arith));
 }
 
-pub turnout_apart : TellsRunsApart tells_voters_turnout the_member (office_with []) member_votes both_vote
+pub turnout_apart : DistinguishesRuns shows_voters_turnout the_member (office_with []) member_votes both_vote
 turnout_apart = record {
   is_one = refl;
   alike = itself;
   near = refl;
   near_again = refl;
   same = refl;
-  apart = λ h. (let told : 0 ≡ 1 = ap number_told h in absurd (omega arith));
+  apart = λ h. (let told : 0 ≡ 1 = ap number_shown h in absurd (omega arith));
 }
 
 -- the votes of all but the member, which the law of secrecy lets it not be told of
@@ -83,11 +83,11 @@ votes_of_others = record { voters = all_but a_member; meeting = a_meeting; resol
 differ : (n : ℕ) → suc n ≡ 0 → ⊥
 differ n h = absurd (omega (arith, h))
 
-pub total_secret : VotesAreSecret tells_the_count → ⊥
-total_secret law = differ 0 (ap number_told ((law votes_of_others (office_with []) both_vote).parties refl a_member refl))
+pub total_secret : VotesAreSecret shows_the_count → ⊥
+total_secret law = differ 0 (ap number_shown ((law votes_of_others (office_with []) both_vote).parties refl a_member refl))
 
-pub turnout_secret : VotesAreSecret tells_voters_turnout → ⊥
-turnout_secret law = differ 0 (ap number_told ((law votes_of_others (office_with []) both_vote).parties refl a_member refl))
+pub turnout_secret : VotesAreSecret shows_voters_turnout → ⊥
+turnout_secret law = differ 0 (ap number_shown ((law votes_of_others (office_with []) both_vote).parties refl a_member refl))
 
 -- ---- an office of one meeting
 
@@ -113,7 +113,7 @@ abbrev votes_told : List Reply → ℕ
 votes_told (reply.Mine mine ∷ replies) = length mine.casts
 votes_told other = 0
 
-pub enough_apart : TellsRunsApart tells_whether_enough the_member (lone_office meeting_of_unequals) member_demands both_demand
+pub enough_apart : DistinguishesRuns shows_whether_enough the_member (lone_office meeting_of_unequals) member_demands both_demand
 enough_apart = record {
   is_one = refl;
   alike = itself_of meeting_of_unequals refl;
@@ -123,7 +123,7 @@ enough_apart = record {
   apart = λ h. (let told : false ≡ true = ap is_same h in absurd (true≢false (sym told)));
 }
 
-pub shares_apart : TellsRunsApart tells_votes_on_shares the_member (lone_office meeting_with_proxy) member_asks proxy_votes_first
+pub shares_apart : DistinguishesRuns shows_votes_on_shares the_member (lone_office meeting_with_proxy) member_asks proxy_votes_first
 unfolding numbers_that greatest_that
 shares_apart = record {
   is_one = refl;
@@ -134,7 +134,7 @@ shares_apart = record {
   apart = λ h. (let told : 0 ≡ 1 = ap votes_told h in absurd (omega arith));
 }
 
-pub limits_apart : TellsRunsApart limits_all the_member (lone_office meeting_with_authorities) member_authorises both_authorise
+pub limits_apart : DistinguishesRuns limits_all the_member (lone_office meeting_with_authorities) member_authorises both_authorise
 limits_apart = record {
   is_one = refl;
   alike = itself_of meeting_with_authorities refl;
@@ -165,7 +165,7 @@ rows-same member =
 
 -- and so is what is public
 abbrev after_load : List RegisterRow → OfficeLists
-after_load rows = after_call tells_the_place (lone_office meeting_unloaded) (load_of rows)
+after_load rows = after_call shows_the_place (lone_office meeting_unloaded) (load_of rows)
 
 public-same : (id : List ℕ) → public_of (after_load (one_share another ∷ [])) id ≡ public_of (after_load (one_share a_member ∷ one_share another ∷ [])) id
 public-same id =
@@ -178,7 +178,7 @@ abbrev place_told : List Reply → ℕ
 place_told (reply.Mine mine ∷ replies) = option_map_or (λ (row : RegisterRow). row.paid) mine.row 0
 place_told other = 0
 
-pub place_apart : TellsRunsApart tells_the_place the_other (lone_office meeting_unloaded) loaded_alone loaded_both
+pub place_apart : DistinguishesRuns shows_the_place the_other (lone_office meeting_unloaded) loaded_alone loaded_both
 place_apart = record {
   is_one = refl;
   alike = record { parts = λ id. refl; first = sourced_other; second = sourced_other };
@@ -203,7 +203,7 @@ abbrev moment_told : List Reply → ℕ
 moment_told (reply.Notice notice ∷ replies) = notice.record_moment
 moment_told other = 0
 
-pub record_apart : TellsRunsApart moves_the_record the_member office_of_both asks_notice appoints_elsewhere
+pub record_apart : DistinguishesRuns moves_the_record the_member office_of_both asks_notice appoints_elsewhere
 record_apart = record {
   is_one = refl;
   alike = record { parts = λ id. refl; first = sourced_both; second = sourced_both };
@@ -213,17 +213,17 @@ record_apart = record {
   apart = λ h. (let told : 0 ≡ 1 = ap moment_told h in absurd (omega arith));
 }
 
-pub rows_apart : TellsRunsApart tells_the_row the_member office_of_both member_appoints both_appoint_apart
+pub rows_apart : DistinguishesRuns shows_the_row the_member office_of_both member_appoints both_appoint_apart
 rows_apart = record {
   is_one = refl;
   alike = record { parts = λ id. refl; first = sourced_both; second = sourced_both };
   near = refl;
   near_again = refl;
   same = refl;
-  apart = λ h. (let told : 1 ≡ 2 = ap number_told h in absurd (omega arith));
+  apart = λ h. (let told : 1 ≡ 2 = ap number_shown h in absurd (omega arith));
 }
 
 -- what tells two such lists apart breaks the law
-pub caught_by : (deciding : Deciding) (viewer : Viewer) (office : OfficeLists) (calls again : List Call) → TellsRunsApart deciding viewer office calls again → IsolatesRuns deciding → ⊥
+pub caught_by : (deciding : Deciding) (viewer : Viewer) (office : OfficeLists) (calls again : List Call) → DistinguishesRuns deciding viewer office calls again → IsolatesRuns deciding → ⊥
 caught_by deciding viewer office calls again tells law =
     tells.apart (law viewer office office calls again tells.alike tells.near tells.near_again tells.same).replies

@@ -5,5 +5,5 @@ pub mod SecretCalls
 pub mod Traces
 pub mod WrongCounts
 pub mod WrongMoments
-pub mod WrongTellings
+pub mod WrongReplies
 pub mod WrongWays

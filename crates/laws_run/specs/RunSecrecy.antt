@@ -1,5 +1,5 @@
 -- Secrecy of votes: before a resolution is declared, nobody but the voter is answered otherwise for
--- a vote on it; the office is told of the votes by the declaration alone.
+-- a vote on it; the office learns the votes by the declaration alone.
 use Rattle.std.specs.Prelude.{◌≡◌, Bool, true, ◌&&◌, not, List, [], ◌∷◌, if◌then◌else◌, IsTrue}
 use Rattle.desk_words.specs.ViewTypes.{MeetingName, Party}
 use Rattle.desk_words.specs.declared.office.OfficeLists.{OfficeLists}
@@ -47,7 +47,7 @@ replies_to_office secret (call ∷ calls) (reply ∷ replies) =
     let later = replies_to_office secret calls replies in
     if is_the_office call.caller then but_result secret call.request reply ∷ later else later
 
--- two lists of calls, each in an office of its own, tell the same of the secret votes: the office
+-- two lists of calls, each in an office of its own, show the same of the secret votes: the office
 -- is given the same replies, one for one, but for the result where the resolution is declared; of
 -- calls that are made before that, each party that is none of the voters is; the offices after them
 -- are the same but for the votes; and while the resolution is not declared, so are the public
@@ -68,7 +68,7 @@ pub record RepliesAgree (deciding : Deciding) (secret : Secret) (one other : Off
       ≡ public_of (run_by deciding other again).office meeting
 
 -- runs keep secrets: from two offices that are the same but for the secret votes, two lists of
--- calls that differ in such votes alone tell the same
+-- calls that differ in such votes alone show the same
 abbrev pub KeepsSecretsInRuns : Deciding → Type 0
 KeepsSecretsInRuns deciding =
     (secret : Secret) (one other : OfficeLists) (calls again : List Call)
@@ -81,7 +81,7 @@ abbrev pub StepsKeepSecretsInRuns : Type 0
 StepsKeepSecretsInRuns =
     (deciding : Deciding) → KeepsSecretsInSteps deciding → KeepsSecretsInRuns deciding
 
--- so a list of calls tells the same with the secret votes, and without them
+-- so a list of calls shows the same with the secret votes, and without them
 abbrev pub VotesAreSecret : Deciding → Type 0
 VotesAreSecret deciding =
     (secret : Secret) (office : OfficeLists) (calls : List Call)

@@ -77,7 +77,7 @@ shown_request viewer now (asked.Office meeting (office.Presence party)) =
     if same_name party viewer.party then Some (Present meeting) else None
 shown_request viewer now other = Some Public
 
--- what is shown of a call: all of it, or what is told of a call of the office with the public
+-- what is shown of a call: all of it, or what is shown of a call of the office with the public
 -- records of all meetings after it
 pub data Shown : Type 0 where
   Whole : Call → Shown

@@ -35,58 +35,58 @@ use Rattle.laws_run.specs.SecretCalls.{Secret, all_parties, is_secret_call, with
 use Rattle.laws_run.specs.WrongWays.{another_vote, call_by}
 
 -- what is made of the right answer to a request of the office in a meeting, where it is found
-abbrev pub OfficeTelling : Type 0
-OfficeTelling = Option MeetingLists → OfficeRequest → Answer Change → Answer Change
+abbrev pub OfficeShowing : Type 0
+OfficeShowing = Option MeetingLists → OfficeRequest → Answer Change → Answer Change
 
 -- requests of the office in meetings are answered so
-abbrev pub answer_told : OfficeTelling → OfficeLists → Call → Request → Answer Change
-answer_told telling office call (asked.Office meeting what) =
+abbrev pub answer_shown : OfficeShowing → OfficeLists → Call → Request → Answer Change
+answer_shown telling office call (asked.Office meeting what) =
     telling (meeting_at office meeting) what (decided office call)
-answer_told telling office call request = decided office call
+answer_shown telling office call request = decided office call
 
 -- and all other calls as by the desk
-abbrev pub deciding_told : OfficeTelling → Deciding
-deciding_told telling office call = answer_told telling office call call.request
+abbrev pub deciding_shown : OfficeShowing → Deciding
+deciding_shown telling office call = answer_shown telling office call call.request
 
 -- ---- the turnout
 
 -- where the voting is closed, the reply tells how many votes the meeting has
-abbrev pub told_how_many : MeetingLists → Reply → Reply
-told_how_many m reply.VotingClosed = reply.Ended (length m.casts)
-told_how_many m other = other
+abbrev pub shown_how_many : MeetingLists → Reply → Reply
+shown_how_many m reply.VotingClosed = reply.Ended (length m.casts)
+shown_how_many m other = other
 
 -- the close of a poll is answered so
-abbrev pub turnout_at_close : OfficeTelling
+abbrev pub turnout_at_close : OfficeShowing
 turnout_at_close (Some m) (Close resolution) right = record right {
-  reply = told_how_many m right.reply;
+  reply = shown_how_many m right.reply;
 }
 turnout_at_close found what right = right
 
 -- the first wrong way: the office is told at the close how many votes there are
-abbrev pub tells_turnout : Deciding
-tells_turnout = deciding_told turnout_at_close
+abbrev pub shows_turnout : Deciding
+shows_turnout = deciding_shown turnout_at_close
 
 -- where a resolution is declared, the reply tells in place of the votes that are withheld how many
 -- votes are on the others
-abbrev pub told_of_others : MeetingLists → Number → Reply → Reply
-told_of_others m resolution (reply.Declared result) =
+abbrev pub shown_of_others : MeetingLists → Number → Reply → Reply
+shown_of_others m resolution (reply.Declared result) =
     reply.Declared
     (record result {
       tally = record result.tally { withheld = length (casts_off resolution m.casts) };
     })
-told_of_others m resolution other = other
+shown_of_others m resolution other = other
 
 -- the declaration of a resolution is answered so
-abbrev pub turnout_of_others : OfficeTelling
+abbrev pub turnout_of_others : OfficeShowing
 turnout_of_others (Some m) (Declare resolution) right = record right {
-  reply = told_of_others m resolution right.reply;
+  reply = shown_of_others m resolution right.reply;
 }
 turnout_of_others found what right = right
 
 -- the second wrong way: the office is told at the declaration of one resolution how many votes
 -- there are on the others
-abbrev pub tells_turnout_of_others : Deciding
-tells_turnout_of_others = deciding_told turnout_of_others
+abbrev pub shows_turnout_of_others : Deciding
+shows_turnout_of_others = deciding_shown turnout_of_others
 
 -- ---- refusals
 
@@ -95,22 +95,22 @@ abbrev pub unless_votes : ℕ → MeetingLists → Answer Change → Answer Chan
 unless_votes least m right = if nat_le least (length m.casts) then right else refused NoQuorum
 
 -- the close of a poll is answered so, where there are none
-abbrev pub no_close_without_votes : OfficeTelling
+abbrev pub no_close_without_votes : OfficeShowing
 no_close_without_votes (Some m) (Close resolution) right = unless_votes 1 m right
 no_close_without_votes found what right = right
 
 -- the third wrong way: a poll is closed once somebody has voted
 abbrev pub closes_after_votes : Deciding
-closes_after_votes = deciding_told no_close_without_votes
+closes_after_votes = deciding_shown no_close_without_votes
 
 -- the declaration of a resolution is answered so, where there are fewer than five
-abbrev pub no_result_of_few : OfficeTelling
+abbrev pub no_result_of_few : OfficeShowing
 no_result_of_few (Some m) (Declare resolution) right = unless_votes 5 m right
 no_result_of_few found what right = right
 
 -- the fourth wrong way: a resolution is declared once there are five votes
 abbrev pub declares_after_five : Deciding
-declares_after_five = deciding_told no_result_of_few
+declares_after_five = deciding_shown no_result_of_few
 
 -- a meeting has votes
 abbrev pub has_votes : MeetingLists → Bool
@@ -185,7 +185,7 @@ abbrev pub all_votes : Secret
 all_votes = record { voters = all_parties; meeting = a_meeting; resolution = 1 }
 
 -- calls in an office have other replies to the office without the votes on the resolution
-pub record TellsVotes (deciding : Deciding) (office : OfficeLists) (calls : List Call)
+pub record ShowsVotes (deciding : Deciding) (office : OfficeLists) (calls : List Call)
     : Type 0 where
   pub is_one : IsTrue (is_office office)
   pub apart : let kept = without (is_secret_call all_votes) calls in

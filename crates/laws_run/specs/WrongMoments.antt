@@ -76,25 +76,25 @@ appoints_elsewhere = appointed_elsewhere ∷ asks_notice
 
 -- where an appointment is recorded, its number in the reply is that of its row among those of all
 -- meetings
-abbrev pub told_row : OfficeLists → Reply → Reply
-told_row office (reply.Appointed receipt) =
+abbrev pub shown_row : OfficeLists → Reply → Reply
+shown_row office (reply.Appointed receipt) =
     reply.Appointed
     (record receipt {
       number = suc (sum_by (λ (m : MeetingLists). length m.appointments) office.meetings);
     })
-told_row office other = other
+shown_row office other = other
 
 -- a member is answered with that number
 abbrev pub numbered_by_rows : Answering
 numbered_by_rows office party now (asked.Party meeting (Appoint new)) =
     let right = party_answer office party now (asked.Party meeting (Appoint new)) in record right {
-      reply = told_row office right.reply;
+      reply = shown_row office right.reply;
     }
 numbered_by_rows office party now request = party_answer office party now request
 
 -- the ninth wrong way: a member is told how many appointments were given in all meetings
-abbrev pub tells_the_row : Deciding
-tells_the_row = deciding_by numbered_by_rows
+abbrev pub shows_the_row : Deciding
+shows_the_row = deciding_by numbered_by_rows
 
 -- the other member appoints in the other meeting, and then the member appoints
 abbrev pub both_appoint_apart : List Call

@@ -1,5 +1,5 @@
 -- Wrong ways to decide calls, and for each two lists of calls that are one to a party by what is
--- shown of them, and that it tells apart.
+-- shown of them, and that it distinguishes.
 use Rattle.std.specs.Prelude.{◌≡◌, suc, List, [], ◌∷◌, length, codes, Option, Some, IsTrue}
 use Rattle.std.specs.List.{list_all}
 use Rattle.vocabulary.specs.Names.{in_places}
@@ -40,26 +40,26 @@ abbrev pub deciding_by : Answering → Deciding
 deciding_by answering office call = answer_by answering office call call.caller
 
 -- the first wrong way: a voter is told how the votes stood
-abbrev pub tells_the_count : Deciding
-tells_the_count = deciding_by running_total
+abbrev pub shows_the_count : Deciding
+shows_the_count = deciding_by running_total
 
 -- where an appointment is recorded, its number in the reply counts the appointments of all members
-abbrev pub told_of_all : Option MeetingLists → Reply → Reply
-told_of_all (Some m) (reply.Appointed receipt) =
+abbrev pub shown_of_all : Option MeetingLists → Reply → Reply
+shown_of_all (Some m) (reply.Appointed receipt) =
     reply.Appointed (record receipt { number = suc (length m.appointments) })
-told_of_all found other = other
+shown_of_all found other = other
 
 -- a member is answered with that number
 abbrev pub numbered_over_all : Answering
 numbered_over_all office party now (asked.Party meeting (Appoint new)) =
     let right = party_answer office party now (asked.Party meeting (Appoint new)) in record right {
-      reply = told_of_all (meeting_at office meeting) right.reply;
+      reply = shown_of_all (meeting_at office meeting) right.reply;
     }
 numbered_over_all office party now request = party_answer office party now request
 
 -- the second wrong way: a member is told how many appointments were given by all
-abbrev pub tells_all_numbers : Deciding
-tells_all_numbers = deciding_by numbered_over_all
+abbrev pub shows_all_numbers : Deciding
+shows_all_numbers = deciding_by numbered_over_all
 
 -- what a party asks in the meeting, as a call
 abbrev pub call_by : Party → PartyRequest → Call
@@ -103,7 +103,7 @@ both_appoint = call_by another an_appointment ∷ member_appoints
 
 -- two lists of calls in an office, which have the same trace for a viewer, are told apart by the
 -- replies to it
-pub record TellsRunsApart (deciding : Deciding) (viewer : Viewer) (office : OfficeLists)
+pub record DistinguishesRuns (deciding : Deciding) (viewer : Viewer) (office : OfficeLists)
     (calls again : List Call) : Type 0 where
   pub is_one : IsTrue (is_office office)
   pub alike : AreIndistinguishable viewer office office

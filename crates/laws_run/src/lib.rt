@@ -10,12 +10,12 @@ ghost use Rattle.laws_run.specs.Isolation.{IsolatesCalls, IsolatesSteps, RunsAre
 
 pub use votes::{
     call_for_votes_is_caught, close_for_turnout_is_caught, result_for_turnout_is_caught, secrecy,
-    told_turnout_is_caught, turnout_of_others_is_caught,
+    shown_turnout_is_caught, turnout_of_others_is_caught,
 };
 pub use wrong_ways::{
     limits_over_all_are_caught, moved_record_moments_are_caught, numbers_of_rows_are_caught,
     numbers_over_all_are_caught, places_in_the_register_are_caught, running_total_is_caught,
-    told_demands_are_caught, turnout_for_a_vote_is_caught, votes_on_shares_are_caught,
+    shown_demands_are_caught, turnout_for_a_vote_is_caught, votes_on_shares_are_caught,
 };
 
 /// What others do changes no reply to a party but by what the trace of the calls shows it. The

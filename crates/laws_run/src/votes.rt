@@ -3,7 +3,7 @@ ghost use Rattle.std.specs.Prelude.{[]};
 ghost use Rattle.meeting_core.specs.Step.{decided};
 ghost use Rattle.laws_step.specs.WrongAnswers.{office_with};
 ghost use Rattle.laws_run.specs.RunSecrecy.{KeepsSecretsInRuns, KeepsSecretsInSteps, StepsKeepSecretsInRuns, VotesAreSecret};
-ghost use Rattle.laws_run.specs.WrongCounts.{TellsVotes, calls_without_votes, closes_after_votes, declares_after_five, four_votes, meeting_of_two, tells_turnout, tells_turnout_of_others, vote_and_call, vote_and_close, vote_and_declare, vote_and_declare_another};
+ghost use Rattle.laws_run.specs.WrongCounts.{ShowsVotes, calls_without_votes, closes_after_votes, declares_after_five, four_votes, meeting_of_two, shows_turnout, shows_turnout_of_others, vote_and_call, vote_and_close, vote_and_declare, vote_and_declare_another};
 ghost use Rattle.laws_step.specs.WrongOfficeReads.{lone_office};
 
 use laws_step::{votes_are_secret, what_is_read_is_enough};
@@ -35,25 +35,25 @@ pub fn secrecy()
 
 /// The law of the office can fail: a desk that tells it at the close of a poll how many votes there
 /// are gives it another reply where a member voted before.
-pub fn told_turnout_is_caught()
-    ensures apart { TellsVotes tells_turnout (office_with []) vote_and_close }
-    ensures caught { VotesAreSecret tells_turnout → ⊥ }
-    ensures steps_caught { KeepsSecretsInSteps tells_turnout → ⊥ }
+pub fn shown_turnout_is_caught()
+    ensures apart { ShowsVotes shows_turnout (office_with []) vote_and_close }
+    ensures caught { VotesAreSecret shows_turnout → ⊥ }
+    ensures steps_caught { KeepsSecretsInSteps shows_turnout → ⊥ }
 {}
 
 /// The law of the office can fail: a desk that tells it at the declaration of one resolution how
 /// many votes there are on another gives it another reply where a member voted on that.
 pub fn turnout_of_others_is_caught()
-    ensures apart { TellsVotes tells_turnout_of_others (lone_office meeting_of_two)
+    ensures apart { ShowsVotes shows_turnout_of_others (lone_office meeting_of_two)
         vote_and_declare_another }
-    ensures caught { VotesAreSecret tells_turnout_of_others → ⊥ }
-    ensures steps_caught { KeepsSecretsInSteps tells_turnout_of_others → ⊥ }
+    ensures caught { VotesAreSecret shows_turnout_of_others → ⊥ }
+    ensures steps_caught { KeepsSecretsInSteps shows_turnout_of_others → ⊥ }
 {}
 
 /// The law of the office can fail: a desk that closes a poll only where there are votes gives it
 /// another reply where a member voted before.
 pub fn close_for_turnout_is_caught()
-    ensures apart { TellsVotes closes_after_votes (office_with []) vote_and_close }
+    ensures apart { ShowsVotes closes_after_votes (office_with []) vote_and_close }
     ensures caught { VotesAreSecret closes_after_votes → ⊥ }
     ensures steps_caught { KeepsSecretsInSteps closes_after_votes → ⊥ }
 {}
@@ -61,7 +61,7 @@ pub fn close_for_turnout_is_caught()
 /// The law of the office can fail: a desk that declares a resolution only where there are five
 /// votes refuses the declaration where the fifth is wanting.
 pub fn result_for_turnout_is_caught()
-    ensures apart { TellsVotes declares_after_five (office_with four_votes) vote_and_declare }
+    ensures apart { ShowsVotes declares_after_five (office_with four_votes) vote_and_declare }
     ensures caught { VotesAreSecret declares_after_five → ⊥ }
     ensures steps_caught { KeepsSecretsInSteps declares_after_five → ⊥ }
 {}
@@ -69,7 +69,7 @@ pub fn result_for_turnout_is_caught()
 /// The law of the office can fail: a desk that calls no meeting while votes stand gives it another
 /// reply where a member voted before.
 pub fn call_for_votes_is_caught()
-    ensures apart { TellsVotes calls_without_votes (office_with []) vote_and_call }
+    ensures apart { ShowsVotes calls_without_votes (office_with []) vote_and_call }
     ensures caught { VotesAreSecret calls_without_votes → ⊥ }
     ensures steps_caught { KeepsSecretsInSteps calls_without_votes → ⊥ }
 {}

@@ -27,7 +27,7 @@ use Rattle.proxy_rules.specs.PlaceRuns.{runs_that}
 use Rattle.proxy_rules.specs.Shares.{is_corporation, is_individual, shares_of}
 use Rattle.proxy_rules.specs.Uses.{Acts, Votes}
 use Rattle.proxy_rules.specs.declared.holdings.Holding.{Holding}
-use Rattle.proxy_rules.specs.declared.papers.Cutoffs.{Cutoffs}
+use Rattle.proxy_rules.specs.declared.meeting_records.Cutoffs.{Cutoffs}
 use Rattle.poll_rules.specs.Demands.{by_a_representative, demand_by, has_demanded, holder_demanded, names_one, shares_demanding}
 use Rattle.poll_rules.specs.Quorum.{is_counted, is_quorum, present_in}
 use Rattle.poll_rules.specs.Roles.{has_authority, role_if, roles_of}

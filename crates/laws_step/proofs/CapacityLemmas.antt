@@ -21,15 +21,15 @@ use Rattle.desk_words.specs.declared.office.MeetingLists.{MeetingLists}
 use Rattle.desk_words.specs.declared.records.Appointment.{Appointment}
 use Rattle.desk_words.specs.declared.records.Authority.{Authority}
 use Rattle.desk_words.specs.declared.records.RegisterRow.{RegisterRow}
-use Rattle.desk_words.specs.declared.own.Authorised.{Authorised}
-use Rattle.desk_words.specs.declared.own.Received.{Received}
+use Rattle.desk_words.specs.declared.own_things.Authorised.{Authorised}
+use Rattle.desk_words.specs.declared.own_things.Received.{Received}
 use Rattle.proxy_rules.specs.Cutoffs.{cutoffs_of}
 use Rattle.proxy_rules.specs.Uses.{Acts}
 use Rattle.proxy_rules.specs.Governing.{governed_in, governing_in, governs}
 use Rattle.proxy_rules.specs.Holdings.{are_tags, holding_by, holding_of, holding_with, is_valid_holding}
 use Rattle.proxy_rules.specs.Shares.{is_corporation, is_individual, row_of, shares_of, shares_by}
 use Rattle.proxy_rules.specs.Parties.{authorises, names}
-use Rattle.proxy_rules.specs.declared.papers.Cutoffs.{Cutoffs}
+use Rattle.proxy_rules.specs.declared.meeting_records.Cutoffs.{Cutoffs}
 use Rattle.proxy_rules.proofs.ProxyKeptLemmas.{kept_of}
 use Rattle.seq.proofs.Kept.{any-filter}
 use Rattle.proxy_rules.proofs.ProxyNameLemmas.{same_name-sym}
@@ -43,7 +43,7 @@ use Rattle.caller_view.specs.Rights.{governed_acts, holds_as_individual, no_runs
 use Rattle.party_views.specs.OwnViews.{authorised_in_rows, governed_by, received_by, shares_of_kind, shares_in}
 use Rattle.party_views.specs.PartyRows.{authority_rows_in, givers, member_in}
 use Rattle.party_views.specs.Views.{own_in}
-use Rattle.party_views.specs.declared.rows.AuthorityRows.{AuthorityRows}
+use Rattle.party_views.specs.declared.own_rows.AuthorityRows.{AuthorityRows}
 use Rattle.laws_step.proofs.AnyLemmas.{any-alike, any-and, any-either, any-turned}
 use Rattle.laws_step.proofs.MemberRows.{row_of-any, rows_differ, rows_held}
 use Rattle.laws_step.proofs.GovernedLemmas.{any-among, governed-by_member, kept-is}

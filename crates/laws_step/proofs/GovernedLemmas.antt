@@ -17,10 +17,10 @@ use Rattle.desk_words.specs.declared.records.Appointment.{Appointment}
 use Rattle.proxy_rules.specs.Governing.{governed_in}
 use Rattle.proxy_rules.specs.Holdings.{IsValidHolding, holding_of, is_given_by, is_valid_holding}
 use Rattle.proxy_rules.specs.declared.holdings.Holding.{Holding}
-use Rattle.proxy_rules.specs.declared.papers.Cutoffs.{Cutoffs}
+use Rattle.proxy_rules.specs.declared.meeting_records.Cutoffs.{Cutoffs}
 use Rattle.party_views.specs.OwnViews.{governed_by, governed_in_holding, rows_by}
 use Rattle.party_views.specs.PartyRows.{parties_once, givers, member_in}
-use Rattle.party_views.specs.declared.rows.MemberRows.{MemberRows}
+use Rattle.party_views.specs.declared.own_rows.MemberRows.{MemberRows}
 
 -- what an office keeps passes the test of it
 pub kept-is : (holding : Holding) → IsValidHolding holding → is_valid_holding holding ≡ true

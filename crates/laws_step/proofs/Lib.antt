@@ -22,4 +22,4 @@ mod WorldLemmas
 mod WrongAdjourned
 mod WrongAnswers
 mod WrongReplaced
-mod WrongTellings
+mod WrongReplies

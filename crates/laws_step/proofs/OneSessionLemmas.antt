@@ -15,7 +15,7 @@ use Rattle.desk_words.specs.Finding.{poll_on}
 use Rattle.desk_words.specs.Office.{is_demand, is_meeting, is_resolution, same_demand, same_presence}
 use Rattle.desk_words.specs.Sessions.{is_session, last_number, open_there, session_of}
 use Rattle.desk_words.specs.declared.office.MeetingLists.{MeetingLists}
-use Rattle.desk_words.specs.declared.own.SessionGoverned.{SessionGoverned}
+use Rattle.desk_words.specs.declared.own_things.SessionGoverned.{SessionGoverned}
 use Rattle.desk_words.specs.declared.records.Appointment.{Appointment}
 use Rattle.desk_words.specs.declared.records.DemandMark.{DemandMark}
 use Rattle.desk_words.specs.declared.records.Meeting.{Meeting}
@@ -25,7 +25,7 @@ use Rattle.desk_words.specs.declared.records.Session.{Session}
 use Rattle.proxy_rules.specs.Cutoffs.{is_late_poll, late_cutoffs, session_cutoffs}
 use Rattle.proxy_rules.specs.Parties.{is_demanded_by, is_presence_of, names}
 use Rattle.proxy_rules.specs.Uses.{Acts, Votes, Vote, vote_on}
-use Rattle.proxy_rules.specs.declared.papers.Cutoffs.{Cutoffs}
+use Rattle.proxy_rules.specs.declared.meeting_records.Cutoffs.{Cutoffs}
 use Rattle.poll_rules.proofs.GatherLemmas.{list_any-map}
 use Rattle.poll_rules.specs.Demands.{demand_by, has_demanded, shares_demanding}
 use Rattle.poll_rules.specs.Quorum.{is_counted, is_quorum}

@@ -20,12 +20,12 @@ use Rattle.proxy_rules.specs.Uses.{Acts, Votes, Vote}
 use Rattle.proxy_rules.specs.Holdings.{is_ended_of, is_given_by}
 use Rattle.proxy_rules.specs.Parties.{authorises, is_authority_of, is_cast_by, is_demanded_by, is_presence_of, names}
 use Rattle.proxy_rules.specs.Shares.{row_of, shares_of}
-use Rattle.proxy_rules.specs.declared.papers.Cutoffs.{Cutoffs}
+use Rattle.proxy_rules.specs.declared.meeting_records.Cutoffs.{Cutoffs}
 use Rattle.party_views.specs.OwnViews.{governed_by, known_to_proxy, nothing_of, own_from, received_by}
 use Rattle.party_views.specs.PartyRows.{authority_rows_in, givers, member_in, rows_in, rows_of}
 use Rattle.party_views.specs.SessionLists.{each_session}
 use Rattle.party_views.specs.Views.{meeting_at, own_in, public_in}
-use Rattle.laws_step.specs.DemandsAndGoverning.{OwnThingsTellWhatGoverns, known_in, shares_governed}
+use Rattle.laws_step.specs.DemandsAndGoverning.{OwnThingsShowWhatGoverns, known_in, shares_governed}
 use Rattle.laws_step.specs.OwnThings.{OwnThingsAreOfTheMeeting, DependsOnOwnAlone, appointment_concerns, authority_concerns, ending_concerns, has_authorised, has_named, row_concerns, what_concerns}
 use Rattle.laws_step.proofs.AnyLemmas.{any-In}
 use Rattle.laws_step.proofs.CapacityLemmas.{facts, kept_in}
@@ -189,7 +189,7 @@ governed-alike m party a cutoffs h here =
     governed-by_member m cutoffs received a.member a.number (kept_in m a.member (facts m h))
     (any-In (is_given_by a.member) received a here (same_name-refl a.member))
 
-pub what_governs : OwnThingsTellWhatGoverns
+pub what_governs : OwnThingsShowWhatGoverns
 what_governs m closed party now h =
     let received = filter (names party) m.appointments in
     let members = map (member_in m) (givers received) in

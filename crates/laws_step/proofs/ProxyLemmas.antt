@@ -13,7 +13,7 @@ use Rattle.desk_words.specs.declared.records.Appointment.{Appointment}
 use Rattle.desk_words.specs.declared.records.Ending.{Ending}
 use Rattle.proxy_rules.specs.Governing.{governing_in, governs, has_share, is_ended, is_over, last_over, unended}
 use Rattle.proxy_rules.specs.Holdings.{are_numbered_from, holding_with, is_given_by}
-use Rattle.proxy_rules.specs.declared.papers.Cutoffs.{Cutoffs}
+use Rattle.proxy_rules.specs.declared.meeting_records.Cutoffs.{Cutoffs}
 use Rattle.proxy_rules.proofs.ProxyKeptLemmas.{numbered_from-own}
 use Rattle.proxy_rules.proofs.ProxyNameLemmas.{same_name-sym}
 use Rattle.laws_step.proofs.AnyLemmas.{any-none, any-In, In-any, In-find, In-reverse}

@@ -8,9 +8,9 @@ use Rattle.std.proofs.lemmas.List.Elements.{All-cons, All-head, All-nil, All-tai
 use Rattle.vocabulary.specs.Names.{same_name}
 use Rattle.desk_words.specs.Sessions.{sessions_of}
 use Rattle.desk_words.specs.declared.office.MeetingLists.{MeetingLists}
-use Rattle.desk_words.specs.declared.own.PollGoverned.{PollGoverned}
-use Rattle.desk_words.specs.declared.own.Received.{Received}
-use Rattle.desk_words.specs.declared.own.SessionGoverned.{SessionGoverned}
+use Rattle.desk_words.specs.declared.own_things.PollGoverned.{PollGoverned}
+use Rattle.desk_words.specs.declared.own_things.Received.{Received}
+use Rattle.desk_words.specs.declared.own_things.SessionGoverned.{SessionGoverned}
 use Rattle.desk_words.specs.declared.records.Appointment.{Appointment}
 use Rattle.desk_words.specs.declared.records.Authority.{Authority}
 use Rattle.desk_words.specs.declared.records.Meeting.{Meeting}
@@ -24,7 +24,7 @@ use Rattle.proxy_rules.specs.Governing.{governed_in}
 use Rattle.proxy_rules.specs.Holdings.{holding_with, is_ended_of, is_given_by}
 use Rattle.proxy_rules.specs.Parties.{authorises, is_authority_of, names}
 use Rattle.proxy_rules.specs.Shares.{row_of, shares_of}
-use Rattle.proxy_rules.specs.declared.papers.Cutoffs.{Cutoffs}
+use Rattle.proxy_rules.specs.declared.meeting_records.Cutoffs.{Cutoffs}
 use Rattle.party_views.specs.OwnViews.{authorised_in_rows, given_in, known_to_proxy, shares_in}
 use Rattle.party_views.specs.PartyRows.{authority_rows_in}
 use Rattle.party_views.specs.SessionLists.{each_session, enumerate_from}

@@ -15,8 +15,8 @@ use Rattle.desk_words.proofs.WordRowLemmas.{same_name-true}
 use Rattle.desk_words.specs.Finding.{poll_on}
 use Rattle.desk_words.specs.Office.{is_meeting}
 use Rattle.desk_words.specs.declared.office.MeetingLists.{MeetingLists}
-use Rattle.desk_words.specs.declared.own.PollGoverned.{PollGoverned}
-use Rattle.desk_words.specs.declared.own.Received.{Received}
+use Rattle.desk_words.specs.declared.own_things.PollGoverned.{PollGoverned}
+use Rattle.desk_words.specs.declared.own_things.Received.{Received}
 use Rattle.desk_words.specs.declared.records.Appointment.{Appointment}
 use Rattle.desk_words.specs.declared.records.Meeting.{Meeting}
 use Rattle.desk_words.specs.declared.records.Poll.{Poll}
@@ -31,7 +31,7 @@ use Rattle.proxy_rules.specs.PlaceRuns.{are_parted}
 use Rattle.proxy_rules.specs.Shares.{shares_by}
 use Rattle.proxy_rules.specs.Uses.{Vote, vote_on}
 use Rattle.proxy_rules.specs.declared.holdings.Holding.{Holding}
-use Rattle.proxy_rules.specs.declared.papers.Cutoffs.{Cutoffs}
+use Rattle.proxy_rules.specs.declared.meeting_records.Cutoffs.{Cutoffs}
 use Rattle.proxy_rules.proofs.ProxyNameLemmas.{same_name-sym}
 use Rattle.proxy_rules.proofs.ProxyRunLemmas.{are_in-runs_that, are_parted-runs_that}
 use Rattle.poll_rules.proofs.GatherLemmas.{list_any-map}

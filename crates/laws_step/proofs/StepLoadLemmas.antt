@@ -38,7 +38,7 @@ use Rattle.party_views.specs.Views.{meeting_at}
 use Rattle.meeting_core.proofs.RulingLemmas.{fails}
 use Rattle.meeting_core.specs.Step.{after_reply, decided, run_of, stepped}
 use Rattle.laws_step.specs.Loads.{AnswersSameAgain, Deciding, HoldsLoad, HoldsWhatIsLoaded, LeavesTheOfficeOfOne, RunsAsOfOne, accepts_load, is_in_turn, is_load}
-use Rattle.laws_step.specs.WrongLoads.{ActsNever, ActsTwice, a_load, loads_anew, tells_alone, writes_anew}
+use Rattle.laws_step.specs.WrongLoads.{ActsNever, ActsTwice, a_load, loads_anew, shows_alone, writes_anew}
 
 -- ---- what is loaded is held
 
@@ -216,14 +216,14 @@ run_of_one o call again later comes =
 
 -- ---- wrong ways to decide them
 
-pub never_written : ActsNever tells_alone empty_office a_load
+pub never_written : ActsNever shows_alone empty_office a_load
 never_written = record {
   is_one = refl;
   accepted = refl;
   lacks = λ h. (let days : 0 ≡ 1 = ap length h in absurd (omega arith));
 }
 
-pub never_caught : HoldsWhatIsLoaded tells_alone → ⊥
+pub never_caught : HoldsWhatIsLoaded shows_alone → ⊥
 never_caught law = never_written.lacks (law empty_office a_load never_written.accepted)
 
 -- what is written is seen

@@ -20,9 +20,9 @@ use Rattle.party_views.specs.Public.{PublicRecord}
 use Rattle.party_views.specs.RowsRead.{appointments_read, authorities_read, cast_on, members_read, own_read, polls_read, rows_read}
 use Rattle.party_views.specs.PartyRows.{no_rows_of, rows_in}
 use Rattle.party_views.specs.Views.{own_in, public_in, meeting_at}
-use Rattle.party_views.specs.declared.rows.AuthorityRows.{AuthorityRows}
-use Rattle.party_views.specs.declared.rows.MemberRows.{MemberRows}
-use Rattle.party_views.specs.declared.rows.OwnRows.{OwnRows}
+use Rattle.party_views.specs.declared.own_rows.AuthorityRows.{AuthorityRows}
+use Rattle.party_views.specs.declared.own_rows.MemberRows.{MemberRows}
+use Rattle.party_views.specs.declared.own_rows.OwnRows.{OwnRows}
 use Rattle.party_views.proofs.OwnLemmas.{own-read}
 use Rattle.caller_view.proofs.PartyReadLemmas.{ruling-own_read}
 use Rattle.laws_step.specs.WrongAnswers.{a_member, own_vote}

@@ -5,12 +5,12 @@ use Rattle.std.specs.List.{slice_get}
 use Rattle.std.specs.Option.{option_map_or, option_or}
 use Rattle.vocabulary.specs.Places.{Places}
 use Rattle.desk_words.specs.Sessions.{sessions_of}
-use Rattle.desk_words.specs.declared.own.SessionGoverned.{SessionGoverned}
+use Rattle.desk_words.specs.declared.own_things.SessionGoverned.{SessionGoverned}
 use Rattle.desk_words.specs.declared.records.Meeting.{Meeting}
 use Rattle.desk_words.specs.declared.records.Session.{Session}
 use Rattle.proxy_rules.specs.Cutoffs.{cutoffs_of, session_cutoffs}
 use Rattle.proxy_rules.specs.Uses.{Acts, Votes}
-use Rattle.proxy_rules.specs.declared.papers.Cutoffs.{Cutoffs}
+use Rattle.proxy_rules.specs.declared.meeting_records.Cutoffs.{Cutoffs}
 use Rattle.party_views.specs.SessionLists.{at_session, each_session, enumerate_from}
 
 -- what there is for each session is found by its number

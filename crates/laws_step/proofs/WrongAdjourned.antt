@@ -2,7 +2,7 @@
 use Rattle.std.proofs.Common.{◌≡◌, ℕ, true, false, [], refl, ap, sym, ◌∙◌, arith, true≢false}
 use Rattle.std.specs.Prelude.{nat_le}
 use Rattle.std.proofs.lemmas.Bool.Decides.{nat_tests}
-use Rattle.proxy_rules.specs.declared.papers.Cutoffs.{Cutoffs}
+use Rattle.proxy_rules.specs.declared.meeting_records.Cutoffs.{Cutoffs}
 use Rattle.poll_rules.specs.Quorum.{qualifies}
 use Rattle.poll_rules.specs.Roles.{roles_of}
 use Rattle.laws_step.specs.Adjourned.{LaterEndingsTakeNoRole, ended_before}

@@ -11,11 +11,11 @@ use Rattle.desk_words.specs.declared.answer.Answer.{Answer}
 use Rattle.party_views.specs.Views.{meeting_at, own_of}
 use Rattle.laws_step.specs.Worlds.{ReadsTheViews, Distinguishes, party_answer}
 use Rattle.laws_step.specs.NamedParties.{Names, NamesOwn, in_reply, in_view}
-use Rattle.laws_step.specs.WrongAnswers.{a_member, office_with, running_total, told_the_count, vote_of_another, vote_wanted}
+use Rattle.laws_step.specs.WrongAnswers.{a_member, office_with, running_total, shown_the_count, vote_of_another, vote_wanted}
 use Rattle.laws_step.proofs.NamedLemmas.{names_own}
 
 -- the count names nobody
-told_names : (found : Option MeetingLists) (closed : List ℕ) (now resolution : ℕ) (r : Reply) → in_reply (told_the_count found closed now resolution r) ≡ in_reply r
+told_names : (found : Option MeetingLists) (closed : List ℕ) (now resolution : ℕ) (r : Reply) → in_reply (shown_the_count found closed now resolution r) ≡ in_reply r
 told_names (Some m) closed now resolution reply.Recorded = refl
 told_names None closed now resolution reply.Recorded = refl
 told_names found closed now resolution r = refl

@@ -5,14 +5,14 @@ use Rattle.std.specs.List.{slice_index_or}
 use Rattle.std.proofs.lemmas.Bool.Decides.{nat_tests}
 use Rattle.std.proofs.lemmas.List.Elements.{All-nil}
 use Rattle.desk_words.specs.declared.office.MeetingLists.{MeetingLists}
-use Rattle.desk_words.specs.declared.own.Received.{Received}
+use Rattle.desk_words.specs.declared.own_things.Received.{Received}
 use Rattle.desk_words.specs.declared.records.RegisterRow.{RegisterRow}
-use Rattle.proxy_rules.specs.declared.papers.Cutoffs.{Cutoffs}
+use Rattle.proxy_rules.specs.declared.meeting_records.Cutoffs.{Cutoffs}
 use Rattle.party_views.specs.declared.views.OwnView.{OwnView}
 use Rattle.laws_step.specs.DemandsAndGoverning.{shares_governed}
 use Rattle.laws_step.specs.OwnThings.{OwnThingsFunction}
 use Rattle.laws_step.specs.Replaced.{IgnoresNamesAndPence, DependsOnWhatIsLeft, all_cutoffs}
-use Rattle.laws_step.specs.WrongReplaced.{TellsMoreThanIsLeft, a_proxy, sample_appointment, number_told, places_told, proxy_told, replaced_by_one_else, replaced_once, replaced_over_more, replaced_twice, replaced_under_another_name, row_told, told_with}
+use Rattle.laws_step.specs.WrongReplaced.{ShowsMoreThanIsLeft, a_proxy, sample_appointment, number_shown, places_shown, proxy_shown, replaced_by_one_else, replaced_once, replaced_over_more, replaced_twice, replaced_under_another_name, row_shown, shown_with}
 
 -- a number of the first appointment that is told
 abbrev of_first : (Received → ℕ) → List Received → ℕ
@@ -49,7 +49,7 @@ governs-none_over_more cutoffs = rw (counts cutoffs.appointments) refl
 governs-none_under_another_name : (cutoffs : Cutoffs) → shares_governed replaced_under_another_name cutoffs (sample_appointment 1 a_proxy 1) ≡ []
 governs-none_under_another_name cutoffs = rw (counts cutoffs.appointments) refl
 
-pub number_more : TellsMoreThanIsLeft (told_with number_told) replaced_once replaced_twice a_proxy
+pub number_more : ShowsMoreThanIsLeft (shown_with number_shown) replaced_once replaced_twice a_proxy
 number_more = record {
   first = refl;
   second = refl;
@@ -64,7 +64,7 @@ number_more = record {
   apart = λ h. (let told : 2 ≡ 3 = ap (λ (own : OwnView). of_first (λ known. known.moment) own.received) h in absurd (omega arith));
 }
 
-pub proxy_more : TellsMoreThanIsLeft (told_with proxy_told) replaced_once replaced_by_one_else a_proxy
+pub proxy_more : ShowsMoreThanIsLeft (shown_with proxy_shown) replaced_once replaced_by_one_else a_proxy
 proxy_more = record {
   first = refl;
   second = refl;
@@ -79,7 +79,7 @@ proxy_more = record {
   apart = λ h. (let told : 66 ≡ 81 = ap (λ (own : OwnView). of_first (λ known. first_letter known.member) own.received) h in absurd (omega arith));
 }
 
-pub places_more : TellsMoreThanIsLeft (told_with places_told) replaced_once replaced_over_more a_proxy
+pub places_more : ShowsMoreThanIsLeft (shown_with places_shown) replaced_once replaced_over_more a_proxy
 places_more = record {
   first = refl;
   second = refl;
@@ -94,7 +94,7 @@ places_more = record {
   apart = λ h. (let told : 1 ≡ 2 = ap (λ (own : OwnView). of_first (λ known. known.range.to) own.received) h in absurd (omega arith));
 }
 
-pub row_more : TellsMoreThanIsLeft row_told replaced_once replaced_under_another_name a_proxy
+pub row_more : ShowsMoreThanIsLeft row_shown replaced_once replaced_under_another_name a_proxy
 row_more = record {
   first = refl;
   second = refl;
@@ -110,9 +110,9 @@ row_more = record {
 }
 
 -- what tells two such meetings apart breaks the law
-pub caught_by : (telling : OwnThingsFunction) (one other : MeetingLists) → TellsMoreThanIsLeft telling one other a_proxy → DependsOnWhatIsLeft telling → ⊥
+pub caught_by : (telling : OwnThingsFunction) (one other : MeetingLists) → ShowsMoreThanIsLeft telling one other a_proxy → DependsOnWhatIsLeft telling → ⊥
 caught_by telling one other more law = more.apart (law one other [] a_proxy 0 more.first more.second more.left)
 
 -- a name told breaks the law of names and pence
-pub name_caught : IgnoresNamesAndPence row_told → ⊥
+pub name_caught : IgnoresNamesAndPence row_shown → ⊥
 name_caught law = row_more.apart (law replaced_once replaced_under_another_name.register [] a_proxy 0 row_more.first row_more.second refl refl)

@@ -12,7 +12,7 @@ use Rattle.desk_words.specs.declared.records.Ending.{Ending}
 use Rattle.desk_words.specs.declared.records.Meeting.{Meeting}
 use Rattle.proxy_rules.specs.Cutoffs.{cutoffs_of}
 use Rattle.proxy_rules.specs.Uses.{Acts, Votes}
-use Rattle.proxy_rules.specs.declared.papers.Cutoffs.{Cutoffs}
+use Rattle.proxy_rules.specs.declared.meeting_records.Cutoffs.{Cutoffs}
 use Rattle.poll_rules.specs.Roles.{roles_of}
 use Rattle.office_decisions.specs.PresenceRulings.{demand_noted, quorum_in}
 use Rattle.laws_step.specs.DemandsAndGoverning.{shares_governed}

@@ -4,9 +4,9 @@ use Rattle.desk_words.specs.Office.{is_meeting}
 use Rattle.desk_words.specs.ViewTypes.{Day, Moment, Party, SessionNumber}
 use Rattle.desk_words.specs.Sessions.{last_number}
 use Rattle.desk_words.specs.declared.office.MeetingLists.{MeetingLists}
-use Rattle.desk_words.specs.declared.own.PollGoverned.{PollGoverned}
-use Rattle.desk_words.specs.declared.own.Received.{Received}
-use Rattle.desk_words.specs.declared.own.SessionGoverned.{SessionGoverned}
+use Rattle.desk_words.specs.declared.own_things.PollGoverned.{PollGoverned}
+use Rattle.desk_words.specs.declared.own_things.Received.{Received}
+use Rattle.desk_words.specs.declared.own_things.SessionGoverned.{SessionGoverned}
 use Rattle.desk_words.specs.declared.records.Appointment.{Appointment}
 use Rattle.desk_words.specs.declared.records.Poll.{Poll}
 use Rattle.vocabulary.specs.Places.{Places}
@@ -15,7 +15,7 @@ use Rattle.proxy_rules.specs.Governing.{governed_in}
 use Rattle.proxy_rules.specs.Holdings.{holding_of}
 use Rattle.proxy_rules.specs.Parties.{names}
 use Rattle.proxy_rules.specs.Uses.{Acts, Votes, Vote}
-use Rattle.proxy_rules.specs.declared.papers.Cutoffs.{Cutoffs}
+use Rattle.proxy_rules.specs.declared.meeting_records.Cutoffs.{Cutoffs}
 use Rattle.poll_rules.specs.Quorum.{qualifies}
 use Rattle.poll_rules.specs.Roles.{roles_of}
 use Rattle.caller_view.specs.AttendanceRulings.{may_demand}
@@ -63,8 +63,8 @@ known_in m closed now a =
     (map (governed_for_poll m closed now a) (filter (is_late_poll closed) m.polls))
 
 -- own things tell a proxy of each appointment that names it what it governs by the rules
-abbrev pub OwnThingsTellWhatGoverns : Type 0
-OwnThingsTellWhatGoverns =
+abbrev pub OwnThingsShowWhatGoverns : Type 0
+OwnThingsShowWhatGoverns =
     (m : MeetingLists) (closed : List Day) (party : Party) (now : Moment) → is_meeting m ≡ true
     → (own_in m closed party now).received
     ≡ map (known_in m closed now) (filter (names party) m.appointments)

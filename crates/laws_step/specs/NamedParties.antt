@@ -9,12 +9,12 @@ use Rattle.desk_words.specs.declared.records.CastKind.TheVariants.{Block, AsInst
 use Rattle.desk_words.specs.declared.records.CastMark.{CastMark}
 use Rattle.desk_words.specs.declared.records.DemandMark.{DemandMark}
 use Rattle.desk_words.specs.declared.records.RegisterRow.{RegisterRow}
-use Rattle.desk_words.specs.declared.own.Authorised.{Authorised}
+use Rattle.desk_words.specs.declared.own_things.Authorised.{Authorised}
 use Rattle.desk_words.specs.declared.reply.Declaration.{Declaration}
-use Rattle.desk_words.specs.declared.own.Given.{Given}
+use Rattle.desk_words.specs.declared.own_things.Given.{Given}
 use Rattle.desk_words.specs.declared.reply.GivenUse.{GivenUse}
 use Rattle.desk_words.specs.declared.reply.Mine.{Mine}
-use Rattle.desk_words.specs.declared.own.Received.{Received}
+use Rattle.desk_words.specs.declared.own_things.Received.{Received}
 use Rattle.desk_words.specs.declared.reply.Reply.{Reply}
 use Rattle.desk_words.specs.declared.reply.Reply.TheVariants as reply
 use Rattle.desk_words.specs.declared.request.Request.{Request}

@@ -11,7 +11,7 @@ use Rattle.desk_words.specs.ViewTypes.{Day, Moment, Number, Party, SessionNumber
 use Rattle.desk_words.specs.Sessions.{last_number, last_session, open_last, opened_at}
 use Rattle.desk_words.specs.declared.limits.TheConstants.{HOURS_BEFORE_MEETING}
 use Rattle.desk_words.specs.declared.office.MeetingLists.{MeetingLists}
-use Rattle.desk_words.specs.declared.own.Received.{Received}
+use Rattle.desk_words.specs.declared.own_things.Received.{Received}
 use Rattle.desk_words.specs.declared.records.Appointment.{Appointment}
 use Rattle.desk_words.specs.declared.records.DemandMark.{DemandMark}
 use Rattle.desk_words.specs.declared.records.Meeting.{Meeting}
@@ -20,7 +20,7 @@ use Rattle.desk_words.specs.declared.records.PresenceMark.{PresenceMark}
 use Rattle.proxy_rules.specs.Cutoffs.{back_or_first, cutoffs_of, is_late_poll, late_cutoffs}
 use Rattle.proxy_rules.specs.Parties.{is_demanded_by, is_presence_of, names}
 use Rattle.proxy_rules.specs.Uses.{Use, Acts, Votes, Vote, vote_on}
-use Rattle.proxy_rules.specs.declared.papers.Cutoffs.{Cutoffs}
+use Rattle.proxy_rules.specs.declared.meeting_records.Cutoffs.{Cutoffs}
 use Rattle.poll_rules.specs.Demands.{demand_by, shares_demanding}
 use Rattle.poll_rules.specs.Quorum.{is_counted, is_quorum}
 use Rattle.poll_rules.specs.Roles.{roles_of}
@@ -102,7 +102,7 @@ known_at_meeting m closed now a =
     })
     (filter (is_late_poll closed) m.polls))
 
--- in a meeting that was never adjourned own things tell a proxy so
+-- in a meeting that was never adjourned own things show a proxy this
 abbrev pub OneSessionIsKnown : Type 0
 OneSessionIsKnown =
     (m : MeetingLists) (closed : List Day) (party : Party) (now : Moment) → is_meeting m ≡ true

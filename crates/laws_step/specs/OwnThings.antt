@@ -17,7 +17,7 @@ use Rattle.party_views.specs.OwnViews.{nothing_of}
 use Rattle.party_views.specs.Views.{meeting_at, own_in, own_of}
 use Rattle.party_views.specs.declared.views.OwnView.{OwnView}
 
--- what tells a party its own things in a meeting, by the closed days as they stand, at a moment
+-- what shows a party its own things in a meeting, by the closed days as they stand, at a moment
 abbrev pub OwnThingsFunction : Type 0
 OwnThingsFunction = MeetingLists → List Day → Party → Moment → OwnView
 
@@ -65,7 +65,7 @@ what_concerns party m = record m {
   casts = filter (is_cast_by party) m.casts;
 }
 
--- it tells own things alone: two meetings that agree in what concerns a party are one to it
+-- it shows own things alone: two meetings that agree in what concerns a party are one to it
 abbrev pub DependsOnOwnAlone : OwnThingsFunction → Type 0
 DependsOnOwnAlone telling =
     (one other : MeetingLists) (closed : List Day) (party : Party) (now : Moment)

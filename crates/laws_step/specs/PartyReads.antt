@@ -13,7 +13,7 @@ use Rattle.party_views.specs.Public.{PublicRecord}
 use Rattle.party_views.specs.RowsRead.{rows_read}
 use Rattle.party_views.specs.PartyRows.{rows_in}
 use Rattle.party_views.specs.Views.{meeting_at, own_of, public_of}
-use Rattle.party_views.specs.declared.rows.OwnRows.{OwnRows}
+use Rattle.party_views.specs.declared.own_rows.OwnRows.{OwnRows}
 use Rattle.party_views.specs.declared.views.OwnView.{OwnView}
 
 -- the answer to a party, from the public record and its own things, at a moment

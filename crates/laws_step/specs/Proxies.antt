@@ -1,4 +1,4 @@
--- Which proxy a vote is ruled by: what own things tell a proxy for a poll, late or not, is what the
+-- Which proxy a vote is ruled by: what own things show a proxy for a poll, late or not, is what the
 -- rules give it.
 use Rattle.std.specs.Prelude.{◌≡◌, Bool, true, false, not, ◌&&◌, nat_le, nat_lt, List, Option, Some, is_some}
 use Rattle.std.specs.List.{list_any}
@@ -19,12 +19,12 @@ use Rattle.proxy_rules.specs.Holdings.{holding_by, holding_of}
 use Rattle.proxy_rules.specs.Instructions.{allows, instructed_on}
 use Rattle.proxy_rules.specs.Parties.{names}
 use Rattle.proxy_rules.specs.Uses.{Use, vote_on}
-use Rattle.proxy_rules.specs.declared.papers.Cutoffs.{Cutoffs}
+use Rattle.proxy_rules.specs.declared.meeting_records.Cutoffs.{Cutoffs}
 use Rattle.caller_view.specs.CastRulings.{use_on}
 use Rattle.caller_view.specs.Rights.{governed_for, is_against, is_governed, is_uninstructed}
 use Rattle.party_views.specs.Views.{own_in, public_in}
 
--- the use of appointments for votes on a resolution, as the public record of the meeting tells
+-- the use of appointments for votes on a resolution, as the public record of the meeting shows
 -- (section 327)
 abbrev pub use_in : MeetingLists → List Day → Number → Use
 use_in m closed resolution = use_on (public_in (Some m) closed) m.meeting resolution

@@ -14,7 +14,7 @@ use Rattle.proxy_rules.specs.Holdings.{is_ended_of, is_given_by}
 use Rattle.proxy_rules.specs.Parties.{authorises, names}
 use Rattle.proxy_rules.specs.Shares.{row_of}
 use Rattle.proxy_rules.specs.Uses.{Acts, Votes, Vote}
-use Rattle.proxy_rules.specs.declared.papers.Cutoffs.{Cutoffs}
+use Rattle.proxy_rules.specs.declared.meeting_records.Cutoffs.{Cutoffs}
 use Rattle.party_views.specs.SessionLists.{each_session}
 use Rattle.laws_step.specs.DemandsAndGoverning.{shares_governed}
 use Rattle.laws_step.specs.OwnThings.{OwnThingsFunction, what_concerns}
@@ -74,7 +74,7 @@ pub record LeaveTheSame (closed : List Day) (party : Party) (now : Moment)
   pub rest : without_holdings (what_concerns party one)
       ≡ without_holdings (what_concerns party other)
 
--- it tells a party what is left to it: two meetings that leave the same to a party are one to it
+-- it shows a party what is left to it: two meetings that leave the same to a party are one to it
 abbrev pub DependsOnWhatIsLeft : OwnThingsFunction → Type 0
 DependsOnWhatIsLeft telling =
     (one other : MeetingLists) (closed : List Day) (party : Party) (now : Moment)
@@ -82,7 +82,7 @@ DependsOnWhatIsLeft telling =
     → LeaveTheSame closed party now one other
     → telling one closed party now ≡ telling other closed party now
 
--- it tells nothing of the names and pence in the rows of others: two meetings are one to a party
+-- it shows nothing of the names and pence in the rows of others: two meetings are one to a party
 -- whose registers differ in these alone, with its own row the same (section 113)
 abbrev pub IgnoresNamesAndPence : OwnThingsFunction → Type 0
 IgnoresNamesAndPence telling =

@@ -1,4 +1,4 @@
--- What is told of votes before they are declared: nothing.
+-- What replies show of votes before they are declared: nothing.
 use Rattle.std.specs.Prelude.{◌≡◌, Bool, false, not, ◌==◌, List, filter, Some}
 use Rattle.desk_words.specs.ViewTypes.{Day, Moment, Number}
 use Rattle.desk_words.specs.declared.office.MeetingLists.{MeetingLists}

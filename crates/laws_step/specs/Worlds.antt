@@ -51,7 +51,7 @@ LeavesThePublicRecord answer =
     → public_of (applied_if_any office (answer office party now request).change) meeting
     ≡ public_of office meeting
 
--- two offices that agree on what a party may know are told apart by the answers to it
+-- two offices that agree on what a party may know are distinguished by the answers to it
 pub record Distinguishes (answer : Answering) (one other : OfficeLists) (party : Party)
     (now : Moment)
     (request : Request) : Type 0 where

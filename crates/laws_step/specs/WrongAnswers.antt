@@ -1,4 +1,4 @@
--- A wrong answer to a party, and two offices that it tells apart.
+-- A wrong answer to a party, and two offices that it distinguishes.
 use Rattle.std.specs.Prelude.{true, List, [], ◌∷◌, Option, Some, None, codes}
 use Rattle.vocabulary.specs.Names.{in_places}
 use Rattle.desk_words.specs.ViewTypes.{Day, MeetingName, Moment, Number, Party}
@@ -27,16 +27,16 @@ use Rattle.office_decisions.specs.PollRulings.{declaration_of}
 use Rattle.laws_step.specs.Worlds.{Answering, party_answer}
 
 -- where a vote is recorded, the reply tells how the votes on the resolution stand
-abbrev pub told_the_count : Option MeetingLists → List Day → Moment → Number → Reply → Reply
-told_the_count (Some m) closed now resolution reply.Recorded =
+abbrev pub shown_the_count : Option MeetingLists → List Day → Moment → Number → Reply → Reply
+shown_the_count (Some m) closed now resolution reply.Recorded =
     reply.Declared (declaration_of m closed now resolution)
-told_the_count found closed now resolution other = other
+shown_the_count found closed now resolution other = other
 
 -- the wrong answer: a voter is told how the votes stood
 abbrev pub running_total : Answering
 running_total office party now (asked.Party meeting (Cast new)) =
     let right = party_answer office party now (asked.Party meeting (Cast new)) in record right {
-      reply = told_the_count (meeting_at office meeting) office.closed now new.resolution
+      reply = shown_the_count (meeting_at office meeting) office.closed now new.resolution
           right.reply;
     }
 running_total office party now request = party_answer office party now request

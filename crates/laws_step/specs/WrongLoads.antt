@@ -46,8 +46,8 @@ writes_anew office call =
     (record { reply = reply.Same; change = change_by call.request }) right right.reply
 
 -- what is loaded is told to be, and is not written
-abbrev pub tells_alone : Deciding
-tells_alone office call = reply_unchanged (decided office call).reply
+abbrev pub shows_alone : Deciding
+shows_alone office call = reply_unchanged (decided office call).reply
 
 -- the load of one closed day
 abbrev pub a_load : Call

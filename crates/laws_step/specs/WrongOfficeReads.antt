@@ -1,4 +1,4 @@
--- A wrong reading of a meeting for the office, and two offices that it does not tell apart.
+-- A wrong reading of a meeting for the office, and two offices that it does not distinguish.
 use Rattle.std.specs.Prelude.{◌≡◌, IsTrue, [], ◌∷◌}
 use Rattle.desk_words.specs.Office.{is_office}
 use Rattle.desk_words.specs.ViewTypes.{MeetingName}

@@ -48,7 +48,7 @@ meeting_with_demand = record quiet_meeting {
 }
 
 -- two meetings that agree in what concerns a party are told apart by what it is told as its own
-pub record TellsMore (telling : OwnThingsFunction) (one other : MeetingLists) (party : Party)
+pub record ShowsMore (telling : OwnThingsFunction) (one other : MeetingLists) (party : Party)
     : Type 0 where
   pub first : IsTrue (is_meeting one)
   pub second : IsTrue (is_meeting other)

@@ -8,7 +8,7 @@ use Rattle.vocabulary.specs.declared.kinds.Instr.TheVariants.{Free}
 use Rattle.desk_words.specs.Office.{is_meeting}
 use Rattle.desk_words.specs.ViewTypes.{Number, Party, Place}
 use Rattle.desk_words.specs.declared.office.MeetingLists.{MeetingLists}
-use Rattle.desk_words.specs.declared.own.Received.{Received}
+use Rattle.desk_words.specs.declared.own_things.Received.{Received}
 use Rattle.desk_words.specs.declared.records.Appointment.{Appointment}
 use Rattle.proxy_rules.specs.Holdings.{is_given_by}
 use Rattle.proxy_rules.specs.Parties.{names}
@@ -33,8 +33,8 @@ Leak = Appointment → Received → Received
 
 -- own things, where of each appointment that names the party something of the one that replaced it
 -- is told
-abbrev pub told_with : Leak → OwnThingsFunction
-told_with leak m closed party now = record (own_in m closed party now) {
+abbrev pub shown_with : Leak → OwnThingsFunction
+shown_with leak m closed party now = record (own_in m closed party now) {
   received = map
       (λ (a : Appointment).
       option_map_or (λ replaced_by. leak replaced_by (known_in m closed now a))
@@ -43,20 +43,20 @@ told_with leak m closed party now = record (own_in m closed party now) {
 }
 
 -- its number is told, as though it were a moment
-abbrev pub number_told : Leak
-number_told replaced_by known = record known { moment = replaced_by.number }
+abbrev pub number_shown : Leak
+number_shown replaced_by known = record known { moment = replaced_by.number }
 
 -- its proxy is named, as though the proxy were the member
-abbrev pub proxy_told : Leak
-proxy_told replaced_by known = record known { member = replaced_by.proxy }
+abbrev pub proxy_shown : Leak
+proxy_shown replaced_by known = record known { member = replaced_by.proxy }
 
 -- its places are told, as though they were the proxy's own
-abbrev pub places_told : Leak
-places_told replaced_by known = record known { range = replaced_by.range }
+abbrev pub places_shown : Leak
+places_shown replaced_by known = record known { range = replaced_by.range }
 
 -- the row of the first member who named the party is told as the party's own
-abbrev pub row_told : OwnThingsFunction
-row_told m closed party now = record (own_in m closed party now) {
+abbrev pub row_shown : OwnThingsFunction
+row_shown m closed party now = record (own_in m closed party now) {
   row = option_and_then (λ (a : Appointment). row_of m.register a.member)
       (find (names party) m.appointments);
 }
@@ -106,7 +106,7 @@ replaced_under_another_name = record replaced_once {
 }
 
 -- two meetings that leave the same to a party are told apart by what it is told as its own
-pub record TellsMoreThanIsLeft (telling : OwnThingsFunction) (one other : MeetingLists)
+pub record ShowsMoreThanIsLeft (telling : OwnThingsFunction) (one other : MeetingLists)
     (party : Party)
     : Type 0 where
   pub first : IsTrue (is_meeting one)

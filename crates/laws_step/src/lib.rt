@@ -18,7 +18,7 @@ ghost use Rattle.laws_step.specs.Secrecy.{TheOfficeLearnsNoVotes, VotesAreNotPub
 pub use loads::{loads_act_once, wrong_loads_are_caught};
 pub use office_reads::{unread_presence_is_caught, what_the_office_reads_is_enough};
 pub use own_things::{
-    others_things_are_caught, own_things_are_ones_own, own_things_tell_what_governs,
+    others_things_are_caught, own_things_are_ones_own, own_things_show_what_governs,
     proxies_learn_what_is_left, replacing_appointments_are_caught,
 };
 pub use proxies::proxies_cast_by_the_rules;

@@ -2,7 +2,7 @@
 ghost use Rattle.desk_words.specs.Changes.{empty_office};
 ghost use Rattle.meeting_core.specs.Step.{decided};
 ghost use Rattle.laws_step.specs.Loads.{AnswersSameAgain, HoldsWhatIsLoaded, LeavesTheOfficeOfOne, RunsAsOfOne};
-ghost use Rattle.laws_step.specs.WrongLoads.{ActsNever, ActsTwice, a_load, loads_anew, tells_alone, writes_anew};
+ghost use Rattle.laws_step.specs.WrongLoads.{ActsNever, ActsTwice, a_load, loads_anew, shows_alone, writes_anew};
 
 /// A file that comes twice in turn acts once. Closed days, keys or a register that are accepted, as
 /// loaded or as what is held, are held after it. When they come again, closed days and keys at any
@@ -21,8 +21,8 @@ pub fn loads_act_once()
 pub fn wrong_loads_are_caught()
     ensures loaded { ActsTwice loads_anew empty_office a_load 0 }
     ensures written { ActsTwice writes_anew empty_office a_load 0 }
-    ensures told { ActsNever tells_alone empty_office a_load }
+    ensures holds { ActsNever shows_alone empty_office a_load }
     ensures loaded_caught { AnswersSameAgain loads_anew → ⊥ }
     ensures written_caught { AnswersSameAgain writes_anew → ⊥ }
-    ensures told_caught { HoldsWhatIsLoaded tells_alone → ⊥ }
+    ensures shown_caught { HoldsWhatIsLoaded shows_alone → ⊥ }
 {}

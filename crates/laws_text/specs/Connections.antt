@@ -1,4 +1,4 @@
--- What is told over HTTP, one connection after another.
+-- What is written over HTTP, one connection after another.
 use Rattle.std.specs.Prelude.{◌≡◌, ℕ, List, [], ◌∷◌, ◌++◌, map, Option, Some, None}
 use Rattle.std.specs.Io.KnownBytes.{Appends}
 use Rattle.any_office.specs.declared.Office as office
@@ -56,14 +56,14 @@ AreServed g old [] new = new ≡ old
 AreServed {O} g old (c ∷ later) new =
     (between : O) × IsServedOn g c old between × AreServed g between later new
 
--- what is written to a connection is told: it is the text of the reply, or of a failure
+-- what is written to a connection answers it: the text of the reply, or of a failure
 abbrev pub ConnectionsAreAnswered : {O : Type 0} → office.Ghosts O → Type 0
 ConnectionsAreAnswered {O} g =
     (c : Connection) (old new : O) → IsServedOn g c old new
     → IsAnsweredStored g as_http (asked_over c) old new
 
--- and what is written to one connection after another is told as a run, where an office was stored,
--- up to one that is reliable and open
+-- and what is written to one connection after another is a run, where an office was stored, up to
+-- one that is reliable and open
 abbrev pub ConnectionsAnswerRuns : {O : Type 0} → office.Ghosts O → Type 0
 ConnectionsAnswerRuns {O} g =
     (connections : List Connection) (old new : O) → AreServed g old connections new
@@ -80,7 +80,7 @@ pub record AreServedFromNothing {O : Type 0} (g : office.Ghosts O) (connections 
   pub reliable : g.is_reliable new
   pub is_open : g.is_open new
 
--- two whole lists of connections tell a run each, and these are isolated
+-- two whole lists of connections answer a run each, and these are isolated
 pub record AnswerIsolatedRuns {O : Type 0} (g : office.Ghosts O) (party : Party)
     (one other : List Connection) (left kept : O) : Type 0 where
   pub told : HasAnsweredARun g as_http empty_office (map asked_over one) left

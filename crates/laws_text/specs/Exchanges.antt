@@ -10,7 +10,7 @@ use Rattle.laws_run.specs.Traces.{with_head, is_by}
 use Rattle.laws_run.specs.SecretCalls.{Secret, declares_in, is_the_office}
 
 -- a text that was written, and the call to which it replies; none was made where the text refuses
--- what is no call, or tells of a failure
+-- what is no call, or reports a failure
 pub record Exchange : Type 0 where
   pub made : Option Call
   pub text : List ℕ
@@ -47,7 +47,8 @@ abbrev pub asks_declaration : Secret → Call → Bool
 asks_declaration secret call =
     is_the_office call.caller && declares_in secret.meeting secret.resolution call.request
 
--- the texts tell the run of the calls from an office: each is the text of the reply to its call
+-- the texts are those of the run of the calls from an office: each is the text of the reply to its
+-- call
 abbrev pub AreTextsOfRun : (Reply → List ℕ) → OfficeLists → List Exchange → Type 0
 AreTextsOfRun text_of office exchanges =
     texts_to every_call exchanges ≡ map text_of (run_of office (calls_made exchanges)).replies

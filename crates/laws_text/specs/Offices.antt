@@ -53,7 +53,7 @@ pub record HasReply (writing : Writing) (office : OfficeLists) (asked : AskedTex
   pub text : option_map writing.reply (reply_to office (asked.asks office)) ≡ Some e.text
   pub made : e.made ≡ call_made (asked.asks office)
 
--- the text tells of a failure, and no call was made
+-- the text reports a failure, and no call was made
 pub record HasFailure (writing : Writing) (e : Exchange) : Type 0 where
   pub failure : Failure
   pub text : e.text ≡ writing.failure failure
@@ -65,7 +65,7 @@ pub record IsOf (writing : Writing) (office : OfficeLists) (asked : AskedText) (
   pub same : e.text ≡ asked.text
   pub is : HasReply writing office asked e ⊎ HasFailure writing e
 
--- what was asked is told in an office, and the office that is stored is then that after the call,
+-- what was asked is answered in an office, and the office stored then is the one after the call,
 -- if it was made
 pub record IsAnsweredInOffice {O : Type 0} (g : office.Ghosts O) (writing : Writing)
     (asked : AskedText)
@@ -74,8 +74,8 @@ pub record IsAnsweredInOffice {O : Type 0} (g : office.Ghosts O) (writing : Writ
   pub of : IsOf writing before asked exchange
   pub stands : g.stands new (office_after before exchange.made)
 
--- what was asked is told: no failure is made good, and nothing is opened again; and it is told in
--- the office that was stored
+-- what was asked is answered: no failure is made good, and nothing is opened again; and it is
+-- answered in the office that was stored
 pub record IsAnsweredStored {O : Type 0} (g : office.Ghosts O) (writing : Writing)
     (asked : AskedText)
     (old new : O) : Type 0 where
@@ -101,8 +101,8 @@ AreOf writing office (asked ∷ later) [] = ⊥
 AreOf writing office (asked ∷ later) (e ∷ exchanges) =
     IsOf writing office asked e × AreOf writing (office_after office e.made) later exchanges
 
--- what was asked is told as a run from an office, and the office that is stored is that after the
--- run
+-- the answers to what was asked are a run from an office, and the office stored is the one after
+-- the run
 pub record HasAnsweredARun {O : Type 0} (g : office.Ghosts O) (writing : Writing)
     (first : OfficeLists) (asked : List AskedText) (new : O) : Type 0 where
   pub run : RunTexts writing.reply
@@ -110,15 +110,15 @@ pub record HasAnsweredARun {O : Type 0} (g : office.Ghosts O) (writing : Writing
   pub of : AreOf writing first asked run.exchanges
   pub stands : g.stands new (run_of first (calls_of_texts run)).office
 
--- where an office was stored, and what was asked was told one after another, up to one that is
--- reliable and open, it is told as a run
+-- where an office was stored, and what was asked was answered one after another, up to one that is
+-- reliable and open, the answers are a run
 abbrev pub OfficesAnswerRuns : {O : Type 0} → office.Ghosts O → Type 0
 OfficesAnswerRuns {O} g =
     (writing : Writing) (old new : O) (asked : List AskedText)
     → AreAnsweredStored g writing old asked new → g.is_reliable new → g.is_open new
     → (first : OfficeLists) → g.stands old first → HasAnsweredARun g writing first asked new
 
--- ---- what two offices tell
+-- ---- the texts of two offices
 
 -- isolation: from the office that holds nothing, where the calls that were made on two offices show
 -- a party the same, with all sources of either, the texts of the replies to it are the same bytes,
@@ -142,7 +142,7 @@ AlikeOfficesAreIsolated {O} g =
     → AreIsolatedTo viewer one other told.run.exchanges later.run.exchanges
 
 -- secrecy: where they are the same but for secret votes, and the calls that were made there differ
--- in such votes alone, they tell the same of them
+-- in such votes alone, they show the same of them
 abbrev pub OfficesKeepSecrets : {O : Type 0} → office.Ghosts O → Type 0
 OfficesKeepSecrets {O} g =
     (writing : Writing) (secret : Secret) (one other : OfficeLists) (asked again : List AskedText)

@@ -56,7 +56,7 @@ ReplaysMakeTheCalls =
     (office : OfficeLists) (lines : List (List ℕ)) (failed : List (Option Failure))
     → calls_made (exchanges_of office lines failed) ≡ calls_of lines failed
 
--- and they tell the run of these calls
+-- and they are the texts of the run of these calls
 abbrev pub ReplaysAnswerTheRun : Type 0
 ReplaysAnswerTheRun =
     (office : OfficeLists) (lines : List (List ℕ)) (failed : List (Option Failure))
@@ -81,7 +81,7 @@ AlikeReplaysAreIsolated =
     (exchanges_of other again others)
 
 -- and keep secrets: where the offices are the same but for secret votes, and the calls differ in
--- such votes alone, they tell the same of them
+-- such votes alone, they show the same of them
 abbrev pub ReplaysKeepSecrets : Type 0
 ReplaysKeepSecrets =
     (secret : Secret) (one other : OfficeLists) (lines again : List (List ℕ))

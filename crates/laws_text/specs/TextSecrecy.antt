@@ -1,4 +1,4 @@
--- What holds of the replies in runs holds of the texts that tell them, byte for byte.
+-- What holds of the replies in runs holds of their texts, byte for byte.
 use Rattle.std.specs.Prelude.{◌≡◌, ◌⊎◌, ℕ, not, List, IsTrue}
 use Rattle.std.specs.List.{AllZip, list_all}
 use Rattle.desk_words.specs.Changes.{empty_office}
@@ -16,7 +16,7 @@ use Rattle.laws_run.specs.Traces.{is_near_call, trace_of, viewer_of}
 use Rattle.laws_run.specs.SecretCalls.{AreSameBut, Secret, is_secret_call, without}
 use Rattle.laws_text.specs.Exchanges.{Exchange, AreTextsOfRun, asks_declaration, calls_made, is_call_by, is_open_call, texts_to}
 
--- texts that tell a run from an office
+-- the texts of a run from an office
 pub record RunTexts (text_of : Reply → List ℕ) : Type 0 where
   pub office : OfficeLists
   pub exchanges : List Exchange
@@ -61,18 +61,18 @@ TextsFromNothingAreIsolated =
     → one.office ≡ empty_office → other.office ≡ empty_office
     → AreIsolatedFromNothing party one.exchanges other.exchanges
 
--- two texts tell a result each
+-- two texts show a result each
 pub record AreBothResults (text_of : Reply → List ℕ) (one other : List ℕ) : Type 0 where
   pub result : Declaration
   pub again : Declaration
   pub first : one ≡ text_of (Declared result)
   pub second : other ≡ text_of (Declared again)
 
--- two texts are the same bytes, but where both tell a result
+-- two texts are the same bytes, but where both show a result
 abbrev pub AreSameButResult : (Reply → List ℕ) → List ℕ → List ℕ → Type 0
 AreSameButResult text_of one other = (one ≡ other) ⊎ AreBothResults text_of one other
 
--- texts tell the same of secret votes as others: those of the replies to the office are the same
+-- texts show the same of secret votes as others: those of the replies to the office are the same
 -- bytes, one for one, but for the result where it asks for the declaration of the resolution; and
 -- of calls that are made before that is declared, so are those to each party that is none of the
 -- voters
@@ -85,7 +85,7 @@ pub record TextsAgree (text_of : Reply → List ℕ) (secret : Secret) (office :
       → IsTrue (not (secret.voters party))
       → texts_to (is_call_by party) told ≡ texts_to (is_call_by party) again
 
--- the texts of two runs keep secret votes: where the calls differ in such votes alone, they tell
+-- the texts of two runs keep secret votes: where the calls differ in such votes alone, they show
 -- the same of them
 abbrev pub KeepSecret : (Reply → List ℕ) → Secret → OfficeLists → List Exchange → List Exchange
     → Type 0

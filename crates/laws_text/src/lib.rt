@@ -1,4 +1,4 @@
-//! Laws of what is told, byte for byte: what holds of the replies in runs of calls holds of the
+//! Laws of texts, byte for byte: what holds of the replies in runs of calls holds of the
 //! texts that a replay, an office and connections write, wherever the office is stored.
 #![tactic(auto)]
 
@@ -7,7 +7,8 @@ mod replays;
 mod texts;
 
 pub use offices::{
-    connections_are_told, connections_tell_no_more, offices_tell_no_more, offices_tell_runs, told,
+    answer_call, connections_are_answered, connections_show_no_more, offices_show_no_more,
+    offices_show_runs,
 };
-pub use replays::{replays_tell_no_more, replays_tell_runs};
-pub use texts::texts_tell_no_more;
+pub use replays::{replays_show_no_more, replays_show_runs};
+pub use texts::texts_show_no_more;

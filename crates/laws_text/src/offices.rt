@@ -1,4 +1,4 @@
-//! What an office tells, wherever it is stored, is a run.
+//! The texts that an office returns, wherever it is stored, are those of a run.
 ghost use Rattle.std.specs.Prelude.{◌≡◌, IfOk};
 ghost use Rattle.any_office.specs.StoredOffice.{HoldsOfOffice, made_by};
 ghost use Rattle.any_office.specs.OfficeRuns.{LeavesOffice};
@@ -8,18 +8,18 @@ ghost use Rattle.laws_text.specs.Connections.{ConnectionsAreIsolated, Connection
 ghost use Rattle.laws_text.specs.Offices.{AlikeOfficesAreIsolated, OfficesAreIsolated, OfficesKeepSecrets, OfficesAnswerRuns};
 ghost use Rattle.laws_text.specs.Offices.{IsAnsweredStored, as_json, asked_by_call};
 
-use crate::texts::texts_tell_no_more;
+use crate::texts::texts_show_no_more;
 use any_office::Office;
 use desk_words::{Call, Failure};
 use json_replies::reply_text;
 use std::alloc::Global;
 
-/// What an office tells, one call after another, is told as a run: each text is that of the reply
-/// in the office after the calls before it, or it tells of a failure and no call was made; and the
-/// office that is stored is the one after the run. It holds where what stores it is reliable and
-/// open at the end: a desk over tables on a disk that returns what was written, an office in memory
-/// always. So `texts_tell_no_more` holds of these texts.
-pub fn offices_tell_runs<O: Office>()
+/// The texts that an office returns, one call after another, are those of a run: each is the text
+/// of the reply in the office after the calls before it, or reports a failure and no call was made;
+/// and the office that is stored is the one after the run. It holds where what stores it is
+/// reliable and open at the end: a desk over tables on a disk that returns what was written, an
+/// office in memory always. So `texts_show_no_more` holds of these texts.
+pub fn offices_show_runs<O: Office>()
     ensures { OfficesAnswerRuns O.Office }
 {}
 
@@ -30,30 +30,30 @@ pub fn offices_tell_runs<O: Office>()
 /// are the same but for votes of some voters on a resolution, and the calls differ in such votes
 /// alone, so are the texts of the replies to the office, but for the result of that resolution, and
 /// before its declaration those to every party that is none of the voters.
-pub fn offices_tell_no_more<O: Office>()
+pub fn offices_show_no_more<O: Office>()
     ensures isolated { OfficesAreIsolated O.Office }
     ensures alike { AlikeOfficesAreIsolated O.Office }
     ensures secret { OfficesKeepSecrets O.Office }
 {
-    texts_tell_no_more();
+    texts_show_no_more();
 }
 
 /// What is written to a connection, as `reply_to`, `serve_one` and `serve_now` promise where they
-/// end well, is told so: it is the text of the reply to the call of the caller whose key came, or
-/// of the refusal of what is no call, or it tells of a failure. So one connection after another, as
-/// in `serve_loop`, is told as a run.
-pub fn connections_are_told<O: Office>()
-    ensures told { ConnectionsAreAnswered O.Office }
+/// end well, is the text of the reply to the call of the caller whose key came, or of the refusal
+/// of what is no call, or it reports a failure. So the texts written to one connection after
+/// another, as in `serve_loop`, are those of a run.
+pub fn connections_are_answered<O: Office>()
+    ensures holds { ConnectionsAreAnswered O.Office }
     ensures runs { ConnectionsAnswerRuns O.Office }
 {}
 
 /// So two whole lists of connections, each from an office that holds nothing, are isolated: where
 /// the calls that were made on them show a party the same, with all its sources in either, what is
 /// written to its connections is the same bytes, one for one.
-pub fn connections_tell_no_more<O: Office>()
+pub fn connections_show_no_more<O: Office>()
     ensures { ConnectionsAreIsolated O.Office }
 {
-    texts_tell_no_more();
+    texts_show_no_more();
 }
 
 /// Makes one call on an office, and gives the JSON text of its reply.
@@ -65,9 +65,9 @@ fn performed<O: Office>(alloc: Global, office: &mut O, call: Call) -> Result<Vec
     office.perform(call, |reply| reply_text(alloc, reply))
 }
 
-/// Makes one call on an office, as `perform` does, and gives the JSON text of its reply, which is
-/// told so. After a failure, want of memory for the text included, the office is as it was.
-pub fn told<O: Office>(alloc: Global, office: &mut O, call: Call) -> Result<Vec<u8>, Failure>
+/// Makes one call on an office, as `perform` does, and returns the JSON text of its reply. After a
+/// failure, want of memory for the text included, the office is as it was.
+pub fn answer_call<O: Office>(alloc: Global, office: &mut O, call: Call) -> Result<Vec<u8>, Failure>
     ensures { IsAnsweredStored O.Office as_json (asked_by_call call result) office.old office.new }
 {
     performed(alloc, office, call)

@@ -18,7 +18,7 @@ use Rattle.party_views.specs.PublicRead.{public_read}
 use Rattle.party_views.specs.RowsRead.{rows_read}
 use Rattle.party_views.specs.PartyRows.{rows_in}
 use Rattle.party_views.specs.Views.{meeting_at, public_of}
-use Rattle.party_views.specs.declared.rows.OwnRows.{OwnRows}
+use Rattle.party_views.specs.declared.own_rows.OwnRows.{OwnRows}
 use Rattle.office_decisions.specs.ListsRead.{days_read, lists_read, reads_register}
 use Rattle.office_validation.specs.Validation.{in_order}
 use Rattle.meeting_core.specs.Step.{decided}
@@ -72,7 +72,7 @@ abbrev pub IsNoMeeting : OfficeRequest → Option MeetingLists → Type 0
 IsNoMeeting what found =
     IsTrue (reads_register what) × IsSomeAnd found (λ m. is_meeting (in_order m) ≡ false)
 
--- it is told whether a meeting of the office has that name, and how many meetings it has
+-- it is known whether a meeting of the office has that name, and how many meetings it has
 pub record AreMeetingsRead (office : OfficeLists) (meeting : MeetingName) (is_named : Bool)
     (count : ℕ) : Type 0 where
   pub named : is_named ≡ is_some (meeting_named office.meetings meeting)

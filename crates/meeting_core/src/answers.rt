@@ -10,7 +10,7 @@ ghost use Rattle.desk_words.specs.declared.office.OfficeLists.{OfficeLists};
 ghost use Rattle.caller_view.specs.PartyRulings.{party_ruling};
 ghost use Rattle.party_views.specs.OwnViews.{own_from};
 ghost use Rattle.party_views.specs.RowsRead.{rows_read};
-ghost use Rattle.party_views.specs.declared.rows.OwnRows.{OwnRows};
+ghost use Rattle.party_views.specs.declared.own_rows.OwnRows.{OwnRows};
 ghost use Rattle.meeting_core.specs.Decisions.{AreRead, party_call};
 ghost use Rattle.meeting_core.specs.Step.{decided};
 

@@ -13,8 +13,8 @@ ghost use Rattle.desk_words.specs.Changes.{applied, applied_if_any, empty_office
 ghost use Rattle.meeting_core.specs.Step.{decided, is_at_once_to, needs_no_memory, stepped};
 
 mod callers;
-mod found;
-mod lists;
+mod of_lists;
+mod party_reads;
 mod perform;
 
 use crate::answers::{entering, in_meeting};
@@ -25,10 +25,10 @@ use desk_words::{
     MeetingLists, Moment, OfficeRequest, Party, PartyRequest, Refusal, Reply, Request,
     find_meeting, refuse,
 };
-use found::{public_in, rows_in, rows_read};
-pub use lists::BookFault;
+pub use of_lists::BookFault;
 use office_days::Closed;
 use office_decisions::{desk_answer, office_answer};
+use party_reads::{public_in, rows_in, rows_read};
 use party_views::{OwnView, PublicRecord, own_for, own_from};
 use std::alloc::{AllocError, Global};
 use std::marker::Model;

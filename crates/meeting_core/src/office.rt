@@ -16,7 +16,7 @@ ghost use Rattle.meeting_core.specs.Checked.{in_order_for};
 ghost use Rattle.meeting_core.specs.Decisions.{AreListsRead, AreMeetingsRead, IsNoMeeting};
 ghost use Rattle.meeting_core.specs.Decisions.{desk_call, office_call};
 ghost use Rattle.meeting_core.specs.Step.{decided};
-ghost use Rattle.meeting_core.specs.declared.book.lists.BookFault.TheVariants.{NoOffice};
+ghost use Rattle.meeting_core.specs.declared.book.of_lists.BookFault.TheVariants.{NoOffice};
 
 use crate::answers::in_meeting;
 use crate::book::BookFault;

@@ -19,7 +19,7 @@ use Rattle.desk_words.specs.declared.request.OfficeRequest.TheVariants.{LoadRegi
 use Rattle.vocabulary.specs.declared.refusal.Refusal.TheVariants.{NoMeeting, NoPoll}
 use Rattle.proxy_rules.specs.Cutoffs.{cutoffs_of}
 use Rattle.proxy_rules.specs.Uses.{vote_on}
-use Rattle.proxy_rules.specs.declared.papers.Cutoffs.{Cutoffs}
+use Rattle.proxy_rules.specs.declared.meeting_records.Cutoffs.{Cutoffs}
 use Rattle.vote_rules.specs.Tallies.{tally_of}
 use Rattle.vote_rules.proofs.OwnCastLemmas.{own_tally}
 use Rattle.desk_words.proofs.OfficeFacts.{meeting_facts, meeting_from_facts}

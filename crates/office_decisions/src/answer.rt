@@ -10,7 +10,7 @@ ghost use Rattle.office_decisions.specs.ListsRead.{reads_register};
 
 use crate::attendance::note_presence;
 use crate::calls::{call_meeting, load_register};
-use crate::lists::{load_days, load_keys};
+use crate::desk_loads::{load_days, load_keys};
 use crate::polls::{adjourn, close_poll, declare_poll, open_meeting, order_poll, start_poll};
 use desk_words::{
     Answer, Change, DeskRequest, KeyRows, MeetingChange, MeetingLists, Moment, OfficeRequest,

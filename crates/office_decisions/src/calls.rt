@@ -10,7 +10,7 @@ ghost use Rattle.office_decisions.specs.RequestLimits.{if_any, is_within_limits,
 use desk_words::limits::MOST_MEETINGS;
 use desk_words::{
     Answer, Change, Listing, Meeting, MeetingChange, MeetingLists, Moment, NewMeeting, NewRegister,
-    Refusal, Reply, Session, refuse, same_rows, tell,
+    Refusal, Reply, Session, refuse, reply_unchanged, same_rows,
 };
 use office_days::enough_notice;
 use std::alloc::{AllocError, Global};
@@ -109,7 +109,7 @@ pub(crate) fn load_register(
         return Ok(refuse(refusal));
     }
     if same_rows(lists.register.as_slice(), new.rows.rows()) {
-        return Ok(tell(Reply::Same));
+        return Ok(reply_unchanged(Reply::Same));
     }
     Ok(Answer {
         reply: Reply::Loaded,

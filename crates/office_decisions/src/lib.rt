@@ -4,12 +4,12 @@
 mod answer;
 mod attendance;
 mod calls;
+mod desk_loads;
 mod early;
 pub mod laws;
-mod lists;
 mod polls;
 
 pub use answer::{desk_answer, office_answer};
 pub use calls::call_meeting;
+pub use desk_loads::{load_days, load_keys};
 pub use early::unless_refused;
-pub use lists::{load_days, load_keys};

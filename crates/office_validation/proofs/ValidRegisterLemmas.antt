@@ -11,8 +11,8 @@ use Rattle.seq.proofs.SortingLemmas.{IsPermutation-sort_by, ascends-sort_by}
 use Rattle.desk_words.proofs.RegisterLimits.{keep_limits-permutation}
 use Rattle.desk_words.specs.Office.{no_rows}
 use Rattle.desk_words.specs.Registers.{are_holdings, is_register, keep_limits, member_before, register_of, same_member}
-use Rattle.desk_words.specs.declared.lists.ListFault.{ListFault}
-use Rattle.desk_words.specs.declared.lists.ListFault.TheVariants.{Limit, Memory}
+use Rattle.desk_words.specs.declared.list_types.ListFault.{ListFault}
+use Rattle.desk_words.specs.declared.list_types.ListFault.TheVariants.{Limit, Memory}
 use Rattle.desk_words.specs.declared.records.RegisterRow.{RegisterRow}
 use Rattle.office_validation.specs.Validation.{rows_checked}
 

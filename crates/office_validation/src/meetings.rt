@@ -61,7 +61,7 @@ fn put_in_order(alloc: Global, lists: &mut MeetingLists) -> bool
 }
 
 /// Whether the appointments and their endings are those of a meeting with so many resolutions.
-fn are_papers(
+fn are_proxy_records(
     resolutions: usize,
     appointments: &Filed<Appointment>,
     endings: &Filed<Ending>,
@@ -100,7 +100,7 @@ fn is_meeting(lists: &MeetingLists) -> bool
 {
     let resolutions = lists.meeting.resolutions.as_slice().len();
     lists.meeting.has_sessions()
-        && are_papers(resolutions, &lists.appointments, &lists.endings)
+        && are_proxy_records(resolutions, &lists.appointments, &lists.endings)
         && is_attended(lists)
         && is_polled(lists)
 }

@@ -1,9 +1,9 @@
 //! The rows of a party in the lists of a meeting.
 #![tactic(auto)]
 
-mod lists;
+mod look_ups;
 mod members;
-mod own;
+mod party_records;
 
-pub use lists::{rows_for, rows_of};
+pub use look_ups::{rows_for, rows_of};
 pub use row_source::no_rows_of;

@@ -10,8 +10,8 @@ use Rattle.proxy_rules.specs.Uses.{Use, Acts, Votes, Vote}
 use Rattle.party_views.specs.OwnViews.{governed_by, known_to_proxy, own_by, received_by}
 use Rattle.party_views.specs.PublicRead.{counted}
 use Rattle.party_views.specs.SessionLists.{each_session}
-use Rattle.party_views.specs.declared.rows.MemberRows.{MemberRows}
-use Rattle.party_views.specs.declared.rows.OwnRows.{OwnRows}
+use Rattle.party_views.specs.declared.own_rows.MemberRows.{MemberRows}
+use Rattle.party_views.specs.declared.own_rows.OwnRows.{OwnRows}
 
 session-counted : (m : Meeting) (number : ℕ) → session_at (counted m) number ≡ session_at m number
 session-counted m zero = refl

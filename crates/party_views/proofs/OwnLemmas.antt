@@ -7,9 +7,9 @@ use Rattle.vocabulary.specs.Names.{same_name}
 use Rattle.vocabulary.specs.declared.kinds.Capacity.{Capacity}
 use Rattle.vocabulary.specs.declared.kinds.Capacity.TheVariants.{Member, Rep, Proxy}
 use Rattle.desk_words.proofs.WordRowLemmas.{same_name-true}
-use Rattle.desk_words.specs.declared.own.Authorised.{Authorised}
-use Rattle.desk_words.specs.declared.own.PollGoverned.{PollGoverned}
-use Rattle.desk_words.specs.declared.own.Received.{Received}
+use Rattle.desk_words.specs.declared.own_things.Authorised.{Authorised}
+use Rattle.desk_words.specs.declared.own_things.PollGoverned.{PollGoverned}
+use Rattle.desk_words.specs.declared.own_things.Received.{Received}
 use Rattle.desk_words.specs.declared.records.Appointment.{Appointment}
 use Rattle.desk_words.specs.declared.records.Meeting.{Meeting}
 use Rattle.desk_words.specs.declared.records.Poll.{Poll}
@@ -18,16 +18,16 @@ use Rattle.desk_words.specs.declared.request.PartyRequest.{PartyRequest}
 use Rattle.proxy_rules.specs.Cutoffs.{cutoffs_of, is_late_poll}
 use Rattle.proxy_rules.specs.Holdings.{is_given_by}
 use Rattle.proxy_rules.specs.Uses as uses
-use Rattle.proxy_rules.specs.declared.papers.Cutoffs.{Cutoffs}
+use Rattle.proxy_rules.specs.declared.meeting_records.Cutoffs.{Cutoffs}
 use Rattle.proxy_rules.proofs.ProxyListLemmas.{reverse-filter}
 use Rattle.party_views.specs.OwnViews.{authorised_in_rows, governed_by, governed_in_holding, known_to_proxy, own_by, poll_governed, received_by, rows_by, session_governed}
 use Rattle.party_views.specs.SessionLists.{each_session}
 use Rattle.party_views.specs.declared.reads.Reads.{Reads}
 use Rattle.party_views.specs.declared.reads.Reads.TheVariants.{Vote, AsInstructed}
 use Rattle.party_views.specs.RowsRead.{appointments_read, authorised_read, authorities_read, cast_on, for_poll, members_read, own_part, own_read, polls_part, polls_on, polls_read, reads_of, received_read, rows_part, rows_read}
-use Rattle.party_views.specs.declared.rows.AuthorityRows.{AuthorityRows}
-use Rattle.party_views.specs.declared.rows.MemberRows.{MemberRows}
-use Rattle.party_views.specs.declared.rows.OwnRows.{OwnRows}
+use Rattle.party_views.specs.declared.own_rows.AuthorityRows.{AuthorityRows}
+use Rattle.party_views.specs.declared.own_rows.MemberRows.{MemberRows}
+use Rattle.party_views.specs.declared.own_rows.OwnRows.{OwnRows}
 use Rattle.party_views.proofs.FindLemmas.{find-filter}
 
 -- what is made of those that pass

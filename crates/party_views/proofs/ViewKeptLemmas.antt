@@ -9,21 +9,21 @@ use Rattle.std.specs.Cmp.Lexicographic.{texts_ties}
 use Rattle.std.specs.Ordering.{is_eq}
 use Rattle.std.proofs.lemmas.List.{reverse-append, take_more}
 use Rattle.vocabulary.specs.Names.{same_name, name_cmp}
-use Rattle.desk_words.specs.declared.own.Received.{Received}
+use Rattle.desk_words.specs.declared.own_things.Received.{Received}
 use Rattle.desk_words.specs.declared.records.Appointment.{Appointment}
 use Rattle.desk_words.specs.declared.records.Meeting.{Meeting}
 use Rattle.desk_words.specs.declared.records.Poll.{Poll}
 use Rattle.desk_words.specs.declared.records.Session.{Session}
 use Rattle.desk_words.specs.Sessions.{sessions_of}
 use Rattle.proxy_rules.specs.Cutoffs.{is_late_poll}
-use Rattle.proxy_rules.specs.declared.papers.Cutoffs.{Cutoffs}
+use Rattle.proxy_rules.specs.declared.meeting_records.Cutoffs.{Cutoffs}
 use Rattle.party_views.specs.ViewsByMember.{late_in_rows, late_of, received_with, same_cutoffs, cutoffs_in_session, session_in_rows}
 use Rattle.party_views.specs.OwnViews.{known_to_proxy, poll_governed, received_by, rows_by, session_governed}
 use Rattle.party_views.specs.SessionLists.{each_session}
 use Rattle.party_views.specs.declared.governed.LatePoll.{LatePoll}
 use Rattle.party_views.specs.declared.governed.SessionCutoffs.{SessionCutoffs}
 use Rattle.party_views.proofs.Numbering.{map-numbered}
-use Rattle.party_views.specs.declared.rows.MemberRows.{MemberRows}
+use Rattle.party_views.specs.declared.own_rows.MemberRows.{MemberRows}
 
 -- one member's rows more, which are the last of its name
 rows_by-more : (members : List MemberRows) (i : ℕ) (rows : MemberRows) (member : List ℕ) → i < length members → rows ≡ get_or members i rows

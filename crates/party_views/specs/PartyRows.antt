@@ -9,9 +9,9 @@ use Rattle.desk_words.specs.declared.records.PresenceMark.{PresenceMark}
 use Rattle.proxy_rules.specs.Holdings.{holding_of, is_ended_of, is_given_by}
 use Rattle.proxy_rules.specs.Parties.{authorises, is_authority_of, is_cast_by, is_demanded_by, is_presence_of, names}
 use Rattle.proxy_rules.specs.Shares.{row_of}
-use Rattle.party_views.specs.declared.rows.AuthorityRows.{AuthorityRows}
-use Rattle.party_views.specs.declared.rows.MemberRows.{MemberRows}
-use Rattle.party_views.specs.declared.rows.OwnRows.{OwnRows}
+use Rattle.party_views.specs.declared.own_rows.AuthorityRows.{AuthorityRows}
+use Rattle.party_views.specs.declared.own_rows.MemberRows.{MemberRows}
+use Rattle.party_views.specs.declared.own_rows.OwnRows.{OwnRows}
 
 -- the parties, each once, where it first stands
 abbrev pub parties_once : List Party → List Party

@@ -4,9 +4,9 @@ use Rattle.desk_words.specs.Names.{same_name}
 use Rattle.desk_words.specs.ViewTypes.{Number}
 use Rattle.vocabulary.specs.declared.kinds.Capacity.{Capacity}
 use Rattle.vocabulary.specs.declared.kinds.Capacity.TheVariants.{Rep, Proxy}
-use Rattle.desk_words.specs.declared.own.Authorised.{Authorised}
-use Rattle.desk_words.specs.declared.own.PollGoverned.{PollGoverned}
-use Rattle.desk_words.specs.declared.own.Received.{Received}
+use Rattle.desk_words.specs.declared.own_things.Authorised.{Authorised}
+use Rattle.desk_words.specs.declared.own_things.PollGoverned.{PollGoverned}
+use Rattle.desk_words.specs.declared.own_things.Received.{Received}
 use Rattle.desk_words.specs.declared.records.Appointment.{Appointment}
 use Rattle.desk_words.specs.declared.records.CastMark.{CastMark}
 use Rattle.desk_words.specs.declared.records.Poll.{Poll}
@@ -18,9 +18,9 @@ use Rattle.party_views.specs.OwnViews.{nothing_of}
 use Rattle.party_views.specs.PartyRows.{no_rows_of}
 use Rattle.party_views.specs.declared.reads.Reads.{Reads}
 use Rattle.party_views.specs.declared.reads.Reads.TheVariants.{Nothing, Everything, Given, Persons, Presence, Standing, Vote, AsInstructed}
-use Rattle.party_views.specs.declared.rows.AuthorityRows.{AuthorityRows}
-use Rattle.party_views.specs.declared.rows.MemberRows.{MemberRows}
-use Rattle.party_views.specs.declared.rows.OwnRows.{OwnRows}
+use Rattle.party_views.specs.declared.own_rows.AuthorityRows.{AuthorityRows}
+use Rattle.party_views.specs.declared.own_rows.MemberRows.{MemberRows}
+use Rattle.party_views.specs.declared.own_rows.OwnRows.{OwnRows}
 use Rattle.party_views.specs.declared.views.OwnView.{OwnView}
 
 -- those of the votes that are on a resolution

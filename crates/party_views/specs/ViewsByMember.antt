@@ -6,20 +6,20 @@ use Rattle.std.specs.List.{slice_get}
 use Rattle.std.specs.Ordering.{nat_cmp}
 use Rattle.vocabulary.specs.Names.{name_cmp}
 use Rattle.desk_words.specs.ViewTypes.{Day, Moment, Number, Party, SessionNumber}
-use Rattle.desk_words.specs.declared.own.Given.{Given}
-use Rattle.desk_words.specs.declared.own.PollGoverned.{PollGoverned}
-use Rattle.desk_words.specs.declared.own.Received.{Received}
-use Rattle.desk_words.specs.declared.own.SessionGoverned.{SessionGoverned}
+use Rattle.desk_words.specs.declared.own_things.Given.{Given}
+use Rattle.desk_words.specs.declared.own_things.PollGoverned.{PollGoverned}
+use Rattle.desk_words.specs.declared.own_things.Received.{Received}
+use Rattle.desk_words.specs.declared.own_things.SessionGoverned.{SessionGoverned}
 use Rattle.desk_words.specs.declared.records.Appointment.{Appointment}
 use Rattle.desk_words.specs.declared.records.Meeting.{Meeting}
 use Rattle.desk_words.specs.declared.records.Poll.{Poll}
 use Rattle.proxy_rules.specs.Cutoffs.{cutoffs_of}
 use Rattle.proxy_rules.specs.Uses.{Acts, Votes, Vote}
-use Rattle.proxy_rules.specs.declared.papers.Cutoffs.{Cutoffs}
+use Rattle.proxy_rules.specs.declared.meeting_records.Cutoffs.{Cutoffs}
 use Rattle.party_views.specs.OwnViews.{governed_by, known_to_proxy, rows_by}
 use Rattle.party_views.specs.declared.governed.LatePoll.{LatePoll}
 use Rattle.party_views.specs.declared.governed.SessionCutoffs.{SessionCutoffs}
-use Rattle.party_views.specs.declared.rows.MemberRows.{MemberRows}
+use Rattle.party_views.specs.declared.own_rows.MemberRows.{MemberRows}
 
 -- a map has the place of each member's rows, and of no others
 abbrev pub AreByMember : List MemberRows → BTreeMap Party ℕ → Type 0

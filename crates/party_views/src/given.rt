@@ -6,7 +6,7 @@ ghost use Rattle.std.specs.Ordering.{nat_cmp};
 ghost use Rattle.party_views.specs.ViewsByMember.{given_with_ending};
 ghost use Rattle.party_views.specs.OwnViews.{authorised_in_rows, ended_at, given_in, shares_in};
 
-use crate::rows::AuthorityRows;
+use crate::own_rows::AuthorityRows;
 use desk_words::{
     Appointment, Authorised, Ending, Given, HolderKind, Listing, Moment, RegisterRow,
 };

@@ -10,7 +10,7 @@ ghost use Rattle.party_views.specs.ViewsByMember.{AreByMember, late_in_rows, lat
 ghost use Rattle.party_views.specs.OwnViews.{governed_by, governed_in_holding, received_by, rows_by};
 ghost use Rattle.party_views.specs.SessionLists.{each_session};
 
-use crate::rows::MemberRows;
+use crate::own_rows::MemberRows;
 use desk_words::{
     Appointment, Listing, Meeting, Moment, Party, Poll, PollGoverned, Range, Received,
     SessionGoverned,
@@ -133,7 +133,7 @@ fn governed_kept(
 ) -> Result<Vec<Range>, AllocError>
     ensures { IfOk result (λ runs. runs.items ≡ governed_in_holding cutoffs.now holding.now number) }
 {
-    if holding.is_kept() {
+    if holding.is_valid() {
         holding.governed_by(alloc, cutoffs, number)
     } else {
         Ok(Vec::new(alloc))

@@ -3,12 +3,12 @@
 
 mod given;
 mod governed;
-mod own;
+mod own_rows;
+mod own_view;
 mod reads;
-mod rows;
 mod views;
 
-pub use own::{own_for, own_from};
+pub use own_rows::{AuthorityRows, MemberRows, OwnRows};
+pub use own_view::{own_for, own_from};
 pub use reads::{Reads, reads_of};
-pub use rows::{AuthorityRows, MemberRows, OwnRows};
 pub use views::{OwnView, PublicRecord};

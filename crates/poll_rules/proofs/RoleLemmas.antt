@@ -25,7 +25,7 @@ use Rattle.desk_words.specs.declared.records.Appointment.{Appointment}
 use Rattle.desk_words.specs.declared.records.RegisterRow.{RegisterRow}
 use Rattle.proxy_rules.specs.Tiles.{ArePieces, governing_of, places_in, shares_if}
 use Rattle.proxy_rules.specs.declared.holdings.Holding.{Holding}
-use Rattle.proxy_rules.specs.declared.papers.Cutoffs.{Cutoffs}
+use Rattle.proxy_rules.specs.declared.meeting_records.Cutoffs.{Cutoffs}
 use Rattle.proxy_rules.specs.declared.pieces.GovernedPiece.{GovernedPiece}
 use Rattle.proxy_rules.proofs.ProxyNameLemmas.{same_name-sym}
 use Rattle.proxy_rules.proofs.TileLemmas.{places_that-pieces}

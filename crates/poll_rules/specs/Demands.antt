@@ -13,7 +13,7 @@ use Rattle.desk_words.specs.declared.records.RegisterRow.{RegisterRow}
 use Rattle.proxy_rules.specs.Governing.{governing_in}
 use Rattle.proxy_rules.specs.Holdings.{holding_by}
 use Rattle.proxy_rules.specs.Shares.{is_corporation, is_individual, shares_of}
-use Rattle.proxy_rules.specs.declared.papers.Cutoffs.{Cutoffs}
+use Rattle.proxy_rules.specs.declared.meeting_records.Cutoffs.{Cutoffs}
 use Rattle.poll_rules.specs.declared.demand.Demand.{Demand}
 
 -- the demand was made in the session, of a poll on the resolution

@@ -22,7 +22,7 @@ use Rattle.proxy_rules.specs.GoverningLaws.{has_number}
 use Rattle.proxy_rules.specs.PlaceRuns.{joined, runs_that}
 use Rattle.proxy_rules.specs.Shares.{is_share}
 use Rattle.proxy_rules.specs.declared.holdings.Holding.{Holding}
-use Rattle.proxy_rules.specs.declared.papers.Cutoffs.{Cutoffs}
+use Rattle.proxy_rules.specs.declared.meeting_records.Cutoffs.{Cutoffs}
 use Rattle.proxy_rules.proofs.GovernedRuns.{any-reversed, earlier_nothing, ended_or_not, none_past, not_found}
 use Rattle.proxy_rules.proofs.ProxyRunLemmas.{runs_that-alike, runs_that-stretch}
 

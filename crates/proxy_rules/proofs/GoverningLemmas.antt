@@ -13,7 +13,7 @@ use Rattle.vocabulary.specs.declared.range.TheConstants.{MOST_PLACES}
 use Rattle.vocabulary.specs.Places.{Places, holds}
 use Rattle.desk_words.specs.declared.records.Appointment.{Appointment}
 use Rattle.proxy_rules.specs.declared.holdings.Holding.{Holding}
-use Rattle.proxy_rules.specs.declared.papers.Cutoffs.{Cutoffs}
+use Rattle.proxy_rules.specs.declared.meeting_records.Cutoffs.{Cutoffs}
 use Rattle.proxy_rules.specs.declared.pieces.GovernedPiece.{GovernedPiece}
 use Rattle.proxy_rules.specs.Governing.{ends, governing_in, is_ended, is_over, last_over, unended}
 use Rattle.proxy_rules.specs.Holdings.{IsValidHolding, are_numbered_from, are_tags}

@@ -15,7 +15,7 @@ use Rattle.proxy_rules.specs.Governing.{governing_in}
 use Rattle.proxy_rules.specs.Tagging.{held_of}
 use Rattle.proxy_rules.specs.Tiles.{ArePieces, IsAlike, IsGoverned, governing_of, are_tiled, places_if, places_in, governed_ranges, shares_if}
 use Rattle.proxy_rules.specs.declared.holdings.Holding.{Holding}
-use Rattle.proxy_rules.specs.declared.papers.Cutoffs.{Cutoffs}
+use Rattle.proxy_rules.specs.declared.meeting_records.Cutoffs.{Cutoffs}
 use Rattle.proxy_rules.specs.declared.pieces.GovernedPiece.{GovernedPiece}
 use Rattle.share_blocks.specs.Pieces.{follow_from}
 use Rattle.share_blocks.proofs.CutLemmas.{follows}

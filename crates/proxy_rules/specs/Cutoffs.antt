@@ -9,7 +9,7 @@ use Rattle.desk_words.specs.declared.records.Session.{Session}
 use Rattle.desk_words.specs.Sessions.{session_of}
 use Rattle.office_days.specs.WorkingDays.{back, is_late}
 use Rattle.proxy_rules.specs.Uses.{Use, Acts, Votes, Vote}
-use Rattle.proxy_rules.specs.declared.papers.Cutoffs.{Cutoffs}
+use Rattle.proxy_rules.specs.declared.meeting_records.Cutoffs.{Cutoffs}
 
 -- the moment so many hours of working time before another, or the first moment of all where there
 -- is none

@@ -7,7 +7,7 @@ use Rattle.desk_words.specs.declared.records.Appointment.{Appointment}
 use Rattle.desk_words.specs.declared.records.Ending.{Ending}
 use Rattle.desk_words.specs.declared.records.RegisterRow.{RegisterRow}
 use Rattle.proxy_rules.specs.declared.holdings.Holding.{Holding}
-use Rattle.proxy_rules.specs.declared.papers.Cutoffs.{Cutoffs}
+use Rattle.proxy_rules.specs.declared.meeting_records.Cutoffs.{Cutoffs}
 use Rattle.proxy_rules.specs.Governing.{governed_in, governing_in, governing_number}
 use Rattle.proxy_rules.specs.Holdings.{holding_of}
 use Rattle.proxy_rules.specs.PlaceRuns.{are_parted, runs_that}

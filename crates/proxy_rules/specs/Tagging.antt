@@ -6,7 +6,7 @@ use Rattle.vocabulary.specs.Places.{Places, range_of}
 use Rattle.desk_words.specs.ViewTypes.{Place}
 use Rattle.desk_words.specs.declared.records.Appointment.{Appointment}
 use Rattle.desk_words.specs.declared.records.Ending.{Ending}
-use Rattle.proxy_rules.specs.declared.papers.Cutoffs.{Cutoffs}
+use Rattle.proxy_rules.specs.declared.meeting_records.Cutoffs.{Cutoffs}
 use Rattle.proxy_rules.specs.declared.pieces.GovernedPiece.{GovernedPiece}
 use Rattle.share_blocks.specs.Covers.{Cover}
 use Rattle.share_blocks.specs.Pieces.{Piece, tags_at}

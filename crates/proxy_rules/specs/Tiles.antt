@@ -5,7 +5,7 @@ use Rattle.vocabulary.specs.Places.{Places, holds, places_that}
 use Rattle.desk_words.specs.ViewTypes.{Place}
 use Rattle.desk_words.specs.declared.records.Appointment.{Appointment}
 use Rattle.proxy_rules.specs.declared.holdings.Holding.{Holding}
-use Rattle.proxy_rules.specs.declared.papers.Cutoffs.{Cutoffs}
+use Rattle.proxy_rules.specs.declared.meeting_records.Cutoffs.{Cutoffs}
 use Rattle.proxy_rules.specs.declared.pieces.GovernedPiece.{GovernedPiece}
 use Rattle.proxy_rules.specs.Governing.{governing_in}
 

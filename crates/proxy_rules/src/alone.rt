@@ -11,7 +11,7 @@ ghost use Rattle.proxy_rules.specs.PlaceRuns.{runs_that};
 
 use crate::governor::{counts, ends, is_over};
 use crate::holdings::Holding;
-use crate::papers::Cutoffs;
+use crate::meeting_records::Cutoffs;
 use crate::runs::join_run;
 use desk_words::{Appointment, Ending, Range};
 use std::alloc::{AllocError, Global};

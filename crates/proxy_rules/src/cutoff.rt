@@ -4,7 +4,7 @@ ghost use Rattle.proxy_rules.specs.Cutoffs.{back_or_first, is_late_poll, session
 ghost use Rattle.desk_words.specs.Sessions.{session_of};
 ghost use Rattle.proxy_rules.specs.Uses.{use_of};
 
-use crate::papers::Cutoffs;
+use crate::meeting_records::Cutoffs;
 use desk_words::limits::{HOURS_BEFORE_LATE_POLL, HOURS_BEFORE_MEETING};
 use desk_words::{Meeting, Moment, Poll, Session};
 use office_days::Closed;

@@ -6,8 +6,8 @@ ghost use Rattle.proxy_rules.specs.Governing.{ends, governing_number, is_over};
 ghost use Rattle.proxy_rules.specs.Holdings.{holding_of, is_ended_of, is_given_by};
 ghost use Rattle.proxy_rules.specs.Shares.{is_share, row_of, shares_by};
 
-use crate::papers::{Cutoffs, Papers};
-use crate::rows::shares;
+use crate::meeting_records::{Cutoffs, Papers};
+use crate::register_rows::shares;
 use desk_words::{Appointment, Ending, Party, RegisterRow};
 
 /// Whether an appointment was received in time to count (section 327).

@@ -3,8 +3,8 @@ ghost use Rattle.std.specs.Prelude.{◌≡◌, true, IfOk, filter, nat_le};
 ghost use Rattle.proxy_rules.specs.Holdings.{IsValidHolding, are_numbered_from, are_tags, holding_by, holding_of, holding_with, is_ended_of, is_given_by, is_valid_holding};
 
 use crate::governor::shares_by;
-use crate::papers::Papers;
-use crate::rows::shares;
+use crate::meeting_records::Papers;
+use crate::register_rows::shares;
 use desk_words::{Appointment, Ending, Filed, Listing, MOST_PLACES, Party, RegisterRow};
 use share_blocks::Tag;
 use std::alloc::{AllocError, Global};
@@ -123,7 +123,7 @@ impl Holding {
 
     /// Whether an office keeps such a holding: its appointments are numbered 1, 2, .. up to 256,
     /// and its shares have places. It takes no memory.
-    pub fn is_kept(&self) -> bool
+    pub fn is_valid(&self) -> bool
         ensures value { result ≡ is_valid_holding self.now }
         ensures kept { result ≡ true → IsValidHolding self.now }
     {

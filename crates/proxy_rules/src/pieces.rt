@@ -11,7 +11,7 @@ ghost use Rattle.share_blocks.specs.Pieces.{ranges_of};
 ghost use Rattle.share_blocks.specs.Tags.{is_tag};
 
 use crate::holdings::Holding;
-use crate::papers::Cutoffs;
+use crate::meeting_records::Cutoffs;
 use desk_words::{Appointment, Ending, Range};
 use share_blocks::{Admitted, Blocks, PlainBlocks, Tag};
 use std::alloc::{AllocError, Global};

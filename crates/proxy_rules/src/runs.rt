@@ -6,7 +6,7 @@ ghost use Rattle.proxy_rules.specs.Holdings.{are_tags, holding_of};
 ghost use Rattle.proxy_rules.specs.PlaceRuns.{joined};
 
 use crate::holdings::Holding;
-use crate::papers::{Cutoffs, Papers};
+use crate::meeting_records::{Cutoffs, Papers};
 use desk_words::{Party, Range};
 use std::alloc::{AllocError, Global};
 

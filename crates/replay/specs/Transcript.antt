@@ -124,7 +124,7 @@ AreAnswered lines old new =
 abbrev pub IsReplayedUntil : ReplayFault → List ℕ → ℕ → Option (List ℕ) → Option (List ℕ) → Type 0
 IsReplayedUntil = IsReplayedUntilOn IsMemory empty_office IsForgotten
 
--- a text that was made, or the line that tells why there is none
+-- a text that was made, or the line that says why there is none
 abbrev pub text_or_failure : Result (Vec ℕ Global) Failure → List ℕ
 text_or_failure (Ok text) = text.items
 text_or_failure (Err why) = as_line (failure_bytes why)

@@ -1,3 +1,3 @@
 pub mod MemberLemmas
 pub mod SourceRowLemmas
-pub mod SourceTellingLemmas
+pub mod SourceLookUpLemmas

@@ -15,7 +15,7 @@ use Rattle.desk_words.specs.declared.records.Appointment.{Appointment}
 use Rattle.desk_words.specs.declared.request.NewCast.{NewCast}
 use Rattle.party_views.specs.RowsRead.{appointments_read, members_read}
 use Rattle.party_views.specs.PartyRows.{parties_once, givers, member_in}
-use Rattle.party_views.specs.declared.rows.MemberRows.{MemberRows}
+use Rattle.party_views.specs.declared.own_rows.MemberRows.{MemberRows}
 use Rattle.party_views.proofs.OwnLemmas.{filter-map, filter-swap}
 use Rattle.proxy_rules.proofs.ProxyNameLemmas.{same_name-sym}
 use Rattle.proxy_rules.specs.Holdings.{is_given_by}

@@ -10,8 +10,8 @@ use Rattle.desk_words.specs.declared.request.NewCast.{NewCast}
 use Rattle.party_views.specs.RowsRead.{rows_part}
 use Rattle.party_views.specs.PartyRows.{authority_rows_in, no_rows_of, presences_of, rows_in}
 use Rattle.party_views.specs.declared.reads.Reads.TheVariants as reads
-use Rattle.party_views.specs.declared.rows.AuthorityRows.{AuthorityRows}
-use Rattle.party_views.specs.declared.rows.OwnRows.{OwnRows}
+use Rattle.party_views.specs.declared.own_rows.AuthorityRows.{AuthorityRows}
+use Rattle.party_views.specs.declared.own_rows.OwnRows.{OwnRows}
 use Rattle.party_views.proofs.OwnLemmas.{filter-map}
 use Rattle.proxy_rules.specs.Holdings.{is_ended_of, is_given_by}
 use Rattle.proxy_rules.specs.Parties.{is_authority_of, is_demanded_by}

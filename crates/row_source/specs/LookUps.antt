@@ -15,9 +15,9 @@ use Rattle.proxy_rules.specs.Parties.{authorises, is_authority_of, is_cast_by, n
 use Rattle.proxy_rules.specs.Shares.{row_of}
 use Rattle.party_views.specs.RowsRead.{cast_on}
 use Rattle.party_views.specs.PartyRows.{givers, no_rows_of}
-use Rattle.party_views.specs.declared.rows.AuthorityRows.{AuthorityRows}
-use Rattle.party_views.specs.declared.rows.MemberRows.{MemberRows}
-use Rattle.party_views.specs.declared.rows.OwnRows.{OwnRows}
+use Rattle.party_views.specs.declared.own_rows.AuthorityRows.{AuthorityRows}
+use Rattle.party_views.specs.declared.own_rows.MemberRows.{MemberRows}
+use Rattle.party_views.specs.declared.own_rows.OwnRows.{OwnRows}
 use Rattle.row_source.specs.declared.members.ReceivedRows.{ReceivedRows}
 
 -- a list of a meeting that is found

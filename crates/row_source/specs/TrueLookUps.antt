@@ -1,4 +1,4 @@
--- What a look-up tells of a meeting, where its source may be trusted.
+-- What a look-up returns of a meeting, where its source may be trusted.
 use Rattle.std.specs.Prelude.{Option, Result, MatchResult, OnOk}
 use Rattle.desk_words.specs.declared.office.MeetingLists.{MeetingLists}
 
@@ -9,7 +9,7 @@ pub record IsTrueLookUp {S X E : Type 0} (trusted : S → Type 0)
     (shows : S → Option MeetingLists → Type 0)
     (keeps leaves : S → S → Type 0) (may_fail : E → Type 0) (old new : S) (result : Result X E)
     (Holds : Option MeetingLists → X → Type 0) : Type 0 where
-  pub told : trusted new → (found : Option MeetingLists) → shows old found
+  pub holds : trusted new → (found : Option MeetingLists) → shows old found
       → MatchResult result (Holds found) may_fail
   pub kept : OnOk result (keeps old new)
   pub left : leaves old new

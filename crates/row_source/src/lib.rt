@@ -2,8 +2,8 @@
 #![tactic(auto)]
 
 mod members;
-mod rows;
+mod needed_rows;
 mod source;
 
-pub use rows::{no_rows_of, rows_for};
+pub use needed_rows::{no_rows_of, rows_for};
 pub use source::RowSource;

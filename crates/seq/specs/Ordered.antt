@@ -28,6 +28,6 @@ same_key key cmp a b = is_eq (cmp (key a) (key b))
 abbrev pub has_key : {X K : Type 0} → (X → K) → (K → K → Ordering) → K → X → Bool
 has_key key cmp wanted value = is_eq (cmp (key value) wanted)
 
--- values that the order does not tell apart are the same value
+-- values that the order does not distinguish are the same value
 abbrev pub IsExact : {X : Type 0} → (X → X → Ordering) → Type 0
 IsExact {X} order = (a b : X) → order a b ≡ Equal → a ≡ b

@@ -1,8 +1,8 @@
 -- The lists of an office that rows are, and rows that are none.
 use Rattle.std.proofs.Common.{◌≡◌, ℕ, suc, ◌==◌, Bool, true, false, ◌&&◌, ◌||◌, if◌then◌else◌, nat_eq, ◌<◌, IsTrue, map, List, [], ◌∷◌, length, take, Option, Some, None, inl, inr, refl, sym, ap, subst, ◌∙◌, true≢false, arith}
 use Rattle.std.specs.Prelude.{◌↔◌, Contains, IsPermutation, Result, Ok, Err, nat_le, nat_lt}
-use Rattle.desk_words.specs.declared.lists.ListFault.{ListFault}
-use Rattle.desk_words.specs.declared.lists.ListFault.TheVariants.{Limit, Memory}
+use Rattle.desk_words.specs.declared.list_types.ListFault.{ListFault}
+use Rattle.desk_words.specs.declared.list_types.ListFault.TheVariants.{Limit, Memory}
 use Rattle.std.specs.Cmp.{first_so, second_so}
 use Rattle.std.specs.Cmp.Derive.{both_true}
 use Rattle.std.specs.Cmp.Lexicographic.{nat_list_cmp_total, options_total}
@@ -32,7 +32,7 @@ use Rattle.desk_words.specs.Sessions.{are_sessions, is_opened}
 use Rattle.desk_words.proofs.OfficeFacts.{meeting_facts}
 use Rattle.desk_words.proofs.RegisterLimits.{keep_limits-permutation}
 use Rattle.vocabulary.specs.OptionSteps.{◌>>=◌, guard}
-use Rattle.sql_rows.specs.declared.kept.Numbered.{Numbered}
+use Rattle.sql_rows.specs.declared.stored_records.Numbered.{Numbered}
 use Rattle.sql_model.specs.OfficeRecords.{number_before, numbered_from}
 use Rattle.sql_rows.proofs.RowMeaningLemmas.{bound}
 use Rattle.std.proofs.lemmas.Bool.{and_parts}
@@ -40,7 +40,7 @@ use Rattle.sql_assemble.specs.declared.fault.LoadError.{LoadError}
 use Rattle.sql_assemble.specs.declared.fault.LoadError.TheVariants as fault
 use Rattle.sql_assemble.specs.declared.fault.LoadError.TheVariants.{NoOffice}
 use Rattle.sql_assemble.specs.LoadResults.{ReadErrAgrees, ReadAgrees}
-use Rattle.sql_assemble.specs.declared.own.OwnRecords.{OwnRecords}
+use Rattle.sql_assemble.specs.declared.own_records.OwnRecords.{OwnRecords}
 use Rattle.sql_assemble.specs.OwnLists.{are_few, at_most, unnumbered, lists_own, lists_own_with, number_from, numbered_own, resolutions_own, sessions_own}
 
 pub second_false : (a b : Bool) → b ≡ false → (a && b) ≡ false

@@ -12,7 +12,7 @@ use Rattle.desk_words.specs.declared.caller.KeyRow.{KeyRow}
 use Rattle.desk_words.specs.declared.office.MeetingLists.{MeetingLists}
 use Rattle.desk_words.specs.declared.office.OfficeLists.{OfficeLists}
 use Rattle.vocabulary.specs.OptionSteps.{◌>>=◌, guard}
-use Rattle.sql_rows.specs.declared.kept.MeetingRow.{MeetingRow}
+use Rattle.sql_rows.specs.declared.stored_records.MeetingRow.{MeetingRow}
 use Rattle.sql_model.specs.OfficeRecords.{FlatLists, have_meetings, lists_of, lists_of_all, office_of_records}
 use Rattle.sql_model.proofs.ModelOfficeLemmas.{named_so}
 use Rattle.sql_rows.proofs.RowMeaningLemmas.{bound}
@@ -21,7 +21,7 @@ use Rattle.sql_assemble.specs.declared.fault.LoadError.{LoadError}
 use Rattle.sql_assemble.specs.declared.fault.LoadError.TheVariants as fault
 use Rattle.sql_assemble.specs.declared.fault.LoadError.TheVariants.{NoOffice}
 use Rattle.sql_assemble.specs.LoadResults.{ReadErrAgrees}
-use Rattle.sql_assemble.specs.declared.own.OwnRecords.{OwnRecords}
+use Rattle.sql_assemble.specs.declared.own_records.OwnRecords.{OwnRecords}
 use Rattle.sql_assemble.specs.declared.flat.MeetingRecords.{MeetingRecords}
 use Rattle.sql_assemble.specs.Flat.{flat_of_records}
 use Rattle.sql_assemble.specs.Grouping.{all_lists_own, are_meeting_rows, own_records_of, same_meeting_row}

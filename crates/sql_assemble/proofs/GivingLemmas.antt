@@ -7,7 +7,7 @@ use Rattle.std.proofs.lemmas.List.{map-append, take_more}
 use Rattle.std.proofs.lemmas.Result.{on_ok_weaker}
 use Rattle.std.specs.Cmp.Derive.{both_true}
 use Rattle.std.proofs.lemmas.Bool.{or_right}
-use Rattle.sql_rows.specs.declared.kept.MeetingRow.{MeetingRow}
+use Rattle.sql_rows.specs.declared.stored_records.MeetingRow.{MeetingRow}
 use Rattle.sql_assemble.specs.declared.fault.LoadError.{LoadError}
 use Rattle.sql_assemble.specs.declared.fault.LoadError.TheVariants.{NoOffice}
 use Rattle.sql_assemble.specs.declared.flat.MeetingRecords.{MeetingRecords}
@@ -18,10 +18,10 @@ use Rattle.desk_words.specs.declared.limits.TheConstants.{MOST_MEETINGS}
 use Rattle.std.specs.Prelude.{nat_le}
 use Rattle.vocabulary.specs.Names.{same_name}
 use Rattle.desk_words.proofs.WordRowLemmas.{same_name-true, same_name-refl}
-use Rattle.sql_rows.specs.declared.kept.InMeeting.{InMeeting}
+use Rattle.sql_rows.specs.declared.stored_records.InMeeting.{InMeeting}
 use Rattle.sql_model.specs.OfficeRecords.{name_meetings, of_meeting}
 use Rattle.std.proofs.lemmas.Bool.{and_parts}
-use Rattle.sql_assemble.specs.declared.own.OwnRecords.{OwnRecords}
+use Rattle.sql_assemble.specs.declared.own_records.OwnRecords.{OwnRecords}
 use Rattle.sql_assemble.specs.Grouping.{IsGivenOut, all_given_out, are_meeting_rows, given_out, is_named, meetings_own, own_records_of, same_own, same_meeting_row}
 use Rattle.sql_assemble.specs.OwnLists.{nothing_own}
 use Rattle.sql_assemble.proofs.AssembledListLemmas.{second_false}

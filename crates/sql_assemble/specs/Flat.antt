@@ -1,7 +1,7 @@
 -- What the tables hold, of the desk and of its meetings.
 use Rattle.std.specs.Prelude.{ℕ, List}
 use Rattle.desk_words.specs.declared.caller.KeyRow.{KeyRow}
-use Rattle.sql_rows.specs.declared.kept.MeetingRow.{MeetingRow}
+use Rattle.sql_rows.specs.declared.stored_records.MeetingRow.{MeetingRow}
 use Rattle.sql_model.specs.OfficeRecords.{FlatLists}
 use Rattle.sql_assemble.specs.declared.flat.MeetingRecords.{MeetingRecords}
 

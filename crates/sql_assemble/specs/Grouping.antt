@@ -6,13 +6,13 @@ use Rattle.vocabulary.specs.Names.{same_name}
 use Rattle.desk_words.specs.declared.limits.TheConstants.{MOST_MEETINGS}
 use Rattle.desk_words.specs.declared.office.MeetingLists.{MeetingLists}
 use Rattle.vocabulary.specs.OptionSteps.{◌>>=◌}
-use Rattle.sql_rows.specs.declared.kept.InMeeting.{InMeeting}
-use Rattle.sql_rows.specs.declared.kept.MeetingRow.{MeetingRow}
+use Rattle.sql_rows.specs.declared.stored_records.InMeeting.{InMeeting}
+use Rattle.sql_rows.specs.declared.stored_records.MeetingRow.{MeetingRow}
 use Rattle.sql_model.specs.OfficeRecords.{have_meetings, of_meeting}
 use Rattle.sql_assemble.specs.declared.fault.LoadError.{LoadError}
 use Rattle.sql_assemble.specs.declared.fault.LoadError.TheVariants.{NoOffice}
 use Rattle.sql_assemble.specs.declared.flat.MeetingRecords.{MeetingRecords}
-use Rattle.sql_assemble.specs.declared.own.OwnRecords.{OwnRecords}
+use Rattle.sql_assemble.specs.declared.own_records.OwnRecords.{OwnRecords}
 use Rattle.sql_assemble.specs.Flat.{flat_of_records}
 use Rattle.sql_assemble.specs.OwnLists.{adding_appointments, adding_authorities, adding_casts}
 use Rattle.sql_assemble.specs.OwnLists.{adding_demands, adding_endings, adding_polls, adding_presences}

@@ -17,10 +17,10 @@ use Rattle.desk_words.specs.declared.records.RegisterRow.{RegisterRow}
 use Rattle.desk_words.specs.declared.records.Resolution.{Resolution}
 use Rattle.desk_words.specs.declared.records.Session.{Session}
 use Rattle.vocabulary.specs.OptionSteps.{◌>>=◌}
-use Rattle.sql_rows.specs.declared.kept.MeetingRow.{MeetingRow}
-use Rattle.sql_rows.specs.declared.kept.Numbered.{Numbered}
+use Rattle.sql_rows.specs.declared.stored_records.MeetingRow.{MeetingRow}
+use Rattle.sql_rows.specs.declared.stored_records.Numbered.{Numbered}
 use Rattle.sql_model.specs.OfficeRecords.{number_before, numbered_from, whole_meeting}
-use Rattle.sql_assemble.specs.declared.own.OwnRecords.{OwnRecords}
+use Rattle.sql_assemble.specs.declared.own_records.OwnRecords.{OwnRecords}
 
 -- a meeting without records
 abbrev pub nothing_own : MeetingRow → OwnRecords

@@ -12,7 +12,7 @@ ghost use Rattle.sql_assemble.specs.OwnLists.{nothing_own};
 
 use crate::fault::LoadError;
 use crate::flat::MeetingRecords;
-use crate::own::{OfMeeting, OwnRecords};
+use crate::own_records::{OfMeeting, OwnRecords};
 use desk_words::limits::MOST_MEETINGS;
 use desk_words::{Listing, MeetingId};
 use sql_rows::{InMeeting, MeetingRow};

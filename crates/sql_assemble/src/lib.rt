@@ -5,12 +5,14 @@
 mod fault;
 mod flat;
 mod giving;
-mod lists;
 mod office;
-mod own;
+mod ordered_lists;
+mod own_records;
 
 pub use fault::LoadError;
 pub use flat::{FlatRecords, MeetingRecords};
-pub use lists::{day_list, key_rows, poll_list, register_rows, resolution_list, session_list};
 pub use office::office_from;
-pub use own::{OfMeeting, OwnRecords};
+pub use ordered_lists::{
+    day_list, key_rows, poll_list, register_rows, resolution_list, session_list,
+};
+pub use own_records::{OfMeeting, OwnRecords};

@@ -8,8 +8,8 @@ ghost use Rattle.sql_assemble.specs.LoadResults.{ReadAgrees};
 use crate::fault::LoadError;
 use crate::flat::FlatRecords;
 use crate::giving::meetings_with;
-use crate::lists::{day_list, key_rows};
-use crate::own::OwnRecords;
+use crate::ordered_lists::{day_list, key_rows};
+use crate::own_records::OwnRecords;
 use desk_words::{Listing, MeetingLists, OfficeLists};
 use std::alloc::Global;
 

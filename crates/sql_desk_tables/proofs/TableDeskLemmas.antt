@@ -26,7 +26,7 @@ use Rattle.sqlite_schema.specs.declared.schema.View.{View as Stored}
 use Rattle.sqlite_trees.specs.declared.store.Store as store
 use Rattle.sql_desk_tables.specs.Versions.{IsAnsweredBy, AreNoted, NotesVersion, ShowsVersions, beside_desk, version_text}
 use Rattle.sql_rows.specs.ColumnValues.{natural_of, number_in}
-use Rattle.sql_rows.specs.declared.kept.Version.{Version}
+use Rattle.sql_rows.specs.declared.stored_records.Version.{Version}
 use Rattle.sql_rows.proofs.RowMeaningLemmas.{bound}
 use Rattle.vocabulary.specs.OptionSteps.{guard}
 use Rattle.sql_rows.specs.DeskRows.{version_in}

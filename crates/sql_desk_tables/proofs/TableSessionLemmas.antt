@@ -24,8 +24,8 @@ use Rattle.desk_words.specs.declared.records.Session.{Session}
 use Rattle.sql_rows.proofs.RowMeaningLemmas.{bound, option_ap}
 use Rattle.sql_rows.specs.ColumnValues.{moment_in, moment_of_number, natural_of, number_in, some_moment_in, some_moment_of, parsed_in}
 use Rattle.sql_rows.specs.Meetings.{session_in}
-use Rattle.sql_rows.specs.declared.kept.InMeeting.{InMeeting}
-use Rattle.sql_rows.specs.declared.kept.Numbered.{Numbered}
+use Rattle.sql_rows.specs.declared.stored_records.InMeeting.{InMeeting}
+use Rattle.sql_rows.specs.declared.stored_records.Numbered.{Numbered}
 use Rattle.sql_schema.specs.Contents.{is_session_named, numbered_opened_at, session_opened_at, sessions}
 use Rattle.sql_schema.specs.Statements.{IsDesk, Sets, columns_of, layout_two, HasTables}
 use Rattle.sql_schema.specs.Tables.{schema_one, sessions_table as table}

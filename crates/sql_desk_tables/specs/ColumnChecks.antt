@@ -1,4 +1,4 @@
--- What asking for columns tells.
+-- What asking for columns returns.
 use Rattle.std.specs.Prelude.{◌≡◌, ℕ, List, [], ◌∷◌, map, Result, Err, IsOk, IsTrue, OnOk}
 use Rattle.std.specs.List.{AllByRecursion}
 use Rattle.sqlite.specs.Held.{Held, state}
@@ -20,8 +20,8 @@ meeting_columns =
     ∷ [])
 
 -- the columns of what is handed in
-abbrev pub paper_columns : List (List ℕ)
-paper_columns =
+abbrev pub proxy_columns : List (List ℕ)
+proxy_columns =
     map asking_text
     (appointments_table ∷ endings_table ∷ authorities_table ∷ presences_table ∷ [])
 
@@ -47,8 +47,8 @@ abbrev pub HasColumns : Schema → Type 0
 HasColumns = HasColumnsOf asked_two
 
 -- outside a transaction nothing is changed, and a crash leaves what it left before; the columns
--- are told to stand where the store is open and the texts that name them are understood, and one is
--- told to be missing where they are not
+-- are said to stand where the store is open and the texts that name them are understood, and one is
+-- said to be missing where they are not
 pub record AsksFor {S T : Type 0} (g : store.Ghosts S) (old new : Held S) (texts : List (List ℕ))
     (result : Result T ColumnError) : Type 0 where
   pub crash : Survives (state g old) (state g new) (λ _. ⊥)

@@ -4,7 +4,7 @@ use Rattle.sqlite.specs.Order.{Row}
 use Rattle.sqlite.specs.State.{State}
 use Rattle.sqlite.specs.declared.types.Value.TheVariants.{Int, Text}
 use Rattle.sql_rows.specs.ColumnValues.{natural_of, plain_text_of, read_word}
-use Rattle.sql_rows.specs.declared.kept.InMeeting.{InMeeting}
+use Rattle.sql_rows.specs.declared.stored_records.InMeeting.{InMeeting}
 use Rattle.sql_schema.specs.Statements.{Changes, TableOf}
 use Rattle.vocabulary.specs.Kinds.{holder_kind_of}
 use Rattle.vocabulary.specs.Names.{party_of}

@@ -4,7 +4,7 @@ ghost use Rattle.sql_schema.specs.Statements.{HasTables, layout_one, layout_two}
 ghost use Rattle.sql_schema.specs.Tables.{asked_one};
 ghost use Rattle.sqlite.specs.Schema.{Schema};
 ghost use Rattle.sql_desk_tables.specs.ColumnChecks.{AsksFor, HasColumns, HasColumnsOf};
-ghost use Rattle.sql_desk_tables.specs.ColumnChecks.{meeting_columns, paper_columns, poll_columns, session_columns};
+ghost use Rattle.sql_desk_tables.specs.ColumnChecks.{meeting_columns, proxy_columns, poll_columns, session_columns};
 ghost use Rattle.sql_desk_tables.specs.Versions.{version_text};
 ghost use Rattle.sql_desk_tables.specs.declared.columns.ColumnError.TheVariants.{Refused};
 
@@ -72,10 +72,10 @@ fn ask_meetings<S: Alter>(conn: &mut Connection<S>) -> Result<(), ColumnError>
 }
 
 /// Asks for the columns of what is handed in: appointments, endings, authorities and presences.
-fn ask_papers<S: Alter>(conn: &mut Connection<S>) -> Result<(), ColumnError>
+fn ask_proxy_columns<S: Alter>(conn: &mut Connection<S>) -> Result<(), ColumnError>
     requires { conn.old.in_transaction ≡ false }
     ensures ended { conn.new.in_transaction ≡ false }
-    ensures asked { AsksFor S.Store conn.old conn.new paper_columns result }
+    ensures asked { AsksFor S.Store conn.old conn.new proxy_columns result }
 {
     ask(
         conn,
@@ -141,10 +141,10 @@ pub fn ask_columns_one<S: Alter>(conn: &mut Connection<S>) -> Result<(), ColumnE
     requires { conn.old.in_transaction ≡ false }
     ensures ended { conn.new.in_transaction ≡ false }
     ensures asked { AsksFor S.Store conn.old conn.new
-        (meeting_columns ++ paper_columns ++ poll_columns) result }
+        (meeting_columns ++ proxy_columns ++ poll_columns) result }
 {
     ask_meetings(conn)?;
-    ask_papers(conn)?;
+    ask_proxy_columns(conn)?;
     ask_polls(conn)
 }
 
@@ -153,7 +153,7 @@ pub fn ask_columns<S: Alter>(conn: &mut Connection<S>) -> Result<(), ColumnError
     requires { conn.old.in_transaction ≡ false }
     ensures ended { conn.new.in_transaction ≡ false }
     ensures asked { AsksFor S.Store conn.old conn.new
-        ((meeting_columns ++ paper_columns ++ poll_columns) ++ session_columns) result }
+        ((meeting_columns ++ proxy_columns ++ poll_columns) ++ session_columns) result }
 {
     ask_columns_one(conn)?;
     ask_sessions(conn)

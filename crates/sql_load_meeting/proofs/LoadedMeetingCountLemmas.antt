@@ -5,7 +5,7 @@ use Rattle.std.specs.Prelude.{is_some}
 use Rattle.desk_words.specs.Finding.{meeting_named}
 use Rattle.desk_words.specs.declared.office.MeetingLists.{MeetingLists}
 use Rattle.desk_words.specs.declared.office.OfficeLists.{OfficeLists}
-use Rattle.sql_rows.specs.declared.kept.MeetingRow.{MeetingRow}
+use Rattle.sql_rows.specs.declared.stored_records.MeetingRow.{MeetingRow}
 use Rattle.sql_rows.proofs.RowMeaningLemmas.{bound}
 use Rattle.sql_model.specs.OfficeRecords.{FlatLists, lists_of, lists_of_all}
 use Rattle.sql_model.proofs.ModelOfficeLemmas.{AreOf}

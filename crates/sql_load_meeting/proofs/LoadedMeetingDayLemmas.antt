@@ -27,7 +27,7 @@ module _ {S X : Type 0} (g : store.Ghosts S) (a b : Held S) (kept : HasCleanDisk
   -- what needs no telling
   pub asked_so : {V : Type 0} (items : V → List Row) (v : V) (x : X) → (HasCleanDisk (state g b) → AreNoted (state g a) → ReadsTable g a b table.desk (items v)) → ((office : OfficeLists) → R office x) → HoldsOfStoredOffice g a b (Ok x) R
   asked_so items v x reads so = record {
-    told = λ read office holds kept. so office;
+    holds = λ read office holds kept. so office;
     same = λ read. (reads read.0 (noted read)).1;
     changes = changes;
   }
@@ -35,7 +35,7 @@ module _ {S X : Type 0} (g : store.Ghosts S) (a b : Held S) (kept : HasCleanDisk
   -- and why the version was not told
   pub asked_stop : (e : Error) (r : Result X LoadError) → r ≡ Err (fault_of_error e) → HoldsOfStoredOffice g a b r R
   asked_stop e r is = subst (λ (q : Result X LoadError). HoldsOfStoredOffice g a b q R) (sym is) (record {
-    told = λ read office holds kept. error_tells (R office) e;
+    holds = λ read office holds kept. error_tells (R office) e;
     same = λ _. tt;
     changes = changes;
   })

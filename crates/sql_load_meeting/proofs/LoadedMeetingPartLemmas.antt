@@ -21,7 +21,7 @@ use Rattle.sql_load_public.specs.TableLookUps.{HoldsOfStoredOffice}
 use Rattle.sql_load_public.proofs.NamedMeetingLemmas.{the_same}
 use Rattle.sql_load_public.proofs.StoredOfficeLemmas.{tells_weaker}
 use Rattle.sql_load_meeting.specs.MeetingParts.{AreReadFor}
-use Rattle.sql_load_meeting.specs.declared.asked.OfficeReads.{OfficeReads}
+use Rattle.sql_load_meeting.specs.declared.needed_lists.OfficeReads.{OfficeReads}
 
 module _ {X : Type 0} (before : MeetingLists → X) (after : MeetingLists → MeetingLists) where
   -- where there is no meeting, nothing is made of it
@@ -47,7 +47,7 @@ module _ {S : Type 0} (g : store.Ghosts S) (a b : Held S) (r : Result OfficeRead
   pub rest_told : HoldsOfStoredOffice g a b r (λ office read. read ≡ record { closed = days office.closed; lists = rest polls (meeting_at office id) })
       → HoldsOfStoredOffice g a b r (λ office read. (m : MeetingLists) → meeting_at office id ≡ Some m → polls ≡ polls_alone m → AreReadFor asked office m read)
   rest_told one = record {
-    told = λ read office holds kept. tells_weaker _ _ r (read_for office) (one.told read office holds kept);
+    holds = λ read office holds kept. tells_weaker _ _ r (read_for office) (one.holds read office holds kept);
     same = one.same;
     changes = one.changes;
   }

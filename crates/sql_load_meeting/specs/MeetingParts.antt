@@ -9,7 +9,7 @@ use Rattle.desk_words.specs.declared.request.OfficeRequest.{OfficeRequest}
 use Rattle.office_decisions.specs.ListsRead.{days_read, lists_read}
 use Rattle.row_source.specs.LookUps.{appointments_in, authorities_in, endings_in, register_in}
 use Rattle.sql_load_meeting.specs.declared.parts.ShareLists.{ShareLists}
-use Rattle.sql_load_meeting.specs.declared.asked.OfficeReads.{OfficeReads}
+use Rattle.sql_load_meeting.specs.declared.needed_lists.OfficeReads.{OfficeReads}
 
 -- a meeting with its polls
 abbrev pub meeting_with : Meeting → List Poll → MeetingLists

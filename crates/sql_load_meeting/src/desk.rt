@@ -2,7 +2,7 @@
 ghost use Rattle.std.specs.Prelude.{◌≡◌, is_some, length};
 ghost use Rattle.std.specs.List.{list_any};
 ghost use Rattle.vocabulary.specs.Names.{same_name};
-ghost use Rattle.sql_rows.specs.declared.kept.MeetingRow.{MeetingRow};
+ghost use Rattle.sql_rows.specs.declared.stored_records.MeetingRow.{MeetingRow};
 ghost use Rattle.party_views.specs.Views.{meeting_at};
 ghost use Rattle.sql_load_public.specs.TableLookUps.{HoldsOfStoredOffice};
 
@@ -25,7 +25,7 @@ pub struct MeetingCount {
 /// The keys by which callers are known.
 pub fn read_keys<S: Alter>(tx: &mut Transaction<'_, S>, alloc: Global) -> Result<KeyRows, LoadError>
     ensures same_reference { tx.new.conn.ghost_name ≡ tx.old.conn.ghost_name }
-    ensures told { HoldsOfStoredOffice S.Store tx.old.conn.now tx.new.conn.now result
+    ensures holds { HoldsOfStoredOffice S.Store tx.old.conn.now tx.new.conn.now result
         (λ office keys. keys ≡ office.keys) }
 {
     let rows = listing(tx, alloc)?;
@@ -47,7 +47,7 @@ pub fn read_count<S: Alter>(
     meeting: MeetingId,
 ) -> Result<MeetingCount, LoadError>
     ensures same_reference { tx.new.conn.ghost_name ≡ tx.old.conn.ghost_name }
-    ensures told { HoldsOfStoredOffice S.Store tx.old.conn.now tx.new.conn.now result
+    ensures holds { HoldsOfStoredOffice S.Store tx.old.conn.now tx.new.conn.now result
         (λ office count. count
         ≡ record {
           is_named = is_some (meeting_at office meeting);

@@ -2,12 +2,12 @@
 //! those of its other lists that the answer to a request still reads.
 #![tactic(auto)]
 
-mod asked;
+mod by_receipt;
 mod desk;
-mod filed;
+mod needed_lists;
 mod parts;
 
-pub use asked::{OfficeReads, read_rest};
 pub use desk::{MeetingCount, read_count, read_keys};
+pub use needed_lists::{OfficeReads, read_rest};
 pub use parts::read_polls;
 pub use sql_load_public::read_closed;

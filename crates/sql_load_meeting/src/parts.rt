@@ -8,7 +8,7 @@ ghost use Rattle.proxy_rules.specs.Parties.{is_presence_of};
 ghost use Rattle.vote_rules.specs.TallyLaws.{casts_on};
 ghost use Rattle.sql_load_meeting.specs.MeetingParts.{meeting_with, polls_on, share_lists_in, with_shares};
 
-use crate::filed::{
+use crate::by_receipt::{
     appointments_of, authorities_of, casts_on, demands_of, endings_of, presence_of, presences_of,
 };
 use desk_words::{
@@ -16,9 +16,9 @@ use desk_words::{
     RegisterRow,
 };
 use sql_assemble::{LoadError, register_rows};
-use sql_load_public::found::{found, items};
+use sql_load_public::query_records::{items, records_found};
 use sql_load_public::{meeting_of, polls_of};
-use sql_queries::lists;
+use sql_queries::whole_lists;
 use sqlite::{Alter, Transaction};
 use std::alloc::Global;
 
@@ -38,10 +38,13 @@ fn register_of<S: Alter>(
     meeting: MeetingId,
 ) -> Result<Listing<RegisterRow>, LoadError>
     ensures same_reference { tx.new.conn.ghost_name ≡ tx.old.conn.ghost_name }
-    ensures told { HoldsOfStoredOffice S.Store tx.old.conn.now tx.new.conn.now result
+    ensures holds { HoldsOfStoredOffice S.Store tx.old.conn.now tx.new.conn.now result
         (λ office rows. rows ≡ register_in (meeting_at office meeting)) }
 {
-    let rows = items(alloc, found(alloc, lists::register(tx, meeting)))?;
+    let rows = items(
+        alloc,
+        records_found(alloc, whole_lists::register(tx, meeting)),
+    )?;
     register_rows(rows)
 }
 
@@ -53,7 +56,7 @@ fn shares_of<S: Alter>(
     meeting: MeetingId,
 ) -> Result<ShareLists, LoadError>
     ensures same_reference { tx.new.conn.ghost_name ≡ tx.old.conn.ghost_name }
-    ensures told { HoldsOfStoredOffice S.Store tx.old.conn.now tx.new.conn.now result
+    ensures holds { HoldsOfStoredOffice S.Store tx.old.conn.now tx.new.conn.now result
         (λ office shares. shares ≡ share_lists_in (meeting_at office meeting)) }
 {
     let register = register_of(tx, alloc, meeting)?;
@@ -93,7 +96,7 @@ pub fn read_polls<S: Alter>(
     meeting: MeetingId,
 ) -> Result<Option<MeetingLists>, LoadError>
     ensures same_reference { tx.new.conn.ghost_name ≡ tx.old.conn.ghost_name }
-    ensures told { HoldsOfStoredOffice S.Store tx.old.conn.now tx.new.conn.now result
+    ensures holds { HoldsOfStoredOffice S.Store tx.old.conn.now tx.new.conn.now result
         (λ office lists. lists ≡ option_map polls_alone (meeting_at office meeting)) }
 {
     let Some(kept) = meeting_of(tx, alloc, meeting)? else {
@@ -111,7 +114,7 @@ pub(crate) fn with_register<S: Alter>(
     lists: MeetingLists,
 ) -> Result<MeetingLists, LoadError>
     ensures same_reference { tx.new.conn.ghost_name ≡ tx.old.conn.ghost_name }
-    ensures told { HoldsOfStoredOffice S.Store tx.old.conn.now tx.new.conn.now result
+    ensures holds { HoldsOfStoredOffice S.Store tx.old.conn.now tx.new.conn.now result
         (λ office whole. whole
         ≡ record lists { register = register_in (meeting_at office meeting) }) }
 {
@@ -128,7 +131,7 @@ pub(crate) fn with_presence<S: Alter>(
     party: Party,
 ) -> Result<MeetingLists, LoadError>
     ensures same_reference { tx.new.conn.ghost_name ≡ tx.old.conn.ghost_name }
-    ensures told { HoldsOfStoredOffice S.Store tx.old.conn.now tx.new.conn.now result
+    ensures holds { HoldsOfStoredOffice S.Store tx.old.conn.now tx.new.conn.now result
         (λ office whole. whole
         ≡ record lists {
           presences = filter (is_presence_of party) (presences_in (meeting_at office meeting));
@@ -159,7 +162,7 @@ fn with_shares<S: Alter>(
     lists: MeetingLists,
 ) -> Result<MeetingLists, LoadError>
     ensures same_reference { tx.new.conn.ghost_name ≡ tx.old.conn.ghost_name }
-    ensures told { HoldsOfStoredOffice S.Store tx.old.conn.now tx.new.conn.now result
+    ensures holds { HoldsOfStoredOffice S.Store tx.old.conn.now tx.new.conn.now result
         (λ office whole. whole
         ≡ with_shares lists (share_lists_in (meeting_at office meeting))) }
 {
@@ -175,7 +178,7 @@ pub(crate) fn with_presences<S: Alter>(
     lists: MeetingLists,
 ) -> Result<MeetingLists, LoadError>
     ensures same_reference { tx.new.conn.ghost_name ≡ tx.old.conn.ghost_name }
-    ensures told { HoldsOfStoredOffice S.Store tx.old.conn.now tx.new.conn.now result
+    ensures holds { HoldsOfStoredOffice S.Store tx.old.conn.now tx.new.conn.now result
         (λ office whole. whole
         ≡ record (with_shares lists (share_lists_in (meeting_at office meeting))) {
           presences = presences_in (meeting_at office meeting);
@@ -194,7 +197,7 @@ pub(crate) fn with_demands<S: Alter>(
     lists: MeetingLists,
 ) -> Result<MeetingLists, LoadError>
     ensures same_reference { tx.new.conn.ghost_name ≡ tx.old.conn.ghost_name }
-    ensures told { HoldsOfStoredOffice S.Store tx.old.conn.now tx.new.conn.now result
+    ensures holds { HoldsOfStoredOffice S.Store tx.old.conn.now tx.new.conn.now result
         (λ office whole. whole
         ≡ record (with_shares lists (share_lists_in (meeting_at office meeting))) {
           demands = demands_in (meeting_at office meeting);
@@ -224,7 +227,7 @@ pub(crate) fn with_casts<S: Alter>(
     resolution: u64,
 ) -> Result<MeetingLists, LoadError>
     ensures same_reference { tx.new.conn.ghost_name ≡ tx.old.conn.ghost_name }
-    ensures told { HoldsOfStoredOffice S.Store tx.old.conn.now tx.new.conn.now result
+    ensures holds { HoldsOfStoredOffice S.Store tx.old.conn.now tx.new.conn.now result
         (λ office whole. whole
         ≡ record (with_shares lists (share_lists_in (meeting_at office meeting))) {
           polls = polls_on resolution lists.polls;

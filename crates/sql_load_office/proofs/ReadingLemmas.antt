@@ -72,12 +72,12 @@ module _ {S : Type 0} (g : store.Ghosts S) where
     -- what is said next is read next
     pub then : IsReading g a b any_at_all (Ok x) said → IsReading g b c right r (next x) → IsReading g a c right r (λ trees. said trees >>= λ y. next y trees)
     then one two = record {
-      told = λ read.
+      holds = λ read.
           let first = read_first a b c two.changes.crash read in
           let same = one.same first in
           let here = (state g a).now.trees in
-          let it : ReadAgrees right r (next x here) = subst (λ (d : Database). ReadAgrees right r (next x d.trees)) same.0.now_is (two.told (read_second a b c same read)) in
-          subst (λ (o : Option X). ReadAgrees right r (o >>= λ y. next y here)) (sym (one.told first)) it;
+          let it : ReadAgrees right r (next x here) = subst (λ (d : Database). ReadAgrees right r (next x d.trees)) same.0.now_is (two.holds (read_second a b c same read)) in
+          subst (λ (o : Option X). ReadAgrees right r (o >>= λ y. next y here)) (sym (one.holds first)) it;
       same = λ read.
           let first = read_first a b c two.changes.crash read in
           let same = one.same first in
@@ -94,7 +94,7 @@ module _ {S : Type 0} (g : store.Ghosts S) where
     -- where a reading fails, the whole does
     pub stop : (e : LoadError) (r : Result Y LoadError) → r ≡ Err e → IsReading g a b any_at_all (Err e) said → IsReading g a b right r (λ trees. said trees >>= λ y. next y trees)
     stop e r is one = subst (λ (q : Result Y LoadError). IsReading g a b right q (λ trees. said trees >>= λ y. next y trees)) (sym is) (record {
-      told = λ read. cause e (one.told read);
+      holds = λ read. cause e (one.holds read);
       same = λ _. tt;
       changes = one.changes;
     })
@@ -103,7 +103,7 @@ module _ {S : Type 0} (g : store.Ghosts S) where
   pub last : {X Y : Type 0} (a b : Held S) (right : Y → Bool) (x : X) (r : Result Y LoadError) (said : Trees → Option X) (next : X → Option Y) → IsReading g a b any_at_all (Ok x) said → ReadAgrees right r (next x)
       → IsReading g a b right r (λ trees. said trees >>= next)
   last a b right x r said next one it = record {
-    told = λ read. subst (λ o. ReadAgrees right r (o >>= next)) (sym (one.told read)) it;
+    holds = λ read. subst (λ o. ReadAgrees right r (o >>= next)) (sym (one.holds read)) it;
     same = λ read. always r (one.same read);
     changes = one.changes;
   }

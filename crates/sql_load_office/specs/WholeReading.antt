@@ -11,6 +11,6 @@ use Rattle.sql_assemble.specs.declared.fault.LoadError.{LoadError}
 -- in a transaction over the tables of a desk this is what they say, and nothing is changed
 pub record IsReading {S X : Type 0} (g : store.Ghosts S) (old new : Held S) (right : X → Bool)
     (result : Result X LoadError) (said : Trees → Option X) : Type 0 where
-  pub told : IsRead g old new → ReadAgrees right result (said (state g old).now.trees)
+  pub holds : IsRead g old new → ReadAgrees right result (said (state g old).now.trees)
   pub same : IsRead g old new → OnOk result (IsUnchanged (state g old) (state g new))
   pub changes : ChangesNothing g old new

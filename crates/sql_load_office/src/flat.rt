@@ -4,7 +4,7 @@ ghost use Rattle.sql_load_office.specs.WholeReading.{IsReading};
 ghost use Rattle.sql_model.specs.OfficeRecords.{flat_in};
 ghost use Rattle.sql_assemble.specs.LoadResults.{any_at_all};
 
-use crate::left::read_left;
+use crate::emptied::read_left;
 use crate::table::listing;
 use sql_assemble::{FlatRecords, LoadError, MeetingRecords};
 use sqlite::{Alter, Transaction};

@@ -2,8 +2,8 @@
 //! they are.
 #![tactic(auto)]
 
+mod emptied;
 mod flat;
-mod left;
 mod office;
 mod table;
 

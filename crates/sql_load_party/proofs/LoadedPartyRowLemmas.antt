@@ -19,7 +19,7 @@ use Rattle.desk_words.specs.declared.office.OfficeLists.{OfficeLists}
 use Rattle.desk_words.specs.declared.records.RegisterRow.{RegisterRow}
 use Rattle.desk_words.proofs.OfficeFacts.{found_facts, register_ascends}
 use Rattle.desk_words.proofs.WordRowLemmas.{same_name-true, same_name-refl}
-use Rattle.sql_rows.specs.declared.kept.InMeeting.{InMeeting}
+use Rattle.sql_rows.specs.declared.stored_records.InMeeting.{InMeeting}
 use Rattle.sql_model.specs.OfficeRecords.{FlatLists, of_meeting}
 use Rattle.sql_model.proofs.ListChanges.{list_of}
 use Rattle.sql_model.proofs.Names.ListName.{Register}

@@ -1,9 +1,9 @@
 //! What the tables hold of one party in one meeting, read by their names alone.
 #![tactic(auto)]
 
-mod asked;
-mod own;
-mod rows;
+mod look_ups;
+mod needed_rows;
+mod own_view;
 
-pub use asked::{read_asked, read_rows};
-pub use own::read_own;
+pub use needed_rows::{read_asked, read_rows};
+pub use own_view::read_own;

@@ -22,9 +22,9 @@ use Rattle.desk_words.specs.declared.office.OfficeLists.{OfficeLists}
 use Rattle.desk_words.specs.declared.records.Resolution.{Resolution}
 use Rattle.desk_words.specs.declared.records.Session.{Session}
 use Rattle.desk_words.proofs.OfficeFacts.{found_facts}
-use Rattle.sql_rows.specs.declared.kept.InMeeting.{InMeeting}
-use Rattle.sql_rows.specs.declared.kept.MeetingRow.{MeetingRow}
-use Rattle.sql_rows.specs.declared.kept.Numbered.{Numbered}
+use Rattle.sql_rows.specs.declared.stored_records.InMeeting.{InMeeting}
+use Rattle.sql_rows.specs.declared.stored_records.MeetingRow.{MeetingRow}
+use Rattle.sql_rows.specs.declared.stored_records.Numbered.{Numbered}
 use Rattle.sql_rows.proofs.RowMeaningLemmas.{bound}
 use Rattle.sql_schema.specs.Statements.{ChangesNothing, IsRead, TableOf, records_in}
 use Rattle.sql_queries.specs.Counts.{CountsRecords}
@@ -60,7 +60,7 @@ module _ {A S : Type 0} (g : store.Ghosts S) (a b : Held S) (table : TableOf A) 
       → (found : Result ℕ Error) (r : Result ℕ LoadError) → IsCount found r → (IsRead g a b → IfOk found (λ n. CountsRecords g a b table test n)) → ChangesNothing g a b
       → (R : OfficeLists → ℕ → Type 0) → ((flat : FlatLists) (office : OfficeLists) → AreOf flat office → R office (length (filter test (all flat)))) → HoldsOfStoredOffice g a b r R
   count_told all held found r is counts changes R so = record {
-    told = λ read office holds kept.
+    holds = λ read office holds kept.
         let flat = bound (flat_in (state g a).now.trees) office_of_records office holds in
         says (R office) (length (filter test (all flat.0))) r (so flat.0 office (are_of flat.0 office flat.2))
         (count_said (all flat.0) (held (state g a).now.trees flat.0 (all_held (state g a).now.trees flat.0 flat.1)) found r is (counts read));

@@ -14,7 +14,7 @@ use Rattle.desk_words.specs.Finding.{meeting_named}
 use Rattle.desk_words.specs.Office.{is_office}
 use Rattle.desk_words.specs.declared.office.OfficeLists.{OfficeLists}
 use Rattle.sql_rows.specs.Meanings.{all_meanings}
-use Rattle.sql_rows.specs.declared.kept.InMeeting.{InMeeting}
+use Rattle.sql_rows.specs.declared.stored_records.InMeeting.{InMeeting}
 use Rattle.sql_rows.proofs.RowMeaningLemmas.{bound}
 use Rattle.vocabulary.specs.Names.{same_name}
 use Rattle.sql_schema.specs.Statements.{ChangesNothing, FindsRecords, IsRead, TableOf, records_in}
@@ -111,7 +111,7 @@ module _ {V A S : Type 0} (g : store.Ghosts S) (a b : Held S) (rows_in : V → L
     -- the records that were found, where what is to be told follows from the records of the tables
     pub found_told : (R : OfficeLists → List A → Type 0) → ((flat : FlatLists) (office : OfficeLists) → AreOf flat office → IsTrue (is_office office) → R office (filter test (all flat))) → HoldsOfStoredOffice g a b r R
     found_told R so = record {
-      told = λ read office holds kept.
+      holds = λ read office holds kept.
           let flat = bound (flat_in (state g a).now.trees) office_of_records office holds in
           says (R office) (filter test (all flat.0)) r (so flat.0 office (are_of flat.0 office flat.2) kept) (found_flat flat.0 read flat.1);
       same = λ read. rows_on rows_in table.means rows r found _ (found_changes g a b rows_in table test rows (finds read));
@@ -125,7 +125,7 @@ module _ {V A S : Type 0} (g : store.Ghosts S) (a b : Held S) (rows_in : V → L
     (made : MatchResult found (λ them. MatchResult r (λ items. items ≡ map without_meeting them) (λ e. e ≡ fault.Memory)) (λ e. r ≡ Err e)) where
   pub items_told : (R : OfficeLists → List A → Type 0) → ((flat : FlatLists) (office : OfficeLists) → AreOf flat office → IsTrue (is_office office) → R office (map without_meeting (filter test (all flat)))) → HoldsOfStoredOffice g a b r R
   items_told R so = record {
-    told = λ read office holds kept.
+    holds = λ read office holds kept.
         let flat = bound (flat_in (state g a).now.trees) office_of_records office holds in
         says (R office) (map without_meeting (filter test (all flat.0))) r (so flat.0 office (are_of flat.0 office flat.2) kept)
         (items_tell found r made (filter test (all flat.0)) (found_flat g a b rows_in table all held test rows finds changes found read_as flat.0 read flat.1));

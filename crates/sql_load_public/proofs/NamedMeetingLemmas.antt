@@ -12,9 +12,9 @@ use Rattle.desk_words.specs.declared.office.OfficeLists.{OfficeLists}
 use Rattle.desk_words.specs.declared.records.Resolution.{Resolution}
 use Rattle.desk_words.specs.declared.records.Session.{Session}
 use Rattle.desk_words.proofs.WordRowLemmas.{same_name-true}
-use Rattle.sql_rows.specs.declared.kept.InMeeting.{InMeeting}
-use Rattle.sql_rows.specs.declared.kept.MeetingRow.{MeetingRow}
-use Rattle.sql_rows.specs.declared.kept.Numbered.{Numbered}
+use Rattle.sql_rows.specs.declared.stored_records.InMeeting.{InMeeting}
+use Rattle.sql_rows.specs.declared.stored_records.MeetingRow.{MeetingRow}
+use Rattle.sql_rows.specs.declared.stored_records.Numbered.{Numbered}
 use Rattle.sql_rows.proofs.RowMeaningLemmas.{bound}
 use Rattle.sql_model.specs.OfficeRecords.{FlatLists, lists_of, lists_of_all, lists_with, name_meetings, number_before, numbered_from, of_meeting, resolutions_of, further_sessions}
 pub use Rattle.sql_model.proofs.FlatChanges.{HoldAll, all_held}

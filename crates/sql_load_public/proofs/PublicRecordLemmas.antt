@@ -16,8 +16,8 @@ use Rattle.desk_words.specs.declared.office.OfficeLists.{OfficeLists}
 use Rattle.desk_words.specs.declared.records.Resolution.{Resolution}
 use Rattle.desk_words.specs.declared.records.Session.{Session}
 use Rattle.desk_words.proofs.OfficeFacts.{found_facts}
-use Rattle.sql_rows.specs.declared.kept.MeetingRow.{MeetingRow}
-use Rattle.sql_rows.specs.declared.kept.Numbered.{Numbered}
+use Rattle.sql_rows.specs.declared.stored_records.MeetingRow.{MeetingRow}
+use Rattle.sql_rows.specs.declared.stored_records.Numbered.{Numbered}
 use Rattle.sql_rows.proofs.RowMeaningLemmas.{bound}
 use Rattle.sql_model.specs.OfficeRecords.{FlatLists, flat_in, of_meeting, office_of_records, whole_meeting}
 use Rattle.sql_model.proofs.ListChanges.{list_of}
@@ -39,10 +39,10 @@ pub reading_told : {S X : Type 0} (g : store.Ghosts S) (a b : Held S) (said : Tr
     (r : Result X LoadError) → IsReading g a b any_at_all r said → (R : OfficeLists → X → Type 0)
     → ((flat : FlatLists) (office : OfficeLists) → AreOf flat office → IsTrue (is_office office) → R office (all flat)) → HoldsOfStoredOffice g a b r R
 reading_told g a b said all held r reading R so = record {
-  told = λ read office holds kept.
+  holds = λ read office holds kept.
       let flat = bound (flat_in (state g a).now.trees) office_of_records office holds in
       says (R office) (all flat.0) r (so flat.0 office (are_of flat.0 office flat.2) kept)
-      (yields_tell any_at_all r (all flat.0) (said (state g a).now.trees) (reading.told read) (held (state g a).now.trees flat.0 flat.1) refl);
+      (yields_tell any_at_all r (all flat.0) (said (state g a).now.trees) (reading.holds read) (held (state g a).now.trees flat.0 flat.1) refl);
   same = reading.same;
   changes = reading.changes;
 }

@@ -40,11 +40,11 @@ module _ {S : Type 0} (g : store.Ghosts S) where
   told_then : {X Y : Type 0} (a b c : Held S) (x : X) (r : Result Y LoadError) (P : OfficeLists → X → Type 0) (R : OfficeLists → Y → Type 0)
       → HoldsOfStoredOffice g a b (Ok x) P → HoldsOfStoredOffice g b c r (λ office y. P office x → R office y) → HoldsOfStoredOffice g a c r R
   told_then a b c x r P R one two = record {
-    told = λ read office holds kept.
+    holds = λ read office holds kept.
         let first = read_first g a b c two.changes.crash read in
         let same = one.same first in
         let there : office_in (state g b).now.trees ≡ Some office = subst (λ (d : Database). office_in d.trees ≡ Some office) (sym same.0.now_is) holds in
-        tells_weaker (λ y. P office x → R office y) (R office) r (λ y next. next (one.told first office holds kept)) (two.told (read_second g a b c same read) office there kept);
+        tells_weaker (λ y. P office x → R office y) (R office) r (λ y next. next (one.holds first office holds kept)) (two.holds (read_second g a b c same read) office there kept);
     same = λ read.
         let first = read_first g a b c two.changes.crash read in
         let same = one.same first in
@@ -53,40 +53,40 @@ module _ {S : Type 0} (g : store.Ghosts S) where
   }
 
   -- what was told first stays known
-  pub told_both : {X Y : Type 0} (a b c : Held S) (x : X) (y : Y) (P : OfficeLists → X → Type 0) (Q : OfficeLists → Y → Type 0)
+  pub holds_both : {X Y : Type 0} (a b c : Held S) (x : X) (y : Y) (P : OfficeLists → X → Type 0) (Q : OfficeLists → Y → Type 0)
       → HoldsOfStoredOffice g a b (Ok x) P → HoldsOfStoredOffice g b c (Ok y) Q → HoldsOfStoredOffice g a c (Ok y) (λ office z. P office x × Q office z)
-  told_both a b c x y P Q one two = told_then a b c x (Ok y) P (λ office z. P office x × Q office z) one (record {
-    told = λ read office holds kept first. (first, two.told read office holds kept);
+  holds_both a b c x y P Q one two = told_then a b c x (Ok y) P (λ office z. P office x × Q office z) one (record {
+    holds = λ read office holds kept first. (first, two.holds read office holds kept);
     same = two.same;
     changes = two.changes;
   })
 
   -- and a telling after it may fail
-  pub told_after : {X Y : Type 0} (a b c : Held S) (x : X) (r : Result Y LoadError) (P : OfficeLists → X → Type 0) (Q : OfficeLists → Y → Type 0)
+  pub holds_after : {X Y : Type 0} (a b c : Held S) (x : X) (r : Result Y LoadError) (P : OfficeLists → X → Type 0) (Q : OfficeLists → Y → Type 0)
       → HoldsOfStoredOffice g a b (Ok x) P → HoldsOfStoredOffice g b c r Q → HoldsOfStoredOffice g a c r Q
-  told_after a b c x r P Q one two = told_then a b c x r P Q one (record {
-    told = λ read office holds kept. tells_weaker (Q office) (λ y. P office x → Q office y) r (λ y is _. is) (two.told read office holds kept);
+  holds_after a b c x r P Q one two = told_then a b c x r P Q one (record {
+    holds = λ read office holds kept. tells_weaker (Q office) (λ y. P office x → Q office y) r (λ y is _. is) (two.holds read office holds kept);
     same = two.same;
     changes = two.changes;
   })
 
   module _ {X Y : Type 0} (a b : Held S) (P : OfficeLists → X → Type 0) (R : OfficeLists → Y → Type 0) where
     -- where a telling fails, the whole does
-    pub told_stop : (e : LoadError) (r : Result Y LoadError) → r ≡ Err e → HoldsOfStoredOffice g a b (Err e) P → HoldsOfStoredOffice g a b r R
-    told_stop e r is one = subst (λ (q : Result Y LoadError). HoldsOfStoredOffice g a b q R) (sym is) (record {
-      told = λ read office holds kept. tells_fault (P office) (R office) e (one.told read office holds kept);
+    pub holds_stop : (e : LoadError) (r : Result Y LoadError) → r ≡ Err e → HoldsOfStoredOffice g a b (Err e) P → HoldsOfStoredOffice g a b r R
+    holds_stop e r is one = subst (λ (q : Result Y LoadError). HoldsOfStoredOffice g a b q R) (sym is) (record {
+      holds = λ read office holds kept. tells_fault (P office) (R office) e (one.holds read office holds kept);
       same = λ _. tt;
       changes = one.changes;
     })
 
     -- what is made of what was told last
-    pub told_so : (x : X) (r : Result Y LoadError) → HoldsOfStoredOffice g a b (Ok x) P → ((office : OfficeLists) → IsTrue (is_office office) → P office x → HoldsOrFails (R office) r) → HoldsOfStoredOffice g a b r R
-    told_so x r one next = record {
-      told = λ read office holds kept. next office kept (one.told read office holds kept);
+    pub holds_so : (x : X) (r : Result Y LoadError) → HoldsOfStoredOffice g a b (Ok x) P → ((office : OfficeLists) → IsTrue (is_office office) → P office x → HoldsOrFails (R office) r) → HoldsOfStoredOffice g a b r R
+    holds_so x r one next = record {
+      holds = λ read office holds kept. next office kept (one.holds read office holds kept);
       same = λ read. always r (one.same read);
       changes = one.changes;
     }
 
     -- and why nothing is made of it
-    pub told_refused : (x : X) (e : LoadError) (r : Result Y LoadError) → r ≡ Err e → HoldsOfStoredOffice g a b (Ok x) P → ((office : OfficeLists) → IsTrue (is_office office) → P office x → HoldsOrFails {X = Y} (R office) (Err e)) → HoldsOfStoredOffice g a b r R
-    told_refused x e r is one next = told_so x r one (λ office kept p. subst (HoldsOrFails (R office)) (sym is) (next office kept p))
+    pub holds_refused : (x : X) (e : LoadError) (r : Result Y LoadError) → r ≡ Err e → HoldsOfStoredOffice g a b (Ok x) P → ((office : OfficeLists) → IsTrue (is_office office) → P office x → HoldsOrFails {X = Y} (R office) (Err e)) → HoldsOfStoredOffice g a b r R
+    holds_refused x e r is one next = holds_so x r one (λ office kept p. subst (HoldsOrFails (R office)) (sym is) (next office kept p))

@@ -3,7 +3,7 @@ use Rattle.std.specs.Prelude.{List, [], Option}
 use Rattle.std.specs.Option.{option_map_or}
 use Rattle.desk_words.specs.declared.office.MeetingLists.{MeetingLists}
 use Rattle.desk_words.specs.declared.records.Session.{Session}
-use Rattle.sql_rows.specs.declared.kept.InMeeting.{InMeeting}
+use Rattle.sql_rows.specs.declared.stored_records.InMeeting.{InMeeting}
 
 -- a record without its meeting
 abbrev pub without_meeting : {A : Type 0} → InMeeting A → A

@@ -1,4 +1,4 @@
--- What is told of the office that the tables hold.
+-- What a reading returns of the office stored in the tables.
 use Rattle.std.specs.Prelude.{◌≡◌, Result, MatchResult, Some, OnOk, IsTrue}
 use Rattle.sqlite.specs.Held.{Held, state}
 use Rattle.sqlite.specs.State.{IsUnchanged}
@@ -21,11 +21,11 @@ IsLookUpFailure Memory = Unit {0}
 abbrev pub HoldsOrFails : {X : Type 0} → (X → Type 0) → Result X LoadError → Type 0
 HoldsOrFails IsSo result = MatchResult result IsSo IsLookUpFailure
 
--- in a transaction over tables that hold an office, what is told is so of that office, and nothing
--- is changed
+-- in a transaction over tables that hold an office, what is returned holds of that office, and
+-- nothing is changed
 pub record HoldsOfStoredOffice {S X : Type 0} (g : store.Ghosts S) (old new : Held S)
     (result : Result X LoadError) (IsSo : OfficeLists → X → Type 0) : Type 0 where
-  pub told : IsRead g old new → (office : OfficeLists)
+  pub holds : IsRead g old new → (office : OfficeLists)
       → office_in (state g old).now.trees ≡ Some office → IsTrue (is_office office)
       → HoldsOrFails (IsSo office) result
   pub same : IsRead g old new → OnOk result (IsUnchanged (state g old) (state g new))

@@ -2,7 +2,7 @@
 //! as records.
 #![tactic(auto)]
 
-pub mod found;
 mod public;
+pub mod query_records;
 
-pub use public::{KeptRecord, meeting_of, polls_of, read_closed, read_public, read_public_for};
+pub use public::{OwnedRecord, meeting_of, polls_of, read_closed, read_public, read_public_for};

@@ -9,7 +9,7 @@ ghost use Rattle.party_views.specs.Views.{meeting_at, polls_in, public_of};
 ghost use Rattle.sql_load_public.specs.MeetingRecords.{later_in};
 ghost use Rattle.sql_load_public.specs.TableLookUps.{HoldsOfStoredOffice};
 
-use crate::found::{first, found, items};
+use crate::query_records::{first, items, records_found};
 use desk_words::{
     DayList, Listing, Meeting, MeetingId, PartyRequest, Poll, ResKind, Resolution, Resolutions,
     Session, Text,
@@ -26,13 +26,13 @@ use std::marker::Model;
 
 /// The public record of a meeting, kept apart from the tables. Contracts see it as that record.
 #[derive(Drop)]
-pub struct KeptRecord {
+pub struct OwnedRecord {
     closed: Closed,
     meeting: Option<Meeting>,
     polls: Listing<Poll>,
 }
 
-impl Model for KeptRecord {
+impl Model for OwnedRecord {
     ghost use Rattle.party_views.specs.Public.{PublicRecord};
 
     ghost Value = { PublicRecord };
@@ -40,7 +40,7 @@ impl Model for KeptRecord {
     ghost view = { λ k. record { closed = k.closed; meeting = k.meeting; polls = k.polls } };
 }
 
-impl KeptRecord {
+impl OwnedRecord {
     /// The record, lent.
     pub fn record(&self) -> PublicRecord<'_>
         ensures { result ≡ self.now }
@@ -55,7 +55,7 @@ pub fn read_closed<S: Alter>(
     alloc: Global,
 ) -> Result<Closed, LoadError>
     ensures same_reference { tx.new.conn.ghost_name ≡ tx.old.conn.ghost_name }
-    ensures told { HoldsOfStoredOffice S.Store tx.old.conn.now tx.new.conn.now result
+    ensures holds { HoldsOfStoredOffice S.Store tx.old.conn.now tx.new.conn.now result
         (λ office closed. closed ≡ office.closed) }
 {
     let days = listing(tx, alloc)?;
@@ -90,10 +90,13 @@ fn later_of<S: Alter>(
     meeting: MeetingId,
 ) -> Result<Listing<Session>, LoadError>
     ensures same_reference { tx.new.conn.ghost_name ≡ tx.old.conn.ghost_name }
-    ensures told { HoldsOfStoredOffice S.Store tx.old.conn.now tx.new.conn.now result
+    ensures holds { HoldsOfStoredOffice S.Store tx.old.conn.now tx.new.conn.now result
         (λ office later. later ≡ later_in (meeting_at office meeting)) }
 {
-    let rows = items(alloc, found(alloc, sessions::of_meeting(tx, meeting)))?;
+    let rows = items(
+        alloc,
+        records_found(alloc, sessions::of_meeting(tx, meeting)),
+    )?;
     session_list(alloc, rows)
 }
 
@@ -104,16 +107,19 @@ pub fn meeting_of<S: Alter>(
     meeting: MeetingId,
 ) -> Result<Option<Meeting>, LoadError>
     ensures same_reference { tx.new.conn.ghost_name ≡ tx.old.conn.ghost_name }
-    ensures told { HoldsOfStoredOffice S.Store tx.old.conn.now tx.new.conn.now result
+    ensures holds { HoldsOfStoredOffice S.Store tx.old.conn.now tx.new.conn.now result
         (λ office kept. kept
         ≡ option_map (λ (m : MeetingLists). m.meeting) (meeting_at office meeting)) }
 {
-    let rows = found(alloc, meetings::named(tx, meeting))?;
+    let rows = records_found(alloc, meetings::named(tx, meeting))?;
     let Some(row) = first(rows) else {
         return Ok(None);
     };
     let later = later_of(tx, alloc, meeting)?;
-    let rows = items(alloc, found(alloc, resolutions::of_meeting(tx, meeting)))?;
+    let rows = items(
+        alloc,
+        records_found(alloc, resolutions::of_meeting(tx, meeting)),
+    )?;
     let resolutions = resolution_list(alloc, rows)?;
     Ok(Some(whole_meeting(row, later, resolutions)))
 }
@@ -125,10 +131,10 @@ pub fn polls_of<S: Alter>(
     meeting: MeetingId,
 ) -> Result<Listing<Poll>, LoadError>
     ensures same_reference { tx.new.conn.ghost_name ≡ tx.old.conn.ghost_name }
-    ensures told { HoldsOfStoredOffice S.Store tx.old.conn.now tx.new.conn.now result
+    ensures holds { HoldsOfStoredOffice S.Store tx.old.conn.now tx.new.conn.now result
         (λ office kept. kept ≡ polls_in (meeting_at office meeting)) }
 {
-    let rows = items(alloc, found(alloc, polls::of_meeting(tx, meeting)))?;
+    let rows = items(alloc, records_found(alloc, polls::of_meeting(tx, meeting)))?;
     poll_list(rows)
 }
 
@@ -138,15 +144,15 @@ pub fn read_public<S: Alter>(
     tx: &mut Transaction<'_, S>,
     alloc: Global,
     meeting: MeetingId,
-) -> Result<KeptRecord, LoadError>
+) -> Result<OwnedRecord, LoadError>
     ensures same_reference { tx.new.conn.ghost_name ≡ tx.old.conn.ghost_name }
-    ensures told { HoldsOfStoredOffice S.Store tx.old.conn.now tx.new.conn.now result
+    ensures holds { HoldsOfStoredOffice S.Store tx.old.conn.now tx.new.conn.now result
         (λ office kept. kept ≡ public_of office meeting) }
 {
     let closed = read_closed(tx, alloc)?;
     let kept = meeting_of(tx, alloc, meeting)?;
     let polls = polls_of(tx, alloc, meeting)?;
-    Ok(KeptRecord {
+    Ok(OwnedRecord {
         closed,
         meeting: kept,
         polls,
@@ -156,7 +162,7 @@ pub fn read_public<S: Alter>(
 /// How many resolutions a meeting has.
 fn count_of<S: Alter>(tx: &mut Transaction<'_, S>, meeting: MeetingId) -> Result<usize, LoadError>
     ensures same_reference { tx.new.conn.ghost_name ≡ tx.old.conn.ghost_name }
-    ensures told { HoldsOfStoredOffice S.Store tx.old.conn.now tx.new.conn.now result
+    ensures holds { HoldsOfStoredOffice S.Store tx.old.conn.now tx.new.conn.now result
         (λ office count. (m : MeetingLists) → meeting_at office meeting ≡ Some m
         → count ≡ length m.meeting.resolutions) }
 {
@@ -187,11 +193,11 @@ fn counted_of<S: Alter>(
     meeting: MeetingId,
 ) -> Result<Option<Meeting>, LoadError>
     ensures same_reference { tx.new.conn.ghost_name ≡ tx.old.conn.ghost_name }
-    ensures told { HoldsOfStoredOffice S.Store tx.old.conn.now tx.new.conn.now result
+    ensures holds { HoldsOfStoredOffice S.Store tx.old.conn.now tx.new.conn.now result
         (λ office kept. kept
         ≡ option_map counted (public_of office meeting).meeting) }
 {
-    let rows = found(alloc, meetings::named(tx, meeting))?;
+    let rows = records_found(alloc, meetings::named(tx, meeting))?;
     let Some(row) = first(rows) else {
         return Ok(None);
     };
@@ -202,10 +208,10 @@ fn counted_of<S: Alter>(
 }
 
 /// The record of a meeting alone, without closed days and polls.
-fn alone(alloc: Global, meeting: Option<Meeting>) -> KeptRecord
+fn alone(alloc: Global, meeting: Option<Meeting>) -> OwnedRecord
     ensures { result ≡ record { closed = []; meeting = meeting; polls = [] } }
 {
-    KeptRecord {
+    OwnedRecord {
         closed: Closed::from_list(DayList::empty(alloc)),
         meeting,
         polls: Listing::new(alloc),
@@ -218,9 +224,9 @@ fn read_alone<S: Alter>(
     tx: &mut Transaction<'_, S>,
     alloc: Global,
     meeting: MeetingId,
-) -> Result<KeptRecord, LoadError>
+) -> Result<OwnedRecord, LoadError>
     ensures same_reference { tx.new.conn.ghost_name ≡ tx.old.conn.ghost_name }
-    ensures told { HoldsOfStoredOffice S.Store tx.old.conn.now tx.new.conn.now result
+    ensures holds { HoldsOfStoredOffice S.Store tx.old.conn.now tx.new.conn.now result
         (λ office kept. kept ≡ meeting_alone (public_of office meeting)) }
 {
     let kept = counted_of(tx, alloc, meeting)?;
@@ -232,15 +238,15 @@ fn read_counted<S: Alter>(
     tx: &mut Transaction<'_, S>,
     alloc: Global,
     meeting: MeetingId,
-) -> Result<KeptRecord, LoadError>
+) -> Result<OwnedRecord, LoadError>
     ensures same_reference { tx.new.conn.ghost_name ≡ tx.old.conn.ghost_name }
-    ensures told { HoldsOfStoredOffice S.Store tx.old.conn.now tx.new.conn.now result
+    ensures holds { HoldsOfStoredOffice S.Store tx.old.conn.now tx.new.conn.now result
         (λ office kept. kept ≡ with_counted (public_of office meeting)) }
 {
     let closed = read_closed(tx, alloc)?;
     let kept = counted_of(tx, alloc, meeting)?;
     let polls = polls_of(tx, alloc, meeting)?;
-    Ok(KeptRecord {
+    Ok(OwnedRecord {
         closed,
         meeting: kept,
         polls,
@@ -254,9 +260,9 @@ pub fn read_public_for<S: Alter>(
     alloc: Global,
     meeting: MeetingId,
     asked: &PartyRequest,
-) -> Result<KeptRecord, LoadError>
+) -> Result<OwnedRecord, LoadError>
     ensures same_reference { tx.new.conn.ghost_name ≡ tx.old.conn.ghost_name }
-    ensures told { HoldsOfStoredOffice S.Store tx.old.conn.now tx.new.conn.now result
+    ensures holds { HoldsOfStoredOffice S.Store tx.old.conn.now tx.new.conn.now result
         (λ office kept. kept ≡ public_read asked.now (public_of office meeting)) }
 {
     match asked {

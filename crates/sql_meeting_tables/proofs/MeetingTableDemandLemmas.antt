@@ -26,7 +26,7 @@ use Rattle.sqlite.specs.Tree.{rowid}
 use Rattle.sqlite.specs.declared.error.Error.{Error}
 use Rattle.sqlite_trees.specs.View.{is_int}
 use Rattle.sql_rows.proofs.RowMeaningLemmas.{bound}
-use Rattle.sql_rows.specs.declared.kept.InMeeting.{InMeeting}
+use Rattle.sql_rows.specs.declared.stored_records.InMeeting.{InMeeting}
 use Rattle.sql_schema.specs.CopiedRows.{Copies, in_first_session}
 use Rattle.sql_meeting_tables.specs.Copying.{CopiesTyped}
 use Rattle.sql_meeting_tables.proofs.TypedLemmas.{KeepsTyped, integers_stay, row_stays, texts_stay, typed_copied}

@@ -38,7 +38,7 @@ use Rattle.sqlite.specs.Edit.{id_in}
 use Rattle.sqlite_trees.specs.View.{is_int}
 use Rattle.desk_words.specs.declared.records.Tally.{Tally}
 use Rattle.sql_schema.specs.declared.poll_name.PollName.{PollName}
-use Rattle.sql_rows.specs.declared.kept.InMeeting.{InMeeting}
+use Rattle.sql_rows.specs.declared.stored_records.InMeeting.{InMeeting}
 use Rattle.vocabulary.specs.OptionSteps.{◌>>=◌}
 use Rattle.sql_lemmas.proofs.Seq.{is_its_id}
 use Rattle.sql_rows.proofs.RowMeaningLemmas.{bound, option_ap}

@@ -9,8 +9,8 @@ use Rattle.desk_words.specs.declared.office.MeetingLists.{MeetingLists}
 use Rattle.desk_words.specs.declared.office.OfficeLists.{OfficeLists}
 use Rattle.desk_words.specs.declared.records.Resolution.{Resolution}
 use Rattle.desk_words.specs.declared.records.Session.{Session}
-use Rattle.sql_rows.specs.declared.kept.InMeeting.{InMeeting}
-use Rattle.sql_rows.specs.declared.kept.MeetingRow.{MeetingRow}
+use Rattle.sql_rows.specs.declared.stored_records.InMeeting.{InMeeting}
+use Rattle.sql_rows.specs.declared.stored_records.MeetingRow.{MeetingRow}
 use Rattle.sql_model.specs.OfficeRecords.{FlatLists, of_meeting, lists_with, name_meetings, have_meetings, office_of_records, further_sessions}
 use Rattle.sql_model.proofs.Names.{ItemOf, ListName, kept_list, owned}
 use Rattle.sql_model.proofs.Names.ListName.{Register}

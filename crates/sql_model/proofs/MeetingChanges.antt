@@ -19,7 +19,7 @@ use Rattle.desk_words.specs.declared.records.RegisterRow.{RegisterRow}
 use Rattle.desk_words.specs.declared.records.Resolution.{Resolution}
 use Rattle.desk_words.specs.declared.records.Session.{Session}
 use Rattle.desk_words.proofs.WordRowLemmas.{same_name-true}
-use Rattle.sql_rows.specs.declared.kept.MeetingRow.{MeetingRow}
+use Rattle.sql_rows.specs.declared.stored_records.MeetingRow.{MeetingRow}
 use Rattle.sql_schema.specs.Contents.{loaded_at, first_opened_at}
 use Rattle.sql_model.specs.OfficeRecords.{FlatLists, have_meetings, lists_with, office_of_records, of_meeting}
 use Rattle.sql_model.proofs.ListChanges.{all_pass, list_changed, list_of}

@@ -10,8 +10,8 @@ use Rattle.desk_words.specs.declared.records.PresenceMark.{PresenceMark}
 use Rattle.desk_words.specs.declared.records.DemandMark.{DemandMark}
 use Rattle.desk_words.specs.declared.records.Poll.{Poll}
 use Rattle.desk_words.specs.declared.records.Session.{Session}
-use Rattle.sql_rows.specs.declared.kept.InMeeting.{InMeeting}
-use Rattle.sql_rows.specs.declared.kept.Numbered.{Numbered}
+use Rattle.sql_rows.specs.declared.stored_records.InMeeting.{InMeeting}
+use Rattle.sql_rows.specs.declared.stored_records.Numbered.{Numbered}
 use Rattle.sql_rows.specs.ColumnValues.{flag_in, moment_in, number_in, some_moment_in, parsed_in}
 use Rattle.sql_rows.specs.Marks.{declared_in, demand_mark_in, demand_one_in, poll_in, poll_one_in, presence_in, presence_one_in}
 use Rattle.sql_rows.specs.Meanings.{all_meanings}

@@ -13,7 +13,7 @@ use Rattle.desk_words.specs.declared.office.OfficeLists.{OfficeLists}
 use Rattle.desk_words.specs.declared.records.Resolution.{Resolution}
 use Rattle.desk_words.specs.declared.records.Session.{Session}
 use Rattle.desk_words.proofs.WordRowLemmas.{same_name-true}
-use Rattle.sql_rows.specs.declared.kept.MeetingRow.{MeetingRow}
+use Rattle.sql_rows.specs.declared.stored_records.MeetingRow.{MeetingRow}
 use Rattle.vocabulary.specs.OptionSteps.{◌>>=◌}
 use Rattle.sql_model.specs.OfficeRecords.{FlatLists, resolutions_of, further_sessions, lists_with, lists_of, lists_of_all, name_meetings, have_meetings, office_of_records}
 use Rattle.sql_model.proofs.FlatChanges.{only_is, some_is}

@@ -7,8 +7,8 @@ use Rattle.std.proofs.lemmas.List.Elements.{filter-append}
 use Rattle.std.proofs.lemmas.List.Folds.{list_any-append}
 use Rattle.vocabulary.specs.Names.{same_name}
 use Rattle.desk_words.proofs.WordRowLemmas.{same_name-true, same_name-refl}
-use Rattle.sql_rows.specs.declared.kept.InMeeting.{InMeeting}
-use Rattle.sql_rows.specs.declared.kept.MeetingRow.{MeetingRow}
+use Rattle.sql_rows.specs.declared.stored_records.InMeeting.{InMeeting}
+use Rattle.sql_rows.specs.declared.stored_records.MeetingRow.{MeetingRow}
 use Rattle.sql_model.specs.OfficeRecords.{of_meeting, name_meetings}
 use Rattle.std.proofs.lemmas.Bool.{and_parts}
 use Rattle.sql_model.proofs.ModelListLemmas.{any-map}

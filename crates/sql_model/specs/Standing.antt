@@ -6,7 +6,7 @@ use Rattle.sqlite.specs.Table.{Table}
 use Rattle.sqlite.specs.Tree.{Trees}
 use Rattle.desk_words.specs.declared.office.OfficeLists.{OfficeLists}
 use Rattle.desk_words.specs.Office.{is_office}
-use Rattle.sql_rows.specs.declared.kept.Version.{Version}
+use Rattle.sql_rows.specs.declared.stored_records.Version.{Version}
 use Rattle.vocabulary.specs.OptionSteps.{◌>>=◌}
 use Rattle.sql_schema.specs.Contents.{desk}
 use Rattle.sql_schema.specs.Statements.{HasTables, IsDeskOf, Layout, layout_one, layout_two, records_in}

@@ -76,10 +76,10 @@ module _ {S : Type 0} (g : store.Ghosts S) (known : KnownVersion) (old told new 
   as_told : HasCleanDisk (state g new) → IsTrue (state g told).is_open → (state g told).now ≡ (state g old).now
   as_told clean is_open = (same (early clean) is_open).1
 
-  abbrev pub StandsIfTold : OfficeLists → Type 0
-  StandsIfTold office = IsMadeAs known (state g told).now.schema → IsVersionOf (edition_of known) (state g told) → StandsFor (state g told) (state g new) office known
+  abbrev pub StandsIfReturned : OfficeLists → Type 0
+  StandsIfReturned office = IsMadeAs known (state g told).now.schema → IsVersionOf (edition_of known) (state g told) → StandsFor (state g told) (state g new) office known
 
-  stands_from : HasCleanDisk (state g new) → IsTrue (state g told).is_open → (office : OfficeLists) → StandsIfTold office → (k : KnownVersion) → IsMadeAs k (state g old).now.schema → IsVersionOf (edition_of k) (state g old)
+  stands_from : HasCleanDisk (state g new) → IsTrue (state g told).is_open → (office : OfficeLists) → StandsIfReturned office → (k : KnownVersion) → IsMadeAs k (state g old).now.schema → IsVersionOf (edition_of k) (state g old)
       → StandsFor (state g old) (state g new) office k
   stands_from clean is_open office stands k made version =
       let there_is = as_told clean is_open in
@@ -90,17 +90,17 @@ module _ {S : Type 0} (g : store.Ghosts S) (known : KnownVersion) (old told new 
       subst (λ j. StandsFor (state g old) (state g new) office j) is (subst (λ (d : Database). StandsFor (record (state g told) { now = d }) (state g new) office known) there_is there)
 
   module _ (r : Result OfficeLists OpenFault) where
-    abbrev pub StandsTold : Type 0
-    StandsTold = HasCleanDisk (state g new) → IsMadeAs known (state g told).now.schema → IsVersionOf (edition_of known) (state g told) → IfOk r (λ office. StandsFor (state g told) (state g new) office known)
+    abbrev pub StandsReturned : Type 0
+    StandsReturned = HasCleanDisk (state g new) → IsMadeAs known (state g told).now.schema → IsVersionOf (edition_of known) (state g told) → IfOk r (λ office. StandsFor (state g told) (state g new) office known)
 
-    abbrev pub OpenedTold : Type 0 → Type 0
-    OpenedTold More = HasCleanDisk (state g new) → OnOk r (IsTrue (state g told).is_open × HasColumnsOf (edition_of known).asked (state g told).now.schema × More)
+    abbrev pub OpenedReturned : Type 0 → Type 0
+    OpenedReturned More = HasCleanDisk (state g new) → OnOk r (IsTrue (state g told).is_open × HasColumnsOf (edition_of known).asked (state g told).now.schema × More)
 
-  pub kept_stands : (r : Result OfficeLists OpenFault) (More : Type 0) → StandsTold r → OpenedTold r More → IfOk r (λ office. StandsWhole g old new office)
+  pub kept_stands : (r : Result OfficeLists OpenFault) (More : Type 0) → StandsReturned r → OpenedReturned r More → IfOk r (λ office. StandsWhole g old new office)
   kept_stands (Ok office) More stands opened = λ clean. stands_from clean (opened clean).0 office (stands clean)
   kept_stands (Err e) More stands opened = tt
 
-  pub kept_whole : (r : Result OfficeLists OpenFault) (More : Type 0) → StandsTold r → OpenedTold r More → OnOk r (OpensWhole g old new)
+  pub kept_whole : (r : Result OfficeLists OpenFault) (More : Type 0) → StandsReturned r → OpenedReturned r More → OnOk r (OpensWhole g old new)
   kept_whole (Ok office) More stands opened = λ clean was whole.
       let is_open = (opened clean).0 in
       opens_whole (state g old) (state g new) office live (same (early clean) is_open).0 (stands_from clean is_open office (stands clean)) was whole
@@ -123,7 +123,7 @@ module _ {S : Type 0} (g : store.Ghosts S) (known : KnownVersion) (old told new 
   pub are_as_told : HasCleanDisk (state g new) → IsTrue (state g told).is_open → AreOpened known (state g told) (state g new) → AreOpened known (state g old) (state g new)
   are_as_told clean is_open are = opened_same known (state g told) (state g old) (state g new) (as_told clean is_open) are
 
-  pub kept_known : (r : Result OfficeLists OpenFault) (More : Type 0) → OpenedTold r More → (HasCleanDisk (state g new) → IsTrue (state g told).is_open → More → AreOpened known (state g old) (state g new)) → OnOk r (WereKnown g old new)
+  pub kept_known : (r : Result OfficeLists OpenFault) (More : Type 0) → OpenedReturned r More → (HasCleanDisk (state g new) → IsTrue (state g told).is_open → More → AreOpened known (state g old) (state g new)) → OnOk r (WereKnown g old new)
   kept_known (Ok office) More opened are = λ clean. let it = opened clean in (known, were_of clean it.0 it.1, are clean it.0 it.2)
   kept_known (Err e) More opened are = tt
 

@@ -25,7 +25,7 @@ use Rattle.desk_words.specs.declared.office.OfficeLists.{OfficeLists}
 use Rattle.desk_words.specs.declared.records.RegisterRow.{RegisterRow}
 use Rattle.desk_words.proofs.OfficeFacts.{meeting_facts, office_facts, register_ascends}
 use Rattle.vocabulary.specs.OptionSteps.{◌>>=◌}
-use Rattle.sql_rows.specs.declared.kept.MeetingRow.{MeetingRow}
+use Rattle.sql_rows.specs.declared.stored_records.MeetingRow.{MeetingRow}
 use Rattle.sql_model.specs.OfficeRecords.{FlatLists, flat_in, lists_of, lists_of_all, of_meeting, office_in, office_of_records}
 use Rattle.sql_model.specs.Standing.{IsVersion, Stands}
 use Rattle.sql_model.proofs.ModelOfficeLemmas.{are_of, given}
@@ -75,9 +75,9 @@ pub lists_judged : {S : Type 0} (g : store.Ghosts S) (a b : Held S) (lists : Off
     → IfOk r (λ office. office ≡ office_in_order lists) → IfOk r (λ office. IsTrue (is_office office)) → (r ≡ Err NotADesk → is_office (office_in_order lists) ≡ false) → r ≢ Err NewerVersion → IsVerdict g a b r
 lists_judged g a b lists (Ok t) read ordered right wrong other = record {
   right = λ is.
-      let stays = office_stays (state g a).now.trees lists (read.told is) (subst (λ (o : OfficeLists). is_office o ≡ true) ordered right) in
+      let stays = office_stays (state g a).now.trees lists (read.holds is) (subst (λ (o : OfficeLists). is_office o ≡ true) ordered right) in
       let same : t ≡ lists = ordered ∙ stays in
-      (read.told is ∙ ap (λ (o : OfficeLists). Some o) (sym same), right);
+      (read.holds is ∙ ap (λ (o : OfficeLists). Some o) (sym same), right);
   same = read.same;
   none = λ is told. absurd cc;
   other = other;
@@ -87,7 +87,7 @@ lists_judged g a b lists (Err fault) read ordered right wrong other = record {
   right = λ is. tt;
   same = λ is. tt;
   none = λ is told office h.
-      let same : lists ≡ office = some_is (sym (read.told is) ∙ h) in
+      let same : lists ≡ office = some_is (sym (read.holds is) ∙ h) in
       subst (λ (o : OfficeLists). is_office o ≡ false) same (elim (cases_Bool (is_office lists)) [
         | inl so ↦ absurd (true≢false (sym so ∙ ap is_office (sym (office_ordered lists so)) ∙ wrong told))
         | inr not_so ↦ not_so

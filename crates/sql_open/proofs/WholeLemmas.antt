@@ -8,7 +8,7 @@ use Rattle.sqlite_catalog.specs.Listing.{AreListed}
 use Rattle.sqlite_trees.specs.Objects.{catalog_tree}
 use Rattle.desk_words.specs.Changes.{empty_office}
 use Rattle.desk_words.specs.declared.office.OfficeLists.{OfficeLists}
-use Rattle.sql_rows.specs.declared.kept.Version.{Version}
+use Rattle.sql_rows.specs.declared.stored_records.Version.{Version}
 use Rattle.sql_schema.specs.Statements.{HasTables, layout_one}
 use Rattle.sql_schema.specs.Tables.{desk_schema}
 use Rattle.sql_lemmas.proofs.Frames.{as_one, ones_declared}

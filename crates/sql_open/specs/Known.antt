@@ -6,7 +6,7 @@ use Rattle.sqlite.specs.Schema.{Schema}
 use Rattle.sqlite.specs.State.{State}
 use Rattle.sqlite_trees.specs.declared.store.Store as store
 use Rattle.sql_rows.specs.Meanings.{all_meanings}
-use Rattle.sql_rows.specs.declared.kept.Version.{Version}
+use Rattle.sql_rows.specs.declared.stored_records.Version.{Version}
 use Rattle.sql_schema.specs.Contents.{desk}
 use Rattle.sql_schema.specs.Statements.{HasTables, layout_two}
 use Rattle.sql_schema.specs.Tables.{schema_one}

@@ -69,9 +69,9 @@ pub record IsWhyUnopened {S : Type 0} (g : store.Ghosts S) (old : Held S) (why :
   -- of tables that noted their version
   pub cause : IsCleanBack g it → NotesVersion (state g old).now.schema
       → IsOpenCause why (state g old)
-  -- whatever the tables were, a later version is told only where they showed one
+  -- whatever the tables were, a later version is reported only where they showed one
   pub newer : IsCleanBack g it → why ≡ NewerVersion → ShowsLater g (state g old).now
-  -- tables that are whole are told to be no desk's, or a later version's, by no fault
+  -- no fault says of whole tables that they are no desk's, or a later version's
   pub whole : IsCleanBack g it → (office : OfficeLists) → IsWholeDesk (state g old).now.trees office
       → (why ≡ Store) ⊎ (why ≡ Memory)
 

@@ -12,7 +12,7 @@ use Rattle.sqlite_trees.specs.View.{IsClean}
 use Rattle.sqlite_trees.specs.declared.store.Store as store
 use Rattle.desk_words.specs.declared.office.OfficeLists.{OfficeLists}
 use Rattle.desk_words.specs.Office.{is_office}
-use Rattle.sql_rows.specs.declared.kept.Version.{Version}
+use Rattle.sql_rows.specs.declared.stored_records.Version.{Version}
 use Rattle.sql_model.specs.OfficeRecords.{office_in}
 use Rattle.sql_schema.specs.Statements.{ChangesNothing, IsDesk, IsRead, WasOpen}
 use Rattle.sql_desk_tables.specs.ColumnChecks.{HasColumnsOf}
@@ -36,10 +36,10 @@ use Rattle.sql_open.specs.declared.version.KnownVersion.{KnownVersion}
 abbrev pub HoldsOffice : State → OfficeLists → Type 0
 HoldsOffice s office = (office_in s.now.trees ≡ Some office) × IsTrue (is_office office)
 
--- the office that the tables of a desk held is told
-abbrev pub TellsOffice : {S : Type 0} → store.Ghosts S → Held S → Held S
+-- the office that the tables of a desk held is returned
+abbrev pub ReturnsOffice : {S : Type 0} → store.Ghosts S → Held S → Held S
     → Result OfficeLists OpenFault → Type 0
-TellsOffice g old new result =
+ReturnsOffice g old new result =
     HasCleanDisk (state g new) → IsDesk (state g old) → IfOk result (HoldsOffice (state g old))
 
 -- tables that are no desk's are wrong in this way; of want of memory and of the store's own faults
@@ -72,9 +72,9 @@ IsOpenCause = IsFaultOf IsNoDesk
 abbrev pub ShowsLater : {S : Type 0} → store.Ghosts S → Database → Type 0
 ShowsLater g db = ShowsSuch g db (λ version. 3 ≤ version.number)
 
--- in a transaction over tables that note their version it is told which of those that are known, or
--- why none, and nothing is committed; a version is told only where it is shown
-pub record TellsVersion {S : Type 0} (g : store.Ghosts S) (old new : Held S)
+-- in a transaction over tables that note their version a known version is returned, or why there is
+-- none, and nothing is committed; it is the version that is shown
+pub record ReturnsVersion {S : Type 0} (g : store.Ghosts S) (old new : Held S)
     (result : Result KnownVersion OpenFault) : Type 0 where
   pub noted : HasCleanDisk (state g new) → AreNoted (state g old)
       → IfOk result (λ known. IsVersionOf (edition_of known) (state g old))

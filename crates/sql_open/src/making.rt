@@ -28,7 +28,7 @@ fn make_meetings<S: Alter>(tx: &mut Transaction<'_, S>) -> Result<(), Error>
 }
 
 /// Makes the tables of what is handed in: appointments, endings, authorities and presences.
-fn make_papers<S: Alter>(tx: &mut Transaction<'_, S>) -> Result<(), Error>
+fn make_proxy_tables<S: Alter>(tx: &mut Transaction<'_, S>) -> Result<(), Error>
     ensures same_reference { tx.new.conn.ghost_name ≡ tx.old.conn.ghost_name }
     ensures made { IsMaking S.Store tx.old.conn.now tx.new.conn.now result
         up_to_register up_to_presences }
@@ -72,7 +72,7 @@ fn make_tables<S: Alter>(tx: &mut Transaction<'_, S>) -> Result<(), Error>
         no_schema desk_schema }
 {
     make_meetings(tx)?;
-    make_papers(tx)?;
+    make_proxy_tables(tx)?;
     make_polls(tx)?;
     make_indexes(tx)?;
     make_later(tx)

@@ -6,7 +6,7 @@ ghost use Rattle.sql_open.specs.Opened.{IsSettled, IsWhyUnopened, KeepsOpenRows,
 ghost use Rattle.sql_open.specs.Opened.{OnDone, StandsFor, StandsWhole, StaysOpen};
 ghost use Rattle.sql_open.specs.Opened.{SurvivesMoving, WereKnown};
 ghost use Rattle.sql_open.specs.Opening.{HandsBack, IsInNone, IsNoDeskOf, IsVerdict};
-ghost use Rattle.sql_open.specs.Opening.{TellsOffice};
+ghost use Rattle.sql_open.specs.Opening.{ReturnsOffice};
 ghost use Rattle.sql_open.specs.Rising.{RowsRise};
 ghost use Rattle.sql_open.specs.WholeDesk.{AsksOpen, OpensWhole};
 ghost use Rattle.sql_model.specs.Standing.{HasNoOffice, IsVersionOf, two};
@@ -113,7 +113,7 @@ fn examine<S: Alter>(conn: &mut Connection<S>, alloc: Global) -> Result<OfficeLi
     ensures kept { HasCleanDisk (state S.Store conn.new) → IsTrue (state S.Store conn.old).is_open
         → IsTrue (state S.Store conn.new).is_open
         → (state S.Store conn.new).now.trees ≡ (state S.Store conn.old).now.trees }
-    ensures holds { TellsOffice S.Store conn.old conn.new result }
+    ensures holds { ReturnsOffice S.Store conn.old conn.new result }
     ensures office { IfOk result (λ office. IsTrue (is_office office)) }
     ensures none { HasCleanDisk (state S.Store conn.new) → IsDesk (state S.Store conn.old)
         → result ≡ Err NotADesk → HasNoOffice (state S.Store conn.old) }
@@ -207,7 +207,10 @@ fn office_as_is<S: Alter>(conn: &mut Connection<S>, alloc: Global) -> Result<Off
 /// The office that tables of a version that is known hold, where each column that is read of it
 /// stands. Those of version 2 are as they were, and those of version 1 are moved. The store is open
 /// still. The version is asked before the other tables are read.
-fn kept_office<S: Alter>(conn: &mut Connection<S>, alloc: Global) -> Result<OfficeLists, OpenFault>
+fn office_stored<S: Alter>(
+    conn: &mut Connection<S>,
+    alloc: Global,
+) -> Result<OfficeLists, OpenFault>
     requires none { conn.old.in_transaction ≡ false }
     requires rising { HasCleanDisk (state S.Store conn.old) → RowsRise (state S.Store conn.old) }
     ensures ended { conn.new.in_transaction ≡ false }
@@ -274,7 +277,7 @@ pub fn open<S: Alter + Drop>(
         Ok(conn) => conn,
         Err((fault, store)) => return Err((fault, HandedBack::Store(store))),
     };
-    match kept_office(&mut conn, alloc) {
+    match office_stored(&mut conn, alloc) {
         Ok(office) => Ok((conn, office)),
         Err(fault) => Err((fault, HandedBack::Connection(conn))),
     }
@@ -303,7 +306,7 @@ pub fn open_risen<S: Alter + Drop>(
     ensures crash { IfErr result (λ e. SurvivesMoving S.Store conn e.1) }
 {
     let mut conn = conn;
-    match kept_office(&mut conn, alloc) {
+    match office_stored(&mut conn, alloc) {
         Ok(office) => Ok((conn, office)),
         Err(fault) => Err((fault, conn)),
     }

@@ -1,7 +1,7 @@
 //! Which version the tables are.
 ghost use Rattle.std.specs.Prelude.{◌≡◌, ◌⊎◌, false, [], ◌∷◌, Err, IfErr, IfOk, IsTrue, List, Some};
 ghost use Rattle.sql_open.specs.Known.{ShowsKnown, edition_of};
-ghost use Rattle.sql_open.specs.Opening.{IsFaultOf, IsVersionFault, ShowsLater, TellsVersion};
+ghost use Rattle.sql_open.specs.Opening.{IsFaultOf, IsVersionFault, ShowsLater, ReturnsVersion};
 ghost use Rattle.sql_open.specs.declared.fault.OpenFault.TheVariants.{NotADesk, NewerVersion};
 ghost use Rattle.sql_model.specs.Standing.{HasNoVersion, IsVersionOf};
 ghost use Rattle.sql_schema.specs.Contents.{desk};
@@ -36,7 +36,7 @@ fn read_versions<S: Alter>(
     alloc: Global,
 ) -> Result<Listing<Version>, LoadError>
     ensures same_reference { tx.new.conn.ghost_name ≡ tx.old.conn.ghost_name }
-    ensures told { HasCleanDisk (state S.Store tx.new.conn.now)
+    ensures holds { HasCleanDisk (state S.Store tx.new.conn.now)
         → AreNoted (state S.Store tx.old.conn.now)
         → ReadAgrees any_at_all result (records_in desk (state S.Store tx.old.conn.now).now.trees) }
     ensures shown { HasCleanDisk (state S.Store tx.new.conn.now) → IfOk result (λ versions.
@@ -72,7 +72,7 @@ fn read_version<S: Alter>(
     alloc: Global,
 ) -> Result<KnownVersion, OpenFault>
     ensures same_reference { tx.new.conn.ghost_name ≡ tx.old.conn.ghost_name }
-    ensures told { TellsVersion S.Store tx.old.conn.now tx.new.conn.now result }
+    ensures holds { ReturnsVersion S.Store tx.old.conn.now tx.new.conn.now result }
 {
     let versions = read_versions(tx, alloc)?;
     judge_versions(versions.as_slice())

@@ -5,7 +5,7 @@ use Rattle.sqlite.specs.Order.{Row}
 use Rattle.sqlite.specs.Term.{Term, col}
 use Rattle.sqlite_tied.specs.Compute.{everything}
 use Rattle.sqlite.specs.Listing.{understood}
-use Rattle.sql_rows.specs.declared.kept.MeetingRow.{MeetingRow}
+use Rattle.sql_rows.specs.declared.stored_records.MeetingRow.{MeetingRow}
 use Rattle.sql_rows.specs.ColumnValues.{parsed_in, parsed_word_in, flag_in, day_in, moment_in, some_moment_in}
 use Rattle.sql_rows.specs.Meetings.{meeting_in}
 use Rattle.vocabulary.specs.Kinds.{company_of, meeting_kind_of}

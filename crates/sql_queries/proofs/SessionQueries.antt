@@ -5,8 +5,8 @@ use Rattle.sqlite.specs.Order.{Row}
 use Rattle.sqlite.specs.Term.{Term, col}
 use Rattle.sqlite_tied.specs.Compute.{everything}
 use Rattle.sqlite.specs.Listing.{understood}
-use Rattle.sql_rows.specs.declared.kept.InMeeting.{InMeeting}
-use Rattle.sql_rows.specs.declared.kept.Numbered.{Numbered}
+use Rattle.sql_rows.specs.declared.stored_records.InMeeting.{InMeeting}
+use Rattle.sql_rows.specs.declared.stored_records.Numbered.{Numbered}
 use Rattle.desk_words.specs.declared.records.Session.{Session}
 use Rattle.sql_rows.specs.ColumnValues.{parsed_in, number_in, moment_in, some_moment_in}
 use Rattle.sql_rows.specs.Meetings.{session_in}

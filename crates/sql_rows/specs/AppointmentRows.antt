@@ -6,7 +6,7 @@ use Rattle.vocabulary.specs.Places.{range_of}
 use Rattle.desk_words.specs.declared.records.Appointment.{Appointment}
 use Rattle.desk_words.specs.declared.records.Ending.{Ending}
 use Rattle.desk_words.specs.declared.records.Authority.{Authority}
-use Rattle.sql_rows.specs.declared.kept.InMeeting.{InMeeting}
+use Rattle.sql_rows.specs.declared.stored_records.InMeeting.{InMeeting}
 use Rattle.vocabulary.specs.OptionSteps.{◌>>=◌}
 use Rattle.sql_rows.specs.ColumnValues.{parsed_in, number_in, moment_in}
 use Rattle.sql_rows.specs.InstructionLetters.{instructions_of}

@@ -4,7 +4,7 @@ use Rattle.sqlite.specs.Order.{Row}
 use Rattle.vocabulary.specs.Names.{key_of}
 use Rattle.desk_words.specs.Callers.{caller_of}
 use Rattle.desk_words.specs.declared.caller.KeyRow.{KeyRow}
-use Rattle.sql_rows.specs.declared.kept.Version.{Version}
+use Rattle.sql_rows.specs.declared.stored_records.Version.{Version}
 use Rattle.vocabulary.specs.OptionSteps.{◌>>=◌, guard}
 use Rattle.sql_rows.specs.ColumnValues.{parsed_in, number_in, day_in}
 

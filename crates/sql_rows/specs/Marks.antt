@@ -13,7 +13,7 @@ use Rattle.desk_words.specs.declared.records.Block.{Block}
 use Rattle.desk_words.specs.declared.records.CastKind.{CastKind}
 use Rattle.desk_words.specs.declared.records.CastKind.TheVariants as kind
 use Rattle.desk_words.specs.declared.records.CastMark.{CastMark}
-use Rattle.sql_rows.specs.declared.kept.InMeeting.{InMeeting}
+use Rattle.sql_rows.specs.declared.stored_records.InMeeting.{InMeeting}
 use Rattle.vocabulary.specs.OptionSteps.{◌>>=◌}
 use Rattle.sql_rows.specs.ColumnValues.{parsed_in, parsed_of, parsed_word_of, number_in, natural_value, flag_in, moment_in, some_moment_in, is_null}
 

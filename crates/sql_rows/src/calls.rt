@@ -11,8 +11,8 @@ use crate::column::{
     party_in, resolution_kind_in, some_moment_in, text_in,
 };
 use crate::fault::RowError;
-use crate::kept::{InMeeting, MeetingRow, Numbered};
 use crate::list::FromRow;
+use crate::stored_records::{InMeeting, MeetingRow, Numbered};
 use desk_words::{RegisterRow, Resolution, Session};
 use sqlite::Row;
 use std::alloc::Global;

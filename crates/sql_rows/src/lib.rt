@@ -7,17 +7,17 @@ mod calls;
 mod column;
 mod fault;
 mod instructions;
-mod kept;
 mod list;
 mod marks;
 mod office;
-mod papers;
+mod proxy_rows;
+mod stored_records;
 mod values;
 
 pub use fault::RowError;
 pub use instructions::letters_of;
-pub use kept::{InMeeting, MeetingRow, Numbered, Version};
 pub use list::{FromRow, records};
+pub use stored_records::{InMeeting, MeetingRow, Numbered, Version};
 pub use values::{
     CastColumns, TallyColumns, caller_text, capacity_text, cast_columns, company_text, day_number,
     holder_kind_text, key_text, meeting_kind_text, meeting_text, moment_number, party_text,

@@ -10,9 +10,9 @@ use crate::column::{
     way_in, word_in,
 };
 use crate::fault::RowError;
-use crate::kept::InMeeting;
 use crate::list::FromRow;
-use crate::papers::range_of;
+use crate::proxy_rows::range_of;
+use crate::stored_records::InMeeting;
 use desk_words::{Block, CastKind, CastMark, DemandMark, Poll, PresenceMark, Tally};
 use sqlite::Row;
 use std::alloc::Global;

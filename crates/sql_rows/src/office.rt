@@ -6,8 +6,8 @@ ghost use Rattle.sql_rows.specs.DeskRows.{version_in, key_row_in, closed_in};
 
 use crate::column::{caller_in, day_in, key_in, number_in};
 use crate::fault::RowError;
-use crate::kept::Version;
 use crate::list::FromRow;
+use crate::stored_records::Version;
 use desk_words::{Day, KeyRow};
 use sqlite::Row;
 use std::alloc::Global;

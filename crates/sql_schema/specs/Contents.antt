@@ -15,10 +15,10 @@ use Rattle.desk_words.specs.declared.records.PresenceMark.{PresenceMark}
 use Rattle.desk_words.specs.declared.records.RegisterRow.{RegisterRow}
 use Rattle.desk_words.specs.declared.records.Resolution.{Resolution}
 use Rattle.desk_words.specs.declared.records.Session.{Session}
-use Rattle.sql_rows.specs.declared.kept.InMeeting.{InMeeting}
-use Rattle.sql_rows.specs.declared.kept.MeetingRow.{MeetingRow}
-use Rattle.sql_rows.specs.declared.kept.Numbered.{Numbered}
-use Rattle.sql_rows.specs.declared.kept.Version.{Version}
+use Rattle.sql_rows.specs.declared.stored_records.InMeeting.{InMeeting}
+use Rattle.sql_rows.specs.declared.stored_records.MeetingRow.{MeetingRow}
+use Rattle.sql_rows.specs.declared.stored_records.Numbered.{Numbered}
+use Rattle.sql_rows.specs.declared.stored_records.Version.{Version}
 use Rattle.sql_rows.specs.Marks.{presence_in, demand_mark_in, poll_in, cast_in, presence_one_in, demand_one_in, poll_one_in}
 use Rattle.sql_rows.specs.Meetings.{meeting_in, session_in, resolution_in, holding_in}
 use Rattle.sql_rows.specs.DeskRows.{version_in, key_row_in, closed_in}

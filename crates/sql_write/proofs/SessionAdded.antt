@@ -16,7 +16,7 @@ use Rattle.desk_words.specs.declared.office.MeetingLists.{MeetingLists}
 use Rattle.desk_words.specs.declared.office.OfficeLists.{OfficeLists}
 use Rattle.desk_words.specs.declared.records.Session.{Session}
 use Rattle.sql_rows.proofs.RowMeaningLemmas.{bound}
-use Rattle.sql_rows.specs.declared.kept.Numbered.{Numbered}
+use Rattle.sql_rows.specs.declared.stored_records.Numbered.{Numbered}
 use Rattle.sql_model.specs.OfficeRecords.{FlatLists, number_before, numbered_from, of_meeting, office_of_records}
 use Rattle.sql_model.proofs.FlatChanges.{only_is, some_is}
 use Rattle.sql_model.proofs.ModelListLemmas.{sort_by-last}

@@ -21,9 +21,9 @@ use Rattle.desk_words.specs.declared.records.Meeting.{Meeting}
 use Rattle.desk_words.specs.declared.records.Session.{Session}
 use Rattle.sql_rows.proofs.RowMeaningLemmas.{bound}
 use Rattle.sql_rows.specs.Meanings.{all_meanings}
-use Rattle.sql_rows.specs.declared.kept.InMeeting.{InMeeting}
-use Rattle.sql_rows.specs.declared.kept.MeetingRow.{MeetingRow}
-use Rattle.sql_rows.specs.declared.kept.Numbered.{Numbered}
+use Rattle.sql_rows.specs.declared.stored_records.InMeeting.{InMeeting}
+use Rattle.sql_rows.specs.declared.stored_records.MeetingRow.{MeetingRow}
+use Rattle.sql_rows.specs.declared.stored_records.Numbered.{Numbered}
 use Rattle.sql_model.specs.OfficeRecords.{FlatLists, lists_of, lists_of_all, number_before, numbered_from, of_meeting}
 use Rattle.sql_model.proofs.FlatChanges.{only_is, some_is}
 use Rattle.sql_model.proofs.MeetingChanges.{is_alone}

@@ -10,8 +10,8 @@ use Rattle.desk_words.specs.declared.caller.KeyRow.{KeyRow}
 use Rattle.desk_words.specs.declared.office.OfficeLists.{OfficeLists}
 use Rattle.desk_words.specs.declared.records.RegisterRow.{RegisterRow}
 use Rattle.desk_words.specs.declared.records.Resolution.{Resolution}
-use Rattle.sql_rows.specs.declared.kept.InMeeting.{InMeeting}
-use Rattle.sql_rows.specs.declared.kept.Numbered.{Numbered}
+use Rattle.sql_rows.specs.declared.stored_records.InMeeting.{InMeeting}
+use Rattle.sql_rows.specs.declared.stored_records.Numbered.{Numbered}
 use Rattle.sql_model.specs.OfficeRecords.{FlatLists, flat_in, office_in}
 use Rattle.sql_model.specs.Standing.{IsVersion}
 use Rattle.sql_schema.specs.Statements.{DeclaresNothing, IsDesk}

@@ -3,8 +3,8 @@ ghost use Rattle.std.specs.Prelude.{◌≡◌};
 ghost use Rattle.desk_words.specs.declared.change.Change.TheVariants as of_desk;
 ghost use Rattle.sql_write.specs.Writes.{Writes};
 
+use crate::desk_lists::{set_closed_days, set_keys};
 use crate::entries::enter;
-use crate::lists::{set_closed_days, set_keys};
 use crate::meetings::{add_meeting, add_session, open_meeting, set_register};
 use crate::polls::{move_poll, order_poll};
 use desk_words::{Change, MeetingChange, MeetingId};

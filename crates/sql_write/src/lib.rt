@@ -2,8 +2,8 @@
 #![tactic(auto)]
 
 mod change;
+mod desk_lists;
 mod entries;
-mod lists;
 mod meetings;
 mod polls;
 

@@ -19,13 +19,11 @@ mod devices;
 #[cfg(test)]
 mod endings;
 #[cfg(test)]
+mod fixtures;
+#[cfg(test)]
 mod heads;
 #[cfg(test)]
-mod kept;
-#[cfg(test)]
 mod lines;
-#[cfg(test)]
-mod lists;
 #[cfg(test)]
 mod memory;
 #[cfg(test)]
@@ -35,13 +33,15 @@ mod office;
 #[cfg(test)]
 mod order;
 #[cfg(test)]
-mod papers;
+mod ordered_lists;
 #[cfg(test)]
 mod peers;
 #[cfg(test)]
 mod polls;
 #[cfg(test)]
 mod proxies;
+#[cfg(test)]
+mod rebuilt_books;
 #[cfg(test)]
 mod replays;
 #[cfg(test)]

@@ -1,5 +1,5 @@
 //! Majorities of any counts, and what a demand amounts to.
-use crate::papers::{Lists, moment, party, register};
+use crate::fixtures::{Lists, moment, party, register};
 use desk_words::{DemandMark, HolderKind, ResKind};
 use poll_rules::{Cutoffs, Demand, carried, demand_reached};
 use std::alloc::Global;

@@ -6,7 +6,7 @@ ghost use Rattle.desk_words.specs.Office.{are_numbered_after};
 ghost use Rattle.desk_words.specs.declared.records.Appointment.{Appointment};
 ghost use Rattle.proxy_rules.specs.Holdings.{are_tags};
 
-use crate::papers::{Lists, moment, party, register};
+use crate::fixtures::{Lists, moment, party, register};
 use desk_words::{Appointment, Ending, Filed, HolderKind, Instructions, Listing, Party, Range};
 use proxy_rules::{Cutoffs, Holding, governed, governing};
 use share_blocks::LinkedBlocks;
@@ -175,7 +175,7 @@ fn runs_end_with_the_holding(rt: HostRuntime) -> Result<(), Fail> {
 /// The last place of each piece of a holding, with the number of what governs it, or 0, one piece
 /// after another.
 fn ends(alloc: Global, holding: &Holding) -> Result<Vec<u64>, Fail> {
-    if !holding.is_kept() {
+    if !holding.is_valid() {
         return Err("no holding of an office".into());
     }
     let pieces = holding.pieces_by::<LinkedBlocks>(alloc, &cutoffs()?)?;

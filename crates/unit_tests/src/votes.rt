@@ -1,5 +1,5 @@
 //! The count of so many votes on one holding that they are kept as linked blocks: more than 1,024.
-use crate::papers::{Lists, party, register};
+use crate::fixtures::{Lists, party, register};
 use crate::proxies::{all_numbered, all_tags, appointment, cutoffs, ending};
 use desk_words::{
     Authority, Block, Capacity, CastKind, CastMark, HolderKind, Moment, Range, Tally, Way,

@@ -10,7 +10,7 @@ use Rattle.desk_words.specs.declared.records.CastMark.{CastMark}
 use Rattle.desk_words.specs.declared.records.Ending.{Ending}
 use Rattle.desk_words.specs.declared.records.RegisterRow.{RegisterRow}
 use Rattle.proxy_rules.specs.Holdings.{holding_by}
-use Rattle.proxy_rules.specs.declared.papers.Cutoffs.{Cutoffs}
+use Rattle.proxy_rules.specs.declared.meeting_records.Cutoffs.{Cutoffs}
 use Rattle.proxy_rules.proofs.ProxyListLemmas.{reverse-filter}
 use Rattle.vote_rules.specs.Casts.{Share, find_map, instructed_way, last_cast, way_cast, way_over}
 use Rattle.vote_rules.specs.TallyLaws.{casts_on}

@@ -15,7 +15,7 @@ use Rattle.desk_words.specs.declared.records.Ending.{Ending}
 use Rattle.desk_words.specs.declared.records.RegisterRow.{RegisterRow}
 use Rattle.proxy_rules.specs.Holdings.{holding_by}
 use Rattle.proxy_rules.specs.Shares.{shares_of}
-use Rattle.proxy_rules.specs.declared.papers.Cutoffs.{Cutoffs}
+use Rattle.proxy_rules.specs.declared.meeting_records.Cutoffs.{Cutoffs}
 use Rattle.proxy_rules.proofs.ShareLemmas.{shares_of-le}
 use Rattle.vote_rules.specs.VoteCovers.{vote_among}
 use Rattle.vote_rules.specs.InstructedCasts.{blocks_on, is_on_shares_of, last_instructed}

@@ -1,5 +1,5 @@
 use Rattle.std.proofs.Common.{List, ap, sym, ◌∙◌}
-use Rattle.desk_words.specs.declared.own.Received.{Received}
+use Rattle.desk_words.specs.declared.own_things.Received.{Received}
 use Rattle.caller_view.specs.Rights.{governed_at_poll, is_governed, is_not_own, some_fail}
 use Rattle.caller_view.proofs.rights.is_not_own.Goals as goal
 

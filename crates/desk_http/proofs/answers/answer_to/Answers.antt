@@ -3,8 +3,8 @@ use Rattle.desk_http.proofs.answers.answer_to.Goals as goal
 
 pub returns-in-Err-clause-done : goal.returns-in-Err-clause-done
 returns-in-Err-clause-done g c = λ reliable office stands.
-    unheard_done (g.O.Office.stands c.args.office.now) office c.args.moment stands c.args.caller c.args.heard c.in-Err.why c.answer_unheard.result c.in-Err.is c.answer_unheard.ensures.shown
+    unheard_done (g.O.Office.stands c.args.office.now) office c.args.moment stands c.args.caller c.args.heard c.in-Err.why c.answer_unreceived.result c.in-Err.is c.answer_unreceived.ensures.shown
 
 pub returns-in-Err-clause-leaves : goal.returns-in-Err-clause-leaves
 returns-in-Err-clause-leaves g c =
-    unheard_leaves g.O.Office c.args.office.now c.answer_unheard.result c.args.moment c.args.caller c.args.heard c.in-Err.why c.in-Err.is
+    unheard_leaves g.O.Office c.args.office.now c.answer_unreceived.result c.args.moment c.args.caller c.args.heard c.in-Err.why c.in-Err.is

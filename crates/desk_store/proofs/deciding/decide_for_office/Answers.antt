@@ -8,41 +8,41 @@ use Rattle.party_views.specs.Views.{meeting_at}
 use Rattle.office_decisions.specs.ListsRead.{lists_read}
 use Rattle.meeting_core.specs.Decisions.{AreListsRead, office_call}
 use Rattle.meeting_core.proofs.ReadKept.{both_ok}
-use Rattle.sql_load_public.proofs.StoredOfficeLemmas.{told_after, told_both, told_stop}
+use Rattle.sql_load_public.proofs.StoredOfficeLemmas.{holds_after, holds_both, holds_stop}
 use Rattle.desk_store.specs.TableReads.{IsDecided}
 use Rattle.desk_store.proofs.DecidingLemmas.{meeting_found, told_made}
 use Rattle.desk_store.proofs.DeskReadLemmas.{mapped_ok, told_office}
 use Rattle.desk_store.proofs.deciding.decide_for_office.Goals as goal
 
-pub returns-in_err-found-clause-tells : goal.returns-in_err-found-clause-tells
-returns-in_err-found-clause-tells g c =
+pub returns-in_err-found-clause-holds : goal.returns-in_err-found-clause-holds
+returns-in_err-found-clause-holds g c =
     let call = office_call c.args.meeting c.args.now c.args.asked.now in
     let is : c.from_residual.result ≡ Err c.in_err-found.field-0.0 = search rules in
-    told_office g.S.Store _ _ _ (IsDecided call) (told_stop g.S.Store _ _ _ (IsDecided call) c.in_err-found.field-0.0 c.from_residual.result is c.in_err-found.ensures.told)
+    told_office g.S.Store _ _ _ (IsDecided call) (holds_stop g.S.Store _ _ _ (IsDecided call) c.in_err-found.field-0.0 c.from_residual.result is c.in_err-found.ensures.holds)
 
 -- the meeting and its polls refuse it
-pub returns-in-Err-clause-tells : goal.returns-in-Err-clause-tells
-returns-in-Err-clause-tells g c =
+pub returns-in-Err-clause-holds : goal.returns-in-Err-clause-holds
+returns-in-Err-clause-holds g c =
     let call = office_call c.args.meeting c.args.now c.args.asked.now in
-    told_made g.S.Store _ _ c.in_ok-found.found _ _ (IsDecided call) c.in_ok-found.ensures.told
+    told_made g.S.Store _ _ c.in_ok-found.found _ _ (IsDecided call) c.in_ok-found.ensures.holds
     (λ office kept p. record {
       is = c.in-Err.ensures.decided office c.args.meeting p;
       kept = subst (λ (change : Option Change). IsTrue (is_office (applied_if_any office change))) (sym c.in-Err.ensures.unchanged) kept;
     })
 
-pub returns-in_err-read-clause-tells : goal.returns-in_err-read-clause-tells
-returns-in_err-read-clause-tells g c =
+pub returns-in_err-read-clause-holds : goal.returns-in_err-read-clause-holds
+returns-in_err-read-clause-holds g c =
     let call = office_call c.args.meeting c.args.now c.args.asked.now in
     let is : c.from_residual-in_err-read.result ≡ Err c.in_err-read.field-0.0 = search rules in
     told_office g.S.Store _ _ _ (IsDecided call)
-    (told_after g.S.Store _ _ _ c.in_ok-found.found _ _ (IsDecided call) c.in_ok-found.ensures.told
-    (told_stop g.S.Store _ _ _ (IsDecided call) c.in_err-read.field-0.0 c.from_residual-in_err-read.result is c.in_err-read.ensures.told))
+    (holds_after g.S.Store _ _ _ c.in_ok-found.found _ _ (IsDecided call) c.in_ok-found.ensures.holds
+    (holds_stop g.S.Store _ _ _ (IsDecided call) c.in_err-read.field-0.0 c.from_residual-in_err-read.result is c.in_err-read.ensures.holds))
 
-pub returns-clause-tells : goal.returns-clause-tells
-returns-clause-tells g c =
+pub returns-clause-holds : goal.returns-clause-holds
+returns-clause-holds g c =
     let call = office_call c.args.meeting c.args.now c.args.asked.now in
     let rest = c.in_ok-read.read in
-    let both = told_both g.S.Store _ _ _ c.in_ok-found.found rest _ _ c.in_ok-found.ensures.told c.in_ok-read.ensures.told in
+    let both = holds_both g.S.Store _ _ _ c.in_ok-found.found rest _ _ c.in_ok-found.ensures.holds c.in_ok-read.ensures.holds in
     told_made g.S.Store _ _ rest c.map_err.result _ (IsDecided call) both
     (λ office kept p.
     let there = meeting_found (meeting_at office c.args.meeting) c.in_ok-found.found c.in-Ok.lists c.in-Ok.ensures.found p.0 in

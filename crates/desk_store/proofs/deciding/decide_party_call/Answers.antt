@@ -13,7 +13,7 @@ use Rattle.desk_store.proofs.deciding.decide_party_call.Goals as goal
 abbrev by_party : List ℕ → ℕ → Request → Call
 by_party party now request = record { moment = now; caller = caller.Party party; request = request }
 
-pub returns-in-Party-clause-tells : goal.returns-in-Party-clause-tells
-returns-in-Party-clause-tells g c =
+pub returns-in-Party-clause-holds : goal.returns-in-Party-clause-holds
+returns-in-Party-clause-holds g c =
     subst (λ (request : Request). HoldsOfTables g.S.Store c.args.tx.now.conn.now c.decide_for_party.new.tx.conn.now c.decide_for_party.result (IsDecided (by_party c.args.party c.args.now request))) (sym c.in-Party.is)
-    c.decide_for_party.ensures.tells
+    c.decide_for_party.ensures.holds

@@ -2,5 +2,5 @@ use Rattle.desk_store.specs.TableReads.{IsOwnView}
 use Rattle.desk_store.proofs.DeskReadLemmas.{told_office}
 use Rattle.desk_store.proofs.reading.read_things.Goals as goal
 
-pub returns-clause-tells : goal.returns-clause-tells
-returns-clause-tells g c = told_office g.S.Store c.args.tx.now.conn.now c.read_own.new.tx.conn.now c.read_own.result (IsOwnView c.args.party c.args.meeting c.args.now) c.read_own.ensures.told
+pub returns-clause-holds : goal.returns-clause-holds
+returns-clause-holds g c = told_office g.S.Store c.args.tx.now.conn.now c.read_own.new.tx.conn.now c.read_own.result (IsOwnView c.args.party c.args.meeting c.args.now) c.read_own.ensures.holds

@@ -1,14 +1,14 @@
 use Rattle.std.specs.Prelude.{[]}
 use Rattle.laws_step.specs.WrongAnswers.{office_with}
 use Rattle.laws_run.specs.WrongCounts.{closes_after_votes, vote_and_close}
-use Rattle.laws_run.proofs.WrongCloses.{turnout_asked, told_caught, told_caught_in_steps}
+use Rattle.laws_run.proofs.WrongCloses.{turnout_asked, shown_caught, shown_caught_in_steps}
 use Rattle.laws_run.proofs.votes.close_for_turnout_is_caught.Goals as goal
 
 pub returns-clause-apart : goal.returns-clause-apart
 returns-clause-apart c = turnout_asked
 
 pub returns-clause-caught : goal.returns-clause-caught
-returns-clause-caught c = told_caught closes_after_votes (office_with []) vote_and_close turnout_asked
+returns-clause-caught c = shown_caught closes_after_votes (office_with []) vote_and_close turnout_asked
 
 pub returns-clause-steps_caught : goal.returns-clause-steps_caught
-returns-clause-steps_caught c = told_caught_in_steps closes_after_votes (office_with []) vote_and_close turnout_asked
+returns-clause-steps_caught c = shown_caught_in_steps closes_after_votes (office_with []) vote_and_close turnout_asked

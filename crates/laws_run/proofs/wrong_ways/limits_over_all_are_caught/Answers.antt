@@ -1,5 +1,5 @@
 use Rattle.laws_step.specs.WrongOfficeReads.{lone_office}
-use Rattle.laws_run.specs.WrongTellings.{both_authorise, limits_all, meeting_with_authorities, member_authorises}
+use Rattle.laws_run.specs.WrongReplies.{both_authorise, limits_all, meeting_with_authorities, member_authorises}
 use Rattle.laws_run.specs.WrongWays.{the_member}
 use Rattle.laws_run.proofs.RunsRunLemmas.{runs_isolated}
 use Rattle.laws_run.proofs.WrongRuns.{caught_by, limits_apart}

@@ -8,8 +8,8 @@ returns-clause-loaded c = loaded_twice
 pub returns-clause-written : goal.returns-clause-written
 returns-clause-written c = written_twice
 
-pub returns-clause-told : goal.returns-clause-told
-returns-clause-told c = never_written
+pub returns-clause-holds : goal.returns-clause-holds
+returns-clause-holds c = never_written
 
 pub returns-clause-loaded_caught : goal.returns-clause-loaded_caught
 returns-clause-loaded_caught c = caught_by loads_anew loaded_twice
@@ -17,5 +17,5 @@ returns-clause-loaded_caught c = caught_by loads_anew loaded_twice
 pub returns-clause-written_caught : goal.returns-clause-written_caught
 returns-clause-written_caught c = caught_by writes_anew written_twice
 
-pub returns-clause-told_caught : goal.returns-clause-told_caught
-returns-clause-told_caught c = never_caught
+pub returns-clause-shown_caught : goal.returns-clause-shown_caught
+returns-clause-shown_caught c = never_caught

@@ -1,7 +1,7 @@
 use Rattle.std.specs.Prelude.{[], ◌∷◌}
 use Rattle.laws_step.specs.WrongAnswers.{meeting_with_casts, vote_of_another}
 use Rattle.laws_step.specs.WrongOwnThings.{demands_of_all, meeting_with_demand, meeting_with_presence, presence_of_any, quiet_meeting, votes_of_all}
-use Rattle.laws_step.proofs.WrongTellings.{caught_by, demands_more, presence_more, votes_more}
+use Rattle.laws_step.proofs.WrongReplies.{caught_by, demands_more, presence_more, votes_more}
 use Rattle.laws_step.proofs.own_things.others_things_are_caught.Goals as goal
 
 pub returns-clause-votes : goal.returns-clause-votes

@@ -4,7 +4,7 @@ use Rattle.desk_words.specs.Office.{is_meeting}
 use Rattle.desk_words.specs.declared.office.MeetingLists.{MeetingLists}
 use Rattle.office_validation.specs.Validation.{in_order, meeting_checked}
 use Rattle.office_validation.proofs.ValidMeetingLemmas.{given-some, given-none}
-use Rattle.meeting_core.specs.declared.book.lists.BookFault.{BookFault}
+use Rattle.meeting_core.specs.declared.book.of_lists.BookFault.{BookFault}
 use Rattle.meeting_core.proofs.office.checked.Goals as goal
 
 pub returns-clause-value : goal.returns-clause-value

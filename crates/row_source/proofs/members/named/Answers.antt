@@ -3,39 +3,39 @@ use Rattle.std.proofs.lemmas.List.{take_all}
 use Rattle.party_views.specs.PartyRows.{givers}
 use Rattle.row_source.specs.LookUps.{member_at}
 use Rattle.row_source.proofs.SourceRowLemmas.{made_more}
-use Rattle.row_source.proofs.SourceTellingLemmas.{told_after, told_both, told_refused, told_so}
+use Rattle.row_source.proofs.SourceLookUpLemmas.{holds_after, holds_both, holds_refused, holds_so}
 use Rattle.row_source.proofs.members.named.Goals as goal
 
 pub loop-member-init : goal.loop-member-init
-loop-member-init g c = told_so _ _ _ _ _ _ _ c.in_ok-received.received _ _ _ c.in_ok-received.ensures (λ found p. (p, c.new-members.ensures))
+loop-member-init g c = holds_so _ _ _ _ _ _ _ c.in_ok-received.received _ _ _ c.in_ok-received.ensures (λ found p. (p, c.new-members.ensures))
 
 pub returns-in_err-givers : goal.returns-in_err-givers
 returns-in_err-givers g c =
     let w = g.met.R.RowSource in
-    told_refused _ _ _ _ _ _ _ c.in_ok-received.received _ _ _ _ w.memory_may_fail c.from_residual-in_err-givers.ensures.1 c.in_ok-received.ensures
+    holds_refused _ _ _ _ _ _ _ c.in_ok-received.received _ _ _ _ w.memory_may_fail c.from_residual-in_err-givers.ensures.1 c.in_ok-received.ensures
 
 pub returns-in_err-member_rows : goal.returns-in_err-member_rows
 returns-in_err-member_rows g c =
     let w = g.met.R.RowSource in
     let is : c.from_residual-in_err-member_rows.result ≡ Err c.in_err-member_rows.field-0.0 = search rules in
-    told_after _ _ _ _ _ w.still_shows w.was_trusted w.keeps_then w.leaves_then _ _ _ c.loop-member.members c.in_err-member_rows.field-0.0 _ _ _ _ is
+    holds_after _ _ _ _ _ w.still_shows w.was_trusted w.keeps_then w.leaves_then _ _ _ c.loop-member.members c.in_err-member_rows.field-0.0 _ _ _ _ is
     c.loop-member.invariant c.in_err-member_rows.ensures
 
 pub returns-in_err-push : goal.returns-in_err-push
 returns-in_err-push g c =
     let w = g.met.R.RowSource in
-    told_refused _ _ _ _ _ _ _ c.in_ok-member_rows.field-0 _ _ _ _ w.memory_may_fail c.from_residual-in_err-push.ensures.1
-    (told_both _ _ _ _ _ w.still_shows w.was_trusted w.keeps_then w.leaves_then _ _ _ c.loop-member.members c.in_ok-member_rows.field-0 _ _ c.loop-member.invariant c.in_ok-member_rows.ensures)
+    holds_refused _ _ _ _ _ _ _ c.in_ok-member_rows.field-0 _ _ _ _ w.memory_may_fail c.from_residual-in_err-push.ensures.1
+    (holds_both _ _ _ _ _ w.still_shows w.was_trusted w.keeps_then w.leaves_then _ _ _ c.loop-member.members c.in_ok-member_rows.field-0 _ _ c.loop-member.invariant c.in_ok-member_rows.ensures)
 
 pub loop-member-preserved : goal.loop-member-preserved
 loop-member-preserved g c =
     let w = g.met.R.RowSource in
-    told_so _ _ _ _ _ _ _ c.in_ok-member_rows.field-0 _ _ _ (told_both _ _ _ _ _ w.still_shows w.was_trusted w.keeps_then w.leaves_then _ _ _ c.loop-member.members c.in_ok-member_rows.field-0 _ _ c.loop-member.invariant c.in_ok-member_rows.ensures)
+    holds_so _ _ _ _ _ _ _ c.in_ok-member_rows.field-0 _ _ _ (holds_both _ _ _ _ _ w.still_shows w.was_trusted w.keeps_then w.leaves_then _ _ _ c.loop-member.members c.in_ok-member_rows.field-0 _ _ c.loop-member.invariant c.in_ok-member_rows.ensures)
     (λ found p. (p.0.0, made_more (member_at found) c.deref-member-items.result.now c.loop-member.member-index c.member-item.result c.loop-member.members c.push.new.self c.in_ok-member_rows.field-0 c.loop-member-test.true c.member-item.is p.0.1 p.1 c.in_ok-push.ensures.ok))
 
 pub returns : goal.returns
 returns g c =
-    told_so _ _ _ _ _ _ _ c.loop-member.members _ _ _ c.loop-member.invariant
+    holds_so _ _ _ _ _ _ _ c.loop-member.members _ _ _ c.loop-member.invariant
     (λ found p.
     let names = c.deref-member-items.ensures.value ∙ c.in_ok-givers.ensures ∙ ap givers (c.as_slice.ensures ∙ p.0) in
     let members = p.1 ∙ ap (map (member_at found)) (take_all c.loop-member.member-index c.deref-member-items.result.now c.loop-member-test.false ∙ names) in

@@ -3,7 +3,7 @@ use Rattle.std.specs.List.{list_all}
 use Rattle.seq.specs.Sorting.{sort_by}
 use Rattle.desk_words.specs.SortedLists.{caller_before, day_before, is_day_list, is_key_list}
 use Rattle.desk_words.specs.Office.{is_meeting, is_office}
-use Rattle.sql_rows.specs.declared.kept.MeetingRow.{MeetingRow}
+use Rattle.sql_rows.specs.declared.stored_records.MeetingRow.{MeetingRow}
 use Rattle.sql_model.specs.OfficeRecords.{lists_of_all, office_of_records}
 use Rattle.sql_assemble.specs.Flat.{flat_of_records}
 use Rattle.sql_assemble.specs.Grouping.{all_lists_own, all_name_meetings, are_meeting_rows, own_records_of}

@@ -7,10 +7,10 @@ returns-in_err-ask_meetings-clause-asked g c =
     let is : c.from_residual.result ≡ Err c.in_err-ask_meetings.field-0.0 = search rules in
     asks_stop g.S.Store _ _ _ _ c.from_residual.result is c.in_err-ask_meetings.ensures.asked
 
-pub returns-in_err-ask_papers-clause-asked : goal.returns-in_err-ask_papers-clause-asked
-returns-in_err-ask_papers-clause-asked g c =
-    let is : c.from_residual-in_err-ask_papers.result ≡ Err c.in_err-ask_papers.field-0.0 = search rules in
-    asks_then g.S.Store _ _ _ _ _ _ c.in_ok-ask_meetings.ensures.asked (asks_stop g.S.Store _ _ _ _ c.from_residual-in_err-ask_papers.result is c.in_err-ask_papers.ensures.asked)
+pub returns-in_err-ask_proxy_columns-clause-asked : goal.returns-in_err-ask_proxy_columns-clause-asked
+returns-in_err-ask_proxy_columns-clause-asked g c =
+    let is : c.from_residual-in_err-ask_proxy_columns.result ≡ Err c.in_err-ask_proxy_columns.field-0.0 = search rules in
+    asks_then g.S.Store _ _ _ _ _ _ c.in_ok-ask_meetings.ensures.asked (asks_stop g.S.Store _ _ _ _ c.from_residual-in_err-ask_proxy_columns.result is c.in_err-ask_proxy_columns.ensures.asked)
 
 pub returns-clause-asked : goal.returns-clause-asked
-returns-clause-asked g c = asks_then g.S.Store _ _ _ _ _ _ c.in_ok-ask_meetings.ensures.asked (asks_then g.S.Store _ _ _ _ _ _ c.in_ok-ask_papers.ensures.asked c.ask_polls.ensures.asked)
+returns-clause-asked g c = asks_then g.S.Store _ _ _ _ _ _ c.in_ok-ask_meetings.ensures.asked (asks_then g.S.Store _ _ _ _ _ _ c.in_ok-ask_proxy_columns.ensures.asked c.ask_polls.ensures.asked)

@@ -9,21 +9,21 @@ use Rattle.sql_schema.specs.Statements.{records_in}
 use Rattle.sql_model.proofs.FlatChanges.{keys_held}
 use Rattle.sql_load_public.proofs.FoundRecordLemmas.{yields_tell}
 use Rattle.sql_load_public.proofs.PublicRecordLemmas.{reading_told}
-use Rattle.sql_load_public.proofs.StoredOfficeLemmas.{told_so, told_stop}
+use Rattle.sql_load_public.proofs.StoredOfficeLemmas.{holds_so, holds_stop}
 use Rattle.sql_load_meeting.proofs.desk.read_keys.Goals as goal
 
 -- the keys are the office's once they are in order
 abbrev AreKeys : OfficeLists → List KeyRow → Type 0
 AreKeys office rows = sort_by caller_before rows ≡ office.keys
 
-pub returns-in_err-rows-clause-told : goal.returns-in_err-rows-clause-told
-returns-in_err-rows-clause-told g c =
+pub returns-in_err-rows-clause-holds : goal.returns-in_err-rows-clause-holds
+returns-in_err-rows-clause-holds g c =
     let is : c.from_residual.result ≡ Err c.in_err-rows.field-0.0 = search rules in
-    told_stop g.S.Store _ _ AreKeys _ c.in_err-rows.field-0.0 c.from_residual.result is
+    holds_stop g.S.Store _ _ AreKeys _ c.in_err-rows.field-0.0 c.from_residual.result is
     (reading_told g.S.Store c.args.tx.now.conn.now c.listing.new.tx.conn.now (records_in table.keys) (λ flat. flat.keys) keys_held (Err c.in_err-rows.field-0.0) c.in_err-rows.ensures.read AreKeys (λ flat office of kept. of.keys))
 
-pub returns-clause-told : goal.returns-clause-told
-returns-clause-told g c =
-    told_so g.S.Store _ _ AreKeys _ c.in_ok-rows.rows c.key_rows.result
+pub returns-clause-holds : goal.returns-clause-holds
+returns-clause-holds g c =
+    holds_so g.S.Store _ _ AreKeys _ c.in_ok-rows.rows c.key_rows.result
     (reading_told g.S.Store c.args.tx.now.conn.now c.listing.new.tx.conn.now (records_in table.keys) (λ flat. flat.keys) keys_held _ c.in_ok-rows.ensures.read AreKeys (λ flat office of kept. of.keys))
     (λ office kept keys. yields_tell is_key_list c.key_rows.result office.keys _ c.key_rows.ensures (ap (λ l. Some l) keys) (office_facts office kept).keys)

@@ -1,12 +1,12 @@
 use Rattle.std.proofs.Common.{◌≡◌, Err, rules}
-use Rattle.sql_load_public.proofs.StoredOfficeLemmas.{told_so, told_stop}
+use Rattle.sql_load_public.proofs.StoredOfficeLemmas.{holds_so, holds_stop}
 use Rattle.sql_load_meeting.proofs.parts.with_register.Goals as goal
 
-pub returns-in_err-register-clause-told : goal.returns-in_err-register-clause-told
-returns-in_err-register-clause-told g c =
+pub returns-in_err-register-clause-holds : goal.returns-in_err-register-clause-holds
+returns-in_err-register-clause-holds g c =
     let is : c.from_residual.result ≡ Err c.in_err-register.field-0.0 = search rules in
-    told_stop g.S.Store _ _ _ _ c.in_err-register.field-0.0 c.from_residual.result is c.in_err-register.ensures.told
+    holds_stop g.S.Store _ _ _ _ c.in_err-register.field-0.0 c.from_residual.result is c.in_err-register.ensures.holds
 
-pub returns-clause-told : goal.returns-clause-told
-returns-clause-told g c =
-    told_so g.S.Store _ _ _ _ c.in_ok-register.register _ c.in_ok-register.ensures.told (λ office kept is. λ i. record c.args.lists { register = is i })
+pub returns-clause-holds : goal.returns-clause-holds
+returns-clause-holds g c =
+    holds_so g.S.Store _ _ _ _ c.in_ok-register.register _ c.in_ok-register.ensures.holds (λ office kept is. λ i. record c.args.lists { register = is i })

@@ -8,62 +8,62 @@ use Rattle.party_views.specs.PublicRead.{counted}
 use Rattle.sql_load_public.proofs.CountedRecordLemmas.{HasCount, counted_so, none_counted, unread_tell}
 use Rattle.sql_load_public.proofs.FoundRecordLemmas.{found_told}
 use Rattle.sql_load_public.proofs.PublicRecordLemmas.{AreLater, IsRow, meeting_row_so}
-use Rattle.sql_load_public.proofs.StoredOfficeLemmas.{told_after, told_both, told_refused, told_so, told_stop}
+use Rattle.sql_load_public.proofs.StoredOfficeLemmas.{holds_after, holds_both, holds_refused, holds_so, holds_stop}
 use Rattle.sql_load_public.proofs.public.counted_of.Goals as goal
 
-pub returns-in_err-rows-clause-told : goal.returns-in_err-rows-clause-told
-returns-in_err-rows-clause-told g c =
+pub returns-in_err-rows-clause-holds : goal.returns-in_err-rows-clause-holds
+returns-in_err-rows-clause-holds g c =
     let is : c.from_residual.result ≡ Err c.in_err-rows.field-0.0 = search rules in
-    told_stop g.S.Store _ _ (IsRow c.args.meeting) _ c.in_err-rows.field-0.0 c.from_residual.result is
+    holds_stop g.S.Store _ _ (IsRow c.args.meeting) _ c.in_err-rows.field-0.0 c.from_residual.result is
     (found_told g.S.Store c.args.tx.now.conn.now c.named.new.tx.conn.now (λ v. v.items) table.meetings (λ flat. flat.meetings) (λ trees flat held. held.meetings) _ c.named.result c.named.ensures.rows c.named.ensures.changes
     (Err c.in_err-rows.field-0.0) c.in_err-rows.ensures (IsRow c.args.meeting) (λ flat office of kept. meeting_row_so c.args.meeting flat office of))
 
-pub returns-in_default-clause-told : goal.returns-in_default-clause-told
-returns-in_default-clause-told g c =
-    told_so g.S.Store _ _ (IsRow c.args.meeting) _ c.in_ok-rows.rows _
+pub returns-in_default-clause-holds : goal.returns-in_default-clause-holds
+returns-in_default-clause-holds g c =
+    holds_so g.S.Store _ _ (IsRow c.args.meeting) _ c.in_ok-rows.rows _
     (found_told g.S.Store c.args.tx.now.conn.now c.named.new.tx.conn.now (λ v. v.items) table.meetings (λ flat. flat.meetings) (λ trees flat held. held.meetings) _ c.named.result c.named.ensures.rows c.named.ensures.changes
     _ c.in_ok-rows.ensures (IsRow c.args.meeting) (λ flat office of kept. meeting_row_so c.args.meeting flat office of))
     (λ office kept row. none_counted office c.args.meeting c.in_ok-rows.rows c.in_default.ensures row)
 
-pub returns-in_err-later-clause-told : goal.returns-in_err-later-clause-told
-returns-in_err-later-clause-told g c =
+pub returns-in_err-later-clause-holds : goal.returns-in_err-later-clause-holds
+returns-in_err-later-clause-holds g c =
     let is : c.from_residual-in_err-later.result ≡ Err c.in_err-later.field-0.0 = search rules in
-    told_after g.S.Store _ _ _ c.in_ok-rows.rows _ (IsRow c.args.meeting) _
+    holds_after g.S.Store _ _ _ c.in_ok-rows.rows _ (IsRow c.args.meeting) _
     (found_told g.S.Store c.args.tx.now.conn.now c.named.new.tx.conn.now (λ v. v.items) table.meetings (λ flat. flat.meetings) (λ trees flat held. held.meetings) _ c.named.result c.named.ensures.rows c.named.ensures.changes
     _ c.in_ok-rows.ensures (IsRow c.args.meeting) (λ flat office of kept. meeting_row_so c.args.meeting flat office of))
-    (told_stop g.S.Store _ _ (AreLater c.args.meeting) _ c.in_err-later.field-0.0 c.from_residual-in_err-later.result is c.in_err-later.ensures.told)
+    (holds_stop g.S.Store _ _ (AreLater c.args.meeting) _ c.in_err-later.field-0.0 c.from_residual-in_err-later.result is c.in_err-later.ensures.holds)
 
-pub returns-in_err-count-clause-told : goal.returns-in_err-count-clause-told
-returns-in_err-count-clause-told g c =
+pub returns-in_err-count-clause-holds : goal.returns-in_err-count-clause-holds
+returns-in_err-count-clause-holds g c =
     let is : c.from_residual-in_err-count.result ≡ Err c.in_err-count.field-0.0 = search rules in
-    told_after g.S.Store _ _ _ c.in_ok-later.later _ (λ office later. IsRow c.args.meeting office c.in_ok-rows.rows × AreLater c.args.meeting office later) _
-    (told_both g.S.Store _ _ _ c.in_ok-rows.rows c.in_ok-later.later (IsRow c.args.meeting) (AreLater c.args.meeting)
+    holds_after g.S.Store _ _ _ c.in_ok-later.later _ (λ office later. IsRow c.args.meeting office c.in_ok-rows.rows × AreLater c.args.meeting office later) _
+    (holds_both g.S.Store _ _ _ c.in_ok-rows.rows c.in_ok-later.later (IsRow c.args.meeting) (AreLater c.args.meeting)
     (found_told g.S.Store c.args.tx.now.conn.now c.named.new.tx.conn.now (λ v. v.items) table.meetings (λ flat. flat.meetings) (λ trees flat held. held.meetings) _ c.named.result c.named.ensures.rows c.named.ensures.changes
     _ c.in_ok-rows.ensures (IsRow c.args.meeting) (λ flat office of kept. meeting_row_so c.args.meeting flat office of))
-    c.in_ok-later.ensures.told)
-    (told_stop g.S.Store _ _ (HasCount c.args.meeting) _ c.in_err-count.field-0.0 c.from_residual-in_err-count.result is c.in_err-count.ensures.told)
+    c.in_ok-later.ensures.holds)
+    (holds_stop g.S.Store _ _ (HasCount c.args.meeting) _ c.in_err-count.field-0.0 c.from_residual-in_err-count.result is c.in_err-count.ensures.holds)
 
-pub returns-in_err-resolutions-clause-told : goal.returns-in_err-resolutions-clause-told
-returns-in_err-resolutions-clause-told g c =
+pub returns-in_err-resolutions-clause-holds : goal.returns-in_err-resolutions-clause-holds
+returns-in_err-resolutions-clause-holds g c =
     let is : c.from_residual-in_err-resolutions.result ≡ Err c.in_err-resolutions.field-0.0 = search rules in
-    told_refused g.S.Store _ _ (λ office count. (IsRow c.args.meeting office c.in_ok-rows.rows × AreLater c.args.meeting office c.in_ok-later.later) × HasCount c.args.meeting office count) _ c.in_ok-count.count c.in_err-resolutions.field-0.0 c.from_residual-in_err-resolutions.result is
-    (told_both g.S.Store _ _ _ c.in_ok-later.later c.in_ok-count.count (λ office later. IsRow c.args.meeting office c.in_ok-rows.rows × AreLater c.args.meeting office later) (HasCount c.args.meeting)
-    (told_both g.S.Store _ _ _ c.in_ok-rows.rows c.in_ok-later.later (IsRow c.args.meeting) (AreLater c.args.meeting)
+    holds_refused g.S.Store _ _ (λ office count. (IsRow c.args.meeting office c.in_ok-rows.rows × AreLater c.args.meeting office c.in_ok-later.later) × HasCount c.args.meeting office count) _ c.in_ok-count.count c.in_err-resolutions.field-0.0 c.from_residual-in_err-resolutions.result is
+    (holds_both g.S.Store _ _ _ c.in_ok-later.later c.in_ok-count.count (λ office later. IsRow c.args.meeting office c.in_ok-rows.rows × AreLater c.args.meeting office later) (HasCount c.args.meeting)
+    (holds_both g.S.Store _ _ _ c.in_ok-rows.rows c.in_ok-later.later (IsRow c.args.meeting) (AreLater c.args.meeting)
     (found_told g.S.Store c.args.tx.now.conn.now c.named.new.tx.conn.now (λ v. v.items) table.meetings (λ flat. flat.meetings) (λ trees flat held. held.meetings) _ c.named.result c.named.ensures.rows c.named.ensures.changes
     _ c.in_ok-rows.ensures (IsRow c.args.meeting) (λ flat office of kept. meeting_row_so c.args.meeting flat office of))
-    c.in_ok-later.ensures.told)
-    c.in_ok-count.ensures.told)
+    c.in_ok-later.ensures.holds)
+    c.in_ok-count.ensures.holds)
     (λ office kept p. unread_tell c.args.meeting office c.in_ok-rows.rows c.in-Some.row c.in-Some.ensures p.0.0 c.in_ok-count.count p.1 {X = Option Meeting}
     (λ found. found ≡ option_map counted (option_map (λ (m : MeetingLists). m.meeting) (meeting_named office.meetings c.args.meeting))) c.in_err-resolutions.field-0.0 kept c.in_err-resolutions.ensures)
 
-pub returns-clause-told : goal.returns-clause-told
-returns-clause-told g c =
-    told_so g.S.Store _ _ (λ office count. (IsRow c.args.meeting office c.in_ok-rows.rows × AreLater c.args.meeting office c.in_ok-later.later) × HasCount c.args.meeting office count) _ c.in_ok-count.count _
-    (told_both g.S.Store _ _ _ c.in_ok-later.later c.in_ok-count.count (λ office later. IsRow c.args.meeting office c.in_ok-rows.rows × AreLater c.args.meeting office later) (HasCount c.args.meeting)
-    (told_both g.S.Store _ _ _ c.in_ok-rows.rows c.in_ok-later.later (IsRow c.args.meeting) (AreLater c.args.meeting)
+pub returns-clause-holds : goal.returns-clause-holds
+returns-clause-holds g c =
+    holds_so g.S.Store _ _ (λ office count. (IsRow c.args.meeting office c.in_ok-rows.rows × AreLater c.args.meeting office c.in_ok-later.later) × HasCount c.args.meeting office count) _ c.in_ok-count.count _
+    (holds_both g.S.Store _ _ _ c.in_ok-later.later c.in_ok-count.count (λ office later. IsRow c.args.meeting office c.in_ok-rows.rows × AreLater c.args.meeting office later) (HasCount c.args.meeting)
+    (holds_both g.S.Store _ _ _ c.in_ok-rows.rows c.in_ok-later.later (IsRow c.args.meeting) (AreLater c.args.meeting)
     (found_told g.S.Store c.args.tx.now.conn.now c.named.new.tx.conn.now (λ v. v.items) table.meetings (λ flat. flat.meetings) (λ trees flat held. held.meetings) _ c.named.result c.named.ensures.rows c.named.ensures.changes
     _ c.in_ok-rows.ensures (IsRow c.args.meeting) (λ flat office of kept. meeting_row_so c.args.meeting flat office of))
-    c.in_ok-later.ensures.told)
-    c.in_ok-count.ensures.told)
+    c.in_ok-later.ensures.holds)
+    c.in_ok-count.ensures.holds)
     (λ office kept p. ap (λ m. Some m) c.whole_meeting.ensures
     ∙ counted_so c.args.meeting office c.in_ok-rows.rows c.in-Some.row c.in-Some.ensures p.0.0 c.in_ok-count.count p.1 c.in_ok-later.later p.0.1 c.in_ok-resolutions.resolutions c.in_ok-resolutions.ensures)

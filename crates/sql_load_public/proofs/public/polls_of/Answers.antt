@@ -9,23 +9,23 @@ use Rattle.sql_schema.specs.Contents as table
 use Rattle.party_views.specs.Views.{polls_in}
 use Rattle.sql_load_public.proofs.FoundRecordLemmas.{items_told, yields_tell}
 use Rattle.sql_load_public.proofs.PublicRecordLemmas.{polls_rise, polls_so}
-use Rattle.sql_load_public.proofs.StoredOfficeLemmas.{told_so, told_stop}
+use Rattle.sql_load_public.proofs.StoredOfficeLemmas.{holds_so, holds_stop}
 use Rattle.sql_load_public.proofs.public.polls_of.Goals as goal
 
 -- the polls are the meeting's once they are in order
 abbrev ArePolls : List ℕ → OfficeLists → List Poll → Type 0
 ArePolls id office polls = sort_by poll_before polls ≡ polls_in (meeting_named office.meetings id)
 
-pub returns-in_err-rows-clause-told : goal.returns-in_err-rows-clause-told
-returns-in_err-rows-clause-told g c =
+pub returns-in_err-rows-clause-holds : goal.returns-in_err-rows-clause-holds
+returns-in_err-rows-clause-holds g c =
     let is : c.from_residual.result ≡ Err c.in_err-rows.field-0.0 = search rules in
-    told_stop g.S.Store _ _ (ArePolls c.args.meeting) _ c.in_err-rows.field-0.0 c.from_residual.result is
-    (items_told g.S.Store c.args.tx.now.conn.now c.of_meeting.new.tx.conn.now (λ v. v.items) table.polls (λ flat. flat.polls) (λ trees flat held. held.polls) _ c.of_meeting.result c.of_meeting.ensures.rows c.of_meeting.ensures.changes c.found.result c.found.ensures
+    holds_stop g.S.Store _ _ (ArePolls c.args.meeting) _ c.in_err-rows.field-0.0 c.from_residual.result is
+    (items_told g.S.Store c.args.tx.now.conn.now c.of_meeting.new.tx.conn.now (λ v. v.items) table.polls (λ flat. flat.polls) (λ trees flat held. held.polls) _ c.of_meeting.result c.of_meeting.ensures.rows c.of_meeting.ensures.changes c.records_found.result c.records_found.ensures
     (Err c.in_err-rows.field-0.0) c.in_err-rows.ensures (ArePolls c.args.meeting) (λ flat office of kept. polls_so c.args.meeting flat office of))
 
-pub returns-clause-told : goal.returns-clause-told
-returns-clause-told g c =
-    told_so g.S.Store _ _ (ArePolls c.args.meeting) _ c.in_ok-rows.rows c.poll_list.result
-    (items_told g.S.Store c.args.tx.now.conn.now c.of_meeting.new.tx.conn.now (λ v. v.items) table.polls (λ flat. flat.polls) (λ trees flat held. held.polls) _ c.of_meeting.result c.of_meeting.ensures.rows c.of_meeting.ensures.changes c.found.result c.found.ensures
+pub returns-clause-holds : goal.returns-clause-holds
+returns-clause-holds g c =
+    holds_so g.S.Store _ _ (ArePolls c.args.meeting) _ c.in_ok-rows.rows c.poll_list.result
+    (items_told g.S.Store c.args.tx.now.conn.now c.of_meeting.new.tx.conn.now (λ v. v.items) table.polls (λ flat. flat.polls) (λ trees flat held. held.polls) _ c.of_meeting.result c.of_meeting.ensures.rows c.of_meeting.ensures.changes c.records_found.result c.records_found.ensures
     _ c.in_ok-rows.ensures (ArePolls c.args.meeting) (λ flat office of kept. polls_so c.args.meeting flat office of))
     (λ office kept polls. yields_tell (ascends_by poll_before) c.poll_list.result (polls_in (meeting_named office.meetings c.args.meeting)) _ c.poll_list.ensures (ap (λ l. Some l) polls) (polls_rise office c.args.meeting kept))

@@ -7,7 +7,7 @@ use Rattle.sql_model.specs.Standing.{Stands}
 use Rattle.sql_schema.specs.Statements.{IsDesk}
 use Rattle.desk_store.specs.TableReads.{IsCallerWith}
 use Rattle.sql_open.proofs.CrashLemmas.{nothing_then}
-use Rattle.desk_store.proofs.JoinLemmas.{IsOver, asked_stands, asked_stop, desk_behind, desk_clean, leaves_behind, committed, itself_after, not_committed, survives_read, told_within}
+use Rattle.desk_store.proofs.JoinLemmas.{IsOver, asked_stands, asked_stop, desk_behind, desk_clean, leaves_behind, committed, itself_after, not_committed, survives_read, holds_within}
 use Rattle.desk_store.proofs.KeepingLemmas.{stands_same}
 use Rattle.desk_store.proofs.DeskReadLemmas.{error_of, mapped_failed, mapped_is, mapped_on}
 use Rattle.desk_store.proofs.desk.Desk.caller_of.Goals as goal
@@ -15,11 +15,11 @@ use Rattle.desk_store.proofs.desk.Desk.caller_of.Goals as goal
 pub returns-clause-found : goal.returns-clause-found
 returns-clause-found g c = λ clean office stands.
     let begun : c.transaction-tx.result.conn.now ≡ record c.ask_open.new.self { in_transaction = true } = search rules in
-    let within = told_within g.S.Store c.transaction-tx.result.conn.now c.read_caller.new.tx.conn.now c.read_caller.result (IsCallerWith c.args.key.now) c.read_caller.ensures.tells in
+    let within = holds_within g.S.Store c.transaction-tx.result.conn.now c.read_caller.new.tx.conn.now c.read_caller.result (IsCallerWith c.args.key.now) c.read_caller.ensures.holds in
     let opened = desk_clean g.S.Store c.ask_open.new.self c.transaction-tx.result.conn.now c.read_caller.new.tx.conn.now c.commit.new.self.0 begun within c.commit.ensures.ended c.commit.ensures.survives clean in
     let there = stands_same (state g.S.Store c.ask_open.new.self) (state g.S.Store c.transaction-tx.result.conn.now) office (ap (λ h. (state g.S.Store h).now) begun) (asked_stands g.S.Store c.args.self.now c.ask_open.new.self c.in_ok-ask_open.ensures.asked opened office stands) in
     let early : HasCleanDisk (state g.S.Store c.read_caller.new.tx.conn.now) = omega (arith, c.commit.ensures.survives.clean) in
-    mapped_is _ (IsCallerWith c.args.key.now office) c.read_caller.result c.map_err.result c.in_ok-found.found c.map_err.ensures.cases c.in_ok-found.was (c.read_caller.ensures.tells.told early office there)
+    mapped_is _ (IsCallerWith c.args.key.now office) c.read_caller.result c.map_err.result c.in_ok-found.found c.map_err.ensures.cases c.in_ok-found.was (c.read_caller.ensures.holds.holds early office there)
 
 pub returns-clause-crash : goal.returns-clause-crash
 returns-clause-crash g c = λ desk.
@@ -27,10 +27,10 @@ returns-clause-crash g c = λ desk.
     let first = state g.S.Store c.transaction-tx.result.conn.now in
     let mid = state g.S.Store c.read_caller.new.tx.conn.now in
     let begun : c.transaction-tx.result.conn.now ≡ record c.ask_open.new.self { in_transaction = true } = search rules in
-    let within = told_within g.S.Store c.transaction-tx.result.conn.now c.read_caller.new.tx.conn.now c.read_caller.result (IsCallerWith c.args.key.now) c.read_caller.ensures.tells in
+    let within = holds_within g.S.Store c.transaction-tx.result.conn.now c.read_caller.new.tx.conn.now c.read_caller.result (IsCallerWith c.args.key.now) c.read_caller.ensures.holds in
     let settled : IsTrue old.is_open → old.now ≡ old.committed = search rules in
     let same : IsDesk first → HasCleanDisk mid → IsUnchanged first mid = λ desk clean.
-    mapped_on {W = IsUnchanged first mid} _ c.read_caller.result c.map_err.result c.in_ok-found.found c.map_err.ensures.cases c.in_ok-found.was (c.read_caller.ensures.tells.same (clean, desk)) in
+    mapped_on {W = IsUnchanged first mid} _ c.read_caller.result c.map_err.result c.in_ok-found.found c.map_err.ensures.cases c.in_ok-found.was (c.read_caller.ensures.holds.same (clean, desk)) in
     nothing_then (state g.S.Store c.args.self.now) (state g.S.Store c.ask_open.new.self) (state g.S.Store c.commit.new.self.0) c.in_ok-ask_open.ensures.asked.crash (survives_read g.S.Store c.ask_open.new.self c.transaction-tx.result.conn.now c.read_caller.new.tx.conn.now c.commit.new.self.0 begun within c.commit.ensures.ended c.commit.ensures.survives g.met.S.Store.stays settled same (desk_behind g.S.Store c.args.self.now c.ask_open.new.self c.in_ok-ask_open.ensures.asked desk))
 
 pub returns-in_err-map_err-clause-crash : goal.returns-in_err-map_err-clause-crash
@@ -39,10 +39,10 @@ returns-in_err-map_err-clause-crash g c = λ desk.
     let first = state g.S.Store c.transaction-tx.result.conn.now in
     let mid = state g.S.Store c.read_caller.new.tx.conn.now in
     let begun : c.transaction-tx.result.conn.now ≡ record c.ask_open.new.self { in_transaction = true } = search rules in
-    let within = told_within g.S.Store c.transaction-tx.result.conn.now c.read_caller.new.tx.conn.now c.read_caller.result (IsCallerWith c.args.key.now) c.read_caller.ensures.tells in
+    let within = holds_within g.S.Store c.transaction-tx.result.conn.now c.read_caller.new.tx.conn.now c.read_caller.result (IsCallerWith c.args.key.now) c.read_caller.ensures.holds in
     let settled : IsTrue old.is_open → old.now ≡ old.committed = search rules in
     let same : IsDesk first → HasCleanDisk mid → IsUnchanged first mid = λ desk clean.
-    mapped_on {W = IsUnchanged first mid} _ c.read_caller.result c.map_err.result c.in_ok-found.found c.map_err.ensures.cases c.in_ok-found.was (c.read_caller.ensures.tells.same (clean, desk)) in
+    mapped_on {W = IsUnchanged first mid} _ c.read_caller.result c.map_err.result c.in_ok-found.found c.map_err.ensures.cases c.in_ok-found.was (c.read_caller.ensures.holds.same (clean, desk)) in
     nothing_then (state g.S.Store c.args.self.now) (state g.S.Store c.ask_open.new.self) (state g.S.Store c.commit.new.self.0) c.in_ok-ask_open.ensures.asked.crash (survives_read g.S.Store c.ask_open.new.self c.transaction-tx.result.conn.now c.read_caller.new.tx.conn.now c.commit.new.self.0 begun within c.commit.ensures.ended c.commit.ensures.survives g.met.S.Store.stays settled same (desk_behind g.S.Store c.args.self.now c.ask_open.new.self c.in_ok-ask_open.ensures.asked desk))
 
 pub returns-clause-settled : goal.returns-clause-settled
@@ -56,9 +56,9 @@ returns-clause-leaves g c =
     let mid = state g.S.Store c.read_caller.new.tx.conn.now in
     let end = state g.S.Store c.commit.new.self.0 in
     let begun : c.transaction-tx.result.conn.now ≡ record c.ask_open.new.self { in_transaction = true } = search rules in
-    let within = told_within g.S.Store c.transaction-tx.result.conn.now c.read_caller.new.tx.conn.now c.read_caller.result (IsCallerWith c.args.key.now) c.read_caller.ensures.tells in
+    let within = holds_within g.S.Store c.transaction-tx.result.conn.now c.read_caller.new.tx.conn.now c.read_caller.result (IsCallerWith c.args.key.now) c.read_caller.ensures.holds in
     let same : HasCleanDisk mid → (office : OfficeLists) → Stands first office → IsUnchanged first mid = λ clean office stands.
-    mapped_on {W = IsUnchanged first mid} _ c.read_caller.result c.map_err.result c.in_ok-found.found c.map_err.ensures.cases c.in_ok-found.was (c.read_caller.ensures.tells.same (clean, stands.desk)) in
+    mapped_on {W = IsUnchanged first mid} _ c.read_caller.result c.map_err.result c.in_ok-found.found c.map_err.ensures.cases c.in_ok-found.was (c.read_caller.ensures.holds.same (clean, stands.desk)) in
     let over : HasCleanDisk end → IsTrue mid.in_transaction × Shows mid end mid.now mid.now false × KeepsCounts mid end × (end.marks ≡ []) = λ clean. mapped_on {W = IsTrue mid.in_transaction × Shows mid end mid.now mid.now false × KeepsCounts mid end × (end.marks ≡ [])} _ c.commit.result c.map_err-2.result c.in_ok-map_err.field-0 c.map_err-2.ensures.cases c.in_ok-map_err.was (c.commit.ensures.ok clean) in
     leaves_behind g.S.Store c.args.self.now c.ask_open.new.self c.in_ok-ask_open.ensures.asked None c.commit.new.self.0
     (committed g.S.Store c.ask_open.new.self c.transaction-tx.result.conn.now c.read_caller.new.tx.conn.now c.commit.new.self.0 begun within c.commit.ensures.ended c.commit.ensures.survives None (λ clean. (over clean).1)
@@ -71,9 +71,9 @@ returns-in_err-map_err-clause-leaves g c =
     let mid = state g.S.Store c.read_caller.new.tx.conn.now in
     let end = state g.S.Store c.commit.new.self.0 in
     let begun : c.transaction-tx.result.conn.now ≡ record c.ask_open.new.self { in_transaction = true } = search rules in
-    let within = told_within g.S.Store c.transaction-tx.result.conn.now c.read_caller.new.tx.conn.now c.read_caller.result (IsCallerWith c.args.key.now) c.read_caller.ensures.tells in
+    let within = holds_within g.S.Store c.transaction-tx.result.conn.now c.read_caller.new.tx.conn.now c.read_caller.result (IsCallerWith c.args.key.now) c.read_caller.ensures.holds in
     let same : HasCleanDisk mid → (office : OfficeLists) → Stands first office → IsUnchanged first mid = λ clean office stands.
-    mapped_on {W = IsUnchanged first mid} _ c.read_caller.result c.map_err.result c.in_ok-found.found c.map_err.ensures.cases c.in_ok-found.was (c.read_caller.ensures.tells.same (clean, stands.desk)) in
+    mapped_on {W = IsUnchanged first mid} _ c.read_caller.result c.map_err.result c.in_ok-found.found c.map_err.ensures.cases c.in_ok-found.was (c.read_caller.ensures.holds.same (clean, stands.desk)) in
     let settled : IsTrue old.is_open → old.now ≡ old.committed = search rules in
     let began : IsTrue first.in_transaction = ap (λ h. (state g.S.Store h).in_transaction) begun in
     let failed = mapped_failed _ c.commit.result c.map_err-2.result c.map_err-2.ensures.cases c.in_err-map_err.was in

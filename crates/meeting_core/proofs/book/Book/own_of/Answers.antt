@@ -11,7 +11,7 @@ use Rattle.party_views.specs.OwnViews.{own_from}
 use Rattle.party_views.specs.Public.{PublicRecord}
 use Rattle.party_views.specs.PartyRows.{rows_in}
 use Rattle.party_views.specs.Views.{own_in_some, own_of}
-use Rattle.party_views.specs.declared.rows.OwnRows.{OwnRows}
+use Rattle.party_views.specs.declared.own_rows.OwnRows.{OwnRows}
 use Rattle.party_views.specs.declared.views.OwnView.{OwnView}
 use Rattle.meeting_core.proofs.CoreFoundLemmas.{found_ascends}
 use Rattle.meeting_core.proofs.book.Book.own_of.Goals as goal

@@ -1,0 +1,6 @@
+use Rattle.desk_words.specs.declared.records.Authority.{Authority}
+use Rattle.proxy_rules.proofs.ProxyNameLemmas.{found-named}
+use Rattle.party_rows.proofs.party_records.trusting.Goals as goal
+
+pub returns : goal.returns
+returns c = found-named (λ (x : Authority). x.person) c.args.party c.args.authorities.now c.by_second.result c.by_second.ensures

@@ -1,0 +1,169 @@
+//! A party's own things, from its rows in a meeting and the public record of the meeting.
+ghost use Rattle.std.specs.Prelude.{◌≡◌, IfOk};
+ghost use Rattle.desk_words.specs.declared.office.MeetingLists.{MeetingLists};
+ghost use Rattle.party_views.specs.OwnViews.{nothing_of, own_by, own_from};
+ghost use Rattle.party_views.specs.RowsRead.{own_read, polls_on, polls_read, rows_read};
+ghost use Rattle.party_views.specs.PartyRows.{rows_of};
+ghost use Rattle.party_views.specs.Views.{own_in, public_in};
+ghost use Rattle.party_views.specs.declared.own_rows.OwnRows.{OwnRows};
+
+use crate::given::{authorised_from, given_from};
+use crate::governed::received_from;
+use crate::own_rows::OwnRows;
+use crate::reads::{Reads, reads_of};
+use crate::views::{OwnView, PublicRecord};
+use desk_words::{Listing, Meeting, Moment, Party, PartyRequest, Poll};
+use office_days::Closed;
+use std::alloc::{AllocError, Global};
+
+/// The own things of a party where there is no meeting.
+fn nothing_of(alloc: Global, party: Party) -> OwnView
+    ensures { result ≡ nothing_of party }
+{
+    OwnView {
+        party,
+        row: None,
+        given: Listing::new(alloc),
+        persons: Listing::new(alloc),
+        received: Listing::new(alloc),
+        authorised: Listing::new(alloc),
+        presences: Listing::new(alloc),
+        demands: Listing::new(alloc),
+        casts: Listing::new(alloc),
+    }
+}
+
+/// The own things of a party in a meeting, by the closed days and by these polls.
+fn own_by(
+    alloc: Global,
+    rows: OwnRows,
+    closed: &Closed,
+    meeting: &Meeting,
+    polls: &[Poll],
+    now: Moment,
+) -> Result<OwnView, AllocError>
+    ensures { IfOk result (λ own. own ≡ own_by rows closed.now meeting.now polls.now now) }
+{
+    let OwnRows {
+        party,
+        row,
+        given,
+        ended,
+        persons,
+        received,
+        members,
+        authorised,
+        presences,
+        demands,
+        casts,
+    } = rows;
+    let members = members.as_slice();
+    let received = received_from(alloc, received, members, closed, meeting, polls, now)?;
+    let authorised = authorised_from(alloc, authorised.as_slice())?;
+    Ok(OwnView {
+        party,
+        row,
+        given: given_from(alloc, given, ended.as_slice())?,
+        persons,
+        received,
+        authorised: Listing::from_vec(authorised),
+        presences,
+        demands,
+        casts,
+    })
+}
+
+/// The own things of a party at a moment, from its rows in a meeting and the public record of the
+/// meeting: by the closed days as they stand, and, where the record has no meeting, its own name
+/// alone. Of every meeting whose rows and public record it is given these are the party's own
+/// things there. Rows are taken as they are; an appointment of a holding such as no office keeps
+/// governs nothing. They are moved into the own things. The error is want of memory.
+pub fn own_from(
+    alloc: Global,
+    rows: OwnRows,
+    public: &PublicRecord,
+    now: Moment,
+) -> Result<OwnView, AllocError>
+    ensures value { IfOk result (λ own. own ≡ own_from rows public.now now) }
+    ensures of_every_meeting { (m : MeetingLists) → rows ≡ rows_of m rows.party
+        → public.now ≡ public_in (Some m) public.now.closed
+        → IfOk result (λ own. own ≡ own_in m public.now.closed rows.party now) }
+{
+    match public.meeting {
+        Some(meeting) => {
+            let polls = public.polls;
+            own_by(alloc, rows, public.closed, meeting, polls, now)
+        }
+        None => Ok(nothing_of(alloc, rows.party)),
+    }
+}
+
+/// The poll on a resolution, as a list.
+fn polls_on(alloc: Global, polls: &[Poll], resolution: u64) -> Result<Vec<Poll>, AllocError>
+    ensures { IfOk result (λ on. on.items ≡ polls_on resolution polls.now) }
+{
+    polls
+        .iter()
+        .copied()
+        .filter(|poll| poll.resolution == resolution)
+        .collect(alloc)
+}
+
+/// The own things, with what appointments govern for the poll on a resolution alone.
+fn own_on(
+    alloc: Global,
+    rows: OwnRows,
+    public: &PublicRecord,
+    meeting: &Meeting,
+    now: Moment,
+    resolution: u64,
+) -> Result<OwnView, AllocError>
+    ensures { IfOk result (λ own. own
+        ≡ own_by rows public.now.closed meeting.now
+        (polls_on resolution public.now.polls) now) }
+{
+    let polls = polls_on(alloc, public.polls, resolution)?;
+    own_by(alloc, rows, public.closed, meeting, polls.as_slice(), now)
+}
+
+/// The own things of a party, by the polls for which the answer to a request reads them.
+fn own_asked(
+    alloc: Global,
+    rows: OwnRows,
+    public: &PublicRecord,
+    meeting: &Meeting,
+    now: Moment,
+    asked: &PartyRequest,
+) -> Result<OwnView, AllocError>
+    ensures { IfOk result (λ own. own
+        ≡ own_by rows public.now.closed meeting.now
+        (polls_read asked.now public.now.polls) now) }
+{
+    match reads_of(asked) {
+        Reads::Vote(new) => own_on(alloc, rows, public, meeting, now, new.resolution),
+        Reads::AsInstructed(number) => own_on(alloc, rows, public, meeting, now, number),
+        _ => {
+            let polls = public.polls;
+            own_by(alloc, rows, public.closed, meeting, polls, now)
+        }
+    }
+}
+
+/// Those of the own things of a party at a moment that the answer to a request reads, and nothing
+/// in place of the others, from those of its rows that they are made of, which are moved into them.
+/// The error is want of memory.
+pub fn own_for(
+    alloc: Global,
+    rows: OwnRows,
+    public: &PublicRecord,
+    now: Moment,
+    asked: &PartyRequest,
+) -> Result<OwnView, AllocError>
+    ensures { IfOk result (λ own. (all : OwnRows) → rows ≡ rows_read asked.now all
+        → own ≡ own_read asked.now (own_from all public.now now)) }
+{
+    match public.meeting {
+        Some(meeting) => own_asked(alloc, rows, public, meeting, now, asked),
+        None => Ok(nothing_of(alloc, rows.party)),
+    }
+}

@@ -1,0 +1,16 @@
+use Rattle.std.proofs.Common.{◌≡◌, Err, rules}
+use Rattle.row_source.proofs.SourceLookUpLemmas.{holds_after, holds_both, holds_so}
+use Rattle.row_source.proofs.needed_rows.for_rep.Goals as goal
+
+pub returns-in_err-rows : goal.returns-in_err-rows
+returns-in_err-rows g c =
+    let w = g.met.R.RowSource in
+    let is : c.from_residual-in_err-rows.result ≡ Err c.in_err-rows.field-0.0 = search rules in
+    holds_after _ _ _ _ _ w.still_shows w.was_trusted w.keeps_then w.leaves_then _ _ _ c.in_ok-authorised.authorised c.in_err-rows.field-0.0 _ _ _ _ is
+    c.in_ok-authorised.ensures c.in_err-rows.ensures
+
+pub returns : goal.returns
+returns g c =
+    let w = g.met.R.RowSource in
+    holds_so _ _ _ _ _ _ _ c.in_ok-rows.rows _ _ _ (holds_both _ _ _ _ _ w.still_shows w.was_trusted w.keeps_then w.leaves_then _ _ _ c.in_ok-authorised.authorised c.in_ok-rows.rows _ _ c.in_ok-authorised.ensures c.in_ok-rows.ensures)
+    (λ found p. (λ i. record (p.1 i) { authorised = p.0 i }))

@@ -1,0 +1,289 @@
+//! The records of a party in a meeting, each looked up by the names that its row has.
+ghost use Rattle.std.specs.Prelude.{◌≡◌, MatchResult, filter, map};
+ghost use Rattle.desk_words.specs.declared.records.PresenceMark.{PresenceMark};
+ghost use Rattle.sql_assemble.specs.declared.fault.LoadError.TheVariants.{Memory};
+ghost use Rattle.proxy_rules.specs.Holdings.{is_ended_of, is_given_by};
+ghost use Rattle.proxy_rules.specs.Parties.{authorises, is_authority_of, is_cast_by, is_demanded_by, is_presence_of, names};
+ghost use Rattle.proxy_rules.specs.Shares.{row_of};
+ghost use Rattle.party_views.specs.RowsRead.{cast_on};
+ghost use Rattle.party_views.specs.PartyRows.{presences_of};
+ghost use Rattle.party_views.specs.Views.{meeting_at};
+ghost use Rattle.row_source.specs.LookUps.{appointments_in, authorities_in, casts_by, casts_in, naming_by_in, trusting_for_in};
+ghost use Rattle.row_source.specs.LookUps.{demands_in, endings_in, presences_in, register_in};
+ghost use Rattle.sql_load_public.specs.TableLookUps.{HoldsOfStoredOffice};
+
+use desk_words::{
+    Appointment, Authority, CastMark, DemandMark, Ending, Listing, MeetingId, Party, PresenceMark,
+    RegisterRow,
+};
+use sql_assemble::LoadError;
+use sql_load_public::query_records::{first, items, records_found};
+use sql_queries::{appointments, authorities, casts, demands, endings, presences, register};
+use sqlite::{Alter, Transaction};
+use std::alloc::Global;
+
+/// A member's row in the register (section 113), if it has one.
+pub(crate) fn row_of<S: Alter>(
+    tx: &mut Transaction<'_, S>,
+    alloc: Global,
+    meeting: MeetingId,
+    member: Party,
+) -> Result<Option<RegisterRow>, LoadError>
+    ensures same_reference { tx.new.conn.ghost_name ≡ tx.old.conn.ghost_name }
+    ensures holds { HoldsOfStoredOffice S.Store tx.old.conn.now tx.new.conn.now result
+        (λ office row. row ≡ row_of (register_in (meeting_at office meeting)) member) }
+{
+    let rows = items(
+        alloc,
+        records_found(alloc, register::of_member(tx, meeting, member)),
+    )?;
+    Ok(first(rows))
+}
+
+/// The appointments that a member gave (section 324), in order of receipt.
+pub(crate) fn given_by<S: Alter>(
+    tx: &mut Transaction<'_, S>,
+    alloc: Global,
+    meeting: MeetingId,
+    member: Party,
+) -> Result<Listing<Appointment>, LoadError>
+    ensures same_reference { tx.new.conn.ghost_name ≡ tx.old.conn.ghost_name }
+    ensures holds { HoldsOfStoredOffice S.Store tx.old.conn.now tx.new.conn.now result
+        (λ office given. given
+        ≡ filter (is_given_by member) (appointments_in (meeting_at office meeting))) }
+{
+    items(
+        alloc,
+        records_found(alloc, appointments::given_by(tx, meeting, member)),
+    )
+}
+
+/// The appointments that name a party as their proxy (section 324), in order of receipt.
+pub(crate) fn naming<S: Alter>(
+    tx: &mut Transaction<'_, S>,
+    alloc: Global,
+    meeting: MeetingId,
+    party: Party,
+) -> Result<Listing<Appointment>, LoadError>
+    ensures same_reference { tx.new.conn.ghost_name ≡ tx.old.conn.ghost_name }
+    ensures holds { HoldsOfStoredOffice S.Store tx.old.conn.now tx.new.conn.now result
+        (λ office received. received
+        ≡ filter (names party) (appointments_in (meeting_at office meeting))) }
+{
+    items(
+        alloc,
+        records_found(alloc, appointments::naming(tx, meeting, party)),
+    )
+}
+
+/// Those of the appointments that name a party.
+fn naming_among(given: Listing<Appointment>, party: Party) -> Listing<Appointment>
+    ensures { result ≡ filter (names party) given }
+{
+    let mut found = given.into_vec();
+    found.retain(|appointment| appointment.proxy.is(party));
+    Listing::from_vec(found)
+}
+
+/// Those of them that a member gave. They are chosen among all that the member gave, which are few:
+/// of two indexes that serve a statement with both names it is not known which one is taken.
+pub(crate) fn naming_by<S: Alter>(
+    tx: &mut Transaction<'_, S>,
+    alloc: Global,
+    meeting: MeetingId,
+    member: Party,
+    party: Party,
+) -> Result<Listing<Appointment>, LoadError>
+    ensures same_reference { tx.new.conn.ghost_name ≡ tx.old.conn.ghost_name }
+    ensures holds { HoldsOfStoredOffice S.Store tx.old.conn.now tx.new.conn.now result
+        (λ office received. received ≡ naming_by_in (meeting_at office meeting) member party) }
+{
+    let given = given_by(tx, alloc, meeting, member)?;
+    Ok(naming_among(given, party))
+}
+
+/// A member's endings of its appointments (section 330), in order of receipt.
+pub(crate) fn ended_by<S: Alter>(
+    tx: &mut Transaction<'_, S>,
+    alloc: Global,
+    meeting: MeetingId,
+    member: Party,
+) -> Result<Listing<Ending>, LoadError>
+    ensures same_reference { tx.new.conn.ghost_name ≡ tx.old.conn.ghost_name }
+    ensures holds { HoldsOfStoredOffice S.Store tx.old.conn.now tx.new.conn.now result
+        (λ office ended. ended
+        ≡ filter (is_ended_of member) (endings_in (meeting_at office meeting))) }
+{
+    items(
+        alloc,
+        records_found(alloc, endings::made_by(tx, meeting, member)),
+    )
+}
+
+/// The authorities that a party gave (section 323), in order of receipt.
+pub(crate) fn persons_of<S: Alter>(
+    tx: &mut Transaction<'_, S>,
+    alloc: Global,
+    meeting: MeetingId,
+    party: Party,
+) -> Result<Listing<Authority>, LoadError>
+    ensures same_reference { tx.new.conn.ghost_name ≡ tx.old.conn.ghost_name }
+    ensures holds { HoldsOfStoredOffice S.Store tx.old.conn.now tx.new.conn.now result
+        (λ office persons. persons
+        ≡ filter (is_authority_of party) (authorities_in (meeting_at office meeting))) }
+{
+    items(
+        alloc,
+        records_found(alloc, authorities::given_by(tx, meeting, party)),
+    )
+}
+
+/// The authorities that were given to a party (section 323), in order of receipt.
+pub(crate) fn trusting<S: Alter>(
+    tx: &mut Transaction<'_, S>,
+    alloc: Global,
+    meeting: MeetingId,
+    party: Party,
+) -> Result<Listing<Authority>, LoadError>
+    ensures same_reference { tx.new.conn.ghost_name ≡ tx.old.conn.ghost_name }
+    ensures holds { HoldsOfStoredOffice S.Store tx.old.conn.now tx.new.conn.now result
+        (λ office given. given
+        ≡ filter (authorises party) (authorities_in (meeting_at office meeting))) }
+{
+    items(
+        alloc,
+        records_found(alloc, authorities::naming(tx, meeting, party)),
+    )
+}
+
+/// Those of them that a corporation gave.
+pub(crate) fn trusting_for<S: Alter>(
+    tx: &mut Transaction<'_, S>,
+    alloc: Global,
+    meeting: MeetingId,
+    corporation: Party,
+    party: Party,
+) -> Result<Listing<Authority>, LoadError>
+    ensures same_reference { tx.new.conn.ghost_name ≡ tx.old.conn.ghost_name }
+    ensures holds { HoldsOfStoredOffice S.Store tx.old.conn.now tx.new.conn.now result
+        (λ office given. given ≡ trusting_for_in (meeting_at office meeting) corporation party) }
+{
+    items(
+        alloc,
+        records_found(
+            alloc,
+            authorities::naming_by(tx, meeting, corporation, party),
+        ),
+    )
+}
+
+/// The marks of a party's presence (section 318), in order of receipt.
+fn marks_of<S: Alter>(
+    tx: &mut Transaction<'_, S>,
+    alloc: Global,
+    meeting: MeetingId,
+    party: Party,
+) -> Result<Listing<PresenceMark>, LoadError>
+    ensures same_reference { tx.new.conn.ghost_name ≡ tx.old.conn.ghost_name }
+    ensures holds { HoldsOfStoredOffice S.Store tx.old.conn.now tx.new.conn.now result
+        (λ office marks. marks
+        ≡ filter (is_presence_of party) (presences_in (meeting_at office meeting))) }
+{
+    items(
+        alloc,
+        records_found(alloc, presences::of_party(tx, meeting, party)),
+    )
+}
+
+/// The sessions of these marks. The fault is want of memory.
+fn sessions_of(alloc: Global, marks: &[PresenceMark]) -> Result<Listing<u64>, LoadError>
+    ensures { MatchResult result
+        (λ sessions. sessions ≡ map (λ (mark : PresenceMark). mark.session) marks.now)
+        (λ fault. fault ≡ Memory) }
+{
+    let sessions: Vec<u64> = marks.iter().map(|mark| mark.session).collect(alloc)?;
+    Ok(Listing::from_vec(sessions))
+}
+
+/// The sessions in which a party is marked present (section 318), in order of receipt.
+pub(crate) fn presences_of<S: Alter>(
+    tx: &mut Transaction<'_, S>,
+    alloc: Global,
+    meeting: MeetingId,
+    party: Party,
+) -> Result<Listing<u64>, LoadError>
+    ensures same_reference { tx.new.conn.ghost_name ≡ tx.old.conn.ghost_name }
+    ensures holds { HoldsOfStoredOffice S.Store tx.old.conn.now tx.new.conn.now result
+        (λ office sessions. sessions
+        ≡ presences_of party (presences_in (meeting_at office meeting))) }
+{
+    let marks = marks_of(tx, alloc, meeting, party)?;
+    sessions_of(alloc, marks.as_slice())
+}
+
+/// The polls that a party demanded (sections 321 and 329), in order of receipt.
+pub(crate) fn demands_of<S: Alter>(
+    tx: &mut Transaction<'_, S>,
+    alloc: Global,
+    meeting: MeetingId,
+    party: Party,
+) -> Result<Listing<DemandMark>, LoadError>
+    ensures same_reference { tx.new.conn.ghost_name ≡ tx.old.conn.ghost_name }
+    ensures holds { HoldsOfStoredOffice S.Store tx.old.conn.now tx.new.conn.now result
+        (λ office demands. demands
+        ≡ filter (is_demanded_by party) (demands_in (meeting_at office meeting))) }
+{
+    items(
+        alloc,
+        records_found(alloc, demands::made_by(tx, meeting, party)),
+    )
+}
+
+/// The votes that a party cast (sections 284 and 322), in order of receipt.
+pub(crate) fn casts_of<S: Alter>(
+    tx: &mut Transaction<'_, S>,
+    alloc: Global,
+    meeting: MeetingId,
+    party: Party,
+) -> Result<Listing<CastMark>, LoadError>
+    ensures same_reference { tx.new.conn.ghost_name ≡ tx.old.conn.ghost_name }
+    ensures holds { HoldsOfStoredOffice S.Store tx.old.conn.now tx.new.conn.now result
+        (λ office casts. casts ≡ filter (is_cast_by party) (casts_in (meeting_at office meeting))) }
+{
+    items(
+        alloc,
+        records_found(alloc, casts::cast_by(tx, meeting, party)),
+    )
+}
+
+/// The votes on a resolution among these.
+fn among(casts: Listing<CastMark>, resolution: u64) -> Listing<CastMark>
+    ensures { result ≡ cast_on resolution casts }
+{
+    let mut found = casts.into_vec();
+    found.retain(|cast| cast.resolution == resolution);
+    Listing::from_vec(found)
+}
+
+/// The votes that a party cast on a resolution, in order of receipt. A number past those that a
+/// column holds is looked for among all of its votes.
+pub(crate) fn casts_on<S: Alter>(
+    tx: &mut Transaction<'_, S>,
+    alloc: Global,
+    meeting: MeetingId,
+    party: Party,
+    resolution: u64,
+) -> Result<Listing<CastMark>, LoadError>
+    ensures same_reference { tx.new.conn.ghost_name ≡ tx.old.conn.ghost_name }
+    ensures holds { HoldsOfStoredOffice S.Store tx.old.conn.now tx.new.conn.now result
+        (λ office casts. casts ≡ cast_on resolution (casts_by (meeting_at office meeting) party)) }
+{
+    if resolution >= 1 << 63 {
+        let casts = casts_of(tx, alloc, meeting, party)?;
+        return Ok(among(casts, resolution));
+    }
+    items(
+        alloc,
+        records_found(alloc, casts::cast_on(tx, meeting, party, resolution)),
+    )
+}

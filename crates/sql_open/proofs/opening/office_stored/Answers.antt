@@ -1,0 +1,102 @@
+use Rattle.std.proofs.Common.{Err, arith, ap, sym, subst}
+use Rattle.std.proofs.lemmas.Result.{err_from_is_err_and}
+use Rattle.sqlite.specs.Effect.{Database}
+use Rattle.sqlite.specs.Held.{state}
+use Rattle.sql_open.specs.Rising.{Rise}
+use Rattle.sql_open.specs.declared.fault.OpenFault.{OpenFault}
+use Rattle.sql_open.specs.declared.version.KnownVersion.TheVariants.{One, Two}
+use Rattle.sql_open.proofs.OpenedKeptLemmas.{are_as_told, are_if_noted, kept_cause, kept_known, kept_rows, kept_stands, kept_whole, survives_as_is, survives_moved, version_cause}
+use Rattle.sql_open.proofs.RisingLemmas.{are_noted}
+use Rattle.sql_open.proofs.WholeLemmas.{notes_so}
+use Rattle.sql_open.proofs.opening.office_stored.Goals as goal
+
+pub returns-in_err-judge_version-clause-cause : goal.returns-in_err-judge_version-clause-cause
+returns-in_err-judge_version-clause-cause g c =
+    let fault = c.in_err-judge_version.field-0.0 in
+    let p = err_from_is_err_and c.from_residual.result c.from_residual.ensures.1 in
+    rw (p.1, p.2)
+    (version_cause g.S.Store c.args.conn.now c.judge_version.new.conn fault c.schema.ensures.live (λ clean. c.requires.rising (omega (arith, c.judge_version.ensures.crash.clean, clean))) c.in_err-judge_version.ensures.cause
+    (λ clean e. c.in_err-judge_version.ensures.newer clean (ap (λ (x : OpenFault). Err x) e)) c.in_err-judge_version.ensures.was_open)
+
+pub moved_office-requires-clause-rising : goal.moved_office-requires-clause-rising
+moved_office-requires-clause-rising g c = λ clean is_open.
+    let same = c.judge_version.ensures.same clean is_open in
+    subst (λ (d : Database). Rise d.schema d.trees) (sym same.1) (c.requires.rising (omega (arith, c.judge_version.ensures.crash.clean, clean)))
+
+pub office_as_is-requires-clause-rising : goal.office_as_is-requires-clause-rising
+office_as_is-requires-clause-rising g c = λ clean is_open.
+    let same = c.judge_version.ensures.same clean is_open in
+    subst (λ (d : Database). Rise d.schema d.trees) (sym same.1) (c.requires.rising (omega (arith, c.judge_version.ensures.crash.clean, clean)))
+
+pub returns-in-One-clause-stands : goal.returns-in-One-clause-stands
+returns-in-One-clause-stands g c =
+    kept_stands g.S.Store One c.args.conn.now c.judge_version.new.conn c.moved_office.new.conn c.schema.ensures.live c.judge_version.ensures.same (λ clean. omega (arith, c.moved_office.ensures.crash.clean, clean))
+    (λ clean notes. (rw c.in-One.is at c.in_ok-judge_version.ensures.noted) clean (are_noted (state g.S.Store c.args.conn.now) notes (c.requires.rising (omega (arith, c.judge_version.ensures.crash.clean, clean))))) (rw c.in-One.is at c.in_ok-judge_version.ensures.shown)
+    c.moved_office.result _ c.moved_office.ensures.stands c.moved_office.ensures.opened
+
+pub returns-in-One-clause-whole : goal.returns-in-One-clause-whole
+returns-in-One-clause-whole g c =
+    kept_whole g.S.Store One c.args.conn.now c.judge_version.new.conn c.moved_office.new.conn c.schema.ensures.live c.judge_version.ensures.same (λ clean. omega (arith, c.moved_office.ensures.crash.clean, clean))
+    (λ clean notes. (rw c.in-One.is at c.in_ok-judge_version.ensures.noted) clean (are_noted (state g.S.Store c.args.conn.now) notes (c.requires.rising (omega (arith, c.judge_version.ensures.crash.clean, clean))))) (rw c.in-One.is at c.in_ok-judge_version.ensures.shown)
+    c.moved_office.result _ c.moved_office.ensures.stands c.moved_office.ensures.opened
+
+pub returns-in-One-clause-known : goal.returns-in-One-clause-known
+returns-in-One-clause-known g c =
+    kept_known g.S.Store One c.args.conn.now c.judge_version.new.conn c.moved_office.new.conn c.schema.ensures.live c.judge_version.ensures.same (λ clean. omega (arith, c.moved_office.ensures.crash.clean, clean))
+    (λ clean notes. (rw c.in-One.is at c.in_ok-judge_version.ensures.noted) clean (are_noted (state g.S.Store c.args.conn.now) notes (c.requires.rising (omega (arith, c.judge_version.ensures.crash.clean, clean))))) (rw c.in-One.is at c.in_ok-judge_version.ensures.shown)
+    c.moved_office.result _ c.moved_office.ensures.opened
+    (λ clean is_open are made. are_if_noted g.S.Store One c.args.conn.now c.judge_version.new.conn c.moved_office.new.conn c.schema.ensures.live c.judge_version.ensures.same (λ clean. omega (arith, c.moved_office.ensures.crash.clean, clean))
+    (λ clean notes. (rw c.in-One.is at c.in_ok-judge_version.ensures.noted) clean (are_noted (state g.S.Store c.args.conn.now) notes (c.requires.rising (omega (arith, c.judge_version.ensures.crash.clean, clean))))) (rw c.in-One.is at c.in_ok-judge_version.ensures.shown) clean is_open are (notes_so One _ made) made)
+
+pub returns-in-One-clause-cause : goal.returns-in-One-clause-cause
+returns-in-One-clause-cause g c =
+    kept_cause g.S.Store One c.args.conn.now c.judge_version.new.conn c.moved_office.new.conn c.schema.ensures.live c.judge_version.ensures.same (λ clean. omega (arith, c.moved_office.ensures.crash.clean, clean))
+    (λ clean notes. (rw c.in-One.is at c.in_ok-judge_version.ensures.noted) clean (are_noted (state g.S.Store c.args.conn.now) notes (c.requires.rising (omega (arith, c.judge_version.ensures.crash.clean, clean))))) (rw c.in-One.is at c.in_ok-judge_version.ensures.shown)
+    c.moved_office.result c.moved_office.ensures.cause c.moved_office.ensures.other
+
+pub returns-in-One-clause-kept : goal.returns-in-One-clause-kept
+returns-in-One-clause-kept g c =
+    kept_rows g.S.Store One c.args.conn.now c.judge_version.new.conn c.moved_office.new.conn c.schema.ensures.live c.judge_version.ensures.same (λ clean. omega (arith, c.moved_office.ensures.crash.clean, clean))
+    (λ clean notes. (rw c.in-One.is at c.in_ok-judge_version.ensures.noted) clean (are_noted (state g.S.Store c.args.conn.now) notes (c.requires.rising (omega (arith, c.judge_version.ensures.crash.clean, clean))))) (rw c.in-One.is at c.in_ok-judge_version.ensures.shown)
+    c.moved_office.result c.moved_office.ensures.kept
+
+pub returns-in-One-clause-crash : goal.returns-in-One-clause-crash
+returns-in-One-clause-crash g c =
+    survives_moved g.S.Store c.args.conn.now c.judge_version.new.conn c.moved_office.new.conn c.judge_version.ensures.crash c.judge_version.ensures.same
+    (λ clean notes. (rw c.in-One.is at c.in_ok-judge_version.ensures.noted) clean (are_noted (state g.S.Store c.args.conn.now) notes (c.requires.rising (omega (arith, c.judge_version.ensures.crash.clean, clean))))) (rw c.in-One.is at c.in_ok-judge_version.ensures.shown) c.moved_office.ensures.crash
+
+pub returns-in-Two-clause-stands : goal.returns-in-Two-clause-stands
+returns-in-Two-clause-stands g c =
+    kept_stands g.S.Store Two c.args.conn.now c.judge_version.new.conn c.office_as_is.new.conn c.schema.ensures.live c.judge_version.ensures.same (λ clean. omega (arith, c.office_as_is.ensures.crash.clean, clean))
+    (λ clean notes. (rw c.in-Two.is at c.in_ok-judge_version.ensures.noted) clean (are_noted (state g.S.Store c.args.conn.now) notes (c.requires.rising (omega (arith, c.judge_version.ensures.crash.clean, clean))))) (rw c.in-Two.is at c.in_ok-judge_version.ensures.shown)
+    c.office_as_is.result _ c.office_as_is.ensures.stands c.office_as_is.ensures.opened
+
+pub returns-in-Two-clause-whole : goal.returns-in-Two-clause-whole
+returns-in-Two-clause-whole g c =
+    kept_whole g.S.Store Two c.args.conn.now c.judge_version.new.conn c.office_as_is.new.conn c.schema.ensures.live c.judge_version.ensures.same (λ clean. omega (arith, c.office_as_is.ensures.crash.clean, clean))
+    (λ clean notes. (rw c.in-Two.is at c.in_ok-judge_version.ensures.noted) clean (are_noted (state g.S.Store c.args.conn.now) notes (c.requires.rising (omega (arith, c.judge_version.ensures.crash.clean, clean))))) (rw c.in-Two.is at c.in_ok-judge_version.ensures.shown)
+    c.office_as_is.result _ c.office_as_is.ensures.stands c.office_as_is.ensures.opened
+
+pub returns-in-Two-clause-known : goal.returns-in-Two-clause-known
+returns-in-Two-clause-known g c =
+    kept_known g.S.Store Two c.args.conn.now c.judge_version.new.conn c.office_as_is.new.conn c.schema.ensures.live c.judge_version.ensures.same (λ clean. omega (arith, c.office_as_is.ensures.crash.clean, clean))
+    (λ clean notes. (rw c.in-Two.is at c.in_ok-judge_version.ensures.noted) clean (are_noted (state g.S.Store c.args.conn.now) notes (c.requires.rising (omega (arith, c.judge_version.ensures.crash.clean, clean))))) (rw c.in-Two.is at c.in_ok-judge_version.ensures.shown)
+    c.office_as_is.result _ c.office_as_is.ensures.opened
+    (λ clean is_open are. are_as_told g.S.Store Two c.args.conn.now c.judge_version.new.conn c.office_as_is.new.conn c.schema.ensures.live c.judge_version.ensures.same (λ clean. omega (arith, c.office_as_is.ensures.crash.clean, clean))
+    (λ clean notes. (rw c.in-Two.is at c.in_ok-judge_version.ensures.noted) clean (are_noted (state g.S.Store c.args.conn.now) notes (c.requires.rising (omega (arith, c.judge_version.ensures.crash.clean, clean))))) (rw c.in-Two.is at c.in_ok-judge_version.ensures.shown) clean is_open are)
+
+pub returns-in-Two-clause-cause : goal.returns-in-Two-clause-cause
+returns-in-Two-clause-cause g c =
+    kept_cause g.S.Store Two c.args.conn.now c.judge_version.new.conn c.office_as_is.new.conn c.schema.ensures.live c.judge_version.ensures.same (λ clean. omega (arith, c.office_as_is.ensures.crash.clean, clean))
+    (λ clean notes. (rw c.in-Two.is at c.in_ok-judge_version.ensures.noted) clean (are_noted (state g.S.Store c.args.conn.now) notes (c.requires.rising (omega (arith, c.judge_version.ensures.crash.clean, clean))))) (rw c.in-Two.is at c.in_ok-judge_version.ensures.shown)
+    c.office_as_is.result (λ clean told. let it = c.office_as_is.ensures.cause clean told in (it.0, λ _. it.1)) c.office_as_is.ensures.other
+
+pub returns-in-Two-clause-kept : goal.returns-in-Two-clause-kept
+returns-in-Two-clause-kept g c =
+    kept_rows g.S.Store Two c.args.conn.now c.judge_version.new.conn c.office_as_is.new.conn c.schema.ensures.live c.judge_version.ensures.same (λ clean. omega (arith, c.office_as_is.ensures.crash.clean, clean))
+    (λ clean notes. (rw c.in-Two.is at c.in_ok-judge_version.ensures.noted) clean (are_noted (state g.S.Store c.args.conn.now) notes (c.requires.rising (omega (arith, c.judge_version.ensures.crash.clean, clean))))) (rw c.in-Two.is at c.in_ok-judge_version.ensures.shown)
+    c.office_as_is.result c.office_as_is.ensures.kept
+
+pub returns-in-Two-clause-crash : goal.returns-in-Two-clause-crash
+returns-in-Two-clause-crash g c =
+    survives_as_is g.S.Store c.args.conn.now c.judge_version.new.conn c.office_as_is.new.conn c.judge_version.ensures.crash c.office_as_is.ensures.crash
