@@ -128,7 +128,7 @@ module _ (tree : ℕ) (tests project : List Term) (params : Row) (db : Trees) (n
       a.shown ∙ ap (λ xs. page q params (map (λ (p : Output). p.1) xs)) ordered ∙ map-map (λ (p : Output). p.1) shows_of found
 
 -- what the rows that pass mean, where a row passes exactly where its record does
-found_records : {A : Type 0} (it : TableOf A) (chooses : Row → Bool) (test : A → Bool) → ((row : Row) (x : A) → it.means (columns_of it row) ≡ Some x → chooses row ≡ test x)
+pub found_records : {A : Type 0} (it : TableOf A) (chooses : Row → Bool) (test : A → Bool) → ((row : Row) (x : A) → it.means (columns_of it row) ≡ Some x → chooses row ≡ test x)
     → (rows : List Row) (was : List A) → all_meanings it.means (map (columns_of it) rows) ≡ Some was → all_meanings it.means (map (columns_of it) (filter chooses rows)) ≡ Some (filter test was)
 found_records it chooses test same [] was h = let nothing : [] ≡ was = cc in rw (← nothing) refl
 found_records {A} it chooses test same (row ∷ rows) was h =

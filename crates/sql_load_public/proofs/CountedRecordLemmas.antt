@@ -1,13 +1,17 @@
 -- The public record with its resolutions counted, from what was told of its parts.
-use Rattle.std.proofs.Common.{◌≡◌, ℕ, suc, Bool, true, ◌&&◌, nat_le, List, [], ◌∷◌, filter, length, Option, Some, None, Ok, Err, Result, OnOk, IfOk, IsTrue, refl, sym, ap, subst, ◌∙◌}
+use Rattle.std.proofs.Common.{◌≡◌, ◌⊎◌, inl, inr, ◌≤◌, ◌<◌, ◌+◌, ℕ, suc, Bool, true, false, ◌&&◌, nat_le, List, [], ◌∷◌, filter, length, map, Option, Some, None, Ok, Err, Result, OnOk, IfOk, IsTrue, refl, sym, ap, subst, ◌∙◌, arith}
 use Rattle.std.specs.Prelude.{MatchResult, option_map, ◌==◌}
-use Rattle.std.specs.List.{slice_get}
-use Rattle.std.proofs.lemmas.List.{length-map, length-replicate}
-use Rattle.std.proofs.lemmas.List.Sorted.{length_permutation}
+use Rattle.std.specs.List.{All, AllByRecursion, slice_get}
+use Rattle.std.proofs.lemmas.Bool.Decides.{nat_tests}
+use Rattle.std.proofs.lemmas.List.{get_or-map, length-map, length-replicate}
+use Rattle.std.proofs.lemmas.List.Elements.{All-contains, All-from_recursion, All-map, recursion_from_All}
+use Rattle.std.proofs.lemmas.List.Sorted.{All-permutation, IsPermutation-sym, length_permutation}
 use Rattle.sqlite.specs.declared.error.Error.{Error}
 use Rattle.sqlite.specs.Held.{Held, state}
+use Rattle.sqlite.specs.Order.{Row}
 use Rattle.sqlite.specs.State.{IsUnchanged}
 use Rattle.sqlite.specs.Tree.{Trees}
+use Rattle.sqlite_trees.proofs.ListLemmas.{all_weaker}
 use Rattle.sqlite_trees.specs.declared.store.Store as store
 use Rattle.seq.specs.Sorting.{sort_by}
 use Rattle.seq.proofs.SortingLemmas.{IsPermutation-sort_by}
@@ -27,44 +31,49 @@ use Rattle.sql_rows.specs.declared.stored_records.MeetingRow.{MeetingRow}
 use Rattle.sql_rows.specs.declared.stored_records.Numbered.{Numbered}
 use Rattle.sql_rows.proofs.RowMeaningLemmas.{bound}
 use Rattle.sql_schema.specs.Statements.{ChangesNothing, IsRead, TableOf, records_in}
-use Rattle.sql_queries.specs.Counts.{CountsRecords}
-use Rattle.sql_model.specs.OfficeRecords.{FlatLists, flat_in, number_before, numbered_from, of_meeting, office_of_records, whole_meeting}
+use Rattle.sql_rows.specs.Meanings.{all_meanings}
+use Rattle.sql_queries.specs.LastRecords.{FindsLast, IsLastOf}
+use Rattle.sql_model.specs.OfficeRecords.{FlatLists, flat_in, number_before, numbered_from, office_of_records, whole_meeting}
 use Rattle.sql_model.proofs.ModelOfficeLemmas.{AreOf, are_of}
 use Rattle.sql_assemble.specs.declared.fault.LoadError.{LoadError}
-use Rattle.sql_assemble.specs.LoadResults.{ReadErrAgrees, fault_of_error}
+use Rattle.sql_assemble.specs.LoadResults.{ReadAgrees, ReadErrAgrees, any_at_all, fault_of_error}
 use Rattle.party_views.specs.PublicRead.{counted, unread}
-use Rattle.sql_load_public.specs.MeetingRecords.{later_in}
+use Rattle.sql_load_public.specs.MeetingRecords.{last_number, later_in, without_meeting}
 use Rattle.sql_load_public.specs.TableLookUps.{HoldsOfStoredOffice, HoldsOrFails}
-use Rattle.sql_load_public.proofs.FoundRecordLemmas.{cause_tells, error_tells, says}
+use Rattle.sql_load_public.proofs.FoundRecordLemmas.{cause_tells, error_tells, says, yields_tell}
 use Rattle.sql_load_public.proofs.NamedMeetingLemmas.{HoldAll, all_held, the_same}
 use Rattle.sql_load_public.proofs.PublicRecordLemmas.{IsRow, IsRowOf, no_meeting, resolutions_so}
 
--- ---- a number that a query found
+-- ---- the last record that a query found
 
--- what is given is the number that was found, or why none was
-abbrev pub IsCount : Result ℕ Error → Result ℕ LoadError → Type 0
-IsCount found r = MatchResult found (λ n. r ≡ Ok n) (λ e. r ≡ Err (fault_of_error e))
+module _ {V A S : Type 0} (g : store.Ghosts S) (a b : Held S) (rows_in : V → List Row) (table : TableOf A) (test : A → Bool) (number : A → ℕ) (R : List A → Type 0) where
+  -- what is read of the rows of the last record, where it follows from what that is
+  last_said : (was : List A) → records_in table (state g a).now.trees ≡ Some was → ((last : List A) → IsLastOf number (filter test was) last → R last) → (rows : Result V Error) (r : Result (List A) LoadError)
+      → MatchResult rows (λ v. ReadAgrees any_at_all r (all_meanings table.means (rows_in v))) (λ e. r ≡ Err (fault_of_error e)) → IfOk rows (λ v. FindsLast g a b table test number (rows_in v)) → HoldsOrFails R r
+  last_said was held so (Ok v) r found h =
+      let last = h.0 was held in
+      says R last.0 r (so last.0 last.2) (yields_tell any_at_all r last.0 (all_meanings table.means (rows_in v)) found last.1 refl)
+  last_said was held so (Err e) r found h = subst (HoldsOrFails R) (sym found) (error_tells R e)
 
-module _ {A S : Type 0} (g : store.Ghosts S) (a b : Held S) (table : TableOf A) (test : A → Bool) where
-  count_said : (was : List A) → records_in table (state g a).now.trees ≡ Some was → (found : Result ℕ Error) (r : Result ℕ LoadError) → IsCount found r
-      → IfOk found (λ n. CountsRecords g a b table test n) → HoldsOrFails (λ n. n ≡ length (filter test was)) r
-  count_said was held (Ok n) r is h = subst (HoldsOrFails (λ n. n ≡ length (filter test was))) (sym is) (h.0 was held)
-  count_said was held (Err e) r is h = subst (HoldsOrFails (λ n. n ≡ length (filter test was))) (sym is) (error_tells (λ n. n ≡ length (filter test was)) e)
+module _ {V A S : Type 0} (g : store.Ghosts S) (a b : Held S) (rows_in : V → List Row) (table : TableOf A) (test : A → Bool) (number : A → ℕ) where
+  last_same : (rows : Result V Error) (r : Result (List A) LoadError) → MatchResult rows (λ v. ReadAgrees any_at_all r (all_meanings table.means (rows_in v))) (λ e. r ≡ Err (fault_of_error e))
+      → IfOk rows (λ v. FindsLast g a b table test number (rows_in v)) → OnOk r (IsUnchanged (state g a) (state g b))
+  last_same (Ok v) r found h = on_any r h.1
+    where
+      on_any : (q : Result (List A) LoadError) → IsUnchanged (state g a) (state g b) → OnOk q (IsUnchanged (state g a) (state g b))
+      on_any (Ok x) same = same
+      on_any (Err e) same = tt
+  last_same (Err e) r found h = subst (λ (q : Result (List A) LoadError). OnOk q (IsUnchanged (state g a) (state g b))) (sym found) tt
 
-  count_same : (found : Result ℕ Error) (r : Result ℕ LoadError) → IsCount found r → IfOk found (λ n. CountsRecords g a b table test n) → OnOk r (IsUnchanged (state g a) (state g b))
-  count_same (Ok n) r is h = subst (λ (q : Result ℕ LoadError). OnOk q (IsUnchanged (state g a) (state g b))) (sym is) h.1
-  count_same (Err e) r is h = subst (λ (q : Result ℕ LoadError). OnOk q (IsUnchanged (state g a) (state g b))) (sym is) tt
-
-  -- the number, where what is to be told follows from the records of the tables
-  pub count_told : (all : FlatLists → List A) → ((trees : Trees) (flat : FlatLists) → HoldAll trees flat → records_in table trees ≡ Some (all flat))
-      → (found : Result ℕ Error) (r : Result ℕ LoadError) → IsCount found r → (IsRead g a b → IfOk found (λ n. CountsRecords g a b table test n)) → ChangesNothing g a b
-      → (R : OfficeLists → ℕ → Type 0) → ((flat : FlatLists) (office : OfficeLists) → AreOf flat office → R office (length (filter test (all flat)))) → HoldsOfStoredOffice g a b r R
-  count_told all held found r is counts changes R so = record {
+module _ {V A S : Type 0} (g : store.Ghosts S) (a b : Held S) (rows_in : V → List Row) (table : TableOf A) (all : FlatLists → List A) (held : (trees : Trees) (flat : FlatLists) → HoldAll trees flat → records_in table trees ≡ Some (all flat))
+    (test : A → Bool) (number : A → ℕ) (rows : Result V Error) (finds : IsRead g a b → IfOk rows (λ v. FindsLast g a b table test number (rows_in v))) (changes : ChangesNothing g a b)
+    (r : Result (List A) LoadError) (found : MatchResult rows (λ v. ReadAgrees any_at_all r (all_meanings table.means (rows_in v))) (λ e. r ≡ Err (fault_of_error e))) where
+  pub last_holds : (R : OfficeLists → List A → Type 0) → ((flat : FlatLists) (office : OfficeLists) → AreOf flat office → (last : List A) → IsLastOf number (filter test (all flat)) last → R office last) → HoldsOfStoredOffice g a b r R
+  last_holds R so = record {
     holds = λ read office holds kept.
         let flat = bound (flat_in (state g a).now.trees) office_of_records office holds in
-        says (R office) (length (filter test (all flat.0))) r (so flat.0 office (are_of flat.0 office flat.2))
-        (count_said (all flat.0) (held (state g a).now.trees flat.0 (all_held (state g a).now.trees flat.0 flat.1)) found r is (counts read));
-    same = λ read. count_same found r is (counts read);
+        last_said g a b rows_in table test number (R office) (all flat.0) (held (state g a).now.trees flat.0 (all_held (state g a).now.trees flat.0 flat.1)) (so flat.0 office (are_of flat.0 office flat.2)) rows r found (finds read);
+    same = λ read. last_same g a b rows_in table test number rows r found (finds read);
     changes = changes;
   }
 
@@ -79,16 +88,72 @@ numbered_length n (r ∷ rest) xs h =
     let is : r.item ∷ later.0 ≡ xs = the_same later.2 in
     ap length (sym is) ∙ ap suc (numbered_length (suc n) rest later.0 later.1)
 
+guarded : (b : Bool) (u : Unit) → guard b ≡ Some u → b ≡ true
+guarded true u h = refl
+guarded false u h = absurd cc
+
+-- none of them has a number past the last
+numbered_below : {A : Type 0} (n : ℕ) (rows : List (Numbered A)) (xs : List A) → numbered_from n rows ≡ Some xs → AllByRecursion (λ (r : Numbered A). suc r.number ≤ n + length rows) rows
+numbered_below n [] xs h = tt
+numbered_below {A} n (r ∷ rest) xs h =
+    let here = bound (guard (r.number == n)) _ xs h in
+    let later = bound (numbered_from (suc n) rest) _ xs here.2 in
+    let is : (r.number == n) ≡ true = guarded (r.number == n) here.0 here.1 in
+    (grind (arith, nat_tests), all_weaker (λ (q : Numbered A). suc q.number ≤ suc n + length rest) (λ (q : Numbered A). suc q.number ≤ n + suc (length rest)) (λ q le. omega arith) rest (numbered_below (suc n) rest later.0 later.1))
+
+-- and the last has that number, so what is no less than each is no less than it
+numbered_up_to : {A : Type 0} (n : ℕ) (rows : List (Numbered A)) (xs : List A) (most : ℕ) → numbered_from n rows ≡ Some xs → AllByRecursion (λ (r : Numbered A). r.number ≤ most) rows → (rows ≡ []) ⊎ (n + length rows ≤ suc most)
+numbered_up_to n [] xs most h low = inl refl
+numbered_up_to {A} n (r ∷ rest) xs most h low =
+    let here = bound (guard (r.number == n)) _ xs h in
+    let later = bound (numbered_from (suc n) rest) _ xs here.2 in
+    let is : (r.number == n) ≡ true = guarded (r.number == n) here.0 here.1 in
+    let first : n ≤ most = grind (arith, nat_tests, low.0) in
+    inr (elim (numbered_up_to (suc n) rest later.0 most later.1 low.1) [
+      | inl none ↦ subst (λ (l : List (Numbered A)). n + suc (length l) ≤ suc most) (sym none) (omega (arith, first))
+      | inr le ↦ omega (arith, le)
+    ])
+
 -- the meeting of that name, if there is one, has so many resolutions
 abbrev pub HasCount : List ℕ → OfficeLists → ℕ → Type 0
 HasCount id office count = (m : MeetingLists) → meeting_named office.meetings id ≡ Some m → count ≡ length m.meeting.resolutions
 
-pub count_so : (id : List ℕ) (flat : FlatLists) (office : OfficeLists) → AreOf flat office → HasCount id office (length (filter (λ (it : InMeeting (Numbered Resolution)). same_name it.meeting id) flat.resolutions))
-count_so id flat office of m is =
-    let rows = of_meeting id flat.resolutions in
+abbrev pub Stored : Type 0
+Stored = InMeeting (Numbered Resolution)
+
+abbrev pub number_of : Stored → ℕ
+number_of r = r.item.number
+
+mapped_back : {X Y : Type 0} (f : X → Y) (P : Y → Type 0) (xs : List X) → All P (map f xs) → All (λ x. P (f x)) xs
+mapped_back f P xs all k d lt = subst P (get_or-map f xs k d (f d) lt) (all k (f d) (subst (λ n. k < n) (sym (length-map xs f)) lt))
+
+-- the last of rows that are numbered on from 1, once they are in order, has the number of all
+last_counts : (found : List Stored) (xs : List Resolution) → numbered_from 1 (sort_by number_before (map without_meeting found)) ≡ Some xs → (last : List Stored) → IsLastOf number_of found last → last_number last ≡ length xs
+last_counts found xs h last is =
+    let rows = map without_meeting found in
     let sorted = sort_by number_before rows in
-    sym (length-map (filter (λ (it : InMeeting (Numbered Resolution)). same_name it.meeting id) flat.resolutions) _) ∙ sym (length_permutation rows sorted (IsPermutation-sort_by number_before rows))
-    ∙ sym (numbered_length 1 sorted m.meeting.resolutions (resolutions_so id flat office of m is))
+    let moved = IsPermutation-sort_by number_before rows in
+    let long : length sorted ≡ length found = length_permutation rows sorted moved ∙ length-map found without_meeting in
+    go last is sorted (numbered_length 1 sorted xs h) long
+    (mapped_back without_meeting (λ (r : Numbered Resolution). suc r.number ≤ 1 + length sorted) found
+    (All-permutation (λ (r : Numbered Resolution). suc r.number ≤ 1 + length sorted) sorted rows (IsPermutation-sym rows sorted moved) (All-from_recursion (λ (r : Numbered Resolution). suc r.number ≤ 1 + length sorted) sorted (numbered_below 1 sorted xs h))))
+    (λ most low.
+    numbered_up_to 1 sorted xs most h
+    (recursion_from_All (λ (r : Numbered Resolution). r.number ≤ most) sorted (All-permutation (λ (r : Numbered Resolution). r.number ≤ most) rows sorted moved (All-map (λ (r : Numbered Resolution). r.number ≤ most) without_meeting found low))))
+  where
+    go : (last : List Stored) → IsLastOf number_of found last → (sorted : List (Numbered Resolution)) → length xs ≡ length sorted → length sorted ≡ length found → All (λ (r : Stored). suc r.item.number ≤ 1 + length sorted) found
+        → ((most : ℕ) → All (λ (r : Stored). r.item.number ≤ most) found → (sorted ≡ []) ⊎ (1 + length sorted ≤ suc most)) → last_number last ≡ length xs
+    go [] none sorted count long below up = let empty = ap length none in omega (arith, count, long, empty)
+    go (one ∷ []) is sorted count long below up =
+        let under : suc one.item.number ≤ 1 + length sorted = All-contains (λ (r : Stored). suc r.item.number ≤ 1 + length sorted) found one below is.0 in
+        elim (up one.item.number is.1) [
+          | inl none ↦ let empty = ap length none in let at = is.0.1 in absurd (omega (arith, long, empty, at))
+          | inr le ↦ omega (arith, under, le, count)
+        ]
+    go (one ∷ two ∷ more) is sorted count long below up = absurd is
+
+pub count_so : (id : List ℕ) (flat : FlatLists) (office : OfficeLists) → AreOf flat office → (last : List Stored) → IsLastOf number_of (filter (λ (it : Stored). same_name it.meeting id) flat.resolutions) last → HasCount id office (last_number last)
+count_so id flat office of last is m found = last_counts (filter (λ (it : Stored). same_name it.meeting id) flat.resolutions) m.meeting.resolutions (resolutions_so id flat office of m found) last is
 
 -- ---- the meeting
 

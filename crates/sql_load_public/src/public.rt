@@ -6,7 +6,7 @@ ghost use Rattle.desk_words.specs.SortedLists.{are_resolutions};
 ghost use Rattle.sql_assemble.specs.LoadResults.{ReadAgrees};
 ghost use Rattle.party_views.specs.PublicRead.{counted, meeting_alone, public_read, unread, with_counted};
 ghost use Rattle.party_views.specs.Views.{meeting_at, polls_in, public_of};
-ghost use Rattle.sql_load_public.specs.MeetingRecords.{later_in};
+ghost use Rattle.sql_load_public.specs.MeetingRecords.{last_number, later_in};
 ghost use Rattle.sql_load_public.specs.TableLookUps.{HoldsOfStoredOffice};
 
 use crate::query_records::{first, items, records_found};
@@ -19,7 +19,7 @@ use party_views::PublicRecord;
 use sql_assemble::{LoadError, day_list, poll_list, resolution_list, session_list};
 use sql_load_office::listing;
 use sql_queries::{meetings, polls, resolutions, sessions};
-use sql_rows::MeetingRow;
+use sql_rows::{InMeeting, MeetingRow, Numbered};
 use sqlite::{Alter, Transaction};
 use std::alloc::Global;
 use std::marker::Model;
@@ -159,15 +159,29 @@ pub fn read_public<S: Alter>(
     })
 }
 
+/// How many resolutions there are, by the number of the last, if there is one.
+fn last_number(rows: &[InMeeting<Numbered<Resolution>>]) -> usize
+    ensures { result ≡ last_number rows.now }
+{
+    match rows {
+        [last, ..] => last.item.number as usize,
+        [] => 0,
+    }
+}
+
 /// How many resolutions a meeting has.
-fn count_of<S: Alter>(tx: &mut Transaction<'_, S>, meeting: MeetingId) -> Result<usize, LoadError>
+fn count_of<S: Alter>(
+    tx: &mut Transaction<'_, S>,
+    alloc: Global,
+    meeting: MeetingId,
+) -> Result<usize, LoadError>
     ensures same_reference { tx.new.conn.ghost_name ≡ tx.old.conn.ghost_name }
     ensures holds { HoldsOfStoredOffice S.Store tx.old.conn.now tx.new.conn.now result
         (λ office count. (m : MeetingLists) → meeting_at office meeting ≡ Some m
         → count ≡ length m.meeting.resolutions) }
 {
-    let count = resolutions::count_of_meeting(tx, meeting)?;
-    Ok(count)
+    let rows = records_found(alloc, resolutions::last_of_meeting(tx, meeting))?;
+    Ok(last_number(rows.as_slice()))
 }
 
 /// So many resolutions, none of which is read. The fault is want of memory, or `NoOffice` where a
@@ -202,7 +216,7 @@ fn counted_of<S: Alter>(
         return Ok(None);
     };
     let later = later_of(tx, alloc, meeting)?;
-    let count = count_of(tx, meeting)?;
+    let count = count_of(tx, alloc, meeting)?;
     let resolutions = unread(alloc, count)?;
     Ok(Some(whole_meeting(row, later, resolutions)))
 }

@@ -2,9 +2,9 @@ pub mod AppointmentQueries
 pub mod Asking
 pub mod AuthorityQueries
 pub mod CastQueries
-pub mod Counting
 pub mod DemandQueries
 pub mod EndingQueries
+pub mod LastQueries
 pub mod MeetingQueries
 pub mod PollQueries
 pub mod PresenceQueries

@@ -16,7 +16,7 @@ use Rattle.vocabulary.specs.Names.{meeting_of, same_name}
 use Rattle.sql_schema.specs.Contents.{resolutions}
 use Rattle.sql_schema.specs.Statements.{columns_of, HasTables, layout_two}
 use Rattle.sql_lemmas.proofs.Reading.{sought, AsksAs}
-use Rattle.sql_queries.proofs.Counting.{IsCount, unordered}
+use Rattle.sql_queries.proofs.LastQueries.{IsLastQuery, sought_last}
 use Rattle.sql_queries.proofs.Queries.{IsQuery, names_meeting, one_tells}
 use Rattle.sql_lemmas.proofs.Frames.{wide_one}
 use Rattle.sqlite.specs.Schema.{Schema}
@@ -58,21 +58,35 @@ of_meeting m meeting meeting_is = record {
   same = λ cells x h. one_tells cells 1 meeting m x.meeting (names_in (columns_of resolutions cells) x h) meeting_is;
 }
 
-abbrev count_of_meeting_text : List ℕ
-count_of_meeting_text = codes "SELECT number FROM resolutions WHERE meeting = ?1"
+abbrev last_of_meeting_text : List ℕ
+last_of_meeting_text = codes "SELECT meeting, number, kind, body FROM resolutions WHERE meeting = ?1 ORDER BY number DESC LIMIT 1"
 
-count_of_meeting_asks : (s : Schema) → HasTables layout_two s → AsksAs s count_of_meeting_text (unordered 8 (names_meeting 1) (col 1 2 ∷ [])) (codes "number" ∷ [])
+last_of_meeting_asks : (s : Schema) → HasTables layout_two s → AsksAs s last_of_meeting_text (sought_last 8 (names_meeting 1) shows 2) names
 unfolding understood everything
-count_of_meeting_asks = wide_one (λ s. AsksAs s count_of_meeting_text (unordered 8 (names_meeting 1) (col 1 2 ∷ [])) (codes "number" ∷ [])) (λ others apart indexes views. record { is = refl; plain = (refl, refl); unlisted = refl })
+last_of_meeting_asks =
+    wide_one (λ s. AsksAs s last_of_meeting_text (sought_last 8 (names_meeting 1) shows 2) names) (λ others apart indexes views. record { is = refl; plain = (refl, refl); unlisted = refl })
 
--- as many rows as the meeting has
-pub count_of_meeting : (m meeting : List ℕ) → meeting_of meeting ≡ Some m → IsCount resolutions count_of_meeting_text (Text meeting ∷ []) (λ x. same_name x.meeting m)
-unfolding parsed_in
-count_of_meeting m meeting meeting_is = record {
+-- the number of a row
+number_in_row : (cells : Row) (x : InMeeting (Numbered Resolution)) → resolution_in cells ≡ Some x → number_in cells 1 ≡ Some x.item.number
+unfolding resolution_in
+number_in_row cells x h =
+    let meeting = bound (parsed_in meeting_of cells 0) _ x h in
+    let number = bound (number_in cells 1) _ x meeting.2 in
+    let kind = bound (parsed_word_in resolution_kind_of cells 2) _ x number.2 in
+    let text = bound (parsed_word_in plain_text_of cells 3) _ x kind.2 in
+    number.1 ∙ option_ap (λ (y : InMeeting (Numbered Resolution)). y.item.number) text.2
+
+-- the row of the last resolution of the meeting
+pub last_of_meeting : (m meeting : List ℕ) → meeting_of meeting ≡ Some m → IsLastQuery resolutions last_of_meeting_text (Text meeting ∷ []) (λ x. same_name x.meeting m) (λ x. x.item.number)
+unfolding parsed_in number_in
+last_of_meeting m meeting meeting_is = record {
   tests = names_meeting 1;
-  project = col 1 2 ∷ [];
-  names = codes "number" ∷ [];
-  asks = count_of_meeting_asks;
+  project = shows;
+  at = 2;
+  names = names;
+  asks = last_of_meeting_asks;
   none = refl;
+  columns = λ cells. refl;
   same = λ cells x h. one_tells cells 1 meeting m x.meeting (names_in (columns_of resolutions cells) x h) meeting_is;
+  numbers = λ cells x h. number_in_row (columns_of resolutions cells) x h;
 }

@@ -3,7 +3,7 @@ ghost use Rattle.std.specs.Prelude.{◌≡◌, IfOk};
 ghost use Rattle.vocabulary.specs.Names.{same_name};
 ghost use Rattle.sql_schema.specs.Contents.{resolutions};
 ghost use Rattle.sql_schema.specs.Statements.{ChangesNothing, FindsRecords, IsRead};
-ghost use Rattle.sql_queries.specs.Counts.{CountsRecords};
+ghost use Rattle.sql_queries.specs.LastRecords.{FindsLast};
 
 use desk_words::MeetingId;
 use sql_rows::meeting_text;
@@ -27,21 +27,21 @@ pub fn of_meeting<S: Alter>(
     )
 }
 
-/// How many resolutions a meeting has. The index of their key has all that is read, so no text is.
-pub fn count_of_meeting<S: Alter>(
+/// The row of the last resolution of a meeting, by their numbers. The index of their key leads to it
+/// at once, so no other row is read.
+pub fn last_of_meeting<S: Alter>(
     tx: &mut Transaction<'_, S>,
     meeting: MeetingId,
-) -> Result<usize, Error>
+) -> Result<Vec<Row>, Error>
     ensures same_reference { tx.new.conn.ghost_name ≡ tx.old.conn.ghost_name }
     ensures rows { IsRead S.Store tx.old.conn.now tx.new.conn.now
         → IfOk result
-        (λ count. CountsRecords S.Store tx.old.conn.now tx.new.conn.now resolutions
-        (λ it. same_name it.meeting meeting) count) }
+        (λ rows. FindsLast S.Store tx.old.conn.now tx.new.conn.now resolutions
+        (λ it. same_name it.meeting meeting) (λ it. it.item.number) rows.items) }
     ensures changes { ChangesNothing S.Store tx.old.conn.now tx.new.conn.now }
 {
-    let rows = tx.query_all(
-        "SELECT number FROM resolutions WHERE meeting = ?1",
+    tx.query_all(
+        "SELECT meeting, number, kind, body FROM resolutions WHERE meeting = ?1 ORDER BY number DESC LIMIT 1",
         params![meeting_text(&meeting)],
-    )?;
-    Ok(rows.len())
+    )
 }

@@ -1,5 +1,5 @@
-use Rattle.std.proofs.Common.{◌≡◌, [], ◌∙◌}
-use Rattle.sql_load_public.proofs.StoredOfficeLemmas.{holds_so, holds_stop}
+use Rattle.std.proofs.Common.{[], ◌∙◌}
+use Rattle.sql_load_public.proofs.StoredOfficeLemmas.{holds_so}
 use Rattle.sql_load_public.proofs.public.read_alone.Goals as goal
 
 pub returns-clause-holds : goal.returns-clause-holds
