@@ -9,7 +9,7 @@ use crate::devices::{Request, STORE_FAILED, serve};
 use crate::faults::{failure_word, open_word};
 use crate::looking::{look, open_any, read};
 use desk_store::Desk;
-use replay::call_of;
+use replay::{Scratch, call_of};
 use sqlite::{Alter, Connection};
 use std::alloc::Global;
 
@@ -40,12 +40,12 @@ pub type Outcome = Result<Vec<u8>, &'static str>;
 
 /// Whether a line is a call.
 pub fn is_call(alloc: Global, line: &str) -> bool {
-    call_of(alloc, line.as_bytes()).is_ok()
+    call_of(alloc, &mut Scratch::new(alloc), line.as_bytes()).is_ok()
 }
 
 /// What a desk replies to a call.
 fn call<S: Alter>(alloc: Global, desk: &mut Desk<S>, line: &str) -> Outcome {
-    match call_of(alloc, line.as_bytes()) {
+    match call_of(alloc, &mut Scratch::new(alloc), line.as_bytes()) {
         Ok(call) => calls::perform(alloc, desk, call, true).map_err(failure_word),
         Err(_) => Err("no call"),
     }

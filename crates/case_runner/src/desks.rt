@@ -14,7 +14,7 @@ use crate::tables::Tables;
 use byte_io::VecSink;
 use cli_exit::Ended;
 use desk_words::{Call, Caller, Moment, read_key, read_meeting, read_moment};
-use replay::call_of;
+use replay::{Scratch, call_of};
 use std::alloc::{AllocError, Global};
 
 /// A desk over a database in memory, and a book and a further desk that make the same calls.
@@ -118,7 +118,11 @@ impl Desks {
     /// and the desk beside it do not make it.
     fn call(&mut self, text: &str, is_shown: bool) -> Result<Answer, AllocError> {
         let line = text.as_bytes();
-        let (Ok(call), Ok(again)) = (call_of(self.alloc, line), call_of(self.alloc, line)) else {
+        let mut scratch = Scratch::new(self.alloc);
+        let (Ok(call), Ok(again)) = (
+            call_of(self.alloc, &mut scratch, line),
+            call_of(self.alloc, &mut scratch, line),
+        ) else {
             return Answer::of(self.alloc, "no call");
         };
         self.beside.take_names(&call, line)?;

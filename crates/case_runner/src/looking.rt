@@ -5,7 +5,7 @@ use crate::faults::failure_word;
 use desk_store::{Desk, HandedBack};
 use json_replies::reply_text;
 use meeting_core::Book;
-use replay::call_of;
+use replay::{Scratch, call_of};
 use sqlite::types::ValueRef;
 use sqlite::{Alter, Connection, Row};
 use std::alloc::{AllocError, Global};
@@ -116,7 +116,7 @@ pub fn read<S: Alter + Drop>(alloc: Global, mut conn: Connection<S>, sql: &str) 
 
 /// Adds what a book replies to a call; nothing where the line is none.
 fn add_reply(alloc: Global, book: &Book, line: &str, told: &mut Vec<u8>) -> Result<(), AllocError> {
-    if let Ok(call) = call_of(alloc, line.as_bytes()) {
+    if let Ok(call) = call_of(alloc, &mut Scratch::new(alloc), line.as_bytes()) {
         let (reply, _) = book.decide(&call)?;
         told.extend_from_slice(&reply_text(alloc, &reply)?)?;
     }

@@ -6,7 +6,7 @@ use desk_words::{
     Call, Caller, DeskRequest, KeyRow, KeyRows, ListFault, Moment, Request, read_key,
 };
 use http_routes::{method_of, target_route};
-use replay::call_of;
+use replay::{Scratch, call_of};
 use std::alloc::{AllocError, Global};
 
 /// The key of whoever makes the call.
@@ -81,7 +81,8 @@ impl Served {
     /// Makes the call of a line, and adds a line to what is wrong where the reply over HTTP has not
     /// this JSON. A call whose verb has no method is made without HTTP, and its reply not asked.
     pub fn call(&mut self, line: &str, json: &[u8], wrong: &mut String) -> Result<(), AllocError> {
-        let Ok(call) = call_of(self.alloc, line.as_bytes()) else {
+        let mut scratch = Scratch::new(self.alloc);
+        let Ok(call) = call_of(self.alloc, &mut scratch, line.as_bytes()) else {
             return Ok(());
         };
         let Some(request) = request_text(self.alloc, line)? else {

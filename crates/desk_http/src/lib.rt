@@ -10,6 +10,6 @@ mod serve;
 pub use answers::{AnswerError, Answered, answer};
 pub use http_routes::write_reply;
 pub use json_replies::reply_text;
-pub use json_requests::request_of;
+pub use json_requests::{Scratch, request_of};
 pub use now::{NowError, serve_now, serve_one};
 pub use serve::{ServeFault, reply_to};

@@ -15,15 +15,18 @@ use crate::received::{ReceiveError, ReceivedRequest};
 use byte_io::{DeviceError, Source};
 use desk_words::{Refusal, Request};
 use http_heads::{Front, HeadReader, LONGEST_BODY};
-use json_requests::Route;
+use json_requests::{Route, Scratch};
 use std::alloc::Global;
 
-/// What is asked on a route by a whole body.
+/// What is asked on a route by a whole body. The room that reading needs is large, and no caller is
+/// to pay for it.
+#[inline(never)]
 fn asked(alloc: Global, route: Route, body: &[u8]) -> Result<Request, ReceiveError>
     ensures asked { AgreesWith true (or_unreadable (asked_on_route route body.now)) result }
     ensures heard { source_failed result ≡ false }
 {
-    Ok(route.request(alloc, body)?)
+    let mut scratch = Scratch::new(alloc);
+    Ok(route.request(alloc, &mut scratch, body)?)
 }
 
 /// What is asked on a route by a body, which may not be whole.

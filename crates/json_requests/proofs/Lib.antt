@@ -1,7 +1,10 @@
+mod BodyValueLemmas
 mod CallLemmas
+mod FieldLemmas
 mod ItemLemmas
 mod JsonBodyLemmas
 mod JsonLawLemmas
 mod JsonReadUpTo
+mod NumberLemmas
 mod RouteLemmas
 mod VerbLemmas

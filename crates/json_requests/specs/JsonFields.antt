@@ -2,16 +2,17 @@
 use Rattle.std.specs.Prelude.{ℕ, Bool, false, ◌==◌, List, [], ◌∷◌, Option, Some, option_map, option_and_then}
 use Rattle.std.specs.Borrow.{Bor}
 use Rattle.std.specs.Option.{option_map_or}
+use Rattle.std.specs.declared.alloc.Global.{Global}
+use Rattle.json.specs.declared.value.Value.{Value}
 use Rattle.serde_json.specs.Data.{Data, Items, no_items, item}
-use Rattle.serde_json.specs.View.{view}
-use Rattle.serde_json.specs.declared.value.Value.{Value}
 use Rattle.serde_json.specs.Find.{as_number, as_u64, as_bool, as_str, as_object, as_array}
 use Rattle.serde_json.specs.Events.{members_len, items_len}
 use Rattle.vocabulary.specs.OptionSteps.{◌>>=◌}
+use Rattle.json_requests.specs.BodyValues.{view}
 
 -- the value at a place, if there is one
-abbrev pub json_at : Option (Bor Value) → Option Data
-json_at place = option_map (λ (value : Bor Value). view value.now) place
+abbrev pub json_at : Option (Bor (Value Global)) → Option Data
+json_at place = option_map (λ (value : Bor (Value Global)). view value.now) place
 
 -- whether a value is an object of so many fields
 abbrev pub has_fields : ℕ → Data → Bool

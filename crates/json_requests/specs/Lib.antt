@@ -1,5 +1,6 @@
 pub mod AppointmentBodies
 pub mod Bodies
+pub mod BodyValues
 pub mod CallBodies
 pub mod DayBodies
 pub mod JsonFields

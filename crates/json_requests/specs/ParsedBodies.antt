@@ -1,5 +1,5 @@
 -- What reading a body gives: a thing, or nothing where the body is unreadable.
-use Rattle.std.specs.Prelude.{◌≡◌, Bool, true, false, Option, Some, None, Result, Ok, Err}
+use Rattle.std.specs.Prelude.{◌≡◌, Option, Some, None, Result}
 use Rattle.vocabulary.specs.Agreement.{Agrees}
 use Rattle.vocabulary.specs.declared.refusal.Refusal.TheVariants.{Unreadable as NotRead}
 use Rattle.json_requests.specs.declared.ask.Ask.{Ask}

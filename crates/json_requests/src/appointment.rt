@@ -2,7 +2,7 @@
 ghost use Rattle.std.specs.Prelude.{nat_le};
 ghost use Rattle.vocabulary.specs.OptionSteps.{guard};
 ghost use Rattle.serde_json.specs.Events.{items_len};
-ghost use Rattle.serde_json.specs.View.{view, items_view};
+ghost use Rattle.json_requests.specs.BodyValues.{view, items_view};
 ghost use Rattle.vocabulary.specs.Identity.{id};
 ghost use Rattle.json_requests.specs.ParsedBodies.{BodyAgrees};
 ghost use Rattle.json_requests.specs.AppointmentBodies.{instruction_at, instructions_in, appoint_body, end_in};
@@ -10,13 +10,14 @@ ghost use Rattle.json_requests.specs.JsonFields.{json_at, all_items};
 
 use crate::ask::BodyError;
 use crate::place::{exactly_fields, instruction_in, items_in, number_in, party_in};
+use crate::value::field;
 use desk_words::limits::MOST_RESOLUTIONS;
 use desk_words::{Instr, Listing, NewAppointment, PartyRequest};
-use serde_json::Value;
+use json::Value;
 use std::alloc::Global;
 
 #[tactic(auto, unfolding(crate::specs::AppointmentBodies::instruction_at))]
-fn instruction(value: &Value) -> Result<Instr, BodyError>
+fn instruction(value: &Value<'_>) -> Result<Instr, BodyError>
     ensures { BodyAgrees id result (instruction_at (view value.now)) }
 {
     instruction_in(Some(value))
@@ -25,7 +26,7 @@ fn instruction(value: &Value) -> Result<Instr, BodyError>
 /// Refuses more items than an appointment may have instructions, which are as many as the most
 /// resolutions of a meeting.
 #[tactic(auto, using(crate::proofs::ItemLemmas::items_seen))]
-fn few(items: &[Value]) -> Result<(), BodyError>
+fn few(items: &[Value<'_>]) -> Result<(), BodyError>
     ensures { BodyAgrees id result
         (guard (nat_le (items_len (items_view items.now)) MOST_RESOLUTIONS)) }
 {
@@ -36,7 +37,7 @@ fn few(items: &[Value]) -> Result<(), BodyError>
     }
 }
 
-fn instructions_from(alloc: Global, items: &[Value]) -> Result<Vec<Instr>, BodyError>
+fn instructions_from(alloc: Global, items: &[Value<'_>]) -> Result<Vec<Instr>, BodyError>
     ensures { BodyAgrees (λ v. v.items) result (all_items instruction_at (items_view items.now)) }
 {
     let mut found = Vec::new(alloc);
@@ -47,7 +48,7 @@ fn instructions_from(alloc: Global, items: &[Value]) -> Result<Vec<Instr>, BodyE
 }
 
 #[tactic(auto, unfolding(crate::specs::AppointmentBodies::instructions_in))]
-fn instructions_in(alloc: Global, place: Option<&Value>) -> Result<Listing<Instr>, BodyError>
+fn instructions_in(alloc: Global, place: Option<&Value<'_>>) -> Result<Listing<Instr>, BodyError>
     ensures { BodyAgrees id result (instructions_in (json_at place.entry)) }
 {
     let items = items_in(place)?;
@@ -60,14 +61,14 @@ fn instructions_in(alloc: Global, place: Option<&Value>) -> Result<Listing<Instr
 /// (numbers), and `instructions` (0 to `MOST_RESOLUTIONS` of the words `for`, `against`, `withheld`
 /// and `free`).
 #[tactic(auto, unfolding(crate::specs::AppointmentBodies::appoint_body))]
-pub(crate) fn appoint(alloc: Global, value: &Value) -> Result<PartyRequest, BodyError>
+pub(crate) fn appoint(alloc: Global, value: &Value<'_>) -> Result<PartyRequest, BodyError>
     ensures { BodyAgrees id result (appoint_body (view value.now)) }
 {
     exactly_fields(value, 4)?;
-    let proxy = party_in(value.get("proxy"))?;
-    let from = number_in(value.get("from"))?;
-    let to = number_in(value.get("to"))?;
-    let instructions = instructions_in(alloc, value.get("instructions"))?;
+    let proxy = party_in(field(value, "proxy"))?;
+    let from = number_in(field(value, "from"))?;
+    let to = number_in(field(value, "to"))?;
+    let instructions = instructions_in(alloc, field(value, "instructions"))?;
     Ok(PartyRequest::Appoint(NewAppointment {
         proxy,
         from,
@@ -78,10 +79,10 @@ pub(crate) fn appoint(alloc: Global, value: &Value) -> Result<PartyRequest, Body
 
 /// The ending that a value gives. It has the field `number` (the number of an appointment).
 #[tactic(auto, unfolding(crate::specs::AppointmentBodies::end_in))]
-pub(crate) fn end(value: &Value) -> Result<PartyRequest, BodyError>
+pub(crate) fn end(value: &Value<'_>) -> Result<PartyRequest, BodyError>
     ensures { BodyAgrees id result (end_in (view value.now)) }
 {
     exactly_fields(value, 1)?;
-    let number = number_in(value.get("number"))?;
+    let number = number_in(field(value, "number"))?;
     Ok(PartyRequest::End(number))
 }

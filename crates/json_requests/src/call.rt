@@ -1,5 +1,5 @@
 //! The calling of a meeting.
-ghost use Rattle.serde_json.specs.View.{view, items_view};
+ghost use Rattle.json_requests.specs.BodyValues.{view, items_view};
 ghost use Rattle.vocabulary.specs.Identity.{id};
 ghost use Rattle.json_requests.specs.ParsedBodies.{BodyAgrees};
 ghost use Rattle.json_requests.specs.JsonFields.{json_at, all_items};
@@ -10,22 +10,23 @@ use crate::place::{
     company_in, day_in, exactly_fields, exactly_items, items_in, meeting_kind_in, moment_in,
     resolution_kind_in, text_in,
 };
+use crate::value::{field, item};
 use desk_words::{ListFault, MeetingId, NewMeeting, Resolution, Resolutions};
-use serde_json::Value;
+use json::Value;
 use std::alloc::Global;
 
 /// A resolution is a pair of its kind and its text.
 #[tactic(auto, unfolding(crate::specs::CallBodies::resolution_at))]
-fn resolution(alloc: Global, value: &Value) -> Result<Resolution, BodyError>
+fn resolution(alloc: Global, value: &Value<'_>) -> Result<Resolution, BodyError>
     ensures { BodyAgrees id result (resolution_at (view value.now)) }
 {
     exactly_items(value, 2)?;
-    let kind = resolution_kind_in(value.get(0))?;
-    let text = text_in(alloc, value.get(1))?;
+    let kind = resolution_kind_in(item(value, 0))?;
+    let text = text_in(alloc, item(value, 1))?;
     Ok(Resolution { kind, text })
 }
 
-fn resolutions_from(alloc: Global, items: &[Value]) -> Result<Vec<Resolution>, BodyError>
+fn resolutions_from(alloc: Global, items: &[Value<'_>]) -> Result<Vec<Resolution>, BodyError>
     ensures { BodyAgrees (λ v. v.items) result (all_items resolution_at (items_view items.now)) }
 {
     let mut found = Vec::new(alloc);
@@ -46,7 +47,7 @@ fn counted(resolutions: Vec<Resolution>) -> Result<Resolutions, BodyError>
 }
 
 #[tactic(auto, unfolding(crate::specs::CallBodies::resolutions_in))]
-fn resolutions_in(alloc: Global, place: Option<&Value>) -> Result<Resolutions, BodyError>
+fn resolutions_in(alloc: Global, place: Option<&Value<'_>>) -> Result<Resolutions, BodyError>
     ensures { BodyAgrees id result (resolutions_in (json_at place.entry)) }
 {
     let items = items_in(place)?;
@@ -62,17 +63,17 @@ fn resolutions_in(alloc: Global, place: Option<&Value>) -> Result<Resolutions, B
 pub(crate) fn call(
     alloc: Global,
     meeting: MeetingId,
-    value: &Value,
+    value: &Value<'_>,
 ) -> Result<NewMeeting, BodyError>
     ensures { BodyAgrees id result (call_body meeting (view value.now)) }
 {
     exactly_fields(value, 6)?;
-    let company = company_in(value.get("company"))?;
-    let kind = meeting_kind_in(value.get("kind"))?;
-    let given = day_in(value.get("given"))?;
-    let appointed = moment_in(value.get("appointed"))?;
-    let record_moment = moment_in(value.get("record"))?;
-    let resolutions = resolutions_in(alloc, value.get("resolutions"))?;
+    let company = company_in(field(value, "company"))?;
+    let kind = meeting_kind_in(field(value, "kind"))?;
+    let given = day_in(field(value, "given"))?;
+    let appointed = moment_in(field(value, "appointed"))?;
+    let record_moment = moment_in(field(value, "record"))?;
+    let resolutions = resolutions_in(alloc, field(value, "resolutions"))?;
     Ok(NewMeeting {
         meeting,
         company,

@@ -1,5 +1,5 @@
 //! The loading of closed days.
-ghost use Rattle.serde_json.specs.View.{view, items_view};
+ghost use Rattle.json_requests.specs.BodyValues.{view, items_view};
 ghost use Rattle.vocabulary.specs.Identity.{id};
 ghost use Rattle.json_requests.specs.ParsedBodies.{BodyAgrees};
 ghost use Rattle.json_requests.specs.DayBodies.{day_at, days_body, closed_body};
@@ -8,18 +8,19 @@ ghost use Rattle.json_requests.specs.JsonFields.{json_at, all_items};
 
 use crate::ask::BodyError;
 use crate::place::{day_in, exactly_fields, items_in};
+use crate::value::field;
 use desk_words::{Day, DayList, ListFault};
-use serde_json::Value;
+use json::Value;
 use std::alloc::Global;
 
 #[tactic(auto, unfolding(crate::specs::DayBodies::day_at))]
-fn day(value: &Value) -> Result<Day, BodyError>
+fn day(value: &Value<'_>) -> Result<Day, BodyError>
     ensures { BodyAgrees id result (day_at (view value.now)) }
 {
     day_in(Some(value))
 }
 
-fn days_from(alloc: Global, items: &[Value]) -> Result<Vec<Day>, BodyError>
+fn days_from(alloc: Global, items: &[Value<'_>]) -> Result<Vec<Day>, BodyError>
     ensures { BodyAgrees (λ v. v.items) result (all_items day_at (items_view items.now)) }
 {
     let mut found = Vec::new(alloc);
@@ -40,7 +41,7 @@ fn day_list(days: Vec<Day>) -> Result<DayList, BodyError>
 }
 
 #[tactic(auto, unfolding(crate::specs::DayBodies::days_body))]
-fn days_in(alloc: Global, place: Option<&Value>) -> Result<DayList, BodyError>
+fn days_in(alloc: Global, place: Option<&Value<'_>>) -> Result<DayList, BodyError>
     ensures { BodyAgrees id result (days_body (json_at place.entry)) }
 {
     let items = items_in(place)?;
@@ -51,9 +52,9 @@ fn days_in(alloc: Global, place: Option<&Value>) -> Result<DayList, BodyError>
 /// The closed days that a value loads. It has the field `days`, an array of days, of which at most
 /// `MOST_CLOSED_DAYS` are different.
 #[tactic(auto, unfolding(crate::specs::DayBodies::closed_body))]
-pub(crate) fn closed(alloc: Global, value: &Value) -> Result<DayList, BodyError>
+pub(crate) fn closed(alloc: Global, value: &Value<'_>) -> Result<DayList, BodyError>
     ensures { BodyAgrees id result (closed_body (view value.now)) }
 {
     exactly_fields(value, 1)?;
-    days_in(alloc, value.get("days"))
+    days_in(alloc, field(value, "days"))
 }

@@ -1,5 +1,5 @@
 //! The loading of keys.
-ghost use Rattle.serde_json.specs.View.{view, items_view};
+ghost use Rattle.json_requests.specs.BodyValues.{view, items_view};
 ghost use Rattle.desk_words.specs.SortedLists.{key_list_of};
 ghost use Rattle.vocabulary.specs.Identity.{id};
 ghost use Rattle.json_requests.specs.ParsedBodies.{BodyAgrees};
@@ -8,22 +8,23 @@ ghost use Rattle.json_requests.specs.JsonFields.{json_at, all_items};
 
 use crate::ask::BodyError;
 use crate::place::{caller_in, exactly_fields, exactly_items, items_in, key_in};
+use crate::value::{field, item};
 use desk_words::{Caller, KeyRow, KeyRows, ListFault};
-use serde_json::Value;
+use json::Value;
 use std::alloc::Global;
 
 /// A row is a pair of a caller, `OFFICE` or a party, and its key.
 #[tactic(auto, unfolding(crate::specs::KeyBodies::key_row_of))]
-fn key_row(value: &Value) -> Result<KeyRow, BodyError>
+fn key_row(value: &Value<'_>) -> Result<KeyRow, BodyError>
     ensures { BodyAgrees id result (key_row_of (view value.now)) }
 {
     exactly_items(value, 2)?;
-    let caller = caller_in(value.get(0))?;
-    let secret = key_in(value.get(1))?;
+    let caller = caller_in(item(value, 0))?;
+    let secret = key_in(item(value, 1))?;
     Ok(KeyRow { caller, secret })
 }
 
-fn rows_from(alloc: Global, items: &[Value]) -> Result<Vec<KeyRow>, BodyError>
+fn rows_from(alloc: Global, items: &[Value<'_>]) -> Result<Vec<KeyRow>, BodyError>
     ensures { BodyAgrees (λ v. v.items) result (all_items key_row_of (items_view items.now)) }
 {
     let mut found = Vec::new(alloc);
@@ -47,7 +48,7 @@ fn listed(rows: Vec<KeyRow>) -> Result<KeyRows, BodyError>
 }
 
 #[tactic(auto, unfolding(crate::specs::KeyBodies::key_rows_in))]
-fn key_rows_in(alloc: Global, place: Option<&Value>) -> Result<KeyRows, BodyError>
+fn key_rows_in(alloc: Global, place: Option<&Value<'_>>) -> Result<KeyRows, BodyError>
     ensures { BodyAgrees id result (key_rows_in (json_at place.entry)) }
 {
     let items = items_in(place)?;
@@ -58,9 +59,9 @@ fn key_rows_in(alloc: Global, place: Option<&Value>) -> Result<KeyRows, BodyErro
 /// The keys that a value loads. It has the field `rows`, which are pairs of `OFFICE` or a party,
 /// and its key, at most 40,000, with no caller and no key twice.
 #[tactic(auto, unfolding(crate::specs::KeyBodies::keys_body))]
-pub(crate) fn keys(alloc: Global, value: &Value) -> Result<KeyRows, BodyError>
+pub(crate) fn keys(alloc: Global, value: &Value<'_>) -> Result<KeyRows, BodyError>
     ensures { BodyAgrees id result (keys_body (view value.now)) }
 {
     exactly_fields(value, 1)?;
-    key_rows_in(alloc, value.get("rows"))
+    key_rows_in(alloc, field(value, "rows"))
 }

@@ -14,15 +14,18 @@ mod call;
 mod closed;
 mod keys;
 pub mod laws;
+mod number;
 mod place;
 mod poll;
 mod presence;
 mod register;
 mod request;
 mod route;
+mod value;
 mod verb;
 
 pub use ask::Ask;
+pub use json::Scratch;
 pub use request::request_of;
 pub use route::{Route, route_of};
 pub use verb::{OfficeVerb, PartyVerb, Verb};

@@ -1,7 +1,8 @@
 //! What stands at a place in a JSON value: at a name in an object, or at an index in an array.
-ghost use Rattle.std.specs.Prelude.{◌≡◌};
+ghost use Rattle.std.specs.Prelude.{◌≤◌};
 ghost use Rattle.vocabulary.specs.OptionSteps.{guard};
-ghost use Rattle.serde_json.specs.View.{view, items_view};
+ghost use Rattle.json_requests.specs.BodyValues.{view, items_view};
+ghost use Rattle.json_requests.specs.declared.value.TheConstants.{MOST_FIELDS};
 ghost use Rattle.calendar.specs.DateTexts.{day_of, moment_of};
 ghost use Rattle.vocabulary.specs.Kinds.{company_of, meeting_kind_of, resolution_kind_of, holder_kind_of, way_of, capacity_of, instruction_of};
 ghost use Rattle.vocabulary.specs.Names.{key_of, party_of};
@@ -12,33 +13,17 @@ ghost use Rattle.json_requests.specs.JsonFields.{json_at, has_fields, has_items,
 ghost use Rattle.vocabulary.specs.PlainTexts.{text_of};
 
 use crate::ask::BodyError;
+use crate::value::{as_array, as_bool, as_str, as_u64, has_fields, has_items};
 use desk_words::{
     Caller, Capacity, Company, Day, HolderKind, Instr, MeetingKind, Moment, Party, ResKind,
     SecretKey, Text, TextFault, Way, read_caller, read_day, read_key, read_moment, read_party,
 };
-use serde_json::Value;
+use json::Value;
 use std::alloc::Global;
 
-fn has_fields(value: &Value, count: usize) -> bool
-    ensures { result ≡ has_fields count (view value.now) }
-{
-    match value.as_object() {
-        Some(members) => members.len() == count,
-        None => false,
-    }
-}
-
-fn has_items(value: &Value, count: usize) -> bool
-    ensures { result ≡ has_items count (view value.now) }
-{
-    match value.as_array() {
-        Some(items) => items.as_slice().len() == count,
-        None => false,
-    }
-}
-
 /// Refuses what is no object of so many fields.
-pub(crate) fn exactly_fields(value: &Value, count: usize) -> Result<(), BodyError>
+pub(crate) fn exactly_fields(value: &Value<'_>, count: usize) -> Result<(), BodyError>
+    requires { count ≤ MOST_FIELDS }
     ensures { BodyAgrees id result (guard (has_fields count (view value.now))) }
 {
     if has_fields(value, count) {
@@ -49,7 +34,7 @@ pub(crate) fn exactly_fields(value: &Value, count: usize) -> Result<(), BodyErro
 }
 
 /// Refuses what is no array of so many items.
-pub(crate) fn exactly_items(value: &Value, count: usize) -> Result<(), BodyError>
+pub(crate) fn exactly_items(value: &Value<'_>, count: usize) -> Result<(), BodyError>
     ensures { BodyAgrees id result (guard (has_items count (view value.now))) }
 {
     if has_items(value, count) {
@@ -60,115 +45,115 @@ pub(crate) fn exactly_items(value: &Value, count: usize) -> Result<(), BodyError
 }
 
 /// The string at a place.
-pub(crate) fn string_in(place: Option<&Value>) -> Result<&str, BodyError>
+pub(crate) fn string_in<'a>(place: Option<&Value<'a>>) -> Result<&'a str, BodyError>
     ensures { BodyAgrees (λ s. s.now) result (string_in (json_at place.entry)) }
 {
-    place.and_then(Value::as_str).ok_or(BodyError::Unreadable)
+    place.and_then(as_str).ok_or(BodyError::Unreadable)
 }
 
 /// The number at a place: whole, with no sign, fraction or exponent, and below 2^64.
-pub(crate) fn number_in(place: Option<&Value>) -> Result<u64, BodyError>
+pub(crate) fn number_in(place: Option<&Value<'_>>) -> Result<u64, BodyError>
     ensures { BodyAgrees id result (number_at (json_at place.entry)) }
 {
-    place.and_then(Value::as_u64).ok_or(BodyError::Unreadable)
+    place.and_then(as_u64).ok_or(BodyError::Unreadable)
 }
 
 /// Whether `true` or `false` stands at a place.
-pub(crate) fn flag_in(place: Option<&Value>) -> Result<bool, BodyError>
+pub(crate) fn flag_in(place: Option<&Value<'_>>) -> Result<bool, BodyError>
     ensures { BodyAgrees id result (flag_at (json_at place.entry)) }
 {
-    place.and_then(Value::as_bool).ok_or(BodyError::Unreadable)
+    place.and_then(as_bool).ok_or(BodyError::Unreadable)
 }
 
 /// The items of the array at a place.
-pub(crate) fn items_in(place: Option<&Value>) -> Result<&[Value], BodyError>
+pub(crate) fn items_in<'v, 'a>(place: Option<&'v Value<'a>>) -> Result<&'v [Value<'a>], BodyError>
     ensures { BodyAgrees (λ vs. items_view vs.now) result (items_in (json_at place.entry)) }
 {
-    match place.and_then(Value::as_array) {
+    match place.and_then(as_array) {
         Some(items) => Ok(items),
         None => Err(BodyError::Unreadable),
     }
 }
 
 #[tactic(auto, unfolding(crate::specs::JsonFields::parsed_at))]
-pub(crate) fn company_in(place: Option<&Value>) -> Result<Company, BodyError>
+pub(crate) fn company_in(place: Option<&Value<'_>>) -> Result<Company, BodyError>
     ensures { BodyAgrees id result (parsed_at company_of (json_at place.entry)) }
 {
     Company::of_word(string_in(place)?).ok_or(BodyError::Unreadable)
 }
 
 #[tactic(auto, unfolding(crate::specs::JsonFields::parsed_at))]
-pub(crate) fn meeting_kind_in(place: Option<&Value>) -> Result<MeetingKind, BodyError>
+pub(crate) fn meeting_kind_in(place: Option<&Value<'_>>) -> Result<MeetingKind, BodyError>
     ensures { BodyAgrees id result (parsed_at meeting_kind_of (json_at place.entry)) }
 {
     MeetingKind::of_word(string_in(place)?).ok_or(BodyError::Unreadable)
 }
 
 #[tactic(auto, unfolding(crate::specs::JsonFields::parsed_at))]
-pub(crate) fn resolution_kind_in(place: Option<&Value>) -> Result<ResKind, BodyError>
+pub(crate) fn resolution_kind_in(place: Option<&Value<'_>>) -> Result<ResKind, BodyError>
     ensures { BodyAgrees id result (parsed_at resolution_kind_of (json_at place.entry)) }
 {
     ResKind::of_word(string_in(place)?).ok_or(BodyError::Unreadable)
 }
 
 #[tactic(auto, unfolding(crate::specs::JsonFields::parsed_at))]
-pub(crate) fn holder_kind_in(place: Option<&Value>) -> Result<HolderKind, BodyError>
+pub(crate) fn holder_kind_in(place: Option<&Value<'_>>) -> Result<HolderKind, BodyError>
     ensures { BodyAgrees id result (parsed_at holder_kind_of (json_at place.entry)) }
 {
     HolderKind::of_word(string_in(place)?).ok_or(BodyError::Unreadable)
 }
 
 #[tactic(auto, unfolding(crate::specs::JsonFields::parsed_at))]
-pub(crate) fn way_in(place: Option<&Value>) -> Result<Way, BodyError>
+pub(crate) fn way_in(place: Option<&Value<'_>>) -> Result<Way, BodyError>
     ensures { BodyAgrees id result (parsed_at way_of (json_at place.entry)) }
 {
     Way::of_word(string_in(place)?).ok_or(BodyError::Unreadable)
 }
 
 #[tactic(auto, unfolding(crate::specs::JsonFields::parsed_at))]
-pub(crate) fn capacity_in(place: Option<&Value>) -> Result<Capacity, BodyError>
+pub(crate) fn capacity_in(place: Option<&Value<'_>>) -> Result<Capacity, BodyError>
     ensures { BodyAgrees id result (parsed_at capacity_of (json_at place.entry)) }
 {
     Capacity::of_word(string_in(place)?).ok_or(BodyError::Unreadable)
 }
 
 #[tactic(auto, unfolding(crate::specs::JsonFields::parsed_at))]
-pub(crate) fn instruction_in(place: Option<&Value>) -> Result<Instr, BodyError>
+pub(crate) fn instruction_in(place: Option<&Value<'_>>) -> Result<Instr, BodyError>
     ensures { BodyAgrees id result (parsed_at instruction_of (json_at place.entry)) }
 {
     Instr::of_word(string_in(place)?).ok_or(BodyError::Unreadable)
 }
 
 #[tactic(auto, unfolding(crate::specs::JsonFields::parsed_at))]
-pub(crate) fn day_in(place: Option<&Value>) -> Result<Day, BodyError>
+pub(crate) fn day_in(place: Option<&Value<'_>>) -> Result<Day, BodyError>
     ensures { BodyAgrees id result (parsed_at day_of (json_at place.entry)) }
 {
     read_day(string_in(place)?.as_bytes()).ok_or(BodyError::Unreadable)
 }
 
 #[tactic(auto, unfolding(crate::specs::JsonFields::parsed_at))]
-pub(crate) fn moment_in(place: Option<&Value>) -> Result<Moment, BodyError>
+pub(crate) fn moment_in(place: Option<&Value<'_>>) -> Result<Moment, BodyError>
     ensures { BodyAgrees id result (parsed_at moment_of (json_at place.entry)) }
 {
     read_moment(string_in(place)?.as_bytes()).ok_or(BodyError::Unreadable)
 }
 
 #[tactic(auto, unfolding(crate::specs::JsonFields::parsed_at))]
-pub(crate) fn party_in(place: Option<&Value>) -> Result<Party, BodyError>
+pub(crate) fn party_in(place: Option<&Value<'_>>) -> Result<Party, BodyError>
     ensures { BodyAgrees id result (parsed_at party_of (json_at place.entry)) }
 {
     read_party(string_in(place)?.as_bytes()).ok_or(BodyError::Unreadable)
 }
 
 #[tactic(auto, unfolding(crate::specs::JsonFields::parsed_at))]
-pub(crate) fn caller_in(place: Option<&Value>) -> Result<Caller, BodyError>
+pub(crate) fn caller_in(place: Option<&Value<'_>>) -> Result<Caller, BodyError>
     ensures { BodyAgrees id result (parsed_at caller_of (json_at place.entry)) }
 {
     read_caller(string_in(place)?.as_bytes()).ok_or(BodyError::Unreadable)
 }
 
 #[tactic(auto, unfolding(crate::specs::JsonFields::parsed_at))]
-pub(crate) fn key_in(place: Option<&Value>) -> Result<SecretKey, BodyError>
+pub(crate) fn key_in(place: Option<&Value<'_>>) -> Result<SecretKey, BodyError>
     ensures { BodyAgrees id result (parsed_at key_of (json_at place.entry)) }
 {
     read_key(string_in(place)?.as_bytes()).ok_or(BodyError::Unreadable)
@@ -185,7 +170,7 @@ fn text_of(alloc: Global, string: &str) -> Result<Text, BodyError>
 }
 
 #[tactic(auto, unfolding(crate::specs::JsonFields::parsed_at))]
-pub(crate) fn text_in(alloc: Global, place: Option<&Value>) -> Result<Text, BodyError>
+pub(crate) fn text_in(alloc: Global, place: Option<&Value<'_>>) -> Result<Text, BodyError>
     ensures { BodyAgrees id result (parsed_at text_of (json_at place.entry)) }
 {
     text_of(alloc, string_in(place)?)

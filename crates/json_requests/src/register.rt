@@ -1,5 +1,5 @@
 //! The loading of a register.
-ghost use Rattle.serde_json.specs.View.{view, items_view};
+ghost use Rattle.json_requests.specs.BodyValues.{view, items_view};
 ghost use Rattle.desk_words.specs.Registers.{register_of};
 ghost use Rattle.vocabulary.specs.Identity.{id};
 ghost use Rattle.json_requests.specs.ParsedBodies.{BodyAgrees};
@@ -11,21 +11,22 @@ use crate::place::{
     exactly_fields, exactly_items, holder_kind_in, items_in, moment_in, number_in, party_in,
     text_in,
 };
+use crate::value::{field, item};
 use desk_words::{ListFault, NewRegister, OfficeRequest, Register, RegisterRow};
-use serde_json::Value;
+use json::Value;
 use std::alloc::Global;
 
 /// A row is a member, its kind, its name, its shares and what is paid up on each of them.
 #[tactic(auto, unfolding(crate::specs::RegisterBodies::row_at))]
-fn row(alloc: Global, value: &Value) -> Result<RegisterRow, BodyError>
+fn row(alloc: Global, value: &Value<'_>) -> Result<RegisterRow, BodyError>
     ensures { BodyAgrees id result (row_at (view value.now)) }
 {
     exactly_items(value, 5)?;
-    let member = party_in(value.get(0))?;
-    let kind = holder_kind_in(value.get(1))?;
-    let name = text_in(alloc, value.get(2))?;
-    let shares = number_in(value.get(3))?;
-    let paid = number_in(value.get(4))?;
+    let member = party_in(item(value, 0))?;
+    let kind = holder_kind_in(item(value, 1))?;
+    let name = text_in(alloc, item(value, 2))?;
+    let shares = number_in(item(value, 3))?;
+    let paid = number_in(item(value, 4))?;
     Ok(RegisterRow {
         member,
         kind,
@@ -35,7 +36,7 @@ fn row(alloc: Global, value: &Value) -> Result<RegisterRow, BodyError>
     })
 }
 
-fn rows_from(alloc: Global, items: &[Value]) -> Result<Vec<RegisterRow>, BodyError>
+fn rows_from(alloc: Global, items: &[Value<'_>]) -> Result<Vec<RegisterRow>, BodyError>
     ensures { BodyAgrees (λ v. v.items) result (all_items row_at (items_view items.now)) }
 {
     let mut found = Vec::new(alloc);
@@ -56,7 +57,7 @@ fn registered(rows: Vec<RegisterRow>) -> Result<Register, BodyError>
 }
 
 #[tactic(auto, unfolding(crate::specs::RegisterBodies::register_body))]
-fn register_in(alloc: Global, place: Option<&Value>) -> Result<Register, BodyError>
+fn register_in(alloc: Global, place: Option<&Value<'_>>) -> Result<Register, BodyError>
     ensures { BodyAgrees id result (register_body (json_at place.entry)) }
 {
     let items = items_in(place)?;
@@ -68,12 +69,12 @@ fn register_in(alloc: Global, place: Option<&Value>) -> Result<Register, BodyErr
 /// arrays of a member, a kind (`individual`, `corporation` or `treasury`), a name, a number of
 /// shares and the pence paid up on each of them, and together make a register.
 #[tactic(auto, unfolding(crate::specs::RegisterBodies::load_in))]
-pub(crate) fn load(alloc: Global, value: &Value) -> Result<OfficeRequest, BodyError>
+pub(crate) fn load(alloc: Global, value: &Value<'_>) -> Result<OfficeRequest, BodyError>
     ensures { BodyAgrees id result (load_in (view value.now)) }
 {
     exactly_fields(value, 2)?;
-    let record_moment = moment_in(value.get("record"))?;
-    let rows = register_in(alloc, value.get("rows"))?;
+    let record_moment = moment_in(field(value, "record"))?;
+    let rows = register_in(alloc, field(value, "rows"))?;
     Ok(OfficeRequest::LoadRegister(NewRegister {
         record_moment,
         rows,

@@ -26,97 +26,119 @@ use desk_words::{
     DayList, DeskRequest, KeyRows, MeetingId, NewMeeting, OfficeRequest, PartyRequest, Refusal,
     Request,
 };
+use json::Scratch;
 use std::alloc::Global;
 
 const ROUTE: Ask = Ask::Refused(Refusal::Route);
 
 #[tactic(auto, unfolding(crate::specs::Bodies::read_by))]
-fn called(alloc: Global, meeting: MeetingId, body: &[u8]) -> Result<NewMeeting, BodyError>
+fn called(
+    alloc: Global,
+    scratch: &mut Scratch,
+    meeting: MeetingId,
+    body: &[u8],
+) -> Result<NewMeeting, BodyError>
     ensures { BodyAgrees id result (read_by (call_body meeting) body.now) }
 {
-    call(alloc, meeting, &read_body(alloc, body)?)
+    call(alloc, meeting, &read_body(alloc, scratch, body)?)
 }
 
 #[tactic(auto, unfolding(crate::specs::Bodies::read_by))]
-fn closed_days(alloc: Global, body: &[u8]) -> Result<DayList, BodyError>
+fn closed_days(alloc: Global, scratch: &mut Scratch, body: &[u8]) -> Result<DayList, BodyError>
     ensures { BodyAgrees id result (read_by closed_body body.now) }
 {
-    closed(alloc, &read_body(alloc, body)?)
+    closed(alloc, &read_body(alloc, scratch, body)?)
 }
 
 #[tactic(auto, unfolding(crate::specs::Bodies::read_by))]
-fn key_rows(alloc: Global, body: &[u8]) -> Result<KeyRows, BodyError>
+fn key_rows(alloc: Global, scratch: &mut Scratch, body: &[u8]) -> Result<KeyRows, BodyError>
     ensures { BodyAgrees id result (read_by keys_body body.now) }
 {
-    keys(alloc, &read_body(alloc, body)?)
+    keys(alloc, &read_body(alloc, scratch, body)?)
 }
 
 /// What the office asks in a meeting.
 #[tactic(auto, unfolding(crate::specs::Bodies::read_by))]
-fn office_asks(alloc: Global, verb: OfficeVerb, body: &[u8]) -> Result<OfficeRequest, BodyError>
+fn office_asks(
+    alloc: Global,
+    scratch: &mut Scratch,
+    verb: OfficeVerb,
+    body: &[u8],
+) -> Result<OfficeRequest, BodyError>
     ensures { BodyAgrees id result (office_asks verb body.now) }
 {
     match verb {
-        OfficeVerb::Presence => presence(&read_body(alloc, body)?),
-        OfficeVerb::Register => load(alloc, &read_body(alloc, body)?),
-        OfficeVerb::Open => open(&read_body(alloc, body)?),
-        OfficeVerb::Adjourn => adjourn(&read_body(alloc, body)?),
-        OfficeVerb::Order => order(&read_body(alloc, body)?),
-        OfficeVerb::Start => start(&read_body(alloc, body)?),
-        OfficeVerb::Close => close(&read_body(alloc, body)?),
-        OfficeVerb::Declare => declare(&read_body(alloc, body)?),
+        OfficeVerb::Presence => presence(&read_body(alloc, scratch, body)?),
+        OfficeVerb::Register => load(alloc, &read_body(alloc, scratch, body)?),
+        OfficeVerb::Open => open(&read_body(alloc, scratch, body)?),
+        OfficeVerb::Adjourn => adjourn(&read_body(alloc, scratch, body)?),
+        OfficeVerb::Order => order(&read_body(alloc, scratch, body)?),
+        OfficeVerb::Start => start(&read_body(alloc, scratch, body)?),
+        OfficeVerb::Close => close(&read_body(alloc, scratch, body)?),
+        OfficeVerb::Declare => declare(&read_body(alloc, scratch, body)?),
     }
 }
 
 /// What a party asks in a meeting.
 #[tactic(auto, unfolding(crate::specs::Bodies::read_by))]
-fn party_asks(alloc: Global, verb: PartyVerb, body: &[u8]) -> Result<PartyRequest, BodyError>
+fn party_asks(
+    alloc: Global,
+    scratch: &mut Scratch,
+    verb: PartyVerb,
+    body: &[u8],
+) -> Result<PartyRequest, BodyError>
     ensures { BodyAgrees id result (party_asks verb body.now) }
 {
     match verb {
         PartyVerb::Notice => Ok(PartyRequest::Notice),
         PartyVerb::Mine => Ok(PartyRequest::Mine),
-        PartyVerb::Appoint => appoint(alloc, &read_body(alloc, body)?),
-        PartyVerb::End => end(&read_body(alloc, body)?),
-        PartyVerb::Authorise => authorise(&read_body(alloc, body)?),
-        PartyVerb::Attend => attend(&read_body(alloc, body)?),
-        PartyVerb::Demand => demand(&read_body(alloc, body)?),
-        PartyVerb::Cast => cast(&read_body(alloc, body)?),
-        PartyVerb::Instructed => instructed(&read_body(alloc, body)?),
+        PartyVerb::Appoint => appoint(alloc, &read_body(alloc, scratch, body)?),
+        PartyVerb::End => end(&read_body(alloc, scratch, body)?),
+        PartyVerb::Authorise => authorise(&read_body(alloc, scratch, body)?),
+        PartyVerb::Attend => attend(&read_body(alloc, scratch, body)?),
+        PartyVerb::Demand => demand(&read_body(alloc, scratch, body)?),
+        PartyVerb::Cast => cast(&read_body(alloc, scratch, body)?),
+        PartyVerb::Instructed => instructed(&read_body(alloc, scratch, body)?),
     }
 }
 
 /// What `call` asks, in the meeting that is to have that name.
-fn by_call(alloc: Global, meeting: MeetingId, body: &[u8]) -> Result<Request, Ask>
+fn by_call(
+    alloc: Global,
+    scratch: &mut Scratch,
+    meeting: MeetingId,
+    body: &[u8],
+) -> Result<Request, Ask>
     ensures { AskAgrees id result (or_unreadable (option_map (λ new. request.Desk (desk.CallMeeting new))
         (read_by (call_body meeting) body.now))) }
 {
-    let new = called(alloc, meeting, body)?;
+    let new = called(alloc, scratch, meeting, body)?;
     Ok(Request::Desk(DeskRequest::CallMeeting(new)))
 }
 
 /// What `closed` asks of the whole desk.
-fn by_closed(alloc: Global, body: &[u8]) -> Result<Request, Ask>
+fn by_closed(alloc: Global, scratch: &mut Scratch, body: &[u8]) -> Result<Request, Ask>
     ensures { AskAgrees id result (or_unreadable (option_map
         (λ days. request.Desk (desk.ClosedDays days))
         (read_by closed_body body.now))) }
 {
-    let days = closed_days(alloc, body)?;
+    let days = closed_days(alloc, scratch, body)?;
     Ok(Request::Desk(DeskRequest::ClosedDays(days)))
 }
 
 /// What `keys` asks of the whole desk.
-fn by_keys(alloc: Global, body: &[u8]) -> Result<Request, Ask>
+fn by_keys(alloc: Global, scratch: &mut Scratch, body: &[u8]) -> Result<Request, Ask>
     ensures { AskAgrees id result (or_unreadable (option_map (λ rows. request.Desk (desk.Keys rows))
         (read_by keys_body body.now))) }
 {
-    let rows = key_rows(alloc, body)?;
+    let rows = key_rows(alloc, scratch, body)?;
     Ok(Request::Desk(DeskRequest::Keys(rows)))
 }
 
 /// What the office asks in that meeting.
 fn by_office(
     alloc: Global,
+    scratch: &mut Scratch,
     verb: OfficeVerb,
     meeting: MeetingId,
     body: &[u8],
@@ -124,16 +146,22 @@ fn by_office(
     ensures { AskAgrees id result (or_unreadable (option_map (λ what. request.Office meeting what)
         (office_asks verb body.now))) }
 {
-    let asked = office_asks(alloc, verb, body)?;
+    let asked = office_asks(alloc, scratch, verb, body)?;
     Ok(Request::Office { meeting, asked })
 }
 
 /// What a party asks in that meeting.
-fn by_party(alloc: Global, verb: PartyVerb, meeting: MeetingId, body: &[u8]) -> Result<Request, Ask>
+fn by_party(
+    alloc: Global,
+    scratch: &mut Scratch,
+    verb: PartyVerb,
+    meeting: MeetingId,
+    body: &[u8],
+) -> Result<Request, Ask>
     ensures { AskAgrees id result (or_unreadable (option_map (λ what. request.Party meeting what)
         (party_asks verb body.now))) }
 {
-    let asked = party_asks(alloc, verb, body)?;
+    let asked = party_asks(alloc, scratch, verb, body)?;
     Ok(Request::Party { meeting, asked })
 }
 
@@ -142,16 +170,17 @@ impl Route {
     /// the body does not say what the verb asks, and only there. For `notice` and `mine` the body
     /// is not looked at. Of a field that is repeated the last value counts, and an empty body
     /// stands for an object with no fields. The error is `Memory` only where an allocation was
-    /// refused.
-    pub fn request(self, alloc: Global, body: &[u8]) -> Result<Request, Ask>
+    /// refused. The room that reading needs is kept in `scratch`, from one body to the next, and
+    /// what it held before tells nothing.
+    pub fn request(self, alloc: Global, scratch: &mut Scratch, body: &[u8]) -> Result<Request, Ask>
         ensures { AskAgrees id result (or_unreadable (asked_on_route self body.now)) }
     {
         match self {
-            Route::Call(meeting) => by_call(alloc, meeting, body),
-            Route::Closed => by_closed(alloc, body),
-            Route::Keys => by_keys(alloc, body),
-            Route::Office { meeting, verb } => by_office(alloc, verb, meeting, body),
-            Route::Party { meeting, verb } => by_party(alloc, verb, meeting, body),
+            Route::Call(meeting) => by_call(alloc, scratch, meeting, body),
+            Route::Closed => by_closed(alloc, scratch, body),
+            Route::Keys => by_keys(alloc, scratch, body),
+            Route::Office { meeting, verb } => by_office(alloc, scratch, verb, meeting, body),
+            Route::Party { meeting, verb } => by_party(alloc, scratch, verb, meeting, body),
         }
     }
 }
@@ -163,11 +192,18 @@ impl Route {
 /// anything but `-` stands before `closed` and `keys`, and only else, as `Unreadable`, where the
 /// body does not say what the verb asks. For `notice` and `mine` the body is not looked at. Of a
 /// field that is repeated the last value counts, and an empty body stands for an object with no
-/// fields. The error is `Memory` only where an allocation was refused.
+/// fields. The error is `Memory` only where an allocation was refused. The room that reading needs
+/// is kept in `scratch`, from one body to the next, and what it held before tells nothing.
 #[tactic(auto, unfolding(crate::specs::Requests::request_of))]
-pub fn request_of(alloc: Global, meeting: &[u8], verb: &[u8], body: &[u8]) -> Result<Request, Ask>
+pub fn request_of(
+    alloc: Global,
+    scratch: &mut Scratch,
+    meeting: &[u8],
+    verb: &[u8],
+    body: &[u8],
+) -> Result<Request, Ask>
     ensures { AskAgrees id result (request_of meeting.now verb.now body.now) }
 {
     let route = route_of(meeting, verb).ok_or(ROUTE)?;
-    route.request(alloc, body)
+    route.request(alloc, scratch, body)
 }

@@ -6,7 +6,7 @@ ghost use Rattle.replay.specs.ReplayLines.{at_first_space, parts_of, parsed_call
 ghost use Rattle.replay.specs.PartsView.{parts_view, text_view};
 
 use desk_words::{Call, Refusal, read_caller, read_moment};
-use json_requests::{Ask, request_of};
+use json_requests::{Ask, Scratch, request_of};
 use std::alloc::Global;
 
 const UNREADABLE: Ask = Ask::Refused(Refusal::Unreadable);
@@ -64,9 +64,10 @@ fn text_of(bytes: &[u8]) -> Result<&str, Ask>
 /// The call that a line asks: a moment, a caller, a meeting, a verb and a body, parted at its first
 /// four spaces; with three alone the body is empty. It is refused as `Unreadable` where it is no
 /// UTF-8, has fewer parts or no moment, then as `Key` where the caller is neither the office nor a
-/// party, and then as its request is. `Memory` is answered only where an allocation was refused.
+/// party, and then as its request is. `Memory` is answered only where an allocation was refused. The
+/// room that reading needs is kept in `scratch`, from one line to the next.
 #[tactic(auto, unfolding(crate::specs::ReplayLines::parsed_call))]
-pub fn call_of(alloc: Global, line: &[u8]) -> Result<Call, Ask>
+pub fn call_of(alloc: Global, scratch: &mut Scratch, line: &[u8]) -> Result<Call, Ask>
     ensures { AskAgrees id result (parsed_call line.now) }
 {
     let text = text_of(line)?;
@@ -75,6 +76,7 @@ pub fn call_of(alloc: Global, line: &[u8]) -> Result<Call, Ask>
     let caller = read_caller(parts.caller.as_bytes()).ok_or(KEY)?;
     let request = request_of(
         alloc,
+        scratch,
         parts.meeting.as_bytes(),
         parts.verb.as_bytes(),
         parts.body.as_bytes(),

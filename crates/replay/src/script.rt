@@ -21,7 +21,7 @@ use any_office::Office;
 use byte_io::{DeviceError, Sink, Source, write_all};
 use desk_words::{Failure, Refusal, Reply};
 use json_replies::reply_text;
-use json_requests::Ask;
+use json_requests::{Ask, Scratch};
 use line_reader::{LineReader, NextLine, ReadFault};
 use meeting_core::Book;
 use std::alloc::{AllocError, Global};
@@ -89,14 +89,19 @@ fn refusal_line(alloc: Global, refusal: Refusal) -> Result<Vec<u8>, Failure>
 
 /// Answers one line that is neither empty nor too long. The text is made before the call is made to
 /// last, so that a text which is refused memory changes nothing.
-fn answer<O: Office>(alloc: Global, office: &mut O, line: &[u8]) -> Result<Vec<u8>, Failure>
+fn answer<O: Office>(
+    alloc: Global,
+    scratch: &mut Scratch,
+    office: &mut O,
+    line: &[u8],
+) -> Result<Vec<u8>, Failure>
     requires some { 0 < length line.now }
     requires short { length line.now ≤ longest_line }
     ensures answers { OfOpenOffice O.Office office.old office.new
         (λ it. AnswersLine O.Office it line.now result office.new) }
     ensures leaves { (made : Option Call) × LeavesOffice O.Office made office.old office.new }
 {
-    match call_of(alloc, line) {
+    match call_of(alloc, scratch, line) {
         Ok(call) => office.perform(call, |reply| reply_line(alloc, reply)),
         Err(Ask::Refused(refusal)) => refusal_line(alloc, refusal),
         Err(Ask::Memory) => Err(Failure::Memory),
@@ -121,6 +126,7 @@ fn write_answer<W: Sink>(writer: &mut W, text: Result<Vec<u8>, Failure>) -> Resu
 /// Reads one line and writes its answer. `false` says that there was no line.
 fn turn<O: Office, R: Source, W: Sink>(
     alloc: Global,
+    scratch: &mut Scratch,
     office: &mut O,
     lines: &mut LineReader,
     reader: &mut R,
@@ -165,7 +171,7 @@ fn turn<O: Office, R: Source, W: Sink>(
             if line.is_empty() {
                 return Ok(true);
             }
-            answer(alloc, office, line)
+            answer(alloc, scratch, office, line)
         }
     };
     write_answer(writer, text)?;
@@ -212,7 +218,8 @@ pub fn replay_on<O: Office, R: Source, W: Sink>(
     ensures bound { R.passed reader.new - R.passed reader.old ≤ longest_input + 1 }
 {
     let mut lines = LineReader::new();
-    while turn(alloc, office, &mut lines, reader, writer)? {}
+    let mut scratch = Scratch::new(alloc);
+    while turn(alloc, &mut scratch, office, &mut lines, reader, writer)? {}
     Ok(())
 }
 

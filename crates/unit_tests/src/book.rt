@@ -2,7 +2,7 @@
 use desk_words::Call;
 use json_replies::reply_text;
 use meeting_core::Book;
-use replay::call_of;
+use replay::{Scratch, call_of};
 use std::alloc::Global;
 use std::test::Fail;
 
@@ -21,7 +21,10 @@ const OPENING: [&str; 7] = [
 ];
 
 fn call(alloc: Global, line: &str) -> Result<Call, Fail> {
-    Ok(call_of(alloc, line.as_bytes()).ok().ok_or("a call")?)
+    let mut scratch = Scratch::new(alloc);
+    Ok(call_of(alloc, &mut scratch, line.as_bytes())
+        .ok()
+        .ok_or("a call")?)
 }
 
 /// The text of the reply of a book to a line.

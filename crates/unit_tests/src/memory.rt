@@ -3,7 +3,7 @@ use crate::office::moment;
 use byte_io::{SliceSource, VecSink};
 use desk_http::serve_one;
 use meeting_core::Book;
-use replay::call_of;
+use replay::{Scratch, call_of};
 use std::alloc::Global;
 use std::test::Fail;
 
@@ -30,7 +30,10 @@ const EXISTS: &str = "HTTP/1.1 409 Conflict\r\nContent-Type: application/json\r\
 /// An office in memory, with a key of its own.
 fn new_book(alloc: Global) -> Result<Book, Fail> {
     let mut book = Book::new(alloc);
-    let call = call_of(alloc, KEYS.as_bytes()).ok().ok_or("a call")?;
+    let mut scratch = Scratch::new(alloc);
+    let call = call_of(alloc, &mut scratch, KEYS.as_bytes())
+        .ok()
+        .ok_or("a call")?;
     book.step(call)?;
     Ok(book)
 }

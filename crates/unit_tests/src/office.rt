@@ -5,7 +5,7 @@ use desk_http::{NowError, serve_now};
 use desk_words::{Moment, read_moment};
 use http_listener::{LoopFault, serve_loop};
 use meeting_core::Book;
-use replay::call_of;
+use replay::{Scratch, call_of};
 use std::alloc::Global;
 use std::net::{TcpListener, TcpStream};
 use std::test::Fail;
@@ -31,8 +31,11 @@ impl Office {
     /// An office whose lines were all answered.
     pub(crate) fn new(alloc: Global) -> Result<Office, Fail> {
         let mut book = Book::new(alloc);
+        let mut scratch = Scratch::new(alloc);
         for line in LINES {
-            let call = call_of(alloc, line.as_bytes()).ok().ok_or("a call")?;
+            let call = call_of(alloc, &mut scratch, line.as_bytes())
+                .ok()
+                .ok_or("a call")?;
             book.step(call)?;
         }
         Ok(Office { alloc, book })

@@ -1,5 +1,5 @@
 use Rattle.std.proofs.Common.{Some, subst, ap, sym, ◌∙◌}
-use Rattle.serde_json.specs.View.{view}
+use Rattle.json_requests.specs.BodyValues.{view}
 use Rattle.json_requests.specs.ParsedBodies.{BodyAgrees}
 use Rattle.json_requests.proofs.JsonBodyLemmas.{body_of-bytes, body_of-nothing}
 use Rattle.json_requests.proofs.body.read_body.Goals as goal
