@@ -22,9 +22,11 @@ const OPENING: [&str; 7] = [
 
 fn call(alloc: Global, line: &str) -> Result<Call, Fail> {
     let mut scratch = Scratch::new(alloc);
-    Ok(call_of(alloc, &mut scratch, line.as_bytes())
-        .ok()
-        .ok_or("a call")?)
+    Ok(
+        call_of(alloc, &mut scratch, line.as_bytes())
+            .ok()
+            .ok_or("a call")?,
+    )
 }
 
 /// The text of the reply of a book to a line.
