@@ -1,6 +1,5 @@
 -- A call that is decided, and written.
-use Rattle.std.proofs.Common.{◌≡◌, true, Option, Some, None, Ok, Err, Result, IsErr, IsTrue, sym, ap, subst, ◌∙◌, arith}
-use Rattle.sqlite.specs.declared.error.Error.{Error}
+use Rattle.std.proofs.Common.{◌≡◌, true, Option, Some, None, Ok, Err, Result, IfOk, IsErr, IsTrue, OnOk, sym, ap, subst, ◌∙◌, arith}
 use Rattle.sqlite.specs.Effect.{Database, IsDatabase}
 use Rattle.sqlite.specs.Held.{Held, state}
 use Rattle.sqlite.specs.State.{HasCleanDisk, IsUnchanged, KeepsCommit}
@@ -39,7 +38,7 @@ module _ {S : Type 0} (g : store.Ghosts S) (a b c : Held S) (call : Call) (answe
       let there = stands_same (state g a) (state g b) office same.0.now_is stands in
       record { desk = there.desk; version = there.version; inside = same.0.mode ∙ inside; sound = subst IsDatabase (sym same.0.now_is) sound; means = there.holds }
 
-  module _ {T : Type 0} (r : Result T Error) (writes : WritesIfAny g b c r answer.change) where
+  module _ {T E : Type 0} (r : Result T E) (writes : WritesIfAny g b c r answer.change) where
     early : HasCleanDisk (state g c) → HasCleanDisk (state g b)
     early clean = omega (arith, writes.crash.clean, clean)
 
@@ -62,7 +61,7 @@ module _ {S : Type 0} (g : store.Ghosts S) (a b c : Held S) (call : Call) (answe
         subst (λ (h : Held S). IsUnchanged (state g a) (state g h)) (sym same) (told.same (before, stands.desk))
 
   -- where it is written, the tables are the office after the step
-  pub step_holds : {T : Type 0} (x : T) → DecidedChangesCanBeMade → WritesIfAny g b c (Ok x) answer.change → HasCleanDisk (state g c) → IsTrue (state g a).in_transaction → IsDatabase (state g a).now → (office : OfficeLists) → Stands (state g a) office
+  pub step_holds : {T E : Type 0} (x : T) → DecidedChangesCanBeMade → WritesIfAny {T = T} {E = E} g b c (Ok x) answer.change → HasCleanDisk (state g c) → IsTrue (state g a).in_transaction → IsDatabase (state g a).now → (office : OfficeLists) → Stands (state g a) office
       → (Stands (state g c) (stepped office call) × IsDatabase (state g c).now) × IsTrue (state g c).in_transaction × ((decided office call).reply ≡ answer.reply) × DeclaresNothing (state g a) (state g c)
   step_holds x law writes clean inside sound office stands =
       let before = early (Ok x) writes clean in
@@ -85,3 +84,14 @@ module _ {S : Type 0} (g : store.Ghosts S) (a b c : Held S) (call : Call) (answe
         sym (ap (λ (it : Answer Change). it.reply) is.is),
         written.1 ∙ ap (λ (d : Database). d.schema) same.0.now_is,
       )
+
+  -- so they are where what was written and shown is returned
+  pub step_on : {T E : Type 0} (r : Result T E) → DecidedChangesCanBeMade → WritesIfAny g b c r answer.change → HasCleanDisk (state g c) → IsTrue (state g a).in_transaction → IsDatabase (state g a).now → (office : OfficeLists) → Stands (state g a) office
+      → OnOk r ((Stands (state g c) (stepped office call) × IsDatabase (state g c).now) × IsTrue (state g c).in_transaction × ((decided office call).reply ≡ answer.reply) × DeclaresNothing (state g a) (state g c))
+  step_on (Ok x) law writes = step_holds x law writes
+  step_on (Err e) law writes = λ clean inside sound office stands. tt
+
+-- what is returned, and what holds where anything is
+pub both_on : {T E W : Type 0} (P Q : T → Type 0) (r : Result T E) → ((t : T) → P t → W → Q t) → IfOk r P → OnOk r W → IfOk r Q
+both_on P Q (Ok t) next p w = next t p w
+both_on P Q (Err e) next p w = tt

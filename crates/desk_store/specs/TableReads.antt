@@ -1,6 +1,5 @@
 -- What a reading of the tables returns, and what is decided is written into them.
 use Rattle.std.specs.Prelude.{◌≡◌, ℕ, Bool, List, Option, Some, None, Result, IfOk, OnOk, IsTrue}
-use Rattle.sqlite.specs.declared.error.Error.{Error}
 use Rattle.sqlite.specs.Effect.{IsDatabase}
 use Rattle.sqlite.specs.Held.{Held, state}
 use Rattle.sqlite.specs.State.{HasCleanDisk, IsUnchanged, KeepsCommit, Survives}
@@ -79,8 +78,8 @@ can_make_if_any office None = is_office office
 can_make_if_any office (Some change) = can_make office change
 
 -- what writing a change, or nothing, ensures of tables that are an office
-pub record WritesIfAny {S T : Type 0} (g : store.Ghosts S) (old new : Held S)
-    (result : Result T Error) (change : Option Change) : Type 0 where
+pub record WritesIfAny {S T E : Type 0} (g : store.Ghosts S) (old new : Held S)
+    (result : Result T E) (change : Option Change) : Type 0 where
   pub written : HasCleanDisk (state g new) → (office : OfficeLists) → StandsIn office (state g old)
       → IsTrue (can_make_if_any office change)
       → OnOk result (StandsIn (applied_if_any office change) (state g new)

@@ -39,6 +39,22 @@ fn write_if_any<S: Alter>(
     }
 }
 
+/// Writes what an answer changes, and asks what is shown of its reply.
+fn write_and_show<S: Alter, T: Drop, F: FnOnce(&Reply) -> Result<T, AllocError>>(
+    tx: &mut Transaction<'_, S>,
+    alloc: Global,
+    answer: &Answer<Change>,
+    show: F,
+) -> Result<T, LoadError>
+    requires callable { F.IsAlwaysCallable show }
+    ensures same_reference { tx.new.conn.ghost_name ≡ tx.old.conn.ghost_name }
+    ensures writes { WritesIfAny S.Store tx.old.conn.now tx.new.conn.now result answer.now.change }
+    ensures shown { IfOk result (λ t. FnOnceReturnsAt F.FnOnce show answer.now.reply (Ok t)) }
+{
+    write_if_any(tx, alloc, answer)?;
+    Ok(show(&answer.reply)?)
+}
+
 /// Decides a call, writes what it changes, and asks what is shown of the reply.
 fn step<S: Alter, T: Drop, F: FnOnce(&Reply) -> Result<T, AllocError>>(
     tx: &mut Transaction<'_, S>,
@@ -68,8 +84,7 @@ fn step<S: Alter, T: Drop, F: FnOnce(&Reply) -> Result<T, AllocError>>(
 {
     let answer = decide(tx, alloc, call)?;
     decided_changes_can_be_made();
-    write_if_any(tx, alloc, &answer)?;
-    Ok(show(&answer.reply)?)
+    write_and_show(tx, alloc, &answer, show)
 }
 
 impl<S: Alter> Desk<S> {

@@ -1,5 +1,6 @@
 //! What the tables hold, read within a transaction.
 ghost use Rattle.std.specs.Prelude.{◌≡◌};
+ghost use Rattle.desk_words.specs.declared.office.OfficeLists.{OfficeLists};
 ghost use Rattle.desk_store.specs.StoreFailures.{failure_of_read, fault_of_book};
 ghost use Rattle.desk_store.specs.TableReads.{IsOwnView, IsCallerWith, IsPublic, HoldsOfTables, IsBookOf};
 
@@ -86,4 +87,110 @@ pub(crate) fn read_things<S: Alter>(
         (IsOwnView party meeting now) }
 {
     read_own(tx, alloc, party, meeting, now)
+}
+
+/// What is read of the tables, within a transaction.
+pub(crate) trait Reading {
+    type Found: Drop;
+
+    /// This is found of an office.
+    ghost finds: { Self → OfficeLists → Self.Found → Type 0 };
+
+    /// Reads it. Nothing is changed.
+    fn read<S: Alter>(
+        &self,
+        tx: &mut Transaction<'_, S>,
+        alloc: Global,
+    ) -> Result<Self::Found, LoadError>
+        ensures same_reference { tx.new.conn.ghost_name ≡ tx.old.conn.ghost_name }
+        ensures holds { HoldsOfTables S.Store tx.old.conn.now tx.new.conn.now result
+            (finds self.now) };
+}
+
+/// The office that the tables hold, in memory.
+#[derive(Clone, Copy)]
+pub(crate) struct WholeOffice;
+
+impl Reading for WholeOffice {
+    ghost use Rattle.desk_store.specs.TableReads.{IsBookOf};
+
+    type Found = Book;
+
+    ghost finds = { λ _. IsBookOf };
+
+    fn read<S: Alter>(
+        &self,
+        tx: &mut Transaction<'_, S>,
+        alloc: Global,
+    ) -> Result<Book, LoadError> {
+        read_book(tx, alloc)
+    }
+}
+
+/// The caller with a key.
+#[derive(Clone, Copy)]
+pub(crate) struct CallerOf {
+    pub(crate) key: SecretKey,
+}
+
+impl Reading for CallerOf {
+    ghost use Rattle.desk_store.specs.TableReads.{IsCallerWith};
+
+    type Found = Option<Caller>;
+
+    ghost finds = { λ it. IsCallerWith it.key };
+
+    fn read<S: Alter>(
+        &self,
+        tx: &mut Transaction<'_, S>,
+        alloc: Global,
+    ) -> Result<Option<Caller>, LoadError> {
+        read_caller(tx, alloc, &self.key)
+    }
+}
+
+/// The public record of a meeting.
+#[derive(Clone, Copy)]
+pub(crate) struct PublicOf {
+    pub(crate) meeting: MeetingId,
+}
+
+impl Reading for PublicOf {
+    ghost use Rattle.desk_store.specs.TableReads.{IsPublic};
+
+    type Found = OwnedRecord;
+
+    ghost finds = { λ it. IsPublic it.meeting };
+
+    fn read<S: Alter>(
+        &self,
+        tx: &mut Transaction<'_, S>,
+        alloc: Global,
+    ) -> Result<OwnedRecord, LoadError> {
+        read_record(tx, alloc, self.meeting)
+    }
+}
+
+/// The own things of a party in a meeting at a moment.
+#[derive(Clone, Copy)]
+pub(crate) struct ThingsOf {
+    pub(crate) party: Party,
+    pub(crate) meeting: MeetingId,
+    pub(crate) now: Moment,
+}
+
+impl Reading for ThingsOf {
+    ghost use Rattle.desk_store.specs.TableReads.{IsOwnView};
+
+    type Found = OwnView;
+
+    ghost finds = { λ it. IsOwnView it.party it.meeting it.now };
+
+    fn read<S: Alter>(
+        &self,
+        tx: &mut Transaction<'_, S>,
+        alloc: Global,
+    ) -> Result<OwnView, LoadError> {
+        read_things(tx, alloc, self.party, self.meeting, self.now)
+    }
 }

@@ -12,7 +12,7 @@ ghost use Rattle.sqlite.specs.Held.{state};
 ghost use Rattle.sqlite.specs.State.{Survives};
 
 use crate::desk::Desk;
-use crate::reading::{failure_of, read_book, read_caller, read_record, read_things};
+use crate::reading::{CallerOf, PublicOf, Reading, ThingsOf, WholeOffice, failure_of};
 use desk_words::{Caller, Failure, MeetingId, Moment, Party, SecretKey};
 use meeting_core::Book;
 use party_views::OwnView;
@@ -20,6 +20,26 @@ use sql_load_public::OwnedRecord;
 use sqlite::Alter;
 
 impl<S: Alter> Desk<S> {
+    /// Reads the tables, in one transaction.
+    fn read<R: Reading>(&mut self, what: &R) -> Result<R::Found, Failure>
+        ensures found { HoldsOfDesk S.Store self.old self.new
+            (λ office. IfOk result (R.finds what.now office)) }
+        ensures leaves { LeavesDesk S.Store None self.old self.new }
+        ensures ended { self.new.in_transaction ≡ false }
+        ensures stays_open { OnDone S.Store self.new result
+            (IsTrue (state S.Store self.new).is_open) }
+        ensures settled { OnDone S.Store self.new result (LeavesItself (state S.Store self.new)) }
+        ensures crash { IsDeskIfOpen (state S.Store self.old)
+            → Survives (state S.Store self.old) (state S.Store self.new) (λ _. ⊥) }
+    {
+        self.ask_open()?;
+        let _ = self.conn.is_autocommit();
+        let mut tx = self.conn.transaction();
+        let found = what.read(&mut tx, self.alloc).map_err(failure_of)?;
+        tx.commit().map_err(|error| failure_of(error.into()))?;
+        Ok(found)
+    }
+
     /// The caller whose key this is; none exactly where no key equals it.
     pub fn caller_of(&mut self, key: &SecretKey) -> Result<Option<Caller>, Failure>
         ensures found { HoldsOfDesk S.Store self.old self.new
@@ -32,12 +52,7 @@ impl<S: Alter> Desk<S> {
         ensures crash { IsDeskIfOpen (state S.Store self.old)
             → Survives (state S.Store self.old) (state S.Store self.new) (λ _. ⊥) }
     {
-        self.ask_open()?;
-        let _ = self.conn.is_autocommit();
-        let mut tx = self.conn.transaction();
-        let found = read_caller(&mut tx, self.alloc, key).map_err(failure_of)?;
-        tx.commit().map_err(|error| failure_of(error.into()))?;
-        Ok(found)
+        self.read(&CallerOf { key: *key })
     }
 
     /// The office that the tables hold, in memory.
@@ -52,12 +67,7 @@ impl<S: Alter> Desk<S> {
         ensures crash { IsDeskIfOpen (state S.Store self.old)
             → Survives (state S.Store self.old) (state S.Store self.new) (λ _. ⊥) }
     {
-        self.ask_open()?;
-        let _ = self.conn.is_autocommit();
-        let mut tx = self.conn.transaction();
-        let book = read_book(&mut tx, self.alloc).map_err(failure_of)?;
-        tx.commit().map_err(|error| failure_of(error.into()))?;
-        Ok(book)
+        self.read(&WholeOffice)
     }
 
     /// The public record of a meeting; where there is none of that name, the closed days alone. No
@@ -73,12 +83,7 @@ impl<S: Alter> Desk<S> {
         ensures crash { IsDeskIfOpen (state S.Store self.old)
             → Survives (state S.Store self.old) (state S.Store self.new) (λ _. ⊥) }
     {
-        self.ask_open()?;
-        let _ = self.conn.is_autocommit();
-        let mut tx = self.conn.transaction();
-        let kept = read_record(&mut tx, self.alloc, meeting).map_err(failure_of)?;
-        tx.commit().map_err(|error| failure_of(error.into()))?;
-        Ok(kept)
+        self.read(&PublicOf { meeting })
     }
 
     /// The own things of a party in a meeting at a moment; where there is none of that name, its
@@ -100,11 +105,10 @@ impl<S: Alter> Desk<S> {
         ensures crash { IsDeskIfOpen (state S.Store self.old)
             → Survives (state S.Store self.old) (state S.Store self.new) (λ _. ⊥) }
     {
-        self.ask_open()?;
-        let _ = self.conn.is_autocommit();
-        let mut tx = self.conn.transaction();
-        let own = read_things(&mut tx, self.alloc, party, meeting, now).map_err(failure_of)?;
-        tx.commit().map_err(|error| failure_of(error.into()))?;
-        Ok(own)
+        self.read(&ThingsOf {
+            party,
+            meeting,
+            now,
+        })
     }
 }
