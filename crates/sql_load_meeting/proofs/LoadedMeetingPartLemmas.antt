@@ -20,8 +20,7 @@ use Rattle.sql_assemble.specs.declared.fault.LoadError.{LoadError}
 use Rattle.sql_load_public.specs.TableLookUps.{HoldsOfStoredOffice}
 use Rattle.sql_load_public.proofs.NamedMeetingLemmas.{the_same}
 use Rattle.sql_load_public.proofs.StoredOfficeLemmas.{tells_weaker}
-use Rattle.sql_load_meeting.specs.MeetingParts.{AreReadFor}
-use Rattle.sql_load_meeting.specs.declared.needed_lists.OfficeReads.{OfficeReads}
+use Rattle.sql_load_meeting.specs.MeetingParts.{AreReadFor, IsReadWith}
 
 module _ {X : Type 0} (before : MeetingLists → X) (after : MeetingLists → MeetingLists) where
   -- where there is no meeting, nothing is made of it
@@ -36,16 +35,16 @@ module _ {X : Type 0} (before : MeetingLists → X) (after : MeetingLists → Me
   joined part join same (Some m) x y e is = let its : x ≡ before m = the_same e in (λ i. Some (join (its i) (is i))) ∙ ap (λ (z : MeetingLists). Some z) (same m)
 
 -- what is told of a meeting that is read with its polls is what the request reads of it, where it is so of each meeting
-module _ {S : Type 0} (g : store.Ghosts S) (a b : Held S) (r : Result OfficeReads LoadError) (asked what : OfficeRequest) (is_what : asked ≡ what) (id : List ℕ) (polls : MeetingLists) (days : List ℕ → List ℕ) (rest : MeetingLists → Option MeetingLists → MeetingLists)
+module _ {S : Type 0} (g : store.Ghosts S) (a b : Held S) (r : Result (List ℕ) LoadError) (asked what : OfficeRequest) (is_what : asked ≡ what) (id : List ℕ) (polls new : MeetingLists) (days : List ℕ → List ℕ) (rest : MeetingLists → Option MeetingLists → MeetingLists)
     (closed : (all : List ℕ) → days all ≡ days_read what all) (lists : (m : MeetingLists) → rest (polls_alone m) (Some m) ≡ lists_read what m) where
-  read_for : (office : OfficeLists) (read : OfficeReads) → read ≡ record { closed = days office.closed; lists = rest polls (meeting_at office id) } → (m : MeetingLists) → meeting_at office id ≡ Some m → polls ≡ polls_alone m → AreReadFor asked office m read
-  read_for office read is m found alone = subst (λ (it : OfficeRequest). AreReadFor it office m read) (sym is_what) (record {
-    closed = ap (λ (it : OfficeReads). it.closed) is ∙ closed office.closed;
-    lists = ap (λ (it : OfficeReads). it.lists) is ∙ ap₂ rest alone found ∙ lists m;
+  read_for : (office : OfficeLists) (found : List ℕ) → IsReadWith found (days office.closed) new (rest polls (meeting_at office id)) → (m : MeetingLists) → meeting_at office id ≡ Some m → polls ≡ polls_alone m → AreReadFor asked office m (record { closed = found; lists = new })
+  read_for office found is m there alone = subst (λ (it : OfficeRequest). AreReadFor it office m (record { closed = found; lists = new })) (sym is_what) (record {
+    closed = is.0 ∙ closed office.closed;
+    lists = is.1 ∙ ap₂ rest alone there ∙ lists m;
   })
 
-  pub rest_told : HoldsOfStoredOffice g a b r (λ office read. read ≡ record { closed = days office.closed; lists = rest polls (meeting_at office id) })
-      → HoldsOfStoredOffice g a b r (λ office read. (m : MeetingLists) → meeting_at office id ≡ Some m → polls ≡ polls_alone m → AreReadFor asked office m read)
+  pub rest_told : HoldsOfStoredOffice g a b r (λ office found. IsReadWith found (days office.closed) new (rest polls (meeting_at office id)))
+      → HoldsOfStoredOffice g a b r (λ office found. (m : MeetingLists) → meeting_at office id ≡ Some m → polls ≡ polls_alone m → AreReadFor asked office m (record { closed = found; lists = new }))
   rest_told one = record {
     holds = λ read office holds kept. tells_weaker _ _ r (read_for office) (one.holds read office holds kept);
     same = one.same;

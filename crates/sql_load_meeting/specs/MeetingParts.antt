@@ -1,5 +1,5 @@
 -- A meeting with its polls, and with the lists that a request reads besides. For private contracts.
-use Rattle.std.specs.Prelude.{◌≡◌, ◌==◌, [], List, Option, filter}
+use Rattle.std.specs.Prelude.{◌≡◌, ◌==◌, [], ℕ, List, Option, filter}
 use Rattle.desk_words.specs.ViewTypes.{Number}
 use Rattle.desk_words.specs.declared.office.MeetingLists.{MeetingLists}
 use Rattle.desk_words.specs.declared.office.OfficeLists.{OfficeLists}
@@ -8,7 +8,6 @@ use Rattle.desk_words.specs.declared.records.Poll.{Poll}
 use Rattle.desk_words.specs.declared.request.OfficeRequest.{OfficeRequest}
 use Rattle.office_decisions.specs.ListsRead.{days_read, lists_read}
 use Rattle.row_source.specs.LookUps.{appointments_in, authorities_in, endings_in, register_in}
-use Rattle.sql_load_meeting.specs.declared.parts.ShareLists.{ShareLists}
 use Rattle.sql_load_meeting.specs.declared.needed_lists.OfficeReads.{OfficeReads}
 
 -- a meeting with its polls
@@ -25,27 +24,23 @@ meeting_with meeting polls = record {
   casts = [];
 }
 
--- the lists by which the shares of a meeting that is found are counted; where none is, nothing
-abbrev pub share_lists_in : Option MeetingLists → ShareLists
-share_lists_in found = record {
+-- a meeting with the lists by which shares are counted, those of the meeting that is found; where
+-- none is, nothing
+abbrev pub with_shares_of : Option MeetingLists → MeetingLists → MeetingLists
+with_shares_of found m = record m {
   register = register_in found;
   appointments = appointments_in found;
   endings = endings_in found;
   authorities = authorities_in found;
 }
 
--- a meeting with these lists
-abbrev pub with_shares : MeetingLists → ShareLists → MeetingLists
-with_shares m shares = record m {
-  register = shares.register;
-  appointments = shares.appointments;
-  endings = shares.endings;
-  authorities = shares.authorities;
-}
-
 -- those of the polls that are on a resolution
 abbrev pub polls_on : Number → List Poll → List Poll
 polls_on resolution polls = filter (λ (poll : Poll). poll.resolution == resolution) polls
+
+-- these are the closed days and the lists that are read
+abbrev pub IsReadWith : List ℕ → List ℕ → MeetingLists → MeetingLists → Type 0
+IsReadWith closed days lists read = (closed ≡ days) × (lists ≡ read)
 
 -- these are the closed days and the lists of a meeting that the answer to a request reads
 pub record AreReadFor (asked : OfficeRequest) (office : OfficeLists) (m : MeetingLists)

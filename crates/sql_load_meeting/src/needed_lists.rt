@@ -8,9 +8,11 @@ ghost use Rattle.sql_load_public.specs.TableLookUps.{HoldsOfStoredOffice};
 ghost use Rattle.proxy_rules.specs.Parties.{is_presence_of};
 ghost use Rattle.row_source.specs.LookUps.{casts_in, demands_in, presences_in, register_in};
 ghost use Rattle.vote_rules.specs.TallyLaws.{casts_on};
-ghost use Rattle.sql_load_meeting.specs.MeetingParts.{AreReadFor, polls_on, share_lists_in, with_shares};
+ghost use Rattle.sql_load_meeting.specs.MeetingParts.{AreReadFor, IsReadWith, polls_on, with_shares_of};
 
-use crate::parts::{with_casts, with_demands, with_presence, with_presences, with_register};
+use crate::parts::{
+    add_casts, add_demands, add_presence, add_presences, add_register, add_shares, keep_polls_on,
+};
 use desk_words::{DayList, MeetingId, MeetingLists, OfficeRequest, Party};
 use office_days::Closed;
 use sql_assemble::LoadError;
@@ -29,147 +31,146 @@ pub struct OfficeReads {
     pub lists: MeetingLists,
 }
 
-/// The lists, and no closed days.
-fn undated(alloc: Global, lists: MeetingLists) -> OfficeReads
-    ensures { result ≡ record { closed = []; lists = lists } }
+/// No closed days.
+fn no_days(alloc: Global) -> Closed
+    ensures { result ≡ [] }
 {
-    OfficeReads {
-        closed: Closed::from_list(DayList::empty(alloc)),
-        lists,
-    }
+    Closed::from_list(DayList::empty(alloc))
 }
 
-/// The lists, and no closed days. The tables are asked all the same, for their version, and so are
-/// known to be open.
-fn without_days<S: Alter>(
-    tx: &mut Transaction<'_, S>,
-    alloc: Global,
-    lists: MeetingLists,
-) -> Result<OfficeReads, LoadError>
+/// Reads nothing. The tables are asked all the same, for their version, and so are known to be open.
+fn without_days<S: Alter>(tx: &mut Transaction<'_, S>, alloc: Global) -> Result<Closed, LoadError>
     ensures same_reference { tx.new.conn.ghost_name ≡ tx.old.conn.ghost_name }
     ensures holds { HoldsOfStoredOffice S.Store tx.old.conn.now tx.new.conn.now result
-        (λ office read. read ≡ record { closed = []; lists = lists }) }
+        (λ office closed. closed ≡ []) }
 {
     desk::all(tx)?;
-    Ok(undated(alloc, lists))
+    Ok(no_days(alloc))
 }
 
-/// The lists, and the closed days.
-fn with_days<S: Alter>(
-    tx: &mut Transaction<'_, S>,
-    alloc: Global,
-    lists: MeetingLists,
-) -> Result<OfficeReads, LoadError>
-    ensures same_reference { tx.new.conn.ghost_name ≡ tx.old.conn.ghost_name }
-    ensures holds { HoldsOfStoredOffice S.Store tx.old.conn.now tx.new.conn.now result
-        (λ office read. read ≡ record { closed = office.closed; lists = lists }) }
-{
-    let closed = read_closed(tx, alloc)?;
-    Ok(OfficeReads { closed, lists })
-}
-
-/// What a register that is loaded is compared with.
+/// Reads what a register that is loaded is compared with.
 fn for_register<S: Alter>(
     tx: &mut Transaction<'_, S>,
     alloc: Global,
     meeting: MeetingId,
-    lists: MeetingLists,
-) -> Result<OfficeReads, LoadError>
+    lists: &mut MeetingLists,
+) -> Result<Closed, LoadError>
     ensures same_reference { tx.new.conn.ghost_name ≡ tx.old.conn.ghost_name }
     ensures holds { HoldsOfStoredOffice S.Store tx.old.conn.now tx.new.conn.now result
-        (λ office read. read ≡ record {
-          closed = [];
-          lists = record lists { register = register_in (meeting_at office meeting) };
-        }) }
+        (λ office closed. IsReadWith closed []
+        lists.new (record lists.old { register = register_in (meeting_at office meeting) })) }
 {
-    let lists = with_register(tx, alloc, meeting, lists)?;
-    Ok(undated(alloc, lists))
+    add_register(tx, alloc, meeting, lists)?;
+    Ok(no_days(alloc))
 }
 
-/// What the mark of a presence reads besides.
+/// Reads what the mark of a presence reads besides.
 fn for_presence<S: Alter>(
     tx: &mut Transaction<'_, S>,
     alloc: Global,
     meeting: MeetingId,
-    lists: MeetingLists,
     party: Party,
-) -> Result<OfficeReads, LoadError>
+    lists: &mut MeetingLists,
+) -> Result<Closed, LoadError>
     ensures same_reference { tx.new.conn.ghost_name ≡ tx.old.conn.ghost_name }
     ensures holds { HoldsOfStoredOffice S.Store tx.old.conn.now tx.new.conn.now result
-        (λ office read. read ≡ record {
-          closed = [];
-          lists = record lists {
-            presences = filter (is_presence_of party) (presences_in (meeting_at office meeting));
-          };
-        }) }
+        (λ office closed. IsReadWith closed []
+        lists.new (record lists.old {
+          presences = filter (is_presence_of party) (presences_in (meeting_at office meeting));
+        })) }
 {
-    let lists = with_presence(tx, alloc, meeting, lists, party)?;
-    Ok(undated(alloc, lists))
+    add_presence(tx, alloc, meeting, party, lists)?;
+    Ok(no_days(alloc))
 }
 
-/// What the opening of a session reads besides.
+/// Reads what the opening of a session reads besides.
 fn for_opening<S: Alter>(
     tx: &mut Transaction<'_, S>,
     alloc: Global,
     meeting: MeetingId,
-    lists: MeetingLists,
-) -> Result<OfficeReads, LoadError>
+    lists: &mut MeetingLists,
+) -> Result<Closed, LoadError>
     ensures same_reference { tx.new.conn.ghost_name ≡ tx.old.conn.ghost_name }
     ensures holds { HoldsOfStoredOffice S.Store tx.old.conn.now tx.new.conn.now result
-        (λ office read. read ≡ record {
-          closed = office.closed;
-          lists = record (with_shares lists (share_lists_in (meeting_at office meeting))) {
-            presences = presences_in (meeting_at office meeting);
-          };
-        }) }
+        (λ office closed. IsReadWith closed office.closed
+        lists.new (record (with_shares_of (meeting_at office meeting) lists.old) {
+          presences = presences_in (meeting_at office meeting);
+        })) }
 {
-    let lists = with_presences(tx, alloc, meeting, lists)?;
     let closed = read_closed(tx, alloc)?;
-    Ok(OfficeReads { closed, lists })
+    add_shares(tx, alloc, meeting, lists)?;
+    add_presences(tx, alloc, meeting, lists)?;
+    Ok(closed)
 }
 
-/// What the order of a poll reads besides, where the chair does not order it.
+/// Reads what the order of a poll reads besides, where the chair does not order it.
 fn for_demand<S: Alter>(
     tx: &mut Transaction<'_, S>,
     alloc: Global,
     meeting: MeetingId,
-    lists: MeetingLists,
-) -> Result<OfficeReads, LoadError>
+    lists: &mut MeetingLists,
+) -> Result<Closed, LoadError>
     ensures same_reference { tx.new.conn.ghost_name ≡ tx.old.conn.ghost_name }
     ensures holds { HoldsOfStoredOffice S.Store tx.old.conn.now tx.new.conn.now result
-        (λ office read. read ≡ record {
-          closed = office.closed;
-          lists = record (with_shares lists (share_lists_in (meeting_at office meeting))) {
-            demands = demands_in (meeting_at office meeting);
-          };
-        }) }
+        (λ office closed. IsReadWith closed office.closed
+        lists.new (record (with_shares_of (meeting_at office meeting) lists.old) {
+          demands = demands_in (meeting_at office meeting);
+        })) }
 {
-    let lists = with_demands(tx, alloc, meeting, lists)?;
     let closed = read_closed(tx, alloc)?;
-    Ok(OfficeReads { closed, lists })
+    add_shares(tx, alloc, meeting, lists)?;
+    add_demands(tx, alloc, meeting, lists)?;
+    Ok(closed)
 }
 
-/// What the declaration of a poll reads besides.
+/// Reads what the declaration of a poll reads besides.
 fn for_count<S: Alter>(
     tx: &mut Transaction<'_, S>,
     alloc: Global,
     meeting: MeetingId,
-    lists: MeetingLists,
     resolution: u64,
-) -> Result<OfficeReads, LoadError>
+    lists: &mut MeetingLists,
+) -> Result<Closed, LoadError>
     ensures same_reference { tx.new.conn.ghost_name ≡ tx.old.conn.ghost_name }
     ensures holds { HoldsOfStoredOffice S.Store tx.old.conn.now tx.new.conn.now result
-        (λ office read. read ≡ record {
-          closed = office.closed;
-          lists = record (with_shares lists (share_lists_in (meeting_at office meeting))) {
-            polls = polls_on resolution lists.polls;
-            casts = casts_on resolution (casts_in (meeting_at office meeting));
-          };
-        }) }
+        (λ office closed. IsReadWith closed office.closed
+        lists.new (record (with_shares_of (meeting_at office meeting) lists.old) {
+          polls = polls_on resolution lists.old.polls;
+          casts = casts_on resolution (casts_in (meeting_at office meeting));
+        })) }
 {
-    let lists = with_casts(tx, alloc, meeting, lists, resolution)?;
     let closed = read_closed(tx, alloc)?;
-    Ok(OfficeReads { closed, lists })
+    keep_polls_on(alloc, resolution, lists);
+    add_shares(tx, alloc, meeting, lists)?;
+    add_casts(tx, alloc, meeting, resolution, lists)?;
+    Ok(closed)
+}
+
+/// Reads what the answer to a request reads besides into the meeting's lists, and returns the closed
+/// days. After a fault nothing is said of the lists.
+fn read_into<S: Alter>(
+    tx: &mut Transaction<'_, S>,
+    alloc: Global,
+    meeting: MeetingId,
+    asked: &OfficeRequest,
+    lists: &mut MeetingLists,
+) -> Result<Closed, LoadError>
+    ensures same_reference { tx.new.conn.ghost_name ≡ tx.old.conn.ghost_name }
+    ensures holds { HoldsOfStoredOffice S.Store tx.old.conn.now tx.new.conn.now result
+        (λ office closed. (m : MeetingLists) → meeting_at office meeting ≡ Some m
+        → lists.old ≡ polls_alone m
+        → AreReadFor asked.now office m (record { closed = closed; lists = lists.new })) }
+{
+    match asked {
+        OfficeRequest::LoadRegister(_) => for_register(tx, alloc, meeting, lists),
+        OfficeRequest::Presence(party) => for_presence(tx, alloc, meeting, *party, lists),
+        OfficeRequest::OpenMeeting => for_opening(tx, alloc, meeting, lists),
+        OfficeRequest::Adjourn(_) => read_closed(tx, alloc),
+        OfficeRequest::Order(new) if !new.chair => for_demand(tx, alloc, meeting, lists),
+        OfficeRequest::Order(_) => without_days(tx, alloc),
+        OfficeRequest::Start(_) | OfficeRequest::Close(_) => without_days(tx, alloc),
+        OfficeRequest::Declare(resolution) => for_count(tx, alloc, meeting, *resolution, lists),
+    }
 }
 
 /// What the answer to a request of the office in a meeting reads, once the meeting and its polls
@@ -178,7 +179,7 @@ pub fn read_rest<S: Alter>(
     tx: &mut Transaction<'_, S>,
     alloc: Global,
     meeting: MeetingId,
-    lists: MeetingLists,
+    mut lists: MeetingLists,
     asked: &OfficeRequest,
 ) -> Result<OfficeReads, LoadError>
     ensures same_reference { tx.new.conn.ghost_name ≡ tx.old.conn.ghost_name }
@@ -186,14 +187,6 @@ pub fn read_rest<S: Alter>(
         (λ office read. (m : MeetingLists) → meeting_at office meeting ≡ Some m
         → lists ≡ polls_alone m → AreReadFor asked.now office m read) }
 {
-    match asked {
-        OfficeRequest::LoadRegister(_) => for_register(tx, alloc, meeting, lists),
-        OfficeRequest::Presence(party) => for_presence(tx, alloc, meeting, lists, *party),
-        OfficeRequest::OpenMeeting => for_opening(tx, alloc, meeting, lists),
-        OfficeRequest::Adjourn(_) => with_days(tx, alloc, lists),
-        OfficeRequest::Order(new) if !new.chair => for_demand(tx, alloc, meeting, lists),
-        OfficeRequest::Order(_) => without_days(tx, alloc, lists),
-        OfficeRequest::Start(_) | OfficeRequest::Close(_) => without_days(tx, alloc, lists),
-        OfficeRequest::Declare(resolution) => { for_count(tx, alloc, meeting, lists, *resolution) }
-    }
+    let closed = read_into(tx, alloc, meeting, asked, &mut lists)?;
+    Ok(OfficeReads { closed, lists })
 }

@@ -2,34 +2,23 @@
 ghost use Rattle.std.specs.Prelude.{◌≡◌, filter, option_map};
 ghost use Rattle.party_views.specs.Views.{meeting_at};
 ghost use Rattle.office_decisions.specs.ListsRead.{polls_alone};
-ghost use Rattle.row_source.specs.LookUps.{casts_in, demands_in, presences_in, register_in};
+ghost use Rattle.row_source.specs.LookUps.{appointments_in, authorities_in, casts_in, demands_in, endings_in, presences_in, register_in};
 ghost use Rattle.sql_load_public.specs.TableLookUps.{HoldsOfStoredOffice};
 ghost use Rattle.proxy_rules.specs.Parties.{is_presence_of};
 ghost use Rattle.vote_rules.specs.TallyLaws.{casts_on};
-ghost use Rattle.sql_load_meeting.specs.MeetingParts.{meeting_with, polls_on, share_lists_in, with_shares};
+ghost use Rattle.sql_load_meeting.specs.MeetingParts.{meeting_with, polls_on, with_shares_of};
 
 use crate::by_receipt::{
     appointments_of, authorities_of, casts_on, demands_of, endings_of, presence_of, presences_of,
 };
-use desk_words::{
-    Appointment, Authority, Ending, Filed, Listing, Meeting, MeetingId, MeetingLists, Party, Poll,
-    RegisterRow,
-};
+use desk_words::{Filed, Listing, Meeting, MeetingId, MeetingLists, Party, Poll, RegisterRow};
 use sql_assemble::{LoadError, register_rows};
 use sql_load_public::query_records::{items, records_found};
 use sql_load_public::{meeting_of, polls_of};
 use sql_queries::whole_lists;
 use sqlite::{Alter, Transaction};
 use std::alloc::Global;
-
-/// The lists of a meeting by which shares are counted.
-#[derive(Drop)]
-pub(crate) struct ShareLists {
-    pub(crate) register: Listing<RegisterRow>,
-    pub(crate) appointments: Filed<Appointment>,
-    pub(crate) endings: Filed<Ending>,
-    pub(crate) authorities: Filed<Authority>,
-}
+use std::mem;
 
 /// The register of a meeting (section 113), in the order of members.
 fn register_of<S: Alter>(
@@ -46,29 +35,6 @@ fn register_of<S: Alter>(
         records_found(alloc, whole_lists::register(tx, meeting)),
     )?;
     register_rows(rows)
-}
-
-/// The lists of a meeting by which shares are counted: its register, its appointments, their
-/// endings and its authorities.
-fn shares_of<S: Alter>(
-    tx: &mut Transaction<'_, S>,
-    alloc: Global,
-    meeting: MeetingId,
-) -> Result<ShareLists, LoadError>
-    ensures same_reference { tx.new.conn.ghost_name ≡ tx.old.conn.ghost_name }
-    ensures holds { HoldsOfStoredOffice S.Store tx.old.conn.now tx.new.conn.now result
-        (λ office shares. shares ≡ share_lists_in (meeting_at office meeting)) }
-{
-    let register = register_of(tx, alloc, meeting)?;
-    let appointments = appointments_of(tx, alloc, meeting)?;
-    let endings = endings_of(tx, alloc, meeting)?;
-    let authorities = authorities_of(tx, alloc, meeting)?;
-    Ok(ShareLists {
-        register,
-        appointments,
-        endings,
-        authorities,
-    })
 }
 
 /// A meeting with its polls.
@@ -106,106 +72,155 @@ pub fn read_polls<S: Alter>(
     Ok(Some(meeting_with(alloc, kept, polls)))
 }
 
-/// The same lists with the register.
-pub(crate) fn with_register<S: Alter>(
+/// Reads the register of a meeting into its lists. After a fault nothing is said of them.
+pub(crate) fn add_register<S: Alter>(
     tx: &mut Transaction<'_, S>,
     alloc: Global,
     meeting: MeetingId,
-    lists: MeetingLists,
-) -> Result<MeetingLists, LoadError>
+    lists: &mut MeetingLists,
+) -> Result<(), LoadError>
     ensures same_reference { tx.new.conn.ghost_name ≡ tx.old.conn.ghost_name }
     ensures holds { HoldsOfStoredOffice S.Store tx.old.conn.now tx.new.conn.now result
-        (λ office whole. whole
-        ≡ record lists { register = register_in (meeting_at office meeting) }) }
+        (λ office _. lists.new
+        ≡ record lists.old { register = register_in (meeting_at office meeting) }) }
 {
-    let register = register_of(tx, alloc, meeting)?;
-    Ok(MeetingLists { register, ..lists })
+    lists.register = register_of(tx, alloc, meeting)?;
+    Ok(())
 }
 
-/// The same lists with the presence of one party.
-pub(crate) fn with_presence<S: Alter>(
+/// Reads the presence of one party.
+pub(crate) fn add_presence<S: Alter>(
     tx: &mut Transaction<'_, S>,
     alloc: Global,
     meeting: MeetingId,
-    lists: MeetingLists,
     party: Party,
-) -> Result<MeetingLists, LoadError>
+    lists: &mut MeetingLists,
+) -> Result<(), LoadError>
     ensures same_reference { tx.new.conn.ghost_name ≡ tx.old.conn.ghost_name }
     ensures holds { HoldsOfStoredOffice S.Store tx.old.conn.now tx.new.conn.now result
-        (λ office whole. whole
-        ≡ record lists {
+        (λ office _. lists.new
+        ≡ record lists.old {
           presences = filter (is_presence_of party) (presences_in (meeting_at office meeting));
         }) }
 {
-    let presences = presence_of(tx, alloc, meeting, party)?;
-    Ok(MeetingLists { presences, ..lists })
+    lists.presences = presence_of(tx, alloc, meeting, party)?;
+    Ok(())
 }
 
-/// A meeting with the lists by which shares are counted.
-fn joined(lists: MeetingLists, shares: ShareLists) -> MeetingLists
-    ensures { result ≡ with_shares lists shares }
-{
-    MeetingLists {
-        register: shares.register,
-        appointments: shares.appointments,
-        endings: shares.endings,
-        authorities: shares.authorities,
-        ..lists
-    }
-}
-
-/// The same lists with those by which shares are counted.
-fn with_shares<S: Alter>(
+/// Reads the appointments (section 324).
+fn add_appointments<S: Alter>(
     tx: &mut Transaction<'_, S>,
     alloc: Global,
     meeting: MeetingId,
-    lists: MeetingLists,
-) -> Result<MeetingLists, LoadError>
+    lists: &mut MeetingLists,
+) -> Result<(), LoadError>
     ensures same_reference { tx.new.conn.ghost_name ≡ tx.old.conn.ghost_name }
     ensures holds { HoldsOfStoredOffice S.Store tx.old.conn.now tx.new.conn.now result
-        (λ office whole. whole
-        ≡ with_shares lists (share_lists_in (meeting_at office meeting))) }
+        (λ office _. lists.new
+        ≡ record lists.old { appointments = appointments_in (meeting_at office meeting) }) }
 {
-    let shares = shares_of(tx, alloc, meeting)?;
-    Ok(joined(lists, shares))
+    lists.appointments = appointments_of(tx, alloc, meeting)?;
+    Ok(())
 }
 
-/// The same with the presences: by these a quorum is counted (section 318).
-pub(crate) fn with_presences<S: Alter>(
+/// Reads the endings of appointments (section 330).
+fn add_endings<S: Alter>(
     tx: &mut Transaction<'_, S>,
     alloc: Global,
     meeting: MeetingId,
-    lists: MeetingLists,
-) -> Result<MeetingLists, LoadError>
+    lists: &mut MeetingLists,
+) -> Result<(), LoadError>
     ensures same_reference { tx.new.conn.ghost_name ≡ tx.old.conn.ghost_name }
     ensures holds { HoldsOfStoredOffice S.Store tx.old.conn.now tx.new.conn.now result
-        (λ office whole. whole
-        ≡ record (with_shares lists (share_lists_in (meeting_at office meeting))) {
-          presences = presences_in (meeting_at office meeting);
-        }) }
+        (λ office _. lists.new
+        ≡ record lists.old { endings = endings_in (meeting_at office meeting) }) }
 {
-    let lists = with_shares(tx, alloc, meeting, lists)?;
-    let presences = presences_of(tx, alloc, meeting)?;
-    Ok(MeetingLists { presences, ..lists })
+    lists.endings = endings_of(tx, alloc, meeting)?;
+    Ok(())
 }
 
-/// Or with the demands, the shares of which are counted (section 321).
-pub(crate) fn with_demands<S: Alter>(
+/// Reads the authorities (section 323).
+fn add_authorities<S: Alter>(
     tx: &mut Transaction<'_, S>,
     alloc: Global,
     meeting: MeetingId,
-    lists: MeetingLists,
-) -> Result<MeetingLists, LoadError>
+    lists: &mut MeetingLists,
+) -> Result<(), LoadError>
     ensures same_reference { tx.new.conn.ghost_name ≡ tx.old.conn.ghost_name }
     ensures holds { HoldsOfStoredOffice S.Store tx.old.conn.now tx.new.conn.now result
-        (λ office whole. whole
-        ≡ record (with_shares lists (share_lists_in (meeting_at office meeting))) {
-          demands = demands_in (meeting_at office meeting);
-        }) }
+        (λ office _. lists.new
+        ≡ record lists.old { authorities = authorities_in (meeting_at office meeting) }) }
 {
-    let lists = with_shares(tx, alloc, meeting, lists)?;
-    let demands = demands_of(tx, alloc, meeting)?;
-    Ok(MeetingLists { demands, ..lists })
+    lists.authorities = authorities_of(tx, alloc, meeting)?;
+    Ok(())
+}
+
+/// Reads the lists by which shares are counted: the register, the appointments, their endings and
+/// the authorities.
+pub(crate) fn add_shares<S: Alter>(
+    tx: &mut Transaction<'_, S>,
+    alloc: Global,
+    meeting: MeetingId,
+    lists: &mut MeetingLists,
+) -> Result<(), LoadError>
+    ensures same_reference { tx.new.conn.ghost_name ≡ tx.old.conn.ghost_name }
+    ensures holds { HoldsOfStoredOffice S.Store tx.old.conn.now tx.new.conn.now result
+        (λ office _. lists.new ≡ with_shares_of (meeting_at office meeting) lists.old) }
+{
+    add_register(tx, alloc, meeting, lists)?;
+    add_appointments(tx, alloc, meeting, lists)?;
+    add_endings(tx, alloc, meeting, lists)?;
+    add_authorities(tx, alloc, meeting, lists)?;
+    Ok(())
+}
+
+/// Reads the presences: by these a quorum is counted (section 318).
+pub(crate) fn add_presences<S: Alter>(
+    tx: &mut Transaction<'_, S>,
+    alloc: Global,
+    meeting: MeetingId,
+    lists: &mut MeetingLists,
+) -> Result<(), LoadError>
+    ensures same_reference { tx.new.conn.ghost_name ≡ tx.old.conn.ghost_name }
+    ensures holds { HoldsOfStoredOffice S.Store tx.old.conn.now tx.new.conn.now result
+        (λ office _. lists.new
+        ≡ record lists.old { presences = presences_in (meeting_at office meeting) }) }
+{
+    lists.presences = presences_of(tx, alloc, meeting)?;
+    Ok(())
+}
+
+/// Reads the demands, the shares of which are counted (section 321).
+pub(crate) fn add_demands<S: Alter>(
+    tx: &mut Transaction<'_, S>,
+    alloc: Global,
+    meeting: MeetingId,
+    lists: &mut MeetingLists,
+) -> Result<(), LoadError>
+    ensures same_reference { tx.new.conn.ghost_name ≡ tx.old.conn.ghost_name }
+    ensures holds { HoldsOfStoredOffice S.Store tx.old.conn.now tx.new.conn.now result
+        (λ office _. lists.new
+        ≡ record lists.old { demands = demands_in (meeting_at office meeting) }) }
+{
+    lists.demands = demands_of(tx, alloc, meeting)?;
+    Ok(())
+}
+
+/// Reads the votes on a resolution, which are counted (section 284).
+pub(crate) fn add_casts<S: Alter>(
+    tx: &mut Transaction<'_, S>,
+    alloc: Global,
+    meeting: MeetingId,
+    resolution: u64,
+    lists: &mut MeetingLists,
+) -> Result<(), LoadError>
+    ensures same_reference { tx.new.conn.ghost_name ≡ tx.old.conn.ghost_name }
+    ensures holds { HoldsOfStoredOffice S.Store tx.old.conn.now tx.new.conn.now result
+        (λ office _. lists.new
+        ≡ record lists.old { casts = casts_on resolution (casts_in (meeting_at office meeting)) }) }
+{
+    lists.casts = casts_on(tx, alloc, meeting, resolution)?;
+    Ok(())
 }
 
 /// Those of the polls that are on a resolution, of which there is one at most.
@@ -217,29 +232,10 @@ fn polls_on(polls: Listing<Poll>, resolution: u64) -> Listing<Poll>
     Listing::from_vec(on)
 }
 
-/// Or with the votes on a resolution, which are counted (section 284), and of the polls that on it
-/// alone.
-pub(crate) fn with_casts<S: Alter>(
-    tx: &mut Transaction<'_, S>,
-    alloc: Global,
-    meeting: MeetingId,
-    lists: MeetingLists,
-    resolution: u64,
-) -> Result<MeetingLists, LoadError>
-    ensures same_reference { tx.new.conn.ghost_name ≡ tx.old.conn.ghost_name }
-    ensures holds { HoldsOfStoredOffice S.Store tx.old.conn.now tx.new.conn.now result
-        (λ office whole. whole
-        ≡ record (with_shares lists (share_lists_in (meeting_at office meeting))) {
-          polls = polls_on resolution lists.polls;
-          casts = casts_on resolution (casts_in (meeting_at office meeting));
-        }) }
+/// Keeps of the polls that on a resolution alone.
+pub(crate) fn keep_polls_on(alloc: Global, resolution: u64, lists: &mut MeetingLists)
+    ensures { lists.new ≡ record lists.old { polls = polls_on resolution lists.old.polls } }
 {
-    let lists = with_shares(tx, alloc, meeting, lists)?;
-    let casts = casts_on(tx, alloc, meeting, resolution)?;
-    let polls = polls_on(lists.polls, resolution);
-    Ok(MeetingLists {
-        polls,
-        casts,
-        ..lists
-    })
+    let polls = mem::replace(&mut lists.polls, Listing::new(alloc));
+    lists.polls = polls_on(polls, resolution);
 }

@@ -10,5 +10,5 @@ returns-in_err-all-clause-holds g c =
 
 pub returns-clause-holds : goal.returns-clause-holds
 returns-clause-holds g c =
-    asked_so g.S.Store c.args.tx.now.conn.now c.all.new.tx.conn.now c.all.ensures.kept c.all.ensures.was_open c.all.ensures.crash _ (λ v. v.items) c.in_ok-all.field-0 c.undated.result c.in_ok-all.ensures.rows
-    (λ office. c.undated.ensures)
+    asked_so g.S.Store c.args.tx.now.conn.now c.all.new.tx.conn.now c.all.ensures.kept c.all.ensures.was_open c.all.ensures.crash _ (λ v. v.items) c.in_ok-all.field-0 c.no_days.result c.in_ok-all.ensures.rows
+    (λ office. c.no_days.ensures)
