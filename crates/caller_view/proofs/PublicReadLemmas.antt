@@ -1,6 +1,9 @@
 -- The answer to a party's request reads no more of the public record than is said.
-use Rattle.std.proofs.Common.{◌≡◌, ℕ, false, not, List, ◌∷◌, ◌++◌, drop, take, length, Option, Some, None, refl, ap, ◌∙◌}
+use Rattle.std.proofs.Common.{◌≡◌, ℕ, true, false, not, cond, nat_le, List, ◌∷◌, ◌++◌, drop, take, length, Option, Some, None, refl, ap, ◌∙◌, arith}
 use Rattle.std.specs.Prelude.{◌==◌}
+use Rattle.std.specs.Cmp.{first_so}
+use Rattle.std.specs.Cmp.Derive.{both_true}
+use Rattle.std.proofs.lemmas.Bool.Decides.{nat_tests}
 use Rattle.std.proofs.lemmas.List.{length-replicate}
 use Rattle.vocabulary.specs.Refusals.{Case}
 use Rattle.vocabulary.specs.declared.refusal.Refusal.TheVariants.{BadInstructions, NoMeeting, NoResolution}
@@ -20,38 +23,50 @@ use Rattle.caller_view.specs.PartyRulings.{party_ruling, ruling_for}
 use Rattle.caller_view.specs.PublicReadLaws.{RulingsReadNoMoreOfThePublic}
 use Rattle.party_views.specs.OwnViews.{own_by, own_from}
 use Rattle.party_views.specs.Public.{PublicRecord}
-use Rattle.party_views.specs.PublicRead.{counted, public_read, with_counted}
+use Rattle.party_views.specs.PublicRead.{meeting_read, public_read, stand_ins, unread, up_to, with_unread}
 use Rattle.party_views.specs.declared.own_rows.OwnRows.{OwnRows}
 use Rattle.party_views.specs.declared.views.OwnView.{OwnView}
-use Rattle.party_views.proofs.CountedLemmas.{own-counted}
+use Rattle.party_views.proofs.CountedLemmas.{own-unread}
 
 -- there are as many
-as_many : (m : Meeting) → length (counted m).resolutions ≡ length m.resolutions
-as_many m = length-replicate (length m.resolutions) _
+as_many : (count : ℕ) → length (unread count) ≡ count
+as_many count = length-replicate count _
 
-none-counted : (m : Meeting) (number : ℕ) → no_resolution (counted m) number ≡ no_resolution m number
-none-counted m number = λ i. record (no_resolution m number) { holds = not (is_resolution (as_many m i) number) }
+-- those up to a number have it exactly if all have
+up_to-has : (number count : ℕ) → is_resolution (up_to number count) number ≡ is_resolution count number
+up_to-has number count =
+    (elim (is_resolution count number) as (λ b. is_resolution count number ≡ b → is_resolution (cond b number count) number ≡ b) [
+      | true ↦ λ has. both_true (first_so (nat_le 1 number) (nat_le number count) has) (grind (arith, nat_tests))
+      | false ↦ λ lacks. lacks
+    ]) refl
+
+-- a resolution is among those that stand in their place exactly if it is one of the meeting's
+none-read : (m : Meeting) (number : ℕ) → no_resolution (with_unread (up_to number (length m.resolutions)) m) number ≡ no_resolution m number
+none-read m number =
+    let count = length m.resolutions in
+    let alike = ap (λ n. is_resolution n number) (as_many (up_to number count)) ∙ up_to-has number count in
+    λ i. record (no_resolution m number) { holds = not (alike i) }
 
 -- ---- rulings
 
 module _ (public : PublicRecord) (m : Meeting) (own : OwnView) (now : ℕ) where
-  appoint-counted : (new : NewAppointment) → appoint_ruling (with_counted public) (counted m) own now new ≡ appoint_ruling public m own now new
-  appoint-counted new =
+  appoint-read : (new : NewAppointment) → appoint_ruling (public_read (Appoint new) public) (meeting_read (Appoint new) m) own now new ≡ appoint_ruling public m own now new
+  appoint-read new =
       let cases = appoint_cases m own new in
       λ i. record (appoint_ruling public m own now new) {
-        cases = take 2 cases ++ record { refusal = BadInstructions; holds = not (length new.instructions == as_many m i) } ∷ drop 3 cases;
+        cases = take 2 cases ++ record { refusal = BadInstructions; holds = not (length new.instructions == as_many (length m.resolutions) i) } ∷ drop 3 cases;
       }
 
-  demand-counted : (resolution : ℕ) → demand_ruling (with_counted public) (counted m) own now resolution ≡ demand_ruling public m own now resolution
-  demand-counted resolution =
-      λ i. record (demand_ruling public m own now resolution) { cases = none-counted m resolution i ∷ drop 1 (demand_cases public m own resolution) }
+  demand-read : (resolution : ℕ) → demand_ruling (public_read (Demand resolution) public) (meeting_read (Demand resolution) m) own now resolution ≡ demand_ruling public m own now resolution
+  demand-read resolution =
+      λ i. record (demand_ruling public m own now resolution) { cases = none-read m resolution i ∷ drop 1 (demand_cases public m own resolution) }
 
-  cast-counted : (new : NewCast) → cast_ruling (with_counted public) (counted m) own now new ≡ cast_ruling public m own now new
-  cast-counted new = λ i. record (cast_ruling public m own now new) { cases = none-counted m new.resolution i ∷ drop 1 (cast_cases public m own new) }
+  cast-read : (new : NewCast) → cast_ruling (public_read (Cast new) public) (meeting_read (Cast new) m) own now new ≡ cast_ruling public m own now new
+  cast-read new = λ i. record (cast_ruling public m own now new) { cases = none-read m new.resolution i ∷ drop 1 (cast_cases public m own new) }
 
-  instructed-counted : (resolution : ℕ) → instructed_ruling (with_counted public) (counted m) own now resolution ≡ instructed_ruling public m own now resolution
-  instructed-counted resolution =
-      λ i. record (instructed_ruling public m own now resolution) { cases = none-counted m resolution i ∷ drop 1 (instructed_cases public m own resolution) }
+  instructed-read : (resolution : ℕ) → instructed_ruling (public_read (Instructed resolution) public) (meeting_read (Instructed resolution) m) own now resolution ≡ instructed_ruling public m own now resolution
+  instructed-read resolution =
+      λ i. record (instructed_ruling public m own now resolution) { cases = none-read m resolution i ∷ drop 1 (instructed_cases public m own resolution) }
 
 -- ---- requests
 
@@ -63,13 +78,13 @@ in_meeting ruling = asked_first (record { refusal = NoMeeting; holds = false }) 
 abbrev record_of : List ℕ → Option Meeting → List Poll → PublicRecord
 record_of closed found polls = record { closed = closed; meeting = found; polls = polls }
 
--- the own things may be made of the meeting whose resolutions are counted
+-- the own things may be made of the meeting with others in place of its resolutions
 module _ (closed : List ℕ) (m : Meeting) (polls : List Poll) (rows : OwnRows) (now : ℕ) where
-  by_count : (asked : PartyRequest)
-      → ruling_for (with_counted (record_of closed (Some m) polls)) (own_by rows closed m polls now) now asked (counted m) ≡ ruling_for (record_of closed (Some m) polls) (own_by rows closed m polls now) now asked m
-      → party_ruling (with_counted (record_of closed (Some m) polls)) (own_by rows closed (counted m) polls now) now asked ≡ party_ruling (record_of closed (Some m) polls) (own_by rows closed m polls now) now asked
-  by_count asked same =
-      ap (λ (own : OwnView). party_ruling (with_counted (record_of closed (Some m) polls)) own now asked) (own-counted rows closed m polls now) ∙ ap in_meeting same
+  by_those_read : (count : ℕ) (asked : PartyRequest)
+      → ruling_for (record_of closed (Some (with_unread count m)) polls) (own_by rows closed m polls now) now asked (with_unread count m) ≡ ruling_for (record_of closed (Some m) polls) (own_by rows closed m polls now) now asked m
+      → party_ruling (record_of closed (Some (with_unread count m)) polls) (own_by rows closed (with_unread count m) polls now) now asked ≡ party_ruling (record_of closed (Some m) polls) (own_by rows closed m polls now) now asked
+  by_those_read count asked same =
+      ap (λ (own : OwnView). party_ruling (record_of closed (Some (with_unread count m)) polls) own now asked) (own-unread count rows closed m polls now) ∙ ap in_meeting same
 
 -- a request is ruled from what it reads of such a record as from all of it
 abbrev IsRuledAlike : List ℕ → Option Meeting → List Poll → OwnRows → ℕ → PartyRequest → Type 0
@@ -82,13 +97,15 @@ none_alike closed polls rows now Notice = refl
 none_alike closed polls rows now asked = refl
 
 some_alike : (closed : List ℕ) (m : Meeting) (polls : List Poll) (rows : OwnRows) (now : ℕ) (asked : PartyRequest) → IsRuledAlike closed (Some m) polls rows now asked
-some_alike closed m polls rows now Mine = by_count closed m polls rows now Mine refl
-some_alike closed m polls rows now (Appoint new) = by_count closed m polls rows now (Appoint new) (appoint-counted (record_of closed (Some m) polls) m (own_by rows closed m polls now) now new)
+some_alike closed m polls rows now Mine = by_those_read closed m polls rows now 1 Mine refl
+some_alike closed m polls rows now (Appoint new) =
+    by_those_read closed m polls rows now (stand_ins (Appoint new) (length m.resolutions)) (Appoint new) (appoint-read (record_of closed (Some m) polls) m (own_by rows closed m polls now) now new)
 some_alike closed m polls rows now (Demand resolution) =
-    by_count closed m polls rows now (Demand resolution) (demand-counted (record_of closed (Some m) polls) m (own_by rows closed m polls now) now resolution)
-some_alike closed m polls rows now (Cast new) = by_count closed m polls rows now (Cast new) (cast-counted (record_of closed (Some m) polls) m (own_by rows closed m polls now) now new)
+    by_those_read closed m polls rows now (stand_ins (Demand resolution) (length m.resolutions)) (Demand resolution) (demand-read (record_of closed (Some m) polls) m (own_by rows closed m polls now) now resolution)
+some_alike closed m polls rows now (Cast new) =
+    by_those_read closed m polls rows now (stand_ins (Cast new) (length m.resolutions)) (Cast new) (cast-read (record_of closed (Some m) polls) m (own_by rows closed m polls now) now new)
 some_alike closed m polls rows now (Instructed resolution) =
-    by_count closed m polls rows now (Instructed resolution) (instructed-counted (record_of closed (Some m) polls) m (own_by rows closed m polls now) now resolution)
+    by_those_read closed m polls rows now (stand_ins (Instructed resolution) (length m.resolutions)) (Instructed resolution) (instructed-read (record_of closed (Some m) polls) m (own_by rows closed m polls now) now resolution)
 some_alike closed m polls rows now asked = refl
 
 found_alike : (closed : List ℕ) (found : Option Meeting) (polls : List Poll) (rows : OwnRows) (now : ℕ) (asked : PartyRequest) → IsRuledAlike closed found polls rows now asked

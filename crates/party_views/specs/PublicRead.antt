@@ -1,38 +1,56 @@
 -- What of a public record the answer to a party's request reads.
-use Rattle.std.specs.Prelude.{ℕ, List, [], length, replicate, option_map, codes}
+use Rattle.std.specs.Prelude.{ℕ, List, [], cond, length, replicate, option_map, codes}
 use Rattle.vocabulary.specs.declared.kinds.ResKind.TheVariants.{Ordinary}
+use Rattle.desk_words.specs.Office.{is_resolution}
+use Rattle.desk_words.specs.ViewTypes.{Number}
 use Rattle.desk_words.specs.declared.records.Meeting.{Meeting}
 use Rattle.desk_words.specs.declared.records.Resolution.{Resolution}
 use Rattle.desk_words.specs.declared.request.PartyRequest.{PartyRequest}
-use Rattle.desk_words.specs.declared.request.PartyRequest.TheVariants.{Notice, End, Authorise, Attend}
+use Rattle.desk_words.specs.declared.request.PartyRequest.TheVariants.{Notice, Appoint, End, Authorise, Attend, Demand, Cast, Instructed}
 use Rattle.party_views.specs.Public.{PublicRecord}
 
 -- so many resolutions, none of which is read: each is the same, and of one letter
 abbrev pub unread : ℕ → List Resolution
 unread count = replicate count (record { kind = Ordinary; text = codes "-" })
 
--- a meeting of whose resolutions only the number is read
-abbrev pub counted : Meeting → Meeting
-counted m = record m { resolutions = unread (length m.resolutions) }
+-- a meeting with so many of these in place of its resolutions
+abbrev pub with_unread : ℕ → Meeting → Meeting
+with_unread count m = record m { resolutions = unread count }
 
--- a public record of whose resolutions only the number is read
-abbrev pub with_counted : PublicRecord → PublicRecord
-with_counted public = record public { meeting = option_map counted public.meeting }
+-- the first of so many resolutions up to that of a number, if it is one of them, and else all
+abbrev pub up_to : Number → ℕ → ℕ
+up_to number count = cond (is_resolution count number) number count
 
--- of it the meeting alone, without the closed days and the polls
+-- how many stand in place of so many resolutions: all for an appointment, which has an instruction
+-- for each (section 324A), those up to the one that is demanded or voted on (sections 284 and 321),
+-- and else one
+abbrev pub stand_ins : PartyRequest → ℕ → ℕ
+stand_ins (Appoint new) count = count
+stand_ins (Demand resolution) count = up_to resolution count
+stand_ins (Cast new) count = up_to new.resolution count
+stand_ins (Instructed resolution) count = up_to resolution count
+stand_ins other count = 1
+
+-- a meeting, its resolutions replaced by as many as the answer to a request asks for
+abbrev pub meeting_read : PartyRequest → Meeting → Meeting
+meeting_read asked m = with_unread (stand_ins asked (length m.resolutions)) m
+
+-- of a public record the meeting alone, without the closed days and the polls
 abbrev pub meeting_alone : PublicRecord → PublicRecord
 meeting_alone public = record {
   closed = [];
-  meeting = option_map counted public.meeting;
+  meeting = option_map (with_unread 1) public.meeting;
   polls = [];
 }
 
 -- what of a public record the answer to a request reads: a notice all of it (section 307), an
 -- ending, an authority and a presence the meeting alone (sections 330, 323 and 318), and the others
--- all but the resolutions, which are only counted
+-- all but the texts of the resolutions
 abbrev pub public_read : PartyRequest → PublicRecord → PublicRecord
 public_read Notice public = public
 public_read (End number) public = meeting_alone public
 public_read (Authorise person) public = meeting_alone public
 public_read Attend public = meeting_alone public
-public_read other public = with_counted public
+public_read other public = record public {
+  meeting = option_map (meeting_read other) public.meeting;
+}

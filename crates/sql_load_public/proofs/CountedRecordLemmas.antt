@@ -1,9 +1,11 @@
--- The public record with its resolutions counted, from what was told of its parts.
-use Rattle.std.proofs.Common.{◌≡◌, ◌⊎◌, inl, inr, ◌≤◌, ◌<◌, ◌+◌, ℕ, suc, Bool, true, false, ◌&&◌, nat_le, List, [], ◌∷◌, filter, length, map, Option, Some, None, Ok, Err, Result, OnOk, IfOk, IsTrue, refl, sym, ap, subst, ◌∙◌, arith}
-use Rattle.std.specs.Prelude.{MatchResult, option_map, ◌==◌}
-use Rattle.std.specs.List.{All, AllByRecursion, slice_get}
+-- The public record without its resolutions, from what was told of its parts.
+use Rattle.std.proofs.Common.{◌≡◌, ◌⊎◌, inl, inr, ◌≤◌, ◌<◌, ◌+◌, ℕ, suc, Bool, true, false, ◌&&◌, cond, nat_le, List, [], ◌∷◌, filter, find, length, map, Option, Some, None, Ok, Err, Result, OnOk, IfOk, IsTrue, refl, sym, ap, subst, ◌∙◌, arith}
+use Rattle.std.specs.Prelude.{MatchResult, option_map, is_some, ◌==◌}
+use Rattle.std.specs.List.{All, AllByRecursion, list_all, slice_get}
+use Rattle.std.specs.Cmp.{first_so, second_so}
+use Rattle.std.specs.Cmp.Derive.{both_true}
 use Rattle.std.proofs.lemmas.Bool.Decides.{nat_tests}
-use Rattle.std.proofs.lemmas.List.{get_or-map, length-map, length-replicate}
+use Rattle.std.proofs.lemmas.List.{get_or-map, length-map}
 use Rattle.std.proofs.lemmas.List.Elements.{All-contains, All-from_recursion, All-map, recursion_from_All}
 use Rattle.std.proofs.lemmas.List.Sorted.{All-permutation, IsPermutation-sym, length_permutation}
 use Rattle.sqlite.specs.declared.error.Error.{Error}
@@ -11,21 +13,27 @@ use Rattle.sqlite.specs.Held.{Held, state}
 use Rattle.sqlite.specs.Order.{Row}
 use Rattle.sqlite.specs.State.{IsUnchanged}
 use Rattle.sqlite.specs.Tree.{Trees}
-use Rattle.sqlite_trees.proofs.ListLemmas.{all_weaker}
+use Rattle.sqlite_trees.proofs.ListLemmas as trees
 use Rattle.sqlite_trees.specs.declared.store.Store as store
+use Rattle.seq.specs.Ordered.{ascends_by}
 use Rattle.seq.specs.Sorting.{sort_by}
+use Rattle.seq.proofs.Differing.{all_weaker}
 use Rattle.seq.proofs.SortingLemmas.{IsPermutation-sort_by}
 use Rattle.vocabulary.specs.Names.{same_name}
 use Rattle.vocabulary.specs.OptionSteps.{guard}
-use Rattle.desk_words.specs.Finding.{meeting_named}
-use Rattle.desk_words.specs.Office.{is_office}
-use Rattle.desk_words.specs.SortedLists.{are_resolutions}
+use Rattle.desk_words.specs.Finding.{meeting_named, poll_on}
+use Rattle.desk_words.specs.Office.{implies, is_declared_right, is_office, is_poll, is_resolution, poll_before}
+use Rattle.desk_words.specs.Sessions.{is_opened_session}
 use Rattle.desk_words.specs.declared.limits.TheConstants.{MOST_RESOLUTIONS}
 use Rattle.desk_words.specs.declared.office.MeetingLists.{MeetingLists}
 use Rattle.desk_words.specs.declared.office.OfficeLists.{OfficeLists}
+use Rattle.desk_words.specs.declared.records.Meeting.{Meeting}
+use Rattle.desk_words.specs.declared.records.Poll.{Poll}
 use Rattle.desk_words.specs.declared.records.Resolution.{Resolution}
 use Rattle.desk_words.specs.declared.records.Session.{Session}
-use Rattle.desk_words.proofs.OfficeFacts.{found_facts}
+use Rattle.desk_words.specs.declared.request.PartyRequest.{PartyRequest}
+use Rattle.desk_words.specs.declared.request.PartyRequest.TheVariants.{Appoint, Demand, Cast, Instructed}
+use Rattle.desk_words.proofs.OfficeFacts.{find-passes, found_facts}
 use Rattle.sql_rows.specs.declared.stored_records.InMeeting.{InMeeting}
 use Rattle.sql_rows.specs.declared.stored_records.MeetingRow.{MeetingRow}
 use Rattle.sql_rows.specs.declared.stored_records.Numbered.{Numbered}
@@ -36,11 +44,12 @@ use Rattle.sql_queries.specs.LastRecords.{FindsLast, IsLastOf}
 use Rattle.sql_model.specs.OfficeRecords.{FlatLists, flat_in, number_before, numbered_from, office_of_records, whole_meeting}
 use Rattle.sql_model.proofs.ModelOfficeLemmas.{AreOf, are_of}
 use Rattle.sql_assemble.specs.declared.fault.LoadError.{LoadError}
-use Rattle.sql_assemble.specs.LoadResults.{ReadAgrees, ReadErrAgrees, any_at_all, fault_of_error}
-use Rattle.party_views.specs.PublicRead.{counted, unread}
-use Rattle.sql_load_public.specs.MeetingRecords.{last_number, later_in, without_meeting}
+use Rattle.sql_assemble.specs.LoadResults.{ReadAgrees, any_at_all, fault_of_error}
+use Rattle.party_views.specs.PublicRead.{meeting_read, stand_ins, unread, up_to, with_unread}
+use Rattle.party_views.specs.Views.{polls_in}
+use Rattle.sql_load_public.specs.MeetingRecords.{AreOnItsResolutions, MayHave, are_on, last_number, later_in, may_have, without_meeting}
 use Rattle.sql_load_public.specs.TableLookUps.{HoldsOfStoredOffice, HoldsOrFails}
-use Rattle.sql_load_public.proofs.FoundRecordLemmas.{cause_tells, error_tells, says, yields_tell}
+use Rattle.sql_load_public.proofs.FoundRecordLemmas.{error_tells, says, yields_tell}
 use Rattle.sql_load_public.proofs.NamedMeetingLemmas.{HoldAll, all_held, the_same}
 use Rattle.sql_load_public.proofs.PublicRecordLemmas.{IsRow, IsRowOf, no_meeting, resolutions_so}
 
@@ -99,7 +108,7 @@ numbered_below {A} n (r ∷ rest) xs h =
     let here = bound (guard (r.number == n)) _ xs h in
     let later = bound (numbered_from (suc n) rest) _ xs here.2 in
     let is : (r.number == n) ≡ true = guarded (r.number == n) here.0 here.1 in
-    (grind (arith, nat_tests), all_weaker (λ (q : Numbered A). suc q.number ≤ suc n + length rest) (λ (q : Numbered A). suc q.number ≤ n + suc (length rest)) (λ q le. omega arith) rest (numbered_below (suc n) rest later.0 later.1))
+    (grind (arith, nat_tests), trees.all_weaker (λ (q : Numbered A). suc q.number ≤ suc n + length rest) (λ (q : Numbered A). suc q.number ≤ n + suc (length rest)) (λ q le. omega arith) rest (numbered_below (suc n) rest later.0 later.1))
 
 -- and the last has that number, so what is no less than each is no less than it
 numbered_up_to : {A : Type 0} (n : ℕ) (rows : List (Numbered A)) (xs : List A) (most : ℕ) → numbered_from n rows ≡ Some xs → AllByRecursion (λ (r : Numbered A). r.number ≤ most) rows → (rows ≡ []) ⊎ (n + length rows ≤ suc most)
@@ -157,33 +166,98 @@ count_so id flat office of last is m found = last_counts (filter (λ (it : Store
 
 -- ---- the meeting
 
-module _ (id : List ℕ) (office : OfficeLists) (meetings : List MeetingRow) (row : MeetingRow) (first : Some row ≡ slice_get meetings 0) (one : IsRow id office meetings) (count : ℕ) (has : HasCount id office count) where
-  its_row : IsRowOf (meeting_named office.meetings id) (Some row)
-  its_row = subst (IsRowOf (meeting_named office.meetings id)) (sym first) one
+-- the meeting of that name, if there is one, with so many resolutions that it may have in place of its own
+abbrev pub IsUnread : List ℕ → ℕ → OfficeLists → Option Meeting → Type 0
+IsUnread id count office kept = MayHave (meeting_named office.meetings id) count → kept ≡ option_map (with_unread count) (option_map (λ (m : MeetingLists). m.meeting) (meeting_named office.meetings id))
 
-  -- the row with the further sessions and so many resolutions is the meeting, its resolutions counted
-  pub counted_so : (later : List Session) → later ≡ later_in (meeting_named office.meetings id) → (resolutions : List Resolution) → ◌≡◌ {A = Option (List Resolution)} (Some (unread count)) (Some resolutions)
-      → Some (whole_meeting row later resolutions) ≡ option_map counted (option_map (λ (m : MeetingLists). m.meeting) (meeting_named office.meetings id))
-  counted_so later sessions resolutions made = go (meeting_named office.meetings id) its_row sessions has
-    where
-      go : (found : Option MeetingLists) → IsRowOf found (Some row) → later ≡ later_in found → ((m : MeetingLists) → found ≡ Some m → count ≡ length m.meeting.resolutions)
-          → Some (whole_meeting row later resolutions) ≡ option_map counted (option_map (λ (m : MeetingLists). m.meeting) found)
-      go None none those next = absurd cc
-      go (Some m) is those next =
-          let its : resolutions ≡ unread (length m.meeting.resolutions) = sym (the_same made) ∙ ap unread (next m refl) in
-          ap (λ s. Some (whole_meeting row s resolutions)) those ∙ ap (λ rs. Some (whole_meeting row m.meeting.later rs)) its ∙ ap (option_map counted) is
+-- the meeting of that name, if there is one, its resolutions as the answer to a request asks for them
+abbrev pub IsReadFor : List ℕ → PartyRequest → OfficeLists → Option Meeting → Type 0
+IsReadFor id asked office kept = kept ≡ option_map (meeting_read asked) (option_map (λ (m : MeetingLists). m.meeting) (meeting_named office.meetings id))
 
-  -- and where they are not made, it is not for want of a meeting
-  pub unread_tell : {X : Type 0} (P : X → Type 0) (e : LoadError) → IsTrue (is_office office) → ReadErrAgrees are_resolutions e (Some (unread count)) → HoldsOrFails P (Err e)
-  unread_tell P e kept cause = go (meeting_named office.meetings id) refl its_row
-    where
-      go : (found : Option MeetingLists) → meeting_named office.meetings id ≡ found → IsRowOf found (Some row) → HoldsOrFails P (Err e)
-      go None is none = absurd cc
-      go (Some m) is its =
-          let good : are_resolutions (unread count) ≡ true = ap (λ n. nat_le 1 n && nat_le n MOST_RESOLUTIONS) (length-replicate count _ ∙ has m is) ∙ (found_facts office id m kept is).resolutions in
-          cause_tells P are_resolutions e (unread count) (Some (unread count)) refl good cause
+-- the row with the further sessions and so many resolutions is the meeting with these in place of its own
+pub unread_so : (id : List ℕ) (office : OfficeLists) (meetings : List MeetingRow) (row : MeetingRow) → Some row ≡ slice_get meetings 0 → IsRow id office meetings
+    → (later : List Session) → later ≡ later_in (meeting_named office.meetings id) → (count : ℕ) (resolutions : List Resolution) → (may_have count ≡ true → resolutions ≡ unread count) → IsUnread id count office (Some (whole_meeting row later resolutions))
+unread_so id office meetings row first one later sessions count resolutions made = go (meeting_named office.meetings id) (subst (IsRowOf (meeting_named office.meetings id)) (sym first) one) sessions
+  where
+    go : (found : Option MeetingLists) → IsRowOf found (Some row) → later ≡ later_in found → MayHave found count
+        → Some (whole_meeting row later resolutions) ≡ option_map (with_unread count) (option_map (λ (m : MeetingLists). m.meeting) found)
+    go None none those may = absurd cc
+    go (Some m) is those may =
+        let its : resolutions ≡ unread count = made (may m refl) in
+        ap (λ s. Some (whole_meeting row s resolutions)) those ∙ ap (λ rs. Some (whole_meeting row m.meeting.later rs)) its ∙ ap (option_map (with_unread count)) is
 
 -- no row is no meeting
-pub none_counted : (office : OfficeLists) (id : List ℕ) (meetings : List MeetingRow) → None ≡ slice_get meetings 0 → IsRow id office meetings
-    → None ≡ option_map counted (option_map (λ (m : MeetingLists). m.meeting) (meeting_named office.meetings id))
-none_counted office id meetings none one = ap (option_map counted) (no_meeting office id meetings none one)
+pub none_unread : (office : OfficeLists) (id : List ℕ) (meetings : List MeetingRow) (count : ℕ) → None ≡ slice_get meetings 0 → IsRow id office meetings → IsUnread id count office None
+none_unread office id meetings count none one may = ap (option_map (with_unread count)) (no_meeting office id meetings none one)
+
+-- ---- as many as a request asks for
+
+few_up_to : (number count : ℕ) → may_have count ≡ true → may_have (up_to number count) ≡ true
+few_up_to number count few =
+    (elim (is_resolution count number) as (λ b. is_resolution count number ≡ b → may_have (cond b number count) ≡ true) [
+      | true ↦ λ has.
+          let within : nat_le number count ≡ true = second_so (nat_le 1 number) (nat_le number count) has in
+          let most : nat_le count MOST_RESOLUTIONS ≡ true = second_so (nat_le 1 count) (nat_le count MOST_RESOLUTIONS) few in
+          let below : nat_le number MOST_RESOLUTIONS ≡ true = grind (arith, nat_tests, within, most) in
+          both_true (first_so (nat_le 1 number) (nat_le number count) has) below
+      | false ↦ λ _. few
+    ]) refl
+
+-- in place of as many as a meeting may have stand as many as it may have
+few_stand_in : (asked : PartyRequest) (count : ℕ) → may_have count ≡ true → may_have (stand_ins asked count) ≡ true
+few_stand_in (Appoint new) count few = few
+few_stand_in (Demand resolution) count few = few_up_to resolution count few
+few_stand_in (Cast new) count few = few_up_to new.resolution count few
+few_stand_in (Instructed resolution) count few = few_up_to resolution count few
+few_stand_in other count few = refl
+
+-- the meeting with the right number of resolutions is the meeting as it is asked for
+read_by : (asked : PartyRequest) (count : ℕ) (found : Option MeetingLists) → ((m : MeetingLists) → found ≡ Some m → count ≡ stand_ins asked (length m.meeting.resolutions))
+    → option_map (with_unread count) (option_map (λ (m : MeetingLists). m.meeting) found) ≡ option_map (meeting_read asked) (option_map (λ (m : MeetingLists). m.meeting) found)
+read_by asked count None is = refl
+read_by asked count (Some m) is = ap (λ n. Some (with_unread n m.meeting)) (is m refl)
+
+-- where the resolutions were counted
+pub counted_read : (id : List ℕ) (asked : PartyRequest) (office : OfficeLists) → IsTrue (is_office office) → (count made : ℕ) → made ≡ stand_ins asked count → (kept : Option Meeting) → IsUnread id made office kept → HasCount id office count → IsReadFor id asked office kept
+counted_read id asked office holds count made made_is kept is has =
+    is (λ m found. ap may_have made_is ∙ ap (λ n. may_have (stand_ins asked n)) (has m found) ∙ few_stand_in asked (length m.meeting.resolutions) (found_facts office id m holds found).resolutions)
+    ∙ read_by asked made (meeting_named office.meetings id) (λ m found. made_is ∙ ap (stand_ins asked) (has m found))
+
+-- and where the polls tell
+pub polled_read : (id : List ℕ) (asked : PartyRequest) (office : OfficeLists) (polls : List Poll) (count : ℕ) → may_have count ≡ true → ((all : ℕ) → are_on all polls ≡ true → count ≡ stand_ins asked all)
+    → (kept : Option Meeting) → IsUnread id count office kept → AreOnItsResolutions (meeting_named office.meetings id) polls → IsReadFor id asked office kept
+polled_read id asked office polls count few known kept is on = is (λ m found. few) ∙ read_by asked count (meeting_named office.meetings id) (λ m found. known (length m.meeting.resolutions) (on m found))
+
+-- what is found passes the test
+found_is : {X : Type 0} (p : X → Bool) (xs : List X) (x : X) → find p xs ≡ Some x → p x ≡ true
+found_is p [] x h = absurd (cc)
+found_is p (y ∷ ys) x h =
+    (elim (p y) as (λ b. p y ≡ b → cond b (Some y) (find p ys) ≡ Some x → p x ≡ true) [
+      | true ↦ λ is e. (let same : y ≡ x = cc in ap p (sym same) ∙ is)
+      | false ↦ λ _ e. found_is p ys x e
+    ]) refl h
+
+-- where there is a poll on a resolution, it is one of so many that each poll is on one of them
+pub up_to_found : (polls : List Poll) (number : ℕ) (poll : Poll) → Some poll ≡ poll_on polls number → (all : ℕ) → are_on all polls ≡ true → number ≡ up_to number all
+up_to_found polls number poll is all on =
+    let found : poll_on polls number ≡ Some poll = sym is in
+    let its : (poll.resolution == number) ≡ true = found_is (λ (p : Poll). p.resolution == number) polls poll found in
+    let same : poll.resolution ≡ number = grind (arith, nat_tests, its) in
+    let has : is_resolution all number ≡ true = ap (is_resolution all) (sym same) ∙ find-passes (λ (p : Poll). p.resolution == number) (λ (p : Poll). is_resolution all p.resolution) polls poll on found in
+    ap (λ b. cond b number all) (sym has)
+
+-- each poll of an office's meeting is on one of its resolutions
+pub on_resolutions : (office : OfficeLists) (id : List ℕ) → IsTrue (is_office office) → (polls : List Poll) → polls ≡ polls_in (meeting_named office.meetings id) → AreOnItsResolutions (meeting_named office.meetings id) polls
+on_resolutions office id holds polls are m found =
+    let its : polls ≡ m.polls = are ∙ ap polls_in found in
+    let all : list_all (is_poll m.meeting) m.polls ≡ true = first_so (list_all (is_poll m.meeting) m.polls) (ascends_by poll_before m.polls) (found_facts office id m holds found).polls in
+    ap (are_on (length m.meeting.resolutions)) its ∙ all_weaker (is_poll m.meeting) (λ (p : Poll). is_resolution (length m.meeting.resolutions) p.resolution) m.polls (on_one m.meeting) all
+  where
+    on_one : (m : Meeting) (p : Poll) → is_poll m p ≡ true → is_resolution (length m.resolutions) p.resolution ≡ true
+    on_one m p h =
+        let s = is_opened_session m p.session in
+        let a = is_resolution (length m.resolutions) p.resolution in
+        let b = implies (is_some p.closed) (is_some p.started) in
+        let c = implies (is_some p.declared) (is_some p.closed) in
+        let d = is_declared_right p.declared in
+        second_so s a (first_so (s && a) b (first_so (s && a && b) c (first_so (s && a && b && c) d h)))

@@ -37,7 +37,7 @@ always (Err e) w = tt
 
 module _ {S : Type 0} (g : store.Ghosts S) where
   -- what was told first is known of what is told then
-  told_then : {X Y : Type 0} (a b c : Held S) (x : X) (r : Result Y LoadError) (P : OfficeLists → X → Type 0) (R : OfficeLists → Y → Type 0)
+  pub told_then : {X Y : Type 0} (a b c : Held S) (x : X) (r : Result Y LoadError) (P : OfficeLists → X → Type 0) (R : OfficeLists → Y → Type 0)
       → HoldsOfStoredOffice g a b (Ok x) P → HoldsOfStoredOffice g b c r (λ office y. P office x → R office y) → HoldsOfStoredOffice g a c r R
   told_then a b c x r P R one two = record {
     holds = λ read office holds kept.
@@ -69,6 +69,15 @@ module _ {S : Type 0} (g : store.Ghosts S) where
     same = two.same;
     changes = two.changes;
   })
+
+  -- what is told is so in another way too, of an office
+  pub told_so : {X : Type 0} (a b : Held S) (r : Result X LoadError) (P R : OfficeLists → X → Type 0) → ((office : OfficeLists) → IsTrue (is_office office) → (x : X) → P office x → R office x)
+      → HoldsOfStoredOffice g a b r P → HoldsOfStoredOffice g a b r R
+  told_so a b r P R next one = record {
+    holds = λ read office holds kept. tells_weaker (P office) (R office) r (next office kept) (one.holds read office holds kept);
+    same = one.same;
+    changes = one.changes;
+  }
 
   module _ {X Y : Type 0} (a b : Held S) (P : OfficeLists → X → Type 0) (R : OfficeLists → Y → Type 0) where
     -- where a telling fails, the whole does

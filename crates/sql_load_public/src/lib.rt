@@ -4,5 +4,6 @@
 
 mod public;
 pub mod query_records;
+mod stand_ins;
 
 pub use public::{OwnedRecord, meeting_of, polls_of, read_closed, read_public, read_public_for};

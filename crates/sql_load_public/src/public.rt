@@ -2,17 +2,15 @@
 ghost use Rattle.std.specs.Prelude.{◌≡◌, [], Some, length, option_map};
 ghost use Rattle.sql_model.specs.OfficeRecords.{whole_meeting};
 ghost use Rattle.desk_words.specs.declared.office.MeetingLists.{MeetingLists};
-ghost use Rattle.desk_words.specs.SortedLists.{are_resolutions};
-ghost use Rattle.sql_assemble.specs.LoadResults.{ReadAgrees};
-ghost use Rattle.party_views.specs.PublicRead.{counted, meeting_alone, public_read, unread, with_counted};
+ghost use Rattle.party_views.specs.PublicRead.{meeting_alone, meeting_read, public_read, with_unread};
 ghost use Rattle.party_views.specs.Views.{meeting_at, polls_in, public_of};
-ghost use Rattle.sql_load_public.specs.MeetingRecords.{last_number, later_in};
+ghost use Rattle.sql_load_public.specs.MeetingRecords.{AreOnItsResolutions, MayHave, last_number, later_in};
 ghost use Rattle.sql_load_public.specs.TableLookUps.{HoldsOfStoredOffice};
 
 use crate::query_records::{first, items, records_found};
+use crate::stand_ins::{stand_ins, stand_ins_by_polls, unread};
 use desk_words::{
-    DayList, Listing, Meeting, MeetingId, PartyRequest, Poll, ResKind, Resolution, Resolutions,
-    Session, Text,
+    DayList, Listing, Meeting, MeetingId, PartyRequest, Poll, Resolution, Resolutions, Session,
 };
 use office_days::Closed;
 use party_views::PublicRecord;
@@ -184,41 +182,63 @@ fn count_of<S: Alter>(
     Ok(last_number(rows.as_slice()))
 }
 
-/// So many resolutions, none of which is read. The fault is want of memory, or `NoOffice` where a
-/// meeting has not so many.
-fn unread(alloc: Global, count: usize) -> Result<Resolutions, LoadError>
-    ensures { ReadAgrees are_resolutions result (Some (unread count)) }
-{
-    let Ok(text) = Text::new(alloc, b"-") else {
-        return Err(LoadError::Memory);
-    };
-    let kind = ResKind::Ordinary;
-    let each = Resolution { kind, text };
-    match Resolutions::new(vec![in alloc; each; count]?) {
-        Ok(resolutions) => Ok(resolutions),
-        Err(_) => Err(LoadError::NoOffice),
-    }
-}
-
-/// The meeting of a name with its sessions, its resolutions counted and not read, if there is one.
-fn counted_of<S: Alter>(
+/// The meeting of a name with its sessions, and so many resolutions in place of its own, if there is
+/// one. None of them is read.
+fn unread_of<S: Alter>(
     tx: &mut Transaction<'_, S>,
     alloc: Global,
     meeting: MeetingId,
+    count: usize,
 ) -> Result<Option<Meeting>, LoadError>
     ensures same_reference { tx.new.conn.ghost_name ≡ tx.old.conn.ghost_name }
     ensures holds { HoldsOfStoredOffice S.Store tx.old.conn.now tx.new.conn.now result
-        (λ office kept. kept
-        ≡ option_map counted (public_of office meeting).meeting) }
+        (λ office kept. MayHave (meeting_at office meeting) count
+        → kept ≡ option_map (with_unread count) (public_of office meeting).meeting) }
 {
     let rows = records_found(alloc, meetings::named(tx, meeting))?;
     let Some(row) = first(rows) else {
         return Ok(None);
     };
     let later = later_of(tx, alloc, meeting)?;
-    let count = count_of(tx, alloc, meeting)?;
     let resolutions = unread(alloc, count)?;
     Ok(Some(whole_meeting(row, later, resolutions)))
+}
+
+/// The meeting of a name with its sessions, if there is one, its resolutions counted and replaced by
+/// as many as the answer to a request asks for.
+fn counted_for<S: Alter>(
+    tx: &mut Transaction<'_, S>,
+    alloc: Global,
+    meeting: MeetingId,
+    asked: &PartyRequest,
+) -> Result<Option<Meeting>, LoadError>
+    ensures same_reference { tx.new.conn.ghost_name ≡ tx.old.conn.ghost_name }
+    ensures holds { HoldsOfStoredOffice S.Store tx.old.conn.now tx.new.conn.now result
+        (λ office kept. kept
+        ≡ option_map (meeting_read asked.now) (public_of office meeting).meeting) }
+{
+    let count = count_of(tx, alloc, meeting)?;
+    unread_of(tx, alloc, meeting, stand_ins(asked, count))
+}
+
+/// The meeting of a name with its sessions, if there is one, its resolutions replaced by as many as
+/// the answer to a request asks for. They are counted only where the polls do not tell enough.
+fn meeting_for<S: Alter>(
+    tx: &mut Transaction<'_, S>,
+    alloc: Global,
+    meeting: MeetingId,
+    asked: &PartyRequest,
+    polls: &[Poll],
+) -> Result<Option<Meeting>, LoadError>
+    ensures same_reference { tx.new.conn.ghost_name ≡ tx.old.conn.ghost_name }
+    ensures holds { HoldsOfStoredOffice S.Store tx.old.conn.now tx.new.conn.now result
+        (λ office kept. AreOnItsResolutions (meeting_at office meeting) polls.now
+        → kept ≡ option_map (meeting_read asked.now) (public_of office meeting).meeting) }
+{
+    match stand_ins_by_polls(asked, polls) {
+        Some(count) => unread_of(tx, alloc, meeting, count),
+        None => counted_for(tx, alloc, meeting, asked),
+    }
 }
 
 /// The record of a meeting alone, without closed days and polls.
@@ -232,8 +252,7 @@ fn alone(alloc: Global, meeting: Option<Meeting>) -> OwnedRecord
     }
 }
 
-/// The public record of a meeting, without the closed days and the polls, its resolutions counted
-/// and not read.
+/// The public record of a meeting, without the closed days and the polls.
 fn read_alone<S: Alter>(
     tx: &mut Transaction<'_, S>,
     alloc: Global,
@@ -243,23 +262,27 @@ fn read_alone<S: Alter>(
     ensures holds { HoldsOfStoredOffice S.Store tx.old.conn.now tx.new.conn.now result
         (λ office kept. kept ≡ meeting_alone (public_of office meeting)) }
 {
-    let kept = counted_of(tx, alloc, meeting)?;
+    let kept = unread_of(tx, alloc, meeting, 1)?;
     Ok(alone(alloc, kept))
 }
 
-/// The public record of a meeting, its resolutions counted and not read.
-fn read_counted<S: Alter>(
+/// The public record of a meeting, its resolutions replaced by as many as the answer to a request
+/// asks for.
+fn read_without_texts<S: Alter>(
     tx: &mut Transaction<'_, S>,
     alloc: Global,
     meeting: MeetingId,
+    asked: &PartyRequest,
 ) -> Result<OwnedRecord, LoadError>
     ensures same_reference { tx.new.conn.ghost_name ≡ tx.old.conn.ghost_name }
     ensures holds { HoldsOfStoredOffice S.Store tx.old.conn.now tx.new.conn.now result
-        (λ office kept. kept ≡ with_counted (public_of office meeting)) }
+        (λ office kept. kept ≡ record (public_of office meeting) {
+          meeting = option_map (meeting_read asked.now) (public_of office meeting).meeting;
+        }) }
 {
     let closed = read_closed(tx, alloc)?;
-    let kept = counted_of(tx, alloc, meeting)?;
     let polls = polls_of(tx, alloc, meeting)?;
+    let kept = meeting_for(tx, alloc, meeting, asked, polls.as_slice())?;
     Ok(OwnedRecord {
         closed,
         meeting: kept,
@@ -284,6 +307,6 @@ pub fn read_public_for<S: Alter>(
         PartyRequest::End(_) | PartyRequest::Authorise(_) | PartyRequest::Attend => {
             read_alone(tx, alloc, meeting)
         }
-        _ => read_counted(tx, alloc, meeting),
+        _ => read_without_texts(tx, alloc, meeting, asked),
     }
 }

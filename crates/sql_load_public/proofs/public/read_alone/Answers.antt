@@ -1,8 +1,9 @@
-use Rattle.std.proofs.Common.{[], ◌∙◌}
+use Rattle.std.proofs.Common.{[], ◌∙◌, refl}
+use Rattle.sql_load_public.proofs.CountedRecordLemmas.{IsUnread}
 use Rattle.sql_load_public.proofs.StoredOfficeLemmas.{holds_so}
 use Rattle.sql_load_public.proofs.public.read_alone.Goals as goal
 
 pub returns-clause-holds : goal.returns-clause-holds
 returns-clause-holds g c =
-    holds_so g.S.Store _ _ _ _ c.in_ok-kept.kept _ c.in_ok-kept.ensures.holds
-    (λ office kept p. c.alone.ensures ∙ (λ i. record { closed = []; meeting = p i; polls = [] }))
+    holds_so g.S.Store _ _ (IsUnread c.args.meeting 1) _ c.in_ok-kept.kept _ c.in_ok-kept.ensures.holds
+    (λ office kept p. c.alone.ensures ∙ (λ i. record { closed = []; meeting = p (λ m found. refl) i; polls = [] }))

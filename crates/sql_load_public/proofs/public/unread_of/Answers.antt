@@ -1,15 +1,10 @@
 use Rattle.std.proofs.Common.{◌≡◌, Err, Some, ap, ◌∙◌, rules}
-use Rattle.std.specs.Prelude.{Option, option_map}
-use Rattle.desk_words.specs.Finding.{meeting_named}
-use Rattle.desk_words.specs.declared.office.MeetingLists.{MeetingLists}
-use Rattle.desk_words.specs.declared.records.Meeting.{Meeting}
 use Rattle.sql_schema.specs.Contents as table
-use Rattle.party_views.specs.PublicRead.{counted}
-use Rattle.sql_load_public.proofs.CountedRecordLemmas.{HasCount, counted_so, none_counted, unread_tell}
+use Rattle.sql_load_public.proofs.CountedRecordLemmas.{IsUnread, none_unread, unread_so}
 use Rattle.sql_load_public.proofs.FoundRecordLemmas.{found_told}
 use Rattle.sql_load_public.proofs.PublicRecordLemmas.{AreLater, IsRow, meeting_row_so}
-use Rattle.sql_load_public.proofs.StoredOfficeLemmas.{holds_after, holds_both, holds_refused, holds_so, holds_stop}
-use Rattle.sql_load_public.proofs.public.counted_of.Goals as goal
+use Rattle.sql_load_public.proofs.StoredOfficeLemmas.{holds_after, holds_both, holds_refused, holds_so, holds_stop, made_tells}
+use Rattle.sql_load_public.proofs.public.unread_of.Goals as goal
 
 pub returns-in_err-rows-clause-holds : goal.returns-in_err-rows-clause-holds
 returns-in_err-rows-clause-holds g c =
@@ -23,7 +18,7 @@ returns-in_default-clause-holds g c =
     holds_so g.S.Store _ _ (IsRow c.args.meeting) _ c.in_ok-rows.rows _
     (found_told g.S.Store c.args.tx.now.conn.now c.named.new.tx.conn.now (λ v. v.items) table.meetings (λ flat. flat.meetings) (λ trees flat held. held.meetings) _ c.named.result c.named.ensures.rows c.named.ensures.changes
     _ c.in_ok-rows.ensures (IsRow c.args.meeting) (λ flat office of kept. meeting_row_so c.args.meeting flat office of))
-    (λ office kept row. none_counted office c.args.meeting c.in_ok-rows.rows c.in_default.ensures row)
+    (λ office kept row. none_unread office c.args.meeting c.in_ok-rows.rows c.args.count c.in_default.ensures row)
 
 pub returns-in_err-later-clause-holds : goal.returns-in_err-later-clause-holds
 returns-in_err-later-clause-holds g c =
@@ -33,37 +28,22 @@ returns-in_err-later-clause-holds g c =
     _ c.in_ok-rows.ensures (IsRow c.args.meeting) (λ flat office of kept. meeting_row_so c.args.meeting flat office of))
     (holds_stop g.S.Store _ _ (AreLater c.args.meeting) _ c.in_err-later.field-0.0 c.from_residual-in_err-later.result is c.in_err-later.ensures.holds)
 
-pub returns-in_err-count-clause-holds : goal.returns-in_err-count-clause-holds
-returns-in_err-count-clause-holds g c =
-    let is : c.from_residual-in_err-count.result ≡ Err c.in_err-count.field-0.0 = search rules in
-    holds_after g.S.Store _ _ _ c.in_ok-later.later _ (λ office later. IsRow c.args.meeting office c.in_ok-rows.rows × AreLater c.args.meeting office later) _
-    (holds_both g.S.Store _ _ _ c.in_ok-rows.rows c.in_ok-later.later (IsRow c.args.meeting) (AreLater c.args.meeting)
-    (found_told g.S.Store c.args.tx.now.conn.now c.named.new.tx.conn.now (λ v. v.items) table.meetings (λ flat. flat.meetings) (λ trees flat held. held.meetings) _ c.named.result c.named.ensures.rows c.named.ensures.changes
-    _ c.in_ok-rows.ensures (IsRow c.args.meeting) (λ flat office of kept. meeting_row_so c.args.meeting flat office of))
-    c.in_ok-later.ensures.holds)
-    (holds_stop g.S.Store _ _ (HasCount c.args.meeting) _ c.in_err-count.field-0.0 c.from_residual-in_err-count.result is c.in_err-count.ensures.holds)
-
 pub returns-in_err-resolutions-clause-holds : goal.returns-in_err-resolutions-clause-holds
 returns-in_err-resolutions-clause-holds g c =
     let is : c.from_residual-in_err-resolutions.result ≡ Err c.in_err-resolutions.field-0.0 = search rules in
-    holds_refused g.S.Store _ _ (λ office count. (IsRow c.args.meeting office c.in_ok-rows.rows × AreLater c.args.meeting office c.in_ok-later.later) × HasCount c.args.meeting office count) _ c.in_ok-count.count c.in_err-resolutions.field-0.0 c.from_residual-in_err-resolutions.result is
-    (holds_both g.S.Store _ _ _ c.in_ok-later.later c.in_ok-count.count (λ office later. IsRow c.args.meeting office c.in_ok-rows.rows × AreLater c.args.meeting office later) (HasCount c.args.meeting)
+    holds_refused g.S.Store _ _ (λ office later. IsRow c.args.meeting office c.in_ok-rows.rows × AreLater c.args.meeting office later) _ c.in_ok-later.later c.in_err-resolutions.field-0.0 c.from_residual-in_err-resolutions.result is
     (holds_both g.S.Store _ _ _ c.in_ok-rows.rows c.in_ok-later.later (IsRow c.args.meeting) (AreLater c.args.meeting)
     (found_told g.S.Store c.args.tx.now.conn.now c.named.new.tx.conn.now (λ v. v.items) table.meetings (λ flat. flat.meetings) (λ trees flat held. held.meetings) _ c.named.result c.named.ensures.rows c.named.ensures.changes
     _ c.in_ok-rows.ensures (IsRow c.args.meeting) (λ flat office of kept. meeting_row_so c.args.meeting flat office of))
     c.in_ok-later.ensures.holds)
-    c.in_ok-count.ensures.holds)
-    (λ office kept p. unread_tell c.args.meeting office c.in_ok-rows.rows c.in-Some.row c.in-Some.ensures p.0.0 c.in_ok-count.count p.1 {X = Option Meeting}
-    (λ found. found ≡ option_map counted (option_map (λ (m : MeetingLists). m.meeting) (meeting_named office.meetings c.args.meeting))) c.in_err-resolutions.field-0.0 kept c.in_err-resolutions.ensures)
+    (λ office kept p. made_tells (IsUnread c.args.meeting c.args.count office) (Err c.in_err-resolutions.field-0.0) c.in_err-resolutions.ensures)
 
 pub returns-clause-holds : goal.returns-clause-holds
 returns-clause-holds g c =
-    holds_so g.S.Store _ _ (λ office count. (IsRow c.args.meeting office c.in_ok-rows.rows × AreLater c.args.meeting office c.in_ok-later.later) × HasCount c.args.meeting office count) _ c.in_ok-count.count _
-    (holds_both g.S.Store _ _ _ c.in_ok-later.later c.in_ok-count.count (λ office later. IsRow c.args.meeting office c.in_ok-rows.rows × AreLater c.args.meeting office later) (HasCount c.args.meeting)
+    holds_so g.S.Store _ _ (λ office later. IsRow c.args.meeting office c.in_ok-rows.rows × AreLater c.args.meeting office later) _ c.in_ok-later.later _
     (holds_both g.S.Store _ _ _ c.in_ok-rows.rows c.in_ok-later.later (IsRow c.args.meeting) (AreLater c.args.meeting)
     (found_told g.S.Store c.args.tx.now.conn.now c.named.new.tx.conn.now (λ v. v.items) table.meetings (λ flat. flat.meetings) (λ trees flat held. held.meetings) _ c.named.result c.named.ensures.rows c.named.ensures.changes
     _ c.in_ok-rows.ensures (IsRow c.args.meeting) (λ flat office of kept. meeting_row_so c.args.meeting flat office of))
     c.in_ok-later.ensures.holds)
-    c.in_ok-count.ensures.holds)
-    (λ office kept p. ap (λ m. Some m) c.whole_meeting.ensures
-    ∙ counted_so c.args.meeting office c.in_ok-rows.rows c.in-Some.row c.in-Some.ensures p.0.0 c.in_ok-count.count p.1 c.in_ok-later.later p.0.1 c.in_ok-resolutions.resolutions c.in_ok-resolutions.ensures)
+    (λ office kept p may. ap (λ m. Some m) c.whole_meeting.ensures
+    ∙ unread_so c.args.meeting office c.in_ok-rows.rows c.in-Some.row c.in-Some.ensures p.0 c.in_ok-later.later p.1 c.args.count c.in_ok-resolutions.resolutions c.in_ok-resolutions.ensures may)

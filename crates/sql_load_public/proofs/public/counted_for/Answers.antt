@@ -1,0 +1,15 @@
+use Rattle.std.proofs.Common.{◌≡◌, Err, rules}
+use Rattle.sql_load_public.proofs.CountedRecordLemmas.{HasCount, IsReadFor, IsUnread, counted_read}
+use Rattle.sql_load_public.proofs.StoredOfficeLemmas.{holds_stop, told_so, told_then}
+use Rattle.sql_load_public.proofs.public.counted_for.Goals as goal
+
+pub returns-in_err-count-clause-holds : goal.returns-in_err-count-clause-holds
+returns-in_err-count-clause-holds g c =
+    let is : c.from_residual.result ≡ Err c.in_err-count.field-0.0 = search rules in
+    holds_stop g.S.Store _ _ (HasCount c.args.meeting) _ c.in_err-count.field-0.0 c.from_residual.result is c.in_err-count.ensures.holds
+
+pub returns-clause-holds : goal.returns-clause-holds
+returns-clause-holds g c =
+    told_then g.S.Store _ _ _ c.in_ok-count.count c.unread_of.result (HasCount c.args.meeting) (IsReadFor c.args.meeting c.args.asked.now) c.in_ok-count.ensures.holds
+    (told_so g.S.Store _ _ c.unread_of.result (IsUnread c.args.meeting c.stand_ins.result) (λ office kept. HasCount c.args.meeting office c.in_ok-count.count → IsReadFor c.args.meeting c.args.asked.now office kept)
+    (λ office holds kept is has. counted_read c.args.meeting c.args.asked.now office holds c.in_ok-count.count c.stand_ins.result c.stand_ins.ensures kept is has) c.unread_of.ensures.holds)
