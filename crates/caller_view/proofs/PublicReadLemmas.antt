@@ -1,24 +1,27 @@
 -- The answer to a party's request reads no more of the public record than is said.
-use Rattle.std.proofs.Common.{◌≡◌, ℕ, true, false, not, cond, nat_le, List, ◌∷◌, ◌++◌, drop, take, length, Option, Some, None, refl, ap, ◌∙◌, arith}
+use Rattle.std.proofs.Common.{◌≡◌, ℕ, true, false, not, cond, nat_le, List, [], ◌∷◌, ◌++◌, drop, take, length, Option, Some, None, refl, ap, ◌∙◌, arith}
 use Rattle.std.specs.Prelude.{◌==◌}
 use Rattle.std.specs.Cmp.{first_so}
 use Rattle.std.specs.Cmp.Derive.{both_true}
 use Rattle.std.proofs.lemmas.Bool.Decides.{nat_tests}
 use Rattle.std.proofs.lemmas.List.{length-replicate}
-use Rattle.vocabulary.specs.Refusals.{Case}
-use Rattle.vocabulary.specs.declared.refusal.Refusal.TheVariants.{BadInstructions, NoMeeting, NoResolution}
+use Rattle.vocabulary.specs.declared.kinds.Capacity.{Capacity}
+use Rattle.vocabulary.specs.declared.kinds.Capacity.TheVariants.{Member, Rep, Proxy}
+use Rattle.vocabulary.specs.declared.refusal.Refusal.TheVariants.{BadInstructions, NoMeeting}
 use Rattle.desk_words.specs.Office.{is_resolution}
 use Rattle.desk_words.specs.Rulings.{Ruling, asked_first, no_resolution}
 use Rattle.desk_words.specs.declared.change.Entry.{Entry}
+use Rattle.desk_words.specs.declared.change.Entry.TheVariants as entry
 use Rattle.desk_words.specs.declared.records.Meeting.{Meeting}
 use Rattle.desk_words.specs.declared.records.Poll.{Poll}
+use Rattle.desk_words.specs.declared.reply.Reply.TheVariants as reply
 use Rattle.desk_words.specs.declared.request.NewAppointment.{NewAppointment}
 use Rattle.desk_words.specs.declared.request.NewCast.{NewCast}
 use Rattle.desk_words.specs.declared.request.PartyRequest.{PartyRequest}
-use Rattle.desk_words.specs.declared.request.PartyRequest.TheVariants.{Notice, Mine, Appoint, End, Authorise, Attend, Demand, Cast, Instructed}
+use Rattle.desk_words.specs.declared.request.PartyRequest.TheVariants.{Notice, Mine, Appoint, Demand, Cast, Instructed}
 use Rattle.caller_view.specs.AppointmentRulings.{appoint_cases, appoint_ruling}
 use Rattle.caller_view.specs.AttendanceRulings.{demand_cases, demand_ruling}
-use Rattle.caller_view.specs.CastRulings.{cast_cases, cast_ruling, instructed_cases, instructed_ruling}
+use Rattle.caller_view.specs.CastRulings.{block_of, cast_cases, cast_ruling, instructed_cases, instructed_ruling}
 use Rattle.caller_view.specs.PartyRulings.{party_ruling, ruling_for}
 use Rattle.caller_view.specs.PublicReadLaws.{RulingsReadNoMoreOfThePublic}
 use Rattle.party_views.specs.OwnViews.{own_by, own_from}
@@ -61,8 +64,14 @@ module _ (public : PublicRecord) (m : Meeting) (own : OwnView) (now : ℕ) where
   demand-read resolution =
       λ i. record (demand_ruling public m own now resolution) { cases = none-read m resolution i ∷ drop 1 (demand_cases public m own resolution) }
 
-  cast-read : (new : NewCast) → cast_ruling (public_read (Cast new) public) (meeting_read (Cast new) m) own now new ≡ cast_ruling public m own now new
-  cast-read new = λ i. record (cast_ruling public m own now new) { cases = none-read m new.resolution i ∷ drop 1 (cast_cases public m own new) }
+  cast-read : (closed : List ℕ) (other : OwnView) (new : NewCast)
+      → drop 1 (cast_cases (record public { closed = closed }) (with_unread (up_to new.resolution (length m.resolutions)) m) other new) ≡ drop 1 (cast_cases public m own new) → other.party ≡ own.party
+      → cast_ruling (record public { closed = closed }) (with_unread (up_to new.resolution (length m.resolutions)) m) other now new ≡ cast_ruling public m own now new
+  cast-read closed other new behind party =
+      λ i. record {
+        cases = none-read m new.resolution i ∷ behind i;
+        accepted = record { reply = reply.Recorded; change = Some (entry.Cast (record { resolution = new.resolution; voter = party i; what = block_of new; moment = now })) };
+      }
 
   instructed-read : (resolution : ℕ) → instructed_ruling (public_read (Instructed resolution) public) (meeting_read (Instructed resolution) m) own now resolution ≡ instructed_ruling public m own now resolution
   instructed-read resolution =
@@ -92,9 +101,28 @@ IsRuledAlike closed found polls rows now asked =
     party_ruling (public_read asked (record_of closed found polls)) (own_from rows (public_read asked (record_of closed found polls)) now) now asked
     ≡ party_ruling (record_of closed found polls) (own_from rows (record_of closed found polls) now) now asked
 
+-- where there is no meeting, a vote is refused in each capacity
+none_cast : (closed : List ℕ) (polls : List Poll) (rows : OwnRows) (now : ℕ) (new : NewCast) (capacity : Capacity) → IsRuledAlike closed None polls rows now (Cast (record new { capacity = capacity }))
+none_cast closed polls rows now new Member = refl
+none_cast closed polls rows now new Rep = refl
+none_cast closed polls rows now new Proxy = refl
+
 none_alike : (closed : List ℕ) (polls : List Poll) (rows : OwnRows) (now : ℕ) (asked : PartyRequest) → IsRuledAlike closed None polls rows now asked
 none_alike closed polls rows now Notice = refl
+none_alike closed polls rows now (Cast new) = none_cast closed polls rows now new new.capacity
 none_alike closed polls rows now asked = refl
+
+-- a vote is ruled so in each capacity
+cast_alike : (closed : List ℕ) (m : Meeting) (polls : List Poll) (rows : OwnRows) (now : ℕ) (new : NewCast) (capacity : Capacity) → IsRuledAlike closed (Some m) polls rows now (Cast (record new { capacity = capacity }))
+cast_alike closed m polls rows now new Proxy =
+    by_those_read closed m polls rows now (stand_ins (Cast new) (length m.resolutions)) (Cast (record new { capacity = Proxy }))
+    (cast-read (record_of closed (Some m) polls) m (own_by rows closed m polls now) now closed (own_by rows closed m polls now) (record new { capacity = Proxy }) refl refl)
+cast_alike closed m polls rows now new Member =
+    ap in_meeting
+    (cast-read (record_of closed (Some m) polls) m (own_by rows closed m polls now) now [] (own_by rows [] (with_unread (stand_ins (Cast new) (length m.resolutions)) m) polls now) (record new { capacity = Member }) refl refl)
+cast_alike closed m polls rows now new Rep =
+    ap in_meeting
+    (cast-read (record_of closed (Some m) polls) m (own_by rows closed m polls now) now [] (own_by rows [] (with_unread (stand_ins (Cast new) (length m.resolutions)) m) polls now) (record new { capacity = Rep }) refl refl)
 
 some_alike : (closed : List ℕ) (m : Meeting) (polls : List Poll) (rows : OwnRows) (now : ℕ) (asked : PartyRequest) → IsRuledAlike closed (Some m) polls rows now asked
 some_alike closed m polls rows now Mine = by_those_read closed m polls rows now 1 Mine refl
@@ -102,8 +130,7 @@ some_alike closed m polls rows now (Appoint new) =
     by_those_read closed m polls rows now (stand_ins (Appoint new) (length m.resolutions)) (Appoint new) (appoint-read (record_of closed (Some m) polls) m (own_by rows closed m polls now) now new)
 some_alike closed m polls rows now (Demand resolution) =
     by_those_read closed m polls rows now (stand_ins (Demand resolution) (length m.resolutions)) (Demand resolution) (demand-read (record_of closed (Some m) polls) m (own_by rows closed m polls now) now resolution)
-some_alike closed m polls rows now (Cast new) =
-    by_those_read closed m polls rows now (stand_ins (Cast new) (length m.resolutions)) (Cast new) (cast-read (record_of closed (Some m) polls) m (own_by rows closed m polls now) now new)
+some_alike closed m polls rows now (Cast new) = cast_alike closed m polls rows now new new.capacity
 some_alike closed m polls rows now (Instructed resolution) =
     by_those_read closed m polls rows now (stand_ins (Instructed resolution) (length m.resolutions)) (Instructed resolution) (instructed-read (record_of closed (Some m) polls) m (own_by rows closed m polls now) now resolution)
 some_alike closed m polls rows now asked = refl

@@ -5,6 +5,9 @@ use Rattle.desk_words.specs.Office.{is_resolution}
 use Rattle.desk_words.specs.ViewTypes.{Number}
 use Rattle.desk_words.specs.declared.records.Meeting.{Meeting}
 use Rattle.desk_words.specs.declared.records.Resolution.{Resolution}
+use Rattle.vocabulary.specs.declared.kinds.Capacity.{Capacity}
+use Rattle.vocabulary.specs.declared.kinds.Capacity.TheVariants.{Proxy}
+use Rattle.desk_words.specs.declared.request.NewCast.{NewCast}
 use Rattle.desk_words.specs.declared.request.PartyRequest.{PartyRequest}
 use Rattle.desk_words.specs.declared.request.PartyRequest.TheVariants.{Notice, Appoint, End, Authorise, Attend, Demand, Cast, Instructed}
 use Rattle.party_views.specs.Public.{PublicRecord}
@@ -43,6 +46,18 @@ meeting_alone public = record {
   polls = [];
 }
 
+-- a public record without the texts of the resolutions
+abbrev pub without_texts : PartyRequest → PublicRecord → PublicRecord
+without_texts asked public = record public {
+  meeting = option_map (meeting_read asked) public.meeting;
+}
+
+-- of it what a vote reads in each capacity: the closed days decide which appointments govern
+-- (section 327), and a vote as a proxy alone stands on these
+abbrev pub vote_read : NewCast → Capacity → PublicRecord → PublicRecord
+vote_read new Proxy public = without_texts (Cast new) public
+vote_read new other public = record (without_texts (Cast new) public) { closed = [] }
+
 -- what of a public record the answer to a request reads: a notice all of it (section 307), an
 -- ending, an authority and a presence the meeting alone (sections 330, 323 and 318), and the others
 -- all but the texts of the resolutions
@@ -51,6 +66,5 @@ public_read Notice public = public
 public_read (End number) public = meeting_alone public
 public_read (Authorise person) public = meeting_alone public
 public_read Attend public = meeting_alone public
-public_read other public = record public {
-  meeting = option_map (meeting_read other) public.meeting;
-}
+public_read (Cast new) public = vote_read new new.capacity public
+public_read other public = without_texts other public

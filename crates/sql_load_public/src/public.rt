@@ -2,7 +2,8 @@
 ghost use Rattle.std.specs.Prelude.{◌≡◌, [], Some, length, option_map};
 ghost use Rattle.sql_model.specs.OfficeRecords.{whole_meeting};
 ghost use Rattle.desk_words.specs.declared.office.MeetingLists.{MeetingLists};
-ghost use Rattle.party_views.specs.PublicRead.{meeting_alone, meeting_read, public_read, with_unread};
+ghost use Rattle.desk_words.specs.declared.request.PartyRequest.TheVariants.{Cast};
+ghost use Rattle.party_views.specs.PublicRead.{meeting_alone, meeting_read, public_read, vote_read, with_unread, without_texts};
 ghost use Rattle.party_views.specs.Views.{meeting_at, polls_in, public_of};
 ghost use Rattle.sql_load_public.specs.MeetingRecords.{AreOnItsResolutions, MayHave, last_number, later_in};
 ghost use Rattle.sql_load_public.specs.TableLookUps.{HoldsOfStoredOffice};
@@ -10,7 +11,8 @@ ghost use Rattle.sql_load_public.specs.TableLookUps.{HoldsOfStoredOffice};
 use crate::query_records::{first, items, records_found};
 use crate::stand_ins::{stand_ins, stand_ins_by_polls, unread};
 use desk_words::{
-    DayList, Listing, Meeting, MeetingId, PartyRequest, Poll, Resolution, Resolutions, Session,
+    Capacity, DayList, Listing, Meeting, MeetingId, NewCast, PartyRequest, Poll, Resolution,
+    Resolutions, Session,
 };
 use office_days::Closed;
 use party_views::PublicRecord;
@@ -276,9 +278,7 @@ fn read_without_texts<S: Alter>(
 ) -> Result<OwnedRecord, LoadError>
     ensures same_reference { tx.new.conn.ghost_name ≡ tx.old.conn.ghost_name }
     ensures holds { HoldsOfStoredOffice S.Store tx.old.conn.now tx.new.conn.now result
-        (λ office kept. kept ≡ record (public_of office meeting) {
-          meeting = option_map (meeting_read asked.now) (public_of office meeting).meeting;
-        }) }
+        (λ office kept. kept ≡ without_texts asked.now (public_of office meeting)) }
 {
     let closed = read_closed(tx, alloc)?;
     let polls = polls_of(tx, alloc, meeting)?;
@@ -288,6 +288,46 @@ fn read_without_texts<S: Alter>(
         meeting: kept,
         polls,
     })
+}
+
+/// The same without the closed days.
+fn read_without_days<S: Alter>(
+    tx: &mut Transaction<'_, S>,
+    alloc: Global,
+    meeting: MeetingId,
+    asked: &PartyRequest,
+) -> Result<OwnedRecord, LoadError>
+    ensures same_reference { tx.new.conn.ghost_name ≡ tx.old.conn.ghost_name }
+    ensures holds { HoldsOfStoredOffice S.Store tx.old.conn.now tx.new.conn.now result
+        (λ office kept. kept
+        ≡ record (without_texts asked.now (public_of office meeting)) { closed = [] }) }
+{
+    let polls = polls_of(tx, alloc, meeting)?;
+    let kept = meeting_for(tx, alloc, meeting, asked, polls.as_slice())?;
+    Ok(OwnedRecord {
+        closed: Closed::from_list(DayList::empty(alloc)),
+        meeting: kept,
+        polls,
+    })
+}
+
+/// What of it a vote reads.
+fn read_for_vote<S: Alter>(
+    tx: &mut Transaction<'_, S>,
+    alloc: Global,
+    meeting: MeetingId,
+    new: &NewCast,
+    asked: &PartyRequest,
+) -> Result<OwnedRecord, LoadError>
+    requires { asked.now ≡ Cast new.now }
+    ensures same_reference { tx.new.conn.ghost_name ≡ tx.old.conn.ghost_name }
+    ensures holds { HoldsOfStoredOffice S.Store tx.old.conn.now tx.new.conn.now result
+        (λ office kept. kept ≡ vote_read new.now new.now.capacity (public_of office meeting)) }
+{
+    match new.capacity {
+        Capacity::Proxy => read_without_texts(tx, alloc, meeting, asked),
+        Capacity::Member | Capacity::Rep => read_without_days(tx, alloc, meeting, asked),
+    }
 }
 
 /// What of a meeting's public record the answer to a party's request reads. Texts of resolutions are
@@ -307,6 +347,7 @@ pub fn read_public_for<S: Alter>(
         PartyRequest::End(_) | PartyRequest::Authorise(_) | PartyRequest::Attend => {
             read_alone(tx, alloc, meeting)
         }
+        PartyRequest::Cast(new) => read_for_vote(tx, alloc, meeting, new, asked),
         _ => read_without_texts(tx, alloc, meeting, asked),
     }
 }
