@@ -1,24 +1,28 @@
 -- The laws of requests.
 use Rattle.std.proofs.Common.{◌≡◌, ℕ, List, Option, Some, None, Ok, Err, refl, ap, ◌∙◌, ◌⊎◌, inl, inr}
 use Rattle.std.specs.Prelude.{option_map}
+use Rattle.serde_json.specs.Data.{Data}
 use Rattle.vocabulary.specs.ResultSteps.{◌>>=◌}
 use Rattle.vocabulary.specs.declared.refusal.Refusal.{Refusal}
 use Rattle.vocabulary.specs.declared.refusal.Refusal.TheVariants as refusal
 use Rattle.vocabulary.specs.Names.{meeting_of}
 use Rattle.desk_words.specs.declared.request.DeskRequest.TheVariants as desk
+use Rattle.desk_words.specs.declared.request.PartyRequest.TheVariants.{Notice, Mine}
 use Rattle.desk_words.specs.declared.request.Request.{Request}
 use Rattle.desk_words.specs.declared.request.Request.TheVariants as request
 use Rattle.json_requests.specs.declared.route.Route.{Route}
 use Rattle.json_requests.specs.declared.route.Route.TheVariants as route
 use Rattle.json_requests.specs.RefusalResults.{or_unreadable}
-use Rattle.json_requests.specs.Bodies.{read_by}
+use Rattle.json_requests.specs.Bodies.{body_of, read_by}
 use Rattle.json_requests.specs.CallBodies.{call_body}
 use Rattle.json_requests.specs.DayBodies.{closed_body}
 use Rattle.json_requests.specs.KeyBodies.{keys_body}
 use Rattle.json_requests.specs.RouteLaws.{meeting_asked}
-use Rattle.json_requests.specs.Requests.{asked_on_route, office_asks, party_asks, request_of, routed}
+use Rattle.json_requests.specs.Requests.{asked_in, asked_on_route, request_of, routed}
 use Rattle.json_requests.specs.Routes.{route_of}
-use Rattle.json_requests.proofs.CallLemmas.{call_keeps}
+use Rattle.json_requests.specs.Verbs.{office_way, party_way}
+use Rattle.json_requests.specs.declared.verb.PartyVerb.TheVariants as party
+use Rattle.json_requests.proofs.CallLemmas.{Keeps, call_keeps, keeps_next}
 use Rattle.json_requests.proofs.RouteLemmas.{meeting_on, route_keeps}
 
 -- ---- the route comes before the body
@@ -53,12 +57,21 @@ of_made : {A : Type 0} (meeting : Option (List ℕ)) (made : A → Request) (rea
 of_made meeting made None same wanted e = cc
 of_made meeting made (Some x) same wanted e = let is : made x ≡ wanted = cc in same x refl ∙ ap meeting_asked is
 
+of_value : (way : Route) (d : Data) (wanted : Request) → asked_in way d ≡ Some wanted → meeting_on way ≡ meeting_asked wanted
+of_value (route.Call m) d wanted e = of_made (Some m) (λ new. request.Desk (desk.CallMeeting new)) (call_body m d) (call_keeps m d).some wanted e
+of_value route.Closed d wanted e = of_made None (λ days. request.Desk (desk.ClosedDays days)) (closed_body d) (λ days is. refl) wanted e
+of_value route.Keys d wanted e = of_made None (λ rows. request.Desk (desk.Keys rows)) (keys_body d) (λ rows is. refl) wanted e
+of_value (route.Office m verb) d wanted e = of_made (Some m) (λ what. request.Office m what) ((office_way verb).1 d) (λ what is. refl) wanted e
+of_value (route.Party m verb) d wanted e = of_made (Some m) (λ what. request.Party m what) ((party_way verb).1 d) (λ what is. refl) wanted e
+
+of_body : (way : Route) (body : List ℕ) → Keeps (λ wanted. meeting_on way ≡ meeting_asked wanted) (read_by (asked_in way) body)
+unfolding read_by
+of_body way body = keeps_next (λ wanted. meeting_on way ≡ meeting_asked wanted) (body_of body) (asked_in way) (λ d. record { some = of_value way d })
+
 of_route : (way : Route) (body : List ℕ) (wanted : Request) → asked_on_route way body ≡ Some wanted → meeting_on way ≡ meeting_asked wanted
-of_route (route.Call m) body wanted e = of_made (Some m) (λ new. request.Desk (desk.CallMeeting new)) (read_by (call_body m) body) (call_keeps m body).some wanted e
-of_route route.Closed body wanted e = of_made None (λ days. request.Desk (desk.ClosedDays days)) (read_by closed_body body) (λ days is. refl) wanted e
-of_route route.Keys body wanted e = of_made None (λ rows. request.Desk (desk.Keys rows)) (read_by keys_body body) (λ rows is. refl) wanted e
-of_route (route.Office m verb) body wanted e = of_made (Some m) (λ what. request.Office m what) (office_asks verb body) (λ what is. refl) wanted e
-of_route (route.Party m verb) body wanted e = of_made (Some m) (λ what. request.Party m what) (party_asks verb body) (λ what is. refl) wanted e
+of_route (route.Party m party.Notice) body wanted e = let is : request.Party m Notice ≡ wanted = cc in ap meeting_asked is
+of_route (route.Party m party.Mine) body wanted e = let is : request.Party m Mine ≡ wanted = cc in ap meeting_asked is
+of_route way body wanted e = (of_body way body).some wanted e
 
 of_readable : (read : Option Request) (wanted : Request) → or_unreadable read ≡ Ok wanted → read ≡ Some wanted
 of_readable None wanted e = cc

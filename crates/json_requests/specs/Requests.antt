@@ -1,17 +1,16 @@
 -- Requests, as a meeting, a verb and a body ask them.
-use Rattle.std.specs.Prelude.{ℕ, List, Option, option_map, Result, ok_or}
+use Rattle.std.specs.Prelude.{ℕ, List, Option, Some, option_map, Result, ok_or}
+use Rattle.serde_json.specs.Data.{Data}
 use Rattle.vocabulary.specs.ResultSteps.{◌>>=◌}
 use Rattle.vocabulary.specs.declared.refusal.Refusal.{Refusal}
 use Rattle.vocabulary.specs.declared.refusal.Refusal.TheVariants as refusal
 use Rattle.desk_words.specs.declared.request.DeskRequest.TheVariants as desk
-use Rattle.desk_words.specs.declared.request.OfficeRequest.{OfficeRequest}
-use Rattle.desk_words.specs.declared.request.PartyRequest.{PartyRequest}
+use Rattle.desk_words.specs.declared.request.PartyRequest.TheVariants.{Notice, Mine}
 use Rattle.desk_words.specs.declared.request.Request.{Request}
 use Rattle.desk_words.specs.declared.request.Request.TheVariants as request
 use Rattle.json_requests.specs.declared.route.Route.{Route}
 use Rattle.json_requests.specs.declared.route.Route.TheVariants as route
-use Rattle.json_requests.specs.declared.verb.OfficeVerb.{OfficeVerb}
-use Rattle.json_requests.specs.declared.verb.PartyVerb.{PartyVerb}
+use Rattle.json_requests.specs.declared.verb.PartyVerb.TheVariants as party
 use Rattle.json_requests.specs.RefusalResults.{or_unreadable}
 use Rattle.json_requests.specs.Bodies.{read_by}
 use Rattle.json_requests.specs.CallBodies.{call_body}
@@ -20,26 +19,22 @@ use Rattle.json_requests.specs.KeyBodies.{keys_body}
 use Rattle.json_requests.specs.Routes.{route_of}
 use Rattle.json_requests.specs.Verbs.{office_way, party_way}
 
--- what the office asks in a meeting, as the body says it
-abbrev pub office_asks : OfficeVerb → List ℕ → Option OfficeRequest
-office_asks verb body = (office_way verb).1 body
+-- what is asked on a route, as a value says it
+abbrev pub asked_in : Route → Data → Option Request
+asked_in (route.Call meeting) d =
+    option_map (λ new. request.Desk (desk.CallMeeting new)) (call_body meeting d)
+asked_in route.Closed d = option_map (λ days. request.Desk (desk.ClosedDays days)) (closed_body d)
+asked_in route.Keys d = option_map (λ rows. request.Desk (desk.Keys rows)) (keys_body d)
+asked_in (route.Office meeting verb) d =
+    option_map (λ what. request.Office meeting what) ((office_way verb).1 d)
+asked_in (route.Party meeting verb) d =
+    option_map (λ what. request.Party meeting what) ((party_way verb).1 d)
 
--- what a party asks in a meeting, as the body says it
-abbrev pub party_asks : PartyVerb → List ℕ → Option PartyRequest
-party_asks verb body = (party_way verb).1 body
-
--- what is asked on a route, as the body says it
+-- what is asked on a route, as the body says it; for `notice` and `mine` no body is looked at
 abbrev pub asked_on_route : Route → List ℕ → Option Request
-asked_on_route (route.Call meeting) body =
-    option_map (λ new. request.Desk (desk.CallMeeting new)) (read_by (call_body meeting) body)
-asked_on_route route.Closed body =
-    option_map (λ days. request.Desk (desk.ClosedDays days)) (read_by closed_body body)
-asked_on_route route.Keys body =
-    option_map (λ rows. request.Desk (desk.Keys rows)) (read_by keys_body body)
-asked_on_route (route.Office meeting verb) body =
-    option_map (λ what. request.Office meeting what) (office_asks verb body)
-asked_on_route (route.Party meeting verb) body =
-    option_map (λ what. request.Party meeting what) (party_asks verb body)
+asked_on_route (route.Party meeting party.Notice) body = Some (request.Party meeting Notice)
+asked_on_route (route.Party meeting party.Mine) body = Some (request.Party meeting Mine)
+asked_on_route way body = read_by (asked_in way) body
 
 -- no route where there is none
 abbrev pub routed : {A : Type 0} → Option A → Result A Refusal

@@ -1,5 +1,6 @@
--- Verbs, which name requests: the word for each, and what a body says where it is asked.
+-- Verbs, which name requests: the word for each, and what a value says where it is asked.
 use Rattle.std.specs.Prelude.{ℕ, List, [], ◌∷◌, Option, Some, codes, bytes_eq, find}
+use Rattle.serde_json.specs.Data.{Data}
 use Rattle.desk_words.specs.declared.request.OfficeRequest.{OfficeRequest}
 use Rattle.desk_words.specs.declared.request.PartyRequest.{PartyRequest}
 use Rattle.desk_words.specs.declared.request.PartyRequest.TheVariants.{Notice, Mine}
@@ -10,34 +11,33 @@ use Rattle.json_requests.specs.declared.verb.OfficeVerb.TheVariants as office
 use Rattle.json_requests.specs.declared.verb.PartyVerb.{PartyVerb}
 use Rattle.json_requests.specs.declared.verb.PartyVerb.TheVariants as party
 use Rattle.json_requests.specs.AppointmentBodies.{appoint_body, end_in}
-use Rattle.json_requests.specs.Bodies.{read_by}
 use Rattle.json_requests.specs.PollBodies.{order_in, start_in, close_in, declare_in, demand_body, cast_body, instructed_in}
 use Rattle.json_requests.specs.PresenceBodies.{adjourn_in, open_in, presence_body, attend_in, authorise_in}
 use Rattle.json_requests.specs.RegisterBodies.{load_in}
 
--- the word for what the office asks in a meeting, and what a body asks by it
-abbrev pub office_way : OfficeVerb → List ℕ × (List ℕ → Option OfficeRequest)
-office_way office.Presence = (codes "presence", read_by presence_body)
-office_way office.Register = (codes "register", read_by load_in)
-office_way office.Open = (codes "open", read_by open_in)
-office_way office.Adjourn = (codes "adjourn", read_by adjourn_in)
-office_way office.Order = (codes "order", read_by order_in)
-office_way office.Start = (codes "start", read_by start_in)
-office_way office.Close = (codes "close", read_by close_in)
-office_way office.Declare = (codes "declare", read_by declare_in)
+-- the word for what the office asks in a meeting, and what a value asks by it
+abbrev pub office_way : OfficeVerb → List ℕ × (Data → Option OfficeRequest)
+office_way office.Presence = (codes "presence", presence_body)
+office_way office.Register = (codes "register", load_in)
+office_way office.Open = (codes "open", open_in)
+office_way office.Adjourn = (codes "adjourn", adjourn_in)
+office_way office.Order = (codes "order", order_in)
+office_way office.Start = (codes "start", start_in)
+office_way office.Close = (codes "close", close_in)
+office_way office.Declare = (codes "declare", declare_in)
 
--- the word for what a party asks in a meeting, and what a body asks by it; for `notice` and `mine`
--- no body is looked at
-abbrev pub party_way : PartyVerb → List ℕ × (List ℕ → Option PartyRequest)
-party_way party.Notice = (codes "notice", λ body. Some Notice)
-party_way party.Mine = (codes "mine", λ body. Some Mine)
-party_way party.Appoint = (codes "appoint", read_by appoint_body)
-party_way party.End = (codes "end", read_by end_in)
-party_way party.Authorise = (codes "authorise", read_by authorise_in)
-party_way party.Attend = (codes "attend", read_by attend_in)
-party_way party.Demand = (codes "demand", read_by demand_body)
-party_way party.Cast = (codes "cast", read_by cast_body)
-party_way party.Instructed = (codes "instructed", read_by instructed_in)
+-- the word for what a party asks in a meeting, and what a value asks by it; `notice` and `mine` ask
+-- the same by each
+abbrev pub party_way : PartyVerb → List ℕ × (Data → Option PartyRequest)
+party_way party.Notice = (codes "notice", λ d. Some Notice)
+party_way party.Mine = (codes "mine", λ d. Some Mine)
+party_way party.Appoint = (codes "appoint", appoint_body)
+party_way party.End = (codes "end", end_in)
+party_way party.Authorise = (codes "authorise", authorise_in)
+party_way party.Attend = (codes "attend", attend_in)
+party_way party.Demand = (codes "demand", demand_body)
+party_way party.Cast = (codes "cast", cast_body)
+party_way party.Instructed = (codes "instructed", instructed_in)
 
 -- the word for a verb
 abbrev pub verb_word : Verb → List ℕ

@@ -1,15 +1,11 @@
 //! Requests, as a meeting, a verb and a body ask them.
-ghost use Rattle.std.specs.Prelude.{option_map};
 ghost use Rattle.vocabulary.specs.Identity.{id};
-ghost use Rattle.desk_words.specs.declared.request.DeskRequest.TheVariants as desk;
-ghost use Rattle.desk_words.specs.declared.request.Request.TheVariants as request;
-ghost use Rattle.json_requests.specs.RefusalResults.{AskAgrees, or_unreadable};
+ghost use Rattle.json_requests.specs.BodyValues.{view};
 ghost use Rattle.json_requests.specs.Bodies.{read_by};
-ghost use Rattle.json_requests.specs.CallBodies.{call_body};
-ghost use Rattle.json_requests.specs.DayBodies.{closed_body};
-ghost use Rattle.json_requests.specs.KeyBodies.{keys_body};
 ghost use Rattle.json_requests.specs.ParsedBodies.{BodyAgrees};
-ghost use Rattle.json_requests.specs.Requests.{asked_on_route, office_asks, party_asks, request_of};
+ghost use Rattle.json_requests.specs.RefusalResults.{AskAgrees, or_unreadable};
+ghost use Rattle.json_requests.specs.Requests.{asked_in, asked_on_route, request_of};
+ghost use Rattle.json_requests.specs.Verbs.{office_way, party_way};
 
 use crate::appointment::{appoint, end};
 use crate::ask::{Ask, BodyError};
@@ -22,150 +18,88 @@ use crate::presence::{adjourn, attend, authorise, open, presence};
 use crate::register::load;
 use crate::route::{Route, route_of};
 use crate::verb::{OfficeVerb, PartyVerb};
-use desk_words::{
-    DayList, DeskRequest, KeyRows, MeetingId, NewMeeting, OfficeRequest, PartyRequest, Refusal,
-    Request,
-};
-use json::Scratch;
+use desk_words::{DeskRequest, OfficeRequest, PartyRequest, Refusal, Request};
+use json::{Scratch, Value};
 use std::alloc::Global;
 
 const ROUTE: Ask = Ask::Refused(Refusal::Route);
 
-#[tactic(auto, unfolding(crate::specs::Bodies::read_by))]
-fn called(
-    alloc: Global,
-    scratch: &mut Scratch,
-    meeting: MeetingId,
-    body: &[u8],
-) -> Result<NewMeeting, BodyError>
-    ensures { BodyAgrees id result (read_by (call_body meeting) body.now) }
-{
-    call(alloc, meeting, &read_body(alloc, scratch, body)?)
-}
-
-#[tactic(auto, unfolding(crate::specs::Bodies::read_by))]
-fn closed_days(alloc: Global, scratch: &mut Scratch, body: &[u8]) -> Result<DayList, BodyError>
-    ensures { BodyAgrees id result (read_by closed_body body.now) }
-{
-    closed(alloc, &read_body(alloc, scratch, body)?)
-}
-
-#[tactic(auto, unfolding(crate::specs::Bodies::read_by))]
-fn key_rows(alloc: Global, scratch: &mut Scratch, body: &[u8]) -> Result<KeyRows, BodyError>
-    ensures { BodyAgrees id result (read_by keys_body body.now) }
-{
-    keys(alloc, &read_body(alloc, scratch, body)?)
-}
-
-/// What the office asks in a meeting.
-#[tactic(auto, unfolding(crate::specs::Bodies::read_by))]
-fn office_asks(
-    alloc: Global,
-    scratch: &mut Scratch,
-    verb: OfficeVerb,
-    body: &[u8],
-) -> Result<OfficeRequest, BodyError>
-    ensures { BodyAgrees id result (office_asks verb body.now) }
+/// What the office asks in a meeting, as a value says it.
+fn by_office(alloc: Global, verb: OfficeVerb, value: &Value<'_>) -> Result<OfficeRequest, BodyError>
+    ensures { BodyAgrees id result ((office_way verb).1 (view value.now)) }
 {
     match verb {
-        OfficeVerb::Presence => presence(&read_body(alloc, scratch, body)?),
-        OfficeVerb::Register => load(alloc, &read_body(alloc, scratch, body)?),
-        OfficeVerb::Open => open(&read_body(alloc, scratch, body)?),
-        OfficeVerb::Adjourn => adjourn(&read_body(alloc, scratch, body)?),
-        OfficeVerb::Order => order(&read_body(alloc, scratch, body)?),
-        OfficeVerb::Start => start(&read_body(alloc, scratch, body)?),
-        OfficeVerb::Close => close(&read_body(alloc, scratch, body)?),
-        OfficeVerb::Declare => declare(&read_body(alloc, scratch, body)?),
+        OfficeVerb::Presence => presence(value),
+        OfficeVerb::Register => load(alloc, value),
+        OfficeVerb::Open => open(value),
+        OfficeVerb::Adjourn => adjourn(value),
+        OfficeVerb::Order => order(value),
+        OfficeVerb::Start => start(value),
+        OfficeVerb::Close => close(value),
+        OfficeVerb::Declare => declare(value),
     }
 }
 
-/// What a party asks in a meeting.
-#[tactic(auto, unfolding(crate::specs::Bodies::read_by))]
-fn party_asks(
-    alloc: Global,
-    scratch: &mut Scratch,
-    verb: PartyVerb,
-    body: &[u8],
-) -> Result<PartyRequest, BodyError>
-    ensures { BodyAgrees id result (party_asks verb body.now) }
+/// What a party asks in a meeting, as a value says it.
+fn by_party(alloc: Global, verb: PartyVerb, value: &Value<'_>) -> Result<PartyRequest, BodyError>
+    ensures { BodyAgrees id result ((party_way verb).1 (view value.now)) }
 {
     match verb {
         PartyVerb::Notice => Ok(PartyRequest::Notice),
         PartyVerb::Mine => Ok(PartyRequest::Mine),
-        PartyVerb::Appoint => appoint(alloc, &read_body(alloc, scratch, body)?),
-        PartyVerb::End => end(&read_body(alloc, scratch, body)?),
-        PartyVerb::Authorise => authorise(&read_body(alloc, scratch, body)?),
-        PartyVerb::Attend => attend(&read_body(alloc, scratch, body)?),
-        PartyVerb::Demand => demand(&read_body(alloc, scratch, body)?),
-        PartyVerb::Cast => cast(&read_body(alloc, scratch, body)?),
-        PartyVerb::Instructed => instructed(&read_body(alloc, scratch, body)?),
+        PartyVerb::Appoint => appoint(alloc, value),
+        PartyVerb::End => end(value),
+        PartyVerb::Authorise => authorise(value),
+        PartyVerb::Attend => attend(value),
+        PartyVerb::Demand => demand(value),
+        PartyVerb::Cast => cast(value),
+        PartyVerb::Instructed => instructed(value),
     }
 }
 
-/// What `call` asks, in the meeting that is to have that name.
-fn by_call(
-    alloc: Global,
-    scratch: &mut Scratch,
-    meeting: MeetingId,
-    body: &[u8],
-) -> Result<Request, Ask>
-    ensures { AskAgrees id result (or_unreadable (option_map (λ new. request.Desk (desk.CallMeeting new))
-        (read_by (call_body meeting) body.now))) }
-{
-    let new = called(alloc, scratch, meeting, body)?;
-    Ok(Request::Desk(DeskRequest::CallMeeting(new)))
-}
-
-/// What `closed` asks of the whole desk.
-fn by_closed(alloc: Global, scratch: &mut Scratch, body: &[u8]) -> Result<Request, Ask>
-    ensures { AskAgrees id result (or_unreadable (option_map
-        (λ days. request.Desk (desk.ClosedDays days))
-        (read_by closed_body body.now))) }
-{
-    let days = closed_days(alloc, scratch, body)?;
-    Ok(Request::Desk(DeskRequest::ClosedDays(days)))
-}
-
-/// What `keys` asks of the whole desk.
-fn by_keys(alloc: Global, scratch: &mut Scratch, body: &[u8]) -> Result<Request, Ask>
-    ensures { AskAgrees id result (or_unreadable (option_map (λ rows. request.Desk (desk.Keys rows))
-        (read_by keys_body body.now))) }
-{
-    let rows = key_rows(alloc, scratch, body)?;
-    Ok(Request::Desk(DeskRequest::Keys(rows)))
-}
-
-/// What the office asks in that meeting.
-fn by_office(
-    alloc: Global,
-    scratch: &mut Scratch,
-    verb: OfficeVerb,
-    meeting: MeetingId,
-    body: &[u8],
-) -> Result<Request, Ask>
-    ensures { AskAgrees id result (or_unreadable (option_map (λ what. request.Office meeting what)
-        (office_asks verb body.now))) }
-{
-    let asked = office_asks(alloc, scratch, verb, body)?;
-    Ok(Request::Office { meeting, asked })
-}
-
-/// What a party asks in that meeting.
-fn by_party(
-    alloc: Global,
-    scratch: &mut Scratch,
-    verb: PartyVerb,
-    meeting: MeetingId,
-    body: &[u8],
-) -> Result<Request, Ask>
-    ensures { AskAgrees id result (or_unreadable (option_map (λ what. request.Party meeting what)
-        (party_asks verb body.now))) }
-{
-    let asked = party_asks(alloc, scratch, verb, body)?;
-    Ok(Request::Party { meeting, asked })
-}
-
 impl Route {
+    /// What is asked on a route, as a value says it.
+    fn asked_in(self, alloc: Global, value: &Value<'_>) -> Result<Request, BodyError>
+        ensures { BodyAgrees id result (asked_in self (view value.now)) }
+    {
+        match self {
+            Route::Call(meeting) => {
+                let new = call(alloc, meeting, value)?;
+                Ok(Request::Desk(DeskRequest::CallMeeting(new)))
+            }
+            Route::Closed => {
+                let days = closed(alloc, value)?;
+                Ok(Request::Desk(DeskRequest::ClosedDays(days)))
+            }
+            Route::Keys => {
+                let rows = keys(alloc, value)?;
+                Ok(Request::Desk(DeskRequest::Keys(rows)))
+            }
+            Route::Office { meeting, verb } => {
+                let asked = by_office(alloc, verb, value)?;
+                Ok(Request::Office { meeting, asked })
+            }
+            Route::Party { meeting, verb } => {
+                let asked = by_party(alloc, verb, value)?;
+                Ok(Request::Party { meeting, asked })
+            }
+        }
+    }
+
+    /// What is asked on a route, as the value says that a body is.
+    #[tactic(auto, unfolding(crate::specs::Bodies::read_by))]
+    fn asked_by(
+        self,
+        alloc: Global,
+        scratch: &mut Scratch,
+        body: &[u8],
+    ) -> Result<Request, BodyError>
+        ensures { BodyAgrees id result (read_by (asked_in self) body.now) }
+    {
+        let value = read_body(alloc, scratch, body)?;
+        self.asked_in(alloc, &value)
+    }
+
     /// The request on a route, with what the body says of it. It is refused as `Unreadable` where
     /// the body does not say what the verb asks, and only there. For `notice` and `mine` the body
     /// is not looked at. Of a field that is repeated the last value counts, and an empty body
@@ -175,13 +109,14 @@ impl Route {
     pub fn request(self, alloc: Global, scratch: &mut Scratch, body: &[u8]) -> Result<Request, Ask>
         ensures { AskAgrees id result (or_unreadable (asked_on_route self body.now)) }
     {
-        match self {
-            Route::Call(meeting) => by_call(alloc, scratch, meeting, body),
-            Route::Closed => by_closed(alloc, scratch, body),
-            Route::Keys => by_keys(alloc, scratch, body),
-            Route::Office { meeting, verb } => by_office(alloc, scratch, verb, meeting, body),
-            Route::Party { meeting, verb } => by_party(alloc, scratch, verb, meeting, body),
-        }
+        let asked = match self {
+            Route::Party {
+                verb: PartyVerb::Notice | PartyVerb::Mine,
+                ..
+            } => self.asked_in(alloc, &Value::Null)?,
+            _ => self.asked_by(alloc, scratch, body)?,
+        };
+        Ok(asked)
     }
 }
 
