@@ -127,7 +127,7 @@ cast_alike closed m polls rows now new Rep =
 some_alike : (closed : List ℕ) (m : Meeting) (polls : List Poll) (rows : OwnRows) (now : ℕ) (asked : PartyRequest) → IsRuledAlike closed (Some m) polls rows now asked
 some_alike closed m polls rows now Mine = by_those_read closed m polls rows now 1 Mine refl
 some_alike closed m polls rows now (Appoint new) =
-    by_those_read closed m polls rows now (stand_ins (Appoint new) (length m.resolutions)) (Appoint new) (appoint-read (record_of closed (Some m) polls) m (own_by rows closed m polls now) now new)
+    ap in_meeting (appoint-read (record_of closed (Some m) polls) m (own_by rows closed (meeting_read (Appoint new) m) [] now) now new)
 some_alike closed m polls rows now (Demand resolution) =
     by_those_read closed m polls rows now (stand_ins (Demand resolution) (length m.resolutions)) (Demand resolution) (demand-read (record_of closed (Some m) polls) m (own_by rows closed m polls now) now resolution)
 some_alike closed m polls rows now (Cast new) = cast_alike closed m polls rows now new new.capacity

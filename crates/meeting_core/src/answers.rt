@@ -39,9 +39,12 @@ pub(crate) fn entering(meeting: MeetingId, answer: Answer<Entry>) -> Answer<Chan
     let Answer { reply, change } = answer;
     let change = match change {
         None => None,
-        Some(entry) => Some(MeetingChange::Enter(entry)),
+        Some(entry) => Some(Change::InMeeting {
+            meeting,
+            change: MeetingChange::Enter(entry),
+        }),
     };
-    in_meeting(meeting, Answer { reply, change })
+    Answer { reply, change }
 }
 
 /// The answer to a party, from the public record and those of its rows that it reads.

@@ -191,6 +191,21 @@ impl Book {
         }
     }
 
+    /// What is decided of a call, as `decide` says.
+    fn decision(&self, call: &Call) -> Result<Answer<Change>, AllocError>
+        ensures answer { IfOk result (λ a. a ≡ decided self.now call.now) }
+        ensures held { IsTrue (is_office self.now) }
+        ensures kept { IfOk result (λ a. IsTrue (is_office (applied_if_any self.now a.change))) }
+        ensures sure { needs_no_memory self.now call.now.caller call.now.request ≡ true
+            → IsOk result }
+        ensures refusals { is_at_once_to call.now.caller (decided self.now call.now) ≡ true
+            → IsOk result }
+    {
+        // This opens the value, so that what its type keeps is known.
+        let _ = &self.meetings;
+        self.answer_to(call)
+    }
+
     /// The reply to a call, and its change: to a party the answer of its public record and its own
     /// things, to the office that of the whole office. The error is want of memory; a start or a
     /// close of a poll by the office needs none, nor does its load of what is held already, nor an
@@ -206,9 +221,7 @@ impl Book {
         ensures refusals { is_at_once_to call.now.caller (decided self.now call.now) ≡ true
             → IsOk result }
     {
-        // This opens the value, so that what its type keeps is known.
-        let _ = &self.meetings;
-        let answer = self.answer_to(call)?;
+        let answer = self.decision(call)?;
         Ok((answer.reply, answer.change))
     }
 

@@ -59,10 +59,12 @@ vote_read new Proxy public = without_texts (Cast new) public
 vote_read new other public = record (without_texts (Cast new) public) { closed = [] }
 
 -- what of a public record the answer to a request reads: a notice all of it (section 307), an
--- ending, an authority and a presence the meeting alone (sections 330, 323 and 318), and the others
--- all but the texts of the resolutions
+-- ending, an authority and a presence the meeting alone (sections 330, 323 and 318), an appointment
+-- no polls, since the closed days and the sessions decide what it counts for (section 327), and the
+-- others all but the texts of the resolutions
 abbrev pub public_read : PartyRequest → PublicRecord → PublicRecord
 public_read Notice public = public
+public_read (Appoint new) public = record (without_texts (Appoint new) public) { polls = [] }
 public_read (End number) public = meeting_alone public
 public_read (Authorise person) public = meeting_alone public
 public_read Attend public = meeting_alone public

@@ -311,6 +311,27 @@ fn read_without_days<S: Alter>(
     })
 }
 
+/// The same without the polls, of which none tells how many resolutions an appointment asks for.
+fn read_without_polls<S: Alter>(
+    tx: &mut Transaction<'_, S>,
+    alloc: Global,
+    meeting: MeetingId,
+    asked: &PartyRequest,
+) -> Result<OwnedRecord, LoadError>
+    ensures same_reference { tx.new.conn.ghost_name ≡ tx.old.conn.ghost_name }
+    ensures holds { HoldsOfStoredOffice S.Store tx.old.conn.now tx.new.conn.now result
+        (λ office kept. kept
+        ≡ record (without_texts asked.now (public_of office meeting)) { polls = [] }) }
+{
+    let closed = read_closed(tx, alloc)?;
+    let kept = counted_for(tx, alloc, meeting, asked)?;
+    Ok(OwnedRecord {
+        closed,
+        meeting: kept,
+        polls: Listing::new(alloc),
+    })
+}
+
 /// What of it a vote reads.
 fn read_for_vote<S: Alter>(
     tx: &mut Transaction<'_, S>,
@@ -344,6 +365,7 @@ pub fn read_public_for<S: Alter>(
 {
     match asked {
         PartyRequest::Notice => read_public(tx, alloc, meeting),
+        PartyRequest::Appoint(_) => read_without_polls(tx, alloc, meeting, asked),
         PartyRequest::End(_) | PartyRequest::Authorise(_) | PartyRequest::Attend => {
             read_alone(tx, alloc, meeting)
         }

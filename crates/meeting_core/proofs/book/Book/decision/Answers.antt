@@ -6,7 +6,7 @@ use Rattle.desk_words.specs.declared.change.Change.{Change}
 use Rattle.desk_words.specs.Changes.{applied_if_any}
 use Rattle.office_decisions.specs.RequestLimits.{if_any, keeps_limits}
 use Rattle.meeting_core.proofs.OfficeKept.{step_kept}
-use Rattle.meeting_core.proofs.book.Book.decide.Goals as goal
+use Rattle.meeting_core.proofs.book.Book.decision.Goals as goal
 
 -- a decision keeps the lists of an office, by the law of the step
 pub returns-clause-kept : goal.returns-clause-kept
