@@ -1,1 +1,2 @@
+pub mod MeetingParts
 pub mod WholeReading

@@ -1,14 +1,121 @@
 //! What the tables hold, each record with its meeting.
 ghost use Rattle.std.specs.Prelude.{◌≡◌};
+ghost use Rattle.sql_load_office.specs.MeetingParts.{called_in, given_in, polled_in};
 ghost use Rattle.sql_load_office.specs.WholeReading.{IsReading};
 ghost use Rattle.sql_model.specs.OfficeRecords.{flat_in};
 ghost use Rattle.sql_assemble.specs.LoadResults.{any_at_all};
 
 use crate::emptied::read_left;
 use crate::table::listing;
+use desk_words::{
+    Appointment, Authority, CastMark, DemandMark, Ending, Listing, Poll, PresenceMark, RegisterRow,
+    Resolution, Session,
+};
 use sql_assemble::{FlatRecords, LoadError, MeetingRecords};
+use sql_rows::{InMeeting, Numbered};
 use sqlite::{Alter, Transaction};
 use std::alloc::Global;
+
+// A function that owns many lists over readings that may fail is dear to prove, so the records of
+// meetings are read in three parts.
+
+/// What meetings are called with: their further sessions, their resolutions and their registers.
+#[derive(Drop)]
+struct Called {
+    sessions: Listing<InMeeting<Numbered<Session>>>,
+    resolutions: Listing<InMeeting<Numbered<Resolution>>>,
+    register: Listing<InMeeting<RegisterRow>>,
+}
+
+/// What members give: appointments, their endings, and authorities.
+#[derive(Drop)]
+struct Given {
+    appointments: Listing<InMeeting<Appointment>>,
+    endings: Listing<InMeeting<Ending>>,
+    authorities: Listing<InMeeting<Authority>>,
+}
+
+/// Who is present, what is demanded, and the polls with their votes.
+#[derive(Drop)]
+struct Polled {
+    presences: Listing<InMeeting<PresenceMark>>,
+    demands: Listing<InMeeting<DemandMark>>,
+    polls: Listing<InMeeting<Poll>>,
+    casts: Listing<InMeeting<CastMark>>,
+}
+
+fn read_called<S: Alter>(tx: &mut Transaction<'_, S>, alloc: Global) -> Result<Called, LoadError>
+    ensures same_reference { tx.new.conn.ghost_name ≡ tx.old.conn.ghost_name }
+    ensures read { IsReading S.Store tx.old.conn.now tx.new.conn.now any_at_all result called_in }
+{
+    let sessions = listing(tx, alloc)?;
+    let resolutions = listing(tx, alloc)?;
+    let register = listing(tx, alloc)?;
+    Ok(Called {
+        sessions,
+        resolutions,
+        register,
+    })
+}
+
+fn read_given<S: Alter>(tx: &mut Transaction<'_, S>, alloc: Global) -> Result<Given, LoadError>
+    ensures same_reference { tx.new.conn.ghost_name ≡ tx.old.conn.ghost_name }
+    ensures read { IsReading S.Store tx.old.conn.now tx.new.conn.now any_at_all result given_in }
+{
+    let appointments = listing(tx, alloc)?;
+    let endings = listing(tx, alloc)?;
+    let authorities = listing(tx, alloc)?;
+    Ok(Given {
+        appointments,
+        endings,
+        authorities,
+    })
+}
+
+fn read_polled<S: Alter>(tx: &mut Transaction<'_, S>, alloc: Global) -> Result<Polled, LoadError>
+    ensures same_reference { tx.new.conn.ghost_name ≡ tx.old.conn.ghost_name }
+    ensures read { IsReading S.Store tx.old.conn.now tx.new.conn.now any_at_all result polled_in }
+{
+    let presences = listing(tx, alloc)?;
+    let demands = listing(tx, alloc)?;
+    let polls = listing(tx, alloc)?;
+    let casts = listing(tx, alloc)?;
+    Ok(Polled {
+        presences,
+        demands,
+        polls,
+        casts,
+    })
+}
+
+/// The records of meetings, of their three parts.
+fn records_of(called: Called, given: Given, polled: Polled) -> MeetingRecords
+    ensures { result ≡ record {
+      sessions = called.sessions;
+      resolutions = called.resolutions;
+      register = called.register;
+      appointments = given.appointments;
+      endings = given.endings;
+      authorities = given.authorities;
+      presences = polled.presences;
+      demands = polled.demands;
+      polls = polled.polls;
+      casts = polled.casts;
+    } }
+{
+    MeetingRecords {
+        sessions: called.sessions,
+        resolutions: called.resolutions,
+        register: called.register,
+        appointments: given.appointments,
+        endings: given.endings,
+        authorities: given.authorities,
+        presences: polled.presences,
+        demands: polled.demands,
+        polls: polled.polls,
+        casts: polled.casts,
+    }
+}
 
 /// All that the tables hold. The fault is `NoOffice` only where a row means nothing, or a
 /// table that version 2 leaves empty has one.
@@ -23,22 +130,13 @@ pub fn read_flat<S: Alter>(
     let keys = listing(tx, alloc)?;
     let closed = listing(tx, alloc)?;
     let meetings = listing(tx, alloc)?;
-    let records = MeetingRecords {
-        sessions: listing(tx, alloc)?,
-        resolutions: listing(tx, alloc)?,
-        register: listing(tx, alloc)?,
-        appointments: listing(tx, alloc)?,
-        endings: listing(tx, alloc)?,
-        authorities: listing(tx, alloc)?,
-        presences: listing(tx, alloc)?,
-        demands: listing(tx, alloc)?,
-        polls: listing(tx, alloc)?,
-        casts: listing(tx, alloc)?,
-    };
+    let called = read_called(tx, alloc)?;
+    let given = read_given(tx, alloc)?;
+    let polled = read_polled(tx, alloc)?;
     Ok(FlatRecords {
         keys,
         closed,
         meetings,
-        records,
+        records: records_of(called, given, polled),
     })
 }
