@@ -5,7 +5,7 @@ ghost use Rattle.desk_words.specs.Office.{is_office};
 ghost use Rattle.meeting_core.specs.Step.{decided, is_at_once_to, needs_no_memory, stepped};
 
 use crate::book::Book;
-use desk_words::{Answer, Call, Reply};
+use desk_words::{Call, Reply};
 use std::alloc::AllocError;
 
 impl Book {
@@ -30,9 +30,9 @@ impl Book {
             → IfErr result
             (λ e. FnOnceReturnsAt F.FnOnce show (decided self.old call).reply (Err e)) }
     {
-        let Answer { reply, change } = self.decision(&call)?;
-        let shown = show(&reply)?;
-        self.apply_if_any(change)?;
+        let answer = self.decision(&call)?;
+        let shown = show(&answer.reply)?;
+        self.apply_if_any(answer.change)?;
         Ok(shown)
     }
 }

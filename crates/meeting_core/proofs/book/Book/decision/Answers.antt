@@ -1,19 +1,23 @@
-use Rattle.std.proofs.Common.{◌≡◌, true, subst, ap, sym, ◌∙◌}
+use Rattle.std.proofs.Common.{◌≡◌, true, Ok, Err, Result, IfOk, IsTrue, subst, ap, sym, ◌∙◌}
+use Rattle.std.specs.declared.alloc.AllocError.{AllocError}
 use Rattle.desk_words.specs.declared.office.OfficeLists.{OfficeLists}
+use Rattle.desk_words.specs.declared.request.Call.{Call}
 use Rattle.desk_words.specs.Office.{is_office}
 use Rattle.desk_words.specs.declared.answer.Answer.{Answer}
 use Rattle.desk_words.specs.declared.change.Change.{Change}
 use Rattle.desk_words.specs.Changes.{applied_if_any}
 use Rattle.office_decisions.specs.RequestLimits.{if_any, keeps_limits}
+use Rattle.meeting_core.specs.Step.{decided}
 use Rattle.meeting_core.proofs.OfficeKept.{step_kept}
 use Rattle.meeting_core.proofs.book.Book.decision.Goals as goal
 
 -- a decision keeps the lists of an office, by the law of the step
-pub returns-clause-kept : goal.returns-clause-kept
-returns-clause-kept c =
-    let office = c.args.self.now in
-    let call = c.args.call.now in
-    let kept : is_office office ≡ true = subst (λ (x : OfficeLists). is_office x ≡ true) c.self.view_is c.self.invariant in
-    let decision = c.in_ok-answer.ensures.answer in
+kept : (office : OfficeLists) (call : Call) → is_office office ≡ true → (r : Result (Answer Change) AllocError)
+    → IfOk r (λ a. a ≡ decided office call) → IfOk r (λ a. if_any keeps_limits a.change ≡ true) → IfOk r (λ a. IsTrue (is_office (applied_if_any office a.change)))
+kept office call held (Ok a) decision limits =
     ap (λ (a : Answer Change). is_office (applied_if_any office a.change)) decision
-    ∙ step_kept office call.moment call.caller call.request kept (ap (λ (a : Answer Change). if_any keeps_limits a.change) (sym decision) ∙ c.in_ok-answer.ensures.limits)
+    ∙ step_kept office call.moment call.caller call.request held (ap (λ (a : Answer Change). if_any keeps_limits a.change) (sym decision) ∙ limits)
+kept office call held (Err e) decision limits = tt
+
+pub returns-clause-kept : goal.returns-clause-kept
+returns-clause-kept c = kept c.args.self.now c.args.call.now (subst (λ (x : OfficeLists). is_office x ≡ true) c.self.view_is c.self.invariant) c.answer_to.result c.answer_to.ensures.answer c.answer_to.ensures.limits
