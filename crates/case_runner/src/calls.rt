@@ -1,74 +1,16 @@
-//! Calls of any office, and of a desk over any store. They promise no more than safety, so what makes
-//! them at a store of its own proves nothing of what they do.
+//! Calls of a desk over any store. They promise no more than safety, so what makes them at a store of
+//! its own proves nothing of what they do.
 use crate::faults::{create_word, open_word};
-use crate::handed::{FileKind, Handed};
-use crate::reads::Asker;
-use any_office::Office;
-use byte_io::{Sink, SliceSource, Source};
-use cli_commands::{days, keys, register};
+use byte_io::Sink;
+use case_desks::{Asker, is_given};
 use cli_exit::Ended;
 use desk_file::results;
-use desk_http::{ServeFault, serve_one};
 use desk_store::{Desk, HandedBack, OwnedRecord};
-use desk_words::{Call, Caller, Failure, MeetingId, Moment, SecretKey};
-use json_replies::reply_text;
+use desk_words::{Failure, MeetingId};
 use meeting_core::Book;
 use party_views::OwnView;
 use sqlite::{Alter, Connection};
 use std::alloc::{AllocError, Global};
-
-/// Makes a call, and gives the text of its reply. Where it is not to be shown, that fails for want
-/// of memory.
-pub fn perform<O: Office>(
-    alloc: Global,
-    office: &mut O,
-    call: Call,
-    is_shown: bool,
-) -> Result<Vec<u8>, Failure> {
-    office.perform(call, |reply| {
-        if is_shown {
-            reply_text(alloc, reply)
-        } else {
-            Err(AllocError)
-        }
-    })
-}
-
-/// The caller whose key it is.
-pub fn caller_of<O: Office>(office: &mut O, key: &SecretKey) -> Result<Option<Caller>, Failure> {
-    office.caller_of(key)
-}
-
-/// Serves a request over HTTP.
-pub fn serve<O: Office, R: Source, W: Sink>(
-    alloc: Global,
-    office: &mut O,
-    moment: Moment,
-    source: &mut R,
-    sink: &mut W,
-) -> Result<(), ServeFault> {
-    serve_one(alloc, office, moment, source, sink)
-}
-
-/// Loads a file by a command of the office.
-pub fn load<O: Office>(alloc: Global, office: &mut O, handed: &Handed) -> Ended {
-    let mut source = SliceSource::new(handed.bytes);
-    match handed.kind {
-        FileKind::Keys => keys(alloc, office, handed.now, &mut source),
-        FileKind::Days => days(alloc, office, handed.now, &mut source),
-        FileKind::Register {
-            meeting,
-            record_moment,
-        } => register(
-            alloc,
-            office,
-            handed.now,
-            meeting,
-            record_moment,
-            &mut source,
-        ),
-    }
-}
 
 /// Prints the results of a meeting.
 pub fn print<S: Alter, W: Sink>(
@@ -86,13 +28,29 @@ pub fn book<S: Alter>(desk: &mut Desk<S>) -> Result<Book, Failure> {
 }
 
 /// What a desk reads of a meeting for everyone; none where that fails.
-pub fn read_public<S: Alter>(desk: &mut Desk<S>, asker: &Asker) -> Option<OwnedRecord> {
+fn read_public<S: Alter>(desk: &mut Desk<S>, asker: &Asker) -> Option<OwnedRecord> {
     desk.read_public(asker.meeting).ok()
 }
 
 /// What a desk reads of a party's own things; none where that fails.
-pub fn read_own<S: Alter>(desk: &mut Desk<S>, asker: &Asker) -> Option<OwnView> {
+fn read_own<S: Alter>(desk: &mut Desk<S>, asker: &Asker) -> Option<OwnView> {
     desk.read_own(asker.party, asker.meeting, asker.moment).ok()
+}
+
+/// Whether a desk reads of a party in a meeting, and of that meeting, what a book gives.
+pub fn reads_like<S: Alter>(
+    alloc: Global,
+    desk: &mut Desk<S>,
+    asker: &Asker,
+    book: &Book,
+) -> Result<bool, AllocError> {
+    let Some(kept) = read_public(desk, asker) else {
+        return Ok(false);
+    };
+    let Some(own) = read_own(desk, asker) else {
+        return Ok(false);
+    };
+    is_given(alloc, asker, book, &own, &kept.record())
 }
 
 /// Makes a desk of a database, or hands it back with the word of the fault.

@@ -1,6 +1,5 @@
 //! The words of faults.
 use desk_store::{CreateError, OpenFault};
-use desk_words::Failure;
 
 pub fn create_word(fault: CreateError) -> &'static str {
     match fault {
@@ -16,12 +15,5 @@ pub fn open_word(fault: OpenFault) -> &'static str {
         OpenFault::NewerVersion => "NewerVersion",
         OpenFault::Store => "Store",
         OpenFault::Memory => "Memory",
-    }
-}
-
-pub fn failure_word(failure: Failure) -> &'static str {
-    match failure {
-        Failure::Store => "Store",
-        Failure::Memory => "Memory",
     }
 }

@@ -1,11 +1,7 @@
 //! What is told of the office in two files: the rows of all tables, and what its book replies.
-use crate::asking::{Outcome, word};
 use crate::calls;
-use crate::faults::failure_word;
+use case_desks::{Outcome, failure_word, replies_of, word};
 use desk_store::{Desk, HandedBack};
-use json_replies::reply_text;
-use meeting_core::Book;
-use replay::{Scratch, call_of};
 use sqlite::types::ValueRef;
 use sqlite::{Alter, Connection, Row};
 use std::alloc::{AllocError, Global};
@@ -112,24 +108,6 @@ pub fn read<S: Alter + Drop>(alloc: Global, mut conn: Connection<S>, sql: &str) 
         None => Err("not read"),
     };
     (answer, conn.into_store())
-}
-
-/// Adds what a book replies to a call; nothing where the line is none.
-fn add_reply(alloc: Global, book: &Book, line: &str, told: &mut Vec<u8>) -> Result<(), AllocError> {
-    if let Ok(call) = call_of(alloc, &mut Scratch::new(alloc), line.as_bytes()) {
-        let (reply, _) = book.decide(&call)?;
-        told.extend_from_slice(&reply_text(alloc, &reply)?)?;
-    }
-    Ok(told.push(b'\n')?)
-}
-
-/// What a book replies to each of some calls, a line each.
-fn replies_of(alloc: Global, book: &Book, lines: &[&str]) -> Result<Vec<u8>, AllocError> {
-    let mut told = Vec::new(alloc);
-    for line in lines {
-        add_reply(alloc, book, line, &mut told)?;
-    }
-    Ok(told)
 }
 
 /// What the book of a desk replies to each of some calls.

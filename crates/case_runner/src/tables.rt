@@ -1,13 +1,12 @@
 //! A database in memory, with a desk over it or without.
 use crate::calls;
-use crate::handed::Handed;
-use crate::reads::Asker;
 use byte_io::{SliceSource, VecSink};
+use case_desks::{Asker, MemoryDesk};
+use case_steps::Handed;
 use cli_exit::Ended;
-use desk_store::{Desk, HandedBack, OwnedRecord};
+use desk_store::{Desk, HandedBack};
 use desk_words::{Call, Caller, Failure, MeetingId, Moment, SecretKey};
 use meeting_core::Book;
-use party_views::OwnView;
 use sqlite::{Connection, MemStore};
 use std::alloc::{AllocError, Global};
 use std::mem;
@@ -38,12 +37,6 @@ impl Drop for Tables {
 }
 
 impl Tables {
-    /// A database without tables, that no desk has. The error is want of memory.
-    pub fn new(alloc: Global) -> Result<Tables, AllocError> {
-        let kept = Kept::Connection(Connection::open_in_memory(alloc)?);
-        Ok(Tables { alloc, kept })
-    }
-
     fn desk(&mut self) -> Option<&mut Desk<MemStore>> {
         match &mut self.kept {
             Kept::Desk(desk) => Some(desk),
@@ -61,9 +54,15 @@ impl Tables {
             }
         }
     }
+}
 
-    /// Makes a desk of the database, and tells how that ended.
-    pub fn create(&mut self) -> &'static str {
+impl MemoryDesk for Tables {
+    fn new(alloc: Global) -> Result<Tables, AllocError> {
+        let kept = Kept::Connection(Connection::open_in_memory(alloc)?);
+        Ok(Tables { alloc, kept })
+    }
+
+    fn create(&mut self) -> &'static str {
         let Some(conn) = self.take_connection() else {
             return "no database";
         };
@@ -83,8 +82,7 @@ impl Tables {
         }
     }
 
-    /// Opens the database as a desk, and tells how that ended.
-    pub fn open(&mut self) -> &'static str {
+    fn open(&mut self) -> &'static str {
         let Some(conn) = self.take_connection() else {
             return "no database";
         };
@@ -105,8 +103,7 @@ impl Tables {
         }
     }
 
-    /// Takes the database from the desk, and tells whether there was one.
-    pub fn close(&mut self) -> &'static str {
+    fn close(&mut self) -> &'static str {
         let (kept, word) = match mem::replace(&mut self.kept, Kept::Nowhere) {
             Kept::Desk(desk) => (Kept::Connection(desk.close()), "closed"),
             kept => (kept, "no desk"),
@@ -115,8 +112,7 @@ impl Tables {
         word
     }
 
-    /// Runs a statement on a database that no desk has, and tells whether it was done.
-    pub fn execute(&mut self, sql: &str) -> &'static str {
+    fn execute(&mut self, sql: &str) -> &'static str {
         match &mut self.kept {
             Kept::Connection(conn) => {
                 if calls::execute(conn, sql) {
@@ -129,52 +125,43 @@ impl Tables {
         }
     }
 
-    /// What the desk answers to a call, where there is a desk. Where the reply is not to be shown,
-    /// that fails for want of memory.
-    pub fn perform(&mut self, call: Call, is_shown: bool) -> Option<Result<Vec<u8>, Failure>> {
+    fn perform(&mut self, call: Call, is_shown: bool) -> Option<Result<Vec<u8>, Failure>> {
         let alloc = self.alloc;
-        Some(calls::perform(alloc, self.desk()?, call, is_shown))
+        Some(case_desks::perform(alloc, self.desk()?, call, is_shown))
     }
 
-    /// Serves a request over HTTP, where there is a desk, and tells whether that ended well.
-    pub fn serve(&mut self, now: Moment, request: &[u8], sink: &mut VecSink) -> bool {
+    fn serve(&mut self, now: Moment, request: &[u8], sink: &mut VecSink) -> bool {
         let alloc = self.alloc;
         let mut source = SliceSource::new(request);
         match self.desk() {
-            Some(desk) => calls::serve(alloc, desk, now, &mut source, sink).is_ok(),
+            Some(desk) => case_desks::serve(alloc, desk, now, &mut source, sink).is_ok(),
             None => false,
         }
     }
 
-    /// How the command ends that loads a file, where there is a desk.
-    pub fn load(&mut self, handed: &Handed) -> Option<Ended> {
+    fn load(&mut self, handed: &Handed) -> Option<Ended> {
         let alloc = self.alloc;
-        Some(calls::load(alloc, self.desk()?, handed))
+        Some(case_desks::load(alloc, self.desk()?, handed))
     }
 
-    /// Prints the results of a meeting, where there is a desk, and gives how that command ends.
-    pub fn results(&mut self, meeting: MeetingId, sink: &mut VecSink) -> Option<Ended> {
+    fn results(&mut self, meeting: MeetingId, sink: &mut VecSink) -> Option<Ended> {
         let alloc = self.alloc;
         Some(calls::print(alloc, self.desk()?, meeting, sink))
     }
 
-    /// The caller whose key it is, where there is a desk.
-    pub fn caller_of(&mut self, key: &SecretKey) -> Option<Result<Option<Caller>, Failure>> {
-        Some(calls::caller_of(self.desk()?, key))
+    fn caller_of(&mut self, key: &SecretKey) -> Option<Result<Option<Caller>, Failure>> {
+        Some(case_desks::caller_of(self.desk()?, key))
     }
 
-    /// What the desk holds, where there is a desk.
-    pub fn book(&mut self) -> Option<Result<Book, Failure>> {
+    fn book(&mut self) -> Option<Result<Book, Failure>> {
         Some(calls::book(self.desk()?))
     }
 
-    /// What the desk reads of a meeting for everyone; none where there is no desk, or it fails.
-    pub fn read_public(&mut self, asker: &Asker) -> Option<OwnedRecord> {
-        calls::read_public(self.desk()?, asker)
-    }
-
-    /// What the desk reads of a party's own things; none where there is no desk, or it fails.
-    pub fn read_own(&mut self, asker: &Asker) -> Option<OwnView> {
-        calls::read_own(self.desk()?, asker)
+    fn reads_like(&mut self, asker: &Asker, book: &Book) -> Result<bool, AllocError> {
+        let alloc = self.alloc;
+        match self.desk() {
+            Some(desk) => calls::reads_like(alloc, desk, asker, book),
+            None => Ok(false),
+        }
     }
 }

@@ -4,7 +4,8 @@ ghost use Rattle.sql_open.specs.Rising.{RowsRise};
 ghost use Rattle.sqlite.specs.Files.{file_state};
 ghost use Rattle.sqlite.specs.State.{HasCleanDisk};
 
-use crate::asking::{Asked, Outcome, ask};
+use crate::asking::ask;
+use case_desks::{Asked, Outcome};
 use sql_open::laws::found_rows_rise;
 use sqlite::{Connection, FileStore, Files, Options};
 use sqlite_disk::Disk;

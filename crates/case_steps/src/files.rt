@@ -112,7 +112,7 @@ fn read_by(
 }
 
 /// What the bytes of a file of this kind spell, or its fault.
-pub fn file_answer(alloc: Global, kind: &str, bytes: &[u8]) -> Result<Answer, AllocError> {
+pub(crate) fn file_answer(alloc: Global, kind: &str, bytes: &[u8]) -> Result<Answer, AllocError> {
     let kind = match kind {
         "register" => FileKind::Register,
         "keys" => FileKind::Keys,

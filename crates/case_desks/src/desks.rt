@@ -4,14 +4,12 @@
 //! loaded and each opening the two have to hold the same, as `beside` tells, and the desk has to
 //! read just that where it reads one meeting or one party alone. The second desk is asked the same
 //! over HTTP, wherever a verb has a method, and has to reply with the same JSON.
+use crate::asked::failure_word;
 use crate::beside::Beside;
-use crate::endings::ended_text;
-use crate::faults::failure_word;
-use crate::findings::Answer;
-use crate::handed::Handed;
+use crate::memory_desk::MemoryDesk;
 use crate::served::Served;
-use crate::tables::Tables;
 use byte_io::VecSink;
+use case_steps::{Answer, Handed, ended_text};
 use cli_exit::Ended;
 use desk_words::{Call, Caller, Moment, read_key, read_meeting, read_moment};
 use replay::{Scratch, call_of};
@@ -19,21 +17,21 @@ use std::alloc::{AllocError, Global};
 
 /// A desk over a database in memory, and a book and a further desk that make the same calls.
 #[derive(Drop)]
-pub struct Desks {
+pub(crate) struct Desks<T> {
     alloc: Global,
-    tables: Tables,
+    tables: T,
     beside: Beside,
-    served: Served,
+    served: Served<T>,
     /// Whether a statement was run since a desk last had the database.
     is_altered: bool,
 }
 
-impl Desks {
+impl<T: MemoryDesk> Desks<T> {
     /// Databases without tables, and an empty book.
-    pub fn new(alloc: Global) -> Result<Desks, AllocError> {
+    pub(crate) fn new(alloc: Global) -> Result<Desks<T>, AllocError> {
         Ok(Desks {
             alloc,
-            tables: Tables::new(alloc)?,
+            tables: T::new(alloc)?,
             beside: Beside::new(alloc),
             served: Served::new(alloc)?,
             is_altered: false,
@@ -255,7 +253,7 @@ impl Desks {
     }
 
     /// The answer to a command, or to what is done to the database itself.
-    pub fn command(
+    pub(crate) fn command(
         &mut self,
         command: &str,
         words: &str,

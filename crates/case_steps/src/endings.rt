@@ -67,7 +67,7 @@ fn ended_answer(alloc: Global, ended: Ended) -> Result<Answer, AllocError> {
 }
 
 /// The end by the fault of this word.
-pub fn fault_answer(alloc: Global, word: &str) -> Result<Answer, AllocError> {
+pub(crate) fn fault_answer(alloc: Global, word: &str) -> Result<Answer, AllocError> {
     match FAULTS.iter().find(|fault| fault.word() == word) {
         Some(fault) => ended_answer(alloc, Ended::by(*fault)),
         None => Answer::of(alloc, "no fault has this word"),
@@ -75,7 +75,7 @@ pub fn fault_answer(alloc: Global, word: &str) -> Result<Answer, AllocError> {
 }
 
 /// The end by the refusal of this number.
-pub fn refusal_answer(alloc: Global, number: &str) -> Result<Answer, AllocError> {
+pub(crate) fn refusal_answer(alloc: Global, number: &str) -> Result<Answer, AllocError> {
     let number = number.parse::<usize>().ok();
     match number.and_then(|number| REFUSALS.get(number.checked_sub(1)?)) {
         Some(refusal) => ended_answer(alloc, Ended::by_refusal(*refusal)),
@@ -84,6 +84,6 @@ pub fn refusal_answer(alloc: Global, number: &str) -> Result<Answer, AllocError>
 }
 
 /// The end once the work is done.
-pub fn well_ended(alloc: Global) -> Result<Answer, AllocError> {
+pub(crate) fn well_ended(alloc: Global) -> Result<Answer, AllocError> {
     ended_answer(alloc, Ended::done())
 }

@@ -1,7 +1,7 @@
 //! A desk that is asked over HTTP, beside the one that is asked by calls.
-use crate::handed::Handed;
-use crate::tables::Tables;
+use crate::memory_desk::MemoryDesk;
 use byte_io::VecSink;
+use case_steps::Handed;
 use desk_words::{
     Call, Caller, DeskRequest, KeyRow, KeyRows, ListFault, Moment, Request, read_key,
 };
@@ -15,9 +15,9 @@ const KEY: &str = "the-key-of-a-caller";
 /// A desk over a database in memory that is asked over HTTP wherever a verb has a method. It knows
 /// the caller of the call that is made, and nobody else.
 #[derive(Drop)]
-pub struct Served {
+pub(crate) struct Served<T> {
     alloc: Global,
-    tables: Tables,
+    tables: T,
 }
 
 /// The request over HTTP that a line of a replay asks, where its verb has a method.
@@ -53,17 +53,17 @@ fn call_of_key(alloc: Global, moment: Moment, caller: Caller) -> Result<Option<C
     }
 }
 
-impl Served {
+impl<T: MemoryDesk> Served<T> {
     /// A database without tables.
-    pub fn new(alloc: Global) -> Result<Served, AllocError> {
+    pub(crate) fn new(alloc: Global) -> Result<Served<T>, AllocError> {
         Ok(Served {
             alloc,
-            tables: Tables::new(alloc)?,
+            tables: T::new(alloc)?,
         })
     }
 
     /// Does what is done to the database itself.
-    pub fn alter(&mut self, command: &str, rest: &str) {
+    pub(crate) fn alter(&mut self, command: &str, rest: &str) {
         match command {
             "create" => self.tables.create(),
             "open" => self.tables.open(),
@@ -74,13 +74,18 @@ impl Served {
     }
 
     /// Loads a file by a command of the office.
-    pub fn load(&mut self, handed: &Handed) {
+    pub(crate) fn load(&mut self, handed: &Handed) {
         self.tables.load(handed);
     }
 
     /// Makes the call of a line, and adds a line to what is wrong where the reply over HTTP has not
     /// this JSON. A call whose verb has no method is made without HTTP, and its reply not asked.
-    pub fn call(&mut self, line: &str, json: &[u8], wrong: &mut String) -> Result<(), AllocError> {
+    pub(crate) fn call(
+        &mut self,
+        line: &str,
+        json: &[u8],
+        wrong: &mut String,
+    ) -> Result<(), AllocError> {
         let mut scratch = Scratch::new(self.alloc);
         let Ok(call) = call_of(self.alloc, &mut scratch, line.as_bytes()) else {
             return Ok(());

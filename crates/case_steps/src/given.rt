@@ -3,7 +3,7 @@ use std::alloc::{AllocError, Global};
 
 /// Something that a case gives.
 #[derive(Clone, Copy)]
-pub enum Piece<'a> {
+pub(crate) enum Piece<'a> {
     /// A text, and the line end behind it, or nothing.
     Text(&'a str, &'static str),
     /// Bytes, each as two hexadecimal digits.
@@ -12,7 +12,7 @@ pub enum Piece<'a> {
 
 /// The numbers from one to another.
 #[derive(Clone, Copy)]
-pub struct Numbers {
+pub(crate) struct Numbers {
     from: u32,
     to: u32,
 }
@@ -20,7 +20,7 @@ pub struct Numbers {
 /// Something that a case gives: once, or once for each number, which then stands in place of each
 /// `#` of a text.
 #[derive(Clone, Copy)]
-pub struct Given<'a> {
+pub(crate) struct Given<'a> {
     piece: Piece<'a>,
     numbers: Option<Numbers>,
 }
@@ -35,7 +35,7 @@ fn byte(digits: &str) -> Option<u8> {
 
 impl<'a> Piece<'a> {
     /// The bytes that the digits name, parted by spaces; none where they name no bytes.
-    pub fn bytes(digits: &'a str) -> Option<Piece<'a>> {
+    pub(crate) fn bytes(digits: &'a str) -> Option<Piece<'a>> {
         if digits.split(' ').all(|digits| byte(digits).is_some()) {
             Some(Piece::Bytes(digits))
         } else {
@@ -62,7 +62,7 @@ impl<'a> Piece<'a> {
 
 impl Numbers {
     /// The numbers that `FROM TO` says, or `TO`, which is from 1.
-    pub fn read(text: &str) -> Option<Numbers> {
+    pub(crate) fn read(text: &str) -> Option<Numbers> {
         let (from, to) = text.split_once(' ').unwrap_or(("1", text));
         Some(Numbers {
             from: from.parse().ok()?,
@@ -83,7 +83,8 @@ fn push_with(into: &mut Vec<u8>, text: &str, word: &str) -> Result<(), AllocErro
 }
 
 impl<'a> Given<'a> {
-    pub fn once(piece: Piece<'a>) -> Given<'a> {
+    /// A piece that is given once.
+    pub(crate) fn once(piece: Piece<'a>) -> Given<'a> {
         Given {
             piece,
             numbers: None,
@@ -91,7 +92,7 @@ impl<'a> Given<'a> {
     }
 
     /// Says for which numbers it is given, where that is not said yet.
-    pub fn repeat(&mut self, numbers: Numbers) -> bool {
+    pub(crate) fn repeat(&mut self, numbers: Numbers) -> bool {
         let fits = self.numbers.is_none();
         if fits {
             self.numbers = Some(numbers);
@@ -129,7 +130,7 @@ impl<'a> Given<'a> {
 }
 
 /// All bytes that are given.
-pub fn bytes_of(alloc: Global, given: &[Given]) -> Result<Vec<u8>, AllocError> {
+pub(crate) fn bytes_of(alloc: Global, given: &[Given]) -> Result<Vec<u8>, AllocError> {
     let mut bytes = Vec::new(alloc);
     for given in given {
         given.push(alloc, &mut bytes)?;

@@ -30,7 +30,7 @@ fn prints_front(
 
 /// Prints the results of a meeting of a book with each write failing in turn, and with none, and
 /// adds a line to what is wrong where what is written is not the front of this text, or all of it.
-pub fn print_failing(
+pub(crate) fn print_failing(
     alloc: Global,
     book: &Book,
     meeting: MeetingId,

@@ -58,7 +58,7 @@ fn plan_text(alloc: Global, plan: &Plan) -> Result<String, AllocError> {
 }
 
 /// The plan that the words ask for, or how the program ends by their fault.
-pub fn words_answer(alloc: Global, given: &[u8]) -> Result<Answer, AllocError> {
+pub(crate) fn words_answer(alloc: Global, given: &[u8]) -> Result<Answer, AllocError> {
     let words = words_of(alloc, given)?;
     let text = match read_words(alloc, &words) {
         Ok(plan) => plan_text(alloc, &plan)?,

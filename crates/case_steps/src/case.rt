@@ -6,12 +6,12 @@
 //! these numbers, which stands in place of each `#`, and `* TO` begins at 1. `= LINE` is a line of
 //! the answer, and `~ LINE` a line that stands somewhere in it. Empty lines and lines that begin
 //! with `#` are comment.
-use crate::given::{Given, Numbers, Piece};
+use crate::given::{Given, Numbers, Piece, bytes_of};
 use std::alloc::{AllocError, Global};
 
 /// A line that the answer has, and its number in the file.
 #[derive(Clone, Copy)]
-pub struct Expected<'a> {
+pub(crate) struct Expected<'a> {
     pub line: u64,
     pub text: &'a str,
     /// Whether it may stand anywhere in the answer.
@@ -21,20 +21,20 @@ pub struct Expected<'a> {
 /// A step of a case: what is asked, what is given, and what the answer has to be.
 #[derive(Drop)]
 pub struct Step<'a> {
-    pub line: u64,
+    pub(crate) line: u64,
     pub command: &'a str,
     /// What stands behind the command.
     pub words: &'a str,
-    pub given: Vec<Given<'a>>,
-    pub expected: Vec<Expected<'a>>,
+    given: Vec<Given<'a>>,
+    pub(crate) expected: Vec<Expected<'a>>,
 }
 
 /// The steps of a case, and the numbers of the lines that have no form or no place.
 #[derive(Drop)]
 pub struct Case<'a> {
     pub steps: Vec<Step<'a>>,
-    pub misplaced: Vec<u64>,
-    pub last_line: u64,
+    pub(crate) misplaced: Vec<u64>,
+    pub(crate) last_line: u64,
 }
 
 /// What a line of a case says.
@@ -81,6 +81,11 @@ fn read_line(line: &str) -> Line<'_> {
 }
 
 impl<'a> Step<'a> {
+    /// All bytes that are given.
+    pub fn bytes(&self, alloc: Global) -> Result<Vec<u8>, AllocError> {
+        bytes_of(alloc, &self.given)
+    }
+
     fn expect(&mut self, line: u64, text: &'a str, is_among: bool) -> Result<bool, AllocError> {
         self.expected.push(Expected {
             line,
@@ -145,7 +150,7 @@ impl<'a> Case<'a> {
     }
 }
 
-/// The case that a file holds.
+/// The case that a file holds. The error is want of memory.
 pub fn read_case(alloc: Global, text: &str) -> Result<Case<'_>, AllocError> {
     let mut case = Case {
         steps: Vec::new(alloc),

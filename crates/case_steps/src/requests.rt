@@ -78,7 +78,7 @@ fn asked_by(alloc: Global, bytes: &[u8], reads: Reads) -> Result<String, AllocEr
 }
 
 /// What the bytes ask. It is wrong where they ask something else when they come in other parts.
-pub fn request_answer(alloc: Global, bytes: &[u8]) -> Result<Answer, AllocError> {
+pub(crate) fn request_answer(alloc: Global, bytes: &[u8]) -> Result<Answer, AllocError> {
     let ways = if bytes.len() <= SMALL {
         [1, 7]
     } else {
@@ -138,7 +138,7 @@ impl Runs {
 }
 
 /// What is asked where the input ends after so many of the bytes, from none to all of them.
-pub fn cut_answer(alloc: Global, bytes: &[u8]) -> Result<Answer, AllocError> {
+pub(crate) fn cut_answer(alloc: Global, bytes: &[u8]) -> Result<Answer, AllocError> {
     let mut runs = Runs::new(alloc);
     for count in 0..=bytes.len() {
         let reads = Reads {
@@ -154,7 +154,7 @@ pub fn cut_answer(alloc: Global, bytes: &[u8]) -> Result<Answer, AllocError> {
 
 /// What is asked where the bytes are read one by one, and each read fails in turn: the first one,
 /// and on to one more than there are bytes.
-pub fn failing_answer(alloc: Global, bytes: &[u8]) -> Result<Answer, AllocError> {
+pub(crate) fn failing_answer(alloc: Global, bytes: &[u8]) -> Result<Answer, AllocError> {
     let mut runs = Runs::new(alloc);
     for read in 1..=bytes.len().saturating_add(1) {
         let reads = Reads {

@@ -1,8 +1,8 @@
 //! The book beside the desk.
-use crate::handed::Handed;
+use crate::memory_desk::MemoryDesk;
 use crate::printed::print_failing;
 use crate::reads::{Asker, is_given};
-use crate::tables::Tables;
+use case_steps::Handed;
 use cli_exit::Ended;
 use desk_words::{
     Call, Caller, DayList, DeskRequest, KeyRows, MeetingId, Moment, Party, Reply, Request,
@@ -14,7 +14,7 @@ use std::alloc::{AllocError, Global};
 
 /// A book in memory that makes the same calls as a desk, with what the calls so far named.
 #[derive(Drop)]
-pub struct Beside {
+pub(crate) struct Beside {
     alloc: Global,
     book: Book,
     meetings: Vec<MeetingId>,
@@ -62,7 +62,7 @@ fn reply_to(
 
 impl Beside {
     /// An empty book, and nothing named.
-    pub fn new(alloc: Global) -> Beside {
+    pub(crate) fn new(alloc: Global) -> Beside {
         Beside {
             alloc,
             book: Book::new(alloc),
@@ -75,7 +75,7 @@ impl Beside {
     }
 
     /// Takes another book in place of its own.
-    pub fn set_book(&mut self, book: Book) {
+    pub(crate) fn set_book(&mut self, book: Book) {
         self.book = book;
     }
 
@@ -112,7 +112,7 @@ impl Beside {
     }
 
     /// Takes the moment and the meeting of a call, and the parties that its text names.
-    pub fn take_names(&mut self, call: &Call, text: &[u8]) -> Result<(), AllocError> {
+    pub(crate) fn take_names(&mut self, call: &Call, text: &[u8]) -> Result<(), AllocError> {
         self.last = Some(call.moment);
         self.take_parties(text)?;
         if let Some(meeting) = meeting_of(&call.request) {
@@ -132,13 +132,13 @@ impl Beside {
     }
 
     /// Makes a call, and gives the text of its reply.
-    pub fn perform(&mut self, call: Call) -> Result<Vec<u8>, AllocError> {
+    pub(crate) fn perform(&mut self, call: Call) -> Result<Vec<u8>, AllocError> {
         let reply = self.step(call)?;
         reply_text(self.alloc, &reply)
     }
 
     /// Makes the call of the command that loads a file, and gives how that command ends.
-    pub fn load(&mut self, handed: &Handed) -> Result<Ended, AllocError> {
+    pub(crate) fn load(&mut self, handed: &Handed) -> Result<Ended, AllocError> {
         let request = match handed.request(self.alloc) {
             Ok(request) => request,
             Err(fault) => return Ok(Ended::by_file(fault)),
@@ -154,7 +154,7 @@ impl Beside {
 
     /// Adds a line to what is wrong where other results of a meeting are printed than this text, or
     /// else than its front where a write fails.
-    pub fn compare_results(
+    pub(crate) fn compare_results(
         &self,
         meeting: MeetingId,
         text: &[u8],
@@ -181,17 +181,6 @@ impl Beside {
         Ok(here.as_slice() == there.as_slice())
     }
 
-    /// Whether a desk reads of a party in a meeting, and of that meeting, what this book gives.
-    fn is_read(&self, asker: &Asker, tables: &mut Tables) -> Result<bool, AllocError> {
-        let Some(kept) = tables.read_public(asker) else {
-            return Ok(false);
-        };
-        let Some(own) = tables.read_own(asker) else {
-            return Ok(false);
-        };
-        is_given(self.alloc, asker, &self.book, &own, &kept.record())
-    }
-
     /// Whether another book gives of a party in a meeting, and of that meeting, what this one gives.
     fn is_given_alike(&self, asker: &Asker, book: &Book) -> Result<bool, AllocError> {
         let own = asker.own_in(book)?;
@@ -201,12 +190,12 @@ impl Beside {
 
     /// Whether a desk and its book have of each party that was named in a meeting, and of that
     /// meeting, what this book gives.
-    fn is_like_in(
+    fn is_like_in<T: MemoryDesk>(
         &self,
         meeting: MeetingId,
         moment: Moment,
         book: &Book,
-        tables: &mut Tables,
+        tables: &mut T,
     ) -> Result<bool, AllocError> {
         for party in self.parties.iter().copied() {
             let asker = Asker {
@@ -214,7 +203,7 @@ impl Beside {
                 meeting,
                 party,
             };
-            if !self.is_given_alike(&asker, book)? || !self.is_read(&asker, tables)? {
+            if !self.is_given_alike(&asker, book)? || !tables.reads_like(&asker, &self.book)? {
                 return Ok(false);
             }
         }
@@ -224,7 +213,11 @@ impl Beside {
     /// Whether a desk's book holds what this one holds, and the desk reads that where it reads less
     /// than all: the keys and the closed days, of each meeting that was named its public record, and
     /// the own things of each party that was named.
-    pub fn is_like(&self, book: &Book, tables: &mut Tables) -> Result<bool, AllocError> {
+    pub(crate) fn is_like<T: MemoryDesk>(
+        &self,
+        book: &Book,
+        tables: &mut T,
+    ) -> Result<bool, AllocError> {
         let Some(moment) = self.last else {
             return Ok(true);
         };

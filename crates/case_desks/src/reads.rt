@@ -19,7 +19,7 @@ pub struct Asker {
 
 impl Asker {
     /// Its own things, as a book gives them.
-    pub fn own_in(&self, book: &Book) -> Result<OwnView, AllocError> {
+    pub(crate) fn own_in(&self, book: &Book) -> Result<OwnView, AllocError> {
         book.own_of(self.party, self.meeting, self.moment)
     }
 }

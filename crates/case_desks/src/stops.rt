@@ -1,18 +1,17 @@
 //! Commands on a desk in two files, which are stopped, and requests whose devices fail.
-use crate::asking::{Asked, Outcome, is_call};
-use crate::case::parted;
+use crate::asked::{Asked, Outcome, is_call, outcome_bytes};
+use crate::desk_files::DeskFiles;
 use crate::devices::{Request, request_text};
-use crate::disks::Disks;
-use crate::findings::Answer;
-use crate::trial::{Held, Trial, Tries, outcome_bytes};
+use crate::trial::{Held, Trial, Tries};
+use case_steps::{Answer, parted};
 use std::alloc::{AllocError, Global};
 
 /// Two files in memory, and the calls whose replies tell which office they hold.
 #[derive(Drop)]
-pub struct Stops<'a> {
+pub(crate) struct Stops<'a, D> {
     alloc: Global,
     watched: Vec<&'a str>,
-    disks: Disks,
+    disks: D,
 }
 
 fn asked_of(text: &str) -> Asked<'_> {
@@ -36,18 +35,18 @@ fn body_of(text: &str) -> &str {
     }
 }
 
-impl<'a> Stops<'a> {
+impl<'a, D: DeskFiles> Stops<'a, D> {
     /// Two empty files.
-    pub fn new(alloc: Global) -> Stops<'a> {
+    pub(crate) fn new(alloc: Global) -> Stops<'a, D> {
         Stops {
             alloc,
             watched: Vec::new(alloc),
-            disks: Disks::new(alloc),
+            disks: D::new(alloc),
         }
     }
 
     /// Takes a call whose reply tells which office it is.
-    pub fn watch(&mut self, line: &'a str) -> Result<Answer, AllocError> {
+    pub(crate) fn watch(&mut self, line: &'a str) -> Result<Answer, AllocError> {
         if !is_call(self.alloc, line) {
             return Answer::of(self.alloc, "no call");
         }
@@ -60,13 +59,13 @@ impl<'a> Stops<'a> {
     }
 
     /// Gives a command.
-    pub fn give(&mut self, text: &str) -> Result<Answer, AllocError> {
+    pub(crate) fn give(&mut self, text: &str) -> Result<Answer, AllocError> {
         let outcome = self.disks.ask(&asked_of(text));
         Ok(Answer::new(self.alloc, self.text_of(&outcome)?))
     }
 
     /// The office in the files now.
-    fn held(&self) -> Result<Held, AllocError> {
+    fn held(&self) -> Result<Held<D>, AllocError> {
         Held::of(&self.disks, &self.watched)
     }
 
@@ -75,7 +74,7 @@ impl<'a> Stops<'a> {
         &self,
         asked: &Asked,
         is_change: bool,
-        before: &Held,
+        before: &Held<D>,
         outcome: &Outcome,
     ) -> Result<Answer, AllocError> {
         let after = self.held()?;
@@ -92,7 +91,7 @@ impl<'a> Stops<'a> {
 
     /// Gives a command, which changes what is told or does not, and then stops it at each call of
     /// its files.
-    pub fn stop(&mut self, text: &str, is_change: bool) -> Result<Answer, AllocError> {
+    pub(crate) fn stop(&mut self, text: &str, is_change: bool) -> Result<Answer, AllocError> {
         let asked = asked_of(text);
         let before = self.held()?;
         let outcome = self.disks.ask(&asked);
@@ -103,7 +102,7 @@ impl<'a> Stops<'a> {
     fn fail_again(
         &self,
         request: &Request,
-        before: &Held,
+        before: &Held<D>,
         outcome: &Outcome,
     ) -> Result<Answer, AllocError> {
         let after = self.held()?;
@@ -120,7 +119,7 @@ impl<'a> Stops<'a> {
     }
 
     /// Serves a request, and then fails its devices and stops its files.
-    pub fn fail(&mut self, text: &str) -> Result<Answer, AllocError> {
+    pub(crate) fn fail(&mut self, text: &str) -> Result<Answer, AllocError> {
         let (moment, words) = parted(text);
         let text = request_text(self.alloc, words)?;
         let request = Request {

@@ -1,8 +1,8 @@
 //! A command on a desk in two files that is given again and again, and fails each time.
-use crate::asking::{Asked, Outcome};
+use crate::asked::{Asked, Outcome, outcome_bytes};
+use crate::desk_files::{DeskFiles, Stop};
 use crate::devices::{Request, served_text};
-use crate::disks::{Disks, Stop};
-use crate::findings::Answer;
+use case_steps::Answer;
 use std::alloc::{AllocError, Global};
 
 /// No command makes so many calls of its files.
@@ -10,32 +10,32 @@ const MANY: u64 = 100_000;
 
 /// An office: the files that hold it, and what is told of it.
 #[derive(Drop)]
-pub struct Held {
-    disks: Disks,
+pub(crate) struct Held<D> {
+    disks: D,
     told: Outcome,
 }
 
 /// What is tried: what it came to at first, and the office before it and the one after it.
-#[derive(Clone, Copy)]
-pub struct Trial<'a> {
+#[derive(Drop)]
+pub(crate) struct Trial<'a, D> {
     /// The calls whose replies tell which office it is.
     pub watched: &'a [&'a str],
     pub outcome: &'a [u8],
-    pub before: &'a Held,
-    pub after: &'a Held,
+    pub before: &'a Held<D>,
+    pub after: &'a Held<D>,
 }
 
 /// What comes of the tries: how often a stop left the office as it was and how often not, and what
 /// is wrong, a line for each such thing.
 #[derive(Drop)]
-pub struct Tries {
+pub(crate) struct Tries {
     before: u64,
     after: u64,
     wrong: String,
 }
 
 impl Tries {
-    pub fn new(alloc: Global) -> Tries {
+    pub(crate) fn new(alloc: Global) -> Tries {
         Tries {
             before: 0,
             after: 0,
@@ -67,7 +67,7 @@ impl Tries {
     }
 
     /// The answer with this text of what was tried.
-    pub fn beside(self, text: String) -> Answer {
+    pub(crate) fn beside(self, text: String) -> Answer {
         let Tries { wrong, .. } = self;
         Answer {
             text,
@@ -78,21 +78,13 @@ impl Tries {
 }
 
 /// What is told of the office in two files: what its book replies to each of some calls.
-fn told(disks: &Disks, watched: &[&str]) -> Result<Outcome, AllocError> {
+fn told<D: DeskFiles>(disks: &D, watched: &[&str]) -> Result<Outcome, AllocError> {
     Ok(disks.copy(Stop::Never)?.ask(&Asked::Book(watched)))
 }
 
-/// The bytes of what was answered, or of the word of the fault.
-pub fn outcome_bytes(outcome: &Outcome) -> &[u8] {
-    match outcome {
-        Ok(bytes) => bytes.as_slice(),
-        Err(word) => word.as_bytes(),
-    }
-}
-
-impl Held {
+impl<D: DeskFiles> Held<D> {
     /// The office in two files, of which the replies to these calls tell.
-    pub fn of(disks: &Disks, watched: &[&str]) -> Result<Held, AllocError> {
+    pub(crate) fn of(disks: &D, watched: &[&str]) -> Result<Held<D>, AllocError> {
         Ok(Held {
             disks: disks.copy(Stop::Never)?,
             told: told(disks, watched)?,
@@ -100,19 +92,19 @@ impl Held {
     }
 
     /// Whether it is the one in two files. Files that hold the same bytes are not opened for that.
-    fn is_in(&self, disks: &Disks, watched: &[&str]) -> Result<bool, AllocError> {
+    fn is_in(&self, disks: &D, watched: &[&str]) -> Result<bool, AllocError> {
         Ok(disks.are_like(&self.disks) || told(disks, watched)? == self.told)
     }
 }
 
-impl Trial<'_> {
+impl<D: DeskFiles> Trial<'_, D> {
     /// Whether the same is told before and after it.
     fn is_same(&self) -> bool {
         self.before.told == self.after.told
     }
 
     /// Whether two files hold the office before it, and whether they hold the one after it.
-    fn compare(&self, left: &Disks) -> Result<(bool, bool), AllocError> {
+    fn compare(&self, left: &D) -> Result<(bool, bool), AllocError> {
         if left.are_like(&self.before.disks) {
             Ok((true, self.is_same()))
         } else if left.are_like(&self.after.disks) {
@@ -125,7 +117,7 @@ impl Trial<'_> {
 
     /// Looks at what a stop left: the office before the command or the one after it, and that one
     /// where the command was answered.
-    fn judge(&self, left: &Disks, is_answered: bool, tries: &mut Tries) -> Result<(), AllocError> {
+    fn judge(&self, left: &D, is_answered: bool, tries: &mut Tries) -> Result<(), AllocError> {
         let (is_before, is_after) = self.compare(left)?;
         tries.count(is_after);
         if is_after || is_before && !is_answered {
@@ -166,7 +158,7 @@ impl Trial<'_> {
     }
 
     /// Stops a command at each call of its files; it changes what is told, or does not.
-    pub fn stop_each(
+    pub(crate) fn stop_each(
         &self,
         asked: &Asked,
         is_change: bool,
@@ -184,7 +176,7 @@ impl Trial<'_> {
         &self,
         request: &Request,
         written: &[u8],
-        wanted: &Held,
+        wanted: &Held<D>,
         tries: &mut Tries,
     ) -> Result<(), AllocError> {
         let mut left = self.before.disks.copy(Stop::Never)?;
@@ -258,7 +250,7 @@ impl Trial<'_> {
 
     /// Serves a request with each read failing in turn, and each write, and then with a stop at
     /// each call of the files.
-    pub fn fail_each(
+    pub(crate) fn fail_each(
         &self,
         alloc: Global,
         request: &Request,

@@ -41,7 +41,7 @@ fn party_words(asked: &PartyRequest) -> (&'static str, u64) {
 }
 
 /// The meeting, the verb, and the number that it names, as `G1 end 2`.
-pub fn asked_text(alloc: Global, request: &Request) -> Result<String, AllocError> {
+pub(crate) fn asked_text(alloc: Global, request: &Request) -> Result<String, AllocError> {
     match request {
         Request::Desk(asked) => String::from_str(alloc, desk_word(asked)),
         Request::Office { meeting, asked } => {

@@ -33,6 +33,7 @@ impl Answer {
         }
     }
 
+    /// A copy of a text, and nothing wrong beside it.
     pub fn of(alloc: Global, text: &str) -> Result<Answer, AllocError> {
         Ok(Answer::new(alloc, String::from_str(alloc, text)?))
     }
