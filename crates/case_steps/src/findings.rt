@@ -39,6 +39,44 @@ impl Answer {
     }
 }
 
+/// A line of an answer that is not the one that is wanted, and the number of the line that wants it.
+#[derive(Clone, Copy)]
+struct Other<'a> {
+    line: u64,
+    wanted: &'a str,
+    got: &'a str,
+}
+
+/// What stands for a line where there is none.
+const NO_LINE: &str = "no further line";
+
+/// The first line of an answer that is not the one that is wanted, if there is one. An answer
+/// without text is an empty line, or none.
+fn first_other<'a>(step: &'a Step, answer: &'a str) -> Option<Other<'a>> {
+    let mut lines = answer.lines();
+    for Expected { line, text, .. } in step.expected.iter().filter(|line| !line.is_among) {
+        let got = lines.next();
+        let is_empty = answer.is_empty() && text.is_empty();
+        if got != Some(*text) && !is_empty {
+            return Some(Other {
+                line: *line,
+                wanted: text,
+                got: got.unwrap_or(NO_LINE),
+            });
+        }
+    }
+    lines.next().map(|got| Other {
+        line: step.line,
+        wanted: NO_LINE,
+        got,
+    })
+}
+
+/// Whether a line stands somewhere in a text.
+fn has_line(text: &str, wanted: &str) -> bool {
+    text.lines().any(|line| line == wanted)
+}
+
 impl<'a> Findings<'a> {
     /// Nothing is found yet in the case of this name.
     pub fn new(alloc: Global, name: &'a str) -> Findings<'a> {
@@ -60,67 +98,53 @@ impl<'a> Findings<'a> {
         writeln!(self.told, "{}:{line}: {what}", self.name)
     }
 
-    /// Tells the lines that have no form or no place, and the steps that expect no answer.
-    pub fn look_over(&mut self, case: &Case) -> Result<(), AllocError> {
-        for line in &case.misplaced {
+    /// Tells the lines that have no form or no place.
+    fn report_misplaced(&mut self, lines: &[u64]) -> Result<(), AllocError> {
+        for line in lines {
             self.report(*line, "no line of a case, or not in its place")?;
         }
-        for step in &case.steps {
+        Ok(())
+    }
+
+    /// Tells the steps that expect no answer.
+    fn report_unanswered(&mut self, steps: &[Step]) -> Result<(), AllocError> {
+        for step in steps {
             if step.expected.is_empty() {
                 self.report(step.line, "no line of the answer is expected")?;
             }
         }
+        Ok(())
+    }
+
+    /// Tells the lines that have no form or no place, and the steps that expect no answer.
+    pub fn look_over(&mut self, case: &Case) -> Result<(), AllocError> {
+        self.report_misplaced(&case.misplaced)?;
+        self.report_unanswered(&case.steps)?;
         if case.steps.is_empty() {
             self.report(case.last_line, "no step in the whole file")?;
         }
         Ok(())
     }
 
-    /// Tells a line of an answer that is not the one that is wanted.
-    fn report_other(
-        &mut self,
-        alloc: Global,
-        line: u64,
-        wanted: Option<&str>,
-        got: Option<&str>,
-    ) -> Result<(), AllocError> {
-        let wanted = wanted.unwrap_or("no further line");
-        let got = got.unwrap_or("no further line");
-        let what = format!(in alloc; "wanted {wanted}, got {got}")?;
-        self.report(line, &what)
-    }
-
-    /// Tells the first line of an answer that is not the one that is wanted, if there is one. An
-    /// answer without text is an empty line, or none.
+    /// Tells the first line of an answer that is not the one that is wanted, if there is one.
     fn compare_whole(
         &mut self,
         alloc: Global,
         step: &Step,
         answer: &str,
     ) -> Result<(), AllocError> {
-        let mut lines = answer.lines();
-        for Expected { line, text, .. } in step.expected.iter().filter(|line| !line.is_among) {
-            let got = lines.next();
-            let is_empty = answer.is_empty() && text.is_empty();
-            if got != Some(*text) && !is_empty {
-                return self.report_other(alloc, *line, Some(*text), got);
-            }
-        }
-        match lines.next() {
-            Some(got) => self.report_other(alloc, step.line, None, Some(got)),
-            None => Ok(()),
-        }
+        let Some(Other { line, wanted, got }) = first_other(step, answer) else {
+            return Ok(());
+        };
+        let what = format!(in alloc; "wanted {wanted}, got {got}")?;
+        self.report(line, &what)
     }
 
     /// Tells each line that has to stand somewhere in an answer, and does not.
-    fn compare_among(&mut self, step: &Step, text: &str) -> Result<(), AllocError> {
-        for Expected {
-            line,
-            text: wanted,
-            ..
-        } in step.expected.iter().filter(|line| line.is_among) {
-            if !text.lines().any(|among| among == *wanted) {
-                self.report(*line, "no line of the answer is this")?;
+    fn compare_among(&mut self, step: &Step, answer: &str) -> Result<(), AllocError> {
+        for expected in &step.expected {
+            if expected.is_among && !has_line(answer, expected.text) {
+                self.report(expected.line, "no line of the answer is this")?;
             }
         }
         Ok(())

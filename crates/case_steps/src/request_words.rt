@@ -42,15 +42,10 @@ fn party_words(asked: &PartyRequest) -> (&'static str, u64) {
 
 /// The meeting, the verb, and the number that it names, as `G1 end 2`.
 pub(crate) fn asked_text(alloc: Global, request: &Request) -> Result<String, AllocError> {
-    match request {
-        Request::Desk(asked) => String::from_str(alloc, desk_word(asked)),
-        Request::Office { meeting, asked } => {
-            let (verb, number) = office_words(asked);
-            format!(in alloc; "{} {verb} {number}", meeting.as_str())
-        }
-        Request::Party { meeting, asked } => {
-            let (verb, number) = party_words(asked);
-            format!(in alloc; "{} {verb} {number}", meeting.as_str())
-        }
-    }
+    let (meeting, (verb, number)) = match request {
+        Request::Desk(asked) => return String::from_str(alloc, desk_word(asked)),
+        Request::Office { meeting, asked } => (meeting, office_words(asked)),
+        Request::Party { meeting, asked } => (meeting, party_words(asked)),
+    };
+    format!(in alloc; "{} {verb} {number}", meeting.as_str())
 }
