@@ -36,22 +36,34 @@ impl Drop for Tables {
     }
 }
 
+/// Makes a desk of a database, and tells how that ended.
+fn created(alloc: Global, conn: Connection<MemStore>) -> (Kept, &'static str) {
+    if !conn.is_autocommit() {
+        return (Kept::Connection(conn), "a transaction");
+    }
+    match calls::create(alloc, conn) {
+        Ok(desk) => (Kept::Desk(desk), "created"),
+        Err((word, conn)) => (Kept::Connection(conn), word),
+    }
+}
+
+/// Opens a database as a desk, and tells how that ended.
+fn opened(alloc: Global, conn: Connection<MemStore>) -> (Kept, &'static str) {
+    if !conn.is_autocommit() {
+        return (Kept::Connection(conn), "a transaction");
+    }
+    match calls::open(alloc, conn) {
+        Ok(desk) => (Kept::Desk(desk), "opened"),
+        Err((word, HandedBack::Connection(conn))) => (Kept::Connection(conn), word),
+        Err((word, HandedBack::Store(_))) => (Kept::Nowhere, word),
+    }
+}
+
 impl Tables {
     fn desk(&mut self) -> Option<&mut Desk<MemStore>> {
         match &mut self.kept {
             Kept::Desk(desk) => Some(desk),
             _ => None,
-        }
-    }
-
-    /// Takes the database, where no desk has it.
-    fn take_connection(&mut self) -> Option<Connection<MemStore>> {
-        match mem::replace(&mut self.kept, Kept::Nowhere) {
-            Kept::Connection(conn) => Some(conn),
-            kept => {
-                self.kept = kept;
-                None
-            }
         }
     }
 }
@@ -63,44 +75,21 @@ impl MemoryDesk for Tables {
     }
 
     fn create(&mut self) -> &'static str {
-        let Some(conn) = self.take_connection() else {
-            return "no database";
+        let (kept, word) = match mem::replace(&mut self.kept, Kept::Nowhere) {
+            Kept::Connection(conn) => created(self.alloc, conn),
+            kept => (kept, "no database"),
         };
-        if !conn.is_autocommit() {
-            self.kept = Kept::Connection(conn);
-            return "a transaction";
-        }
-        match calls::create(self.alloc, conn) {
-            Ok(desk) => {
-                self.kept = Kept::Desk(desk);
-                "created"
-            }
-            Err((word, conn)) => {
-                self.kept = Kept::Connection(conn);
-                word
-            }
-        }
+        self.kept = kept;
+        word
     }
 
     fn open(&mut self) -> &'static str {
-        let Some(conn) = self.take_connection() else {
-            return "no database";
+        let (kept, word) = match mem::replace(&mut self.kept, Kept::Nowhere) {
+            Kept::Connection(conn) => opened(self.alloc, conn),
+            kept => (kept, "no database"),
         };
-        if !conn.is_autocommit() {
-            self.kept = Kept::Connection(conn);
-            return "a transaction";
-        }
-        match calls::open(self.alloc, conn) {
-            Ok(desk) => {
-                self.kept = Kept::Desk(desk);
-                "opened"
-            }
-            Err((word, HandedBack::Connection(conn))) => {
-                self.kept = Kept::Connection(conn);
-                word
-            }
-            Err((word, HandedBack::Store(_))) => word,
-        }
+        self.kept = kept;
+        word
     }
 
     fn close(&mut self) -> &'static str {
