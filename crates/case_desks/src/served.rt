@@ -78,6 +78,32 @@ impl<T: MemoryDesk> Served<T> {
         self.tables.load(handed);
     }
 
+    /// Gives a caller the key, and nobody else one.
+    fn give_key(&mut self, moment: Moment, caller: Caller) -> Result<(), AllocError> {
+        if let Some(keys) = call_of_key(self.alloc, moment, caller)? {
+            self.tables.perform(keys, true);
+        }
+        Ok(())
+    }
+
+    /// Serves a request, and adds a line to what is wrong where the reply has not this JSON.
+    fn compare(
+        &mut self,
+        moment: Moment,
+        request: &[u8],
+        json: &[u8],
+        wrong: &mut String,
+    ) -> Result<(), AllocError> {
+        let mut sink = VecSink::new(self.alloc);
+        self.tables.serve(moment, request, &mut sink);
+        let text = String::from_utf8_lossy(self.alloc, sink.as_slice())?;
+        let (_, body) = text.split_once("\r\n\r\n").unwrap_or(("", ""));
+        if body.as_bytes() != json {
+            writeln!(wrong, "over HTTP it is answered otherwise: {text}")?;
+        }
+        Ok(())
+    }
+
     /// Makes the call of a line, and adds a line to what is wrong where the reply over HTTP has not
     /// this JSON. A call whose verb has no method is made without HTTP, and its reply not asked.
     pub(crate) fn call(
@@ -94,17 +120,7 @@ impl<T: MemoryDesk> Served<T> {
             self.tables.perform(call, true);
             return Ok(());
         };
-        if let Some(keys) = call_of_key(self.alloc, call.moment, call.caller)? {
-            self.tables.perform(keys, true);
-        }
-        let mut sink = VecSink::new(self.alloc);
-        self.tables
-            .serve(call.moment, request.as_bytes(), &mut sink);
-        let text = String::from_utf8_lossy(self.alloc, sink.as_slice())?;
-        let (_, body) = text.split_once("\r\n\r\n").unwrap_or(("", ""));
-        if body.as_bytes() != json {
-            writeln!(wrong, "over HTTP it is answered otherwise: {text}")?;
-        }
-        Ok(())
+        self.give_key(call.moment, call.caller)?;
+        self.compare(call.moment, request.as_bytes(), json, wrong)
     }
 }
