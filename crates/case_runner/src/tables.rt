@@ -13,7 +13,7 @@ use std::mem;
 
 /// Where the tables are.
 #[derive(Drop)]
-enum Kept {
+pub enum Kept {
     /// In a database that no desk has.
     Connection(Connection<MemStore>),
     /// With a desk.
