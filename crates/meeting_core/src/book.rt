@@ -106,11 +106,7 @@ impl Book {
         own_from(self.alloc, rows, &public, now)
     }
 
-    // Replies and changes are large, and a function clears a place for each that it holds. What is
-    // not inlined clears no place on other ways.
-
     /// The answer to what a party asks in a meeting.
-    #[inline(never)]
     fn answer_to_party(
         &self,
         party: Party,
@@ -130,7 +126,6 @@ impl Book {
     }
 
     /// The answer to what the office asks in a meeting.
-    #[inline(never)]
     fn answer_to_office(
         &self,
         meeting: MeetingId,
@@ -152,7 +147,6 @@ impl Book {
     }
 
     /// The answer to what a party asks in a meeting, as a change of the office.
-    #[inline(never)]
     fn entry_for(
         &self,
         party: Party,
@@ -198,7 +192,6 @@ impl Book {
     }
 
     /// What is decided of a call, as `decide` says.
-    #[inline(never)]
     fn decision(&self, call: &Call) -> Result<Answer<Change>, AllocError>
         ensures answer { IfOk result (λ a. a ≡ decided self.now call.now) }
         ensures held { IsTrue (is_office self.now) }
@@ -235,7 +228,6 @@ impl Book {
     /// Writes a change that leaves the lists of an office, as each change of `decide` does. The
     /// error is want of memory, and the book is then as it was; a change that sets fields needs
     /// none.
-    #[inline(never)]
     pub fn apply(&mut self, change: Change) -> Result<(), AllocError>
         requires { IsTrue (is_office (applied self.old change)) }
         ensures ok { OnOk result (self.new ≡ applied self.old change) }
