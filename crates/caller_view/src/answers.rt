@@ -9,8 +9,8 @@ use crate::attendance::{attend, authorise, demand};
 use crate::casts::{cast, instructed};
 use crate::notices::notice_in;
 use desk_words::{
-    Answer, AppointmentUse, Entry, Given, GivenUse, Listing, Meeting, Mine, Moment, PartyRequest,
-    Refusal, Reply, refuse, reply_unchanged,
+    Answer, AppointmentUse, Boxed, Entry, Given, GivenUse, Listing, Meeting, Mine, Moment,
+    PartyRequest, Refusal, Reply, refuse, reply_unchanged,
 };
 use party_views::{OwnView, PublicRecord};
 use proxy_rules::{Use, cutoffs};
@@ -90,10 +90,12 @@ pub fn answer(
     };
     match asked {
         PartyRequest::Notice => {
-            Ok(reply_unchanged(Reply::Notice(notice_in(alloc, public, meeting, now)?)))
+            let notice = notice_in(alloc, public, meeting, now)?;
+            Ok(reply_unchanged(Reply::Notice(Boxed::new(alloc, notice)?)))
         }
         PartyRequest::Mine => {
-            Ok(reply_unchanged(Reply::Mine(mine(alloc, public, meeting, own, now)?)))
+            let mine = mine(alloc, public, meeting, own, now)?;
+            Ok(reply_unchanged(Reply::Mine(Boxed::new(alloc, mine)?)))
         }
         PartyRequest::Appoint(new) => Ok(appoint(public, meeting, &own, now, new)),
         PartyRequest::End(number) => Ok(end(&own, now, *number)),

@@ -2,6 +2,7 @@
 #![tactic(auto)]
 
 mod answer;
+mod boxed;
 mod caller;
 mod change;
 mod finding;
@@ -18,6 +19,7 @@ mod request;
 mod sessions;
 
 pub use answer::{Answer, noted, refuse, reply_unchanged};
+pub use boxed::Boxed;
 pub use byte_io::{FailAt, Sink, Source};
 pub use calendar::{Day, Moment, read_day, read_moment, write_day, write_moment};
 pub use caller::{Caller, KeyRow, read_caller};

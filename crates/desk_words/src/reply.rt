@@ -1,4 +1,5 @@
 //! Replies.
+use crate::boxed::Boxed;
 use crate::own_things::{Authorised, Given, Received};
 use crate::records::{Authority, CastMark, DemandMark, RegisterRow, Tally};
 use calendar::{Day, Moment};
@@ -119,7 +120,7 @@ pub struct Notice {
     pub resolutions: Listing<NoticedResolution>,
 }
 
-/// What is answered.
+/// What is answered. Its long values stand in places of their own, so that a reply is small.
 #[derive(Drop)]
 pub enum Reply {
     Called,
@@ -133,8 +134,8 @@ pub enum Reply {
     Started,
     VotingClosed,
     Declared(Declaration),
-    Notice(Notice),
-    Mine(Mine),
+    Notice(Boxed<Notice>),
+    Mine(Boxed<Mine>),
     Appointed(AppointmentReceipt),
     /// The appointment of that number is ended.
     Ended(u64),

@@ -11,9 +11,8 @@ use Rattle.sql_schema.specs.Statements.{records_in}
 use Rattle.sql_assemble.specs.Flat.{flat_of_records}
 use Rattle.sql_assemble.specs.LoadResults.{any_at_all}
 use Rattle.sql_assemble.specs.declared.fault.LoadError.{LoadError}
-use Rattle.sql_assemble.specs.declared.flat.MeetingRecords.{MeetingRecords}
 use Rattle.sql_model.specs.OfficeRecords.{FlatLists, are_left_empty, flat_in, flat_two}
-use Rattle.sql_load_office.specs.MeetingParts.{called_in, given_in, polled_in}
+use Rattle.sql_load_office.specs.MeetingParts.{called_in, given_in, made_of, polled_in}
 use Rattle.sql_load_office.specs.WholeReading.{IsReading}
 use Rattle.sql_load_office.specs.declared.flat.Called.{Called}
 use Rattle.sql_load_office.specs.declared.flat.Given.{Given}
@@ -35,21 +34,6 @@ four (Some x) (Some y) (Some z) None make k = refl
 four (Some x) (Some y) None e make k = refl
 four (Some x) None c e make k = refl
 four None b c e make k = refl
-
--- the records of meetings, of their parts
-abbrev pub made_of : Called → Given → Polled → MeetingRecords
-made_of called given polled = record {
-  sessions = called.sessions;
-  resolutions = called.resolutions;
-  register = called.register;
-  appointments = given.appointments;
-  endings = given.endings;
-  authorities = given.authorities;
-  presences = polled.presences;
-  demands = polled.demands;
-  polls = polled.polls;
-  casts = polled.casts;
-}
 
 -- all that the tables hold, by parts
 abbrev pub by_parts : Trees → Option FlatLists

@@ -2,6 +2,7 @@
 use Rattle.std.specs.Prelude.{Option, Some}
 use Rattle.sqlite.specs.Tree.{Trees}
 use Rattle.vocabulary.specs.OptionSteps.{◌>>=◌}
+use Rattle.sql_assemble.specs.declared.flat.MeetingRecords.{MeetingRecords}
 use Rattle.sql_schema.specs.Contents.{sessions, resolutions, register, appointments, endings, authorities, presences, demands, polls, casts}
 use Rattle.sql_schema.specs.Statements.{records_in}
 use Rattle.sql_load_office.specs.declared.flat.Called.{Called}
@@ -41,3 +42,18 @@ polled_in trees = do
     polls = the_polls;
     casts = the_casts;
   })
+
+-- the records of meetings, of their parts
+abbrev pub made_of : Called → Given → Polled → MeetingRecords
+made_of called given polled = record {
+  sessions = called.sessions;
+  resolutions = called.resolutions;
+  register = called.register;
+  appointments = given.appointments;
+  endings = given.endings;
+  authorities = given.authorities;
+  presences = polled.presences;
+  demands = polled.demands;
+  polls = polled.polls;
+  casts = polled.casts;
+}

@@ -1,6 +1,6 @@
 //! What the tables hold, each record with its meeting.
 ghost use Rattle.std.specs.Prelude.{◌≡◌};
-ghost use Rattle.sql_load_office.specs.MeetingParts.{called_in, given_in, polled_in};
+ghost use Rattle.sql_load_office.specs.MeetingParts.{called_in, given_in, made_of, polled_in};
 ghost use Rattle.sql_load_office.specs.WholeReading.{IsReading};
 ghost use Rattle.sql_model.specs.OfficeRecords.{flat_in};
 ghost use Rattle.sql_assemble.specs.LoadResults.{any_at_all};
@@ -90,18 +90,7 @@ fn read_polled<S: Alter>(tx: &mut Transaction<'_, S>, alloc: Global) -> Result<P
 
 /// The records of meetings, of their three parts.
 fn records_of(called: Called, given: Given, polled: Polled) -> MeetingRecords
-    ensures { result ≡ record {
-      sessions = called.sessions;
-      resolutions = called.resolutions;
-      register = called.register;
-      appointments = given.appointments;
-      endings = given.endings;
-      authorities = given.authorities;
-      presences = polled.presences;
-      demands = polled.demands;
-      polls = polled.polls;
-      casts = polled.casts;
-    } }
+    ensures { result ≡ made_of called given polled }
 {
     MeetingRecords {
         sessions: called.sessions,
