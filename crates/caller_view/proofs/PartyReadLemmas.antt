@@ -11,12 +11,12 @@ use Rattle.vocabulary.specs.Places.{Places, holds, is_range}
 use Rattle.vocabulary.specs.Refusals.{Case}
 use Rattle.vocabulary.specs.declared.kinds.Capacity.{Capacity}
 use Rattle.vocabulary.specs.declared.kinds.Capacity.TheVariants.{Member, Rep, Proxy}
-use Rattle.vocabulary.specs.declared.refusal.Refusal.TheVariants.{BadRange, TooMany, NoRegister, NoRight, NoPoll, PollNotOpen, PollClosed, NotYours, AgainstInstruction}
+use Rattle.vocabulary.specs.declared.refusal.Refusal.TheVariants.{BadRange, TooMany, NoRegister, NotOpened, NotPresent, NoRight, NoPoll, PollOrdered, PollNotOpen, PollClosed, NotYours, AgainstInstruction}
 use Rattle.desk_words.specs.declared.limits.TheConstants.{MOST_CASTS}
 use Rattle.desk_words.specs.Finding.{poll_on}
 use Rattle.desk_words.specs.PollStates.{is_closed, is_waiting, there_is}
 use Rattle.desk_words.specs.Rulings.{in_found, no_resolution}
-use Rattle.desk_words.specs.Sessions.{last_number}
+use Rattle.desk_words.specs.Sessions.{is_opened, last_number, last_session}
 use Rattle.desk_words.specs.declared.own_things.Authorised.{Authorised}
 use Rattle.desk_words.specs.declared.own_things.PollGoverned.{PollGoverned}
 use Rattle.desk_words.specs.declared.own_things.Received.{Received}
@@ -25,16 +25,17 @@ use Rattle.desk_words.specs.declared.records.Meeting.{Meeting}
 use Rattle.desk_words.specs.declared.records.Poll.{Poll}
 use Rattle.desk_words.specs.declared.request.NewCast.{NewCast}
 use Rattle.desk_words.specs.declared.request.PartyRequest.{PartyRequest}
-use Rattle.desk_words.specs.declared.request.PartyRequest.TheVariants.{Mine, Cast, Instructed}
+use Rattle.desk_words.specs.declared.request.PartyRequest.TheVariants.{Mine, Demand, Cast, Instructed}
 use Rattle.caller_view.specs.PartyRulings.{party_ruling, ruling_for}
+use Rattle.caller_view.specs.AttendanceRulings.{demand_ruling, governs_any, is_present, represents}
 use Rattle.caller_view.specs.CastRulings.{cast_ruling, cast_count, governed_on, has_cast_enough, instructed_ruling}
 use Rattle.proxy_rules.specs.Cutoffs.{is_late_poll}
 use Rattle.proxy_rules.specs.Instructions.{allows, instructed_on}
 use Rattle.proxy_rules.specs.Uses.{vote_on}
 use Rattle.party_views.proofs.FindLemmas.{find-filter}
-use Rattle.party_views.specs.RowsRead.{authorised_read, cast_on, for_poll, own_read, received_read}
-use Rattle.caller_view.specs.Rights.{forbids, governed_for, governed_late, governed_votes, governs_at, instructs, is_against, is_governed, is_not_own, may_vote_for, meets, no_runs, some_fail}
-use Rattle.party_views.specs.OwnViews.{nothing_of}
+use Rattle.party_views.specs.RowsRead.{authorised_read, cast_on, for_poll, own_read, received_read, row_read}
+use Rattle.caller_view.specs.Rights.{forbids, governed_acts, governed_for, governed_late, governed_votes, governs_at, instructs, is_against, is_governed, is_not_own, may_vote_for, meets, no_runs, some_fail}
+use Rattle.party_views.specs.OwnViews.{holds_as_individual, nothing_of}
 use Rattle.party_views.specs.declared.views.OwnView.{OwnView}
 use Rattle.party_views.specs.Public.{PublicRecord}
 
@@ -102,7 +103,7 @@ any-read new passes received alike members =
     ∙ any-filter (λ (r : Received). same_name r.member new.member) passes received members
 
 may-alike : (own : OwnView) (new : NewCast) (capacity : Capacity) (casts : List CastMark)
-    → may_vote_for (record (nothing_of own.party) { row = own.row; received = received_read new own.received capacity; authorised = authorised_read new own.authorised capacity; casts = casts }) new.member capacity
+    → may_vote_for (record (nothing_of own.party) { row = row_read own.row capacity; received = received_read new own.received capacity; authorised = authorised_read new own.authorised capacity; casts = casts }) new.member capacity
     ≡ may_vote_for own new.member capacity
 may-alike own new Member casts = refl
 may-alike own new Rep casts = ap (λ found. nat_lt 0 (option_map_or (λ (a : Authorised). a.shares) found 0)) (find-filter (λ (a : Authorised). same_name a.corporation new.member) own.authorised)
@@ -124,7 +125,7 @@ module _ (public : PublicRecord) (meeting : Meeting) where
   instructs-alike resolution r = ap (λ runs. is_some (instructed_on resolution r.instructions) && not (no_runs runs)) (governed-alike resolution r)
 
   own-alike : (own : OwnView) (new : NewCast) (capacity : Capacity) (casts : List CastMark)
-      → is_not_own (record (nothing_of own.party) { row = own.row; received = received_read new own.received capacity; authorised = authorised_read new own.authorised capacity; casts = casts }) (governed_on public meeting new.resolution) new capacity
+      → is_not_own (record (nothing_of own.party) { row = row_read own.row capacity; received = received_read new own.received capacity; authorised = authorised_read new own.authorised capacity; casts = casts }) (governed_on public meeting new.resolution) new capacity
       ≡ is_not_own own (governed_on public meeting new.resolution) new capacity
   own-alike own new Member casts = refl
   own-alike own new Rep casts = ap (λ found. nat_lt (option_map_or (λ (a : Authorised). a.shares) found 0) new.to) (find-filter (λ (a : Authorised). same_name a.corporation new.member) own.authorised)
@@ -135,7 +136,7 @@ module _ (public : PublicRecord) (meeting : Meeting) where
       λ i. some_fail (λ place. governed place i) new.from new.to
 
   against-alike : (own : OwnView) (new : NewCast) (capacity : Capacity) (casts : List CastMark)
-      → is_against (record (nothing_of own.party) { row = own.row; received = received_read new own.received capacity; authorised = authorised_read new own.authorised capacity; casts = casts }) (governed_on public meeting new.resolution) new capacity
+      → is_against (record (nothing_of own.party) { row = row_read own.row capacity; received = received_read new own.received capacity; authorised = authorised_read new own.authorised capacity; casts = casts }) (governed_on public meeting new.resolution) new capacity
       ≡ is_against own (governed_on public meeting new.resolution) new capacity
   against-alike own new Member casts = refl
   against-alike own new Rep casts = refl
@@ -173,6 +174,33 @@ cast-alike public meeting own now new =
       accepted = (cast_ruling public meeting own now new).accepted;
     }
 
+-- who holds as an individual may demand, whatever others gave it
+may-unread : (meeting : Meeting) (own : OwnView) (individual : Bool)
+    → (individual || list_any (λ (a : Authorised). nat_lt 0 a.shares) (cond individual [] own.authorised)
+    || list_any (λ (r : Received). not (no_runs (governed_acts (last_number meeting) r))) (cond individual [] own.received))
+    ≡ (individual || represents own || governs_any meeting own)
+may-unread meeting own true = refl
+may-unread meeting own false = refl
+
+-- the cases of a demand, by whether the party may make one
+abbrev demand_cases_by : PublicRecord → Meeting → OwnView → ℕ → Bool → List Case
+demand_cases_by public meeting own resolution may =
+    no_resolution meeting resolution
+    ∷ record { refusal = NoRegister; holds = not meeting.loaded }
+    ∷ record { refusal = NotOpened; holds = not (is_opened (last_session meeting)) }
+    ∷ record { refusal = NotPresent; holds = not (is_present meeting own) }
+    ∷ record { refusal = NoRight; holds = not may }
+    ∷ record { refusal = PollOrdered; holds = is_some (poll_on public.polls resolution) }
+    ∷ []
+
+demand-alike : (public : PublicRecord) (meeting : Meeting) (own : OwnView) (now resolution : ℕ)
+    → demand_ruling public meeting (own_read (Demand resolution) own) now resolution ≡ demand_ruling public meeting own now resolution
+demand-alike public meeting own now resolution =
+    λ i. record {
+      cases = demand_cases_by public meeting own resolution (may-unread meeting own (holds_as_individual own.row) i);
+      accepted = (demand_ruling public meeting own now resolution).accepted;
+    }
+
 abbrev instructed_cases_by : PublicRecord → Meeting → ℕ → Bool → Bool → List Case
 instructed_cases_by public meeting resolution enough uninstructed =
     let poll = poll_on public.polls resolution in
@@ -198,6 +226,7 @@ instructed-alike public meeting own now resolution =
 ruled_alike : (public : PublicRecord) (own : OwnView) (now : ℕ) (asked : PartyRequest) (meeting : Meeting)
     → ruling_for public (own_read asked own) now asked meeting ≡ ruling_for public own now asked meeting
 ruled_alike public own now Mine meeting = refl
+ruled_alike public own now (Demand resolution) meeting = demand-alike public meeting own now resolution
 ruled_alike public own now (Cast new) meeting = cast-alike public meeting own now new
 ruled_alike public own now (Instructed resolution) meeting = instructed-alike public meeting own now resolution
 ruled_alike public own now asked meeting = refl

@@ -48,7 +48,7 @@ appoint_range_cases meeting own new =
       refusal = BadInstructions;
       holds = not (length new.instructions == length meeting.resolutions);
     }
-    ∷ record { refusal = TooMany; holds = nat_le MOST_APPOINTMENTS (length own.given) } ∷ []
+    ∷ record { refusal = TooMany; holds = nat_le MOST_APPOINTMENTS own.given_count } ∷ []
 
 -- when an appointment is not recorded: its places are no range, or as above
 abbrev pub appoint_cases : Meeting → OwnView → NewAppointment → List Case
@@ -60,7 +60,7 @@ appoint_cases meeting own new =
 abbrev pub appointment_of : OwnView → Moment → NewAppointment → Appointment
 appointment_of own now new = record {
   member = own.party;
-  number = suc (length own.given);
+  number = suc own.given_count;
   proxy = new.proxy;
   range = record { from = new.from; to = new.to };
   instructions = new.instructions;
@@ -69,7 +69,7 @@ appointment_of own now new = record {
 
 -- what is answered to it
 abbrev pub receipt_of : Moment → OwnView → Moment → AppointmentReceipt
-receipt_of cutoff own now = record { number = suc (length own.given); used = use_by cutoff now }
+receipt_of cutoff own now = record { number = suc own.given_count; used = use_by cutoff now }
 
 -- an appointment is recorded, or refused by the public record and the party's own things alone; the
 -- register is not looked at (section 324)

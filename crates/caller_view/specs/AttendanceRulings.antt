@@ -17,7 +17,8 @@ use Rattle.desk_words.specs.declared.change.Entry.{Entry}
 use Rattle.desk_words.specs.declared.change.Entry.TheVariants as entry
 use Rattle.desk_words.specs.declared.own_things.Authorised.{Authorised}
 use Rattle.desk_words.specs.declared.own_things.Received.{Received}
-use Rattle.caller_view.specs.Rights.{governed_acts, holds_as_individual, no_runs}
+use Rattle.caller_view.specs.Rights.{governed_acts, no_runs}
+use Rattle.party_views.specs.OwnViews.{holds_as_individual}
 use Rattle.party_views.specs.Public.{PublicRecord}
 use Rattle.party_views.specs.declared.views.OwnView.{OwnView}
 

@@ -16,16 +16,11 @@ use Rattle.desk_words.specs.declared.records.Poll.{Poll}
 use Rattle.desk_words.specs.declared.records.RegisterRow.{RegisterRow}
 use Rattle.desk_words.specs.declared.request.NewCast.{NewCast}
 use Rattle.proxy_rules.specs.Cutoffs.{is_late_poll}
-use Rattle.proxy_rules.specs.Shares.{is_individual}
 use Rattle.proxy_rules.specs.Instructions.{allows, instructed_on}
 use Rattle.proxy_rules.specs.Uses.{Use, Acts, Votes, Vote}
+use Rattle.party_views.specs.OwnViews.{holds_as_individual}
 use Rattle.party_views.specs.SessionLists.{at_session}
 use Rattle.party_views.specs.declared.views.OwnView.{OwnView}
-
--- the party holds shares as an individual
-abbrev pub holds_as_individual : Option RegisterRow → Bool
-holds_as_individual None = false
-holds_as_individual (Some row) = is_individual row.kind
 
 -- there is no run
 abbrev pub no_runs : List Places → Bool

@@ -1,5 +1,5 @@
 //! The answers to a party that gives or ends an appointment of a proxy.
-ghost use Rattle.std.specs.Prelude.{◌≡◌, ◌==◌, None, Some, MatchResult, find, length, if◌then◌else◌};
+ghost use Rattle.std.specs.Prelude.{◌≡◌, ◌==◌, ◌<◌, None, Some, MatchResult, find, length, if◌then◌else◌};
 ghost use Rattle.std.specs.Option.{option_copied};
 ghost use Rattle.desk_words.specs.Refusals.{first_refusal};
 ghost use Rattle.desk_words.specs.Rulings.{ruled_answer};
@@ -46,6 +46,7 @@ fn unless_refused(
 ) -> Result<Instructions, Refusal>
     ensures { MatchResult result
         (λ instructions. (instructions ≡ new.now.instructions)
+        × (own.now.given_count < MOST_APPOINTMENTS)
         × (first_refusal (appoint_range_cases meeting.now own.now new.now) ≡ None))
         (λ refusal. first_refusal (appoint_range_cases meeting.now own.now new.now)
         ≡ Some refusal) }
@@ -56,12 +57,13 @@ fn unless_refused(
     let Some(instructions) = one_for_each(meeting, new.instructions.as_slice()) else {
         return Err(Refusal::BadInstructions);
     };
-    if own.given.len() >= MOST_APPOINTMENTS {
+    if own.given_count >= MOST_APPOINTMENTS as u64 {
         return Err(Refusal::TooMany);
     }
     Ok(instructions)
 }
 
+/// The appointment of a party that gave fewer than `MOST_APPOINTMENTS`.
 fn new_appointment(
     own: &OwnView,
     now: Moment,
@@ -69,13 +71,14 @@ fn new_appointment(
     range: Range,
     instructions: Instructions,
 ) -> Appointment
+    requires room { own.now.given_count < MOST_APPOINTMENTS }
     requires range { range ≡ record { from = new.now.from; to = new.now.to } }
     requires instructions { instructions ≡ new.now.instructions }
     ensures { result ≡ appointment_of own.now now new.now }
 {
     Appointment {
         member: own.party,
-        number: own.given.as_slice().len() as u64 + 1,
+        number: own.given_count + 1,
         proxy: new.proxy,
         range,
         instructions,

@@ -4,13 +4,13 @@ ghost use Rattle.desk_words.specs.Refusals.{first_refusal};
 ghost use Rattle.desk_words.specs.Rulings.{ruled_answer};
 ghost use Rattle.caller_view.specs.AttendanceRulings.{attend_ruling, authorise_cases, authorise_ruling, demand_cases, demand_ruling, gave_authority, governs_any, is_demand_now, is_present, own_demanded, may_demand, represents};
 
-use crate::rights::{governed_acts, holds_as_individual};
+use crate::rights::governed_acts;
 use desk_words::limits::MOST_AUTHORITIES;
 use desk_words::{
     Answer, Authority, DemandMark, Entry, Meeting, Moment, Party, PresenceMark, Refusal, find_poll,
     noted, refuse,
 };
-use party_views::{OwnView, PublicRecord};
+use party_views::{OwnView, PublicRecord, holds_as_individual};
 
 /// Whether the party gave the person its authority already.
 fn gave_authority(own: &OwnView, person: Party) -> bool

@@ -6,25 +6,15 @@ ghost use Rattle.desk_words.specs.Names.{same_name};
 ghost use Rattle.desk_words.specs.Places.{Places, holds};
 ghost use Rattle.desk_words.specs.declared.own_things.Authorised.{Authorised};
 ghost use Rattle.desk_words.specs.declared.own_things.PollGoverned.{PollGoverned};
-ghost use Rattle.caller_view.specs.Rights.{IsRunAt, forbids, governed_acts, governed_at_poll, governed_late, governed_votes, governs_at, holds_as_individual, instructs, is_against, is_governed, is_not_own, is_past, is_uninstructed, may_vote_for, meets, represented, some_fail};
+ghost use Rattle.caller_view.specs.Rights.{IsRunAt, forbids, governed_acts, governed_at_poll, governed_late, governed_votes, governs_at, instructs, is_against, is_governed, is_not_own, is_past, is_uninstructed, may_vote_for, meets, represented, some_fail};
 ghost use Rattle.party_views.specs.SessionLists.{at_number, at_session};
 
 use desk_words::{
-    Authorised, Capacity, HolderKind, NewCast, Party, Poll, PollGoverned, Range, Received,
+    Authorised, Capacity, NewCast, Party, Poll, PollGoverned, Range, Received,
     RegisterRow, SessionGoverned,
 };
-use party_views::OwnView;
+use party_views::{OwnView, holds_as_individual};
 use proxy_rules::{allows, instructed_on};
-
-/// Whether a row is an individual's.
-pub(crate) fn holds_as_individual(row: &Option<RegisterRow>) -> bool
-    ensures { result ≡ holds_as_individual row.now }
-{
-    match row {
-        None => false,
-        Some(row) => row.kind == HolderKind::Individual,
-    }
-}
 
 /// What the party knows of a corporation that authorised it.
 fn authorised_by(authorised: &[Authorised], member: Party) -> Option<Authorised>

@@ -99,6 +99,7 @@ fn is_same_own(own: &OwnView, other: &OwnView) -> bool {
     own.party == other.party
         && is_same_row(&own.row, &other.row)
         && are_same_given(own.given.as_slice(), other.given.as_slice())
+        && own.given_count == other.given_count
         && own.persons.as_slice() == other.persons.as_slice()
         && are_same_received(own.received.as_slice(), other.received.as_slice())
         && own.authorised.as_slice() == other.authorised.as_slice()

@@ -1,5 +1,5 @@
 -- What a party's call enters, and of which calls it is the same in two offices.
-use Rattle.std.proofs.Common.{◌≡◌, ℕ, Bool, true, false, cond, List, [], ◌∷◌, ◌++◌, filter, refl, ap, sym, ◌∙◌}
+use Rattle.std.proofs.Common.{◌≡◌, ℕ, Bool, true, false, cond, List, [], ◌∷◌, ◌++◌, length, filter, refl, ap, sym, ◌∙◌}
 use Rattle.std.specs.Prelude.{Option, Some, None}
 use Rattle.seq.proofs.Booleans.{neither_first}
 use Rattle.vocabulary.specs.Names.{same_name}
@@ -27,8 +27,9 @@ use Rattle.caller_view.specs.AttendanceRulings.{authority_of, demand_mark, gave_
 use Rattle.caller_view.specs.CastRulings.{block_of, cast_of}
 use Rattle.party_views.specs.OwnViews.{own_from}
 use Rattle.party_views.specs.Public.{PublicRecord}
-use Rattle.party_views.specs.RowsRead.{given_read, rows_read}
+use Rattle.party_views.specs.RowsRead.{given_read, rows_part, rows_read}
 use Rattle.party_views.specs.PartyRows.{no_rows_of, rows_in}
+use Rattle.party_views.specs.declared.reads.Reads.TheVariants.{GivenCount}
 use Rattle.party_views.specs.Views.{meeting_at, own_of, public_in, public_of}
 use Rattle.party_views.specs.declared.views.OwnView.{OwnView}
 use Rattle.meeting_core.specs.Step.{decided}
@@ -37,7 +38,7 @@ use Rattle.laws_step.proofs.StepReadLemmas.{rows_enough}
 use Rattle.laws_run.specs.Isolation.{AreIndistinguishable}
 use Rattle.laws_run.specs.NearParts.{Near, Part, Viewer, is_near, near_in}
 use Rattle.laws_run.specs.Traces.{is_giving, is_shown, names_party}
-use Rattle.laws_run.proofs.RunsPartLemmas.{authorising-near, giving-near, is_near_some, near_some, rows_from, rows-near}
+use Rattle.laws_run.proofs.RunsPartLemmas.{authorising-near, counting-near, giving-near, is_near_some, near_some, rows_from, rows-near}
 
 -- the answer to a party in a meeting, before it is told where its change is made
 abbrev pub answer_to : OfficeLists → List ℕ → ℕ → List ℕ → PartyRequest → Answer Entry
@@ -142,10 +143,19 @@ given-read viewer one other party near same =
     ∙ ap (λ (n : Near). record (no_rows_of party) { given = filter (is_given_by party) n.appointments; ended = filter (is_ended_of party) n.endings }) same
     ∙ giving-near viewer other party near ∙ sym (named other)
 
+-- what is read of how many appointments one who is near gave
+count-read : (viewer : Viewer) (one other : Option MeetingLists) (party : List ℕ) → is_near viewer party ≡ true → near_in viewer one ≡ near_in viewer other
+    → rows_part GivenCount (rows_in one party) ≡ rows_part GivenCount (rows_in other party)
+count-read viewer one other party near same =
+    let named = λ (found : Option MeetingLists). ap (λ who. record (no_rows_of who) { given_count = (rows_in found party).given_count }) (party-in found party) in
+    named one ∙ sym (counting-near viewer one party near)
+    ∙ ap (λ (n : Near). record (no_rows_of party) { given_count = length (filter (is_given_by party) n.appointments) }) same
+    ∙ counting-near viewer other party near ∙ sym (named other)
+
 -- what is read of what one who is near gave
 read-near : (viewer : Viewer) (one other : Option MeetingLists) (party : List ℕ) (what : PartyRequest) → is_near viewer party ≡ true → is_giving what ≡ true
     → near_in viewer one ≡ near_in viewer other → rows_read what (rows_in one party) ≡ rows_read what (rows_in other party)
-read-near viewer one other party (Appoint new) near h same = given-read viewer one other party near same
+read-near viewer one other party (Appoint new) near h same = count-read viewer one other party near same
 read-near viewer one other party (End number) near h same = given-read viewer one other party near same
 read-near viewer one other party (Authorise person) near h same =
     let named = λ (found : Option MeetingLists). ap (λ who. record (no_rows_of who) { persons = (rows_in found party).persons }) (party-in found party) in

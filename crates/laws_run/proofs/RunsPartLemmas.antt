@@ -1,5 +1,5 @@
 -- The part of a meeting that concerns a viewer, what it tells, and how what is entered changes it.
-use Rattle.std.proofs.Common.{◌≡◌, ℕ, Bool, true, false, ◌||◌, cond, List, [], ◌∷◌, ◌++◌, map, filter, refl, ap, sym, ◌∙◌}
+use Rattle.std.proofs.Common.{◌≡◌, ℕ, Bool, true, false, ◌||◌, cond, List, [], ◌∷◌, ◌++◌, length, map, filter, refl, ap, sym, ◌∙◌}
 use Rattle.std.specs.Prelude.{Option, Some, None, option_map}
 use Rattle.std.specs.Cmp.{first_so, second_so}
 use Rattle.std.specs.Cmp.Derive.{both_true}
@@ -65,6 +65,7 @@ rows_from viewer near = record {
   party = viewer.party;
   row = near.row viewer.party;
   given = filter (is_given_by viewer.party) near.appointments;
+  given_count = length (filter (is_given_by viewer.party) near.appointments);
   ended = filter (is_ended_of viewer.party) near.endings;
   persons = filter (is_authority_of viewer.party) near.authorities;
   received = filter (names viewer.party) near.appointments;
@@ -134,6 +135,7 @@ rows-of viewer m h =
       party = party;
       row = row i;
       given = given i;
+      given_count = length (given i);
       ended = ended i;
       persons = persons i;
       received = received i;
@@ -160,6 +162,13 @@ giving-near viewer (Some m) member near =
     let given = given-near viewer m.appointments member near in
     let ended = ended-near viewer m.endings member near in
     λ i. record (no_rows_of member) { given = given i; ended = ended i }
+
+-- and how many appointments one who is near gave
+pub counting-near : (viewer : Viewer) (found : Option MeetingLists) (member : List ℕ) → is_near viewer member ≡ true
+    → record (no_rows_of member) { given_count = length (filter (is_given_by member) (near_in viewer found).appointments) } ≡ record (no_rows_of member) { given_count = (rows_in found member).given_count }
+counting-near viewer None member near = refl
+counting-near viewer (Some m) member near =
+    let given = given-near viewer m.appointments member near in λ i. record (no_rows_of member) { given_count = length (given i) }
 
 pub authorising-near : (viewer : Viewer) (found : Option MeetingLists) (member : List ℕ) → is_near viewer member ≡ true
     → record (no_rows_of member) { persons = filter (is_authority_of member) (near_in viewer found).authorities } ≡ record (no_rows_of member) { persons = (rows_in found member).persons }

@@ -39,8 +39,8 @@ use Rattle.poll_rules.specs.Roles.{has_authority, is_proxy_in, role_if, roles_by
 use Rattle.poll_rules.specs.declared.roles.Role.{Role}
 use Rattle.poll_rules.proofs.GatherLemmas.{list_any-map}
 use Rattle.caller_view.specs.AttendanceRulings.{governs_any, may_demand}
-use Rattle.caller_view.specs.Rights.{governed_acts, holds_as_individual, no_runs}
-use Rattle.party_views.specs.OwnViews.{authorised_in_rows, governed_by, received_by, shares_of_kind, shares_in}
+use Rattle.caller_view.specs.Rights.{governed_acts, no_runs}
+use Rattle.party_views.specs.OwnViews.{authorised_in_rows, governed_by, holds_as_individual, received_by, shares_of_kind, shares_in}
 use Rattle.party_views.specs.PartyRows.{authority_rows_in, givers, member_in}
 use Rattle.party_views.specs.Views.{own_in}
 use Rattle.party_views.specs.declared.own_rows.AuthorityRows.{AuthorityRows}

@@ -1,5 +1,5 @@
 -- What of a meeting concerns a party gives it the same rows as the meeting.
-use Rattle.std.proofs.Common.{◌≡◌, ℕ, Bool, true, false, ◌&&◌, ◌||◌, cond, List, [], ◌∷◌, map, filter, refl, ap, sym, ◌∙◌, inl, inr}
+use Rattle.std.proofs.Common.{◌≡◌, ℕ, Bool, true, false, ◌&&◌, ◌||◌, cond, List, [], ◌∷◌, length, map, filter, refl, ap, sym, ◌∙◌, inl, inr}
 use Rattle.std.specs.Prelude.{Some, None, find}
 use Rattle.std.specs.List.{list_any}
 use Rattle.std.specs.Option.{option_map_or}
@@ -153,6 +153,7 @@ rows-alike m party =
       party = party;
       row = row i;
       given = given i;
+      given_count = length (given i);
       ended = ended i;
       persons = persons i;
       received = received i;

@@ -1,5 +1,5 @@
 -- What is left to a party gives it the same own things.
-use Rattle.std.proofs.Common.{◌≡◌, ℕ, suc, Bool, true, false, cond, List, [], ◌∷◌, ◌++◌, map, filter, refl, ap, sym, ◌∙◌}
+use Rattle.std.proofs.Common.{◌≡◌, ℕ, suc, Bool, true, false, cond, List, [], ◌∷◌, ◌++◌, length, map, filter, refl, ap, sym, ◌∙◌}
 use Rattle.std.specs.Prelude.{All, None, Some, Option, option_map}
 use Rattle.std.specs.List.{AllZip, slice_index_or}
 use Rattle.std.specs.Option.{option_map_or}
@@ -166,6 +166,7 @@ what_is_left one other closed party now h k left =
       party = party;
       row = left.row i;
       given = given i;
+      given_count = length (left.given i);
       persons = persons i;
       received = received i;
       authorised = authorised i;

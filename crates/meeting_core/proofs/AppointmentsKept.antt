@@ -6,7 +6,7 @@ use Rattle.std.specs.Cmp.{first_so, second_so}
 use Rattle.std.specs.Cmp.Derive.{both_true}
 use Rattle.std.proofs.lemmas.Bool.{eqb-true, or_from}
 use Rattle.std.proofs.lemmas.Bool.Decides.{nat_tests}
-use Rattle.std.proofs.lemmas.List.{append-nil, length-map, reverse-append}
+use Rattle.std.proofs.lemmas.List.{append-nil, reverse-append}
 use Rattle.std.proofs.lemmas.List.Sums.{length-filter}
 use Rattle.std.proofs.lemmas.List.Folds.{list_all-append, list_any-append}
 use Rattle.seq.proofs.Booleans.{neither_first, neither_second}
@@ -73,9 +73,9 @@ appointment_kept a m h number few instructions =
     (second_so (list_all ends m.endings) apart f.endings) in
     meeting_from_facts (entered (entry.Appointment a) m) (assumption (numbers, ended, f))
 
--- so many appointments are a party's as it is told
-pub given_count : (endings : List Ending) (party : List ℕ) (given : List Appointment) → length (map (given_in endings) (filter (is_of party) given)) ≡ count_by (is_of party) given
-given_count endings party given = length-map (filter (is_of party) given) (given_in endings) ∙ length-filter (is_of party) given
+-- so many appointments are a party's
+pub given_by_party : (party : List ℕ) (given : List Appointment) → length (filter (is_of party) given) ≡ count_by (is_of party) given
+given_by_party party given = length-filter (is_of party) given
 
 -- ---- an ending more
 

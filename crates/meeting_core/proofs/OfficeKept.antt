@@ -58,7 +58,7 @@ use Rattle.office_decisions.specs.PollRulings.{open_cases, adjourn_cases, order_
 use Rattle.desk_words.proofs.OfficeFacts.{OfficeFacts, office_facts, office_from_facts, meeting_from_facts, find-passes}
 use Rattle.desk_words.specs.Changes.{applied_if_any, change_meeting, changed, entered, new_lists}
 use Rattle.meeting_core.specs.Step.{ruling}
-use Rattle.meeting_core.proofs.AppointmentsKept.{appointment_kept, ending_kept, given_count, numbered_given, unended_none}
+use Rattle.meeting_core.proofs.AppointmentsKept.{appointment_kept, ending_kept, given_by_party, numbered_given, unended_none}
 use Rattle.meeting_core.proofs.AttendanceKept.{authority_kept, demand_kept, not_demanded, not_given, not_marked, not_present, presence_kept, room_left}
 use Rattle.meeting_core.proofs.MeetingKept.{register_kept, opening_kept, adjournment_kept, last_opened, last_there, poll_kept, start_kept, close_kept, declare_kept, vote_kept}
 use Rattle.meeting_core.proofs.RulingLemmas.{change_of, fails}
@@ -197,7 +197,7 @@ party_stays m closed who now party.Mine good none = tt
 party_stays m closed who now (party.Appoint new) good none =
     let own = own_in m closed who now in
     let cases = appoint_cases m.meeting own new in
-    let count = given_count (filter (is_ended_of who) m.endings) who m.appointments in
+    let count = given_by_party who m.appointments in
     appointment_kept (appointment_of own now new) m good (ap suc count) (ap (nat_le 256) (sym count) ∙ fails TooMany cases none)
     (not-false (length new.instructions == length m.meeting.resolutions) (fails BadInstructions cases none))
 party_stays m closed who now (party.End number) good none =

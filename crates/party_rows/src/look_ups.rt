@@ -6,9 +6,9 @@ ghost use Rattle.desk_words.specs.Registers.{member_before};
 ghost use Rattle.party_views.specs.RowsRead.{rows_read};
 ghost use Rattle.party_views.specs.PartyRows.{rows_of};
 
-use crate::members::{naming, naming_by};
+use crate::members::{count_given_by, naming, naming_by};
 use crate::party_records::{
-    casts_of, casts_on, demands_of, ended_by, persons_of, presences_of, row_of, trusting,
+    casts_of, casts_on, demands_of, ended_by, persons_of, presences_of, row_of, shares_of, trusting,
     trusting_for,
 };
 use desk_words::{
@@ -45,8 +45,16 @@ impl RowSource for InLists<'_> {
         row_of(self.lists.register.as_slice(), member)
     }
 
+    fn shares_of(&mut self, member: Party) -> Result<u64, AllocError> {
+        Ok(shares_of(self.lists.register.as_slice(), member))
+    }
+
     fn given_by(&mut self, member: Party) -> Result<Listing<Appointment>, AllocError> {
         given_by(self.alloc, &self.lists.appointments, member)
+    }
+
+    fn count_given_by(&mut self, member: Party) -> Result<u64, AllocError> {
+        Ok(count_given_by(&self.lists.appointments, member))
     }
 
     fn naming(&mut self, party: Party) -> Result<Listing<Appointment>, AllocError> {

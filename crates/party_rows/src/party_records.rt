@@ -7,13 +7,13 @@ ghost use Rattle.party_views.specs.RowsRead.{cast_on};
 ghost use Rattle.party_views.specs.PartyRows.{presences_of};
 ghost use Rattle.proxy_rules.specs.Holdings.{is_ended_of};
 ghost use Rattle.proxy_rules.specs.Parties.{authorises, is_authority_of, is_cast_by, is_demanded_by};
-ghost use Rattle.proxy_rules.specs.Shares.{row_of};
+ghost use Rattle.proxy_rules.specs.Shares.{row_of, shares_by};
 
 use desk_words::limits::MOST_CASTS;
 use desk_words::{
     Authority, CastMark, DemandMark, Ending, Filed, Party, PresenceMark, RegisterRow,
 };
-use proxy_rules::find_row;
+use proxy_rules::{find_row, shares};
 use std::alloc::{AllocError, Global};
 
 /// A copy of a member's row.
@@ -24,6 +24,17 @@ pub(crate) fn row_of(rows: &[RegisterRow], party: Party) -> Result<Option<Regist
     match find_row(rows, party) {
         None => Ok(None),
         Some(row) => Ok(Some(row.clone()?)),
+    }
+}
+
+/// How many shares a member has.
+pub(crate) fn shares_of(rows: &[RegisterRow], member: Party) -> u64
+    requires { ascends_by member_before rows.now ≡ true }
+    ensures { result ≡ shares_by rows.now member }
+{
+    match find_row(rows, member) {
+        None => 0,
+        Some(row) => shares(row),
     }
 }
 

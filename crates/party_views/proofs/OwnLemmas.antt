@@ -20,11 +20,11 @@ use Rattle.proxy_rules.specs.Holdings.{is_given_by}
 use Rattle.proxy_rules.specs.Uses as uses
 use Rattle.proxy_rules.specs.declared.meeting_records.Cutoffs.{Cutoffs}
 use Rattle.proxy_rules.proofs.ProxyListLemmas.{reverse-filter}
-use Rattle.party_views.specs.OwnViews.{authorised_in_rows, governed_by, governed_in_holding, known_to_proxy, own_by, poll_governed, received_by, rows_by, session_governed}
+use Rattle.party_views.specs.OwnViews.{authorised_in_rows, governed_by, governed_in_holding, holds_as_individual, known_to_proxy, own_by, poll_governed, received_by, rows_by, session_governed}
 use Rattle.party_views.specs.SessionLists.{each_session}
 use Rattle.party_views.specs.declared.reads.Reads.{Reads}
-use Rattle.party_views.specs.declared.reads.Reads.TheVariants.{Vote, AsInstructed}
-use Rattle.party_views.specs.RowsRead.{appointments_read, authorised_read, authorities_read, cast_on, for_poll, members_read, own_part, own_read, polls_part, polls_on, polls_read, reads_of, received_read, rows_part, rows_read}
+use Rattle.party_views.specs.declared.reads.Reads.TheVariants.{Standing, Vote, AsInstructed}
+use Rattle.party_views.specs.RowsRead.{appointments_read, authorised_read, authorities_read, cast_on, for_poll, members_read, own_part, own_read, polls_part, polls_on, polls_read, reads_of, received_read, row_read, rows_part, rows_read}
 use Rattle.party_views.specs.declared.own_rows.AuthorityRows.{AuthorityRows}
 use Rattle.party_views.specs.declared.own_rows.MemberRows.{MemberRows}
 use Rattle.party_views.specs.declared.own_rows.OwnRows.{OwnRows}
@@ -128,6 +128,17 @@ authorised-read new Member authorised = refl
 authorised-read new Rep authorised = sym (filter-map (λ (a : Authorised). same_name a.corporation new.member) authorised_in_rows authorised)
 authorised-read new Proxy authorised = refl
 
+-- what is made of nothing, or of a list
+made-unless : {X Y : Type 0} (holds : Bool) (make : X → Y) (xs : List X) → map make (cond holds [] xs) ≡ cond holds [] (map make xs)
+made-unless true make xs = refl
+made-unless false make xs = refl
+
+-- what a demand reads of the appointments
+received-standing : (holds : Bool) (members : List MemberRows) (closed : List ℕ) (meeting : Meeting) (polls : List Poll) (now : ℕ) (received : List Appointment)
+    → map (received_by (cond holds [] members) closed meeting polls now) (cond holds [] received) ≡ cond holds [] (map (received_by members closed meeting polls now) received)
+received-standing true members closed meeting polls now received = refl
+received-standing false members closed meeting polls now received = refl
+
 -- the own things that are read, from the rows that are read
 own-kept : (reads : Reads) (all : OwnRows) (closed : List ℕ) (meeting : Meeting) (polls : List Poll) (now : ℕ)
     → own_by (rows_part reads all) closed meeting (polls_part reads polls) now ≡ own_part reads (own_by all closed meeting polls now)
@@ -136,8 +147,9 @@ own-kept (Vote new) all closed meeting polls now =
     let authorised = authorised-read new new.capacity all.authorised in
     λ i. record {
       party = all.party;
-      row = all.row;
+      row = row_read all.row new.capacity;
       given = [];
+      given_count = 0;
       persons = [];
       received = received i;
       authorised = authorised i;
@@ -145,6 +157,10 @@ own-kept (Vote new) all closed meeting polls now =
       demands = [];
       casts = cast_on new.resolution all.casts;
     }
+own-kept Standing all closed meeting polls now =
+    let received = received-standing (holds_as_individual all.row) all.members closed meeting polls now all.received in
+    let authorised = made-unless (holds_as_individual all.row) authorised_in_rows all.authorised in
+    λ i. record (own_part Standing (own_by all closed meeting polls now)) { received = received i; authorised = authorised i }
 own-kept (AsInstructed resolution) all closed meeting polls now =
     let received = all_for_poll all.members closed meeting polls now resolution all.received in
     λ i. record (own_part (AsInstructed resolution) (own_by all closed meeting polls now)) { received = received i }

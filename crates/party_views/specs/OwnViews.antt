@@ -1,5 +1,5 @@
 -- A party's own things, from its rows in a meeting and the public record of the meeting.
-use Rattle.std.specs.Prelude.{ℕ, ◌==◌, List, [], map, filter, find, reverse, Option, Some, None, option_map, if◌then◌else◌}
+use Rattle.std.specs.Prelude.{ℕ, Bool, false, ◌==◌, List, [], map, filter, find, reverse, Option, Some, None, option_map, if◌then◌else◌}
 use Rattle.std.specs.Option.{option_map_or}
 use Rattle.desk_words.specs.Names.{same_name}
 use Rattle.desk_words.specs.ViewTypes.{Day, Moment, Number, Party, SessionNumber}
@@ -19,6 +19,7 @@ use Rattle.vocabulary.specs.declared.kinds.HolderKind.TheVariants.{Individual, C
 use Rattle.proxy_rules.specs.Cutoffs.{cutoffs_of, is_late_poll}
 use Rattle.proxy_rules.specs.Governing.{governed_in}
 use Rattle.proxy_rules.specs.Holdings.{is_valid_holding}
+use Rattle.proxy_rules.specs.Shares.{is_individual}
 use Rattle.proxy_rules.specs.Uses.{Acts, Votes, Vote}
 use Rattle.proxy_rules.specs.declared.holdings.Holding.{Holding}
 use Rattle.proxy_rules.specs.declared.meeting_records.Cutoffs.{Cutoffs}
@@ -50,6 +51,11 @@ shares_of_kind Treasury shares = 0
 abbrev pub shares_in : Option RegisterRow → ℕ
 shares_in None = 0
 shares_in (Some row) = shares_of_kind row.kind row.shares
+
+-- shares are held as an individual
+abbrev pub holds_as_individual : Option RegisterRow → Bool
+holds_as_individual None = false
+holds_as_individual (Some row) = is_individual row.kind
 
 -- an authority's corporation, with its shares in the register (section 323)
 abbrev pub authorised_in_rows : AuthorityRows → Authorised
@@ -120,6 +126,7 @@ nothing_of party = record {
   party = party;
   row = None;
   given = [];
+  given_count = 0;
   persons = [];
   received = [];
   authorised = [];
@@ -135,6 +142,7 @@ own_by rows closed meeting polls now = record {
   party = rows.party;
   row = rows.row;
   given = map (given_in rows.ended) rows.given;
+  given_count = rows.given_count;
   persons = rows.persons;
   received = map (received_by rows.members closed meeting polls now) rows.received;
   authorised = map authorised_in_rows rows.authorised;

@@ -1,5 +1,5 @@
 -- The rows of a meeting from which a party's own things are made: look-ups and filters alone.
-use Rattle.std.specs.Prelude.{not, List, [], ◌∷◌, map, filter, Option, Some, None}
+use Rattle.std.specs.Prelude.{not, List, [], ◌∷◌, length, map, filter, Option, Some, None}
 use Rattle.desk_words.specs.Names.{same_name}
 use Rattle.desk_words.specs.ViewTypes.{Party, SessionNumber}
 use Rattle.desk_words.specs.declared.office.MeetingLists.{MeetingLists}
@@ -45,6 +45,7 @@ rows_of m party = record {
   party = party;
   row = row_of m.register party;
   given = filter (is_given_by party) m.appointments;
+  given_count = length (filter (is_given_by party) m.appointments);
   ended = filter (is_ended_of party) m.endings;
   persons = filter (is_authority_of party) m.authorities;
   received = filter (names party) m.appointments;
@@ -61,6 +62,7 @@ no_rows_of party = record {
   party = party;
   row = None;
   given = [];
+  given_count = 0;
   ended = [];
   persons = [];
   received = [];

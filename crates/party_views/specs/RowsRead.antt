@@ -1,23 +1,24 @@
 -- What of a party's own things the answer to its request reads.
-use Rattle.std.specs.Prelude.{List, [], map, filter, ◌==◌}
+use Rattle.std.specs.Prelude.{List, [], map, filter, Option, None, ◌==◌, if◌then◌else◌}
 use Rattle.desk_words.specs.Names.{same_name}
 use Rattle.desk_words.specs.ViewTypes.{Number}
 use Rattle.vocabulary.specs.declared.kinds.Capacity.{Capacity}
-use Rattle.vocabulary.specs.declared.kinds.Capacity.TheVariants.{Rep, Proxy}
+use Rattle.vocabulary.specs.declared.kinds.Capacity.TheVariants.{Member, Rep, Proxy}
 use Rattle.desk_words.specs.declared.own_things.Authorised.{Authorised}
 use Rattle.desk_words.specs.declared.own_things.PollGoverned.{PollGoverned}
 use Rattle.desk_words.specs.declared.own_things.Received.{Received}
 use Rattle.desk_words.specs.declared.records.Appointment.{Appointment}
 use Rattle.desk_words.specs.declared.records.CastMark.{CastMark}
 use Rattle.desk_words.specs.declared.records.Poll.{Poll}
+use Rattle.desk_words.specs.declared.records.RegisterRow.{RegisterRow}
 use Rattle.desk_words.specs.declared.request.NewCast.{NewCast}
 use Rattle.desk_words.specs.declared.request.PartyRequest.{PartyRequest}
 use Rattle.desk_words.specs.declared.request.PartyRequest.TheVariants.{Notice, Mine, Appoint, End, Authorise, Attend, Demand, Cast, Instructed}
 use Rattle.proxy_rules.specs.Holdings.{is_given_by}
-use Rattle.party_views.specs.OwnViews.{nothing_of}
+use Rattle.party_views.specs.OwnViews.{holds_as_individual, nothing_of}
 use Rattle.party_views.specs.PartyRows.{no_rows_of}
 use Rattle.party_views.specs.declared.reads.Reads.{Reads}
-use Rattle.party_views.specs.declared.reads.Reads.TheVariants.{Nothing, Everything, Given, Persons, Presence, Standing, Vote, AsInstructed}
+use Rattle.party_views.specs.declared.reads.Reads.TheVariants.{Nothing, Everything, Given, GivenCount, Persons, Presence, Standing, Vote, AsInstructed}
 use Rattle.party_views.specs.declared.own_rows.AuthorityRows.{AuthorityRows}
 use Rattle.party_views.specs.declared.own_rows.MemberRows.{MemberRows}
 use Rattle.party_views.specs.declared.own_rows.OwnRows.{OwnRows}
@@ -38,6 +39,16 @@ for_poll resolution r = record r {
   polls = filter (λ (p : PollGoverned). p.resolution == resolution) r.polls;
 }
 
+-- what others gave a party is read for its demand of a poll unless it holds as an individual, since
+-- a member may demand one (sections 321 and 329)
+abbrev pub unless_individual : {A : Type 0} → Option RegisterRow → List A → List A
+unless_individual row list = if holds_as_individual row then [] else list
+
+-- what a vote reads of the party's own row: as a member, the row
+abbrev pub row_read : Option RegisterRow → Capacity → Option RegisterRow
+row_read row Member = row
+row_read row other = None
+
 -- what a vote reads of the corporations that authorised the party: as a representative, that of the
 -- member
 abbrev pub authorised_read : NewCast → List Authorised → Capacity → List Authorised
@@ -56,7 +67,7 @@ received_read new received other = []
 abbrev pub reads_of : PartyRequest → Reads
 reads_of Notice = Nothing
 reads_of Mine = Everything
-reads_of (Appoint new) = Given
+reads_of (Appoint new) = GivenCount
 reads_of (End number) = Given
 reads_of (Authorise person) = Persons
 reads_of Attend = Presence
@@ -69,11 +80,18 @@ abbrev pub own_part : Reads → OwnView → OwnView
 own_part Nothing own = nothing_of own.party
 own_part Everything own = own
 own_part Given own = record (nothing_of own.party) { given = own.given }
+own_part GivenCount own = record (nothing_of own.party) { given_count = own.given_count }
 own_part Persons own = record (nothing_of own.party) { persons = own.persons }
 own_part Presence own = record (nothing_of own.party) { presences = own.presences }
-own_part Standing own = record own { given = []; persons = []; casts = [] }
-own_part (Vote new) own = record (nothing_of own.party) {
+own_part Standing own = record (nothing_of own.party) {
   row = own.row;
+  received = unless_individual own.row own.received;
+  authorised = unless_individual own.row own.authorised;
+  presences = own.presences;
+  demands = own.demands;
+}
+own_part (Vote new) own = record (nothing_of own.party) {
+  row = row_read own.row new.capacity;
   received = received_read new own.received new.capacity;
   authorised = authorised_read new own.authorised new.capacity;
   casts = cast_on new.resolution own.casts;
@@ -114,11 +132,19 @@ abbrev pub rows_part : Reads → OwnRows → OwnRows
 rows_part Nothing rows = no_rows_of rows.party
 rows_part Everything rows = rows
 rows_part Given rows = given_read rows
+rows_part GivenCount rows = record (no_rows_of rows.party) { given_count = rows.given_count }
 rows_part Persons rows = record (no_rows_of rows.party) { persons = rows.persons }
 rows_part Presence rows = record (no_rows_of rows.party) { presences = rows.presences }
-rows_part Standing rows = record rows { given = []; ended = []; persons = []; casts = [] }
-rows_part (Vote new) rows = record (no_rows_of rows.party) {
+rows_part Standing rows = record (no_rows_of rows.party) {
   row = rows.row;
+  received = unless_individual rows.row rows.received;
+  members = unless_individual rows.row rows.members;
+  authorised = unless_individual rows.row rows.authorised;
+  presences = rows.presences;
+  demands = rows.demands;
+}
+rows_part (Vote new) rows = record (no_rows_of rows.party) {
+  row = row_read rows.row new.capacity;
   received = appointments_read new rows.received new.capacity;
   members = members_read new rows.members new.capacity;
   authorised = authorities_read new rows.authorised new.capacity;

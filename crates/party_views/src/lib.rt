@@ -10,5 +10,5 @@ mod views;
 
 pub use own_rows::{AuthorityRows, MemberRows, OwnRows};
 pub use own_view::{own_for, own_from};
-pub use reads::{Reads, reads_of};
+pub use reads::{Reads, holds_as_individual, reads_of};
 pub use views::{OwnView, PublicRecord};

@@ -28,6 +28,8 @@ pub struct OwnRows {
     pub row: Option<RegisterRow>,
     /// The appointments that it gave (section 324).
     pub given: Listing<Appointment>,
+    /// How many they are.
+    pub given_count: u64,
     /// Its endings of them (section 330).
     pub ended: Listing<Ending>,
     /// The authorities that it gave (section 323).

@@ -81,6 +81,8 @@ pub struct OwnView {
     pub row: Option<RegisterRow>,
     /// The appointments that it gave (section 324), with their endings (section 330).
     pub given: Listing<Given>,
+    /// How many appointments it gave.
+    pub given_count: u64,
     /// The authorities that it gave (section 323).
     pub persons: Listing<Authority>,
     /// What it knows of the appointments that name it, with the places that each governs.

@@ -1,7 +1,12 @@
 -- One look-up after another.
-use Rattle.std.proofs.Common.{◌≡◌, Option, Result, Ok, Err, IsErrAnd, sym, subst}
+use Rattle.std.proofs.Common.{◌≡◌, Option, Result, Ok, Err, IsErrAnd, ap, sym, subst}
 use Rattle.desk_words.specs.declared.office.MeetingLists.{MeetingLists}
 use Rattle.row_source.specs.TrueLookUps.{IsTrueLookUp}
+
+-- an error that is handed on as it is
+pub handed_on : {X E : Type 0} (r : Result X E) (e : E) → IsErrAnd r (λ y. y ≡ e) → r ≡ Err e
+handed_on (Ok x) e none = absurd none
+handed_on (Err y) e same = ap Err same
 
 module _ {S E : Type 0} (trusted : S → Type 0) (shows : S → Option MeetingLists → Type 0) (keeps leaves : S → S → Type 0) (may_fail : E → Type 0) where
   -- what is made of what was told last

@@ -1,5 +1,5 @@
 -- A party's rows, from what was told of each list.
-use Rattle.std.proofs.Common.{◌≡◌, ◌+◌, ◌<◌, ℕ, List, [], ◌∷◌, ◌++◌, length, get_or, map, take, filter, Option, Some, None, sym, ap, ◌∙◌, refl}
+use Rattle.std.proofs.Common.{◌≡◌, ◌+◌, ◌<◌, ℕ, true, false, cond, List, [], ◌∷◌, ◌++◌, length, get_or, map, take, filter, Option, Some, None, sym, ap, ◌∙◌, refl}
 use Rattle.std.proofs.lemmas.List.{map-append, take_more}
 use Rattle.vocabulary.specs.Names.{same_name}
 use Rattle.vocabulary.specs.declared.kinds.Capacity.{Capacity}
@@ -7,8 +7,9 @@ use Rattle.vocabulary.specs.declared.kinds.Capacity.TheVariants as capacity
 use Rattle.desk_words.specs.ViewTypes.{Party}
 use Rattle.desk_words.specs.declared.office.MeetingLists.{MeetingLists}
 use Rattle.desk_words.specs.declared.request.NewCast.{NewCast}
-use Rattle.party_views.specs.RowsRead.{rows_part}
-use Rattle.party_views.specs.PartyRows.{authority_rows_in, no_rows_of, presences_of, rows_in}
+use Rattle.party_views.specs.OwnViews.{holds_as_individual}
+use Rattle.party_views.specs.RowsRead.{cast_on, rows_part}
+use Rattle.party_views.specs.PartyRows.{authority_rows_in, no_rows_of, presences_of, rows_in, rows_of}
 use Rattle.party_views.specs.declared.reads.Reads.TheVariants as reads
 use Rattle.party_views.specs.declared.own_rows.AuthorityRows.{AuthorityRows}
 use Rattle.party_views.specs.declared.own_rows.OwnRows.{OwnRows}
@@ -16,7 +17,7 @@ use Rattle.party_views.proofs.OwnLemmas.{filter-map}
 use Rattle.proxy_rules.specs.Holdings.{is_ended_of, is_given_by}
 use Rattle.proxy_rules.specs.Parties.{is_authority_of, is_demanded_by}
 use Rattle.proxy_rules.specs.Shares.{row_of}
-use Rattle.row_source.specs.LookUps.{appointments_in, authorities_in, authority_at, casts_by, demands_in, endings_in, for_member, naming_by_in, naming_in, presences_in, register_in, trusting_for_in, trusting_in, with_members}
+use Rattle.row_source.specs.LookUps.{acting_for, appointments_in, authorities_in, authority_at, casts_by, demands_in, endings_in, for_member, naming_by_in, naming_in, own_marks, presences_in, register_in, trusting_for_in, trusting_in, with_members}
 use Rattle.row_source.proofs.MemberLemmas.{members-read}
 
 -- one record more, each made into something
@@ -29,8 +30,12 @@ made_more make xs i x made after y h is so_far new put =
 
 -- the rows are what it may act by, and the rest
 pub rows_are : (found : Option MeetingLists) (party : Party)
-    → record (rows_in found party) {
+    → record (acting_for found party) {
+      row = (own_marks found party).row;
+      presences = (own_marks found party).presences;
+      demands = (own_marks found party).demands;
       given = filter (is_given_by party) (appointments_in found);
+      given_count = length (filter (is_given_by party) (appointments_in found));
       ended = filter (is_ended_of party) (endings_in found);
       persons = filter (is_authority_of party) (authorities_in found);
       casts = casts_by found party;
@@ -38,18 +43,33 @@ pub rows_are : (found : Option MeetingLists) (party : Party)
 rows_are None party = refl
 rows_are (Some m) party = refl
 
--- what it may act by is read of each list
-pub standing_are : (found : Option MeetingLists) (party : Party)
+-- one who holds as an individual may demand a poll, whatever others gave it
+pub standing_alone : (found : Option MeetingLists) (party : Party) → holds_as_individual (row_of (register_in found) party) ≡ true
     → record (no_rows_of party) {
-      row = row_of (register_in found) party;
-      received = naming_in found party;
-      members = (with_members found (naming_in found party)).members;
-      authorised = map (authority_at found) (trusting_in found party);
-      presences = presences_of party (presences_in found);
-      demands = filter (is_demanded_by party) (demands_in found);
+      row = (own_marks found party).row;
+      presences = (own_marks found party).presences;
+      demands = (own_marks found party).demands;
     } ≡ rows_part reads.Standing (rows_in found party)
-standing_are None party = refl
-standing_are (Some m) party = refl
+standing_alone None party individual = refl
+standing_alone (Some m) party individual = λ i. record (rows_part reads.Standing (rows_of m party)) {
+  received = cond (sym individual i) [] (naming_in (Some m) party);
+  members = cond (sym individual i) [] (acting_for (Some m) party).members;
+  authorised = cond (sym individual i) [] (acting_for (Some m) party).authorised;
+}
+
+-- of any other it is asked what others gave it
+pub standing_are : (found : Option MeetingLists) (party : Party) → holds_as_individual (row_of (register_in found) party) ≡ false
+    → record (acting_for found party) {
+      row = (own_marks found party).row;
+      presences = (own_marks found party).presences;
+      demands = (own_marks found party).demands;
+    } ≡ rows_part reads.Standing (rows_in found party)
+standing_are None party other = refl
+standing_are (Some m) party other = λ i. record (rows_part reads.Standing (rows_of m party)) {
+  received = cond (sym other i) [] (naming_in (Some m) party);
+  members = cond (sym other i) [] (acting_for (Some m) party).members;
+  authorised = cond (sym other i) [] (acting_for (Some m) party).authorised;
+}
 
 pub instructed_are : (found : Option MeetingLists) (party : Party) (resolution : ℕ)
     → record (no_rows_of party) {
@@ -67,6 +87,11 @@ pub given_are : (found : Option MeetingLists) (party : Party)
     } ≡ rows_part reads.Given (rows_in found party)
 given_are None party = refl
 given_are (Some m) party = refl
+
+pub count_is : (found : Option MeetingLists) (party : Party)
+    → record (no_rows_of party) { given_count = length (filter (is_given_by party) (appointments_in found)) } ≡ rows_part reads.GivenCount (rows_in found party)
+count_is None party = refl
+count_is (Some m) party = refl
 
 pub persons_are : (found : Option MeetingLists) (party : Party)
     → record (no_rows_of party) { persons = filter (is_authority_of party) (authorities_in found) } ≡ rows_part reads.Persons (rows_in found party)
@@ -99,29 +124,32 @@ member_is found party new is = go found ∙ vote_kept found party new capacity.M
     go (Some m) = refl
 
 pub rep_is : (found : Option MeetingLists) (party : Party) (new : NewCast) → new.capacity ≡ capacity.Rep
-    → record (for_member found party new.resolution) { authorised = map (authority_at found) (trusting_for_in found new.member party) } ≡ rows_part (reads.Vote new) (rows_in found party)
+    → record (no_rows_of party) { authorised = map (authority_at found) (trusting_for_in found new.member party); casts = cast_on new.resolution (casts_by found party) } ≡ rows_part (reads.Vote new) (rows_in found party)
 rep_is found party new is = go found ∙ vote_kept found party new capacity.Rep is
   where
-    go : (found : Option MeetingLists) → record (for_member found party new.resolution) { authorised = map (authority_at found) (trusting_for_in found new.member party) } ≡ read_as found party new capacity.Rep
+    go : (found : Option MeetingLists) → record (no_rows_of party) { authorised = map (authority_at found) (trusting_for_in found new.member party); casts = cast_on new.resolution (casts_by found party) } ≡ read_as found party new capacity.Rep
     go None = refl
     go (Some m) =
         let those = filter-map (λ (rows : AuthorityRows). same_name rows.authority.corporation new.member) (authority_rows_in m) (trusting_in (Some m) party) in
-        λ i. record (for_member (Some m) party new.resolution) { authorised = sym those i }
+        λ i. record (no_rows_of party) { authorised = sym those i; casts = cast_on new.resolution (casts_by (Some m) party) }
 
 pub proxy_is : (found : Option MeetingLists) (party : Party) (new : NewCast) → new.capacity ≡ capacity.Proxy
-    → record (for_member found party new.resolution) {
+    → record (no_rows_of party) {
       received = naming_by_in found new.member party;
       members = (with_members found (naming_by_in found new.member party)).members;
+      casts = cast_on new.resolution (casts_by found party);
     } ≡ rows_part (reads.Vote new) (rows_in found party)
 proxy_is found party new is = go found ∙ vote_kept found party new capacity.Proxy is
   where
     go : (found : Option MeetingLists)
-        → record (for_member found party new.resolution) {
+        → record (no_rows_of party) {
           received = naming_by_in found new.member party;
           members = (with_members found (naming_by_in found new.member party)).members;
+          casts = cast_on new.resolution (casts_by found party);
         } ≡ read_as found party new capacity.Proxy
     go None = refl
-    go (Some m) = λ i. record (for_member (Some m) party new.resolution) {
+    go (Some m) = λ i. record (no_rows_of party) {
       received = naming_by_in (Some m) new.member party;
       members = members-read m new capacity.Proxy (naming_in (Some m) party) i;
+      casts = cast_on new.resolution (casts_by (Some m) party);
     }

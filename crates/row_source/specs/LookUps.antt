@@ -11,14 +11,15 @@ use Rattle.desk_words.specs.declared.records.Ending.{Ending}
 use Rattle.desk_words.specs.declared.records.PresenceMark.{PresenceMark}
 use Rattle.desk_words.specs.declared.records.RegisterRow.{RegisterRow}
 use Rattle.proxy_rules.specs.Holdings.{holding_of, is_given_by}
-use Rattle.proxy_rules.specs.Parties.{authorises, is_authority_of, is_cast_by, names}
+use Rattle.proxy_rules.specs.Parties.{authorises, is_authority_of, is_cast_by, is_demanded_by, names}
 use Rattle.proxy_rules.specs.Shares.{row_of}
 use Rattle.party_views.specs.RowsRead.{cast_on}
-use Rattle.party_views.specs.PartyRows.{givers, no_rows_of}
+use Rattle.party_views.specs.PartyRows.{givers, no_rows_of, presences_of}
 use Rattle.party_views.specs.declared.own_rows.AuthorityRows.{AuthorityRows}
 use Rattle.party_views.specs.declared.own_rows.MemberRows.{MemberRows}
 use Rattle.party_views.specs.declared.own_rows.OwnRows.{OwnRows}
 use Rattle.row_source.specs.declared.members.ReceivedRows.{ReceivedRows}
+use Rattle.row_source.specs.declared.needed_rows.OwnMarks.{OwnMarks}
 
 -- a list of a meeting that is found
 abbrev pub list_in : {A : Type 0} → (MeetingLists → List A) → Option MeetingLists → List A
@@ -101,7 +102,24 @@ with_members found received = record {
 abbrev pub authority_at : Option MeetingLists → Authority → AuthorityRows
 authority_at found a = record { authority = a; row = row_of (register_in found) a.corporation }
 
--- what a vote reads in each capacity: the party's own row, and its votes on that resolution
+-- what others gave a party to act by: the appointments that name it, with the members who gave
+-- them, and the authorities (sections 323 and 324)
+abbrev pub acting_for : Option MeetingLists → Party → OwnRows
+acting_for found party = record (no_rows_of party) {
+  received = naming_in found party;
+  members = (with_members found (naming_in found party)).members;
+  authorised = map (authority_at found) (trusting_in found party);
+}
+
+-- a party's own row, its presence and its demands (sections 113, 318 and 321)
+abbrev pub own_marks : Option MeetingLists → Party → OwnMarks
+own_marks found party = record {
+  row = row_of (register_in found) party;
+  presences = presences_of party (presences_in found);
+  demands = filter (is_demanded_by party) (demands_in found);
+}
+
+-- what a vote as a member reads: the party's own row, and its votes on that resolution
 abbrev pub for_member : Option MeetingLists → Party → Number → OwnRows
 for_member found party resolution = record (no_rows_of party) {
   row = row_of (register_in found) party;

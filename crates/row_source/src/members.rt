@@ -1,16 +1,14 @@
 //! The members who named a party, and the corporations that authorised it.
 ghost use Rattle.std.specs.Prelude.{◌≡◌, IfOk, map};
-ghost use Rattle.std.specs.Option.{option_map_or};
 ghost use Rattle.party_views.specs.PartyRows.{givers};
-ghost use Rattle.proxy_rules.specs.Shares.{shares_of};
 ghost use Rattle.row_source.specs.LookUps.{authority_at, member_at, received_from, trusting_from};
 ghost use Rattle.row_source.specs.LookUps.{with_members};
 ghost use Rattle.row_source.specs.TrueLookUps.{IsTrueLookUp};
 
 use crate::source::RowSource;
-use desk_words::{Appointment, Authority, Listing, Party, RegisterRow};
+use desk_words::{Appointment, Authority, Listing, Party};
 use party_views::{AuthorityRows, MemberRows};
-use proxy_rules::{Holding, shares};
+use proxy_rules::Holding;
 use std::alloc::{AllocError, Global};
 use std::collections::BTreeSet;
 
@@ -22,29 +20,18 @@ pub(crate) struct ReceivedRows {
     pub(crate) members: Listing<MemberRows>,
 }
 
-/// How many shares a member of this row has. Treasury shares are none, and neither has one without
-/// a row.
-fn shares_by(row: &Option<RegisterRow>) -> u64
-    ensures { result ≡ option_map_or shares_of row.now 0 }
-{
-    match row {
-        Some(row) => shares(row),
-        None => 0,
-    }
-}
-
 /// A member, with its shares, its appointments and its endings.
 fn member_rows<R: RowSource>(source: &mut R, member: Party) -> Result<MemberRows, R::Error>
     ensures { IsTrueLookUp R.trusted R.shows R.keeps R.leaves R.may_fail source.old source.new result
         (λ found rows. rows ≡ member_at found member) }
 {
-    let row = source.row_of(member)?;
+    let shares = source.shares_of(member)?;
     let appointed = source.given_by(member)?;
     let ended = source.ended_by(member)?;
     Ok(MemberRows {
         member,
         holding: Holding {
-            shares: shares_by(&row),
+            shares,
             appointed,
             ended,
         },

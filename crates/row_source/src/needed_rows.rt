@@ -1,16 +1,17 @@
 //! Those of a party's rows in a meeting that the answer to its request reads.
 ghost use Rattle.std.specs.Prelude.{◌≡◌, map};
+ghost use Rattle.party_views.specs.RowsRead.{cast_on};
 ghost use Rattle.party_views.specs.RowsRead.{rows_part};
 ghost use Rattle.party_views.specs.PartyRows.{no_rows_of, rows_in};
 ghost use Rattle.party_views.specs.declared.reads.Reads.TheVariants as reads;
-ghost use Rattle.row_source.specs.LookUps.{authority_at, for_member, naming_by_in, trusting_for_in};
+ghost use Rattle.row_source.specs.LookUps.{acting_for, authority_at, casts_by, for_member, naming_by_in, own_marks, trusting_for_in};
 ghost use Rattle.row_source.specs.LookUps.{with_members};
 ghost use Rattle.row_source.specs.TrueLookUps.{IsTrueLookUp};
 
 use crate::members::{authorised, named};
 use crate::source::RowSource;
-use desk_words::{Capacity, Listing, NewCast, Party};
-use party_views::{OwnRows, Reads};
+use desk_words::{Capacity, DemandMark, Listing, NewCast, Party, RegisterRow};
+use party_views::{OwnRows, Reads, holds_as_individual};
 use std::alloc::Global;
 
 /// The rows of a party where there is no meeting.
@@ -21,6 +22,7 @@ pub fn no_rows_of(alloc: Global, party: Party) -> OwnRows
         party,
         row: None,
         given: Listing::new(alloc),
+        given_count: 0,
         ended: Listing::new(alloc),
         persons: Listing::new(alloc),
         received: Listing::new(alloc),
@@ -32,7 +34,49 @@ pub fn no_rows_of(alloc: Global, party: Party) -> OwnRows
     }
 }
 
-/// What a party may act by at a meeting, and the polls that it demanded.
+/// A party's own row, its presence and its demands.
+#[derive(Drop)]
+struct OwnMarks {
+    row: Option<RegisterRow>,
+    presences: Listing<u64>,
+    demands: Listing<DemandMark>,
+}
+
+/// What others gave a party to act by.
+fn acting_for<R: RowSource>(
+    source: &mut R,
+    alloc: Global,
+    party: Party,
+) -> Result<OwnRows, R::Error>
+    ensures { IsTrueLookUp R.trusted R.shows R.keeps R.leaves R.may_fail source.old source.new result
+        (λ found rows. rows ≡ acting_for found party) }
+{
+    let named = named(source, alloc, None, party)?;
+    let authorised = authorised(source, alloc, None, party)?;
+    Ok(OwnRows {
+        received: named.received,
+        members: named.members,
+        authorised,
+        ..no_rows_of(alloc, party)
+    })
+}
+
+/// A party's own row, its presence and its demands.
+fn own_marks<R: RowSource>(source: &mut R, party: Party) -> Result<OwnMarks, R::Error>
+    ensures { IsTrueLookUp R.trusted R.shows R.keeps R.leaves R.may_fail source.old source.new result
+        (λ found own. own ≡ own_marks found party) }
+{
+    let row = source.row_of(party)?;
+    let presences = source.presences_of(party)?;
+    let demands = source.demands_of(party)?;
+    Ok(OwnMarks {
+        row,
+        presences,
+        demands,
+    })
+}
+
+/// What a demand of a poll reads.
 fn standing_of<R: RowSource>(
     source: &mut R,
     alloc: Global,
@@ -41,19 +85,25 @@ fn standing_of<R: RowSource>(
     ensures { IsTrueLookUp R.trusted R.shows R.keeps R.leaves R.may_fail source.old source.new result
         (λ found rows. rows ≡ rows_part reads.Standing (rows_in found party)) }
 {
-    let named = named(source, alloc, None, party)?;
-    let row = source.row_of(party)?;
-    let authorised = authorised(source, alloc, None, party)?;
-    let presences = source.presences_of(party)?;
-    let demands = source.demands_of(party)?;
-    Ok(OwnRows {
+    let OwnMarks {
         row,
-        received: named.received,
-        members: named.members,
-        authorised,
         presences,
         demands,
-        ..no_rows_of(alloc, party)
+    } = own_marks(source, party)?;
+    if holds_as_individual(&row) {
+        return Ok(OwnRows {
+            row,
+            presences,
+            demands,
+            ..no_rows_of(alloc, party)
+        });
+    }
+    let acting = acting_for(source, alloc, party)?;
+    Ok(OwnRows {
+        row,
+        presences,
+        demands,
+        ..acting
     })
 }
 
@@ -66,13 +116,22 @@ fn rows_of<R: RowSource>(source: &mut R, alloc: Global, party: Party) -> Result<
     let ended = source.ended_by(party)?;
     let persons = source.persons_of(party)?;
     let casts = source.casts_of(party)?;
-    let standing = standing_of(source, alloc, party)?;
+    let acting = acting_for(source, alloc, party)?;
+    let OwnMarks {
+        row,
+        presences,
+        demands,
+    } = own_marks(source, party)?;
     Ok(OwnRows {
+        row,
+        given_count: given.len() as u64,
         given,
         ended,
         persons,
+        presences,
+        demands,
         casts,
-        ..standing
+        ..acting
     })
 }
 
@@ -90,6 +149,22 @@ fn given_alone<R: RowSource>(
     Ok(OwnRows {
         given,
         ended,
+        ..no_rows_of(alloc, party)
+    })
+}
+
+/// How many appointments a party gave, alone.
+fn count_alone<R: RowSource>(
+    source: &mut R,
+    alloc: Global,
+    party: Party,
+) -> Result<OwnRows, R::Error>
+    ensures { IsTrueLookUp R.trusted R.shows R.keeps R.leaves R.may_fail source.old source.new result
+        (λ found rows. rows ≡ rows_part reads.GivenCount (rows_in found party)) }
+{
+    let given_count = source.count_given_by(party)?;
+    Ok(OwnRows {
+        given_count,
         ..no_rows_of(alloc, party)
     })
 }
@@ -159,7 +234,7 @@ fn for_instructed<R: RowSource>(
     })
 }
 
-/// What a vote reads in each capacity: the party's own row, and its votes on that resolution.
+/// What a vote as a member reads: the party's own row, and its votes on that resolution.
 fn for_member<R: RowSource>(
     source: &mut R,
     alloc: Global,
@@ -178,7 +253,8 @@ fn for_member<R: RowSource>(
     })
 }
 
-/// What a vote as a representative reads: besides, the authority that the corporation gave.
+/// What a vote as a representative reads: the authority that the corporation gave, and the party's
+/// votes on that resolution.
 fn for_rep<R: RowSource>(
     source: &mut R,
     alloc: Global,
@@ -186,17 +262,22 @@ fn for_rep<R: RowSource>(
     new: &NewCast,
 ) -> Result<OwnRows, R::Error>
     ensures { IsTrueLookUp R.trusted R.shows R.keeps R.leaves R.may_fail source.old source.new result
-        (λ found rows. rows ≡ record (for_member found party new.now.resolution) {
+        (λ found rows. rows ≡ record (no_rows_of party) {
           authorised = map (authority_at found) (trusting_for_in found new.now.member party);
+          casts = cast_on new.now.resolution (casts_by found party);
         }) }
 {
     let authorised = authorised(source, alloc, Some(new.member), party)?;
-    let rows = for_member(source, alloc, party, new.resolution)?;
-    Ok(OwnRows { authorised, ..rows })
+    let casts = source.casts_on(party, new.resolution)?;
+    Ok(OwnRows {
+        authorised,
+        casts,
+        ..no_rows_of(alloc, party)
+    })
 }
 
-/// What a vote as a proxy reads: besides, the member's appointments that name the party, and the
-/// member who gave them.
+/// What a vote as a proxy reads: the member's appointments that name the party, the member who gave
+/// them, and the party's votes on that resolution.
 fn for_proxy<R: RowSource>(
     source: &mut R,
     alloc: Global,
@@ -204,22 +285,24 @@ fn for_proxy<R: RowSource>(
     new: &NewCast,
 ) -> Result<OwnRows, R::Error>
     ensures { IsTrueLookUp R.trusted R.shows R.keeps R.leaves R.may_fail source.old source.new result
-        (λ found rows. rows ≡ record (for_member found party new.now.resolution) {
+        (λ found rows. rows ≡ record (no_rows_of party) {
           received = naming_by_in found new.now.member party;
           members = (with_members found (naming_by_in found new.now.member party)).members;
+          casts = cast_on new.now.resolution (casts_by found party);
         }) }
 {
     let named = named(source, alloc, Some(new.member), party)?;
-    let rows = for_member(source, alloc, party, new.resolution)?;
+    let casts = source.casts_on(party, new.resolution)?;
     Ok(OwnRows {
         received: named.received,
         members: named.members,
-        ..rows
+        casts,
+        ..no_rows_of(alloc, party)
     })
 }
 
 /// What a vote reads. As a proxy or a representative it reads of others the member alone for whom
-/// it is cast.
+/// it is cast, and not the party's own row.
 fn for_vote<R: RowSource>(
     source: &mut R,
     alloc: Global,
@@ -252,6 +335,7 @@ pub fn rows_for<R: RowSource>(
         Reads::Nothing => none_of_them(source, alloc, party),
         Reads::Everything => rows_of(source, alloc, party),
         Reads::Given => given_alone(source, alloc, party),
+        Reads::GivenCount => count_alone(source, alloc, party),
         Reads::Persons => persons_alone(source, alloc, party),
         Reads::Presence => presence_alone(source, alloc, party),
         Reads::Standing => standing_of(source, alloc, party),

@@ -1,11 +1,11 @@
 //! Look-ups of a meeting's records.
-ghost use Rattle.std.specs.Prelude.{◌≡◌, Option, alloc_error, filter};
+ghost use Rattle.std.specs.Prelude.{◌≡◌, Option, alloc_error, filter, length};
 ghost use Rattle.party_views.specs.RowsRead.{cast_on};
 ghost use Rattle.party_views.specs.PartyRows.{presences_of};
 ghost use Rattle.desk_words.specs.declared.office.MeetingLists.{MeetingLists};
 ghost use Rattle.proxy_rules.specs.Holdings.{is_ended_of, is_given_by};
 ghost use Rattle.proxy_rules.specs.Parties.{is_authority_of, is_demanded_by};
-ghost use Rattle.proxy_rules.specs.Shares.{row_of};
+ghost use Rattle.proxy_rules.specs.Shares.{row_of, shares_by};
 ghost use Rattle.row_source.specs.LookUps.{appointments_in, authorities_in, casts_by, demands_in};
 ghost use Rattle.row_source.specs.LookUps.{endings_in, naming_by_in, naming_in, presences_in, register_in};
 ghost use Rattle.row_source.specs.LookUps.{trusting_for_in, trusting_in};
@@ -41,10 +41,21 @@ pub trait RowSource {
         ensures { IsTrueLookUp trusted shows keeps leaves may_fail self.old self.new result
             (λ found row. row ≡ row_of (register_in found) member) };
 
+    /// How many shares a member has. Treasury shares are none (section 726), and neither has one
+    /// without a row.
+    fn shares_of(&mut self, member: Party) -> Result<u64, Self::Error>
+        ensures { IsTrueLookUp trusted shows keeps leaves may_fail self.old self.new result
+            (λ found shares. shares ≡ shares_by (register_in found) member) };
+
     /// The appointments that a member gave (section 324).
     fn given_by(&mut self, member: Party) -> Result<Listing<Appointment>, Self::Error>
         ensures { IsTrueLookUp trusted shows keeps leaves may_fail self.old self.new result
             (λ found given. given ≡ filter (is_given_by member) (appointments_in found)) };
+
+    /// How many appointments a member gave.
+    fn count_given_by(&mut self, member: Party) -> Result<u64, Self::Error>
+        ensures { IsTrueLookUp trusted shows keeps leaves may_fail self.old self.new result
+            (λ found count. count ≡ length (filter (is_given_by member) (appointments_in found))) };
 
     /// The appointments that name a party as their proxy (section 324).
     fn naming(&mut self, party: Party) -> Result<Listing<Appointment>, Self::Error>

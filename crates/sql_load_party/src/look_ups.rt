@@ -1,10 +1,11 @@
 //! The records of a party in a meeting, each looked up by the names that its row has.
-ghost use Rattle.std.specs.Prelude.{◌≡◌, MatchResult, filter, map};
+ghost use Rattle.std.specs.Prelude.{◌≡◌, MatchResult, filter, length, map};
+ghost use Rattle.std.specs.Option.{option_map_or};
 ghost use Rattle.desk_words.specs.declared.records.PresenceMark.{PresenceMark};
 ghost use Rattle.sql_assemble.specs.declared.fault.LoadError.TheVariants.{Memory};
 ghost use Rattle.proxy_rules.specs.Holdings.{is_ended_of, is_given_by};
 ghost use Rattle.proxy_rules.specs.Parties.{authorises, is_authority_of, is_cast_by, is_demanded_by, is_presence_of, names};
-ghost use Rattle.proxy_rules.specs.Shares.{row_of};
+ghost use Rattle.proxy_rules.specs.Shares.{row_of, shares_by, shares_of};
 ghost use Rattle.party_views.specs.RowsRead.{cast_on};
 ghost use Rattle.party_views.specs.PartyRows.{presences_of};
 ghost use Rattle.party_views.specs.Views.{meeting_at};
@@ -16,6 +17,7 @@ use desk_words::{
     Appointment, Authority, CastMark, DemandMark, Ending, Listing, MeetingId, Party, PresenceMark,
     RegisterRow,
 };
+use proxy_rules::shares;
 use sql_assemble::LoadError;
 use sql_load_public::query_records::{first, items, records_found};
 use sql_queries::{appointments, authorities, casts, demands, endings, presences, register};
@@ -40,6 +42,31 @@ pub(crate) fn row_of<S: Alter>(
     Ok(first(rows))
 }
 
+/// How many shares a member of this row has.
+fn shares_in(row: Option<RegisterRow>) -> u64
+    ensures { result ≡ option_map_or shares_of row 0 }
+{
+    match row {
+        Some(row) => shares(&row),
+        None => 0,
+    }
+}
+
+/// How many shares a member has.
+pub(crate) fn shares_of<S: Alter>(
+    tx: &mut Transaction<'_, S>,
+    alloc: Global,
+    meeting: MeetingId,
+    member: Party,
+) -> Result<u64, LoadError>
+    ensures same_reference { tx.new.conn.ghost_name ≡ tx.old.conn.ghost_name }
+    ensures holds { HoldsOfStoredOffice S.Store tx.old.conn.now tx.new.conn.now result
+        (λ office shares. shares ≡ shares_by (register_in (meeting_at office meeting)) member) }
+{
+    let row = row_of(tx, alloc, meeting, member)?;
+    Ok(shares_in(row))
+}
+
 /// The appointments that a member gave (section 324), in order of receipt.
 pub(crate) fn given_by<S: Alter>(
     tx: &mut Transaction<'_, S>,
@@ -56,6 +83,22 @@ pub(crate) fn given_by<S: Alter>(
         alloc,
         records_found(alloc, appointments::given_by(tx, meeting, member)),
     )
+}
+
+/// How many appointments a member gave, which are few.
+pub(crate) fn count_given_by<S: Alter>(
+    tx: &mut Transaction<'_, S>,
+    alloc: Global,
+    meeting: MeetingId,
+    member: Party,
+) -> Result<u64, LoadError>
+    ensures same_reference { tx.new.conn.ghost_name ≡ tx.old.conn.ghost_name }
+    ensures holds { HoldsOfStoredOffice S.Store tx.old.conn.now tx.new.conn.now result
+        (λ office count. count
+        ≡ length (filter (is_given_by member) (appointments_in (meeting_at office meeting)))) }
+{
+    let given = given_by(tx, alloc, meeting, member)?;
+    Ok(given.len() as u64)
 }
 
 /// The appointments that name a party as their proxy (section 324), in order of receipt.

@@ -11,8 +11,8 @@ ghost use Rattle.sql_load_public.specs.TableLookUps.{HoldsOfStoredOffice, IsLook
 ghost use Rattle.sql_load_party.specs.LookUpLaws as laws;
 
 use crate::look_ups::{
-    casts_of, casts_on, demands_of, ended_by, given_by, naming, naming_by, persons_of,
-    presences_of, row_of, trusting, trusting_for,
+    casts_of, casts_on, count_given_by, demands_of, ended_by, given_by, naming, naming_by, persons_of,
+    presences_of, row_of, shares_of, trusting, trusting_for,
 };
 use desk_words::{
     Appointment, Authority, CastMark, DemandMark, Ending, Listing, MeetingId, Party, PartyRequest,
@@ -53,8 +53,16 @@ impl<S: Alter> RowSource for InTables<'_, '_, S> {
         row_of(self.tx, self.alloc, self.meeting, member)
     }
 
+    fn shares_of(&mut self, member: Party) -> Result<u64, LoadError> {
+        shares_of(self.tx, self.alloc, self.meeting, member)
+    }
+
     fn given_by(&mut self, member: Party) -> Result<Listing<Appointment>, LoadError> {
         given_by(self.tx, self.alloc, self.meeting, member)
+    }
+
+    fn count_given_by(&mut self, member: Party) -> Result<u64, LoadError> {
+        count_given_by(self.tx, self.alloc, self.meeting, member)
     }
 
     fn naming(&mut self, party: Party) -> Result<Listing<Appointment>, LoadError> {

@@ -1,8 +1,4 @@
-use Rattle.std.proofs.Common.{◌≡◌, Err, rules, ap, ◌∙◌}
-use Rattle.std.specs.Prelude.{Option}
-use Rattle.std.specs.Option.{option_map_or}
-use Rattle.desk_words.specs.declared.records.RegisterRow.{RegisterRow}
-use Rattle.proxy_rules.specs.Shares.{shares_of}
+use Rattle.std.proofs.Common.{◌≡◌, Err, rules}
 use Rattle.row_source.proofs.SourceLookUpLemmas.{holds_after, holds_both, holds_so}
 use Rattle.row_source.proofs.members.member_rows.Goals as goal
 
@@ -10,18 +6,18 @@ pub returns-in_err-appointed : goal.returns-in_err-appointed
 returns-in_err-appointed g c =
     let w = g.met.R.RowSource in
     let is : c.from_residual-in_err-appointed.result ≡ Err c.in_err-appointed.field-0.0 = search rules in
-    holds_after _ _ _ _ _ w.still_shows w.was_trusted w.keeps_then w.leaves_then _ _ _ c.in_ok-row.row c.in_err-appointed.field-0.0 _ _ _ _ is
-    c.in_ok-row.ensures c.in_err-appointed.ensures
+    holds_after _ _ _ _ _ w.still_shows w.was_trusted w.keeps_then w.leaves_then _ _ _ c.in_ok-shares.shares c.in_err-appointed.field-0.0 _ _ _ _ is
+    c.in_ok-shares.ensures c.in_err-appointed.ensures
 
 pub returns-in_err-ended : goal.returns-in_err-ended
 returns-in_err-ended g c =
     let w = g.met.R.RowSource in
     let is : c.from_residual-in_err-ended.result ≡ Err c.in_err-ended.field-0.0 = search rules in
     holds_after _ _ _ _ _ w.still_shows w.was_trusted w.keeps_then w.leaves_then _ _ _ c.in_ok-appointed.appointed c.in_err-ended.field-0.0 _ _ _ _ is
-    (holds_both _ _ _ _ _ w.still_shows w.was_trusted w.keeps_then w.leaves_then _ _ _ c.in_ok-row.row c.in_ok-appointed.appointed _ _ c.in_ok-row.ensures c.in_ok-appointed.ensures) c.in_err-ended.ensures
+    (holds_both _ _ _ _ _ w.still_shows w.was_trusted w.keeps_then w.leaves_then _ _ _ c.in_ok-shares.shares c.in_ok-appointed.appointed _ _ c.in_ok-shares.ensures c.in_ok-appointed.ensures) c.in_err-ended.ensures
 
 pub returns : goal.returns
 returns g c =
     let w = g.met.R.RowSource in
-    holds_so _ _ _ _ _ _ _ c.in_ok-ended.ended _ _ _ (holds_both _ _ _ _ _ w.still_shows w.was_trusted w.keeps_then w.leaves_then _ _ _ c.in_ok-appointed.appointed c.in_ok-ended.ended _ _ (holds_both _ _ _ _ _ w.still_shows w.was_trusted w.keeps_then w.leaves_then _ _ _ c.in_ok-row.row c.in_ok-appointed.appointed _ _ c.in_ok-row.ensures c.in_ok-appointed.ensures) c.in_ok-ended.ensures)
-    (λ found p. let shares = c.shares_by.ensures ∙ ap (λ (r : Option RegisterRow). option_map_or shares_of r 0) p.0.0 in λ i. record { member = c.args.member; holding = record { shares = shares i; appointed = p.0.1 i; ended = p.1 i } })
+    holds_so _ _ _ _ _ _ _ c.in_ok-ended.ended _ _ _ (holds_both _ _ _ _ _ w.still_shows w.was_trusted w.keeps_then w.leaves_then _ _ _ c.in_ok-appointed.appointed c.in_ok-ended.ended _ _ (holds_both _ _ _ _ _ w.still_shows w.was_trusted w.keeps_then w.leaves_then _ _ _ c.in_ok-shares.shares c.in_ok-appointed.appointed _ _ c.in_ok-shares.ensures c.in_ok-appointed.ensures) c.in_ok-ended.ensures)
+    (λ found p i. record { member = c.args.member; holding = record { shares = p.0.0 i; appointed = p.0.1 i; ended = p.1 i } })

@@ -1,38 +1,29 @@
-use Rattle.std.proofs.Common.{◌≡◌, Err, rules, ◌∙◌}
-use Rattle.row_source.proofs.SourceRowLemmas.{standing_are}
-use Rattle.row_source.proofs.SourceLookUpLemmas.{holds_after, holds_both, holds_so}
+use Rattle.std.proofs.Common.{◌≡◌, Bool, Err, ap, sym, ◌∙◌}
+use Rattle.party_views.specs.OwnViews.{holds_as_individual}
+use Rattle.row_source.specs.declared.needed_rows.OwnMarks.{OwnMarks}
+use Rattle.row_source.proofs.SourceRowLemmas.{standing_alone, standing_are}
+use Rattle.row_source.proofs.SourceLookUpLemmas.{handed_on, holds_after, holds_both, holds_so}
 use Rattle.row_source.proofs.needed_rows.standing_of.Goals as goal
 
-pub returns-in_err-row : goal.returns-in_err-row
-returns-in_err-row g c =
-    let w = g.met.R.RowSource in
-    let is : c.from_residual-in_err-row.result ≡ Err c.in_err-row.field-0.0 = search rules in
-    holds_after _ _ _ _ _ w.still_shows w.was_trusted w.keeps_then w.leaves_then _ _ _ c.in_ok-named.named c.in_err-row.field-0.0 _ _ _ _ is
-    c.in_ok-named.ensures c.in_err-row.ensures
+abbrev individual : OwnMarks → Bool
+individual own = holds_as_individual own.row
 
-pub returns-in_err-authorised : goal.returns-in_err-authorised
-returns-in_err-authorised g c =
-    let w = g.met.R.RowSource in
-    let is : c.from_residual-in_err-authorised.result ≡ Err c.in_err-authorised.field-0.0 = search rules in
-    holds_after _ _ _ _ _ w.still_shows w.was_trusted w.keeps_then w.leaves_then _ _ _ c.in_ok-row.row c.in_err-authorised.field-0.0 _ _ _ _ is
-    (holds_both _ _ _ _ _ w.still_shows w.was_trusted w.keeps_then w.leaves_then _ _ _ c.in_ok-named.named c.in_ok-row.row _ _ c.in_ok-named.ensures c.in_ok-row.ensures) c.in_err-authorised.ensures
+pub returns-then-holds_as_individual : goal.returns-then-holds_as_individual
+returns-then-holds_as_individual g c =
+    holds_so _ _ _ _ _ _ _ c.in_ok-row.field-0 _ _ _ c.in_ok-row.ensures
+    (λ found p. (λ i. record (c.no_rows_of.ensures i) { row = (p i).row; presences = (p i).presences; demands = (p i).demands })
+    ∙ standing_alone found c.args.party (sym (ap individual p) ∙ sym c.holds_as_individual.ensures ∙ c.if-holds_as_individual.true))
 
-pub returns-in_err-presences : goal.returns-in_err-presences
-returns-in_err-presences g c =
+pub returns-in_err-acting : goal.returns-in_err-acting
+returns-in_err-acting g c =
     let w = g.met.R.RowSource in
-    let is : c.from_residual-in_err-presences.result ≡ Err c.in_err-presences.field-0.0 = search rules in
-    holds_after _ _ _ _ _ w.still_shows w.was_trusted w.keeps_then w.leaves_then _ _ _ c.in_ok-authorised.authorised c.in_err-presences.field-0.0 _ _ _ _ is
-    (holds_both _ _ _ _ _ w.still_shows w.was_trusted w.keeps_then w.leaves_then _ _ _ c.in_ok-row.row c.in_ok-authorised.authorised _ _ (holds_both _ _ _ _ _ w.still_shows w.was_trusted w.keeps_then w.leaves_then _ _ _ c.in_ok-named.named c.in_ok-row.row _ _ c.in_ok-named.ensures c.in_ok-row.ensures) c.in_ok-authorised.ensures) c.in_err-presences.ensures
-
-pub returns-in_err-demands : goal.returns-in_err-demands
-returns-in_err-demands g c =
-    let w = g.met.R.RowSource in
-    let is : c.from_residual-in_err-demands.result ≡ Err c.in_err-demands.field-0.0 = search rules in
-    holds_after _ _ _ _ _ w.still_shows w.was_trusted w.keeps_then w.leaves_then _ _ _ c.in_ok-presences.presences c.in_err-demands.field-0.0 _ _ _ _ is
-    (holds_both _ _ _ _ _ w.still_shows w.was_trusted w.keeps_then w.leaves_then _ _ _ c.in_ok-authorised.authorised c.in_ok-presences.presences _ _ (holds_both _ _ _ _ _ w.still_shows w.was_trusted w.keeps_then w.leaves_then _ _ _ c.in_ok-row.row c.in_ok-authorised.authorised _ _ (holds_both _ _ _ _ _ w.still_shows w.was_trusted w.keeps_then w.leaves_then _ _ _ c.in_ok-named.named c.in_ok-row.row _ _ c.in_ok-named.ensures c.in_ok-row.ensures) c.in_ok-authorised.ensures) c.in_ok-presences.ensures) c.in_err-demands.ensures
+    let is : c.from_residual-in_err-acting.result ≡ Err c.in_err-acting.field-0.0 = handed_on c.from_residual-in_err-acting.result c.in_err-acting.field-0.0 c.from_residual-in_err-acting.ensures.1 in
+    holds_after _ _ _ _ _ w.still_shows w.was_trusted w.keeps_then w.leaves_then _ _ _ c.in_ok-row.field-0 c.in_err-acting.field-0.0 _ _ _ _ is
+    c.in_ok-row.ensures c.in_err-acting.ensures
 
 pub returns : goal.returns
 returns g c =
     let w = g.met.R.RowSource in
-    holds_so _ _ _ _ _ _ _ c.in_ok-demands.demands _ _ _ (holds_both _ _ _ _ _ w.still_shows w.was_trusted w.keeps_then w.leaves_then _ _ _ c.in_ok-presences.presences c.in_ok-demands.demands _ _ (holds_both _ _ _ _ _ w.still_shows w.was_trusted w.keeps_then w.leaves_then _ _ _ c.in_ok-authorised.authorised c.in_ok-presences.presences _ _ (holds_both _ _ _ _ _ w.still_shows w.was_trusted w.keeps_then w.leaves_then _ _ _ c.in_ok-row.row c.in_ok-authorised.authorised _ _ (holds_both _ _ _ _ _ w.still_shows w.was_trusted w.keeps_then w.leaves_then _ _ _ c.in_ok-named.named c.in_ok-row.row _ _ c.in_ok-named.ensures c.in_ok-row.ensures) c.in_ok-authorised.ensures) c.in_ok-presences.ensures) c.in_ok-demands.ensures)
-    (λ found p. (λ i. record (c.no_rows_of.ensures i) { row = p.0.0.0.1 i; received = (p.0.0.0.0 i).received; members = (p.0.0.0.0 i).members; authorised = p.0.0.1 i; presences = p.0.1 i; demands = p.1 i }) ∙ standing_are found c.args.party)
+    holds_so _ _ _ _ _ _ _ c.in_ok-acting.acting _ _ _ (holds_both _ _ _ _ _ w.still_shows w.was_trusted w.keeps_then w.leaves_then _ _ _ c.in_ok-row.field-0 c.in_ok-acting.acting _ _ c.in_ok-row.ensures c.in_ok-acting.ensures)
+    (λ found p. (λ i. record (p.1 i) { row = (p.0 i).row; presences = (p.0 i).presences; demands = (p.0 i).demands })
+    ∙ standing_are found c.args.party (sym (ap individual p.0) ∙ sym c.holds_as_individual.ensures ∙ c.if-holds_as_individual.false))
