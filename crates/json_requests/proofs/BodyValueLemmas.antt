@@ -1,18 +1,16 @@
 -- What is found in a tree of `json` is what `serde_json` finds in its data.
-use Rattle.std.proofs.Common.{◌≡◌, ℕ, zero, suc, List, [], ◌∷◌, Bool, true, false, cond, Option, Some, None, option_map, option_and_then, Vec, Bor, Global, bytes_eq, true≢false, refl, sym, ap, ap₂, ◌∙◌, subst}
+use Rattle.std.proofs.Common.{◌≡◌, ℕ, zero, suc, List, [], ◌∷◌, Bool, true, false, cond, Option, Some, None, option_map, option_and_then, Vec, Bor, Global, refl, sym, ap, ap₂, ◌∙◌}
 use Rattle.std.specs.Prelude.{◌&&◌, is_some}
-use Rattle.std.proofs.lemmas.Slice.Eq.{bytes_eq-Decides}
 use Rattle.json.specs.Find as tree
 use Rattle.json.specs.Json as json
 use Rattle.json.specs.Value.{value_view}
 use Rattle.json.specs.Value as value
-use Rattle.json.specs.declared.value.Value.{Value, Array, Object}
-use Rattle.json.proofs.Trees.{view-Array, view-Object}
+use Rattle.json.specs.declared.value.Value.{Value, Array}
+use Rattle.json.proofs.Trees.{view-Array}
 use Rattle.serde_json.specs.Data.{Num, Data, number, array, object, Items, item, Members, no_members, put}
-use Rattle.serde_json.specs.Find.{as_array, as_bool, as_number, as_object, as_str, at, get, get_item, get_member}
-use Rattle.serde_json.specs.Read.{number_of, of_items, of_json, of_members, read}
-use Rattle.serde_json.proofs.Views.{get_member-put, get_member-put_other}
-use Rattle.json_requests.specs.BodyValues.{data_of, fits, items_data, items_fit, items_view, members_data, members_fit, members_view, number_or_null, tree_of, view}
+use Rattle.serde_json.specs.Find.{as_array, as_bool, as_number, as_str, at, get_item}
+use Rattle.serde_json.specs.Read.{number_of, of_items, of_json, of_members}
+use Rattle.json_requests.specs.BodyValues.{data_of, fits, items_data, items_fit, items_view, members_data, members_fit, number_or_null, view}
 
 -- ---- numbers that are not too large
 
@@ -52,19 +50,11 @@ mutual
       ap₂ (λ (ds : Option Items) (d : Option Data). option_and_then (λ x. option_map (item x) ds) d) (of_items-fit js) (of_json-fits j)
       ∙ both_items (fits j) (items_fit js) (data_of j) (items_data js)
 
-  of_members-fit : (ms : json.Members) (found : Members) → of_members ms found ≡ cond (members_fit ms) (Some (members_data ms found)) None
+  pub of_members-fit : (ms : json.Members) (found : Members) → of_members ms found ≡ cond (members_fit ms) (Some (members_data ms found)) None
   of_members-fit json.no_members found = refl
   of_members-fit (json.member k j ms) found =
       ap (option_and_then (λ d. of_members ms (put k d found))) (of_json-fits j)
       ∙ both_members (fits j) (members_fit ms) (data_of j) (λ d. of_members ms (put k d found)) (members_data ms (put k (data_of j) found)) (of_members-fit ms (put k (data_of j) found))
-
--- a text is the data of its tree, where no number is too large
-pub read_fits : (text : List ℕ) (j : json.Json) → tree_of text ≡ Some j → read text ≡ cond (fits j) (Some (data_of j)) None
-read_fits text j e = ap (option_and_then of_json) e ∙ of_json-fits j
-
--- what is no tree is no data
-pub read_no_tree : (text : List ℕ) → tree_of text ≡ None → read text ≡ None
-read_no_tree text e = ap (option_and_then of_json) e
 
 -- ---- what a value is
 
@@ -83,14 +73,6 @@ the_number (Some n) = refl
 no_array : (o : Option Num) → as_array (number_or_null o) ≡ None
 no_array None = refl
 no_array (Some n) = refl
-
-no_object : (o : Option Num) → as_object (number_or_null o) ≡ None
-no_object None = refl
-no_object (Some n) = refl
-
-no_field : (k : List ℕ) (o : Option Num) → get k (number_or_null o) ≡ None
-no_field k None = refl
-no_field k (Some n) = refl
 
 no_place : (i : ℕ) (o : Option Num) → at i (number_or_null o) ≡ None
 no_place i None = refl
@@ -128,23 +110,12 @@ array_seen (json.string s) = refl
 array_seen (json.array js) = refl
 array_seen (json.object ms) = refl
 
-pub object_seen : (j : json.Json) → as_object (data_of j) ≡ option_map (λ ms. members_data ms no_members) (tree.as_object j)
-object_seen json.null = refl
-object_seen (json.boolean b) = refl
-object_seen (json.number s) = no_object (number_of s)
-object_seen (json.string s) = refl
-object_seen (json.array js) = refl
-object_seen (json.object ms) = refl
-
 pub items_data-view : (vs : List (Value Global)) → items_data (value.items_view vs) ≡ items_view vs
 items_data-view [] = refl
 items_data-view (v ∷ vs) = ap (item (view v)) (items_data-view vs)
 
 pub view_array : (v : Vec (Value Global) Global) → view (Array v) ≡ array (items_view v.items)
 view_array v = ap data_of (view-Array v) ∙ ap array (items_data-view v.items)
-
-pub view_object : (v : Vec (Bor (List ℕ) × Value Global) Global) → view (Object v) ≡ object (members_view v.items)
-view_object v = ap data_of (view-Object v)
 
 -- ---- what stands at a place
 
@@ -161,47 +132,11 @@ at-seen i (json.string s) = refl
 at-seen i (json.array js) = item-seen i js
 at-seen i (json.object ms) = refl
 
--- the later of two
-abbrev later : Option Data → Option Data → Option Data
-later None earlier = earlier
-later (Some d) earlier = Some d
-
-later-None : (o : Option Data) → o ≡ later o None
-later-None None = refl
-later-None (Some d) = refl
-
-put_first : (k l : List ℕ) (j : json.Json) (found : Members) (b : Bool) → bytes_eq l k ≡ b
-    → get_member k (put l (data_of j) found) ≡ later (option_map data_of (cond b (Some j) None)) (get_member k found)
-put_first k l j found true e = let same : l ≡ k = (bytes_eq-Decides l k).0 e in subst (λ x. get_member x (put l (data_of j) found) ≡ Some (data_of j)) same (get_member-put l (data_of j) found)
-put_first k l j found false e = get_member-put_other k l (data_of j) found (λ h. true≢false (sym ((bytes_eq-Decides l k).1 (sym h)) ∙ e))
-
-put_then : (k l : List ℕ) (j : json.Json) (found : Members) (o : Option json.Json)
-    → later (option_map data_of o) (get_member k (put l (data_of j) found)) ≡ later (option_map data_of (tree.later_or o (cond (bytes_eq l k) (Some j) None))) (get_member k found)
-put_then k l j found (Some x) = refl
-put_then k l j found None = put_first k l j found (bytes_eq l k) refl
-
-member-seen : (k : List ℕ) (ms : json.Members) (found : Members) → get_member k (members_data ms found) ≡ later (option_map data_of (tree.get_member k ms)) (get_member k found)
-member-seen k json.no_members found = refl
-member-seen k (json.member l j ms) found = member-seen k ms (put l (data_of j) found) ∙ put_then k l j found (tree.get_member k ms)
-
--- of the members of a name the last counts
-pub get-seen : (k : List ℕ) (j : json.Json) → get k (data_of j) ≡ option_map data_of (tree.get k j)
-get-seen k json.null = refl
-get-seen k (json.boolean b) = refl
-get-seen k (json.number s) = no_field k (number_of s)
-get-seen k (json.string s) = refl
-get-seen k (json.array js) = refl
-get-seen k (json.object ms) = member-seen k ms no_members ∙ sym (later-None _)
-
 -- ---- as contracts see it
 
 map-data : (r : Option (Bor (Value Global))) → option_map (λ (v : Bor (Value Global)). view v.now) r ≡ option_map data_of (option_map (λ (v : Bor (Value Global)). value_view v.now) r)
 map-data None = refl
 map-data (Some v) = refl
-
-pub field_seen : (k : List ℕ) (j : json.Json) (r : Option (Bor (Value Global))) → option_map (λ (v : Bor (Value Global)). value_view v.now) r ≡ tree.get k j
-    → option_map (λ (v : Bor (Value Global)). view v.now) r ≡ get k (data_of j)
-field_seen k j r e = map-data r ∙ ap (option_map data_of) e ∙ sym (get-seen k j)
 
 pub place_seen : (i : ℕ) (j : json.Json) (r : Option (Bor (Value Global))) → option_map (λ (v : Bor (Value Global)). value_view v.now) r ≡ tree.at i j
     → option_map (λ (v : Bor (Value Global)). view v.now) r ≡ at i (data_of j)

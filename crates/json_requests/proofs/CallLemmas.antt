@@ -1,12 +1,11 @@
 -- The meeting that is called has the name that was given.
 use Rattle.std.proofs.Common.{◌≡◌, ℕ, List, Option, Some, None, refl, subst}
-use Rattle.serde_json.specs.Data.{Data}
 use Rattle.calendar.specs.DateTexts.{day_of, moment_of}
 use Rattle.vocabulary.specs.Kinds.{company_of, meeting_kind_of}
 use Rattle.desk_words.specs.declared.request.NewMeeting.{NewMeeting}
 use Rattle.json_requests.specs.CallBodies.{call_body, resolutions_in}
-use Rattle.json_requests.specs.JsonFields.{has_fields, parsed_at}
-use Rattle.vocabulary.specs.OptionSteps.{guard, ◌>>=◌}
+use Rattle.json_requests.specs.JsonFields.{Fields, parsed_at}
+use Rattle.vocabulary.specs.OptionSteps.{◌>>=◌}
 
 -- a fact holds for what is read
 pub record Keeps {A : Type 0} (kept : A → Type 0) (read : Option A) : Type 0 where
@@ -21,14 +20,13 @@ keeps_next kept (Some x) next later = later x
 keeps_next kept None next later = record { some = λ y e. cc }
 
 -- the meeting that is called has the name
-pub call_keeps : (meeting : List ℕ) (d : Data) → Keeps (λ (new : NewMeeting). Some meeting ≡ Some new.meeting) (call_body meeting d)
+pub call_keeps : (meeting : List ℕ) (fields : Fields) → Keeps (λ (new : NewMeeting). Some meeting ≡ Some new.meeting) (call_body meeting fields)
 unfolding call_body
-call_keeps meeting d =
+call_keeps meeting fields =
     let kept : NewMeeting → Type 0 = λ new. Some meeting ≡ Some new.meeting in
-    keeps_next kept (guard (has_fields 6 d)) _ (λ exactly.
     keeps_next kept (parsed_at company_of _) _ (λ company.
     keeps_next kept (parsed_at meeting_kind_of _) _ (λ kind.
     keeps_next kept (parsed_at day_of _) _ (λ given.
     keeps_next kept (parsed_at moment_of _) _ (λ appointed.
     keeps_next kept (parsed_at moment_of _) _ (λ record_moment.
-    keeps_next kept (resolutions_in _) _ (λ resolutions. keeps_some kept _ refl)))))))
+    keeps_next kept (resolutions_in _) _ (λ resolutions. keeps_some kept _ refl))))))

@@ -1,7 +1,6 @@
 -- The laws of requests.
 use Rattle.std.proofs.Common.{◌≡◌, ℕ, List, Option, Some, None, Ok, Err, refl, ap, ◌∙◌, ◌⊎◌, inl, inr}
 use Rattle.std.specs.Prelude.{option_map}
-use Rattle.serde_json.specs.Data.{Data}
 use Rattle.vocabulary.specs.ResultSteps.{◌>>=◌}
 use Rattle.vocabulary.specs.declared.refusal.Refusal.{Refusal}
 use Rattle.vocabulary.specs.declared.refusal.Refusal.TheVariants as refusal
@@ -13,12 +12,13 @@ use Rattle.desk_words.specs.declared.request.Request.TheVariants as request
 use Rattle.json_requests.specs.declared.route.Route.{Route}
 use Rattle.json_requests.specs.declared.route.Route.TheVariants as route
 use Rattle.json_requests.specs.RefusalResults.{or_unreadable}
-use Rattle.json_requests.specs.Bodies.{body_of, read_by}
+use Rattle.json_requests.specs.Bodies.{body_of, fields_from, read_by}
 use Rattle.json_requests.specs.CallBodies.{call_body}
 use Rattle.json_requests.specs.DayBodies.{closed_body}
 use Rattle.json_requests.specs.KeyBodies.{keys_body}
+use Rattle.json_requests.specs.JsonFields.{Fields}
 use Rattle.json_requests.specs.RouteLaws.{meeting_asked}
-use Rattle.json_requests.specs.Requests.{asked_in, asked_on_route, request_of, routed}
+use Rattle.json_requests.specs.Requests.{asked_in, asked_on_route, request_of, route_fields, routed}
 use Rattle.json_requests.specs.Routes.{route_of}
 use Rattle.json_requests.specs.Verbs.{office_way, party_way}
 use Rattle.json_requests.specs.declared.verb.PartyVerb.TheVariants as party
@@ -57,16 +57,16 @@ of_made : {A : Type 0} (meeting : Option (List ℕ)) (made : A → Request) (rea
 of_made meeting made None same wanted e = cc
 of_made meeting made (Some x) same wanted e = let is : made x ≡ wanted = cc in same x refl ∙ ap meeting_asked is
 
-of_value : (way : Route) (d : Data) (wanted : Request) → asked_in way d ≡ Some wanted → meeting_on way ≡ meeting_asked wanted
-of_value (route.Call m) d wanted e = of_made (Some m) (λ new. request.Desk (desk.CallMeeting new)) (call_body m d) (call_keeps m d).some wanted e
-of_value route.Closed d wanted e = of_made None (λ days. request.Desk (desk.ClosedDays days)) (closed_body d) (λ days is. refl) wanted e
-of_value route.Keys d wanted e = of_made None (λ rows. request.Desk (desk.Keys rows)) (keys_body d) (λ rows is. refl) wanted e
-of_value (route.Office m verb) d wanted e = of_made (Some m) (λ what. request.Office m what) ((office_way verb).1 d) (λ what is. refl) wanted e
-of_value (route.Party m verb) d wanted e = of_made (Some m) (λ what. request.Party m what) ((party_way verb).1 d) (λ what is. refl) wanted e
+of_value : (way : Route) (fields : Fields) (wanted : Request) → asked_in way fields ≡ Some wanted → meeting_on way ≡ meeting_asked wanted
+of_value (route.Call m) fields wanted e = of_made (Some m) (λ new. request.Desk (desk.CallMeeting new)) (call_body m fields) (call_keeps m fields).some wanted e
+of_value route.Closed fields wanted e = of_made None (λ days. request.Desk (desk.ClosedDays days)) (closed_body fields) (λ days is. refl) wanted e
+of_value route.Keys fields wanted e = of_made None (λ rows. request.Desk (desk.Keys rows)) (keys_body fields) (λ rows is. refl) wanted e
+of_value (route.Office m verb) fields wanted e = of_made (Some m) (λ what. request.Office m what) ((office_way verb).1 fields) (λ what is. refl) wanted e
+of_value (route.Party m verb) fields wanted e = of_made (Some m) (λ what. request.Party m what) ((party_way verb).1 fields) (λ what is. refl) wanted e
 
-of_body : (way : Route) (body : List ℕ) → Keeps (λ wanted. meeting_on way ≡ meeting_asked wanted) (read_by (asked_in way) body)
+of_body : (way : Route) (body : List ℕ) → Keeps (λ wanted. meeting_on way ≡ meeting_asked wanted) (read_by (route_fields way) (asked_in way) body)
 unfolding read_by
-of_body way body = keeps_next (λ wanted. meeting_on way ≡ meeting_asked wanted) (body_of body) (asked_in way) (λ d. record { some = of_value way d })
+of_body way body = keeps_next (λ wanted. meeting_on way ≡ meeting_asked wanted) (fields_from (route_fields way) (body_of body)) (asked_in way) (λ fields. record { some = of_value way fields })
 
 of_route : (way : Route) (body : List ℕ) (wanted : Request) → asked_on_route way body ≡ Some wanted → meeting_on way ≡ meeting_asked wanted
 of_route (route.Party m party.Notice) body wanted e = let is : request.Party m Notice ≡ wanted = cc in ap meeting_asked is

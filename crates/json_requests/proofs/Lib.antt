@@ -7,4 +7,5 @@ mod JsonLawLemmas
 mod JsonReadUpTo
 mod NumberLemmas
 mod RouteLemmas
+mod TextFieldLemmas
 mod VerbLemmas

@@ -4,6 +4,7 @@ use Rattle.std.specs.Str.{is_utf8}
 use Rattle.serde_json.specs.Data.{Data}
 use Rattle.serde_json.specs.Read.{read}
 use Rattle.vocabulary.specs.OptionSteps.{◌>>=◌}
+use Rattle.json_requests.specs.JsonFields.{Fields, fields_in}
 
 -- an empty body stands for an object with no fields
 abbrev pub or_empty_object : List ℕ → List ℕ
@@ -17,6 +18,10 @@ value_of bytes = if is_utf8 bytes then read bytes else None
 unfoldable pub body_of : List ℕ → Option Data
 body_of body = value_of (or_empty_object body)
 
--- what a body says, by the reading of its value
-unfoldable pub read_by : {A : Type 0} → (Data → Option A) → List ℕ → Option A
-read_by reading body = body_of body >>= reading
+-- what stands at each of the names in the object that a value is, which has no other field
+abbrev pub fields_from : List (List ℕ) → Option Data → Option Fields
+fields_from names value = value >>= fields_in names
+
+-- what a body says, by the reading of what stands at the names
+unfoldable pub read_by : {A : Type 0} → List (List ℕ) → (Fields → Option A) → List ℕ → Option A
+read_by names reading body = fields_from names (body_of body) >>= reading

@@ -1,19 +1,12 @@
 -- The data that a tree of `json` stands for, as `serde_json` reads it.
-use Rattle.std.specs.Prelude.{ℕ, List, map, Bool, true, ◌&&◌, Option, Some, None, is_some, option_and_then}
-use Rattle.std.specs.Borrow.{Bor}
+use Rattle.std.specs.Prelude.{List, map, Bool, true, ◌&&◌, Option, Some, None, is_some}
 use Rattle.std.specs.declared.alloc.Global.{Global}
-use Rattle.json.specs.Lex.{tokens}
 use Rattle.json.specs.Json as json
 use Rattle.json.specs.Value as tree
 use Rattle.json.specs.declared.value.Value.{Value}
 use Rattle.serde_json.specs.Data.{Num, Data, null, boolean, number, string, array, object, Items, no_items, item, Members, no_members, put}
-use Rattle.serde_json.specs.Read.{max_depth, number_of}
+use Rattle.serde_json.specs.Read.{number_of}
 use Rattle.serde_json.specs.View.{items_of}
-
--- the tree that a text is
-abbrev pub tree_of : List ℕ → Option json.Json
-tree_of text =
-    option_and_then (λ p. json.if_last p.0 p.1) (json.value max_depth (tokens text))
 
 -- a number; one that is too large for a float stands for none, as null does
 abbrev pub number_or_null : Option Num → Data
@@ -63,7 +56,3 @@ view v = data_of (tree.value_view v)
 -- values, as the items of an array
 abbrev pub items_view : List (Value Global) → Items
 items_view vs = items_of (map view vs)
-
--- names and values, as the members of an object
-abbrev pub members_view : List (Bor (List ℕ) × Value Global) → Members
-members_view ms = members_data (tree.members_view ms) no_members

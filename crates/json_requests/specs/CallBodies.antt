@@ -1,7 +1,7 @@
 -- The calling of a meeting.
-use Rattle.std.specs.Prelude.{List, Option, Some, None, codes, if◌then◌else◌}
+use Rattle.std.specs.Prelude.{ℕ, List, [], ◌∷◌, Option, Some, None, codes, if◌then◌else◌}
 use Rattle.serde_json.specs.Data.{Data}
-use Rattle.serde_json.specs.Find.{get, at}
+use Rattle.serde_json.specs.Find.{at}
 use Rattle.calendar.specs.DateTexts.{day_of, moment_of}
 use Rattle.vocabulary.specs.Kinds.{company_of, meeting_kind_of, resolution_kind_of}
 use Rattle.desk_words.specs.SortedLists.{are_resolutions}
@@ -10,7 +10,7 @@ use Rattle.desk_words.specs.ViewTypes.{MeetingName}
 use Rattle.desk_words.specs.declared.request.NewMeeting.{NewMeeting}
 use Rattle.vocabulary.specs.OptionSteps.{guard, ◌>>=◌}
 use Rattle.vocabulary.specs.PlainTexts.{text_of}
-use Rattle.json_requests.specs.JsonFields.{has_fields, has_items, items_in, parsed_at, all_items}
+use Rattle.json_requests.specs.JsonFields.{Fields, field, has_items, items_in, parsed_at, all_items}
 
 -- a resolution is a pair of its kind and its text
 unfoldable pub resolution_at : Data → Option Resolution
@@ -31,16 +31,21 @@ resolutions_in place = do
   resolutions ← all_items resolution_at items
   checked_resolutions resolutions
 
--- the meeting of a name that a value calls (section 307): six fields, each of its form
-unfoldable pub call_body : MeetingName → Data → Option NewMeeting
-call_body meeting d = do
-  exactly ← guard (has_fields 6 d)
-  company ← parsed_at company_of (get (codes "company") d)
-  kind ← parsed_at meeting_kind_of (get (codes "kind") d)
-  given ← parsed_at day_of (get (codes "given") d)
-  appointed ← parsed_at moment_of (get (codes "appointed") d)
-  record_moment ← parsed_at moment_of (get (codes "record") d)
-  resolutions ← resolutions_in (get (codes "resolutions") d)
+-- the fields of the calling of a meeting
+abbrev pub call_fields : List (List ℕ)
+call_fields =
+    codes "company" ∷ codes "kind" ∷ codes "given" ∷ codes "appointed" ∷ codes "record"
+    ∷ codes "resolutions" ∷ []
+
+-- the meeting of a name that six fields call (section 307), each of its form
+unfoldable pub call_body : MeetingName → Fields → Option NewMeeting
+call_body meeting fields = do
+  company ← parsed_at company_of (field 0 fields)
+  kind ← parsed_at meeting_kind_of (field 1 fields)
+  given ← parsed_at day_of (field 2 fields)
+  appointed ← parsed_at moment_of (field 3 fields)
+  record_moment ← parsed_at moment_of (field 4 fields)
+  resolutions ← resolutions_in (field 5 fields)
   Some (record {
     meeting = meeting;
     company = company;

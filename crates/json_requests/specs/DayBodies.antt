@@ -1,12 +1,11 @@
 -- The loading of closed days.
-use Rattle.std.specs.Prelude.{List, Option, Some, codes}
+use Rattle.std.specs.Prelude.{ℕ, List, [], ◌∷◌, Option, Some, codes}
 use Rattle.serde_json.specs.Data.{Data}
-use Rattle.serde_json.specs.Find.{get}
 use Rattle.calendar.specs.DateTexts.{day_of}
 use Rattle.desk_words.specs.SortedLists.{day_list_of}
 use Rattle.desk_words.specs.ViewTypes.{Day}
-use Rattle.vocabulary.specs.OptionSteps.{guard, ◌>>=◌}
-use Rattle.json_requests.specs.JsonFields.{has_fields, items_in, parsed_at, all_items}
+use Rattle.vocabulary.specs.OptionSteps.{◌>>=◌}
+use Rattle.json_requests.specs.JsonFields.{Fields, field, items_in, parsed_at, all_items}
 
 -- a value is a day
 unfoldable pub day_at : Data → Option Day
@@ -19,8 +18,10 @@ days_body place = do
   days ← all_items day_at items
   day_list_of days
 
--- the closed days that a value loads (section 1173): one field alone
-unfoldable pub closed_body : Data → Option (List Day)
-closed_body d = do
-  exactly ← guard (has_fields 1 d)
-  days_body (get (codes "days") d)
+-- the fields of the loading of closed days
+abbrev pub closed_fields : List (List ℕ)
+closed_fields = codes "days" ∷ []
+
+-- the closed days that one field loads (section 1173)
+unfoldable pub closed_body : Fields → Option (List Day)
+closed_body fields = days_body (field 0 fields)

@@ -1,12 +1,13 @@
 -- What stands at a place in a JSON value: at a name in an object, or at an index in an array.
-use Rattle.std.specs.Prelude.{ℕ, Bool, false, ◌==◌, List, [], ◌∷◌, Option, Some, option_map, option_and_then}
+use Rattle.std.specs.Prelude.{ℕ, Bool, true, false, ◌==◌, ◌&&◌, List, [], ◌∷◌, map, get_or, Option, Some, None, option_map, option_and_then, bytes_eq, if◌then◌else◌}
 use Rattle.std.specs.Borrow.{Bor}
+use Rattle.std.specs.List.{list_any}
 use Rattle.std.specs.Option.{option_map_or}
 use Rattle.std.specs.declared.alloc.Global.{Global}
 use Rattle.json.specs.declared.value.Value.{Value}
-use Rattle.serde_json.specs.Data.{Data, Items, no_items, item}
-use Rattle.serde_json.specs.Find.{as_number, as_u64, as_bool, as_str, as_object, as_array}
-use Rattle.serde_json.specs.Events.{members_len, items_len}
+use Rattle.serde_json.specs.Data.{Data, Items, no_items, item, Members, no_members, member}
+use Rattle.serde_json.specs.Find.{as_number, as_u64, as_bool, as_str, as_object, as_array, get_member}
+use Rattle.serde_json.specs.Events.{items_len}
 use Rattle.vocabulary.specs.OptionSteps.{◌>>=◌}
 use Rattle.json_requests.specs.BodyValues.{view}
 
@@ -14,9 +15,35 @@ use Rattle.json_requests.specs.BodyValues.{view}
 abbrev pub json_at : Option (Bor (Value Global)) → Option Data
 json_at place = option_map (λ (value : Bor (Value Global)). view value.now) place
 
--- whether a value is an object of so many fields
-abbrev pub has_fields : ℕ → Data → Bool
-has_fields count d = option_map_or (λ members. members_len members == count) (as_object d) false
+-- what stands at each of the names that are asked for, if anything does
+abbrev pub Fields : Type 0
+Fields = List (Option Data)
+
+-- a name is asked for
+abbrev pub is_asked : List (List ℕ) → List ℕ → Bool
+is_asked names key = list_any (λ name. bytes_eq name key) names
+
+-- no member has a name that is not asked for
+abbrev pub all_asked : List (List ℕ) → Members → Bool
+all_asked names no_members = true
+all_asked names (member key d ms) = is_asked names key && all_asked names ms
+
+-- what stands at each of the names among members, which have no other name
+abbrev pub fields_among : List (List ℕ) → Members → Option Fields
+fields_among names ms =
+    if all_asked names ms then Some (map (λ name. get_member name ms) names) else None
+
+-- what stands at each of the names in an object, which has no other field
+unfoldable pub fields_in : List (List ℕ) → Data → Option Fields
+fields_in names d = as_object d >>= fields_among names
+
+-- what stands at the name in that place
+abbrev pub field : ℕ → Fields → Option Data
+field place fields = get_or fields place None
+
+-- values that may be missing, as fields
+abbrev pub fields_view : List (Option (Value Global)) → Fields
+fields_view vs = map (option_map view) vs
 
 -- whether a value is an array of so many items
 abbrev pub has_items : ℕ → Data → Bool

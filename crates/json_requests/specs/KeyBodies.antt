@@ -1,13 +1,13 @@
 -- The loading of keys.
-use Rattle.std.specs.Prelude.{List, Option, Some, codes}
+use Rattle.std.specs.Prelude.{ℕ, List, [], ◌∷◌, Option, Some, codes}
 use Rattle.serde_json.specs.Data.{Data}
-use Rattle.serde_json.specs.Find.{get, at}
+use Rattle.serde_json.specs.Find.{at}
 use Rattle.vocabulary.specs.Names.{key_of}
 use Rattle.desk_words.specs.Callers.{caller_of}
 use Rattle.desk_words.specs.SortedLists.{key_list_of}
 use Rattle.desk_words.specs.declared.caller.KeyRow.{KeyRow}
 use Rattle.vocabulary.specs.OptionSteps.{guard, ◌>>=◌}
-use Rattle.json_requests.specs.JsonFields.{has_fields, has_items, items_in, parsed_at, all_items}
+use Rattle.json_requests.specs.JsonFields.{Fields, field, has_items, items_in, parsed_at, all_items}
 
 -- a row is a pair of a caller and its key
 unfoldable pub key_row_of : Data → Option KeyRow
@@ -24,8 +24,10 @@ key_rows_in place = do
   rows ← all_items key_row_of items
   key_list_of rows
 
--- the keys that a value loads: one field alone
-unfoldable pub keys_body : Data → Option (List KeyRow)
-keys_body d = do
-  exactly ← guard (has_fields 1 d)
-  key_rows_in (get (codes "rows") d)
+-- the fields of the loading of keys
+abbrev pub keys_fields : List (List ℕ)
+keys_fields = codes "rows" ∷ []
+
+-- the keys that one field loads
+unfoldable pub keys_body : Fields → Option (List KeyRow)
+keys_body fields = key_rows_in (field 0 fields)

@@ -5,6 +5,7 @@ pub mod CallBodies
 pub mod DayBodies
 pub mod JsonFields
 pub mod KeyBodies
+pub mod MemberFields
 pub mod ParsedBodies
 pub mod PollBodies
 pub mod PresenceBodies

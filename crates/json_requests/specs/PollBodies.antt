@@ -1,7 +1,5 @@
 -- Polls, and the votes on them.
-use Rattle.std.specs.Prelude.{Option, Some, codes}
-use Rattle.serde_json.specs.Data.{Data}
-use Rattle.serde_json.specs.Find.{get}
+use Rattle.std.specs.Prelude.{ℕ, List, [], ◌∷◌, Option, Some, codes}
 use Rattle.calendar.specs.DateTexts.{moment_of}
 use Rattle.vocabulary.specs.Kinds.{capacity_of, way_of}
 use Rattle.vocabulary.specs.Names.{party_of}
@@ -10,58 +8,67 @@ use Rattle.desk_words.specs.declared.request.OfficeRequest.{OfficeRequest}
 use Rattle.desk_words.specs.declared.request.OfficeRequest.TheVariants.{Order, Start, Close, Declare}
 use Rattle.desk_words.specs.declared.request.PartyRequest.{PartyRequest}
 use Rattle.desk_words.specs.declared.request.PartyRequest.TheVariants.{Demand, Cast, Instructed}
-use Rattle.vocabulary.specs.OptionSteps.{guard, ◌>>=◌}
-use Rattle.json_requests.specs.JsonFields.{has_fields, number_at, flag_at, parsed_at}
+use Rattle.vocabulary.specs.OptionSteps.{◌>>=◌}
+use Rattle.json_requests.specs.JsonFields.{Fields, field, number_at, flag_at, parsed_at}
 
--- the poll that a value orders (section 321): three fields, each of its form
-unfoldable pub order_in : Data → Option OfficeRequest
-order_in d = do
-  exactly ← guard (has_fields 3 d)
-  resolution ← number_at (get (codes "resolution") d)
-  take ← parsed_at moment_of (get (codes "take") d)
-  chair ← flag_at (get (codes "chair") d)
+-- the fields of the ordering of a poll
+abbrev pub order_fields : List (List ℕ)
+order_fields = codes "resolution" ∷ codes "take" ∷ codes "chair" ∷ []
+
+-- the poll that three fields order (section 321), each of its form
+unfoldable pub order_in : Fields → Option OfficeRequest
+order_in fields = do
+  resolution ← number_at (field 0 fields)
+  take ← parsed_at moment_of (field 1 fields)
+  chair ← flag_at (field 2 fields)
   Some (Order (record { resolution = resolution; take = take; chair = chair }))
 
--- the poll that a value names: by its resolution, and one field alone
-unfoldable pub poll_body : Data → Option Number
-poll_body d = do
-  exactly ← guard (has_fields 1 d)
-  number_at (get (codes "resolution") d)
+-- the fields of what names a poll
+abbrev pub poll_fields : List (List ℕ)
+poll_fields = codes "resolution" ∷ []
+
+-- the poll that one field names, by its resolution
+unfoldable pub poll_body : Fields → Option Number
+poll_body fields = number_at (field 0 fields)
 
 -- the start of that poll
-unfoldable pub start_in : Data → Option OfficeRequest
-start_in d = do
-  resolution ← poll_body d
+unfoldable pub start_in : Fields → Option OfficeRequest
+start_in fields = do
+  resolution ← poll_body fields
   Some (Start resolution)
 
 -- the close of the voting on that poll
-unfoldable pub close_in : Data → Option OfficeRequest
-close_in d = do
-  resolution ← poll_body d
+unfoldable pub close_in : Fields → Option OfficeRequest
+close_in fields = do
+  resolution ← poll_body fields
   Some (Close resolution)
 
 -- the declaration of that poll
-unfoldable pub declare_in : Data → Option OfficeRequest
-declare_in d = do
-  resolution ← poll_body d
+unfoldable pub declare_in : Fields → Option OfficeRequest
+declare_in fields = do
+  resolution ← poll_body fields
   Some (Declare resolution)
 
 -- a demand of that poll (section 321)
-unfoldable pub demand_body : Data → Option PartyRequest
-demand_body d = do
-  resolution ← poll_body d
+unfoldable pub demand_body : Fields → Option PartyRequest
+demand_body fields = do
+  resolution ← poll_body fields
   Some (Demand resolution)
 
--- the vote that a value casts (sections 284, 322, 323 and 324): six fields, each of its form
-unfoldable pub cast_body : Data → Option PartyRequest
-cast_body d = do
-  exactly ← guard (has_fields 6 d)
-  resolution ← number_at (get (codes "resolution") d)
-  capacity ← parsed_at capacity_of (get (codes "as") d)
-  member ← parsed_at party_of (get (codes "member") d)
-  from ← number_at (get (codes "from") d)
-  to ← number_at (get (codes "to") d)
-  way ← parsed_at way_of (get (codes "way") d)
+-- the fields of a vote
+abbrev pub cast_fields : List (List ℕ)
+cast_fields =
+    codes "resolution" ∷ codes "as" ∷ codes "member" ∷ codes "from" ∷ codes "to" ∷ codes "way" ∷ []
+
+-- the vote that six fields cast (sections 284, 322, 323 and 324), each of its form
+unfoldable pub cast_body : Fields → Option PartyRequest
+cast_body fields = do
+  resolution ← number_at (field 0 fields)
+  capacity ← parsed_at capacity_of (field 1 fields)
+  member ← parsed_at party_of (field 2 fields)
+  from ← number_at (field 3 fields)
+  to ← number_at (field 4 fields)
+  way ← parsed_at way_of (field 5 fields)
   Some
       (Cast
       (record {
@@ -74,7 +81,7 @@ cast_body d = do
       }))
 
 -- what is cast as instructed (section 324A)
-unfoldable pub instructed_in : Data → Option PartyRequest
-instructed_in d = do
-  resolution ← poll_body d
+unfoldable pub instructed_in : Fields → Option PartyRequest
+instructed_in fields = do
+  resolution ← poll_body fields
   Some (Instructed resolution)

@@ -1,47 +1,40 @@
--- The opening and the adjournment of a meeting, presences, and the persons who are to represent
--- parties.
-use Rattle.std.specs.Prelude.{Option, Some, codes}
-use Rattle.serde_json.specs.Data.{Data}
-use Rattle.serde_json.specs.Find.{get}
+-- The adjournment of a meeting, presences, and the persons who are to represent parties.
+use Rattle.std.specs.Prelude.{ℕ, List, [], ◌∷◌, Option, Some, codes}
 use Rattle.calendar.specs.DateTexts.{moment_of}
 use Rattle.vocabulary.specs.Names.{party_of}
 use Rattle.desk_words.specs.declared.request.OfficeRequest.{OfficeRequest}
-use Rattle.desk_words.specs.declared.request.OfficeRequest.TheVariants.{Adjourn, OpenMeeting, Presence}
+use Rattle.desk_words.specs.declared.request.OfficeRequest.TheVariants.{Adjourn, Presence}
 use Rattle.desk_words.specs.declared.request.PartyRequest.{PartyRequest}
-use Rattle.desk_words.specs.declared.request.PartyRequest.TheVariants.{Attend, Authorise}
-use Rattle.vocabulary.specs.OptionSteps.{guard, ◌>>=◌}
-use Rattle.json_requests.specs.JsonFields.{has_fields, parsed_at}
+use Rattle.desk_words.specs.declared.request.PartyRequest.TheVariants.{Authorise}
+use Rattle.vocabulary.specs.OptionSteps.{◌>>=◌}
+use Rattle.json_requests.specs.JsonFields.{Fields, field, parsed_at}
 
--- the opening of the meeting, of which the value says nothing
-unfoldable pub open_in : Data → Option OfficeRequest
-open_in d = do
-  nothing ← guard (has_fields 0 d)
-  Some OpenMeeting
+-- the fields of an adjournment
+abbrev pub adjourn_fields : List (List ℕ)
+adjourn_fields = codes "appointed" ∷ []
 
--- the adjournment of the meeting to a session at an appointed moment (section 330), and one field
--- alone
-unfoldable pub adjourn_in : Data → Option OfficeRequest
-adjourn_in d = do
-  exactly ← guard (has_fields 1 d)
-  appointed ← parsed_at moment_of (get (codes "appointed") d)
+-- the adjournment of the meeting to a session at an appointed moment (section 330), its one field
+unfoldable pub adjourn_in : Fields → Option OfficeRequest
+adjourn_in fields = do
+  appointed ← parsed_at moment_of (field 0 fields)
   Some (Adjourn appointed)
 
--- the presence that a value notes (section 318): of a party, and one field alone
-unfoldable pub presence_body : Data → Option OfficeRequest
-presence_body d = do
-  exactly ← guard (has_fields 1 d)
-  party ← parsed_at party_of (get (codes "party") d)
+-- the fields of a presence
+abbrev pub presence_fields : List (List ℕ)
+presence_fields = codes "party" ∷ []
+
+-- the presence that one field notes (section 318): of a party
+unfoldable pub presence_body : Fields → Option OfficeRequest
+presence_body fields = do
+  party ← parsed_at party_of (field 0 fields)
   Some (Presence party)
 
--- a party's own presence, of which the value says nothing
-unfoldable pub attend_in : Data → Option PartyRequest
-attend_in d = do
-  nothing ← guard (has_fields 0 d)
-  Some Attend
+-- the fields of an authority
+abbrev pub authorise_fields : List (List ℕ)
+authorise_fields = codes "person" ∷ []
 
--- the authority that a value gives (section 323): to a person, and one field alone
-unfoldable pub authorise_in : Data → Option PartyRequest
-authorise_in d = do
-  exactly ← guard (has_fields 1 d)
-  person ← parsed_at party_of (get (codes "person") d)
+-- the authority that one field gives (section 323): to a person
+unfoldable pub authorise_in : Fields → Option PartyRequest
+authorise_in fields = do
+  person ← parsed_at party_of (field 0 fields)
   Some (Authorise person)

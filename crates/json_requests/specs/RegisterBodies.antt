@@ -1,7 +1,7 @@
 -- The loading of a register.
-use Rattle.std.specs.Prelude.{List, Option, Some, codes}
+use Rattle.std.specs.Prelude.{ℕ, List, [], ◌∷◌, Option, Some, codes}
 use Rattle.serde_json.specs.Data.{Data}
-use Rattle.serde_json.specs.Find.{get, at}
+use Rattle.serde_json.specs.Find.{at}
 use Rattle.calendar.specs.DateTexts.{moment_of}
 use Rattle.vocabulary.specs.Kinds.{holder_kind_of}
 use Rattle.vocabulary.specs.Names.{party_of}
@@ -11,7 +11,7 @@ use Rattle.desk_words.specs.declared.request.OfficeRequest.{OfficeRequest}
 use Rattle.desk_words.specs.declared.request.OfficeRequest.TheVariants.{LoadRegister}
 use Rattle.vocabulary.specs.OptionSteps.{guard, ◌>>=◌}
 use Rattle.vocabulary.specs.PlainTexts.{text_of}
-use Rattle.json_requests.specs.JsonFields.{has_fields, has_items, items_in, number_at, parsed_at, all_items}
+use Rattle.json_requests.specs.JsonFields.{Fields, field, has_items, items_in, number_at, parsed_at, all_items}
 
 -- a row is a member, its kind, its name, its shares and what is paid up on each of them
 unfoldable pub row_at : Data → Option RegisterRow
@@ -31,10 +31,13 @@ register_body place = do
   rows ← all_items row_at items
   register_of rows
 
--- the register that a value loads: two fields, each of its form
-unfoldable pub load_in : Data → Option OfficeRequest
-load_in d = do
-  exactly ← guard (has_fields 2 d)
-  record_moment ← parsed_at moment_of (get (codes "record") d)
-  rows ← register_body (get (codes "rows") d)
+-- the fields of the loading of a register
+abbrev pub load_fields : List (List ℕ)
+load_fields = codes "record" ∷ codes "rows" ∷ []
+
+-- the register that two fields load, each of its form
+unfoldable pub load_in : Fields → Option OfficeRequest
+load_in fields = do
+  record_moment ← parsed_at moment_of (field 0 fields)
+  rows ← register_body (field 1 fields)
   Some (LoadRegister (record { record_moment = record_moment; rows = rows }))

@@ -6,11 +6,11 @@ ghost use Rattle.json_requests.specs.BodyValues.{view, items_view};
 ghost use Rattle.vocabulary.specs.Identity.{id};
 ghost use Rattle.json_requests.specs.ParsedBodies.{BodyAgrees};
 ghost use Rattle.json_requests.specs.AppointmentBodies.{instruction_at, instructions_in, appoint_body, end_in};
-ghost use Rattle.json_requests.specs.JsonFields.{json_at, all_items};
+ghost use Rattle.json_requests.specs.JsonFields.{json_at, all_items, fields_view};
 
 use crate::ask::BodyError;
-use crate::place::{exactly_fields, instruction_in, items_in, number_in, party_in};
-use crate::value::field;
+use crate::fields::field;
+use crate::place::{instruction_in, items_in, number_in, party_in};
 use desk_words::limits::MOST_RESOLUTIONS;
 use desk_words::{Instr, Listing, NewAppointment, PartyRequest};
 use json::Value;
@@ -57,18 +57,22 @@ fn instructions_in(alloc: Global, place: Option<&Value<'_>>) -> Result<Listing<I
     Ok(Listing::from_vec(instructions))
 }
 
-/// The appointment that a value gives. It has the fields `proxy` (a party), `from` and `to`
-/// (numbers), and `instructions` (0 to `MOST_RESOLUTIONS` of the words `for`, `against`, `withheld`
-/// and `free`).
+/// The fields of an appointment: `proxy` (a party), `from` and `to` (numbers), and `instructions` (0
+/// to `MOST_RESOLUTIONS` of the words `for`, `against`, `withheld` and `free`).
+pub(crate) const APPOINT: &[&str] = &["proxy", "from", "to", "instructions"];
+
+/// The appointment that its fields give.
 #[tactic(auto, unfolding(crate::specs::AppointmentBodies::appoint_body))]
-pub(crate) fn appoint(alloc: Global, value: &Value<'_>) -> Result<PartyRequest, BodyError>
-    ensures { BodyAgrees id result (appoint_body (view value.now)) }
+pub(crate) fn appoint(
+    alloc: Global,
+    fields: &[Option<Value<'_>>],
+) -> Result<PartyRequest, BodyError>
+    ensures { BodyAgrees id result (appoint_body (fields_view fields.now)) }
 {
-    exactly_fields(value, 4)?;
-    let proxy = party_in(field(value, "proxy"))?;
-    let from = number_in(field(value, "from"))?;
-    let to = number_in(field(value, "to"))?;
-    let instructions = instructions_in(alloc, field(value, "instructions"))?;
+    let proxy = party_in(field(fields, 0))?;
+    let from = number_in(field(fields, 1))?;
+    let to = number_in(field(fields, 2))?;
+    let instructions = instructions_in(alloc, field(fields, 3))?;
     Ok(PartyRequest::Appoint(NewAppointment {
         proxy,
         from,
@@ -77,12 +81,14 @@ pub(crate) fn appoint(alloc: Global, value: &Value<'_>) -> Result<PartyRequest, 
     }))
 }
 
-/// The ending that a value gives. It has the field `number` (the number of an appointment).
+/// The field of an ending: `number` (the number of an appointment).
+pub(crate) const END: &[&str] = &["number"];
+
+/// The ending that its field gives.
 #[tactic(auto, unfolding(crate::specs::AppointmentBodies::end_in))]
-pub(crate) fn end(value: &Value<'_>) -> Result<PartyRequest, BodyError>
-    ensures { BodyAgrees id result (end_in (view value.now)) }
+pub(crate) fn end(fields: &[Option<Value<'_>>]) -> Result<PartyRequest, BodyError>
+    ensures { BodyAgrees id result (end_in (fields_view fields.now)) }
 {
-    exactly_fields(value, 1)?;
-    let number = number_in(field(value, "number"))?;
+    let number = number_in(field(fields, 0))?;
     Ok(PartyRequest::End(number))
 }

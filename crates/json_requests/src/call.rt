@@ -2,15 +2,16 @@
 ghost use Rattle.json_requests.specs.BodyValues.{view, items_view};
 ghost use Rattle.vocabulary.specs.Identity.{id};
 ghost use Rattle.json_requests.specs.ParsedBodies.{BodyAgrees};
-ghost use Rattle.json_requests.specs.JsonFields.{json_at, all_items};
+ghost use Rattle.json_requests.specs.JsonFields.{json_at, all_items, fields_view};
 ghost use Rattle.json_requests.specs.CallBodies.{resolution_at, checked_resolutions, resolutions_in, call_body};
 
 use crate::ask::BodyError;
+use crate::fields::field;
 use crate::place::{
-    company_in, day_in, exactly_fields, exactly_items, items_in, meeting_kind_in, moment_in,
-    resolution_kind_in, text_in,
+    company_in, day_in, exactly_items, items_in, meeting_kind_in, moment_in, resolution_kind_in,
+    text_in,
 };
-use crate::value::{field, item};
+use crate::value::item;
 use desk_words::{ListFault, MeetingId, NewMeeting, Resolution, Resolutions};
 use json::Value;
 use std::alloc::Global;
@@ -55,25 +56,33 @@ fn resolutions_in(alloc: Global, place: Option<&Value<'_>>) -> Result<Resolution
     counted(resolutions)
 }
 
-/// The meeting that a value calls. It has the fields `company` (`private` or `public`), `kind`
-/// (`annual` or `general`), `given` (the day of the notice), `appointed` and `record` (moments),
-/// and `resolutions` (1 to `MOST_RESOLUTIONS` pairs of a kind, `ordinary` or `special`, and a
-/// text).
+/// The fields of the calling of a meeting: `company` (`private` or `public`), `kind` (`annual` or
+/// `general`), `given` (the day of the notice), `appointed` and `record` (moments), and
+/// `resolutions` (1 to `MOST_RESOLUTIONS` pairs of a kind, `ordinary` or `special`, and a text).
+pub(crate) const CALL: &[&str] = &[
+    "company",
+    "kind",
+    "given",
+    "appointed",
+    "record",
+    "resolutions",
+];
+
+/// The meeting that its fields call.
 #[tactic(auto, unfolding(crate::specs::CallBodies::call_body))]
 pub(crate) fn call(
     alloc: Global,
     meeting: MeetingId,
-    value: &Value<'_>,
+    fields: &[Option<Value<'_>>],
 ) -> Result<NewMeeting, BodyError>
-    ensures { BodyAgrees id result (call_body meeting (view value.now)) }
+    ensures { BodyAgrees id result (call_body meeting (fields_view fields.now)) }
 {
-    exactly_fields(value, 6)?;
-    let company = company_in(field(value, "company"))?;
-    let kind = meeting_kind_in(field(value, "kind"))?;
-    let given = day_in(field(value, "given"))?;
-    let appointed = moment_in(field(value, "appointed"))?;
-    let record_moment = moment_in(field(value, "record"))?;
-    let resolutions = resolutions_in(alloc, field(value, "resolutions"))?;
+    let company = company_in(field(fields, 0))?;
+    let kind = meeting_kind_in(field(fields, 1))?;
+    let given = day_in(field(fields, 2))?;
+    let appointed = moment_in(field(fields, 3))?;
+    let record_moment = moment_in(field(fields, 4))?;
+    let resolutions = resolutions_in(alloc, field(fields, 5))?;
     Ok(NewMeeting {
         meeting,
         company,

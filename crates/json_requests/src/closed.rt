@@ -4,11 +4,11 @@ ghost use Rattle.vocabulary.specs.Identity.{id};
 ghost use Rattle.json_requests.specs.ParsedBodies.{BodyAgrees};
 ghost use Rattle.json_requests.specs.DayBodies.{day_at, days_body, closed_body};
 ghost use Rattle.desk_words.specs.SortedLists.{day_list_of};
-ghost use Rattle.json_requests.specs.JsonFields.{json_at, all_items};
+ghost use Rattle.json_requests.specs.JsonFields.{json_at, all_items, fields_view};
 
 use crate::ask::BodyError;
-use crate::place::{day_in, exactly_fields, items_in};
-use crate::value::field;
+use crate::fields::field;
+use crate::place::{day_in, items_in};
 use desk_words::{Day, DayList, ListFault};
 use json::Value;
 use std::alloc::Global;
@@ -49,12 +49,14 @@ fn days_in(alloc: Global, place: Option<&Value<'_>>) -> Result<DayList, BodyErro
     day_list(days)
 }
 
-/// The closed days that a value loads. It has the field `days`, an array of days, of which at most
+/// The field of the loading of closed days: `days`, an array of days, of which at most
 /// `MOST_CLOSED_DAYS` are different.
+pub(crate) const CLOSED: &[&str] = &["days"];
+
+/// The closed days that the field loads.
 #[tactic(auto, unfolding(crate::specs::DayBodies::closed_body))]
-pub(crate) fn closed(alloc: Global, value: &Value<'_>) -> Result<DayList, BodyError>
-    ensures { BodyAgrees id result (closed_body (view value.now)) }
+pub(crate) fn closed(alloc: Global, fields: &[Option<Value<'_>>]) -> Result<DayList, BodyError>
+    ensures { BodyAgrees id result (closed_body (fields_view fields.now)) }
 {
-    exactly_fields(value, 1)?;
-    days_in(alloc, field(value, "days"))
+    days_in(alloc, field(fields, 0))
 }

@@ -4,11 +4,12 @@ ghost use Rattle.desk_words.specs.SortedLists.{key_list_of};
 ghost use Rattle.vocabulary.specs.Identity.{id};
 ghost use Rattle.json_requests.specs.ParsedBodies.{BodyAgrees};
 ghost use Rattle.json_requests.specs.KeyBodies.{key_row_of, key_rows_in, keys_body};
-ghost use Rattle.json_requests.specs.JsonFields.{json_at, all_items};
+ghost use Rattle.json_requests.specs.JsonFields.{json_at, all_items, fields_view};
 
 use crate::ask::BodyError;
-use crate::place::{caller_in, exactly_fields, exactly_items, items_in, key_in};
-use crate::value::{field, item};
+use crate::fields::field;
+use crate::place::{caller_in, exactly_items, items_in, key_in};
+use crate::value::item;
 use desk_words::{Caller, KeyRow, KeyRows, ListFault};
 use json::Value;
 use std::alloc::Global;
@@ -56,12 +57,14 @@ fn key_rows_in(alloc: Global, place: Option<&Value<'_>>) -> Result<KeyRows, Body
     listed(rows)
 }
 
-/// The keys that a value loads. It has the field `rows`, which are pairs of `OFFICE` or a party,
-/// and its key, at most 40,000, with no caller and no key twice.
+/// The field of the loading of keys: `rows`, which are pairs of `OFFICE` or a party, and its key, at
+/// most 40,000, with no caller and no key twice.
+pub(crate) const KEYS: &[&str] = &["rows"];
+
+/// The keys that the field loads.
 #[tactic(auto, unfolding(crate::specs::KeyBodies::keys_body))]
-pub(crate) fn keys(alloc: Global, value: &Value<'_>) -> Result<KeyRows, BodyError>
-    ensures { BodyAgrees id result (keys_body (view value.now)) }
+pub(crate) fn keys(alloc: Global, fields: &[Option<Value<'_>>]) -> Result<KeyRows, BodyError>
+    ensures { BodyAgrees id result (keys_body (fields_view fields.now)) }
 {
-    exactly_fields(value, 1)?;
-    key_rows_in(alloc, field(value, "rows"))
+    key_rows_in(alloc, field(fields, 0))
 }

@@ -12,6 +12,7 @@ mod ask;
 mod body;
 mod call;
 mod closed;
+mod fields;
 mod keys;
 pub mod laws;
 mod number;

@@ -1,37 +1,23 @@
-//! What stands at a place in a JSON value: at a name in an object, or at an index in an array.
-ghost use Rattle.std.specs.Prelude.{◌≤◌};
+//! What stands at a place: at a name that is asked for, or at an index in an array.
 ghost use Rattle.vocabulary.specs.OptionSteps.{guard};
 ghost use Rattle.json_requests.specs.BodyValues.{view, items_view};
-ghost use Rattle.json_requests.specs.declared.value.TheConstants.{MOST_FIELDS};
 ghost use Rattle.calendar.specs.DateTexts.{day_of, moment_of};
 ghost use Rattle.vocabulary.specs.Kinds.{company_of, meeting_kind_of, resolution_kind_of, holder_kind_of, way_of, capacity_of, instruction_of};
 ghost use Rattle.vocabulary.specs.Names.{key_of, party_of};
 ghost use Rattle.desk_words.specs.Callers.{caller_of};
 ghost use Rattle.vocabulary.specs.Identity.{id};
 ghost use Rattle.json_requests.specs.ParsedBodies.{BodyAgrees};
-ghost use Rattle.json_requests.specs.JsonFields.{json_at, has_fields, has_items, string_in, number_at, flag_at, items_in, parsed_at};
+ghost use Rattle.json_requests.specs.JsonFields.{json_at, has_items, string_in, number_at, flag_at, items_in, parsed_at};
 ghost use Rattle.vocabulary.specs.PlainTexts.{text_of};
 
 use crate::ask::BodyError;
-use crate::value::{as_array, as_bool, as_str, as_u64, has_fields, has_items};
+use crate::value::{as_array, as_bool, as_str, as_u64, has_items};
 use desk_words::{
     Caller, Capacity, Company, Day, HolderKind, Instr, MeetingKind, Moment, Party, ResKind,
     SecretKey, Text, TextFault, Way, read_caller, read_day, read_key, read_moment, read_party,
 };
 use json::Value;
 use std::alloc::Global;
-
-/// Refuses what is no object of so many fields.
-pub(crate) fn exactly_fields(value: &Value<'_>, count: usize) -> Result<(), BodyError>
-    requires { count ≤ MOST_FIELDS }
-    ensures { BodyAgrees id result (guard (has_fields count (view value.now))) }
-{
-    if has_fields(value, count) {
-        Ok(())
-    } else {
-        Err(BodyError::Unreadable)
-    }
-}
 
 /// Refuses what is no array of so many items.
 pub(crate) fn exactly_items(value: &Value<'_>, count: usize) -> Result<(), BodyError>

@@ -1,25 +1,27 @@
 //! Polls, and the votes on them.
-ghost use Rattle.json_requests.specs.BodyValues.{view};
+ghost use Rattle.json_requests.specs.JsonFields.{fields_view};
 ghost use Rattle.vocabulary.specs.Identity.{id};
 ghost use Rattle.json_requests.specs.ParsedBodies.{BodyAgrees};
 ghost use Rattle.json_requests.specs.PollBodies.{order_in, poll_body, start_in, close_in, declare_in, demand_body, cast_body, instructed_in};
 
 use crate::ask::BodyError;
-use crate::place::{capacity_in, exactly_fields, flag_in, moment_in, number_in, party_in, way_in};
-use crate::value::field;
+use crate::fields::field;
+use crate::place::{capacity_in, flag_in, moment_in, number_in, party_in, way_in};
 use desk_words::{NewCast, NewPoll, OfficeRequest, PartyRequest};
 use json::Value;
 
-/// The poll that a value orders. It has the fields `resolution` (a number), `take` (a moment) and
-/// `chair` (true or false).
+/// The fields of the ordering of a poll: `resolution` (a number), `take` (a moment) and `chair` (true
+/// or false).
+pub(crate) const ORDER: &[&str] = &["resolution", "take", "chair"];
+
+/// The poll that its fields order.
 #[tactic(auto, unfolding(crate::specs::PollBodies::order_in))]
-pub(crate) fn order(value: &Value<'_>) -> Result<OfficeRequest, BodyError>
-    ensures { BodyAgrees id result (order_in (view value.now)) }
+pub(crate) fn order(fields: &[Option<Value<'_>>]) -> Result<OfficeRequest, BodyError>
+    ensures { BodyAgrees id result (order_in (fields_view fields.now)) }
 {
-    exactly_fields(value, 3)?;
-    let resolution = number_in(field(value, "resolution"))?;
-    let take = moment_in(field(value, "take"))?;
-    let chair = flag_in(field(value, "chair"))?;
+    let resolution = number_in(field(fields, 0))?;
+    let take = moment_in(field(fields, 1))?;
+    let chair = flag_in(field(fields, 2))?;
     Ok(OfficeRequest::Order(NewPoll {
         resolution,
         take,
@@ -27,68 +29,72 @@ pub(crate) fn order(value: &Value<'_>) -> Result<OfficeRequest, BodyError>
     }))
 }
 
-/// The poll that a value names. It has the field `resolution` (a number).
+/// The field of what names a poll: `resolution` (a number).
+pub(crate) const POLL: &[&str] = &["resolution"];
+
+/// The poll that the field names.
 #[tactic(auto, unfolding(crate::specs::PollBodies::poll_body))]
-fn poll_in(value: &Value<'_>) -> Result<u64, BodyError>
-    ensures { BodyAgrees id result (poll_body (view value.now)) }
+fn poll_in(fields: &[Option<Value<'_>>]) -> Result<u64, BodyError>
+    ensures { BodyAgrees id result (poll_body (fields_view fields.now)) }
 {
-    exactly_fields(value, 1)?;
-    number_in(field(value, "resolution"))
+    number_in(field(fields, 0))
 }
 
 #[tactic(auto, unfolding(crate::specs::PollBodies::start_in))]
-pub(crate) fn start(value: &Value<'_>) -> Result<OfficeRequest, BodyError>
-    ensures { BodyAgrees id result (start_in (view value.now)) }
+pub(crate) fn start(fields: &[Option<Value<'_>>]) -> Result<OfficeRequest, BodyError>
+    ensures { BodyAgrees id result (start_in (fields_view fields.now)) }
 {
-    let resolution = poll_in(value)?;
+    let resolution = poll_in(fields)?;
     Ok(OfficeRequest::Start(resolution))
 }
 
 #[tactic(auto, unfolding(crate::specs::PollBodies::close_in))]
-pub(crate) fn close(value: &Value<'_>) -> Result<OfficeRequest, BodyError>
-    ensures { BodyAgrees id result (close_in (view value.now)) }
+pub(crate) fn close(fields: &[Option<Value<'_>>]) -> Result<OfficeRequest, BodyError>
+    ensures { BodyAgrees id result (close_in (fields_view fields.now)) }
 {
-    let resolution = poll_in(value)?;
+    let resolution = poll_in(fields)?;
     Ok(OfficeRequest::Close(resolution))
 }
 
 #[tactic(auto, unfolding(crate::specs::PollBodies::declare_in))]
-pub(crate) fn declare(value: &Value<'_>) -> Result<OfficeRequest, BodyError>
-    ensures { BodyAgrees id result (declare_in (view value.now)) }
+pub(crate) fn declare(fields: &[Option<Value<'_>>]) -> Result<OfficeRequest, BodyError>
+    ensures { BodyAgrees id result (declare_in (fields_view fields.now)) }
 {
-    let resolution = poll_in(value)?;
+    let resolution = poll_in(fields)?;
     Ok(OfficeRequest::Declare(resolution))
 }
 
 #[tactic(auto, unfolding(crate::specs::PollBodies::demand_body))]
-pub(crate) fn demand(value: &Value<'_>) -> Result<PartyRequest, BodyError>
-    ensures { BodyAgrees id result (demand_body (view value.now)) }
+pub(crate) fn demand(fields: &[Option<Value<'_>>]) -> Result<PartyRequest, BodyError>
+    ensures { BodyAgrees id result (demand_body (fields_view fields.now)) }
 {
-    let resolution = poll_in(value)?;
+    let resolution = poll_in(fields)?;
     Ok(PartyRequest::Demand(resolution))
 }
 
 #[tactic(auto, unfolding(crate::specs::PollBodies::instructed_in))]
-pub(crate) fn instructed(value: &Value<'_>) -> Result<PartyRequest, BodyError>
-    ensures { BodyAgrees id result (instructed_in (view value.now)) }
+pub(crate) fn instructed(fields: &[Option<Value<'_>>]) -> Result<PartyRequest, BodyError>
+    ensures { BodyAgrees id result (instructed_in (fields_view fields.now)) }
 {
-    let resolution = poll_in(value)?;
+    let resolution = poll_in(fields)?;
     Ok(PartyRequest::Instructed(resolution))
 }
 
-/// The vote that a value casts. It has the fields `resolution`, `from` and `to` (numbers), `as`
-/// (`member`, `rep` or `proxy`), `member` (a party) and `way` (`for`, `against` or `withheld`).
+/// The fields of a vote: `resolution`, `from` and `to` (numbers), `as` (`member`, `rep` or `proxy`),
+/// `member` (a party) and `way` (`for`, `against` or `withheld`).
+pub(crate) const CAST: &[&str] = &["resolution", "as", "member", "from", "to", "way"];
+
+/// The vote that its fields cast.
 #[tactic(auto, unfolding(crate::specs::PollBodies::cast_body))]
-pub(crate) fn cast(value: &Value<'_>) -> Result<PartyRequest, BodyError>
-    ensures { BodyAgrees id result (cast_body (view value.now)) }
+pub(crate) fn cast(fields: &[Option<Value<'_>>]) -> Result<PartyRequest, BodyError>
+    ensures { BodyAgrees id result (cast_body (fields_view fields.now)) }
 {
-    exactly_fields(value, 6)?;
-    let resolution = number_in(field(value, "resolution"))?;
-    let capacity = capacity_in(field(value, "as"))?;
-    let member = party_in(field(value, "member"))?;
-    let from = number_in(field(value, "from"))?;
-    let to = number_in(field(value, "to"))?;
-    let way = way_in(field(value, "way"))?;
+    let resolution = number_in(field(fields, 0))?;
+    let capacity = capacity_in(field(fields, 1))?;
+    let member = party_in(field(fields, 2))?;
+    let from = number_in(field(fields, 3))?;
+    let to = number_in(field(fields, 4))?;
+    let way = way_in(field(fields, 5))?;
     Ok(PartyRequest::Cast(NewCast {
         resolution,
         capacity,

@@ -1,62 +1,48 @@
-//! The opening and the adjournment of a meeting, presences, and the persons who are to represent
-//! parties.
-ghost use Rattle.json_requests.specs.BodyValues.{view};
+//! The adjournment of a meeting, presences, and the persons who are to represent parties.
+ghost use Rattle.json_requests.specs.JsonFields.{fields_view};
 ghost use Rattle.vocabulary.specs.Identity.{id};
 ghost use Rattle.json_requests.specs.PresenceBodies.{authorise_in};
 ghost use Rattle.json_requests.specs.ParsedBodies.{BodyAgrees};
-ghost use Rattle.json_requests.specs.PresenceBodies.{adjourn_in, open_in, presence_body, attend_in};
+ghost use Rattle.json_requests.specs.PresenceBodies.{adjourn_in, presence_body};
 
 use crate::ask::BodyError;
-use crate::place::{exactly_fields, moment_in, party_in};
-use crate::value::field;
+use crate::fields::field;
+use crate::place::{moment_in, party_in};
 use desk_words::{OfficeRequest, PartyRequest};
 use json::Value;
 
-/// The opening of the meeting. The value has no fields.
-#[tactic(auto, unfolding(crate::specs::PresenceBodies::open_in))]
-pub(crate) fn open(value: &Value<'_>) -> Result<OfficeRequest, BodyError>
-    ensures { BodyAgrees id result (open_in (view value.now)) }
-{
-    exactly_fields(value, 0)?;
-    Ok(OfficeRequest::OpenMeeting)
-}
+/// The field of an adjournment: `appointed` (the moment at which the next session is to begin).
+pub(crate) const ADJOURN: &[&str] = &["appointed"];
 
-/// The adjournment of the meeting. The value has the field `appointed` (the moment at which the next
-/// session is to begin).
+/// The adjournment of the meeting.
 #[tactic(auto, unfolding(crate::specs::PresenceBodies::adjourn_in))]
-pub(crate) fn adjourn(value: &Value<'_>) -> Result<OfficeRequest, BodyError>
-    ensures { BodyAgrees id result (adjourn_in (view value.now)) }
+pub(crate) fn adjourn(fields: &[Option<Value<'_>>]) -> Result<OfficeRequest, BodyError>
+    ensures { BodyAgrees id result (adjourn_in (fields_view fields.now)) }
 {
-    exactly_fields(value, 1)?;
-    let appointed = moment_in(field(value, "appointed"))?;
+    let appointed = moment_in(field(fields, 0))?;
     Ok(OfficeRequest::Adjourn(appointed))
 }
 
-/// The presence that a value notes. It has the field `party` (a party).
+/// The field of a presence: `party` (a party).
+pub(crate) const PRESENCE: &[&str] = &["party"];
+
+/// The presence that the field notes.
 #[tactic(auto, unfolding(crate::specs::PresenceBodies::presence_body))]
-pub(crate) fn presence(value: &Value<'_>) -> Result<OfficeRequest, BodyError>
-    ensures { BodyAgrees id result (presence_body (view value.now)) }
+pub(crate) fn presence(fields: &[Option<Value<'_>>]) -> Result<OfficeRequest, BodyError>
+    ensures { BodyAgrees id result (presence_body (fields_view fields.now)) }
 {
-    exactly_fields(value, 1)?;
-    let party = party_in(field(value, "party"))?;
+    let party = party_in(field(fields, 0))?;
     Ok(OfficeRequest::Presence(party))
 }
 
-/// A party's own presence. The value has no fields.
-#[tactic(auto, unfolding(crate::specs::PresenceBodies::attend_in))]
-pub(crate) fn attend(value: &Value<'_>) -> Result<PartyRequest, BodyError>
-    ensures { BodyAgrees id result (attend_in (view value.now)) }
-{
-    exactly_fields(value, 0)?;
-    Ok(PartyRequest::Attend)
-}
+/// The field of an authority: `person` (a party).
+pub(crate) const AUTHORISE: &[&str] = &["person"];
 
-/// The authority that a value gives. It has the field `person` (a party).
+/// The authority that the field gives.
 #[tactic(auto, unfolding(crate::specs::PresenceBodies::authorise_in))]
-pub(crate) fn authorise(value: &Value<'_>) -> Result<PartyRequest, BodyError>
-    ensures { BodyAgrees id result (authorise_in (view value.now)) }
+pub(crate) fn authorise(fields: &[Option<Value<'_>>]) -> Result<PartyRequest, BodyError>
+    ensures { BodyAgrees id result (authorise_in (fields_view fields.now)) }
 {
-    exactly_fields(value, 1)?;
-    let person = party_in(field(value, "person"))?;
+    let person = party_in(field(fields, 0))?;
     Ok(PartyRequest::Authorise(person))
 }

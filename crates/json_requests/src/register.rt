@@ -3,15 +3,15 @@ ghost use Rattle.json_requests.specs.BodyValues.{view, items_view};
 ghost use Rattle.desk_words.specs.Registers.{register_of};
 ghost use Rattle.vocabulary.specs.Identity.{id};
 ghost use Rattle.json_requests.specs.ParsedBodies.{BodyAgrees};
-ghost use Rattle.json_requests.specs.JsonFields.{json_at, all_items};
+ghost use Rattle.json_requests.specs.JsonFields.{json_at, all_items, fields_view};
 ghost use Rattle.json_requests.specs.RegisterBodies.{row_at, register_body, load_in};
 
 use crate::ask::BodyError;
+use crate::fields::field;
 use crate::place::{
-    exactly_fields, exactly_items, holder_kind_in, items_in, moment_in, number_in, party_in,
-    text_in,
+    exactly_items, holder_kind_in, items_in, moment_in, number_in, party_in, text_in,
 };
-use crate::value::{field, item};
+use crate::value::item;
 use desk_words::{ListFault, NewRegister, OfficeRequest, Register, RegisterRow};
 use json::Value;
 use std::alloc::Global;
@@ -65,16 +65,18 @@ fn register_in(alloc: Global, place: Option<&Value<'_>>) -> Result<Register, Bod
     registered(rows)
 }
 
-/// The register that a value loads. It has the fields `record` (a moment) and `rows`, which are
-/// arrays of a member, a kind (`individual`, `corporation` or `treasury`), a name, a number of
-/// shares and the pence paid up on each of them, and together make a register.
+/// The fields of the loading of a register: `record` (a moment) and `rows`, which are arrays of a
+/// member, a kind (`individual`, `corporation` or `treasury`), a name, a number of shares and the
+/// pence paid up on each of them, and together make a register.
+pub(crate) const LOAD: &[&str] = &["record", "rows"];
+
+/// The register that the fields load.
 #[tactic(auto, unfolding(crate::specs::RegisterBodies::load_in))]
-pub(crate) fn load(alloc: Global, value: &Value<'_>) -> Result<OfficeRequest, BodyError>
-    ensures { BodyAgrees id result (load_in (view value.now)) }
+pub(crate) fn load(alloc: Global, fields: &[Option<Value<'_>>]) -> Result<OfficeRequest, BodyError>
+    ensures { BodyAgrees id result (load_in (fields_view fields.now)) }
 {
-    exactly_fields(value, 2)?;
-    let record_moment = moment_in(field(value, "record"))?;
-    let rows = register_in(alloc, field(value, "rows"))?;
+    let record_moment = moment_in(field(fields, 0))?;
+    let rows = register_in(alloc, field(fields, 1))?;
     Ok(OfficeRequest::LoadRegister(NewRegister {
         record_moment,
         rows,

@@ -1,21 +1,24 @@
 //! Requests, as a meeting, a verb and a body ask them.
 ghost use Rattle.vocabulary.specs.Identity.{id};
-ghost use Rattle.json_requests.specs.BodyValues.{view};
+ghost use Rattle.std.specs.Prelude.{◌≡◌, ◌≤◌, length, true};
+ghost use Rattle.json_requests.specs.JsonFields.{fields_view};
+ghost use Rattle.json_requests.specs.MemberFields.{all_differ, texts};
+ghost use Rattle.json_requests.specs.declared.fields.TheConstants.{MOST_FIELDS};
 ghost use Rattle.json_requests.specs.Bodies.{read_by};
 ghost use Rattle.json_requests.specs.ParsedBodies.{BodyAgrees};
 ghost use Rattle.json_requests.specs.RefusalResults.{AskAgrees, or_unreadable};
-ghost use Rattle.json_requests.specs.Requests.{asked_in, asked_on_route, request_of};
-ghost use Rattle.json_requests.specs.Verbs.{office_way, party_way};
+ghost use Rattle.json_requests.specs.Requests.{asked_in, asked_on_route, request_of, route_fields};
+ghost use Rattle.json_requests.specs.Verbs.{office_fields, office_way, party_fields, party_way};
 
-use crate::appointment::{appoint, end};
+use crate::appointment::{APPOINT, END, appoint, end};
 use crate::ask::{Ask, BodyError};
-use crate::body::read_body;
-use crate::call::call;
-use crate::closed::closed;
-use crate::keys::keys;
-use crate::poll::{cast, close, declare, demand, instructed, order, start};
-use crate::presence::{adjourn, attend, authorise, open, presence};
-use crate::register::load;
+use crate::body::read_fields;
+use crate::call::{CALL, call};
+use crate::closed::{CLOSED, closed};
+use crate::keys::{KEYS, keys};
+use crate::poll::{CAST, ORDER, POLL, cast, close, declare, demand, instructed, order, start};
+use crate::presence::{ADJOURN, AUTHORISE, PRESENCE, adjourn, authorise, presence};
+use crate::register::{LOAD, load};
 use crate::route::{Route, route_of};
 use crate::verb::{OfficeVerb, PartyVerb};
 use desk_words::{DeskRequest, OfficeRequest, PartyRequest, Refusal, Request};
@@ -24,69 +27,128 @@ use std::alloc::Global;
 
 const ROUTE: Ask = Ask::Refused(Refusal::Route);
 
-/// What the office asks in a meeting, as a value says it.
-fn by_office(alloc: Global, verb: OfficeVerb, value: &Value<'_>) -> Result<OfficeRequest, BodyError>
-    ensures { BodyAgrees id result ((office_way verb).1 (view value.now)) }
+/// What the office asks in a meeting, as its fields say it.
+fn by_office(
+    alloc: Global,
+    verb: OfficeVerb,
+    fields: &[Option<Value<'_>>],
+) -> Result<OfficeRequest, BodyError>
+    ensures { BodyAgrees id result ((office_way verb).1 (fields_view fields.now)) }
 {
     match verb {
-        OfficeVerb::Presence => presence(value),
-        OfficeVerb::Register => load(alloc, value),
-        OfficeVerb::Open => open(value),
-        OfficeVerb::Adjourn => adjourn(value),
-        OfficeVerb::Order => order(value),
-        OfficeVerb::Start => start(value),
-        OfficeVerb::Close => close(value),
-        OfficeVerb::Declare => declare(value),
+        OfficeVerb::Presence => presence(fields),
+        OfficeVerb::Register => load(alloc, fields),
+        OfficeVerb::Open => Ok(OfficeRequest::OpenMeeting),
+        OfficeVerb::Adjourn => adjourn(fields),
+        OfficeVerb::Order => order(fields),
+        OfficeVerb::Start => start(fields),
+        OfficeVerb::Close => close(fields),
+        OfficeVerb::Declare => declare(fields),
     }
 }
 
-/// What a party asks in a meeting, as a value says it.
-fn by_party(alloc: Global, verb: PartyVerb, value: &Value<'_>) -> Result<PartyRequest, BodyError>
-    ensures { BodyAgrees id result ((party_way verb).1 (view value.now)) }
+/// What a party asks in a meeting, as its fields say it.
+fn by_party(
+    alloc: Global,
+    verb: PartyVerb,
+    fields: &[Option<Value<'_>>],
+) -> Result<PartyRequest, BodyError>
+    ensures { BodyAgrees id result ((party_way verb).1 (fields_view fields.now)) }
 {
     match verb {
         PartyVerb::Notice => Ok(PartyRequest::Notice),
         PartyVerb::Mine => Ok(PartyRequest::Mine),
-        PartyVerb::Appoint => appoint(alloc, value),
-        PartyVerb::End => end(value),
-        PartyVerb::Authorise => authorise(value),
-        PartyVerb::Attend => attend(value),
-        PartyVerb::Demand => demand(value),
-        PartyVerb::Cast => cast(value),
-        PartyVerb::Instructed => instructed(value),
+        PartyVerb::Appoint => appoint(alloc, fields),
+        PartyVerb::End => end(fields),
+        PartyVerb::Authorise => authorise(fields),
+        PartyVerb::Attend => Ok(PartyRequest::Attend),
+        PartyVerb::Demand => demand(fields),
+        PartyVerb::Cast => cast(fields),
+        PartyVerb::Instructed => instructed(fields),
+    }
+}
+
+impl OfficeVerb {
+    /// The fields that a body has where the office asks in a meeting.
+    fn fields(self) -> &'static [&'static str]
+        ensures few { length result.now ≤ MOST_FIELDS }
+        ensures differ { all_differ (texts result.now) ≡ true }
+        ensures value { texts result.now ≡ office_fields self }
+    {
+        match self {
+            OfficeVerb::Presence => PRESENCE,
+            OfficeVerb::Register => LOAD,
+            OfficeVerb::Open => &[],
+            OfficeVerb::Adjourn => ADJOURN,
+            OfficeVerb::Order => ORDER,
+            OfficeVerb::Start | OfficeVerb::Close | OfficeVerb::Declare => POLL,
+        }
+    }
+}
+
+impl PartyVerb {
+    /// The fields that a body has where a party asks in a meeting.
+    fn fields(self) -> &'static [&'static str]
+        ensures few { length result.now ≤ MOST_FIELDS }
+        ensures differ { all_differ (texts result.now) ≡ true }
+        ensures value { texts result.now ≡ party_fields self }
+    {
+        match self {
+            PartyVerb::Notice | PartyVerb::Mine | PartyVerb::Attend => &[],
+            PartyVerb::Appoint => APPOINT,
+            PartyVerb::End => END,
+            PartyVerb::Authorise => AUTHORISE,
+            PartyVerb::Demand | PartyVerb::Instructed => POLL,
+            PartyVerb::Cast => CAST,
+        }
     }
 }
 
 impl Route {
-    /// What is asked on a route, as a value says it.
-    fn asked_in(self, alloc: Global, value: &Value<'_>) -> Result<Request, BodyError>
-        ensures { BodyAgrees id result (asked_in self (view value.now)) }
+    /// The fields that a body has on a route.
+    fn fields(&self) -> &'static [&'static str]
+        ensures few { length result.now ≤ MOST_FIELDS }
+        ensures differ { all_differ (texts result.now) ≡ true }
+        ensures value { texts result.now ≡ route_fields self.now }
+    {
+        match self {
+            Route::Call(_) => CALL,
+            Route::Closed => CLOSED,
+            Route::Keys => KEYS,
+            Route::Office { verb, .. } => verb.fields(),
+            Route::Party { verb, .. } => verb.fields(),
+        }
+    }
+
+    /// What is asked on a route, as its fields say it.
+    fn asked_in(self, alloc: Global, fields: &[Option<Value<'_>>]) -> Result<Request, BodyError>
+        ensures { BodyAgrees id result (asked_in self (fields_view fields.now)) }
     {
         match self {
             Route::Call(meeting) => {
-                let new = call(alloc, meeting, value)?;
+                let new = call(alloc, meeting, fields)?;
                 Ok(Request::Desk(DeskRequest::CallMeeting(new)))
             }
             Route::Closed => {
-                let days = closed(alloc, value)?;
+                let days = closed(alloc, fields)?;
                 Ok(Request::Desk(DeskRequest::ClosedDays(days)))
             }
             Route::Keys => {
-                let rows = keys(alloc, value)?;
+                let rows = keys(alloc, fields)?;
                 Ok(Request::Desk(DeskRequest::Keys(rows)))
             }
             Route::Office { meeting, verb } => {
-                let asked = by_office(alloc, verb, value)?;
+                let asked = by_office(alloc, verb, fields)?;
                 Ok(Request::Office { meeting, asked })
             }
             Route::Party { meeting, verb } => {
-                let asked = by_party(alloc, verb, value)?;
+                let asked = by_party(alloc, verb, fields)?;
                 Ok(Request::Party { meeting, asked })
             }
         }
     }
 
-    /// What is asked on a route, as the value says that a body is.
+    /// What is asked on a route, as a body says it.
     #[tactic(auto, unfolding(crate::specs::Bodies::read_by))]
     fn asked_by(
         self,
@@ -94,10 +156,10 @@ impl Route {
         scratch: &mut Scratch,
         body: &[u8],
     ) -> Result<Request, BodyError>
-        ensures { BodyAgrees id result (read_by (asked_in self) body.now) }
+        ensures { BodyAgrees id result (read_by (route_fields self) (asked_in self) body.now) }
     {
-        let value = read_body(alloc, scratch, body)?;
-        self.asked_in(alloc, &value)
+        let fields = read_fields(alloc, scratch, self.fields(), body)?;
+        self.asked_in(alloc, fields.as_slice())
     }
 
     /// The request on a route, with what the body says of it. It is refused as `Unreadable` where
@@ -113,7 +175,7 @@ impl Route {
             Route::Party {
                 verb: PartyVerb::Notice | PartyVerb::Mine,
                 ..
-            } => self.asked_in(alloc, &Value::Null)?,
+            } => self.asked_in(alloc, &[])?,
             _ => self.asked_by(alloc, scratch, body)?,
         };
         Ok(asked)

@@ -1,0 +1,17 @@
+use Rattle.std.proofs.Common.{subst, ap, sym, ◌∙◌}
+use Rattle.json_requests.specs.Bodies.{fields_from}
+use Rattle.json_requests.specs.MemberFields.{texts}
+use Rattle.json_requests.specs.ParsedBodies.{BodyAgrees}
+use Rattle.json_requests.proofs.FieldLemmas.{no_fields-seen}
+use Rattle.json_requests.proofs.JsonBodyLemmas.{body_of-bytes, body_of-nothing}
+use Rattle.json_requests.proofs.body.read_fields.Goals as goal
+
+pub returns-then-is_empty : goal.returns-then-is_empty
+returns-then-is_empty c =
+    let nothing = body_of-nothing c.args.body.now (sym c.is_empty.ensures ∙ c.if-is_empty.true) in
+    ap (fields_from (texts c.args.names.now)) nothing ∙ no_fields-seen c.args.names.now _ c.no_values.ensures
+
+pub returns-else-is_empty : goal.returns-else-is_empty
+returns-else-is_empty c =
+    let same = body_of-bytes c.args.body.now (sym c.is_empty.ensures ∙ c.if-is_empty.false) in
+    subst (BodyAgrees _ c.read_bytes.result) (ap (fields_from (texts c.args.names.now)) (sym same)) c.read_bytes.ensures

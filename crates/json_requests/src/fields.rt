@@ -1,0 +1,142 @@
+//! The fields of the object that a body is: what stands at each of the names that are asked for.
+ghost use Rattle.std.specs.Prelude.{◌≡◌, ◌≤◌, ◌<◌, length, replicate, None, Some, Option, List, ℕ, OnOk, IfSome, slice_set, bytes_eq, option_map, true};
+ghost use Rattle.std.specs.Borrow.{Bor};
+ghost use Rattle.std.specs.List.{position_from};
+ghost use Rattle.json.specs.Json as tree;
+ghost use Rattle.json.specs.Value.{value_view};
+ghost use Rattle.json_requests.specs.JsonFields.{field, fields_view, json_at};
+ghost use Rattle.json_requests.specs.MemberFields.{object_read, after_begin_object, all_differ, fields_read, fitting, nested, texts};
+ghost use Rattle.json_requests.specs.ParsedBodies.{BodyAgrees};
+
+use crate::ask::BodyError;
+use crate::number::fits;
+use arrayvec::ArrayVec;
+use json::{Error, Reader, Token, Value};
+use std::alloc::Global;
+
+/// The most fields that are asked for.
+pub(crate) const MOST_FIELDS: usize = 6;
+
+/// How deep arrays and objects may nest in a body.
+const MOST_NESTED: usize = 127;
+
+/// What stands at each of the names that are asked for, in their order.
+pub(crate) type Fields<'a> = ArrayVec<Option<Value<'a>>, MOST_FIELDS>;
+
+/// Nothing at each of the names.
+pub(crate) fn no_values<'a>(names: &[&str]) -> Fields<'a>
+    requires { length names.now ≤ MOST_FIELDS }
+    ensures { result.items ≡ replicate (length names.now) None }
+{
+    let mut fields = ArrayVec::new();
+    while fields.len() < names.len() {
+        fields.push(None);
+    }
+    fields
+}
+
+/// What stands at the name in that place.
+pub(crate) fn field<'v, 'a>(fields: &'v [Option<Value<'a>>], place: usize) -> Option<&'v Value<'a>>
+    ensures { json_at result ≡ field place (fields_view fields.now) }
+{
+    match fields.get(place) {
+        Some(Some(value)) => Some(value),
+        _ => None,
+    }
+}
+
+fn place_of(names: &[&str], name: &str) -> Option<usize>
+    ensures first { result ≡ position_from (λ (own : Bor (List ℕ)). bytes_eq own.now name.now) 0 names.now }
+    ensures bound { IfSome result (λ place. place < length names.now) }
+{
+    names.iter().position(|own| *own == name)
+}
+
+fn put<'a>(fields: &mut [Option<Value<'a>>], place: usize, value: Value<'a>)
+    requires { place < length fields.old }
+    ensures { fields.new ≡ slice_set fields.old place (Some value.entry) }
+{
+    fields[place] = Some(value);
+}
+
+/// The next name, or none at the end of the object.
+#[inline(always)]
+fn next_name<'a>(reader: &mut Reader<'a>) -> Result<Option<&'a str>, BodyError>
+    ensures { BodyAgrees (λ name. (option_map (λ s. s.now) name, reader.new)) result
+        (tree.read_key reader.old) }
+{
+    match reader.next_key() {
+        Ok(name) => Ok(name),
+        Err(_) => Err(BodyError::Unreadable),
+    }
+}
+
+/// The next value, in which no number is too large.
+#[inline(always)]
+fn next_value<'a>(alloc: Global, reader: &mut Reader<'a>) -> Result<Value<'a>, BodyError>
+    ensures read { BodyAgrees (λ value. (value_view value, reader.new)) result
+        (fitting (tree.value nested reader.old)) }
+    ensures shorter { OnOk result (length reader.new < length reader.old) }
+{
+    let value = match Value::read(alloc, reader, MOST_NESTED - 1) {
+        Ok(value) => value,
+        Err(Error::Invalid) => return Err(BodyError::Unreadable),
+        Err(_) => return Err(BodyError::Memory),
+    };
+    if fits(&value) {
+        Ok(value)
+    } else {
+        Err(BodyError::Unreadable)
+    }
+}
+
+/// What stands at each of the names in the members that the reader is at. Of a name that is
+/// repeated the last value counts, and what is not asked for is refused.
+#[inline(always)]
+fn read_members<'a>(
+    alloc: Global,
+    reader: &mut Reader<'a>,
+    names: &[&str],
+) -> Result<Fields<'a>, BodyError>
+    requires few { length names.now ≤ MOST_FIELDS }
+    requires differ { all_differ (texts names.now) ≡ true }
+    ensures { BodyAgrees (λ fields. (fields_view fields.items, reader.new)) result
+        (fields_read (texts names.now) reader.old) }
+{
+    let mut fields = no_values(names);
+    while let Some(name) = next_name(reader)? {
+        let value = next_value(alloc, reader)?;
+        match place_of(names, name) {
+            Some(place) => put(fields.as_mut_slice(), place, value),
+            None => return Err(BodyError::Unreadable),
+        }
+    }
+    Ok(fields)
+}
+
+/// Takes the brace that opens an object.
+#[inline(always)]
+fn open_object(reader: &mut Reader<'_>) -> Result<(), BodyError>
+    ensures { BodyAgrees (λ _. reader.new) result (after_begin_object reader.old) }
+{
+    match reader.next() {
+        Some(Token::BeginObject) => Ok(()),
+        _ => Err(BodyError::Unreadable),
+    }
+}
+
+/// What stands at each of the names in the object that the reader is at.
+#[inline(always)]
+pub(crate) fn read_object<'a>(
+    alloc: Global,
+    reader: &mut Reader<'a>,
+    names: &[&str],
+) -> Result<Fields<'a>, BodyError>
+    requires few { length names.now ≤ MOST_FIELDS }
+    requires differ { all_differ (texts names.now) ≡ true }
+    ensures { BodyAgrees (λ fields. (fields_view fields.items, reader.new)) result
+        (object_read (texts names.now) reader.old) }
+{
+    open_object(reader)?;
+    read_members(alloc, reader, names)
+}
