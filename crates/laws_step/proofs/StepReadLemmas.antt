@@ -1,23 +1,24 @@
 -- What is read of the rows gives what is read of the own things.
 use Rattle.std.proofs.Common.{◌≡◌, ℕ, Bool, true, false, cond, List, [], ◌∷◌, filter, refl, ap, sym, ◌∙◌, true≢false}
-use Rattle.std.specs.Prelude.{◌==◌, Some, None}
+use Rattle.std.specs.Prelude.{◌==◌, Option, Some, None}
 use Rattle.std.specs.Option.{option_map_or}
 use Rattle.vocabulary.specs.Names.{same_name}
 use Rattle.vocabulary.specs.declared.kinds.Capacity.{Capacity}
-use Rattle.vocabulary.specs.declared.kinds.Capacity.TheVariants.{Rep, Proxy}
+use Rattle.vocabulary.specs.declared.kinds.Capacity.TheVariants.{Member, Rep, Proxy}
 use Rattle.desk_words.specs.Rulings.{is_refused, ruled_answer}
 use Rattle.desk_words.specs.declared.answer.Answer.{Answer}
 use Rattle.desk_words.specs.declared.change.Entry.{Entry}
 use Rattle.desk_words.specs.declared.records.Appointment.{Appointment}
 use Rattle.desk_words.specs.declared.records.CastMark.{CastMark}
+use Rattle.desk_words.specs.declared.records.RegisterRow.{RegisterRow}
 use Rattle.desk_words.specs.declared.request.NewCast.{NewCast}
 use Rattle.desk_words.specs.declared.request.PartyRequest.{PartyRequest}
-use Rattle.desk_words.specs.declared.request.PartyRequest.TheVariants.{Mine, Cast, Instructed}
+use Rattle.desk_words.specs.declared.request.PartyRequest.TheVariants.{Mine, Demand, Cast, Instructed}
 use Rattle.proxy_rules.specs.Holdings.{is_given_by}
 use Rattle.caller_view.specs.PartyRulings.{party_ruling}
-use Rattle.party_views.specs.OwnViews.{nothing_of, own_by, own_from}
+use Rattle.party_views.specs.OwnViews.{holds_as_individual, nothing_of, own_by, own_from}
 use Rattle.party_views.specs.Public.{PublicRecord}
-use Rattle.party_views.specs.RowsRead.{appointments_read, authorities_read, cast_on, members_read, own_read, polls_read, rows_read}
+use Rattle.party_views.specs.RowsRead.{appointments_read, authorities_read, cast_on, members_read, own_read, polls_read, row_read, rows_read}
 use Rattle.party_views.specs.PartyRows.{no_rows_of, rows_in}
 use Rattle.party_views.specs.Views.{own_in, public_in, meeting_at}
 use Rattle.party_views.specs.declared.own_rows.AuthorityRows.{AuthorityRows}
@@ -56,16 +57,32 @@ authorities-again new authorised other = refl
 casts-again : (resolution : ℕ) (casts : List CastMark) → cast_on resolution (cast_on resolution casts) ≡ cast_on resolution casts
 casts-again resolution casts = filter-again (λ (c : CastMark). c.resolution == resolution) casts
 
+row-again : (row : Option RegisterRow) (capacity : Capacity) → row_read (row_read row capacity) capacity ≡ row_read row capacity
+row-again row Member = refl
+row-again row other = refl
+
+unless-again : {X : Type 0} (individual : Bool) (xs : List X) → cond individual [] (cond individual [] xs) ≡ cond individual [] xs
+unless-again true xs = refl
+unless-again false xs = refl
+
 -- of the rows that are read the same are read
 rows-again : (asked : PartyRequest) (rows : OwnRows) → rows_read asked (rows_read asked rows) ≡ rows_read asked rows
 rows-again Mine rows = refl
+rows-again (Demand resolution) rows =
+    let individual = holds_as_individual rows.row in
+    λ i. record (rows_read (Demand resolution) rows) {
+      received = unless-again individual rows.received i;
+      members = unless-again individual rows.members i;
+      authorised = unless-again individual rows.authorised i;
+    }
 rows-again (Cast new) rows =
+    let row = row-again rows.row new.capacity in
     let received = appointments-again new rows.received new.capacity in
     let members = members-again new rows.members new.capacity in
     let authorised = authorities-again new rows.authorised new.capacity in
     let casts = casts-again new.resolution rows.casts in
     λ i. record (no_rows_of rows.party) {
-      row = rows.row;
+      row = row i;
       received = received i;
       members = members i;
       authorised = authorised i;
