@@ -1,5 +1,5 @@
 -- The meeting that is called has the name that was given.
-use Rattle.std.proofs.Common.{◌≡◌, ℕ, List, Option, Some, None, refl, subst}
+use Rattle.std.proofs.Common.{◌≡◌, ℕ, List, [], ◌∷◌, Option, Some, None, refl, subst}
 use Rattle.calendar.specs.DateTexts.{day_of, moment_of}
 use Rattle.vocabulary.specs.Kinds.{company_of, meeting_kind_of}
 use Rattle.desk_words.specs.declared.request.NewMeeting.{NewMeeting}
@@ -22,7 +22,7 @@ keeps_next kept None next later = record { some = λ y e. cc }
 -- the meeting that is called has the name
 pub call_keeps : (meeting : List ℕ) (fields : Fields) → Keeps (λ (new : NewMeeting). Some meeting ≡ Some new.meeting) (call_body meeting fields)
 unfolding call_body
-call_keeps meeting fields =
+call_keeps meeting (company ∷ kind ∷ given ∷ appointed ∷ record_moment ∷ resolutions ∷ []) =
     let kept : NewMeeting → Type 0 = λ new. Some meeting ≡ Some new.meeting in
     keeps_next kept (parsed_at company_of _) _ (λ company.
     keeps_next kept (parsed_at meeting_kind_of _) _ (λ kind.
@@ -30,3 +30,4 @@ call_keeps meeting fields =
     keeps_next kept (parsed_at moment_of _) _ (λ appointed.
     keeps_next kept (parsed_at moment_of _) _ (λ record_moment.
     keeps_next kept (resolutions_in _) _ (λ resolutions. keeps_some kept _ refl))))))
+call_keeps meeting other = record { some = λ y e. cc }

@@ -10,7 +10,7 @@ use Rattle.desk_words.specs.ViewTypes.{MeetingName}
 use Rattle.desk_words.specs.declared.request.NewMeeting.{NewMeeting}
 use Rattle.vocabulary.specs.OptionSteps.{guard, ◌>>=◌}
 use Rattle.vocabulary.specs.PlainTexts.{text_of}
-use Rattle.json_requests.specs.JsonFields.{Fields, field, has_items, items_in, parsed_at, all_items}
+use Rattle.json_requests.specs.JsonFields.{Fields, has_items, items_in, parsed_at, all_items}
 
 -- a resolution is a pair of its kind and its text
 unfoldable pub resolution_at : Data → Option Resolution
@@ -39,19 +39,21 @@ call_fields =
 
 -- the meeting of a name that six fields call (section 307), each of its form
 unfoldable pub call_body : MeetingName → Fields → Option NewMeeting
-call_body meeting fields = do
-  company ← parsed_at company_of (field 0 fields)
-  kind ← parsed_at meeting_kind_of (field 1 fields)
-  given ← parsed_at day_of (field 2 fields)
-  appointed ← parsed_at moment_of (field 3 fields)
-  record_moment ← parsed_at moment_of (field 4 fields)
-  resolutions ← resolutions_in (field 5 fields)
-  Some (record {
-    meeting = meeting;
-    company = company;
-    kind = kind;
-    given = given;
-    appointed = appointed;
-    record_moment = record_moment;
-    resolutions = resolutions;
-  })
+call_body meeting
+    (company_at ∷ kind_at ∷ given_at ∷ appointed_at ∷ record_at ∷ resolutions_at ∷ []) = do
+      company ← parsed_at company_of company_at
+      kind ← parsed_at meeting_kind_of kind_at
+      given ← parsed_at day_of given_at
+      appointed ← parsed_at moment_of appointed_at
+      record_moment ← parsed_at moment_of record_at
+      resolutions ← resolutions_in resolutions_at
+      Some (record {
+        meeting = meeting;
+        company = company;
+        kind = kind;
+        given = given;
+        appointed = appointed;
+        record_moment = record_moment;
+        resolutions = resolutions;
+      })
+call_body meeting other = None

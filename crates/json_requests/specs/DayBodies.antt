@@ -1,11 +1,11 @@
 -- The loading of closed days.
-use Rattle.std.specs.Prelude.{ℕ, List, [], ◌∷◌, Option, Some, codes}
+use Rattle.std.specs.Prelude.{ℕ, List, [], ◌∷◌, Option, None, Some, codes}
 use Rattle.serde_json.specs.Data.{Data}
 use Rattle.calendar.specs.DateTexts.{day_of}
 use Rattle.desk_words.specs.SortedLists.{day_list_of}
 use Rattle.desk_words.specs.ViewTypes.{Day}
 use Rattle.vocabulary.specs.OptionSteps.{◌>>=◌}
-use Rattle.json_requests.specs.JsonFields.{Fields, field, items_in, parsed_at, all_items}
+use Rattle.json_requests.specs.JsonFields.{Fields, items_in, parsed_at, all_items}
 
 -- a value is a day
 unfoldable pub day_at : Data → Option Day
@@ -24,4 +24,5 @@ closed_fields = codes "days" ∷ []
 
 -- the closed days that one field loads (section 1173)
 unfoldable pub closed_body : Fields → Option (List Day)
-closed_body fields = days_body (field 0 fields)
+closed_body (days_at ∷ []) = days_body days_at
+closed_body other = None

@@ -1,5 +1,5 @@
 -- What stands at a place in a JSON value: at a name in an object, or at an index in an array.
-use Rattle.std.specs.Prelude.{ℕ, Bool, true, false, ◌==◌, ◌&&◌, List, [], ◌∷◌, map, get_or, Option, Some, None, option_map, option_and_then, bytes_eq, if◌then◌else◌}
+use Rattle.std.specs.Prelude.{ℕ, Bool, true, false, ◌==◌, ◌&&◌, List, [], ◌∷◌, map, Option, Some, None, option_map, option_and_then, bytes_eq, if◌then◌else◌}
 use Rattle.std.specs.Borrow.{Bor}
 use Rattle.std.specs.List.{list_any}
 use Rattle.std.specs.Option.{option_map_or}
@@ -36,10 +36,6 @@ fields_among names ms =
 -- what stands at each of the names in an object, which has no other field
 unfoldable pub fields_in : List (List ℕ) → Data → Option Fields
 fields_in names d = as_object d >>= fields_among names
-
--- what stands at the name in that place
-abbrev pub field : ℕ → Fields → Option Data
-field place fields = get_or fields place None
 
 -- values that may be missing, as fields
 abbrev pub fields_view : List (Option (Value Global)) → Fields

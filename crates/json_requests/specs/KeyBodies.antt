@@ -1,5 +1,5 @@
 -- The loading of keys.
-use Rattle.std.specs.Prelude.{ℕ, List, [], ◌∷◌, Option, Some, codes}
+use Rattle.std.specs.Prelude.{ℕ, List, [], ◌∷◌, Option, None, Some, codes}
 use Rattle.serde_json.specs.Data.{Data}
 use Rattle.serde_json.specs.Find.{at}
 use Rattle.vocabulary.specs.Names.{key_of}
@@ -7,7 +7,7 @@ use Rattle.desk_words.specs.Callers.{caller_of}
 use Rattle.desk_words.specs.SortedLists.{key_list_of}
 use Rattle.desk_words.specs.declared.caller.KeyRow.{KeyRow}
 use Rattle.vocabulary.specs.OptionSteps.{guard, ◌>>=◌}
-use Rattle.json_requests.specs.JsonFields.{Fields, field, has_items, items_in, parsed_at, all_items}
+use Rattle.json_requests.specs.JsonFields.{Fields, has_items, items_in, parsed_at, all_items}
 
 -- a row is a pair of a caller and its key
 unfoldable pub key_row_of : Data → Option KeyRow
@@ -30,4 +30,5 @@ keys_fields = codes "rows" ∷ []
 
 -- the keys that one field loads
 unfoldable pub keys_body : Fields → Option (List KeyRow)
-keys_body fields = key_rows_in (field 0 fields)
+keys_body (rows_at ∷ []) = key_rows_in rows_at
+keys_body other = None

@@ -1,5 +1,5 @@
 -- Polls, and the votes on them.
-use Rattle.std.specs.Prelude.{ℕ, List, [], ◌∷◌, Option, Some, codes}
+use Rattle.std.specs.Prelude.{ℕ, List, [], ◌∷◌, Option, None, Some, codes}
 use Rattle.calendar.specs.DateTexts.{moment_of}
 use Rattle.vocabulary.specs.Kinds.{capacity_of, way_of}
 use Rattle.vocabulary.specs.Names.{party_of}
@@ -9,7 +9,7 @@ use Rattle.desk_words.specs.declared.request.OfficeRequest.TheVariants.{Order, S
 use Rattle.desk_words.specs.declared.request.PartyRequest.{PartyRequest}
 use Rattle.desk_words.specs.declared.request.PartyRequest.TheVariants.{Demand, Cast, Instructed}
 use Rattle.vocabulary.specs.OptionSteps.{◌>>=◌}
-use Rattle.json_requests.specs.JsonFields.{Fields, field, number_at, flag_at, parsed_at}
+use Rattle.json_requests.specs.JsonFields.{Fields, number_at, flag_at, parsed_at}
 
 -- the fields of the ordering of a poll
 abbrev pub order_fields : List (List ℕ)
@@ -17,11 +17,12 @@ order_fields = codes "resolution" ∷ codes "take" ∷ codes "chair" ∷ []
 
 -- the poll that three fields order (section 321), each of its form
 unfoldable pub order_in : Fields → Option OfficeRequest
-order_in fields = do
-  resolution ← number_at (field 0 fields)
-  take ← parsed_at moment_of (field 1 fields)
-  chair ← flag_at (field 2 fields)
+order_in (resolution_at ∷ take_at ∷ chair_at ∷ []) = do
+  resolution ← number_at resolution_at
+  take ← parsed_at moment_of take_at
+  chair ← flag_at chair_at
   Some (Order (record { resolution = resolution; take = take; chair = chair }))
+order_in other = None
 
 -- the fields of what names a poll
 abbrev pub poll_fields : List (List ℕ)
@@ -29,7 +30,8 @@ poll_fields = codes "resolution" ∷ []
 
 -- the poll that one field names, by its resolution
 unfoldable pub poll_body : Fields → Option Number
-poll_body fields = number_at (field 0 fields)
+poll_body (resolution_at ∷ []) = number_at resolution_at
+poll_body other = None
 
 -- the start of that poll
 unfoldable pub start_in : Fields → Option OfficeRequest
@@ -62,13 +64,13 @@ cast_fields =
 
 -- the vote that six fields cast (sections 284, 322, 323 and 324), each of its form
 unfoldable pub cast_body : Fields → Option PartyRequest
-cast_body fields = do
-  resolution ← number_at (field 0 fields)
-  capacity ← parsed_at capacity_of (field 1 fields)
-  member ← parsed_at party_of (field 2 fields)
-  from ← number_at (field 3 fields)
-  to ← number_at (field 4 fields)
-  way ← parsed_at way_of (field 5 fields)
+cast_body (resolution_at ∷ capacity_at ∷ member_at ∷ from_at ∷ to_at ∷ way_at ∷ []) = do
+  resolution ← number_at resolution_at
+  capacity ← parsed_at capacity_of capacity_at
+  member ← parsed_at party_of member_at
+  from ← number_at from_at
+  to ← number_at to_at
+  way ← parsed_at way_of way_at
   Some
       (Cast
       (record {
@@ -79,6 +81,7 @@ cast_body fields = do
         to = to;
         way = way;
       }))
+cast_body other = None
 
 -- what is cast as instructed (section 324A)
 unfoldable pub instructed_in : Fields → Option PartyRequest

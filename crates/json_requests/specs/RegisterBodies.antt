@@ -1,5 +1,5 @@
 -- The loading of a register.
-use Rattle.std.specs.Prelude.{ℕ, List, [], ◌∷◌, Option, Some, codes}
+use Rattle.std.specs.Prelude.{ℕ, List, [], ◌∷◌, Option, None, Some, codes}
 use Rattle.serde_json.specs.Data.{Data}
 use Rattle.serde_json.specs.Find.{at}
 use Rattle.calendar.specs.DateTexts.{moment_of}
@@ -11,7 +11,7 @@ use Rattle.desk_words.specs.declared.request.OfficeRequest.{OfficeRequest}
 use Rattle.desk_words.specs.declared.request.OfficeRequest.TheVariants.{LoadRegister}
 use Rattle.vocabulary.specs.OptionSteps.{guard, ◌>>=◌}
 use Rattle.vocabulary.specs.PlainTexts.{text_of}
-use Rattle.json_requests.specs.JsonFields.{Fields, field, has_items, items_in, number_at, parsed_at, all_items}
+use Rattle.json_requests.specs.JsonFields.{Fields, has_items, items_in, number_at, parsed_at, all_items}
 
 -- a row is a member, its kind, its name, its shares and what is paid up on each of them
 unfoldable pub row_at : Data → Option RegisterRow
@@ -37,7 +37,8 @@ load_fields = codes "record" ∷ codes "rows" ∷ []
 
 -- the register that two fields load, each of its form
 unfoldable pub load_in : Fields → Option OfficeRequest
-load_in fields = do
-  record_moment ← parsed_at moment_of (field 0 fields)
-  rows ← register_body (field 1 fields)
+load_in (record_moment_at ∷ rows_at ∷ []) = do
+  record_moment ← parsed_at moment_of record_moment_at
+  rows ← register_body rows_at
   Some (LoadRegister (record { record_moment = record_moment; rows = rows }))
+load_in other = None

@@ -9,7 +9,7 @@ ghost use Rattle.json_requests.specs.AppointmentBodies.{instruction_at, instruct
 ghost use Rattle.json_requests.specs.JsonFields.{json_at, all_items, fields_view};
 
 use crate::ask::BodyError;
-use crate::fields::field;
+use crate::fields::at;
 use crate::place::{instruction_in, items_in, number_in, party_in};
 use desk_words::limits::MOST_RESOLUTIONS;
 use desk_words::{Instr, Listing, NewAppointment, PartyRequest};
@@ -69,10 +69,13 @@ pub(crate) fn appoint(
 ) -> Result<PartyRequest, BodyError>
     ensures { BodyAgrees id result (appoint_body (fields_view fields.now)) }
 {
-    let proxy = party_in(field(fields, 0))?;
-    let from = number_in(field(fields, 1))?;
-    let to = number_in(field(fields, 2))?;
-    let instructions = instructions_in(alloc, field(fields, 3))?;
+    let [proxy, from, to, instructions] = fields else {
+        return Err(BodyError::Unreadable);
+    };
+    let proxy = party_in(at(proxy))?;
+    let from = number_in(at(from))?;
+    let to = number_in(at(to))?;
+    let instructions = instructions_in(alloc, at(instructions))?;
     Ok(PartyRequest::Appoint(NewAppointment {
         proxy,
         from,
@@ -89,6 +92,9 @@ pub(crate) const END: &[&str] = &["number"];
 pub(crate) fn end(fields: &[Option<Value<'_>>]) -> Result<PartyRequest, BodyError>
     ensures { BodyAgrees id result (end_in (fields_view fields.now)) }
 {
-    let number = number_in(field(fields, 0))?;
+    let [number] = fields else {
+        return Err(BodyError::Unreadable);
+    };
+    let number = number_in(at(number))?;
     Ok(PartyRequest::End(number))
 }

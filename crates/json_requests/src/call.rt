@@ -6,7 +6,7 @@ ghost use Rattle.json_requests.specs.JsonFields.{json_at, all_items, fields_view
 ghost use Rattle.json_requests.specs.CallBodies.{resolution_at, checked_resolutions, resolutions_in, call_body};
 
 use crate::ask::BodyError;
-use crate::fields::field;
+use crate::fields::at;
 use crate::place::{
     company_in, day_in, exactly_items, items_in, meeting_kind_in, moment_in, resolution_kind_in,
     text_in,
@@ -77,12 +77,15 @@ pub(crate) fn call(
 ) -> Result<NewMeeting, BodyError>
     ensures { BodyAgrees id result (call_body meeting (fields_view fields.now)) }
 {
-    let company = company_in(field(fields, 0))?;
-    let kind = meeting_kind_in(field(fields, 1))?;
-    let given = day_in(field(fields, 2))?;
-    let appointed = moment_in(field(fields, 3))?;
-    let record_moment = moment_in(field(fields, 4))?;
-    let resolutions = resolutions_in(alloc, field(fields, 5))?;
+    let [company, kind, given, appointed, record_moment, resolutions] = fields else {
+        return Err(BodyError::Unreadable);
+    };
+    let company = company_in(at(company))?;
+    let kind = meeting_kind_in(at(kind))?;
+    let given = day_in(at(given))?;
+    let appointed = moment_in(at(appointed))?;
+    let record_moment = moment_in(at(record_moment))?;
+    let resolutions = resolutions_in(alloc, at(resolutions))?;
     Ok(NewMeeting {
         meeting,
         company,

@@ -7,7 +7,7 @@ ghost use Rattle.desk_words.specs.SortedLists.{day_list_of};
 ghost use Rattle.json_requests.specs.JsonFields.{json_at, all_items, fields_view};
 
 use crate::ask::BodyError;
-use crate::fields::field;
+use crate::fields::at;
 use crate::place::{day_in, items_in};
 use desk_words::{Day, DayList, ListFault};
 use json::Value;
@@ -58,5 +58,8 @@ pub(crate) const CLOSED: &[&str] = &["days"];
 pub(crate) fn closed(alloc: Global, fields: &[Option<Value<'_>>]) -> Result<DayList, BodyError>
     ensures { BodyAgrees id result (closed_body (fields_view fields.now)) }
 {
-    days_in(alloc, field(fields, 0))
+    let [days] = fields else {
+        return Err(BodyError::Unreadable);
+    };
+    days_in(alloc, at(days))
 }

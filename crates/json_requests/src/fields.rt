@@ -4,7 +4,8 @@ ghost use Rattle.std.specs.Borrow.{Bor};
 ghost use Rattle.std.specs.List.{position_from};
 ghost use Rattle.json.specs.Json as tree;
 ghost use Rattle.json.specs.Value.{value_view};
-ghost use Rattle.json_requests.specs.JsonFields.{field, fields_view, json_at};
+ghost use Rattle.json_requests.specs.BodyValues.{view};
+ghost use Rattle.json_requests.specs.JsonFields.{fields_view, json_at};
 ghost use Rattle.json_requests.specs.MemberFields.{object_read, after_begin_object, all_differ, fields_read, fitting, nested, texts};
 ghost use Rattle.json_requests.specs.ParsedBodies.{BodyAgrees};
 
@@ -35,14 +36,11 @@ pub(crate) fn no_values<'a>(names: &[&str]) -> Fields<'a>
     fields
 }
 
-/// What stands at the name in that place.
-pub(crate) fn field<'v, 'a>(fields: &'v [Option<Value<'a>>], place: usize) -> Option<&'v Value<'a>>
-    ensures { json_at result ≡ field place (fields_view fields.now) }
+/// What stands there, if anything does.
+pub(crate) fn at<'v, 'a>(place: &'v Option<Value<'a>>) -> Option<&'v Value<'a>>
+    ensures { json_at result ≡ option_map view place.now }
 {
-    match fields.get(place) {
-        Some(Some(value)) => Some(value),
-        _ => None,
-    }
+    place.as_ref()
 }
 
 fn place_of(names: &[&str], name: &str) -> Option<usize>

@@ -7,7 +7,7 @@ ghost use Rattle.json_requests.specs.KeyBodies.{key_row_of, key_rows_in, keys_bo
 ghost use Rattle.json_requests.specs.JsonFields.{json_at, all_items, fields_view};
 
 use crate::ask::BodyError;
-use crate::fields::field;
+use crate::fields::at;
 use crate::place::{caller_in, exactly_items, items_in, key_in};
 use crate::value::item;
 use desk_words::{Caller, KeyRow, KeyRows, ListFault};
@@ -66,5 +66,8 @@ pub(crate) const KEYS: &[&str] = &["rows"];
 pub(crate) fn keys(alloc: Global, fields: &[Option<Value<'_>>]) -> Result<KeyRows, BodyError>
     ensures { BodyAgrees id result (keys_body (fields_view fields.now)) }
 {
-    key_rows_in(alloc, field(fields, 0))
+    let [rows] = fields else {
+        return Err(BodyError::Unreadable);
+    };
+    key_rows_in(alloc, at(rows))
 }

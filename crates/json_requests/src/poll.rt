@@ -5,7 +5,7 @@ ghost use Rattle.json_requests.specs.ParsedBodies.{BodyAgrees};
 ghost use Rattle.json_requests.specs.PollBodies.{order_in, poll_body, start_in, close_in, declare_in, demand_body, cast_body, instructed_in};
 
 use crate::ask::BodyError;
-use crate::fields::field;
+use crate::fields::at;
 use crate::place::{capacity_in, flag_in, moment_in, number_in, party_in, way_in};
 use desk_words::{NewCast, NewPoll, OfficeRequest, PartyRequest};
 use json::Value;
@@ -19,9 +19,12 @@ pub(crate) const ORDER: &[&str] = &["resolution", "take", "chair"];
 pub(crate) fn order(fields: &[Option<Value<'_>>]) -> Result<OfficeRequest, BodyError>
     ensures { BodyAgrees id result (order_in (fields_view fields.now)) }
 {
-    let resolution = number_in(field(fields, 0))?;
-    let take = moment_in(field(fields, 1))?;
-    let chair = flag_in(field(fields, 2))?;
+    let [resolution, take, chair] = fields else {
+        return Err(BodyError::Unreadable);
+    };
+    let resolution = number_in(at(resolution))?;
+    let take = moment_in(at(take))?;
+    let chair = flag_in(at(chair))?;
     Ok(OfficeRequest::Order(NewPoll {
         resolution,
         take,
@@ -37,7 +40,10 @@ pub(crate) const POLL: &[&str] = &["resolution"];
 fn poll_in(fields: &[Option<Value<'_>>]) -> Result<u64, BodyError>
     ensures { BodyAgrees id result (poll_body (fields_view fields.now)) }
 {
-    number_in(field(fields, 0))
+    let [resolution] = fields else {
+        return Err(BodyError::Unreadable);
+    };
+    number_in(at(resolution))
 }
 
 #[tactic(auto, unfolding(crate::specs::PollBodies::start_in))]
@@ -89,12 +95,15 @@ pub(crate) const CAST: &[&str] = &["resolution", "as", "member", "from", "to", "
 pub(crate) fn cast(fields: &[Option<Value<'_>>]) -> Result<PartyRequest, BodyError>
     ensures { BodyAgrees id result (cast_body (fields_view fields.now)) }
 {
-    let resolution = number_in(field(fields, 0))?;
-    let capacity = capacity_in(field(fields, 1))?;
-    let member = party_in(field(fields, 2))?;
-    let from = number_in(field(fields, 3))?;
-    let to = number_in(field(fields, 4))?;
-    let way = way_in(field(fields, 5))?;
+    let [resolution, capacity, member, from, to, way] = fields else {
+        return Err(BodyError::Unreadable);
+    };
+    let resolution = number_in(at(resolution))?;
+    let capacity = capacity_in(at(capacity))?;
+    let member = party_in(at(member))?;
+    let from = number_in(at(from))?;
+    let to = number_in(at(to))?;
+    let way = way_in(at(way))?;
     Ok(PartyRequest::Cast(NewCast {
         resolution,
         capacity,

@@ -6,7 +6,7 @@ ghost use Rattle.json_requests.specs.ParsedBodies.{BodyAgrees};
 ghost use Rattle.json_requests.specs.PresenceBodies.{adjourn_in, presence_body};
 
 use crate::ask::BodyError;
-use crate::fields::field;
+use crate::fields::at;
 use crate::place::{moment_in, party_in};
 use desk_words::{OfficeRequest, PartyRequest};
 use json::Value;
@@ -19,7 +19,10 @@ pub(crate) const ADJOURN: &[&str] = &["appointed"];
 pub(crate) fn adjourn(fields: &[Option<Value<'_>>]) -> Result<OfficeRequest, BodyError>
     ensures { BodyAgrees id result (adjourn_in (fields_view fields.now)) }
 {
-    let appointed = moment_in(field(fields, 0))?;
+    let [appointed] = fields else {
+        return Err(BodyError::Unreadable);
+    };
+    let appointed = moment_in(at(appointed))?;
     Ok(OfficeRequest::Adjourn(appointed))
 }
 
@@ -31,7 +34,10 @@ pub(crate) const PRESENCE: &[&str] = &["party"];
 pub(crate) fn presence(fields: &[Option<Value<'_>>]) -> Result<OfficeRequest, BodyError>
     ensures { BodyAgrees id result (presence_body (fields_view fields.now)) }
 {
-    let party = party_in(field(fields, 0))?;
+    let [party] = fields else {
+        return Err(BodyError::Unreadable);
+    };
+    let party = party_in(at(party))?;
     Ok(OfficeRequest::Presence(party))
 }
 
@@ -43,6 +49,9 @@ pub(crate) const AUTHORISE: &[&str] = &["person"];
 pub(crate) fn authorise(fields: &[Option<Value<'_>>]) -> Result<PartyRequest, BodyError>
     ensures { BodyAgrees id result (authorise_in (fields_view fields.now)) }
 {
-    let person = party_in(field(fields, 0))?;
+    let [person] = fields else {
+        return Err(BodyError::Unreadable);
+    };
+    let person = party_in(at(person))?;
     Ok(PartyRequest::Authorise(person))
 }

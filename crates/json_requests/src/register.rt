@@ -7,7 +7,7 @@ ghost use Rattle.json_requests.specs.JsonFields.{json_at, all_items, fields_view
 ghost use Rattle.json_requests.specs.RegisterBodies.{row_at, register_body, load_in};
 
 use crate::ask::BodyError;
-use crate::fields::field;
+use crate::fields::at;
 use crate::place::{
     exactly_items, holder_kind_in, items_in, moment_in, number_in, party_in, text_in,
 };
@@ -75,8 +75,11 @@ pub(crate) const LOAD: &[&str] = &["record", "rows"];
 pub(crate) fn load(alloc: Global, fields: &[Option<Value<'_>>]) -> Result<OfficeRequest, BodyError>
     ensures { BodyAgrees id result (load_in (fields_view fields.now)) }
 {
-    let record_moment = moment_in(field(fields, 0))?;
-    let rows = register_in(alloc, field(fields, 1))?;
+    let [record_moment, rows] = fields else {
+        return Err(BodyError::Unreadable);
+    };
+    let record_moment = moment_in(at(record_moment))?;
+    let rows = register_in(alloc, at(rows))?;
     Ok(OfficeRequest::LoadRegister(NewRegister {
         record_moment,
         rows,
