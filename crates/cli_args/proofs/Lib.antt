@@ -1,3 +1,2 @@
 pub mod AppLemmas
-pub mod ArgsNumberLemmas
-pub mod PlanLemmas
+pub mod WordLemmas

@@ -1,6 +1,7 @@
 -- The commands of the program, over the words of `clap`.
 use Rattle.std.specs.Prelude.{◌≡◌, false, true, [], ◌∷◌, Some, codes}
-use Rattle.clap.specs.Walk.{Rule, Text}
+use Rattle.clap.specs.Walk.{Rule, Text, rule_of}
+use Rattle.clap.specs.declared.builder.arg.Arg.{Arg}
 use Rattle.clap.specs.declared.builder.value_parser.ValueParser.TheVariants as parser
 use Rattle.clap.specs.declared.builder.command.Command.{Command}
 use Rattle.clap.specs.declared.builder.command.Command.TheViews.{out-Command}
@@ -101,10 +102,11 @@ desk_app =
 abbrev pub IsCommand : Command → App → Type 0
 IsCommand c a = (app_of c ≡ a) × ((out-Command c).has_globals ≡ false)
 
--- the command is the other one, so changed, and has a global argument only if that one had
-abbrev pub ExtendsCommand : Command → Command → (App → App) → Type 0
-ExtendsCommand old new change =
-    (app_of new ≡ change (app_of old))
+-- the command takes one argument more, which is not global
+abbrev pub TakesArg : Command → Arg → Command → Type 0
+TakesArg old arg new =
+    arg.global ≡ false
+    → (app_of new ≡ with_rule (app_of old) (rule_of arg))
     × ((out-Command new).has_globals ≡ (out-Command old).has_globals)
 
 -- the command takes one more under it, where neither has a global argument

@@ -1,2 +1,2 @@
 pub mod App
-pub mod Plans
+pub mod Words

@@ -66,38 +66,25 @@ fn requests<'a>(alloc: Global) -> Arg<'a>
     within(requests, 1, 1_000_000_000)
 }
 
-/// The command, and one word more that it takes.
-fn with_word<'a>(
-    alloc: Global,
-    command: Command<'a>,
-    id: &'a str,
-    help: &'a str,
+/// The command, and one argument more that it takes.
+fn with_arg<'a>(command: Command<'a>, arg: Arg<'a>) -> Result<Command<'a>, AllocError>
+    ensures { IfOk result (λ c. spec.TakesArg command.entry arg.entry c) }
+{
+    command.arg(arg)
+}
+
+/// The same, if the command could be made.
+fn and_arg<'a>(
+    command: Result<Command<'a>, AllocError>,
+    arg: Arg<'a>,
 ) -> Result<Command<'a>, AllocError>
     ensures { IfOk result
-        (λ c. spec.ExtendsCommand command.entry c (λ a. with_rule a (spec.required_word id.entry.now))) }
+        (λ c. IsOkAnd command.entry (λ made. spec.TakesArg made arg.entry c)) }
 {
-    command.arg(wanted(alloc, id, help))
-}
-
-/// The command, and the zone that it takes.
-fn with_zone<'a>(alloc: Global, command: Command<'a>) -> Result<Command<'a>, AllocError>
-    ensures { IfOk result (λ c. spec.ExtendsCommand command.entry c (λ a. with_rule a spec.zone)) }
-{
-    command.arg(zone(alloc))
-}
-
-/// The command, and the port that it takes.
-fn with_port<'a>(alloc: Global, command: Command<'a>) -> Result<Command<'a>, AllocError>
-    ensures { IfOk result (λ c. spec.ExtendsCommand command.entry c (λ a. with_rule a spec.port)) }
-{
-    command.arg(port(alloc))
-}
-
-/// The command, and the number of requests that it takes.
-fn with_requests<'a>(alloc: Global, command: Command<'a>) -> Result<Command<'a>, AllocError>
-    ensures { IfOk result (λ c. spec.ExtendsCommand command.entry c (λ a. with_rule a spec.requests)) }
-{
-    command.arg(requests(alloc))
+    match command {
+        Ok(made) => with_arg(made, arg),
+        Err(error) => Err(error),
+    }
 }
 
 /// A command that takes the file of a desk.
@@ -105,59 +92,49 @@ fn on_file<'a>(alloc: Global, name: &'a str, about: &'a str) -> Result<Command<'
     ensures { IfOk result (λ c. spec.IsCommand c (spec.on_file name.entry.now)) }
 {
     let named = named(alloc, name, about);
-    with_word(alloc, named, "FILE", help::FILE)
+    with_arg(named, wanted(alloc, "FILE", help::FILE))
 }
 
 /// A command that takes the file of a desk and a meeting.
 fn on_meeting<'a>(alloc: Global, name: &'a str, about: &'a str) -> Result<Command<'a>, AllocError>
     ensures { IfOk result (λ c. spec.IsCommand c (spec.on_meeting name.entry.now)) }
 {
-    let on_file = on_file(alloc, name, about)?;
-    with_word(alloc, on_file, "MEETING", help::MEETING)
-}
-
-/// The command, and a file that it loads by the clock of a zone.
-fn loading<'a>(
-    alloc: Global,
-    command: Command<'a>,
-    id: &'a str,
-    help: &'a str,
-) -> Result<Command<'a>, AllocError>
-    ensures { IfOk result (λ c. spec.ExtendsCommand command.entry c (spec.loading id.entry.now)) }
-{
-    let with_file = with_word(alloc, command, id, help)?;
-    with_zone(alloc, with_file)
+    let on_file = on_file(alloc, name, about);
+    and_arg(on_file, wanted(alloc, "MEETING", help::MEETING))
 }
 
 fn keys<'a>(alloc: Global) -> Result<Command<'a>, AllocError>
     ensures { IfOk result (λ c. spec.IsCommand c spec.keys_app) }
 {
-    let keys = on_file(alloc, "keys", help::KEYS)?;
-    loading(alloc, keys, "CSV", help::KEY_FILE)
+    let keys = on_file(alloc, "keys", help::KEYS);
+    let with_csv = and_arg(keys, wanted(alloc, "CSV", help::KEY_FILE));
+    and_arg(with_csv, zone(alloc))
 }
 
 fn days<'a>(alloc: Global) -> Result<Command<'a>, AllocError>
     ensures { IfOk result (λ c. spec.IsCommand c spec.days_app) }
 {
-    let days = on_file(alloc, "days", help::DAYS)?;
-    loading(alloc, days, "TXT", help::DAY_FILE)
+    let days = on_file(alloc, "days", help::DAYS);
+    let with_txt = and_arg(days, wanted(alloc, "TXT", help::DAY_FILE));
+    and_arg(with_txt, zone(alloc))
 }
 
 fn register<'a>(alloc: Global) -> Result<Command<'a>, AllocError>
     ensures { IfOk result (λ c. spec.IsCommand c spec.register_app) }
 {
-    let register = on_meeting(alloc, "register", help::REGISTER)?;
-    let with_record = with_word(alloc, register, "RECORD", help::RECORD)?;
-    loading(alloc, with_record, "CSV", help::REGISTER_FILE)
+    let register = on_meeting(alloc, "register", help::REGISTER);
+    let with_record = and_arg(register, wanted(alloc, "RECORD", help::RECORD));
+    let with_csv = and_arg(with_record, wanted(alloc, "CSV", help::REGISTER_FILE));
+    and_arg(with_csv, zone(alloc))
 }
 
 fn serve<'a>(alloc: Global) -> Result<Command<'a>, AllocError>
     ensures { IfOk result (λ c. spec.IsCommand c spec.serve_app) }
 {
-    let serve = on_file(alloc, "serve", help::SERVE)?;
-    let with_port = with_port(alloc, serve)?;
-    let with_requests = with_requests(alloc, with_port)?;
-    with_zone(alloc, with_requests)
+    let serve = on_file(alloc, "serve", help::SERVE);
+    let with_port = and_arg(serve, port(alloc));
+    let with_requests = and_arg(with_port, requests(alloc));
+    and_arg(with_requests, zone(alloc))
 }
 
 /// The command, and one command more under it.
@@ -167,7 +144,7 @@ fn with_command<'a>(command: Command<'a>, under: Command<'a>) -> Result<Command<
     command.subcommand(under)
 }
 
-/// The command, and one command more under it, if that could be made.
+/// The same, if the command under it could be made.
 fn with_made<'a>(
     command: Command<'a>,
     under: Result<Command<'a>, AllocError>,
@@ -175,8 +152,25 @@ fn with_made<'a>(
     ensures { IfOk result
         (λ c. IsOkAnd under.entry (λ made. spec.TakesUnder command.entry made c)) }
 {
-    let made = under?;
-    with_command(command, made)
+    match under {
+        Ok(made) => with_command(command, made),
+        Err(error) => Err(error),
+    }
+}
+
+/// The same, if both could be made.
+fn and_made<'a>(
+    command: Result<Command<'a>, AllocError>,
+    under: Result<Command<'a>, AllocError>,
+) -> Result<Command<'a>, AllocError>
+    ensures { IfOk result
+        (λ c. IsOkAnd command.entry
+        (λ above. IsOkAnd under.entry (λ made. spec.TakesUnder above made c))) }
+{
+    match command {
+        Ok(above) => with_made(above, under),
+        Err(error) => Err(error),
+    }
 }
 
 /// The program's name is given, since it is not among the words: else the help of a command lacks it.
@@ -195,20 +189,18 @@ fn top<'a>(alloc: Global) -> Result<Command<'a>, AllocError>
 fn with_loads<'a>(alloc: Global) -> Result<Command<'a>, AllocError>
     ensures { IfOk result (λ c. spec.IsCommand c spec.with_loads) }
 {
-    let top = top(alloc)?;
-    let first = with_made(top, on_file(alloc, "init", help::INIT))?;
-    let second = with_made(first, keys(alloc))?;
-    let third = with_made(second, days(alloc))?;
-    with_made(third, register(alloc))
+    let first = and_made(top(alloc), on_file(alloc, "init", help::INIT));
+    let second = and_made(first, keys(alloc));
+    let third = and_made(second, days(alloc));
+    and_made(third, register(alloc))
 }
 
 fn desk<'a>(alloc: Global) -> Result<Command<'a>, AllocError>
     ensures { IfOk result (λ c. spec.IsCommand c spec.desk_app) }
 {
-    let with_loads = with_loads(alloc)?;
-    let fifth = with_made(with_loads, serve(alloc))?;
-    let sixth = with_made(fifth, on_meeting(alloc, "results", help::RESULTS))?;
-    with_command(sixth, named(alloc, "replay", help::REPLAY))
+    let fifth = and_made(with_loads(alloc), serve(alloc));
+    let sixth = and_made(fifth, on_meeting(alloc, "results", help::RESULTS));
+    and_made(sixth, Ok(named(alloc, "replay", help::REPLAY)))
 }
 
 /// What `clap` makes of the words, the program's own name not among them.

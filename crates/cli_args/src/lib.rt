@@ -3,6 +3,6 @@
 
 mod app;
 mod help;
-mod plan;
+mod words;
 
-pub use plan::{Plan, WordsFault, read_words};
+pub use words::read_words;

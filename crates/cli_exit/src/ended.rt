@@ -4,7 +4,7 @@ ghost use Rattle.cli_exit.specs.Endings.{ended_view, success, ending, fault_word
 
 use crate::line::Line;
 use byte_io::PrintError;
-use cli_args::WordsFault;
+use cli_plans::WordsFault;
 use csv_import::FileError;
 use desk_words::Failure;
 use vocabulary::Refusal;

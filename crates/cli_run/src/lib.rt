@@ -6,8 +6,9 @@ mod commands;
 mod devices;
 mod telling;
 
-use cli_args::{Plan, read_words};
+use cli_args::read_words;
 use cli_exit::Ended;
+use cli_plans::Plan;
 use devices::words;
 use office_file::OfficeFile;
 use std::rt::HostRuntime;

@@ -1,6 +1,0 @@
-use Rattle.std.proofs.lemmas.Result.{IfOk-weaker}
-use Rattle.cli_args.proofs.AppLemmas.{extends-arg}
-use Rattle.cli_args.proofs.app.with_requests.Goals as goal
-
-pub returns : goal.returns
-returns c = IfOk-weaker c.arg.result _ _ (λ r h. extends-arg _ _ r _ h c.requests.ensures.rule c.requests.ensures.local) c.arg.ensures
