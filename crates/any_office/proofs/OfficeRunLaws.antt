@@ -1,11 +1,11 @@
 -- Calls on an office are a run.
-use Rattle.std.proofs.Common.{◌≡◌, ℕ, List, [], ◌∷◌, ◌++◌, Option, Some, None, refl, subst, sym}
+use Rattle.std.proofs.Common.{◌≡◌, List, [], ◌∷◌, Option, Some, None, refl, subst, sym}
 use Rattle.any_office.specs.StoredOffice.{office_after}
 use Rattle.any_office.specs.OfficeRuns.{CallsAreARun, LeadsTo, calls_in}
 use Rattle.any_office.specs.declared.Office as office
 use Rattle.desk_words.specs.declared.office.OfficeLists.{OfficeLists}
 use Rattle.desk_words.specs.declared.request.Call.{Call}
-use Rattle.meeting_core.specs.Step.{run_of, stepped}
+use Rattle.meeting_core.specs.Step.{run_of}
 
 -- the run of what is asked later, behind the call that was made first, if one was
 run_first : (office : OfficeLists) (made : Option Call) (later : List (Option Call)) → (run_of (office_after office made) (calls_in later)).office ≡ (run_of office (calls_in (made ∷ later))).office

@@ -10,8 +10,8 @@ ghost use Rattle.caller_view.specs.Rights.{IsRunAt, forbids, governed_acts, gove
 ghost use Rattle.party_views.specs.SessionLists.{at_number, at_session};
 
 use desk_words::{
-    Authorised, Capacity, NewCast, Party, Poll, PollGoverned, Range, Received,
-    RegisterRow, SessionGoverned,
+    Authorised, Capacity, NewCast, Party, Poll, PollGoverned, Range, Received, RegisterRow,
+    SessionGoverned,
 };
 use party_views::{OwnView, holds_as_individual};
 use proxy_rules::{allows, instructed_on};

@@ -1,15 +1,15 @@
 -- What is left of a desk is left of an office.
-use Rattle.std.proofs.Common.{◌≡◌, ◌⊎◌, inl, inr, Option, Some, None, Result, Ok, Err, IsTrue, subst, sym, ◌∙◌}
+use Rattle.std.proofs.Common.{◌≡◌, inl, inr, Option, Some, subst, sym, ◌∙◌}
 use Rattle.any_office.specs.StoredOffice.{FindsAtMost, FindsOnly}
 use Rattle.sql_open.specs.Crashes.{LeavesItself}
-use Rattle.sql_open.specs.WholeDesk.{IsWhole, LeavesWhole}
+use Rattle.sql_open.specs.WholeDesk.{LeavesWhole}
 use Rattle.sql_model.specs.Standing.{Stands, office_by, two}
 use Rattle.desk_store.specs.Joins.{AreAfter, IsDeskIfOpen, MayBeFound}
 use Rattle.desk_words.specs.declared.office.OfficeLists.{OfficeLists}
 use Rattle.desk_words.specs.declared.request.Call.{Call}
 use Rattle.meeting_core.specs.Step.{stepped}
 use Rattle.sqlite.specs.Held.{Held, state}
-use Rattle.sqlite.specs.State.{State, HasCleanDisk, Survives}
+use Rattle.sqlite.specs.State.{HasCleanDisk, Survives}
 use Rattle.sqlite.specs.Tree.{Trees}
 use Rattle.sqlite_trees.specs.declared.store.Store as store
 

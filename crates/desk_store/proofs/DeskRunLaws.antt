@@ -1,5 +1,5 @@
 -- What a crash leaves of a desk.
-use Rattle.std.proofs.Common.{◌≡◌, ◌⊎◌, List, [], ◌∷◌, Option, Some, None, IsTrue, refl, subst, sym, inl, inr}
+use Rattle.std.proofs.Common.{◌≡◌, ◌⊎◌, List, [], ◌∷◌, Some, None, IsTrue, refl, subst, inl, inr}
 use Rattle.sqlite.specs.Held.{Held, state}
 use Rattle.sqlite.specs.State.{State, HasCleanDisk, Survives}
 use Rattle.sqlite.specs.Tree.{Trees}
@@ -10,7 +10,7 @@ use Rattle.sql_model.specs.Standing.{Stands}
 use Rattle.sql_open.specs.WholeDesk.{IsWhole, LeavesWhole}
 use Rattle.any_office.specs.StoredOffice.{office_after}
 use Rattle.desk_store.specs.Joins.{AreAfter, IsDeskIfOpen, LeavesDesk}
-use Rattle.desk_store.specs.CrashRuns.{AreOfARun, DeskEvent, CrashesLeaveARun, CrashLeaves, LeadsOn, MayBeLost, calls_answered, made_in}
+use Rattle.desk_store.specs.CrashRuns.{DeskEvent, CrashesLeaveARun, LeadsOn, MayBeLost, calls_answered}
 use Rattle.desk_store.specs.CrashRuns.DeskEvent.{Reads, Answers, Fails}
 use Rattle.meeting_core.specs.Step.{run_of, stepped}
 

@@ -15,7 +15,7 @@ use Rattle.sql_model.specs.Standing.{Stands}
 use Rattle.sql_schema.specs.Statements.{IsDesk, WasOpen}
 use Rattle.sql_open.specs.Crashes.{LeavesItself}
 use Rattle.sql_open.specs.WholeDesk.{AsksOpen, IsWhole, LeavesWhole}
-use Rattle.sql_open.proofs.CrashLemmas.{leaves_itself, nothing_then}
+use Rattle.sql_open.proofs.CrashLemmas.{leaves_itself}
 use Rattle.sql_open.proofs.WholeLemmas.{leaves_whole, whole_of}
 use Rattle.sql_open.proofs.OpeningLemmas.{desk_same}
 use Rattle.meeting_core.specs.Step.{stepped}

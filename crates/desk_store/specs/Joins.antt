@@ -9,7 +9,7 @@ use Rattle.desk_words.specs.declared.office.OfficeLists.{OfficeLists}
 use Rattle.desk_words.specs.declared.request.Call.{Call}
 use Rattle.sql_open.specs.WholeDesk.{IsWhole}
 use Rattle.sql_model.specs.Standing.{Stands}
-use Rattle.sql_schema.specs.Statements.{IsDesk, WasOpen}
+use Rattle.sql_schema.specs.Statements.{IsDesk}
 use Rattle.meeting_core.specs.Step.{stepped}
 
 -- what is left of a desk after a call was made, or none: no failure is made good, so a clean disk

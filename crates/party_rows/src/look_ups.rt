@@ -8,8 +8,8 @@ ghost use Rattle.party_views.specs.PartyRows.{rows_of};
 
 use crate::members::{count_given_by, naming, naming_by};
 use crate::party_records::{
-    casts_of, casts_on, demands_of, ended_by, persons_of, presences_of, row_of, shares_of, trusting,
-    trusting_for,
+    casts_of, casts_on, demands_of, ended_by, persons_of, presences_of, row_of, shares_of,
+    trusting, trusting_for,
 };
 use desk_words::{
     Appointment, Authority, CastMark, DemandMark, Ending, Listing, MeetingLists, Party,

@@ -15,9 +15,9 @@ use Rattle.party_views.specs.declared.own_rows.AuthorityRows.{AuthorityRows}
 use Rattle.party_views.specs.declared.own_rows.OwnRows.{OwnRows}
 use Rattle.party_views.proofs.OwnLemmas.{filter-map}
 use Rattle.proxy_rules.specs.Holdings.{is_ended_of, is_given_by}
-use Rattle.proxy_rules.specs.Parties.{is_authority_of, is_demanded_by}
+use Rattle.proxy_rules.specs.Parties.{is_authority_of}
 use Rattle.proxy_rules.specs.Shares.{row_of}
-use Rattle.row_source.specs.LookUps.{acting_for, appointments_in, authorities_in, authority_at, casts_by, demands_in, endings_in, for_member, naming_by_in, naming_in, own_marks, presences_in, register_in, trusting_for_in, trusting_in, with_members}
+use Rattle.row_source.specs.LookUps.{acting_for, appointments_in, authorities_in, authority_at, casts_by, endings_in, for_member, naming_by_in, naming_in, own_marks, presences_in, register_in, trusting_for_in, trusting_in, with_members}
 use Rattle.row_source.proofs.MemberLemmas.{members-read}
 
 -- one record more, each made into something

@@ -11,8 +11,8 @@ ghost use Rattle.sql_load_public.specs.TableLookUps.{HoldsOfStoredOffice, IsLook
 ghost use Rattle.sql_load_party.specs.LookUpLaws as laws;
 
 use crate::look_ups::{
-    casts_of, casts_on, count_given_by, demands_of, ended_by, given_by, naming, naming_by, persons_of,
-    presences_of, row_of, shares_of, trusting, trusting_for,
+    casts_of, casts_on, count_given_by, demands_of, ended_by, given_by, naming, naming_by,
+    persons_of, presences_of, row_of, shares_of, trusting, trusting_for,
 };
 use desk_words::{
     Appointment, Authority, CastMark, DemandMark, Ending, Listing, MeetingId, Party, PartyRequest,

@@ -1,7 +1,5 @@
-use Rattle.std.proofs.Common.{◌≡◌, subst, sym}
+use Rattle.std.proofs.Common.{subst, sym}
 use Rattle.desk_words.specs.declared.caller.Caller.{Caller}
-use Rattle.desk_words.specs.declared.caller.Caller.TheVariants as caller
-use Rattle.desk_words.specs.declared.request.Call.{Call}
 use Rattle.desk_store.specs.TableReads.{IsDecided, HoldsOfTables}
 use Rattle.desk_store.proofs.deciding.decide.Goals as goal
 

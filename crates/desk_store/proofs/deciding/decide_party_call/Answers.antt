@@ -1,12 +1,8 @@
-use Rattle.std.proofs.Common.{◌≡◌, ℕ, List, refl, subst, sym}
+use Rattle.std.proofs.Common.{ℕ, List, subst, sym}
 use Rattle.desk_words.specs.declared.caller.Caller.TheVariants as caller
 use Rattle.desk_words.specs.declared.request.Call.{Call}
 use Rattle.desk_words.specs.declared.request.Request.{Request}
-use Rattle.desk_words.specs.declared.request.Request.TheVariants as asked
-use Rattle.vocabulary.specs.declared.refusal.Refusal.TheVariants.{OfficeOnly}
-use Rattle.desk_words.specs.Rulings as ruling
 use Rattle.desk_store.specs.TableReads.{IsDecided, HoldsOfTables}
-use Rattle.desk_store.proofs.DecidingLemmas.{decided_so, told_also}
 use Rattle.desk_store.proofs.deciding.decide_party_call.Goals as goal
 
 -- a party's call of a request
