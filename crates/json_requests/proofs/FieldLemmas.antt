@@ -1,11 +1,11 @@
 -- What stands at some names in an object, as its members go in one after another.
-use Rattle.std.proofs.Common.{◌≡◌, ℕ, suc, ◌+◌, ◌-◌, ◌<◌, ◌≤◌, List, [], ◌∷◌, map, length, replicate, set, Bool, true, false, cond, Option, Some, None, option_map, Result, Ok, Err, Ordering, Less, Equal, Greater, nat_cmp, Bor, Global, bytes_eq, true≢false, refl, sym, ap, ◌∙◌, subst, arith}
+use Rattle.std.proofs.Common.{◌≡◌, ℕ, zero, suc, ◌+◌, ◌-◌, ◌<◌, ◌≤◌, List, [], ◌∷◌, map, length, replicate, set, take, Bool, true, false, cond, Option, Some, None, option_map, Result, Ok, Err, Ordering, Less, Equal, Greater, nat_cmp, Bor, Global, bytes_eq, true≢false, refl, sym, ap, ◌∙◌, subst, arith}
 use Rattle.std.specs.Prelude.{◌&&◌, ◌||◌, not, slice_set, IsErrAnd}
 use Rattle.std.specs.Cmp.Lexicographic.{slice_cmp}
-use Rattle.std.specs.List.{position_from, refill}
+use Rattle.std.specs.List.{position_from}
 use Rattle.std.specs.Ordering.{is_eq, match_ordering}
 use Rattle.std.proofs.lemmas.Bool.{and_parts}
-use Rattle.std.proofs.lemmas.List.{map-set, take-append-le, take_all}
+use Rattle.std.proofs.lemmas.List.{map-set}
 use Rattle.std.proofs.lemmas.Map.Text.{is_eq-slice_cmp}
 use Rattle.std.proofs.lemmas.Slice.Eq.{bytes_eq-Decides}
 use Rattle.json.specs.Token.{Token}
@@ -35,9 +35,19 @@ pub stopped : {X A B : Type 0} (seen : X → B) (e : BodyError) (a : Option A) (
 stopped seen e a b (Ok x) none then is = absurd is
 stopped seen e a b (Err f) none then is = subst (λ x. BodyErrAgrees x b) (sym is) (err_agrees e a b none then)
 
--- a list that is written back whole
-pub refill-whole : {X : Type 0} (n : ℕ) (xs ws : List X) → n ≡ length ws → refill n xs ws ≡ ws
-refill-whole n xs ws same = take-append-le n ws _ (omega (arith, same)) ∙ take_all n ws (omega (arith, same))
+-- what is set in a part of a list
+pub take-set_within : {X : Type 0} (n : ℕ) (xs : List X) (i : ℕ) (y : X) → take n (set xs i y) ≡ set (take n xs) i y
+take-set_within zero [] i y = refl
+take-set_within zero (x ∷ xs) i y = refl
+take-set_within (suc n) [] i y = refl
+take-set_within (suc n) (x ∷ xs) zero y = refl
+take-set_within (suc n) (x ∷ xs) (suc i) y = ap (λ ys. x ∷ ys) (take-set_within n xs i y)
+
+-- a part of a list of one value
+pub take-replicate : {X : Type 0} (x : X) (n m : ℕ) → n ≤ m → take n (replicate m x) ≡ replicate n x
+take-replicate x zero m few = refl
+take-replicate x (suc n) zero few = absurd (omega (arith, few))
+take-replicate x (suc n) (suc m) few = ap (λ xs. x ∷ xs) (take-replicate x n m (omega (arith, few)))
 
 -- ---- names that are asked for
 

@@ -1,5 +1,6 @@
-//! The fields of the object that a body is: what stands at each of the names that are asked for.
-ghost use Rattle.std.specs.Prelude.{◌≡◌, ◌≤◌, ◌<◌, length, replicate, None, Some, Option, List, ℕ, OnOk, IfSome, slice_set, bytes_eq, option_map, true};
+//! The fields of the object that a body is: what stands at each of the names that are asked for. They
+//! are read from one token after another, with no tree of the object.
+ghost use Rattle.std.specs.Prelude.{◌≡◌, ◌≤◌, ◌<◌, length, replicate, None, Some, Option, List, ℕ, OnOk, IfSome, slice_set, take, bytes_eq, option_map, true};
 ghost use Rattle.std.specs.Borrow.{Bor};
 ghost use Rattle.std.specs.List.{position_from};
 ghost use Rattle.json.specs.Json as tree;
@@ -11,7 +12,6 @@ ghost use Rattle.json_requests.specs.ParsedBodies.{BodyAgrees};
 
 use crate::ask::BodyError;
 use crate::number::fits;
-use arrayvec::ArrayVec;
 use json::{Error, Reader, Token, Value};
 use std::alloc::Global;
 
@@ -21,19 +21,16 @@ pub(crate) const MOST_FIELDS: usize = 6;
 /// How deep arrays and objects may nest in a body.
 const MOST_NESTED: usize = 127;
 
-/// What stands at each of the names that are asked for, in their order.
-pub(crate) type Fields<'a> = ArrayVec<Option<Value<'a>>, MOST_FIELDS>;
+/// What stands at each of the names that are asked for, in their order, and nothing in the places
+/// behind them.
+pub(crate) type Fields<'a> = [Option<Value<'a>>; MOST_FIELDS];
 
-/// Nothing at each of the names.
-pub(crate) fn no_values<'a>(names: &[&str]) -> Fields<'a>
-    requires { length names.now ≤ MOST_FIELDS }
-    ensures { result.items ≡ replicate (length names.now) None }
+/// Nothing in each of the places.
+#[inline(always)]
+pub(crate) fn no_values<'a>() -> Fields<'a>
+    ensures { result ≡ replicate MOST_FIELDS None }
 {
-    let mut fields = ArrayVec::new();
-    while fields.len() < names.len() {
-        fields.push(None);
-    }
-    fields
+    [None, None, None, None, None, None]
 }
 
 /// What stands there, if anything does.
@@ -43,15 +40,18 @@ pub(crate) fn at<'v, 'a>(place: &'v Option<Value<'a>>) -> Option<&'v Value<'a>>
     place.as_ref()
 }
 
+/// The place of a name among those that are asked for.
 fn place_of(names: &[&str], name: &str) -> Option<usize>
-    ensures first { result ≡ position_from (λ (own : Bor (List ℕ)). bytes_eq own.now name.now) 0 names.now }
+    ensures first { result
+        ≡ position_from (λ (own : Bor (List ℕ)). bytes_eq own.now name.now) 0 names.now }
     ensures bound { IfSome result (λ place. place < length names.now) }
 {
     names.iter().position(|own| *own == name)
 }
 
-fn put<'a>(fields: &mut [Option<Value<'a>>], place: usize, value: Value<'a>)
-    requires { place < length fields.old }
+/// Puts a value in a place.
+fn put<'a>(fields: &mut Fields<'a>, place: usize, value: Value<'a>)
+    requires { place < MOST_FIELDS }
     ensures { fields.new ≡ slice_set fields.old place (Some value.entry) }
 {
     fields[place] = Some(value);
@@ -88,28 +88,29 @@ fn next_value<'a>(alloc: Global, reader: &mut Reader<'a>) -> Result<Value<'a>, B
     }
 }
 
-/// What stands at each of the names in the members that the reader is at. Of a name that is
+/// Puts each value of the members that the reader is at to the place of its name. Of a name that is
 /// repeated the last value counts, and what is not asked for is refused.
 #[inline(always)]
 fn read_members<'a>(
     alloc: Global,
     reader: &mut Reader<'a>,
     names: &[&str],
-) -> Result<Fields<'a>, BodyError>
+    fields: &mut Fields<'a>,
+) -> Result<(), BodyError>
     requires few { length names.now ≤ MOST_FIELDS }
+    requires none { fields.old ≡ replicate MOST_FIELDS None }
     requires differ { all_differ (texts names.now) ≡ true }
-    ensures { BodyAgrees (λ fields. (fields_view fields.items, reader.new)) result
+    ensures { BodyAgrees (λ _. (fields_view (take (length names.now) fields.new), reader.new)) result
         (fields_read (texts names.now) reader.old) }
 {
-    let mut fields = no_values(names);
     while let Some(name) = next_name(reader)? {
         let value = next_value(alloc, reader)?;
         match place_of(names, name) {
-            Some(place) => put(fields.as_mut_slice(), place, value),
+            Some(place) => put(fields, place, value),
             None => return Err(BodyError::Unreadable),
         }
     }
-    Ok(fields)
+    Ok(())
 }
 
 /// Takes the brace that opens an object.
@@ -123,18 +124,20 @@ fn open_object(reader: &mut Reader<'_>) -> Result<(), BodyError>
     }
 }
 
-/// What stands at each of the names in the object that the reader is at.
+/// Puts each value of the object that the reader is at to the place of its name.
 #[inline(always)]
 pub(crate) fn read_object<'a>(
     alloc: Global,
     reader: &mut Reader<'a>,
     names: &[&str],
-) -> Result<Fields<'a>, BodyError>
+    fields: &mut Fields<'a>,
+) -> Result<(), BodyError>
     requires few { length names.now ≤ MOST_FIELDS }
+    requires none { fields.old ≡ replicate MOST_FIELDS None }
     requires differ { all_differ (texts names.now) ≡ true }
-    ensures { BodyAgrees (λ fields. (fields_view fields.items, reader.new)) result
+    ensures { BodyAgrees (λ _. (fields_view (take (length names.now) fields.new), reader.new)) result
         (object_read (texts names.now) reader.old) }
 {
     open_object(reader)?;
-    read_members(alloc, reader, names)
+    read_members(alloc, reader, names, fields)
 }

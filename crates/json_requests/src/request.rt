@@ -15,6 +15,7 @@ use crate::ask::{Ask, BodyError};
 use crate::body::read_fields;
 use crate::call::{CALL, call};
 use crate::closed::{CLOSED, closed};
+use crate::fields::no_values;
 use crate::keys::{KEYS, keys};
 use crate::poll::{CAST, ORDER, POLL, cast, close, declare, demand, instructed, order, start};
 use crate::presence::{ADJOURN, AUTHORISE, PRESENCE, adjourn, authorise, presence};
@@ -158,8 +159,10 @@ impl Route {
     ) -> Result<Request, BodyError>
         ensures { BodyAgrees id result (read_by (route_fields self) (asked_in self) body.now) }
     {
-        let fields = read_fields(alloc, scratch, self.fields(), body)?;
-        self.asked_in(alloc, fields.as_slice())
+        let names = self.fields();
+        let mut values = no_values();
+        read_fields(alloc, scratch, names, &mut values, body)?;
+        self.asked_in(alloc, &values[..names.len()])
     }
 
     /// The request on a route, with what the body says of it. It is refused as `Unreadable` where

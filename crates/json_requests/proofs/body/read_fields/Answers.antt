@@ -1,15 +1,15 @@
-use Rattle.std.proofs.Common.{subst, ap, sym, ◌∙◌}
+use Rattle.std.proofs.Common.{length, take, subst, ap, sym, ◌∙◌}
 use Rattle.json_requests.specs.Bodies.{fields_from}
 use Rattle.json_requests.specs.MemberFields.{texts}
 use Rattle.json_requests.specs.ParsedBodies.{BodyAgrees}
-use Rattle.json_requests.proofs.FieldLemmas.{no_fields-seen}
+use Rattle.json_requests.proofs.FieldLemmas.{no_fields-seen, take-replicate}
 use Rattle.json_requests.proofs.JsonBodyLemmas.{body_of-bytes, body_of-nothing}
 use Rattle.json_requests.proofs.body.read_fields.Goals as goal
 
 pub returns-then-is_empty : goal.returns-then-is_empty
 returns-then-is_empty c =
     let nothing = body_of-nothing c.args.body.now (sym c.is_empty.ensures ∙ c.if-is_empty.true) in
-    ap (fields_from (texts c.args.names.now)) nothing ∙ no_fields-seen c.args.names.now _ c.no_values.ensures
+    ap (fields_from (texts c.args.names.now)) nothing ∙ no_fields-seen c.args.names.now _ (ap (take (length c.args.names.now)) c.requires.none ∙ take-replicate _ (length c.args.names.now) 6 c.requires.few)
 
 pub returns-else-is_empty : goal.returns-else-is_empty
 returns-else-is_empty c =

@@ -1,9 +1,9 @@
-use Rattle.std.proofs.Common.{length}
+use Rattle.std.proofs.Common.{length, take}
 use Rattle.json_requests.proofs.FieldLemmas.{Gathers}
 use Rattle.json_requests.proofs.fields.read_members.Given as goal
 
-abbrev pub invariant-loop-fields : goal.invariant-loop-fields
-invariant-loop-fields l = Gathers l.names l.initial.reader l.reader l.fields.items
+abbrev pub invariant-loop-name : goal.invariant-loop-name
+invariant-loop-name l = Gathers l.names l.initial.reader l.reader (take (length l.names) l.fields)
 
-abbrev pub decreases-loop-fields : goal.decreases-loop-fields
-decreases-loop-fields l = length l.reader
+abbrev pub decreases-loop-name : goal.decreases-loop-name
+decreases-loop-name l = length l.reader
