@@ -65,18 +65,22 @@ fn newest_of<B: Blocks>(alloc: Global, place: u64, numbers: &[u64]) -> Result<u6
     Ok(tag.map_or(0, |tag| tag.number()))
 }
 
+const BOTH: &[u64] = &[1, 2];
+
+/// A place, the tags that are admitted, and the newest of them on the place, or 0.
+const NEWEST: &[(u64, &[u64], u64)] = &[
+    (50, BOTH, 2),
+    (50, &[1], 1),
+    (50, &[], 0),
+    (40, BOTH, 1),
+    (40, &[2], 0),
+    (101, BOTH, 0),
+    (1_000_000_000_000, BOTH, 0),
+];
+
 #[test]
 fn the_newest_tag_comes_first(rt: HostRuntime) -> Result<(), Fail> {
-    let both: &[u64] = &[1, 2];
-    for (place, admitted, tag) in [
-        (50, both, 2),
-        (50, &[1], 1),
-        (50, &[], 0),
-        (40, both, 1),
-        (40, &[2], 0),
-        (101, both, 0),
-        (1_000_000_000_000, both, 0),
-    ] {
+    for &(place, admitted, tag) in NEWEST {
         let plain = newest_of::<PlainBlocks>(rt.alloc(), place, admitted)?;
         let linked = newest_of::<LinkedBlocks>(rt.alloc(), place, admitted)?;
         assert!(rt; plain == tag && linked == tag, "{place}");
@@ -94,12 +98,18 @@ fn ends<B: Blocks>(alloc: Global, covers: &[(Range, Tag)]) -> Result<Vec<u64>, F
     Ok(ends)
 }
 
+/// Whether these are the ends of the pieces under the two covers.
+fn has_ends<B: Blocks>(alloc: Global, wanted: &[u64]) -> Result<bool, Fail> {
+    let covers = two_covers()?;
+    Ok(ends::<B>(alloc, &covers)?.as_slice() == wanted)
+}
+
+const ENDS: &[u64] = &[40, 60, 100, 1_000_000_000_000];
+
 #[test]
 fn pieces_are_parted_at_the_cuts(rt: HostRuntime) -> Result<(), Fail> {
-    let wanted: &[u64] = &[40, 60, 100, 1_000_000_000_000];
-    let plain = ends::<PlainBlocks>(rt.alloc(), &two_covers()?)?;
-    let linked = ends::<LinkedBlocks>(rt.alloc(), &two_covers()?)?;
-    assert!(rt; plain.as_slice() == wanted && linked.as_slice() == wanted);
+    assert!(rt; has_ends::<PlainBlocks>(rt.alloc(), ENDS)?);
+    assert!(rt; has_ends::<LinkedBlocks>(rt.alloc(), ENDS)?);
     Ok(())
 }
 

@@ -10,7 +10,7 @@ const CALLING: &str =
     r#"2026-06-01T09:00:00 OFFICE G1 call {"company":"private","kind":"general","given":"2026-06-01","appointed":"2026-06-18T10:00:00","record":"2026-06-16T18:00:00","resolutions":[["ordinary","Accounts"],["special","New articles"]]}"#;
 
 /// What opens the poll, and a vote of Bo.
-const OPENING: [&str; 7] = [
+const OPENING: &[&str] = &[
     r#"2026-06-16T18:00:00 OFFICE G1 register {"record":"2026-06-16T18:00:00","rows":[["M1","individual","Ada",100,100],["M2","individual","Bo",50,100]]}"#,
     "2026-06-18T10:00:00 M1 G1 attend {}",
     "2026-06-18T10:00:00 M2 G1 attend {}",
@@ -20,7 +20,8 @@ const OPENING: [&str; 7] = [
     r#"2026-06-18T10:05:30 M2 G1 cast {"resolution":1,"as":"member","member":"M2","from":1,"to":50,"way":"against"}"#,
 ];
 
-fn call(alloc: Global, line: &str) -> Result<Call, Fail> {
+/// The call that a line makes.
+pub(crate) fn call(alloc: Global, line: &str) -> Result<Call, Fail> {
     let mut scratch = Scratch::new(alloc);
     Ok(
         call_of(alloc, &mut scratch, line.as_bytes())
@@ -35,12 +36,18 @@ pub(crate) fn answered(alloc: Global, book: &mut Book, line: &str) -> Result<Vec
     Ok(reply_text(alloc, &reply)?)
 }
 
+/// The text of the last reply of a book to all these lines.
+fn answered_last(alloc: Global, book: &mut Book) -> Result<Vec<u8>, Fail> {
+    let mut last = answered(alloc, book, CALLING)?;
+    for &line in OPENING {
+        last = answered(alloc, book, line)?;
+    }
+    Ok(last)
+}
+
 pub(crate) fn open_poll(alloc: Global) -> Result<Book, Fail> {
     let mut book = Book::new(alloc);
-    let mut last = answered(alloc, &mut book, CALLING)?;
-    for line in OPENING {
-        last = answered(alloc, &mut book, line)?;
-    }
+    let last = answered_last(alloc, &mut book)?;
     if last.as_slice() != br#"{"ok":"recorded"}"#.as_slice() {
         return Err("no vote of Bo".into());
     }

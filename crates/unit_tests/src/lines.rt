@@ -24,7 +24,7 @@ fn told<S: Source>(alloc: Global, source: &mut S) -> Result<Vec<u8>, Fail> {
     Ok(told)
 }
 
-const CASES: [(&[u8], &[u8]); 12] = [
+const CASES: &[(&[u8], &[u8])] = &[
     (b"", b""),
     (b"a", b"a|"),
     (b"a\n", b"a|"),
@@ -41,17 +41,19 @@ const CASES: [(&[u8], &[u8]); 12] = [
 
 #[test]
 fn lines_of_single_bytes(rt: HostRuntime) -> Result<(), Fail> {
-    for (input, lines) in CASES {
+    for &(input, lines) in CASES {
         let told = told(rt.alloc(), &mut ShortReads::new(SliceSource::new(input), 1))?;
         assert!(rt; told.as_slice() == lines);
     }
     Ok(())
 }
 
+/// What is told where no read fails, the first, the second and the third.
+const WANTS: &[&[u8]] = &[b"one|two|", b"!", b"one|!", b"one|two|!"];
+
 #[test]
 fn a_read_that_fails(rt: HostRuntime) -> Result<(), Fail> {
-    let wants: [&[u8]; 4] = [b"one|two|", b"!", b"one|!", b"one|two|!"];
-    for (failing, want) in wants.iter().enumerate() {
+    for (failing, want) in WANTS.iter().enumerate() {
         let slow = ShortReads::new(SliceSource::new(b"one\ntwo\n"), 4);
         let told = told(rt.alloc(), &mut FailAt::new(slow, failing as u64))?;
         assert!(rt; told.as_slice() == *want, "at {failing}");

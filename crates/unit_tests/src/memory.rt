@@ -1,9 +1,9 @@
 //! Requests over HTTP, answered by an office in memory, without tables.
+use crate::book::call;
 use crate::office::moment;
 use byte_io::{SliceSource, VecSink};
 use desk_http::serve_one;
 use meeting_core::Book;
-use replay::{Scratch, call_of};
 use std::alloc::Global;
 use std::test::Fail;
 
@@ -29,17 +29,15 @@ const EXISTS: &str = "HTTP/1.1 409 Conflict\r\nContent-Type: application/json\r\
 
 /// An office in memory, with a key of its own.
 fn new_book(alloc: Global) -> Result<Book, Fail> {
+    let call = call(alloc, KEYS)?;
     let mut book = Book::new(alloc);
-    let mut scratch = Scratch::new(alloc);
-    let call = call_of(alloc, &mut scratch, KEYS.as_bytes())
-        .ok()
-        .ok_or("a call")?;
     book.step(call)?;
     Ok(book)
 }
 
 /// What is written where a meeting is called with a key.
 fn call_with(alloc: Global, book: &mut Book, key: &str) -> Result<VecSink, Fail> {
+    let now = moment("2026-06-01T09:00:00")?;
     let size = MEETING.len();
     let request = format!(in alloc;
         "POST /m/G1/call HTTP/1.1\r\nDesk-Key: {key}\r\n\
@@ -47,21 +45,21 @@ fn call_with(alloc: Global, book: &mut Book, key: &str) -> Result<VecSink, Fail>
     )?;
     let mut source = SliceSource::new(request.as_bytes());
     let mut sink = VecSink::new(alloc);
-    let now = moment("2026-06-01T09:00:00")?;
     serve_one(alloc, book, now, &mut source, &mut sink)?;
     Ok(sink)
+}
+
+/// Whether this is written where a meeting is called with a key.
+fn is_told(alloc: Global, book: &mut Book, key: &str, reply: &str) -> Result<bool, Fail> {
+    Ok(call_with(alloc, book, key)?.as_slice() == reply.as_bytes())
 }
 
 // A key that is nobody's changes nothing, and a meeting is called once.
 #[test]
 fn a_book_answers_over_http(rt: HostRuntime) -> Result<(), Fail> {
-    let alloc = rt.alloc();
-    let mut book = new_book(alloc)?;
-    let told = call_with(alloc, &mut book, "nnnnnnnnnnnnnnnn")?;
-    assert!(rt; told.as_slice() == NO_KEY.as_bytes());
-    let told = call_with(alloc, &mut book, "oooooooooooooooo")?;
-    assert!(rt; told.as_slice() == CALLED.as_bytes());
-    let told = call_with(alloc, &mut book, "oooooooooooooooo")?;
-    assert!(rt; told.as_slice() == EXISTS.as_bytes());
+    let mut book = new_book(rt.alloc())?;
+    assert!(rt; is_told(rt.alloc(), &mut book, "nnnnnnnnnnnnnnnn", NO_KEY)?);
+    assert!(rt; is_told(rt.alloc(), &mut book, "oooooooooooooooo", CALLED)?);
+    assert!(rt; is_told(rt.alloc(), &mut book, "oooooooooooooooo", EXISTS)?);
     Ok(())
 }

@@ -14,21 +14,25 @@ fn key(word: &str) -> Result<SecretKey, Fail> {
     Ok(read_key(word.as_bytes()).ok_or("a key")?)
 }
 
+const KEYS: &[&str] = &[
+    "aaaaaaaaaaaaaaaa",
+    "0123456789-abcdefghij-ABCDEFGHIJ-KLMNOPQRST-uvwxyz-UVWXYZ-012345",
+];
+
+const NO_KEYS: &[&str] = &[
+    "aaaaaaaaaaaaaaa",
+    "aaaaaaaa_aaaaaaa",
+    "aaaaaaaa aaaaaaa",
+    "0123456789-abcdefghij-ABCDEFGHIJ-KLMNOPQRST-uvwxyz-UVWXYZ-0123456",
+];
+
 #[test]
 fn keys_have_the_form(rt: HostRuntime) {
-    for word in [
-        "aaaaaaaaaaaaaaaa",
-        "0123456789-abcdefghij-ABCDEFGHIJ-KLMNOPQRST-uvwxyz-UVWXYZ-012345",
-    ] {
+    for &word in KEYS {
         let key = read_key(word.as_bytes());
         assert!(rt; key.is_some_and(|key| key.as_str() == word), "{word}");
     }
-    for word in [
-        "aaaaaaaaaaaaaaa",
-        "aaaaaaaa_aaaaaaa",
-        "aaaaaaaa aaaaaaa",
-        "0123456789-abcdefghij-ABCDEFGHIJ-KLMNOPQRST-uvwxyz-UVWXYZ-0123456",
-    ] {
+    for &word in NO_KEYS {
         assert!(rt; read_key(word.as_bytes()).is_none(), "{word}");
     }
 }
@@ -43,15 +47,18 @@ fn rows_of_keys() -> Result<[KeyRow; 3], Fail> {
     }))
 }
 
+/// The list that two rows make.
+fn list_of(alloc: Global, one: KeyRow, other: KeyRow) -> Result<Result<KeyRows, ListFault>, Fail> {
+    Ok(KeyRows::new(vec![in alloc; one, other]?))
+}
+
 #[test]
 fn keys_are_of_one_caller_each(rt: HostRuntime) -> Result<(), Fail> {
     let [office, member, again] = rows_of_keys()?;
-    let keys = KeyRows::new(vec![in rt.alloc(); member, office]?);
+    let keys = list_of(rt.alloc(), member, office)?;
     assert!(rt; keys.is_ok_and(|keys| keys.as_slice() == [office, member].as_slice()));
-    for other in [office, member] {
-        let keys = KeyRows::new(vec![in rt.alloc(); again, other]?);
-        assert!(rt; keys.err() == Some(ListFault::Limit));
-    }
+    assert!(rt; list_of(rt.alloc(), again, office)?.err() == Some(ListFault::Limit));
+    assert!(rt; list_of(rt.alloc(), again, member)?.err() == Some(ListFault::Limit));
     Ok(())
 }
 
@@ -61,17 +68,23 @@ fn a_key_list_may_be_empty(rt: HostRuntime) {
     assert!(rt; none.is_ok_and(|none| none.as_slice().is_empty()));
 }
 
+/// The member of a number, who holds one share.
+fn row_of(alloc: Global, number: u32) -> Result<RegisterRow, Fail> {
+    let member = party(format!(in alloc; "M{number}")?.as_bytes())?;
+    Ok(RegisterRow {
+        member,
+        kind: HolderKind::Individual,
+        name: Text::new(alloc, b"Ada").ok().ok_or("a text")?,
+        shares: 1,
+        paid: 0,
+    })
+}
+
 /// So many rows of one share each, the last of them first.
 fn rows_of_one_share(alloc: Global, count: u32) -> Result<Vec<RegisterRow>, Fail> {
     let mut rows = Vec::new(alloc);
     for number in (0..count).rev() {
-        rows.push(RegisterRow {
-            member: party(format!(in alloc; "M{number}")?.as_bytes())?,
-            kind: HolderKind::Individual,
-            name: Text::new(alloc, b"Ada").ok().ok_or("a text")?,
-            shares: 1,
-            paid: 0,
-        })?;
+        rows.push(row_of(alloc, number)?)?;
     }
     Ok(rows)
 }

@@ -1,17 +1,17 @@
 //! An office in memory, in which one meeting is called, and which is asked over connections.
+use crate::book::call;
 use byte_io::{ReadDevice, WriteDevice};
 use clocks::Clock;
 use desk_http::{NowError, serve_now};
 use desk_words::{Moment, read_moment};
 use http_listener::{LoopFault, serve_loop};
 use meeting_core::Book;
-use replay::{Scratch, call_of};
 use std::alloc::Global;
 use std::net::{TcpListener, TcpStream};
 use std::test::Fail;
 
 /// The keys of two parties, and the call of a meeting.
-const LINES: [&str; 2] = [
+const LINES: &[&str] = &[
     r#"2026-06-01T08:00:00 OFFICE - keys {"rows":[["M1","mmmmmmmmmmmmmmmm"],["Z","zzzzzzzzzzzzzzzz"]]}"#,
     r#"2026-06-01T09:00:00 OFFICE G1 call {"company":"private","kind":"general","given":"2026-06-01","appointed":"2026-06-18T10:00:00","record":"2026-06-16T18:00:00","resolutions":[["ordinary","Accounts"],["special","New articles"]]}"#,
 ];
@@ -27,17 +27,18 @@ pub(crate) fn moment(text: &str) -> Result<Moment, Fail> {
     Ok(read_moment(text.as_bytes()).ok_or("a moment")?)
 }
 
+fn step_all(alloc: Global, book: &mut Book) -> Result<(), Fail> {
+    for &line in LINES {
+        book.step(call(alloc, line)?)?;
+    }
+    Ok(())
+}
+
 impl Office {
     /// An office whose lines were all answered.
     pub(crate) fn new(alloc: Global) -> Result<Office, Fail> {
         let mut book = Book::new(alloc);
-        let mut scratch = Scratch::new(alloc);
-        for line in LINES {
-            let call = call_of(alloc, &mut scratch, line.as_bytes())
-                .ok()
-                .ok_or("a call")?;
-            book.step(call)?;
-        }
+        step_all(alloc, &mut book)?;
         Ok(Office { alloc, book })
     }
 

@@ -1,8 +1,9 @@
 //! That the clock is asked once a request was read.
 use crate::office::{Office, moment};
-use crate::peers::{listen, reply_to, send};
+use crate::peers::{is_told, listen, send};
 use clocks::{Clock, ClockError};
 use desk_words::Moment;
+use std::alloc::Global;
 use std::net::TcpStream;
 use std::test::Fail;
 
@@ -48,21 +49,27 @@ const LATE: &str = "HTTP/1.1 200 OK\r\nContent-Type: application/json\r\n\
                     Content-Length: 54\r\nConnection: close\r\n\r\n\
                     {\"number\":1,\"ok\":\"appointed\",\"use\":\"later polls only\"}";
 
+/// Serves the request of a connection by a new office, whose clock shows these moments.
+fn serve(alloc: Global, stream: &TcpStream, before: Moment, behind: Moment) -> Result<(), Fail> {
+    let mut clock = CutoffClock {
+        stream,
+        before,
+        behind,
+    };
+    Ok(Office::new(alloc)?.serve_now(stream, &mut clock)?)
+}
+
 // The cutoff of the meeting is at the first of the two moments.
 #[test]
 fn a_peer_that_sends_after_a_cutoff_is_late(rt: HostRuntime) -> Result<(), Fail> {
-    let mut office = Office::new(rt.alloc())?;
+    let before = moment("2026-06-16T10:00:00")?;
+    let behind = moment("2026-06-16T10:00:01")?;
     let listener = listen(&rt)?;
     let peer = send(&rt, &listener, APPOINT.as_bytes())?;
     let (stream, _) = listener.accept()?;
-    let mut clock = CutoffClock {
-        stream: &stream,
-        before: moment("2026-06-16T10:00:00")?,
-        behind: moment("2026-06-16T10:00:01")?,
-    };
     assert!(rt; is_unread(&stream));
-    office.serve_now(&stream, &mut clock)?;
+    serve(rt.alloc(), &stream, before, behind)?;
     drop(stream);
-    assert!(rt; reply_to(rt.alloc(), peer)?.as_str() == LATE);
+    assert!(rt; is_told(rt.alloc(), peer, LATE)?);
     Ok(())
 }

@@ -79,16 +79,19 @@ fn seat_of(alloc: Global, number: u64) -> Result<Option<u32>, Fail> {
     Ok(row_of(&rows, number).map(|row| row.seat))
 }
 
+/// A number, and the seat of its row, if there is one.
+const SEATS: &[(u64, Option<u32>)] = &[
+    (2, Some(2)),
+    (4, Some(3)),
+    (7, Some(1)),
+    (1, None),
+    (5, None),
+    (8, None),
+];
+
 #[test]
 fn a_row_is_found_by_its_number(rt: HostRuntime) -> Result<(), Fail> {
-    for (number, seat) in [
-        (2, Some(2)),
-        (4, Some(3)),
-        (7, Some(1)),
-        (1, None),
-        (5, None),
-        (8, None),
-    ] {
+    for &(number, seat) in SEATS {
         assert!(rt; seat_of(rt.alloc(), number)? == seat, "{number}");
     }
     Ok(())

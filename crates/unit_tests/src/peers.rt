@@ -28,3 +28,8 @@ pub(crate) fn send(
 pub(crate) fn reply_to(alloc: Global, peer: TcpStream) -> io::Result<String> {
     io::read_to_string(alloc, peer)
 }
+
+/// Whether all that comes to a peer is this reply.
+pub(crate) fn is_told(alloc: Global, peer: TcpStream, reply: &str) -> io::Result<bool> {
+    Ok(reply_to(alloc, peer)?.as_str() == reply)
+}

@@ -7,7 +7,7 @@ ghost use Rattle.desk_words.specs.declared.records.Appointment.{Appointment};
 ghost use Rattle.proxy_rules.specs.Holdings.{are_tags};
 
 use crate::fixtures::{Lists, moment, party, register};
-use desk_words::{Appointment, Ending, Filed, HolderKind, Instructions, Listing, Party, Range};
+use desk_words::{Appointment, Ending, HolderKind, Instructions, Listing, Party, Range, Register};
 use proxy_rules::{Cutoffs, Holding, governed, governing};
 use share_blocks::LinkedBlocks;
 use std::alloc::Global;
@@ -45,14 +45,12 @@ pub(crate) fn appointment(
 }
 
 /// Number 1 over all shares, 2 over 41 to 60, 3 over 55 to 200, and 4, which is late.
-fn appointments(alloc: Global) -> Result<Filed<Appointment>, Fail> {
-    let mut given = Filed::new(alloc);
-    given.push(appointment(1, "P", 1, 200, IN_TIME)?)?;
-    given.push(appointment(2, "P", 41, 60, IN_TIME)?)?;
-    given.push(appointment(3, "P", 55, 200, IN_TIME)?)?;
-    given.push(appointment(4, "P", 10, 20, LATE)?)?;
-    Ok(given)
-}
+const GIVEN: &[(u64, u64, u64, &str)] = &[
+    (1, 1, 200, IN_TIME),
+    (2, 41, 60, IN_TIME),
+    (3, 55, 200, IN_TIME),
+    (4, 10, 20, LATE),
+];
 
 pub(crate) fn ending(number: u64, at: &str) -> Result<Ending, Fail> {
     Ok(Ending {
@@ -62,17 +60,26 @@ pub(crate) fn ending(number: u64, at: &str) -> Result<Ending, Fail> {
     })
 }
 
-/// Number 2 is ended before the opening, and number 3 at it, which is too late.
-fn lists(alloc: Global) -> Result<Lists, Fail> {
-    let mut lists = Lists::new(alloc);
-    lists.appointments = appointments(alloc)?;
+/// Appointments of P. Number 2 is ended before the opening, and number 3 at it, which is too late.
+fn fill(lists: &mut Lists) -> Result<(), Fail> {
+    for &(number, from, to, at) in GIVEN {
+        lists
+            .appointments
+            .push(appointment(number, "P", from, to, at)?)?;
+    }
     lists.endings.push(ending(2, "2026-06-18T09:59:59")?)?;
     lists.endings.push(ending(3, OPENING)?)?;
-    Ok(lists)
+    Ok(())
 }
 
-/// The number of the appointment that governs a share, or 0, where M1 holds 100 shares.
-fn number_for(alloc: Global, member: &str, place: u64) -> Result<u64, Fail> {
+/// The number of the appointment that governs a share, or 0.
+fn number_in(lists: &Lists, register: &Register, member: &str, place: u64) -> Result<u64, Fail> {
+    let papers = lists.papers(register.rows());
+    Ok(governing(&cutoffs()?, &papers, party(member)?, place).unwrap_or(0))
+}
+
+fn number_of(alloc: Global, lists: &mut Lists, member: &str, place: u64) -> Result<u64, Fail> {
+    fill(lists)?;
     let register = register(
         alloc,
         &[
@@ -80,26 +87,33 @@ fn number_for(alloc: Global, member: &str, place: u64) -> Result<u64, Fail> {
             ("M2", HolderKind::Individual, 50),
         ],
     )?;
-    let lists = lists(alloc)?;
-    let papers = lists.papers(register.rows());
-    Ok(governing(&cutoffs()?, &papers, party(member)?, place).unwrap_or(0))
+    number_in(lists, &register, member, place)
 }
+
+/// The same where M1 holds 100 shares.
+fn number_for(alloc: Global, member: &str, place: u64) -> Result<u64, Fail> {
+    let mut lists = Lists::new(alloc);
+    number_of(alloc, &mut lists, member, place)
+}
+
+/// A member, a share of it, and the number of the appointment that governs it, or 0.
+const GOVERNING: &[(&str, u64, u64)] = &[
+    ("M1", 0, 0),
+    ("M1", 1, 1),
+    ("M1", 15, 1),
+    ("M1", 40, 1),
+    ("M1", 41, 0),
+    ("M1", 54, 0),
+    ("M1", 55, 3),
+    ("M1", 100, 3),
+    ("M1", 101, 0),
+    ("M2", 1, 0),
+    ("Z", 1, 0),
+];
 
 #[test]
 fn the_last_appointment_governs(rt: HostRuntime) -> Result<(), Fail> {
-    for (member, place, number) in [
-        ("M1", 0, 0),
-        ("M1", 1, 1),
-        ("M1", 15, 1),
-        ("M1", 40, 1),
-        ("M1", 41, 0),
-        ("M1", 54, 0),
-        ("M1", 55, 3),
-        ("M1", 100, 3),
-        ("M1", 101, 0),
-        ("M2", 1, 0),
-        ("Z", 1, 0),
-    ] {
+    for &(member, place, number) in GOVERNING {
         let found = number_for(rt.alloc(), member, place)?;
         assert!(rt; found == number, "{place} of {member}: {found}");
     }
@@ -146,15 +160,30 @@ pub(crate) fn all_numbered(given: &[Appointment]) -> bool
 }
 
 /// The runs of shares that an appointment of M1 governs.
-fn runs(alloc: Global, number: u64) -> Result<Vec<Range>, Fail> {
-    let register = register(alloc, &[("M1", HolderKind::Individual, 100)])?;
-    let lists = lists(alloc)?;
+fn runs_in(
+    alloc: Global,
+    lists: &Lists,
+    register: &Register,
+    number: u64,
+) -> Result<Vec<Range>, Fail> {
     let given = lists.appointments.as_slice();
     if !all_tags(given) || !all_numbered(given) {
         return Err("numbers that no member's appointments have".into());
     }
     let papers = lists.papers(register.rows());
     Ok(governed(alloc, &cutoffs()?, &papers, party("M1")?, number)?)
+}
+
+fn runs_of(alloc: Global, lists: &mut Lists, number: u64) -> Result<Vec<Range>, Fail> {
+    fill(lists)?;
+    let register = register(alloc, &[("M1", HolderKind::Individual, 100)])?;
+    runs_in(alloc, lists, &register, number)
+}
+
+/// The same where M1 holds 100 shares.
+fn runs(alloc: Global, number: u64) -> Result<Vec<Range>, Fail> {
+    let mut lists = Lists::new(alloc);
+    runs_of(alloc, &mut lists, number)
 }
 
 fn is_one_run(runs: &[Range], from: u64, to: u64) -> bool {
@@ -164,11 +193,19 @@ fn is_one_run(runs: &[Range], from: u64, to: u64) -> bool {
     }
 }
 
+fn has_one_run(alloc: Global, number: u64, from: u64, to: u64) -> Result<bool, Fail> {
+    Ok(is_one_run(&runs(alloc, number)?, from, to))
+}
+
+fn has_no_run(alloc: Global, number: u64) -> Result<bool, Fail> {
+    Ok(runs(alloc, number)?.is_empty())
+}
+
 #[test]
 fn runs_end_with_the_holding(rt: HostRuntime) -> Result<(), Fail> {
-    assert!(rt; is_one_run(&runs(rt.alloc(), 1)?, 1, 40));
-    assert!(rt; is_one_run(&runs(rt.alloc(), 3)?, 55, 100));
-    assert!(rt; runs(rt.alloc(), 2)?.is_empty() && runs(rt.alloc(), 4)?.is_empty());
+    assert!(rt; has_one_run(rt.alloc(), 1, 1, 40)?);
+    assert!(rt; has_one_run(rt.alloc(), 3, 55, 100)?);
+    assert!(rt; has_no_run(rt.alloc(), 2)? && has_no_run(rt.alloc(), 4)?);
     Ok(())
 }
 
@@ -187,15 +224,25 @@ fn ends(alloc: Global, holding: &Holding) -> Result<Vec<u64>, Fail> {
     Ok(ends)
 }
 
+fn two_appointments(alloc: Global) -> Result<Vec<Appointment>, Fail> {
+    let first = appointment(1, "P", 1, 100, "2026-06-02T09:00:00")?;
+    let second = appointment(2, "Q", 41, 60, "2026-06-03T09:00:00")?;
+    Ok(vec![in alloc; first, second]?)
+}
+
+fn one_ending(alloc: Global) -> Result<Vec<Ending>, Fail> {
+    let ending = ending(2, "2026-06-04T09:00:00")?;
+    Ok(vec![in alloc; ending]?)
+}
+
 /// A hundred shares, all of which M1 appointed for; 41 to 60 again, and this appointment is ended.
 fn replaced(alloc: Global) -> Result<Holding, Fail> {
-    let mut given = Vec::new(alloc);
-    given.push(appointment(1, "P", 1, 100, "2026-06-02T09:00:00")?)?;
-    given.push(appointment(2, "Q", 41, 60, "2026-06-03T09:00:00")?)?;
+    let ended = one_ending(alloc)?;
+    let appointed = two_appointments(alloc)?;
     Ok(Holding {
         shares: 100,
-        appointed: Listing::from_vec(given),
-        ended: Listing::from_vec(vec![in alloc; ending(2, "2026-06-04T09:00:00")?]?),
+        appointed: Listing::from_vec(appointed),
+        ended: Listing::from_vec(ended),
     })
 }
 
@@ -207,13 +254,26 @@ fn unappointed(alloc: Global, shares: u64) -> Holding {
     }
 }
 
+fn has_ends(alloc: Global, holding: &Holding, wanted: &[u64]) -> Result<bool, Fail> {
+    Ok(ends(alloc, holding)?.as_slice() == wanted)
+}
+
+fn is_parted(alloc: Global) -> Result<bool, Fail> {
+    let replaced = replaced(alloc)?;
+    has_ends(alloc, &replaced, &[40, 1, 60, 0, 100, 1])
+}
+
+/// Whether a holding with no appointment is one piece.
+fn is_one_piece(alloc: Global, shares: u64) -> Result<bool, Fail> {
+    let unappointed = unappointed(alloc, shares);
+    has_ends(alloc, &unappointed, &[shares, 0])
+}
+
 #[test]
 fn what_governs_over_linked_blocks(rt: HostRuntime) -> Result<(), Fail> {
-    let wanted: &[u64] = &[40, 1, 60, 0, 100, 1];
-    assert!(rt; ends(rt.alloc(), &replaced(rt.alloc())?)?.as_slice() == wanted);
+    assert!(rt; is_parted(rt.alloc())?);
     for shares in [50, 999_995, 1_000_000_000_000] {
-        let found = ends(rt.alloc(), &unappointed(rt.alloc(), shares))?;
-        assert!(rt; found.as_slice() == [shares, 0].as_slice(), "{shares}");
+        assert!(rt; is_one_piece(rt.alloc(), shares)?, "{shares}");
     }
     Ok(())
 }

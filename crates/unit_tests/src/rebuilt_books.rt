@@ -32,13 +32,20 @@ fn row(alloc: Global, member: &[u8], shares: u64) -> Result<RegisterRow, Fail> {
     })
 }
 
-/// The lists of the meeting, with a register whose rows are not in order.
-fn shuffled(alloc: Global) -> Result<MeetingLists, Fail> {
+/// Rows that are not in order.
+fn register(alloc: Global) -> Result<Listing<RegisterRow>, Fail> {
     let mut register: Listing<RegisterRow> = Listing::new(alloc);
     register.push(row(alloc, b"M2", 50)?)?;
     register.push(row(alloc, b"M1", 100)?)?;
+    Ok(register)
+}
+
+/// The lists of the meeting, with a register whose rows are not in order.
+fn shuffled(alloc: Global) -> Result<MeetingLists, Fail> {
+    let meeting = meeting(alloc)?;
+    let register = register(alloc)?;
     Ok(MeetingLists {
-        meeting: meeting(alloc)?,
+        meeting,
         register,
         appointments: Filed::new(alloc),
         endings: Filed::new(alloc),
@@ -61,11 +68,22 @@ fn appointment(number: u64) -> Result<Appointment, Fail> {
     })
 }
 
-fn book_of(alloc: Global, lists: Option<MeetingLists>) -> Result<Result<Book, BookFault>, Fail> {
+/// Adds an appointment of that number.
+fn appoint(lists: &mut MeetingLists, number: u64) -> Result<(), Fail> {
+    lists.appointments.push(appointment(number)?)?;
+    Ok(())
+}
+
+fn meetings(alloc: Global, lists: Option<MeetingLists>) -> Result<Listing<MeetingLists>, Fail> {
     let mut meetings: Listing<MeetingLists> = Listing::new(alloc);
     if let Some(lists) = lists {
         meetings.push(lists)?;
     }
+    Ok(meetings)
+}
+
+fn book_of(alloc: Global, lists: Option<MeetingLists>) -> Result<Result<Book, BookFault>, Fail> {
+    let meetings = meetings(alloc, lists)?;
     let keys = KeyRows::empty(alloc);
     let closed = DayList::empty(alloc);
     let office = OfficeLists {
@@ -92,8 +110,8 @@ fn a_register_comes_in_any_order(rt: HostRuntime) -> Result<(), Fail> {
 #[test]
 fn appointments_numbered_1_and_3_are_no_office(rt: HostRuntime) -> Result<(), Fail> {
     let mut lists = shuffled(rt.alloc())?;
-    lists.appointments.push(appointment(1)?)?;
-    lists.appointments.push(appointment(3)?)?;
+    appoint(&mut lists, 1)?;
+    appoint(&mut lists, 3)?;
     let fault = book_of(rt.alloc(), Some(lists))?.err();
     assert!(rt; fault == Some(BookFault::NoOffice));
     Ok(())

@@ -46,18 +46,21 @@ const UNREADABLE: &str = "{\"code\":5,\"refused\":\"Unreadable\"}\n";
 
 const ROUTE: &str = "{\"code\":2,\"refused\":\"Route\"}\n";
 
+/// A script, and the replies to it.
+const LAST_LINES: &[(&str, &str)] = &[
+    ("", ""),
+    ("\n\r\n\n", ""),
+    ("\r", UNREADABLE),
+    ("2026-06-18T10:00:00 M1 G1 mine {}", NO_MEETING),
+    ("2026-06-18T10:00:00 M1 G1 mine {}\r", NO_MEETING),
+    ("2026-06-18T10:00:00 M1 G1 mine\r", ROUTE),
+    ("\n\r\n2026-06-18T10:00:00 M1 G1 mine", NO_MEETING),
+];
+
 // A carriage return with no line feed behind it is a part of the line.
 #[test]
 fn last_lines_need_no_line_feed(rt: HostRuntime) -> Result<(), Fail> {
-    for (script, wanted) in [
-        ("", ""),
-        ("\n\r\n\n", ""),
-        ("\r", UNREADABLE),
-        ("2026-06-18T10:00:00 M1 G1 mine {}", NO_MEETING),
-        ("2026-06-18T10:00:00 M1 G1 mine {}\r", NO_MEETING),
-        ("2026-06-18T10:00:00 M1 G1 mine\r", ROUTE),
-        ("\n\r\n2026-06-18T10:00:00 M1 G1 mine", NO_MEETING),
-    ] {
+    for &(script, wanted) in LAST_LINES {
         let written = replayed(rt.alloc(), script)?;
         assert!(rt; written.as_slice() == wanted.as_bytes(), "{script:?}");
     }

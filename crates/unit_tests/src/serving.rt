@@ -1,9 +1,9 @@
 //! Connections that are served.
 use crate::office::{Office, moment};
-use crate::peers::{connect, listen, reply_to, send};
+use crate::peers::{connect, is_told, listen, reply_to, send};
 use clocks::SliceClock;
 use std::alloc::{AllocError, Global};
-use std::net::TcpListener;
+use std::net::{TcpListener, TcpStream};
 use std::test::Fail;
 
 const MINE: &str = "GET /m/G1/mine HTTP/1.1\r\nDesk-Key: zzzzzzzzzzzzzzzz\r\n\r\n";
@@ -21,11 +21,16 @@ const TOO_LARGE: &str = "HTTP/1.1 413 Payload Too Large\r\nContent-Type: applica
 // More than is read with a head, and less than the system takes in before a connection is served.
 const BEHIND: usize = 20_000;
 
-/// Serves all connections of a listener that were made, so many, at one moment each, and closes it.
-fn serve_all(alloc: Global, listener: TcpListener, count: u8) -> Result<(), Fail> {
+/// Serves all connections of a listener that were made, so many, at one moment each.
+fn serve(alloc: Global, listener: &TcpListener, count: u8) -> Result<(), Fail> {
     let moments = [moment("2026-06-02T09:00:00")?; 2];
     let mut clock = SliceClock::new(&moments[..usize::from(count).min(2)]);
-    Ok(Office::new(alloc)?.serve_loop(&listener, &mut clock, u32::from(count))?)
+    Ok(Office::new(alloc)?.serve_loop(listener, &mut clock, u32::from(count))?)
+}
+
+/// The same, and closes the listener.
+fn serve_all(alloc: Global, listener: TcpListener, count: u8) -> Result<(), Fail> {
+    serve(alloc, &listener, count)
 }
 
 /// A request, and so many bytes behind it.
@@ -43,7 +48,7 @@ fn own_things_are_told_over_a_socket(rt: HostRuntime) -> Result<(), Fail> {
     let listener = listen(&rt)?;
     let peer = send(&rt, &listener, MINE.as_bytes())?;
     serve_all(rt.alloc(), listener, 1)?;
-    assert!(rt; reply_to(rt.alloc(), peer)?.as_str() == NOTHING);
+    assert!(rt; is_told(rt.alloc(), peer, NOTHING)?);
     Ok(())
 }
 
@@ -55,7 +60,7 @@ fn a_peer_that_closes_at_once_counts(rt: HostRuntime) -> Result<(), Fail> {
     let next = send(&rt, &listener, MINE.as_bytes())?;
     let after = connect(&rt, &listener)?;
     serve_all(rt.alloc(), listener, 2)?;
-    assert!(rt; reply_to(rt.alloc(), next)?.as_str() == NOTHING);
+    assert!(rt; is_told(rt.alloc(), next, NOTHING)?);
     assert!(rt;
         reply_to(rt.alloc(), after).is_err(),
         "one too many was served"
@@ -63,18 +68,24 @@ fn a_peer_that_closes_at_once_counts(rt: HostRuntime) -> Result<(), Fail> {
     Ok(())
 }
 
+/// A vote that is too large.
+const CAST: &str = "POST /m/G1/cast HTTP/1.1\r\nDesk-Key: zzzzzzzzzzzzzzzz\r\n\
+                    Content-Length: 65537\r\n\r\n";
+
+/// A peer that sends a request with bytes behind it.
+fn send_more(rt: &HostRuntime, listener: &TcpListener, head: &str) -> Result<TcpStream, Fail> {
+    let bytes = followed(rt.alloc(), head, BEHIND)?;
+    Ok(send(rt, listener, &bytes)?)
+}
+
 // A reply arrives though bytes behind the request were not read.
 #[test]
 fn a_peer_that_sends_more_has_its_reply(rt: HostRuntime) -> Result<(), Fail> {
     let listener = listen(&rt)?;
-    let long = followed(rt.alloc(), MINE, BEHIND)?;
-    let cast = "POST /m/G1/cast HTTP/1.1\r\nDesk-Key: zzzzzzzzzzzzzzzz\r\n\
-                Content-Length: 65537\r\n\r\n";
-    let large = followed(rt.alloc(), cast, BEHIND)?;
-    let peers = [send(&rt, &listener, &long)?, send(&rt, &listener, &large)?];
+    let first = send_more(&rt, &listener, MINE)?;
+    let second = send_more(&rt, &listener, CAST)?;
     serve_all(rt.alloc(), listener, 2)?;
-    let [first, second] = peers;
-    assert!(rt; reply_to(rt.alloc(), first)?.as_str() == NOTHING);
-    assert!(rt; reply_to(rt.alloc(), second)?.as_str() == TOO_LARGE);
+    assert!(rt; is_told(rt.alloc(), first, NOTHING)?);
+    assert!(rt; is_told(rt.alloc(), second, TOO_LARGE)?);
     Ok(())
 }
