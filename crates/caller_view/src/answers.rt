@@ -73,6 +73,7 @@ fn mine(
 /// as `NoMeeting` where there is no meeting, and else as its request is. The own things are taken,
 /// since the reply may be made of them. The error is want of memory: a notice and own things take
 /// some, and nothing else does.
+#[inline(always)]
 pub fn answer(
     alloc: Global,
     public: &PublicRecord,

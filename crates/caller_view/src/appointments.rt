@@ -107,6 +107,7 @@ fn appointed(used: AppointmentUse, appointment: Appointment) -> Answer<Entry>
 /// there is not one for each resolution, and `TooMany` where it gave `MOST_APPOINTMENTS` in the
 /// meeting; and else `Appointed` with its next number, which enters the appointment. The register
 /// is not looked at.
+#[inline(never)]
 pub(crate) fn appoint(
     public: &PublicRecord,
     meeting: &Meeting,
@@ -147,6 +148,7 @@ fn end_refusal(own: &OwnView, number: u64) -> Option<Refusal>
 
 /// The answer to a party that ends an appointment that it gave (section 330): `NoSuchNumber` where
 /// it gave none of that number, `AlreadyEnded`, and else `Ended`, which enters the ending.
+#[inline(never)]
 pub(crate) fn end(own: &OwnView, now: Moment, number: u64) -> Answer<Entry>
     ensures { result ≡ ruled_answer (end_ruling own.now now number) }
 {

@@ -62,6 +62,7 @@ fn is_present(meeting: &Meeting, own: &OwnView) -> bool
 /// The answer to a party that notes its own presence in the last session (section 318): `Noted`,
 /// which enters the mark unless it stands already. A party that has no right to be present is noted
 /// too.
+#[inline(never)]
 pub(crate) fn attend(meeting: &Meeting, own: &OwnView, now: Moment) -> Answer<Entry>
     ensures { result ≡ ruled_answer (attend_ruling meeting.now own.now now) }
 {
@@ -151,6 +152,7 @@ fn demand_refusal(
 /// representative of a corporation there, and governs no share as a proxy for acts in this session,
 /// and `PollOrdered`; and else `Noted`, which enters the demand unless it stands already in this
 /// session. Whether the demands are enough is not said.
+#[inline(never)]
 pub(crate) fn demand(
     public: &PublicRecord,
     meeting: &Meeting,

@@ -116,6 +116,7 @@ fn recorded(cast: CastMark) -> Answer<Entry>
 /// `NotYours` where a place is past the holding, or is none that it governs as a proxy for this
 /// poll, and `AgainstInstruction` where an appointment that governs some of the places instructs it
 /// otherwise (section 324A); and else `Recorded`, which enters the vote.
+#[inline(never)]
 pub(crate) fn cast(
     public: &PublicRecord,
     meeting: &Meeting,
@@ -174,6 +175,7 @@ fn instructed_refusal(
 /// `NoResolution`, `TooMany` where the party cast 1,024 votes on the resolution, `NoRegister`,
 /// `NoPoll`, `PollNotOpen`, `PollClosed`, and `NotYours` where it governs no share for this poll
 /// with an instruction other than free; and else `Recorded`, which enters the vote.
+#[inline(never)]
 pub(crate) fn instructed(
     public: &PublicRecord,
     meeting: &Meeting,

@@ -88,6 +88,7 @@ fn write_reply(out: &mut Writer, reply: &Reply) -> Result<(), AllocError>
 
 /// The JSON text of a reply, with no space between its tokens, which reads back as the reply. The
 /// error is want of memory alone.
+#[inline(always)]
 pub fn reply_text(alloc: Global, reply: &Reply) -> Result<Vec<u8>, AllocError>
     ensures text { IfOk result (λ text. text.items ≡ reply_bytes reply.now) }
     ensures reads_back { IfOk result (λ text. read text.items ≡ Some (reply_data reply.now)) }

@@ -171,6 +171,7 @@ impl Route {
     /// stands for an object with no fields. The error is `Memory` only where an allocation was
     /// refused. The room that reading needs is kept in `scratch`, from one body to the next, and
     /// what it held before tells nothing.
+    #[inline(always)]
     pub fn request(self, alloc: Global, scratch: &mut Scratch, body: &[u8]) -> Result<Request, Ask>
         ensures { AskAgrees id result (or_unreadable (asked_on_route self body.now)) }
     {
@@ -195,6 +196,7 @@ impl Route {
 /// fields. The error is `Memory` only where an allocation was refused. The room that reading needs
 /// is kept in `scratch`, from one body to the next, and what it held before tells nothing.
 #[tactic(auto, unfolding(crate::specs::Requests::request_of))]
+#[inline(always)]
 pub fn request_of(
     alloc: Global,
     scratch: &mut Scratch,

@@ -20,7 +20,7 @@ use Rattle.desk_words.specs.declared.records.Ending.{Ending}
 use Rattle.desk_words.specs.declared.records.Meeting.{Meeting}
 use Rattle.desk_words.specs.declared.records.PresenceMark.{PresenceMark}
 use Rattle.desk_words.specs.declared.records.RegisterRow.{RegisterRow}
-use Rattle.proxy_rules.specs.Holdings.{is_ended_of, is_given_by}
+use Rattle.proxy_rules.specs.Holdings.{claim_of, is_ended_of, is_given_by}
 use Rattle.proxy_rules.specs.Parties.{authorises, is_authority_of, is_cast_by, is_demanded_by, is_presence_of, names}
 use Rattle.proxy_rules.specs.Shares.{row_of, shares_of}
 use Rattle.party_views.specs.PartyRows.{authority_rows_in, givers, member_in, no_rows_of, rows_in, rows_of}
@@ -51,7 +51,7 @@ member_near near member = record {
   member = member;
   holding = record {
     shares = option_map_or shares_of (near.row member) 0;
-    appointed = filter (is_given_by member) near.appointments;
+    appointed = map claim_of (filter (is_given_by member) near.appointments);
     ended = filter (is_ended_of member) near.endings;
   };
 }
@@ -101,7 +101,7 @@ member-alike viewer m member near =
     let row = row-near viewer m.register member near in
     let appointed = given-near viewer m.appointments member near in
     let ended = ended-near viewer m.endings member near in
-    λ i. record { member = member; holding = record { shares = option_map_or shares_of (row i) 0; appointed = appointed i; ended = ended i } }
+    λ i. record { member = member; holding = record { shares = option_map_or shares_of (row i) 0; appointed = map claim_of (appointed i); ended = ended i } }
 
 authority-alike : (viewer : Viewer) (m : MeetingLists) (a : Authority) → is_near viewer a.corporation ≡ true → authority_near (near_in viewer (Some m)) a ≡ authority_rows_in m a
 authority-alike viewer m a near =

@@ -15,9 +15,10 @@ use Rattle.desk_words.proofs.WordRowLemmas.{same_name-true, same_name-refl}
 use Rattle.desk_words.specs.declared.office.MeetingLists.{MeetingLists}
 use Rattle.desk_words.specs.declared.records.Appointment.{Appointment}
 use Rattle.proxy_rules.specs.Governing.{governed_in}
-use Rattle.proxy_rules.specs.Holdings.{IsValidHolding, holding_of, is_given_by, is_valid_holding}
+use Rattle.proxy_rules.specs.Holdings.{IsValidHolding, claims_of, holding_of, is_given_by, is_valid_holding}
 use Rattle.proxy_rules.specs.declared.holdings.Holding.{Holding}
 use Rattle.proxy_rules.specs.declared.meeting_records.Cutoffs.{Cutoffs}
+use Rattle.proxy_rules.proofs.ClaimLemmas.{governed_alike, valid_alike}
 use Rattle.party_views.specs.OwnViews.{governed_by, governed_in_holding, rows_by}
 use Rattle.party_views.specs.PartyRows.{parties_once, givers, member_in}
 use Rattle.party_views.specs.declared.own_rows.MemberRows.{MemberRows}
@@ -104,4 +105,5 @@ governed-by_member m cutoffs given member number kept among =
     let there : list_any (of member) (givers given) ≡ true = any-each_once member (map (λ (a : Appointment). a.member) given) ∙ any-givers member given ∙ among in
     let found = rows-found m (givers given) member ∙ ap (λ b. cond b (Some (member_in m member)) None) there in
     ap (λ (o : Option MemberRows). option_map_or (λ (rows : MemberRows). governed_in_holding cutoffs rows.holding number) o []) found
-    ∙ ap (λ b. cond b (governed_in cutoffs holding number) []) kept
+    ∙ ap (λ b. cond b (governed_in cutoffs (claims_of holding) number) []) (valid_alike holding ∙ kept)
+    ∙ governed_alike cutoffs holding number

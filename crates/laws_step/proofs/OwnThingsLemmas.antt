@@ -17,7 +17,7 @@ use Rattle.desk_words.specs.declared.records.PresenceMark.{PresenceMark}
 use Rattle.desk_words.specs.declared.records.RegisterRow.{RegisterRow}
 use Rattle.proxy_rules.specs.Cutoffs.{cutoffs_of, is_late_poll}
 use Rattle.proxy_rules.specs.Uses.{Acts, Votes, Vote}
-use Rattle.proxy_rules.specs.Holdings.{is_ended_of, is_given_by}
+use Rattle.proxy_rules.specs.Holdings.{claim_of, is_ended_of, is_given_by}
 use Rattle.proxy_rules.specs.Parties.{authorises, is_authority_of, is_cast_by, is_demanded_by, is_presence_of, names}
 use Rattle.proxy_rules.specs.Shares.{row_of, shares_of}
 use Rattle.proxy_rules.specs.declared.meeting_records.Cutoffs.{Cutoffs}
@@ -114,7 +114,7 @@ member-alike m party member named =
     (λ e is. or_right (is_ended_of party e) (has_named m party e.member) (ap (has_named m party) (same_name-true e.member member is) ∙ named)) in
     λ i. record {
       member = member;
-      holding = record { shares = option_map_or shares_of (row i) 0; appointed = appointed i; ended = ended i };
+      holding = record { shares = option_map_or shares_of (row i) 0; appointed = map claim_of (appointed i); ended = ended i };
     }
 
 -- an authority that is the party's, with its corporation's row

@@ -6,7 +6,7 @@ ghost use Rattle.desk_words.specs.Registers.{member_before};
 ghost use Rattle.party_views.specs.RowsRead.{rows_read};
 ghost use Rattle.party_views.specs.PartyRows.{rows_of};
 
-use crate::members::{count_given_by, naming, naming_by};
+use crate::members::{claims_by, count_given_by, naming, naming_by};
 use crate::party_records::{
     casts_of, casts_on, demands_of, ended_by, persons_of, presences_of, row_of, shares_of,
     trusting, trusting_for,
@@ -16,7 +16,7 @@ use desk_words::{
     PartyRequest, RegisterRow,
 };
 use party_views::{OwnRows, Reads, reads_of};
-use proxy_rules::given_by;
+use proxy_rules::{Claim, given_by};
 use row_source::RowSource;
 use std::alloc::{AllocError, Global};
 
@@ -51,6 +51,11 @@ impl RowSource for InLists<'_> {
 
     fn given_by(&mut self, member: Party) -> Result<Listing<Appointment>, AllocError> {
         given_by(self.alloc, &self.lists.appointments, member)
+    }
+
+    fn claims_by(&mut self, member: Party) -> Result<Listing<Claim>, AllocError> {
+        let found = claims_by(self.alloc, &self.lists.appointments, member)?;
+        Ok(Listing::from_vec(found))
     }
 
     fn count_given_by(&mut self, member: Party) -> Result<u64, AllocError> {

@@ -1,10 +1,29 @@
 //! The appointments that a member gave, or that name a party.
-ghost use Rattle.std.specs.Prelude.{◌≡◌, IfOk, filter, length};
-ghost use Rattle.proxy_rules.specs.Holdings.{is_given_by};
+ghost use Rattle.std.specs.Prelude.{◌≡◌, IfOk, filter, length, map};
+ghost use Rattle.proxy_rules.specs.Holdings.{claim_of, is_given_by};
 ghost use Rattle.proxy_rules.specs.Parties.{names};
 
 use desk_words::{Appointment, Filed, Listing, Party};
+use proxy_rules::Claim;
 use std::alloc::{AllocError, Global};
+
+/// What of a member's appointments decides which shares they govern.
+pub(crate) fn claims_by(
+    alloc: Global,
+    appointments: &Filed<Appointment>,
+    member: Party,
+) -> Result<Vec<Claim>, AllocError>
+    ensures { IfOk result
+        (λ claims. claims.items ≡ map claim_of (filter (is_given_by member) appointments.now)) }
+{
+    let all = appointments.as_slice();
+    let places = appointments.places_by_first(member);
+    let mut claims = Vec::with_capacity(alloc, places.len())?;
+    for place in places {
+        claims.push(Claim::of(&all[*place]))?;
+    }
+    Ok(claims)
+}
 
 /// How many appointments a member gave.
 pub(crate) fn count_given_by(appointments: &Filed<Appointment>, member: Party) -> u64

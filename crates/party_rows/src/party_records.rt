@@ -9,7 +9,6 @@ ghost use Rattle.proxy_rules.specs.Holdings.{is_ended_of};
 ghost use Rattle.proxy_rules.specs.Parties.{authorises, is_authority_of, is_cast_by, is_demanded_by};
 ghost use Rattle.proxy_rules.specs.Shares.{row_of, shares_by};
 
-use desk_words::limits::MOST_CASTS;
 use desk_words::{
     Authority, CastMark, DemandMark, Ending, Filed, Party, PresenceMark, RegisterRow,
 };
@@ -152,7 +151,7 @@ pub(crate) fn casts_on(
 {
     let all = casts.as_slice();
     let places = casts.places_by_first(party);
-    let mut found = Vec::with_capacity(alloc, places.len().min(MOST_CASTS))?;
+    let mut found = Vec::new(alloc);
     for place in places {
         let cast = &all[*place];
         if cast.resolution == resolution {

@@ -6,7 +6,7 @@ use Rattle.desk_words.specs.declared.office.MeetingLists.{MeetingLists}
 use Rattle.desk_words.specs.declared.records.Appointment.{Appointment}
 use Rattle.desk_words.specs.declared.records.Authority.{Authority}
 use Rattle.desk_words.specs.declared.records.PresenceMark.{PresenceMark}
-use Rattle.proxy_rules.specs.Holdings.{holding_of, is_ended_of, is_given_by}
+use Rattle.proxy_rules.specs.Holdings.{claims_of, holding_of, is_ended_of, is_given_by}
 use Rattle.proxy_rules.specs.Parties.{authorises, is_authority_of, is_cast_by, is_demanded_by, is_presence_of, names}
 use Rattle.proxy_rules.specs.Shares.{row_of}
 use Rattle.party_views.specs.declared.own_rows.AuthorityRows.{AuthorityRows}
@@ -23,11 +23,11 @@ parties_once (party ∷ parties) =
 abbrev pub givers : List Appointment → List Party
 givers given = parties_once (map (λ (a : Appointment). a.member) given)
 
--- a member, with its shares, its appointments and its endings in a meeting
+-- a member, with its shares, the claims of its appointments, and its endings in a meeting
 abbrev pub member_in : MeetingLists → Party → MemberRows
 member_in m member = record {
   member = member;
-  holding = holding_of m.register m.appointments m.endings member;
+  holding = claims_of (holding_of m.register m.appointments m.endings member);
 }
 
 -- an authority, with its corporation's row in the register of a meeting

@@ -1,6 +1,6 @@
 -- What is looked up by member and number while a party's own things are made. For private
 -- contracts.
-use Rattle.std.specs.Prelude.{◌≡◌, ℕ, Bool, ◌&&◌, ◌==◌, List, map, option_and_then}
+use Rattle.std.specs.Prelude.{◌≡◌, ◌<◌, ℕ, Bool, ◌&&◌, ◌==◌, List, length, map, option_and_then}
 use Rattle.std.specs.BTreeMap.{BTreeMap, get}
 use Rattle.std.specs.List.{slice_get}
 use Rattle.std.specs.Ordering.{nat_cmp}
@@ -19,6 +19,7 @@ use Rattle.proxy_rules.specs.declared.meeting_records.Cutoffs.{Cutoffs}
 use Rattle.party_views.specs.OwnViews.{governed_by, known_to_proxy, rows_by}
 use Rattle.party_views.specs.declared.governed.LatePoll.{LatePoll}
 use Rattle.party_views.specs.declared.governed.SessionCutoffs.{SessionCutoffs}
+use Rattle.party_views.specs.declared.governed.TheConstants.{FEW}
 use Rattle.party_views.specs.declared.own_rows.MemberRows.{MemberRows}
 
 -- a map has the place of each member's rows, and of no others
@@ -26,6 +27,10 @@ abbrev pub AreByMember : List MemberRows → BTreeMap Party ℕ → Type 0
 AreByMember members places =
     (member : Party)
     → option_and_then (slice_get members) (get name_cmp places member) ≡ rows_by members member
+
+-- and where they are more than a few it does
+abbrev pub AreByMemberIfMany : List MemberRows → BTreeMap Party ℕ → Type 0
+AreByMemberIfMany members places = FEW < length members → AreByMember members places
 
 -- the cutoffs of the session of a number (sections 327 and 330)
 abbrev pub cutoffs_in_session : Meeting → List Day → Moment → SessionNumber → SessionCutoffs

@@ -6,7 +6,7 @@ ghost use Rattle.std.specs.List.{slice_get};
 ghost use Rattle.std.specs.Option.{option_copied};
 ghost use Rattle.vocabulary.specs.Names.{name_cmp};
 ghost use Rattle.proxy_rules.specs.Cutoffs.{is_late_poll};
-ghost use Rattle.party_views.specs.ViewsByMember.{AreByMember, late_in_rows, late_of, received_with, same_cutoffs, cutoffs_in_session, session_in_rows};
+ghost use Rattle.party_views.specs.ViewsByMember.{AreByMember, AreByMemberIfMany, late_in_rows, late_of, received_with, same_cutoffs, cutoffs_in_session, session_in_rows};
 ghost use Rattle.party_views.specs.OwnViews.{governed_by, governed_in_holding, received_by, rows_by};
 ghost use Rattle.party_views.specs.SessionLists.{each_session};
 
@@ -16,7 +16,7 @@ use desk_words::{
     SessionGoverned,
 };
 use office_days::Closed;
-use proxy_rules::{Cutoffs, Holding, Use, cutoffs, is_late_poll};
+use proxy_rules::{Claims, Cutoffs, Use, cutoffs, is_late_poll};
 use std::alloc::{AllocError, Global};
 use std::collections::BTreeMap;
 
@@ -38,7 +38,11 @@ pub(crate) struct LatePoll {
     pub cutoffs: Cutoffs,
 }
 
-/// The members who named a party, and where the rows of each stand among them.
+/// Of up to so many members the rows are looked through.
+const FEW: usize = 8;
+
+/// The members who named a party, and, where they are more than a few, where the rows of each stand
+/// among them.
 #[derive(Clone, Copy)]
 struct Members<'a> {
     rows: &'a [MemberRows],
@@ -59,6 +63,20 @@ fn places_by_member(
         place += 1;
     }
     Ok(places)
+}
+
+/// The same, where they are more than a few.
+fn places_of_many(
+    alloc: Global,
+    members: &[MemberRows],
+) -> Result<BTreeMap<Party, usize>, AllocError>
+    ensures { IfOk result (λ places. AreByMemberIfMany members.now places) }
+{
+    if members.len() <= FEW {
+        Ok(BTreeMap::new(alloc))
+    } else {
+        places_by_member(alloc, members)
+    }
 }
 
 /// The cutoffs of the session of a number.
@@ -128,7 +146,7 @@ fn late_polls(
 fn governed_kept(
     alloc: Global,
     cutoffs: &Cutoffs,
-    holding: &Holding,
+    holding: &Claims,
     number: u64,
 ) -> Result<Vec<Range>, AllocError>
     ensures { IfOk result (λ runs. runs.items ≡ governed_in_holding cutoffs.now holding.now number) }
@@ -156,10 +174,14 @@ fn copy_runs(runs: &Listing<Range>) -> Result<Listing<Range>, AllocError>
 impl<'a> Members<'a> {
     /// The rows of a member.
     fn rows_by(&self, member: Party) -> Option<&'a MemberRows>
-        requires { AreByMember self.now.rows.now self.now.places.now }
+        requires { AreByMemberIfMany self.now.rows.now self.now.places.now }
         ensures { option_copied result ≡ rows_by self.now.rows.now member }
     {
-        self.rows.get(*self.places.get(&member)?)
+        if self.rows.len() <= FEW {
+            self.rows.iter().rev().find(|rows| rows.member.is(member))
+        } else {
+            self.rows.get(*self.places.get(&member)?)
+        }
     }
 
     /// What a member's appointment of a number governs.
@@ -170,7 +192,7 @@ impl<'a> Members<'a> {
         member: Party,
         number: u64,
     ) -> Result<Listing<Range>, AllocError>
-        requires { AreByMember self.now.rows.now self.now.places.now }
+        requires { AreByMemberIfMany self.now.rows.now self.now.places.now }
         ensures { IfOk result
             (λ runs. runs ≡ governed_by self.now.rows.now cutoffs.now member number) }
     {
@@ -193,7 +215,7 @@ impl<'a> Members<'a> {
         member: Party,
         number: u64,
     ) -> Result<Listing<Range>, AllocError>
-        requires members { AreByMember self.now.rows.now self.now.places.now }
+        requires members { AreByMemberIfMany self.now.rows.now self.now.places.now }
         requires acts { acts.now ≡ governed_by self.now.rows.now session.now.acts member number }
         ensures { IfOk result
             (λ runs. runs ≡ governed_by self.now.rows.now session.now.votes member number) }
@@ -213,7 +235,7 @@ impl<'a> Members<'a> {
         member: Party,
         number: u64,
     ) -> Result<SessionGoverned, AllocError>
-        requires { AreByMember self.now.rows.now self.now.places.now }
+        requires { AreByMemberIfMany self.now.rows.now self.now.places.now }
         ensures { IfOk result (λ governed. governed
             ≡ session_in_rows self.now.rows.now member number session.now) }
     {
@@ -230,7 +252,7 @@ impl<'a> Members<'a> {
         member: Party,
         number: u64,
     ) -> Result<Listing<SessionGoverned>, AllocError>
-        requires { AreByMember self.now.rows.now self.now.places.now }
+        requires { AreByMemberIfMany self.now.rows.now self.now.places.now }
         ensures { IfOk result (λ all. all
             ≡ map (session_in_rows self.now.rows.now member number) sessions.now) }
     {
@@ -249,7 +271,7 @@ impl<'a> Members<'a> {
         member: Party,
         number: u64,
     ) -> Result<Listing<PollGoverned>, AllocError>
-        requires { AreByMember self.now.rows.now self.now.places.now }
+        requires { AreByMemberIfMany self.now.rows.now self.now.places.now }
         ensures { IfOk result
             (λ polls. polls ≡ map (late_in_rows self.now.rows.now member number) late.now) }
     {
@@ -272,7 +294,7 @@ fn known(
     late: &[LatePoll],
     appointment: Appointment,
 ) -> Result<Received, AllocError>
-    requires { AreByMember members.now.rows.now members.now.places.now }
+    requires { AreByMemberIfMany members.now.rows.now members.now.places.now }
     ensures { IfOk result
         (λ known. known ≡ received_with members.now.rows.now sessions.now late.now appointment) }
 {
@@ -295,7 +317,7 @@ fn all_known(
     late: &[LatePoll],
     received: Vec<Appointment>,
 ) -> Result<Vec<Received>, AllocError>
-    requires { AreByMember members.now.rows.now members.now.places.now }
+    requires { AreByMemberIfMany members.now.rows.now members.now.places.now }
     ensures { IfOk result (λ all. all.items
         ≡ map (received_with members.now.rows.now sessions.now late.now) received.items) }
 {
@@ -324,7 +346,7 @@ pub(crate) fn received_from(
     if received.is_empty() {
         return Ok(Listing::new(alloc));
     }
-    let places = places_by_member(alloc, members)?;
+    let places = places_of_many(alloc, members)?;
     let members = Members {
         rows: members,
         places: &places,

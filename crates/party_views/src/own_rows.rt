@@ -2,13 +2,14 @@
 use desk_words::{
     Appointment, Authority, CastMark, DemandMark, Ending, Listing, Party, RegisterRow,
 };
-use proxy_rules::Holding;
+use proxy_rules::Claims;
 
-/// A member who named a party as its proxy, with its shares, its appointments and its endings.
+/// A member who named a party as its proxy, with its shares, the claims of its appointments, and its
+/// endings.
 #[derive(Drop)]
 pub struct MemberRows {
     pub member: Party,
-    pub holding: Holding,
+    pub holding: Claims,
 }
 
 /// An authority to act for a corporation, with the corporation's row in the register, if it has

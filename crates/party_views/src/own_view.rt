@@ -130,6 +130,7 @@ fn own_on(
 }
 
 /// The own things of a party, by the polls for which the answer to a request reads them.
+#[inline(always)]
 fn own_asked(
     alloc: Global,
     rows: OwnRows,
@@ -155,6 +156,7 @@ fn own_asked(
 /// Those of the own things of a party at a moment that the answer to a request reads, and nothing
 /// in place of the others, from those of its rows that they are made of, which are moved into them.
 /// The error is want of memory.
+#[inline(always)]
 pub fn own_for(
     alloc: Global,
     rows: OwnRows,

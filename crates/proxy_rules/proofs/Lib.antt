@@ -1,4 +1,5 @@
 pub mod AloneLemmas
+pub mod ClaimLemmas
 pub mod EndedTags
 pub mod GovernedRuns
 pub mod GoverningLemmas

@@ -9,7 +9,7 @@ use Rattle.desk_words.specs.declared.records.RegisterRow.{RegisterRow}
 use Rattle.proxy_rules.specs.declared.holdings.Holding.{Holding}
 use Rattle.proxy_rules.specs.declared.meeting_records.Cutoffs.{Cutoffs}
 use Rattle.proxy_rules.specs.Governing.{governed_in, governing_in, governing_number}
-use Rattle.proxy_rules.specs.Holdings.{holding_of}
+use Rattle.proxy_rules.specs.Holdings.{claims_of, holding_of}
 use Rattle.proxy_rules.specs.PlaceRuns.{are_parted, runs_that}
 
 -- runs hold exactly the places 1 to n that pass the test
@@ -51,3 +51,9 @@ EarlierTakeNothing =
     → governed_in cutoffs (record { shares = shares; appointed = earlier ++ later; ended = ended })
     number
     ≡ governed_in cutoffs (record { shares = shares; appointed = later; ended = ended }) number
+
+-- claims alone decide what an appointment governs
+abbrev pub ClaimsGovern : Type 0
+ClaimsGovern =
+    (cutoffs : Cutoffs) (holding : Holding) (number : ℕ)
+    → governed_in cutoffs (claims_of holding) number ≡ governed_in cutoffs holding number

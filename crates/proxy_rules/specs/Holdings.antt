@@ -1,5 +1,5 @@
 -- One member's shares, with what was received of its appointments.
-use Rattle.std.specs.Prelude.{◌≡◌, ℕ, ◌≤◌, suc, Bool, true, ◌&&◌, ◌==◌, nat_le, List, [], ◌∷◌, filter}
+use Rattle.std.specs.Prelude.{◌≡◌, ℕ, ◌≤◌, suc, Bool, true, ◌&&◌, ◌==◌, nat_le, List, [], ◌∷◌, filter, map}
 use Rattle.std.specs.List.{list_all}
 use Rattle.vocabulary.specs.declared.range.TheConstants.{MOST_PLACES}
 use Rattle.vocabulary.specs.Names.{same_name}
@@ -35,6 +35,14 @@ holding_by given ended row = holding_with (shares_of row) given ended row.member
 -- the holding of a member, of no shares where it has no row in the register
 abbrev pub holding_of : List RegisterRow → List Appointment → List Ending → Party → Holding
 holding_of register given ended member = holding_with (shares_by register member) given ended member
+
+-- what of an appointment decides which shares it governs: no names, no instructions (section 324)
+abbrev pub claim_of : Appointment → Appointment
+claim_of a = record a { member = []; proxy = []; instructions = [] }
+
+-- a holding with no more of its appointments than that
+abbrev pub claims_of : Holding → Holding
+claims_of holding = record holding { appointed = map claim_of holding.appointed }
 
 -- a member's appointments are numbered on from n: n + 1, n + 2, ..
 abbrev pub are_numbered_from : ℕ → List Appointment → Bool

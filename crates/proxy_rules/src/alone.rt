@@ -9,45 +9,45 @@ ghost use Rattle.proxy_rules.specs.Holdings.{IsValidHolding};
 ghost use Rattle.proxy_rules.specs.GoverningLaws.{has_number};
 ghost use Rattle.proxy_rules.specs.PlaceRuns.{runs_that};
 
-use crate::governor::{counts, ends, is_over};
-use crate::holdings::Holding;
+use crate::claims::{Claim, Claims};
+use crate::governor::ends;
 use crate::meeting_records::Cutoffs;
 use crate::runs::join_run;
-use desk_words::{Appointment, Ending, Range};
+use desk_words::{Ending, Range};
 use std::alloc::{AllocError, Global};
 
 /// An appointment that takes the place.
-fn taker<'a>(later: &'a [Appointment], cutoffs: &Cutoffs, place: u64) -> Option<&'a Appointment>
+fn taker<'a>(later: &'a [Claim], cutoffs: &Cutoffs, place: u64) -> Option<&'a Claim>
     ensures { option_copied result ≡ find (is_over cutoffs.now place) later.now }
 {
     later
         .iter()
-        .find(|appointment| is_over(appointment, cutoffs, place))
+        .find(|appointment| appointment.is_over(cutoffs, place))
 }
 
 /// The last place of an appointment that takes the place.
-fn taken_to(later: &[Appointment], cutoffs: &Cutoffs, place: u64) -> Option<u64>
+fn taken_to(later: &[Claim], cutoffs: &Cutoffs, place: u64) -> Option<u64>
     ensures some { IfSome result (λ to. (place ≤ to) × ((other : ℕ) → place ≤ other → other ≤ to
         → is_taken cutoffs.now later.now other ≡ true)) }
     ensures none { result ≡ None → is_taken cutoffs.now later.now place ≡ false }
 {
     match taker(later, cutoffs, place) {
-        Some(appointment) => Some(appointment.range.to()),
+        Some(appointment) => Some(appointment.range().to()),
         None => None,
     }
 }
 
 /// The last place, up to an end, before an appointment begins that counts and is not over the
 /// place.
-fn free_before(appointment: &Appointment, cutoffs: &Cutoffs, place: u64, end: u64) -> u64
+fn free_before(appointment: &Claim, cutoffs: &Cutoffs, place: u64, end: u64) -> u64
     requires order { place ≤ end }
     requires free { is_over cutoffs.now place appointment.now ≡ false }
     ensures within { (place ≤ result) × (result ≤ end) }
     ensures free { (other : ℕ) → place ≤ other → other ≤ result
         → is_over cutoffs.now other appointment.now ≡ false }
 {
-    let from = appointment.range.from();
-    if counts(appointment, cutoffs) && place < from && from <= end {
+    let from = appointment.range().from();
+    if appointment.counts(cutoffs) && place < from && from <= end {
         from - 1
     } else {
         end
@@ -56,7 +56,7 @@ fn free_before(appointment: &Appointment, cutoffs: &Cutoffs, place: u64, end: u6
 
 /// The last place, up to an end, before the first of the appointments begins that count, where none
 /// takes the place.
-fn free_to(later: &[Appointment], cutoffs: &Cutoffs, place: u64, last: u64) -> u64
+fn free_to(later: &[Claim], cutoffs: &Cutoffs, place: u64, last: u64) -> u64
     requires order { place ≤ last }
     requires free { is_taken cutoffs.now later.now place ≡ false }
     ensures within { (place ≤ result) × (result ≤ last) }
@@ -75,7 +75,7 @@ fn runs_left(
     alloc: Global,
     cutoffs: &Cutoffs,
     range: Range,
-    later: &[Appointment],
+    later: &[Claim],
 ) -> Result<Vec<Range>, AllocError>
     ensures { IfOk result
         (λ runs. runs.items ≡ runs_that (is_left cutoffs.now later.now range) range.to) }
@@ -108,8 +108,8 @@ fn runs_of(
     alloc: Global,
     cutoffs: &Cutoffs,
     shares: u64,
-    appointment: &Appointment,
-    later: &[Appointment],
+    appointment: &Claim,
+    later: &[Claim],
     ended: &[Ending],
 ) -> Result<Vec<Range>, AllocError>
     requires { list_any (has_number appointment.now.number) later.now ≡ false }
@@ -117,17 +117,17 @@ fn runs_of(
         ≡ governed_in cutoffs.now (holding_from shares appointment.now later.now ended.now)
         appointment.now.number) }
 {
-    let from = appointment.range.from();
-    let last = shares.min(appointment.range.to());
-    let ended = is_ended(ended, cutoffs, appointment.number);
-    if last < from || ended || !counts(appointment, cutoffs) {
+    let from = appointment.range().from();
+    let last = shares.min(appointment.range().to());
+    let ended = is_ended(ended, cutoffs, appointment.number());
+    if last < from || ended || !appointment.counts(cutoffs) {
         return Ok(Vec::new(alloc));
     }
     runs_left(alloc, cutoffs, Range::with_ends(from, last), later)
 }
 
 /// Where the appointment of a number stands among those that are numbered 1, 2, ..
-fn place_of(appointed: &[Appointment], number: u64) -> Option<usize>
+fn place_of(appointed: &[Claim], number: u64) -> Option<usize>
     ensures some { IfSome result (λ place. (place + 1 ≡ number) × (place < length appointed.now)) }
     ensures none { result ≡ None → (number ≡ 0) ⊎ (length appointed.now < number) }
 {
@@ -138,7 +138,7 @@ fn place_of(appointed: &[Appointment], number: u64) -> Option<usize>
     }
 }
 
-impl Holding {
+impl Claims {
     /// The shares that its appointment of that number governs: their places in runs in order, with
     /// a gap between each and the next, and none where it has none of that number (sections 324 and
     /// 330). The holding is one that an office keeps. The error is want of memory. It goes over the
@@ -152,12 +152,19 @@ impl Holding {
         requires { IsValidHolding self.now }
         ensures { IfOk result (λ runs. runs.items ≡ governed_in cutoffs.now self.now number) }
     {
-        let appointed = self.appointed.as_slice();
+        let appointed = self.appointed();
         match place_of(appointed, number) {
             Some(place) => {
                 let later = &appointed[place + 1..];
-                let ended = self.ended.as_slice();
-                runs_of(alloc, cutoffs, self.shares, &appointed[place], later, ended)
+                let ended = self.ended();
+                runs_of(
+                    alloc,
+                    cutoffs,
+                    self.shares(),
+                    &appointed[place],
+                    later,
+                    ended,
+                )
             }
             None => Ok(Vec::new(alloc)),
         }

@@ -1,28 +1,15 @@
 //! Which appointment of a proxy governs a share.
-ghost use Rattle.std.specs.Prelude.{◌≡◌, ◌&&◌, filter, find, nat_le, reverse};
+ghost use Rattle.std.specs.Prelude.{◌≡◌, ◌&&◌, filter, find, reverse};
 ghost use Rattle.std.specs.List.{list_any};
 ghost use Rattle.std.specs.Option.{option_copied};
 ghost use Rattle.proxy_rules.specs.Governing.{ends, governing_number, is_over};
 ghost use Rattle.proxy_rules.specs.Holdings.{holding_of, is_ended_of, is_given_by};
 ghost use Rattle.proxy_rules.specs.Shares.{is_share, row_of, shares_by};
 
+use crate::claims::Claim;
 use crate::meeting_records::{Cutoffs, Papers};
 use crate::register_rows::shares;
 use desk_words::{Appointment, Ending, Party, RegisterRow};
-
-/// Whether an appointment was received in time to count (section 327).
-pub(crate) fn counts(appointment: &Appointment, cutoffs: &Cutoffs) -> bool
-    ensures { result ≡ nat_le appointment.now.moment cutoffs.now.appointments }
-{
-    appointment.moment <= cutoffs.appointments
-}
-
-/// Whether an appointment was received in time to count, and is over the place.
-pub(crate) fn is_over(appointment: &Appointment, cutoffs: &Cutoffs, place: u64) -> bool
-    ensures { result ≡ is_over cutoffs.now place appointment.now }
-{
-    counts(appointment, cutoffs) && appointment.range.has(place)
-}
 
 /// The last of the appointments that is the member's and over the place.
 fn last_own_over<'a>(
@@ -36,7 +23,7 @@ fn last_own_over<'a>(
         (reverse appointments.now) }
 {
     appointments.iter().rev().find(|appointment| appointment.member.is(member)
-        && is_over(appointment, cutoffs, place))
+        && Claim::of(appointment).is_over(cutoffs, place))
 }
 
 /// The last of the member's appointments that is over the place.

@@ -1,12 +1,11 @@
 //! One member's shares, with what was received of its appointments.
-ghost use Rattle.std.specs.Prelude.{◌≡◌, true, IfOk, filter, nat_le};
-ghost use Rattle.proxy_rules.specs.Holdings.{IsValidHolding, are_numbered_from, are_tags, holding_by, holding_of, holding_with, is_ended_of, is_given_by, is_valid_holding};
+ghost use Rattle.std.specs.Prelude.{◌≡◌, IfOk, filter};
+ghost use Rattle.proxy_rules.specs.Holdings.{holding_by, holding_of, holding_with, is_ended_of, is_given_by};
 
 use crate::governor::shares_by;
 use crate::meeting_records::Papers;
 use crate::register_rows::shares;
-use desk_words::{Appointment, Ending, Filed, Listing, MOST_PLACES, Party, RegisterRow};
-use share_blocks::Tag;
+use desk_words::{Appointment, Ending, Filed, Listing, Party, RegisterRow};
 use std::alloc::{AllocError, Global};
 
 /// One member's shares, its appointments of proxies and its endings of them.
@@ -41,36 +40,6 @@ fn ended_by(
     ensures { IfOk result (λ ended. ended.items ≡ filter (is_ended_of member) endings.now) }
 {
     endings.by_first(alloc, member)
-}
-
-/// Whether the appointments are numbered 1, 2, .. in order of receipt.
-fn are_numbered(appointed: &[Appointment]) -> bool
-    ensures { result ≡ are_numbered_from 0 appointed.now }
-{
-    let mut number = 0;
-    for appointment in appointed {
-        number += 1;
-        if appointment.number != number {
-            return false;
-        }
-    }
-    true
-}
-
-/// Whether the numbers of the appointments are tags.
-fn are_tags(appointed: &[Appointment]) -> bool
-    ensures { result ≡ are_tags appointed.now }
-{
-    appointed
-        .iter()
-        .all(|appointment| Tag::new(appointment.number).is_some())
-}
-
-/// Whether each of so many shares has a place.
-fn have_places(shares: u64) -> bool
-    ensures { result ≡ nat_le shares MOST_PLACES }
-{
-    shares <= MOST_PLACES
 }
 
 impl Holding {
@@ -119,15 +88,5 @@ impl Holding {
     {
         let shares = shares_by(papers.register, member);
         Holding::with_shares(alloc, shares, papers.appointments, papers.endings, member)
-    }
-
-    /// Whether an office keeps such a holding: its appointments are numbered 1, 2, .. up to 256,
-    /// and its shares have places. It takes no memory.
-    pub fn is_valid(&self) -> bool
-        ensures value { result ≡ is_valid_holding self.now }
-        ensures kept { result ≡ true → IsValidHolding self.now }
-    {
-        let appointed = self.appointed.as_slice();
-        are_numbered(appointed) && are_tags(appointed) && have_places(self.shares)
     }
 }

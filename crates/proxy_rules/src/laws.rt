@@ -1,5 +1,5 @@
 //! Laws of the definitions by which the contracts speak.
-ghost use Rattle.proxy_rules.specs.GoverningLaws.{EarlierTakeNothing, EndingsReviveNothing, RunsAreParted, RunsHoldWhatGoverns, RunsHoldWhatPasses};
+ghost use Rattle.proxy_rules.specs.GoverningLaws.{ClaimsGovern, EarlierTakeNothing, EndingsReviveNothing, RunsAreParted, RunsHoldWhatGoverns, RunsHoldWhatPasses};
 ghost use Rattle.proxy_rules.specs.Tiles.{PiecesCountShares, TilesCountPlaces};
 
 /// Of every test, the runs hold exactly the places that pass it.
@@ -28,6 +28,12 @@ pub fn endings_revive_nothing()
 /// its number.
 pub fn earlier_take_nothing()
     ensures { EarlierTakeNothing }
+{}
+
+/// The number, the range and the moment of appointments decide alone what each governs, and not
+/// whom they name or how they instruct him (section 324).
+pub fn claims_govern()
+    ensures { ClaimsGovern }
 {}
 
 /// Over ranges that hold the places 1 to n in order, on each of which a test answers alike, the

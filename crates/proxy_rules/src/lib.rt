@@ -4,6 +4,7 @@
 
 mod alone;
 mod authorities;
+mod claims;
 mod cutoff;
 mod governor;
 mod holdings;
@@ -15,6 +16,7 @@ mod register_rows;
 mod runs;
 
 pub use authorities::authorised_by;
+pub use claims::{Claim, Claims, claims_in};
 pub use cutoff::{Use, cutoffs, is_late_poll};
 pub use governor::governing;
 pub use holdings::{Holding, given_by};

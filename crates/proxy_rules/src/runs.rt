@@ -5,6 +5,7 @@ ghost use Rattle.proxy_rules.specs.Governing.{governed_in};
 ghost use Rattle.proxy_rules.specs.Holdings.{are_tags, holding_of};
 ghost use Rattle.proxy_rules.specs.PlaceRuns.{joined};
 
+use crate::claims::Claims;
 use crate::holdings::Holding;
 use crate::meeting_records::{Cutoffs, Papers};
 use desk_words::{Party, Range};
@@ -27,7 +28,7 @@ pub(crate) fn join_run(runs: &mut Vec<Range>, run: Range) -> Result<(), AllocErr
 /// The shares that the member's appointment of that number governs: their places in runs in order,
 /// with a gap between each and the next (sections 324 and 330). Where it governs none, or the
 /// member has none of that number, there are no runs. The lists are those of a meeting. The error
-/// is want of memory. It is `Holding::governed_by` of the member's holding.
+/// is want of memory. It is `Claims::governed_by` of the member's holding.
 pub fn governed(
     alloc: Global,
     cutoffs: &Cutoffs,
@@ -45,5 +46,6 @@ pub fn governed(
         papers.now.endings.now member)
         number) }
 {
-    Holding::of(alloc, papers, member)?.governed_by(alloc, cutoffs, number)
+    let holding = Holding::of(alloc, papers, member)?;
+    Claims::of(alloc, holding)?.governed_by(alloc, cutoffs, number)
 }

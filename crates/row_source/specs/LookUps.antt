@@ -10,7 +10,7 @@ use Rattle.desk_words.specs.declared.records.DemandMark.{DemandMark}
 use Rattle.desk_words.specs.declared.records.Ending.{Ending}
 use Rattle.desk_words.specs.declared.records.PresenceMark.{PresenceMark}
 use Rattle.desk_words.specs.declared.records.RegisterRow.{RegisterRow}
-use Rattle.proxy_rules.specs.Holdings.{holding_of, is_given_by}
+use Rattle.proxy_rules.specs.Holdings.{claims_of, holding_of, is_given_by}
 use Rattle.proxy_rules.specs.Parties.{authorises, is_authority_of, is_cast_by, is_demanded_by, names}
 use Rattle.proxy_rules.specs.Shares.{row_of}
 use Rattle.party_views.specs.RowsRead.{cast_on}
@@ -84,11 +84,12 @@ trusting_from found (Some corporation) party = trusting_for_in found corporation
 abbrev pub casts_by : Option MeetingLists → Party → List CastMark
 casts_by found party = filter (is_cast_by party) (casts_in found)
 
--- a member, with its shares, its appointments and its endings
+-- a member, with its shares, the claims of its appointments, and its endings
 abbrev pub member_at : Option MeetingLists → Party → MemberRows
 member_at found member = record {
   member = member;
-  holding = holding_of (register_in found) (appointments_in found) (endings_in found) member;
+  holding =
+      claims_of (holding_of (register_in found) (appointments_in found) (endings_in found) member);
 }
 
 -- appointments, and the members who gave them, each once

@@ -8,7 +8,7 @@ ghost use Rattle.row_source.specs.TrueLookUps.{IsTrueLookUp};
 use crate::source::RowSource;
 use desk_words::{Appointment, Authority, Listing, Party};
 use party_views::{AuthorityRows, MemberRows};
-use proxy_rules::Holding;
+use proxy_rules::Claims;
 use std::alloc::{AllocError, Global};
 use std::collections::BTreeSet;
 
@@ -20,21 +20,17 @@ pub(crate) struct ReceivedRows {
     pub(crate) members: Listing<MemberRows>,
 }
 
-/// A member, with its shares, its appointments and its endings.
+/// A member, with its shares, the claims of its appointments, and its endings.
 fn member_rows<R: RowSource>(source: &mut R, member: Party) -> Result<MemberRows, R::Error>
     ensures { IsTrueLookUp R.trusted R.shows R.keeps R.leaves R.may_fail source.old source.new result
         (λ found rows. rows ≡ member_at found member) }
 {
     let shares = source.shares_of(member)?;
-    let appointed = source.given_by(member)?;
+    let claims = source.claims_by(member)?;
     let ended = source.ended_by(member)?;
     Ok(MemberRows {
         member,
-        holding: Holding {
-            shares,
-            appointed,
-            ended,
-        },
+        holding: Claims::new(shares, claims, ended),
     })
 }
 
@@ -42,6 +38,9 @@ fn member_rows<R: RowSource>(source: &mut R, member: Party) -> Result<MemberRows
 fn givers(alloc: Global, given: &[Appointment]) -> Result<Vec<Party>, AllocError>
     ensures { IfOk result (λ members. members.items ≡ givers given.now) }
 {
+    if let [only] = given {
+        return Ok(vec![in alloc; only.member]?);
+    }
     let mut members = Vec::new(alloc);
     let mut seen = BTreeSet::new(alloc);
     for appointment in given {

@@ -1,9 +1,9 @@
 //! Look-ups of a meeting's records.
-ghost use Rattle.std.specs.Prelude.{◌≡◌, Option, alloc_error, filter, length};
+ghost use Rattle.std.specs.Prelude.{◌≡◌, Option, alloc_error, filter, length, map};
 ghost use Rattle.party_views.specs.RowsRead.{cast_on};
 ghost use Rattle.party_views.specs.PartyRows.{presences_of};
 ghost use Rattle.desk_words.specs.declared.office.MeetingLists.{MeetingLists};
-ghost use Rattle.proxy_rules.specs.Holdings.{is_ended_of, is_given_by};
+ghost use Rattle.proxy_rules.specs.Holdings.{claim_of, is_ended_of, is_given_by};
 ghost use Rattle.proxy_rules.specs.Parties.{is_authority_of, is_demanded_by};
 ghost use Rattle.proxy_rules.specs.Shares.{row_of, shares_by};
 ghost use Rattle.row_source.specs.LookUps.{appointments_in, authorities_in, casts_by, demands_in};
@@ -14,6 +14,7 @@ ghost use Rattle.row_source.specs.TrueLookUps.{IsTrueLookUp};
 use desk_words::{
     Appointment, Authority, CastMark, DemandMark, Ending, Listing, Party, RegisterRow,
 };
+use proxy_rules::Claim;
 use std::alloc::AllocError;
 
 /// What looks a meeting's records up by the names that are on them. Each list is in order of
@@ -51,6 +52,12 @@ pub trait RowSource {
     fn given_by(&mut self, member: Party) -> Result<Listing<Appointment>, Self::Error>
         ensures { IsTrueLookUp trusted shows keeps leaves may_fail self.old self.new result
             (λ found given. given ≡ filter (is_given_by member) (appointments_in found)) };
+
+    /// What of them decides which shares they govern.
+    fn claims_by(&mut self, member: Party) -> Result<Listing<Claim>, Self::Error>
+        ensures { IsTrueLookUp trusted shows keeps leaves may_fail self.old self.new result
+            (λ found claims. claims
+            ≡ map claim_of (filter (is_given_by member) (appointments_in found))) };
 
     /// How many appointments a member gave.
     fn count_given_by(&mut self, member: Party) -> Result<u64, Self::Error>

@@ -3,7 +3,7 @@ ghost use Rattle.std.specs.Prelude.{◌≡◌, MatchResult, filter, length, map}
 ghost use Rattle.std.specs.Option.{option_map_or};
 ghost use Rattle.desk_words.specs.declared.records.PresenceMark.{PresenceMark};
 ghost use Rattle.sql_assemble.specs.declared.fault.LoadError.TheVariants.{Memory};
-ghost use Rattle.proxy_rules.specs.Holdings.{is_ended_of, is_given_by};
+ghost use Rattle.proxy_rules.specs.Holdings.{claim_of, is_ended_of, is_given_by};
 ghost use Rattle.proxy_rules.specs.Parties.{authorises, is_authority_of, is_cast_by, is_demanded_by, is_presence_of, names};
 ghost use Rattle.proxy_rules.specs.Shares.{row_of, shares_by, shares_of};
 ghost use Rattle.party_views.specs.RowsRead.{cast_on};
@@ -17,7 +17,7 @@ use desk_words::{
     Appointment, Authority, CastMark, DemandMark, Ending, Listing, MeetingId, Party, PresenceMark,
     RegisterRow,
 };
-use proxy_rules::shares;
+use proxy_rules::{Claim, claims_in, shares};
 use sql_assemble::LoadError;
 use sql_load_public::query_records::{first, items, records_found};
 use sql_queries::{appointments, authorities, casts, demands, endings, presences, register};
@@ -83,6 +83,23 @@ pub(crate) fn given_by<S: Alter>(
         alloc,
         records_found(alloc, appointments::given_by(tx, meeting, member)),
     )
+}
+
+/// What of a member's appointments decides which shares they govern.
+pub(crate) fn claims_by<S: Alter>(
+    tx: &mut Transaction<'_, S>,
+    alloc: Global,
+    meeting: MeetingId,
+    member: Party,
+) -> Result<Listing<Claim>, LoadError>
+    ensures same_reference { tx.new.conn.ghost_name ≡ tx.old.conn.ghost_name }
+    ensures holds { HoldsOfStoredOffice S.Store tx.old.conn.now tx.new.conn.now result
+        (λ office claims. claims
+        ≡ map claim_of (filter (is_given_by member) (appointments_in (meeting_at office meeting)))) }
+{
+    let given = given_by(tx, alloc, meeting, member)?;
+    let claims = claims_in(alloc, given.as_slice())?;
+    Ok(Listing::from_vec(claims))
 }
 
 /// How many appointments a member gave, which are few.

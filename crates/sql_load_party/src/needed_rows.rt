@@ -11,14 +11,15 @@ ghost use Rattle.sql_load_public.specs.TableLookUps.{HoldsOfStoredOffice, IsLook
 ghost use Rattle.sql_load_party.specs.LookUpLaws as laws;
 
 use crate::look_ups::{
-    casts_of, casts_on, count_given_by, demands_of, ended_by, given_by, naming, naming_by,
-    persons_of, presences_of, row_of, shares_of, trusting, trusting_for,
+    casts_of, casts_on, claims_by, count_given_by, demands_of, ended_by, given_by, naming,
+    naming_by, persons_of, presences_of, row_of, shares_of, trusting, trusting_for,
 };
 use desk_words::{
     Appointment, Authority, CastMark, DemandMark, Ending, Listing, MeetingId, Party, PartyRequest,
     RegisterRow,
 };
 use party_views::{OwnRows, Reads, reads_of};
+use proxy_rules::Claim;
 use row_source::{RowSource, rows_for};
 use sql_assemble::LoadError;
 use sqlite::{Alter, Transaction};
@@ -59,6 +60,10 @@ impl<S: Alter> RowSource for InTables<'_, '_, S> {
 
     fn given_by(&mut self, member: Party) -> Result<Listing<Appointment>, LoadError> {
         given_by(self.tx, self.alloc, self.meeting, member)
+    }
+
+    fn claims_by(&mut self, member: Party) -> Result<Listing<Claim>, LoadError> {
+        claims_by(self.tx, self.alloc, self.meeting, member)
     }
 
     fn count_given_by(&mut self, member: Party) -> Result<u64, LoadError> {

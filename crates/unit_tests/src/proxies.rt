@@ -212,7 +212,7 @@ fn runs_end_with_the_holding(rt: HostRuntime) -> Result<(), Fail> {
 /// The last place of each piece of a holding, with the number of what governs it, or 0, one piece
 /// after another.
 fn ends(alloc: Global, holding: &Holding) -> Result<Vec<u64>, Fail> {
-    if !holding.is_valid() {
+    if !holding.is_valid(alloc)? {
         return Err("no holding of an office".into());
     }
     let pieces = holding.pieces_by::<LinkedBlocks>(alloc, &cutoffs()?)?;
