@@ -1,6 +1,10 @@
 //! The answer to a party.
 ghost use Rattle.std.specs.Prelude.{◌≡◌, true, IfOk, IsOk, map};
-ghost use Rattle.desk_words.specs.Rulings.{refuses, ruled_answer};
+ghost use Rattle.desk_words.specs.Rulings.{refuses, reply_only, ruled_answer};
+ghost use Rattle.desk_words.specs.declared.reply.Reply.TheVariants as reply;
+ghost use Rattle.desk_words.specs.declared.request.PartyRequest.TheVariants as request;
+ghost use Rattle.party_views.specs.declared.views.OwnView.{OwnView};
+ghost use Rattle.caller_view.specs.Notices.{notice_of};
 ghost use Rattle.caller_view.specs.PartyRulings.{mine_of, party_ruling, party_needs_no_memory};
 ghost use Rattle.caller_view.specs.AppointmentRulings.{cutoff_in, given_use, use_by};
 
@@ -43,6 +47,26 @@ pub(crate) fn cutoff_in(public: &PublicRecord, meeting: &Meeting, now: Moment) -
     cutoffs(meeting, last, public.closed(), now).appointments
 }
 
+/// The appointments that a party gave, each with what it counts for in the last session. Where there
+/// are none, nothing is worked out.
+fn given_now(
+    alloc: Global,
+    public: &PublicRecord,
+    meeting: &Meeting,
+    now: Moment,
+    given: Listing<Given>,
+) -> Result<Listing<GivenUse>, AllocError>
+    ensures { IfOk result
+        (λ uses. uses ≡ map (given_use (cutoff_in public.now meeting.now now)) given) }
+{
+    if given.is_empty() {
+        return Ok(Listing::new(alloc));
+    }
+    let cutoff = cutoff_in(public, meeting, now);
+    let uses = given_uses(alloc, given.into_vec(), cutoff)?;
+    Ok(Listing::from_vec(uses))
+}
+
 /// What a party is told of its own things.
 fn mine(
     alloc: Global,
@@ -53,12 +77,10 @@ fn mine(
 ) -> Result<Mine, AllocError>
     ensures { IfOk result (λ m. m ≡ mine_of public.now meeting.now own now) }
 {
-    let cutoff = cutoff_in(public, meeting, now);
-    let given = given_uses(alloc, own.given.into_vec(), cutoff)?;
     Ok(Mine {
         meeting: meeting.id,
         row: own.row,
-        given: Listing::from_vec(given),
+        given: given_now(alloc, public, meeting, now, own.given)?,
         persons: own.persons,
         received: own.received,
         authorised: own.authorised,
@@ -67,6 +89,37 @@ fn mine(
         demands: own.demands,
         casts: own.casts,
     })
+}
+
+/// The answer to a party that asks for the notice of a meeting.
+fn noticed(
+    alloc: Global,
+    public: &PublicRecord,
+    meeting: &Meeting,
+    now: Moment,
+) -> Result<Answer<Entry>, AllocError>
+    ensures { IfOk result (λ a. a ≡ ruled_answer (reply_only (reply.Notice
+        (notice_of meeting.now public.now.polls public.now.closed now)))) }
+{
+    let notice = notice_in(alloc, public, meeting, now)?;
+    Ok(reply_unchanged(Reply::Notice(Boxed::new(alloc, notice)?)))
+}
+
+/// The answer to a party that asks for the notice, as `answer` says. It reads nothing of the
+/// party's own.
+#[inline(never)]
+pub fn answer_notice(
+    alloc: Global,
+    public: &PublicRecord,
+    now: Moment,
+) -> Result<Answer<Entry>, AllocError>
+    ensures { IfOk result (λ a. (own : OwnView)
+        → a ≡ ruled_answer (party_ruling public.now own now request.Notice)) }
+{
+    match public.meeting() {
+        Some(meeting) => noticed(alloc, public, meeting, now),
+        None => Ok(refuse(Refusal::NoMeeting)),
+    }
 }
 
 /// The answer to a party: a function of what it may see, the moment and the request. It is refused
@@ -90,10 +143,7 @@ pub fn answer(
         return Ok(refuse(Refusal::NoMeeting));
     };
     match asked {
-        PartyRequest::Notice => {
-            let notice = notice_in(alloc, public, meeting, now)?;
-            Ok(reply_unchanged(Reply::Notice(Boxed::new(alloc, notice)?)))
-        }
+        PartyRequest::Notice => noticed(alloc, public, meeting, now),
         PartyRequest::Mine => {
             let mine = mine(alloc, public, meeting, own, now)?;
             Ok(reply_unchanged(Reply::Mine(Boxed::new(alloc, mine)?)))

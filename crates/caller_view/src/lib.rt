@@ -9,7 +9,7 @@ pub mod laws;
 mod notices;
 mod rights;
 
-pub use answers::answer;
+pub use answers::{answer, answer_notice};
 pub use party_views::{
     AuthorityRows, MemberRows, OwnRows, OwnView, PublicRecord, Reads, own_for, own_from, reads_of,
 };

@@ -1,7 +1,5 @@
 -- No reply nests deep, so its text reads back.
 use Rattle.std.proofs.Common.{ℕ, suc, ◌≤◌, max, Bool, true, false, List, [], ◌∷◌, length, map, codes, Option, Some, None, arith}
-use Rattle.std.specs.Prelude.{◌-◌, slice_get}
-use Rattle.std.specs.Option.{option_map_or}
 use Rattle.serde_json.specs.Data.{Data, depth, items_depth, members_depth}
 use Rattle.serde_json.specs.View.{items_of}
 use Rattle.desk_words.specs.declared.records.CastMark.{CastMark}
@@ -21,7 +19,7 @@ use Rattle.desk_words.specs.declared.reply.Reply.TheVariants as reply
 use Rattle.json_replies.specs.AppointmentJson.{instruction_data, run_data, given_data, last_votes, poll_governed_data, received_data, session_governed_data}
 use Rattle.json_replies.specs.Forms.{numbered_array, is_adjourned, array_of, members, moment_data, numbered_values, only_if, or_null, decimal_data}
 use Rattle.json_replies.specs.NoticeJson.{result_data, has_later, noticed_poll_data, noticed_resolution_data, noticed_session_data, notice_data}
-use Rattle.json_replies.specs.Replies.{row_data, person_data, authorised_data, demand_data, cast_kind_data, cast_data, is_present_last, mine_data, reply_data}
+use Rattle.json_replies.specs.Replies.{row_data, person_data, authorised_data, demand_data, cast_kind_data, cast_data, mine_data, reply_data}
 use Rattle.json_replies.specs.ReplyMembers.{mine_rest}
 
 max_below : (a b k : ℕ) → a ≤ k → b ≤ k → max a b ≤ k

@@ -1,6 +1,6 @@
 -- What is written one token after another is the tokens of a value, which is read back.
 use Rattle.std.proofs.Common.{◌≡◌, ◌∙◌, ◌≤◌, ◌<◌, ◌+◌, ◌^◌, ℕ, suc, max, Bool, true, false, ◌&&◌, List, [], ◌∷◌, ◌++◌, length, map, take, get_or, Option, Some, Ordering, Less, Equal, Greater, refl, sym, ap, ap₂, subst, arith, append_assoc, append-nil}
-use Rattle.std.specs.Prelude.{⊤, decimal, option_map, option_and_then, Result, Ok, OnOk}
+use Rattle.std.specs.Prelude.{decimal, option_map, option_and_then, Result, Ok, OnOk}
 use Rattle.std.specs.Cmp.{first_so, second_so}
 use Rattle.std.specs.Cmp.Derive.{both_true}
 use Rattle.std.specs.Cmp.Lexicographic.{slice_cmp}

@@ -3,7 +3,6 @@
 use Rattle.std.specs.Prelude.{ℕ, true, false, List, [], ◌∷◌, codes, Some, None}
 use Rattle.serde_json.specs.Written.{compact_text}
 use Rattle.vocabulary.specs.Names.{in_places}
-use Rattle.vocabulary.specs.Places.{Places}
 use Rattle.vocabulary.specs.declared.kinds.Company.TheVariants.{Private}
 use Rattle.vocabulary.specs.declared.kinds.Instr.TheVariants.{Free}
 use Rattle.vocabulary.specs.declared.kinds.MeetingKind.TheVariants.{General}

@@ -12,4 +12,4 @@ mod shown;
 
 pub use desk_words::{Failure, Reply};
 pub use failure::failure_text;
-pub use reply::reply_text;
+pub use reply::{reply_text, reply_text_in};

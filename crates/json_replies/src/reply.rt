@@ -86,14 +86,25 @@ fn write_reply(out: &mut Writer, reply: &Reply) -> Result<(), AllocError>
     }
 }
 
-/// The JSON text of a reply, with no space between its tokens, which reads back as the reply. The
-/// error is want of memory alone.
+/// The JSON text of a reply, with no space between its tokens, which reads back as the reply. It is
+/// written in the room of a buffer, in place of what that holds. The error is want of memory alone.
 #[inline(always)]
+pub fn reply_text_in(room: Vec<u8>, reply: &Reply) -> Result<Vec<u8>, AllocError>
+    ensures text { IfOk result (λ text. text.items ≡ reply_bytes reply.now) }
+    ensures reads_back { IfOk result (λ text. read text.items ≡ Some (reply_data reply.now)) }
+{
+    let mut room = room;
+    room.clear();
+    let mut out = Writer::new(room);
+    write_reply(&mut out, reply)?;
+    Ok(out.into_inner())
+}
+
+/// The same, in a buffer of its own.
 pub fn reply_text(alloc: Global, reply: &Reply) -> Result<Vec<u8>, AllocError>
     ensures text { IfOk result (λ text. text.items ≡ reply_bytes reply.now) }
     ensures reads_back { IfOk result (λ text. read text.items ≡ Some (reply_data reply.now)) }
 {
-    let mut out = Writer::new(Vec::with_capacity(alloc, room_for(reply))?);
-    write_reply(&mut out, reply)?;
-    Ok(out.into_inner())
+    let room = Vec::with_capacity(alloc, room_for(reply))?;
+    reply_text_in(room, reply)
 }

@@ -1,12 +1,15 @@
-use Rattle.std.proofs.Common.{◌≡◌, ℕ, zero, suc, List, [], ◌∷◌, length, Bool, true, false, cond, Option, None, Some, refl, ap, arith}
+use Rattle.std.proofs.Common.{◌≡◌, ℕ, zero, suc, List, [], ◌∷◌, length, Bool, true, false, cond, Option, None, Some, refl, ap, ◌∙◌, arith}
 use Rattle.std.specs.Prelude.{◌==◌, codes}
 use Rattle.std.proofs.lemmas.Bool.{eqb-true}
+use Rattle.std.proofs.lemmas.Bool.Decides.{nat_tests}
 use Rattle.std.specs.Str.{IsAscii, IsUtf8, is_utf8}
-use Rattle.std.proofs.lemmas.Str.{IsUtf8-from_ascii, IsUtf8-from_is_utf8, is_utf8-from_IsUtf8}
+use Rattle.std.proofs.lemmas.Str.{IsUtf8-from_ascii, IsUtf8-from_is_utf8, IsUtf8-nil, is_utf8-from_IsUtf8}
 use Rattle.serde_json.specs.Data.{Data, no_members, object}
 use Rattle.serde_json.proofs.OnLiterals.{serde_json_on_literals}
 use Rattle.serde_json.specs.Read.{read}
-use Rattle.json_requests.specs.Bodies.{body_of, value_of}
+use Rattle.vocabulary.specs.OptionSteps.{◌>>=◌}
+use Rattle.json_requests.specs.JsonFields.{Fields}
+use Rattle.json_requests.specs.Bodies.{body_of, fields_from, read_by, value_of}
 
 -- bytes of UTF-8 are the value that they read as
 pub value_of-utf8 : (bytes : List ℕ) → IsUtf8 bytes → value_of bytes ≡ read bytes
@@ -41,3 +44,17 @@ body_of-nothing (byte ∷ rest) is = absurd (omega (eqb-true (suc (length rest))
 pub body_of-bytes : (body : List ℕ) → (length body == 0) ≡ false → body_of body ≡ value_of body
 unfolding body_of
 body_of-bytes body is = ap (λ none. value_of (cond none (codes "{}") body)) is
+
+some_bytes : (n : ℕ) → (suc n == 0) ≡ false
+some_bytes n = grind (arith, nat_tests)
+
+-- a body that is no UTF-8 says nothing
+pub body_of-no_utf8 : (body : List ℕ) → ¬ IsUtf8 body → body_of body ≡ None
+body_of-no_utf8 [] none = absurd (none IsUtf8-nil)
+body_of-no_utf8 (byte ∷ rest) none =
+    body_of-bytes (byte ∷ rest) (some_bytes (length rest)) ∙ value_of-unread (byte ∷ rest) (λ is. absurd (none is))
+
+-- and so nothing is asked by it
+pub read_by-no_utf8 : {A : Type 0} (names : List (List ℕ)) (reading : Fields → Option A) (body : List ℕ) → ¬ IsUtf8 body → read_by names reading body ≡ None
+unfolding read_by
+read_by-no_utf8 names reading body none = ap (λ value. fields_from names value >>= reading) (body_of-no_utf8 body none)

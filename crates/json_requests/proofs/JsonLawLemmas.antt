@@ -1,12 +1,11 @@
 -- The laws of requests.
-use Rattle.std.proofs.Common.{◌≡◌, ℕ, List, Option, Some, None, Ok, Err, refl, ap, ◌∙◌, ◌⊎◌, inl, inr}
+use Rattle.std.proofs.Common.{◌≡◌, ℕ, Bool, true, false, cond, List, [], Option, Some, None, Ok, Err, refl, ap, ◌∙◌, ◌⊎◌, inl, inr}
 use Rattle.std.specs.Prelude.{option_map}
 use Rattle.vocabulary.specs.ResultSteps.{◌>>=◌}
 use Rattle.vocabulary.specs.declared.refusal.Refusal.{Refusal}
 use Rattle.vocabulary.specs.declared.refusal.Refusal.TheVariants as refusal
 use Rattle.vocabulary.specs.Names.{meeting_of}
 use Rattle.desk_words.specs.declared.request.DeskRequest.TheVariants as desk
-use Rattle.desk_words.specs.declared.request.PartyRequest.TheVariants.{Notice, Mine}
 use Rattle.desk_words.specs.declared.request.Request.{Request}
 use Rattle.desk_words.specs.declared.request.Request.TheVariants as request
 use Rattle.json_requests.specs.declared.route.Route.{Route}
@@ -18,10 +17,9 @@ use Rattle.json_requests.specs.DayBodies.{closed_body}
 use Rattle.json_requests.specs.KeyBodies.{keys_body}
 use Rattle.json_requests.specs.JsonFields.{Fields}
 use Rattle.json_requests.specs.RouteLaws.{meeting_asked}
-use Rattle.json_requests.specs.Requests.{asked_in, asked_on_route, request_of, route_fields, routed}
+use Rattle.json_requests.specs.Requests.{asked_in, asked_on_route, is_bodiless, request_of, route_fields, routed}
 use Rattle.json_requests.specs.Routes.{route_of}
 use Rattle.json_requests.specs.Verbs.{office_way, party_way}
-use Rattle.json_requests.specs.declared.verb.PartyVerb.TheVariants as party
 use Rattle.json_requests.proofs.CallLemmas.{Keeps, call_keeps, keeps_next}
 use Rattle.json_requests.proofs.RouteLemmas.{meeting_on, route_keeps}
 
@@ -68,10 +66,12 @@ of_body : (way : Route) (body : List ℕ) → Keeps (λ wanted. meeting_on way �
 unfolding read_by
 of_body way body = keeps_next (λ wanted. meeting_on way ≡ meeting_asked wanted) (fields_from (route_fields way) (body_of body)) (asked_in way) (λ fields. record { some = of_value way fields })
 
+of_either : (way : Route) (body : List ℕ) (wanted : Request) (bodiless : Bool) → cond bodiless (asked_in way []) (read_by (route_fields way) (asked_in way) body) ≡ Some wanted → meeting_on way ≡ meeting_asked wanted
+of_either way body wanted true e = of_value way [] wanted e
+of_either way body wanted false e = (of_body way body).some wanted e
+
 of_route : (way : Route) (body : List ℕ) (wanted : Request) → asked_on_route way body ≡ Some wanted → meeting_on way ≡ meeting_asked wanted
-of_route (route.Party m party.Notice) body wanted e = let is : request.Party m Notice ≡ wanted = cc in ap meeting_asked is
-of_route (route.Party m party.Mine) body wanted e = let is : request.Party m Mine ≡ wanted = cc in ap meeting_asked is
-of_route way body wanted e = (of_body way body).some wanted e
+of_route way body wanted e = of_either way body wanted (is_bodiless way) e
 
 of_readable : (read : Option Request) (wanted : Request) → or_unreadable read ≡ Ok wanted → read ≡ Some wanted
 of_readable None wanted e = cc

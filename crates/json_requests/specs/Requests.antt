@@ -1,10 +1,9 @@
 -- Requests, as a meeting, a verb and a body ask them.
-use Rattle.std.specs.Prelude.{ℕ, List, Option, Some, option_map, Result, ok_or}
+use Rattle.std.specs.Prelude.{ℕ, Bool, true, false, List, [], Option, option_map, Result, ok_or, if◌then◌else◌}
 use Rattle.vocabulary.specs.ResultSteps.{◌>>=◌}
 use Rattle.vocabulary.specs.declared.refusal.Refusal.{Refusal}
 use Rattle.vocabulary.specs.declared.refusal.Refusal.TheVariants as refusal
 use Rattle.desk_words.specs.declared.request.DeskRequest.TheVariants as desk
-use Rattle.desk_words.specs.declared.request.PartyRequest.TheVariants.{Notice, Mine}
 use Rattle.desk_words.specs.declared.request.Request.{Request}
 use Rattle.desk_words.specs.declared.request.Request.TheVariants as request
 use Rattle.json_requests.specs.declared.route.Route.{Route}
@@ -39,11 +38,16 @@ asked_in (route.Office meeting verb) fields =
 asked_in (route.Party meeting verb) fields =
     option_map (λ what. request.Party meeting what) ((party_way verb).1 fields)
 
--- what is asked on a route, as the body says it; for `notice` and `mine` no body is looked at
+-- for `notice` and `mine` no body is looked at
+abbrev pub is_bodiless : Route → Bool
+is_bodiless (route.Party meeting party.Notice) = true
+is_bodiless (route.Party meeting party.Mine) = true
+is_bodiless way = false
+
+-- what is asked on a route, as the body says it where one is looked at
 abbrev pub asked_on_route : Route → List ℕ → Option Request
-asked_on_route (route.Party meeting party.Notice) body = Some (request.Party meeting Notice)
-asked_on_route (route.Party meeting party.Mine) body = Some (request.Party meeting Mine)
-asked_on_route way body = read_by (route_fields way) (asked_in way) body
+asked_on_route way body =
+    if is_bodiless way then asked_in way [] else read_by (route_fields way) (asked_in way) body
 
 -- no route where there is none
 abbrev pub routed : {A : Type 0} → Option A → Result A Refusal

@@ -5,7 +5,7 @@ ghost use Rattle.json_requests.specs.JsonFields.{fields_view};
 ghost use Rattle.json_requests.specs.declared.fields.TheConstants.{MOST_FIELDS};
 ghost use Rattle.json_requests.specs.MemberFields.{all_differ, texts};
 ghost use Rattle.json_requests.specs.ParsedBodies.{BodyAgrees};
-ghost use Rattle.json_requests.specs.Bodies.{body_of, fields_from, value_of};
+ghost use Rattle.json_requests.specs.Bodies.{body_of, fields_from};
 
 use crate::ask::BodyError;
 use crate::fields::{Fields, read_object};
@@ -36,25 +36,6 @@ fn read_text<'a>(
     Ok(())
 }
 
-fn read_bytes<'a>(
-    alloc: Global,
-    scratch: &'a mut Scratch,
-    names: &[&str],
-    fields: &mut Fields<'a>,
-    bytes: &'a [u8],
-) -> Result<(), BodyError>
-    requires few { length names.now ≤ MOST_FIELDS }
-    requires none { fields.old ≡ replicate MOST_FIELDS None }
-    requires differ { all_differ (texts names.now) ≡ true }
-    ensures { BodyAgrees (λ _. fields_view (take (length names.now) fields.new)) result
-        (fields_from (texts names.now) (value_of bytes.now)) }
-{
-    match str::from_utf8(bytes) {
-        Ok(text) => read_text(alloc, scratch, names, fields, text),
-        Err(_) => Err(BodyError::Unreadable),
-    }
-}
-
 /// Puts each value of the object that a body is to the place of its name, where there was nothing;
 /// an empty body stands for an object with no fields. The places are lent, so that no value is
 /// copied on the way out.
@@ -63,7 +44,7 @@ pub(crate) fn read_fields<'a>(
     scratch: &'a mut Scratch,
     names: &[&str],
     fields: &mut Fields<'a>,
-    body: &'a [u8],
+    body: &'a str,
 ) -> Result<(), BodyError>
     requires few { length names.now ≤ MOST_FIELDS }
     requires none { fields.old ≡ replicate MOST_FIELDS None }
@@ -71,9 +52,9 @@ pub(crate) fn read_fields<'a>(
     ensures { BodyAgrees (λ _. fields_view (take (length names.now) fields.new)) result
         (fields_from (texts names.now) (body_of body.now)) }
 {
-    if body.is_empty() {
+    if body.as_bytes().is_empty() {
         Ok(())
     } else {
-        read_bytes(alloc, scratch, names, fields, body)
+        read_text(alloc, scratch, names, fields, body)
     }
 }

@@ -7,7 +7,7 @@ ghost use Rattle.json_requests.specs.declared.fields.TheConstants.{MOST_FIELDS};
 ghost use Rattle.json_requests.specs.Bodies.{read_by};
 ghost use Rattle.json_requests.specs.ParsedBodies.{BodyAgrees};
 ghost use Rattle.json_requests.specs.RefusalResults.{AskAgrees, or_unreadable};
-ghost use Rattle.json_requests.specs.Requests.{asked_in, asked_on_route, request_of, route_fields};
+ghost use Rattle.json_requests.specs.Requests.{asked_in, asked_on_route, is_bodiless, request_of, route_fields};
 ghost use Rattle.json_requests.specs.Verbs.{office_fields, office_way, party_fields, party_way};
 
 use crate::appointment::{APPOINT, END, appoint, end};
@@ -155,7 +155,7 @@ impl Route {
         self,
         alloc: Global,
         scratch: &mut Scratch,
-        body: &[u8],
+        body: &str,
     ) -> Result<Request, BodyError>
         ensures { BodyAgrees id result (read_by (route_fields self) (asked_in self) body.now) }
     {
@@ -165,22 +165,60 @@ impl Route {
         self.asked_in(alloc, &values[..names.len()])
     }
 
+    /// What is asked on a route, as a body says it that may be no text.
+    fn asked_by_bytes(
+        self,
+        alloc: Global,
+        scratch: &mut Scratch,
+        body: &[u8],
+    ) -> Result<Request, BodyError>
+        ensures { BodyAgrees id result (read_by (route_fields self) (asked_in self) body.now) }
+    {
+        match str::from_utf8(body) {
+            Ok(body) => self.asked_by(alloc, scratch, body),
+            Err(_) => Err(BodyError::Unreadable),
+        }
+    }
+
+    /// Whether no body is looked at.
+    fn is_bodiless(&self) -> bool
+        ensures { result ≡ is_bodiless self.now }
+    {
+        matches!(
+            self,
+            Route::Party {
+                verb: PartyVerb::Notice | PartyVerb::Mine,
+                ..
+            }
+        )
+    }
+
     /// The request on a route, with what the body says of it. It is refused as `Unreadable` where
     /// the body does not say what the verb asks, and only there. For `notice` and `mine` the body
     /// is not looked at. Of a field that is repeated the last value counts, and an empty body
     /// stands for an object with no fields. The error is `Memory` only where an allocation was
     /// refused. The room that reading needs is kept in `scratch`, from one body to the next, and
     /// what it held before tells nothing.
-    #[inline(always)]
     pub fn request(self, alloc: Global, scratch: &mut Scratch, body: &[u8]) -> Result<Request, Ask>
         ensures { AskAgrees id result (or_unreadable (asked_on_route self body.now)) }
     {
-        let asked = match self {
-            Route::Party {
-                verb: PartyVerb::Notice | PartyVerb::Mine,
-                ..
-            } => self.asked_in(alloc, &[])?,
-            _ => self.asked_by(alloc, scratch, body)?,
+        let asked = if self.is_bodiless() {
+            self.asked_in(alloc, &[])?
+        } else {
+            self.asked_by_bytes(alloc, scratch, body)?
+        };
+        Ok(asked)
+    }
+
+    /// The same, where the body is known to be text.
+    #[inline(always)]
+    fn request_in(self, alloc: Global, scratch: &mut Scratch, body: &str) -> Result<Request, Ask>
+        ensures { AskAgrees id result (or_unreadable (asked_on_route self body.now)) }
+    {
+        let asked = if self.is_bodiless() {
+            self.asked_in(alloc, &[])?
+        } else {
+            self.asked_by(alloc, scratch, body)?
         };
         Ok(asked)
     }
@@ -202,10 +240,10 @@ pub fn request_of(
     scratch: &mut Scratch,
     meeting: &[u8],
     verb: &[u8],
-    body: &[u8],
+    body: &str,
 ) -> Result<Request, Ask>
     ensures { AskAgrees id result (request_of meeting.now verb.now body.now) }
 {
     let route = route_of(meeting, verb).ok_or(ROUTE)?;
-    route.request(alloc, scratch, body)
+    route.request_in(alloc, scratch, body)
 }

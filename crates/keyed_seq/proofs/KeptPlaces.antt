@@ -1,21 +1,18 @@
 -- Places that a map keeps by key.
-use Rattle.std.proofs.Common.{◌≡◌, ℕ, true, false, cond, List, [], ◌∷◌, ◌++◌, Vec, Global, Ordering, Equal, append-nil, refl, sym, ap, ◌∙◌}
+use Rattle.std.proofs.Common.{◌≡◌, ℕ, Bool, true, false, cond, List, [], ◌∷◌, ◌++◌, Vec, Global, append-nil, refl, sym, ap, ◌∙◌}
 use Rattle.std.specs.Prelude.{Option, Some, None, vec_len}
-use Rattle.std.specs.BTreeMap.{BTreeMap, get, is_at}
-use Rattle.std.specs.Cmp.{IsTotalOrder, Equal-is}
+use Rattle.std.specs.Cmp.{IsEquivalence}
+use Rattle.std.specs.HashMap.{HashMap, get}
 use Rattle.std.specs.Map.{lookup}
 use Rattle.std.specs.Option.{option_map_or, UnwrapsOrElse}
-use Rattle.std.specs.Ordering.{is_eq, ordering_reverse}
-use Rattle.std.proofs.lemmas.Cmp.{alike_right}
 use Rattle.keyed_seq.specs.Positions.{places_at}
 
 -- equal keys find the same entry
-lookup-tied : {K X : Type 0} {cmp : K → K → Ordering} (total : IsTotalOrder cmp) (a b : K) → cmp a b ≡ Equal → (es : List (K × X)) → lookup (is_at (cmp a)) es ≡ lookup (is_at (cmp b)) es
-lookup-tied total a b tied [] = refl
-lookup-tied {X = X} {cmp = cmp} total a b tied (e ∷ es) =
-    let alike : cmp a e.0 ≡ cmp b e.0 = total.antisymm _ _ ∙ ap ordering_reverse (alike_right total a b e.0 tied) ∙ sym (total.antisymm _ _) in
-    ap (λ o. cond (is_eq o) (Some e.1) (lookup (is_at (cmp a)) es)) alike
-    ∙ ap (λ r. cond (is_eq (cmp b e.0)) (Some e.1) r) (lookup-tied total a b tied es)
+lookup-tied : {K X : Type 0} {eq : K → K → Bool} (laws : IsEquivalence eq) (a b : K) → eq a b ≡ true → (es : List (K × X)) → lookup (eq a) es ≡ lookup (eq b) es
+lookup-tied laws a b tied [] = refl
+lookup-tied {X = X} {eq = eq} laws a b tied (e ∷ es) =
+    ap (λ t. cond t (Some e.1) (lookup (eq a) es)) (laws.congr a b e.0 tied)
+    ∙ ap (λ r. cond (eq b e.0) (Some e.1) r) (lookup-tied laws a b tied es)
 
 -- the places that are found, and none where nothing is
 abbrev pub places_in : Option (Vec ℕ Global) → List ℕ
@@ -27,12 +24,12 @@ places_in-or_default None there made = made.0
 places_in-or_default (Some places) there is = ap (λ (p : Vec ℕ Global). p.items) is
 
 -- a look-up after one place was put to a key's
-pub places_in-added : {K : Type 0} {cmp : K → K → Ordering} (total : IsTotalOrder cmp) (filed : BTreeMap K (Vec ℕ Global)) (after : Option (Vec ℕ Global)) (key other : K) (place : ℕ) (places : Vec ℕ Global)
-    → after ≡ cond (is_eq (cmp key other)) (Some places) (get cmp filed other) → places.items ≡ places_at cmp filed key ++ place ∷ []
-    → places_in after ≡ places_at cmp filed other ++ cond (is_eq (cmp key other)) (place ∷ []) []
-places_in-added {K} {cmp} total filed after key other place places put added =
+pub places_in-added : {K S : Type 0} {eq : K → K → Bool} (laws : IsEquivalence eq) (filed : HashMap K (Vec ℕ Global) S) (after : Option (Vec ℕ Global)) (key other : K) (place : ℕ) (places : Vec ℕ Global)
+    → after ≡ cond (eq key other) (Some places) (get eq filed other) → places.items ≡ places_at eq filed key ++ place ∷ []
+    → places_in after ≡ places_at eq filed other ++ cond (eq key other) (place ∷ []) []
+places_in-added {K} {S} {eq} laws filed after key other place places put added =
     ap places_in put
-    ∙ ((elim (is_eq (cmp key other)) as (λ b. is_eq (cmp key other) ≡ b → places_in (cond b (Some places) (get cmp filed other)) ≡ places_at cmp filed other ++ cond b (place ∷ []) []) [
-      | true ↦ λ e. added ∙ ap (λ found. places_in found ++ place ∷ []) (lookup-tied total key other ((Equal-is (cmp key other)).0 e) filed.entries)
+    ∙ ((elim (eq key other) as (λ b. eq key other ≡ b → places_in (cond b (Some places) (get eq filed other)) ≡ places_at eq filed other ++ cond b (place ∷ []) []) [
+      | true ↦ λ e. added ∙ ap (λ found. places_in found ++ place ∷ []) (lookup-tied laws key other e filed.entries)
       | false ↦ λ e. sym (append-nil _)
     ]) refl)

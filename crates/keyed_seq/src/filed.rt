@@ -5,13 +5,14 @@ ghost use Rattle.keyed_seq.specs.Positions.{has_first, has_second, places_passin
 
 use crate::places::{file_under, places_of};
 use std::alloc::{AllocError, Global};
-use std::collections::BTreeMap;
+use std::collections::HashMap;
+use std::hash::Hash;
 use std::marker::Model;
 
 /// An item that is filed under one key or under two.
 pub trait FiledBy {
     /// What items are filed by.
-    type Key: Ord + Copy;
+    type Key: Ord + Hash + Copy;
 
     // The keys, as contracts see them.
     ghost first_key_of: { Self → Self.Key };
@@ -31,8 +32,8 @@ pub trait FiledBy {
 #[derive(Drop)]
 pub struct Filed<T: FiledBy> {
     items: Vec<T>,
-    by_first: BTreeMap<T::Key, Vec<usize>>,
-    by_second: BTreeMap<T::Key, Vec<usize>>,
+    by_first: HashMap<T::Key, Vec<usize>>,
+    by_second: HashMap<T::Key, Vec<usize>>,
 }
 
 impl<T: FiledBy> Model for Filed<T> {
@@ -44,8 +45,8 @@ impl<T: FiledBy> Model for Filed<T> {
     ghost view = { λ f. f.items.items };
 
     ghost invariant = { λ f.
-        AreFiled T.Key.cmp (has_first T.Key.cmp T.first_key_of) f.items.items f.by_first
-        × AreFiled T.Key.cmp (has_second T.Key.cmp T.second_key_of) f.items.items f.by_second };
+        AreFiled T.Key.eq (has_first T.Key.cmp T.first_key_of) f.items.items f.by_first
+        × AreFiled T.Key.eq (has_second T.Key.cmp T.second_key_of) f.items.items f.by_second };
 }
 
 impl<T: FiledBy> Filed<T> {
@@ -55,8 +56,8 @@ impl<T: FiledBy> Filed<T> {
     {
         Self {
             items: Vec::new(alloc),
-            by_first: BTreeMap::new(alloc),
-            by_second: BTreeMap::new(alloc),
+            by_first: HashMap::new(alloc),
+            by_second: HashMap::new(alloc),
         }
     }
 
@@ -67,8 +68,7 @@ impl<T: FiledBy> Filed<T> {
         self.items.as_slice()
     }
 
-    /// The places of the items whose first key it is, in order of receipt, found in about as many
-    /// steps as the number of keys has binary digits.
+    /// The places of the items whose first key it is, in order of receipt, found by the key's hash.
     pub fn places_by_first(&self, key: T::Key) -> &[usize]
         ensures places { result.now
             ≡ places_passing (has_first T.Key.cmp T.first_key_of key) self.now }
@@ -79,8 +79,7 @@ impl<T: FiledBy> Filed<T> {
         places_of(&self.by_first, key)
     }
 
-    /// The places of the items whose second key it is, in order of receipt, found in about as many
-    /// steps as the number of keys has binary digits.
+    /// The places of the items whose second key it is, in order of receipt, found by the key's hash.
     pub fn places_by_second(&self, key: T::Key) -> &[usize]
         ensures places { result.now
             ≡ places_passing (has_second T.Key.cmp T.second_key_of key) self.now }

@@ -1,39 +1,39 @@
 //! Places that are kept by key.
 ghost use Rattle.std.specs.Prelude.{◌≡◌, ◌-◌, [], ◌∷◌, ◌++◌, length, take, OnOk, OnErr, if◌then◌else◌};
-ghost use Rattle.std.specs.Ordering.{is_eq};
-ghost use Rattle.keyed_seq.specs.Positions.{is_at_key, places_at};
+ghost use Rattle.keyed_seq.specs.Positions.{is_equal_key, places_at};
 
 use std::alloc::AllocError;
-use std::collections::BTreeMap;
+use std::collections::HashMap;
+use std::hash::Hash;
 
 /// Keeps one place more for a key, behind those that it has. With `AllocError`, where no memory is
 /// left for it, each key has the places that it had.
-fn file<K: Ord + Drop>(
-    filed: &mut BTreeMap<K, Vec<usize>>,
+fn file<K: Eq + Hash + Drop>(
+    filed: &mut HashMap<K, Vec<usize>>,
     key: K,
     place: usize,
 ) -> Result<(), AllocError>
     ensures ok { OnOk result
         ((wanted : K)
-        → places_at K.cmp filed.new wanted
-        ≡ places_at K.cmp filed.old wanted
-        ++ (if is_eq (K.cmp key wanted) then place ∷ [] else [])) }
+        → places_at K.eq filed.new wanted
+        ≡ places_at K.eq filed.old wanted
+        ++ (if K.eq key wanted then place ∷ [] else [])) }
     ensures err { OnErr result
-        ((wanted : K) → places_at K.cmp filed.new wanted ≡ places_at K.cmp filed.old wanted) }
+        ((wanted : K) → places_at K.eq filed.new wanted ≡ places_at K.eq filed.old wanted) }
 {
     filed.entry(key)?.or_default().push(place)?;
     Ok(())
 }
 
 /// Takes back the last place that was kept for a key.
-fn take_back<K: Ord + Copy>(filed: &mut BTreeMap<K, Vec<usize>>, key: K)
+fn take_back<K: Eq + Hash + Copy>(filed: &mut HashMap<K, Vec<usize>>, key: K)
     ensures { (wanted : K)
-        → places_at K.cmp filed.new wanted
+        → places_at K.eq filed.new wanted
         ≡
-        (if is_eq (K.cmp key wanted)
-        then take (length (places_at K.cmp filed.old wanted) - 1)
-        (places_at K.cmp filed.old wanted)
-        else places_at K.cmp filed.old wanted) }
+        (if K.eq key wanted
+        then take (length (places_at K.eq filed.old wanted) - 1)
+        (places_at K.eq filed.old wanted)
+        else places_at K.eq filed.old wanted) }
 {
     if let Some(places) = filed.get_mut(&key) {
         let _ = places.pop();
@@ -42,28 +42,28 @@ fn take_back<K: Ord + Copy>(filed: &mut BTreeMap<K, Vec<usize>>, key: K)
 
 /// Keeps one place more for a first key, and for a second one where there is one. With
 /// `AllocError`, where no memory is left for it, each key has the places that it had.
-pub(crate) fn file_under<K: Ord + Copy>(
-    by_first: &mut BTreeMap<K, Vec<usize>>,
-    by_second: &mut BTreeMap<K, Vec<usize>>,
+pub(crate) fn file_under<K: Eq + Hash + Copy>(
+    by_first: &mut HashMap<K, Vec<usize>>,
+    by_second: &mut HashMap<K, Vec<usize>>,
     first: K,
     second: Option<K>,
     place: usize,
 ) -> Result<(), AllocError>
     ensures first { OnOk result
         ((wanted : K)
-        → places_at K.cmp by_first.new wanted
-        ≡ places_at K.cmp by_first.old wanted
-        ++ (if is_eq (K.cmp first wanted) then place ∷ [] else [])) }
+        → places_at K.eq by_first.new wanted
+        ≡ places_at K.eq by_first.old wanted
+        ++ (if K.eq first wanted then place ∷ [] else [])) }
     ensures second { OnOk result
         ((wanted : K)
-        → places_at K.cmp by_second.new wanted
-        ≡ places_at K.cmp by_second.old wanted
-        ++ (if is_at_key K.cmp second wanted then place ∷ [] else [])) }
+        → places_at K.eq by_second.new wanted
+        ≡ places_at K.eq by_second.old wanted
+        ++ (if is_equal_key K.eq second wanted then place ∷ [] else [])) }
     ensures err { OnErr result
-        ((wanted : K) → places_at K.cmp by_first.new wanted ≡ places_at K.cmp by_first.old wanted) }
+        ((wanted : K) → places_at K.eq by_first.new wanted ≡ places_at K.eq by_first.old wanted) }
     ensures err_second { OnErr result
         ((wanted : K)
-        → places_at K.cmp by_second.new wanted ≡ places_at K.cmp by_second.old wanted) }
+        → places_at K.eq by_second.new wanted ≡ places_at K.eq by_second.old wanted) }
 {
     file(by_first, first, place)?;
     if let Some(second) = second
@@ -76,8 +76,8 @@ pub(crate) fn file_under<K: Ord + Copy>(
 }
 
 /// The places that are kept for a key.
-pub(crate) fn places_of<K: Ord + Copy>(filed: &BTreeMap<K, Vec<usize>>, key: K) -> &[usize]
-    ensures { result.now ≡ places_at K.cmp filed.now key }
+pub(crate) fn places_of<K: Eq + Hash + Copy>(filed: &HashMap<K, Vec<usize>>, key: K) -> &[usize]
+    ensures { result.now ≡ places_at K.eq filed.now key }
 {
     match filed.get(&key) {
         Some(places) => places.as_slice(),

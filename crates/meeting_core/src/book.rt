@@ -18,8 +18,8 @@ mod party_reads;
 mod perform;
 
 use crate::answers::{entering, in_meeting};
-use crate::changes::{change_meeting, new_lists};
-use caller_view::answer;
+use crate::changes::{add_meeting, change_meeting};
+use caller_view::{answer, answer_notice};
 use desk_words::{
     Answer, Call, Caller, Change, DayList, Entry, KeyRows, Listing, MeetingChange, MeetingId,
     MeetingLists, Moment, OfficeRequest, Party, PartyRequest, Refusal, Reply, Request,
@@ -120,6 +120,9 @@ impl Book {
     {
         let found = find_meeting(&self.meetings, meeting);
         let public = public_in(&self.closed, found);
+        if let PartyRequest::Notice = asked {
+            return answer_notice(self.alloc, &public, now);
+        }
         let rows = rows_read(self.alloc, found, party, asked)?;
         let own = own_for(self.alloc, rows, &public, now, asked)?;
         answer(self.alloc, &public, own, now, asked)
@@ -236,10 +239,7 @@ impl Book {
         ensures sure { sets_fields change ≡ true → IsOk result }
     {
         match change {
-            Change::AddMeeting(meeting) => {
-                let lists = new_lists(self.alloc, meeting);
-                self.meetings.push(lists)?;
-            }
+            Change::AddMeeting(meeting) => add_meeting(self.alloc, &mut self.meetings, meeting)?,
             Change::SetClosedDays(days) => self.closed = Closed::from_list(days),
             Change::SetKeys(rows) => self.keys = rows,
             Change::InMeeting { meeting, change } => {

@@ -14,7 +14,7 @@ use desk_words::{
 use std::alloc::{AllocError, Global};
 
 /// A meeting with no lists.
-pub fn new_lists(alloc: Global, meeting: Meeting) -> MeetingLists
+fn new_lists(alloc: Global, meeting: Meeting) -> MeetingLists
     ensures { result ≡ new_lists meeting }
 {
     MeetingLists {
@@ -28,6 +28,21 @@ pub fn new_lists(alloc: Global, meeting: Meeting) -> MeetingLists
         polls: Listing::new(alloc),
         casts: Filed::new(alloc),
     }
+}
+
+/// Adds a meeting with no lists. The error is want of memory, and nothing changes then. The lists
+/// are large, and no other change is to pay for their place.
+#[inline(never)]
+pub fn add_meeting(
+    alloc: Global,
+    meetings: &mut Vec<MeetingLists>,
+    meeting: Meeting,
+) -> Result<(), AllocError>
+    ensures ok { OnOk result (meetings.new.items ≡ meetings.old.items ++ new_lists meeting ∷ []) }
+    ensures err { OnErr result (meetings.new.items ≡ meetings.old.items) }
+{
+    meetings.push(new_lists(alloc, meeting))?;
+    Ok(())
 }
 
 fn enter_cast(casts: &mut Filed<CastMark>, cast: CastMark) -> Result<(), AllocError>

@@ -21,7 +21,8 @@ use std::alloc::{AllocError, Global};
 
 /// The answer to what the office asks of the whole desk, from its keys, its closed days and its
 /// meetings. The error is want of memory; a refusal takes none, nor does a list that is held
-/// already.
+/// already. A new meeting is large, and no other call is to pay for its place.
+#[inline(never)]
 pub fn desk_answer(
     alloc: Global,
     keys: &KeyRows,

@@ -256,7 +256,7 @@ impl<'a> Members<'a> {
         ensures { IfOk result (λ all. all
             ≡ map (session_in_rows self.now.rows.now member number) sessions.now) }
     {
-        let mut all = Listing::new(alloc);
+        let mut all = Listing::from_vec(Vec::with_capacity(alloc, sessions.len())?);
         for session in sessions {
             all.push(self.session_governed(alloc, session, member, number)?)?;
         }
@@ -275,7 +275,7 @@ impl<'a> Members<'a> {
         ensures { IfOk result
             (λ polls. polls ≡ map (late_in_rows self.now.rows.now member number) late.now) }
     {
-        let mut polls = Listing::new(alloc);
+        let mut polls = Listing::from_vec(Vec::with_capacity(alloc, late.len())?);
         for poll in late {
             polls.push(PollGoverned {
                 resolution: poll.resolution,

@@ -79,7 +79,7 @@ pub fn call_of(alloc: Global, scratch: &mut Scratch, line: &[u8]) -> Result<Call
         scratch,
         parts.meeting.as_bytes(),
         parts.verb.as_bytes(),
-        parts.body.as_bytes(),
+        parts.body,
     )?;
     Ok(Call {
         moment,

@@ -20,11 +20,12 @@ use crate::line::call_of;
 use any_office::Office;
 use byte_io::{DeviceError, Sink, Source, write_all};
 use desk_words::{Failure, Refusal, Reply};
-use json_replies::reply_text;
+use json_replies::reply_text_in;
 use json_requests::{Ask, Scratch};
 use line_reader::{LineReader, NextLine, ReadFault};
 use meeting_core::Book;
 use std::alloc::{AllocError, Global};
+use std::mem::replace;
 
 /// Why a replay ended before its input did.
 #[derive(Clone, Copy, PartialEq, Eq)]
@@ -57,11 +58,44 @@ impl From<DeviceError> for ReplayFault {
     }
 }
 
-/// The line that gives a reply.
-fn reply_line(alloc: Global, reply: &Reply) -> Result<Vec<u8>, AllocError>
+/// What is kept from one line to the next, so that a line takes less memory.
+#[derive(Drop)]
+struct Rooms {
+    alloc: Global,
+    /// For the reading of a body.
+    scratch: Scratch,
+    /// For the text of an answer.
+    text: Vec<u8>,
+}
+
+impl Rooms {
+    /// No room yet.
+    fn new(alloc: Global) -> Rooms {
+        Rooms {
+            alloc,
+            scratch: Scratch::new(alloc),
+            text: Vec::new(alloc),
+        }
+    }
+
+    /// The room for the text of an answer, which is none until it is given back.
+    fn take_text(&mut self) -> Vec<u8> {
+        replace(&mut self.text, Vec::new(self.alloc))
+    }
+
+    /// Gives the room of a text back, if it has any.
+    fn give_back(&mut self, text: Result<Vec<u8>, Failure>) {
+        if let Ok(text) = text {
+            self.text = text;
+        }
+    }
+}
+
+/// The line that gives a reply, in the room of a buffer.
+fn reply_line(room: Vec<u8>, reply: &Reply) -> Result<Vec<u8>, AllocError>
     ensures { IfOk result (λ text. text.items ≡ as_line (reply_bytes reply.now)) }
 {
-    let mut text = reply_text(alloc, reply)?;
+    let mut text = reply_text_in(room, reply)?;
     text.push(b'\n')?;
     Ok(text)
 }
@@ -81,7 +115,7 @@ fn refusal_line(alloc: Global, refusal: Refusal) -> Result<Vec<u8>, Failure>
     ensures text { IfOk result (λ text. text.items ≡ as_line (reply_bytes (Refused refusal))) }
     ensures cause { IfErr result (λ why. why ≡ Memory) }
 {
-    match reply_line(alloc, &Reply::Refused(refusal)) {
+    match reply_line(Vec::new(alloc), &Reply::Refused(refusal)) {
         Ok(text) => Ok(text),
         Err(AllocError) => Err(Failure::Memory),
     }
@@ -89,44 +123,41 @@ fn refusal_line(alloc: Global, refusal: Refusal) -> Result<Vec<u8>, Failure>
 
 /// Answers one line that is neither empty nor too long. The text is made before the call is made to
 /// last, so that a text which is refused memory changes nothing.
-fn answer<O: Office>(
-    alloc: Global,
-    scratch: &mut Scratch,
-    office: &mut O,
-    line: &[u8],
-) -> Result<Vec<u8>, Failure>
+fn answer<O: Office>(rooms: &mut Rooms, office: &mut O, line: &[u8]) -> Result<Vec<u8>, Failure>
     requires some { 0 < length line.now }
     requires short { length line.now ≤ longest_line }
     ensures answers { OfOpenOffice O.Office office.old office.new
         (λ it. AnswersLine O.Office it line.now result office.new) }
     ensures leaves { (made : Option Call) × LeavesOffice O.Office made office.old office.new }
 {
-    match call_of(alloc, scratch, line) {
-        Ok(call) => office.perform(call, |reply| reply_line(alloc, reply)),
-        Err(Ask::Refused(refusal)) => refusal_line(alloc, refusal),
+    match call_of(rooms.alloc, &mut rooms.scratch, line) {
+        Ok(call) => {
+            let room = rooms.take_text();
+            office.perform(call, |reply| reply_line(room, reply))
+        }
+        Err(Ask::Refused(refusal)) => refusal_line(rooms.alloc, refusal),
         Err(Ask::Memory) => Err(Failure::Memory),
     }
 }
 
 /// Writes the line that answers, or, where there is none, the line that tells why.
-fn write_answer<W: Sink>(writer: &mut W, text: Result<Vec<u8>, Failure>) -> Result<(), DeviceError>
+fn write_answer<W: Sink>(writer: &mut W, text: &Result<Vec<u8>, Failure>) -> Result<(), DeviceError>
     ensures written { OnOk result
-        (Appends (W.contents writer.old) (W.contents writer.new) (text_or_failure text)) }
+        (Appends (W.contents writer.old) (W.contents writer.new) (text_or_failure text.now)) }
     ensures partly { OnErr result
-        (AppendsPrefix (W.contents writer.old) (W.contents writer.new) (text_or_failure text)) }
+        (AppendsPrefix (W.contents writer.old) (W.contents writer.new) (text_or_failure text.now)) }
     ensures works { OnOk result (W.failures writer.new ≡ W.failures writer.old) }
     ensures failed { OnErr result (W.failures writer.new ≡ one_more (W.failures writer.old)) }
 {
     match text {
-        Ok(text) => write_all(writer, &text),
-        Err(failure) => write_all(writer, failure_line(failure)),
+        Ok(text) => write_all(writer, text),
+        Err(failure) => write_all(writer, failure_line(*failure)),
     }
 }
 
 /// Reads one line and writes its answer. `false` says that there was no line.
 fn turn<O: Office, R: Source, W: Sink>(
-    alloc: Global,
-    scratch: &mut Scratch,
+    rooms: &mut Rooms,
     office: &mut O,
     lines: &mut LineReader,
     reader: &mut R,
@@ -165,16 +196,17 @@ fn turn<O: Office, R: Source, W: Sink>(
 {
     let text = match lines.next_line(reader)? {
         NextLine::End => return Ok(false),
-        NextLine::TooLong => refusal_line(alloc, Refusal::TooLarge),
+        NextLine::TooLong => refusal_line(rooms.alloc, Refusal::TooLarge),
         NextLine::Whole => {
             let line = lines.line();
             if line.is_empty() {
                 return Ok(true);
             }
-            answer(alloc, scratch, office, line)
+            answer(rooms, office, line)
         }
     };
-    write_answer(writer, text)?;
+    write_answer(writer, &text)?;
+    rooms.give_back(text);
     Ok(true)
 }
 
@@ -218,8 +250,8 @@ pub fn replay_on<O: Office, R: Source, W: Sink>(
     ensures bound { R.passed reader.new - R.passed reader.old ≤ longest_input + 1 }
 {
     let mut lines = LineReader::new();
-    let mut scratch = Scratch::new(alloc);
-    while turn(alloc, &mut scratch, office, &mut lines, reader, writer)? {}
+    let mut rooms = Rooms::new(alloc);
+    while turn(&mut rooms, office, &mut lines, reader, writer)? {}
     Ok(())
 }
 

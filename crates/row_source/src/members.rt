@@ -78,8 +78,9 @@ pub(crate) fn named<R: RowSource>(
         (λ found named. named ≡ with_members found (received_from found giver party)) }
 {
     let received = received_from(source, giver, party)?;
-    let mut members = Listing::new(alloc);
-    for member in &givers(alloc, received.as_slice())? {
+    let givers = givers(alloc, received.as_slice())?;
+    let mut members = Listing::from_vec(Vec::with_capacity(alloc, givers.len())?);
+    for member in &givers {
         members.push(member_rows(source, *member)?)?;
     }
     Ok(ReceivedRows { received, members })
@@ -112,7 +113,7 @@ pub(crate) fn authorised<R: RowSource>(
         (λ found all. all ≡ map (authority_at found) (trusting_from found giver party)) }
 {
     let given = trusting_from(source, giver, party)?;
-    let mut all = Listing::new(alloc);
+    let mut all = Listing::from_vec(Vec::with_capacity(alloc, given.len())?);
     for authority in given.as_slice() {
         all.push(AuthorityRows {
             authority: *authority,

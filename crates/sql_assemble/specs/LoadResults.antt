@@ -1,5 +1,5 @@
 -- What is made of records, and why nothing is.
-use Rattle.std.specs.Prelude.{◌≡◌, Bool, true, false, Option, Some, Result, Ok, Err}
+use Rattle.std.specs.Prelude.{◌≡◌, Bool, true, false, Option, Some, Result}
 use Rattle.vocabulary.specs.Agreement.{Agrees}
 use Rattle.vocabulary.specs.Identity.{id}
 use Rattle.sqlite.specs.declared.error.Error.{Error}

@@ -1,10 +1,12 @@
 //! Names: parties, meetings and secret keys.
-ghost use Rattle.std.specs.Prelude.{◌≡◌, ◌≤◌, ◌<◌, ◌==◌, ◌↔◌, IsTrue, IfSome, length, refl};
-ghost use Rattle.std.specs.Cmp.Lexicographic.{lists_agrees, nat_list_cmp_total, texts_ties};
+ghost use Rattle.std.specs.Prelude.{◌≡◌, ◌≤◌, ◌<◌, ◌==◌, ◌↔◌, [], ◌∷◌, IsTrue, IfSome, length, refl};
+ghost use Rattle.std.proofs.Common.{ap};
+ghost use Rattle.std.specs.Cmp.Lexicographic.{bytes_decides, lists_agrees, nat_list_cmp_total, texts_ties};
 ghost use Rattle.std.specs.List.{list_all, position_from};
 ghost use Rattle.vocabulary.specs.Names.{letters_of, in_places, is_name_letter, is_key_letter, is_name, is_party, is_key, party_of, meeting_of, key_of, name_cmp, same_name, Holds};
 
 use std::cmp::Ordering;
+use std::hash::{Hash, Hasher};
 use std::marker::Model;
 
 /// The name of a party: 1 to 16 of A to Z and 0 to 9, and not `OFFICE`.
@@ -38,6 +40,17 @@ impl Ord for Party {
 
     fn cmp(&self, other: &Party) -> Ordering {
         u128::from_be_bytes(self.letters).cmp(&u128::from_be_bytes(other.letters))
+    }
+}
+
+/// Their letters are hashed at once, with the zeros behind them.
+impl Hash for Party {
+    ghost hash_input = { λ party. party ∷ [] };
+
+    ghost respects_eq = { λ x y same. ap (λ party. party ∷ []) ((bytes_decides x y).0 same) };
+
+    fn hash<H: Hasher>(&self, state: &mut H) {
+        state.write(&self.letters);
     }
 }
 

@@ -1,4 +1,4 @@
-use Rattle.std.proofs.Common.{[], ◌∷◌, codes}
+use Rattle.std.proofs.Common.{[], codes}
 use Rattle.std.proofs.lemmas.Result.{on_ok_weaker}
 use Rattle.serde_json.specs.Data.{boolean}
 use Rattle.json_replies.specs.AppointmentJson.{received_data}

@@ -4,22 +4,22 @@ use Rattle.line_reader.proofs.Taking.{SameWhole-chained}
 use Rattle.replay.proofs.Progress.{known_all, known_more, known_stopped}
 use Rattle.replay.proofs.script.replay_on.Goals as goal
 
-pub loop-scratch-preserved : goal.loop-scratch-preserved
-loop-scratch-preserved g c = record {
+pub loop-rooms-preserved : goal.loop-rooms-preserved
+loop-rooms-preserved g c = record {
   progress = λ reliable is_open it stands.
       let was = c.turn.ensures.leaves.1 in
-      let now = c.loop-scratch.invariant.progress (was.was_reliable reliable) (was.was_open reliable is_open) it stands in
+      let now = c.loop-rooms.invariant.progress (was.was_reliable reliable) (was.was_open reliable is_open) it stands in
       let next = c.in_ok-turn.ensures.turns reliable is_open now.0 now.1 in
       (next.0, next.1, known_more g.O.Office.may_fail it (g.R.Source.remaining c.args.reader.now) _ _ c.in_ok-turn.field-0 _ _ (g.W.Sink.contents c.args.writer.now) _ _ now.2 c.if-branch.true next.2);
-  whole = SameWhole-chained _ _ _ _ _ _ _ c.loop-scratch.invariant.whole c.turn.ensures.whole refl;
-  reads = c.in_ok-turn.ensures.works.0 ∙ c.loop-scratch.invariant.reads;
-  writes = c.in_ok-turn.ensures.works.1 ∙ c.loop-scratch.invariant.writes;
-  counted = omega (arith, c.loop-scratch.invariant.counted, c.turn.ensures.counted);
+  whole = SameWhole-chained _ _ _ _ _ _ _ c.loop-rooms.invariant.whole c.turn.ensures.whole refl;
+  reads = c.in_ok-turn.ensures.works.0 ∙ c.loop-rooms.invariant.reads;
+  writes = c.in_ok-turn.ensures.works.1 ∙ c.loop-rooms.invariant.writes;
+  counted = omega (arith, c.loop-rooms.invariant.counted, c.turn.ensures.counted);
 }
 
 pub returns-in_err-turn-clause-until : goal.returns-in_err-turn-clause-until
 returns-in_err-turn-clause-until g c =
-    let before = c.loop-scratch.invariant in
+    let before = c.loop-rooms.invariant in
     let p = err_from_is_err_and c.from_residual.result c.from_residual.ensures.1 in
     let whole = SameWhole-chained _ _ _ _ _ _ _ before.whole c.turn.ensures.whole refl in
     let given : g.R.Source.passed c.turn.new.reader - g.R.Source.passed c.args.reader.now ≡ c.turn.new.lines.taken = omega (arith, before.counted, c.turn.ensures.counted) in
@@ -32,6 +32,6 @@ returns-in_err-turn-clause-until g c =
 pub returns-clause-replayed : goal.returns-clause-replayed
 returns-clause-replayed g c = λ reliable is_open it stands.
     let was = c.turn.ensures.leaves.1 in
-    let now = c.loop-scratch.invariant.progress (was.was_reliable reliable) (was.was_open reliable is_open) it stands in
+    let now = c.loop-rooms.invariant.progress (was.was_reliable reliable) (was.was_open reliable is_open) it stands in
     let next = c.in_ok-turn.ensures.turns reliable is_open now.0 now.1 in
     known_all g.O.Office.may_fail it (g.O.Office.stands c.turn.new.office) (g.R.Source.remaining c.args.reader.now) _ _ c.in_ok-turn.field-0 _ _ (g.W.Sink.contents c.args.writer.now) _ _ now.2 c.if-branch.false next.2 next.1

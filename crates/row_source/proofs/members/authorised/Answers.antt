@@ -6,7 +6,12 @@ use Rattle.row_source.proofs.SourceLookUpLemmas.{holds_after, holds_both, holds_
 use Rattle.row_source.proofs.members.authorised.Goals as goal
 
 pub loop-authority-init : goal.loop-authority-init
-loop-authority-init g c = holds_so _ _ _ _ _ _ _ c.in_ok-given.given _ _ _ c.in_ok-given.ensures (λ found p. (c.as_slice-authority-items.ensures ∙ p, c.new-all.ensures))
+loop-authority-init g c = holds_so _ _ _ _ _ _ _ c.in_ok-given.given _ _ _ c.in_ok-given.ensures (λ found p. (c.as_slice-authority-items.ensures ∙ p, c.from_vec-all.ensures ∙ c.in_ok-with_capacity.ensures.items))
+
+pub returns-in_err-with_capacity : goal.returns-in_err-with_capacity
+returns-in_err-with_capacity g c =
+    let w = g.met.R.RowSource in
+    holds_refused _ _ _ _ _ _ _ c.in_ok-given.given _ _ _ _ w.memory_may_fail c.from_residual-in_err-with_capacity.ensures.1 c.in_ok-given.ensures
 
 pub returns-in_err-row_of : goal.returns-in_err-row_of
 returns-in_err-row_of g c =

@@ -7,12 +7,17 @@ use Rattle.row_source.proofs.SourceLookUpLemmas.{holds_after, holds_both, holds_
 use Rattle.row_source.proofs.members.named.Goals as goal
 
 pub loop-member-init : goal.loop-member-init
-loop-member-init g c = holds_so _ _ _ _ _ _ _ c.in_ok-received.received _ _ _ c.in_ok-received.ensures (λ found p. (p, c.new-members.ensures))
+loop-member-init g c = holds_so _ _ _ _ _ _ _ c.in_ok-received.received _ _ _ c.in_ok-received.ensures (λ found p. (p, c.from_vec-members.ensures ∙ c.in_ok-with_capacity.ensures.items))
 
 pub returns-in_err-givers : goal.returns-in_err-givers
 returns-in_err-givers g c =
     let w = g.met.R.RowSource in
     holds_refused _ _ _ _ _ _ _ c.in_ok-received.received _ _ _ _ w.memory_may_fail c.from_residual-in_err-givers.ensures.1 c.in_ok-received.ensures
+
+pub returns-in_err-with_capacity : goal.returns-in_err-with_capacity
+returns-in_err-with_capacity g c =
+    let w = g.met.R.RowSource in
+    holds_refused _ _ _ _ _ _ _ c.in_ok-received.received _ _ _ _ w.memory_may_fail c.from_residual-in_err-with_capacity.ensures.1 c.in_ok-received.ensures
 
 pub returns-in_err-member_rows : goal.returns-in_err-member_rows
 returns-in_err-member_rows g c =

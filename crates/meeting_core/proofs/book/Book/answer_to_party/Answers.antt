@@ -10,6 +10,8 @@ use Rattle.desk_words.specs.declared.answer.Answer.{Answer}
 use Rattle.desk_words.specs.declared.change.Entry.{Entry}
 use Rattle.desk_words.specs.declared.office.MeetingLists.{MeetingLists}
 use Rattle.desk_words.specs.declared.office.OfficeLists.{OfficeLists}
+use Rattle.desk_words.specs.declared.request.PartyRequest.{PartyRequest}
+use Rattle.desk_words.specs.declared.request.PartyRequest.TheVariants.{Notice}
 use Rattle.caller_view.specs.PartyRulings.{party_ruling}
 use Rattle.party_views.specs.OwnViews.{own_from}
 use Rattle.party_views.specs.Public.{PublicRecord}
@@ -27,6 +29,23 @@ rows_read-requires c =
     subst (λ (found : Option MeetingLists). IfSome found (λ m. ascends_by member_before m.register ≡ true))
     (ap (λ meetings. meeting_named meetings c.args.meeting) (sym c.deref.ensures.value) ∙ sym c.find_meeting-found.ensures)
     (found_ascends o c.args.meeting c.self.invariant)
+
+-- a notice is the same whatever the party's own things are
+pub returns-in-Notice : goal.returns-in-Notice
+returns-in-Notice c =
+    let o : OfficeLists = record { keys = c.self.inside.keys; closed = c.self.inside.closed; meetings = c.self.inside.meetings.items } in
+    let found = option_copied c.find_meeting-found.result in
+    let now = c.args.now in
+    let what = c.args.asked.now in
+    let own = own_of o c.args.party c.args.meeting now in
+    let same : found ≡ meeting_named o.meetings c.args.meeting = c.find_meeting-found.ensures ∙ ap (λ meetings. meeting_named meetings c.args.meeting) c.deref.ensures.value in
+    let due = ruled_answer (party_ruling (public_of o c.args.meeting) own now what) in
+    let read : ruled_answer (party_ruling c.public_in-public.result own now Notice) ≡ due =
+    ap (λ (r : PublicRecord). ruled_answer (party_ruling r own now Notice)) c.public_in-public.ensures
+    ∙ ap (λ (f : Option MeetingLists). ruled_answer (party_ruling (public_in f o.closed) own now Notice)) same
+    ∙ ap (λ (asked : PartyRequest). ruled_answer (party_ruling (public_of o c.args.meeting) own now asked)) (sym c.in-Notice.is) in
+    subst (λ (held : OfficeLists). IfOk c.answer_notice.result (λ (a : Answer Entry). a ≡ ruled_answer (party_ruling (public_of held c.args.meeting) (own_of held c.args.party c.args.meeting now) now what))) c.self.view_is
+    (IfOk-weaker c.answer_notice.result (λ (a : Answer Entry). (own : OwnView) → a ≡ ruled_answer (party_ruling c.public_in-public.result own now Notice)) (λ (a : Answer Entry). a ≡ due) (λ a is. is own ∙ read) c.answer_notice.ensures)
 
 pub returns : goal.returns
 returns c =
