@@ -91,6 +91,23 @@ fn mine(
     })
 }
 
+/// The answer to a party that asks for its own things. Other requests are not to pay for the places
+/// of its values.
+#[inline(never)]
+fn answer_mine(
+    alloc: Global,
+    public: &PublicRecord,
+    meeting: &Meeting,
+    own: OwnView,
+    now: Moment,
+) -> Result<Answer<Entry>, AllocError>
+    ensures { IfOk result (λ a. a
+        ≡ ruled_answer (reply_only (reply.Mine (mine_of public.now meeting.now own now)))) }
+{
+    let mine = mine(alloc, public, meeting, own, now)?;
+    Ok(reply_unchanged(Reply::Mine(Boxed::new(alloc, mine)?)))
+}
+
 /// The answer to a party that asks for the notice of a meeting.
 fn noticed(
     alloc: Global,
@@ -142,20 +159,16 @@ pub fn answer(
     let Some(meeting) = public.meeting() else {
         return Ok(refuse(Refusal::NoMeeting));
     };
-    match asked {
-        PartyRequest::Notice => noticed(alloc, public, meeting, now),
-        PartyRequest::Mine => {
-            let mine = mine(alloc, public, meeting, own, now)?;
-            Ok(reply_unchanged(Reply::Mine(Boxed::new(alloc, mine)?)))
-        }
-        PartyRequest::Appoint(new) => Ok(appoint(public, meeting, &own, now, new)),
-        PartyRequest::End(number) => Ok(end(&own, now, *number)),
-        PartyRequest::Authorise(person) => Ok(authorise(&own, now, *person)),
-        PartyRequest::Attend => Ok(attend(meeting, &own, now)),
-        PartyRequest::Demand(resolution) => Ok(demand(public, meeting, &own, now, *resolution)),
-        PartyRequest::Cast(new) => Ok(cast(public, meeting, &own, now, new)),
-        PartyRequest::Instructed(resolution) => {
-            Ok(instructed(public, meeting, &own, now, *resolution))
-        }
-    }
+    let answer = match asked {
+        PartyRequest::Notice => return answer_notice(alloc, public, now),
+        PartyRequest::Mine => return answer_mine(alloc, public, meeting, own, now),
+        PartyRequest::Appoint(new) => appoint(public, meeting, &own, now, new),
+        PartyRequest::End(number) => end(&own, now, *number),
+        PartyRequest::Authorise(person) => authorise(&own, now, *person),
+        PartyRequest::Attend => attend(meeting, &own, now),
+        PartyRequest::Demand(resolution) => demand(public, meeting, &own, now, *resolution),
+        PartyRequest::Cast(new) => cast(public, meeting, &own, now, new),
+        PartyRequest::Instructed(resolution) => instructed(public, meeting, &own, now, *resolution),
+    };
+    Ok(answer)
 }

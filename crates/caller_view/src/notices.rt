@@ -4,6 +4,8 @@ ghost use Rattle.caller_view.specs.Notices.{noticed_poll, noticed_resolution, no
 ghost use Rattle.party_views.specs.SessionLists.{enumerate_from};
 ghost use Rattle.desk_words.specs.Finding.{poll_on};
 ghost use Rattle.desk_words.specs.Majority.{result_of};
+ghost use Rattle.proxy_rules.specs.Cutoffs.{cutoffs_of, is_late_poll};
+ghost use Rattle.proxy_rules.specs.Uses.{Vote, Votes};
 
 use desk_words::{
     Declaration, Listing, Meeting, Moment, Notice, NoticedPoll, NoticedResolution, NoticedSession,
@@ -23,15 +25,38 @@ fn declared_result(kind: ResKind, declared: Option<Tally>) -> Option<Declaration
     }
 }
 
+/// The cutoff for votes on a poll, from that for votes in the first session.
+fn poll_cutoff(
+    meeting: &Meeting,
+    closed: &Closed,
+    now: Moment,
+    first: Moment,
+    late: bool,
+    poll: &Poll,
+) -> Moment
+    requires first { first ≡ (cutoffs_of meeting.now (Votes 1) closed.now now).appointments }
+    requires late { late ≡ is_late_poll closed.now poll.now }
+    ensures { result ≡ (cutoffs_of meeting.now (Vote poll.now) closed.now now).appointments }
+{
+    if !late && poll.session == 1 {
+        first
+    } else {
+        cutoffs(meeting, Use::Vote(poll), closed, now).appointments
+    }
+}
+
 fn noticed_poll(
     meeting: &Meeting,
     closed: &Closed,
     now: Moment,
+    first: Moment,
     kind: ResKind,
     poll: Poll,
 ) -> NoticedPoll
+    requires { first ≡ (cutoffs_of meeting.now (Votes 1) closed.now now).appointments }
     ensures { result ≡ noticed_poll meeting.now closed.now now kind poll }
 {
+    let late = is_late_poll(closed, &poll);
     NoticedPoll {
         session: poll.session,
         ordered: poll.ordered,
@@ -39,8 +64,8 @@ fn noticed_poll(
         chair: poll.chair,
         started: poll.started,
         closed: poll.closed,
-        late: is_late_poll(closed, &poll),
-        cutoff: cutoffs(meeting, Use::Vote(&poll), closed, now).appointments,
+        late,
+        cutoff: poll_cutoff(meeting, closed, now, first, late, &poll),
         result: declared_result(kind, poll.declared),
     }
 }
@@ -49,23 +74,30 @@ fn poll_in(
     public: &PublicRecord,
     meeting: &Meeting,
     now: Moment,
+    first: Moment,
     number: u64,
     kind: ResKind,
 ) -> Option<NoticedPoll>
+    requires { first
+        ≡ (cutoffs_of meeting.now (Votes 1) public.now.closed now).appointments }
     ensures { result ≡ option_map (noticed_poll meeting.now public.now.closed now kind)
         (poll_on public.now.polls number) }
 {
     let poll = find_poll(public.polls(), number)?;
-    Some(noticed_poll(meeting, public.closed(), now, kind, poll))
+    let closed = public.closed();
+    Some(noticed_poll(meeting, closed, now, first, kind, poll))
 }
 
 fn noticed_resolution(
     public: &PublicRecord,
     meeting: &Meeting,
     now: Moment,
+    first: Moment,
     number: u64,
     resolution: &Resolution,
 ) -> Result<NoticedResolution, AllocError>
+    requires { first
+        ≡ (cutoffs_of meeting.now (Votes 1) public.now.closed now).appointments }
     ensures { IfOk result (λ r. r ≡ noticed_resolution meeting.now public.now.polls
         public.now.closed now number resolution.now) }
 {
@@ -73,7 +105,7 @@ fn noticed_resolution(
         number,
         kind: resolution.kind,
         text: resolution.text.clone()?,
-        poll: poll_in(public, meeting, now, number, resolution.kind),
+        poll: poll_in(public, meeting, now, first, number, resolution.kind),
     })
 }
 
@@ -82,15 +114,19 @@ fn noticed_resolutions(
     public: &PublicRecord,
     meeting: &Meeting,
     now: Moment,
+    first: Moment,
 ) -> Result<Vec<NoticedResolution>, AllocError>
+    requires { first
+        ≡ (cutoffs_of meeting.now (Votes 1) public.now.closed now).appointments }
     ensures { IfOk result (λ v. v.items ≡ enumerate_from
         (noticed_resolution meeting.now public.now.polls public.now.closed now) 1
         meeting.now.resolutions) }
 {
-    let mut noticed = Vec::new(alloc);
-    for resolution in meeting.resolutions.as_slice() {
+    let resolutions = meeting.resolutions.as_slice();
+    let mut noticed = Vec::with_capacity(alloc, resolutions.len())?;
+    for resolution in resolutions {
         let number = noticed.as_slice().len() as u64 + 1;
-        noticed.push(noticed_resolution(public, meeting, now, number, resolution)?)?;
+        noticed.push(noticed_resolution(public, meeting, now, first, number, resolution)?)?;
     }
     Ok(noticed)
 }
@@ -139,15 +175,17 @@ pub(crate) fn notice_in(
 ) -> Result<Notice, AllocError>
     ensures { IfOk result (λ n. n ≡ notice_of meeting.now public.now.polls public.now.closed now) }
 {
+    let first = noticed_session(meeting, public.closed(), now, 1, &meeting.first);
+    let resolutions = noticed_resolutions(alloc, public, meeting, now, first.cutoff)?;
     Ok(Notice {
         meeting: meeting.id,
         company: meeting.company,
         kind: meeting.kind,
         given: meeting.given,
-        first: noticed_session(meeting, public.closed(), now, 1, &meeting.first),
+        first,
         later: Listing::from_vec(noticed_sessions(alloc, meeting, public.closed(), now)?),
         record_moment: meeting.record_moment,
         loaded: meeting.loaded,
-        resolutions: Listing::from_vec(noticed_resolutions(alloc, public, meeting, now)?),
+        resolutions: Listing::from_vec(resolutions),
     })
 }

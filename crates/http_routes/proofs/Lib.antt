@@ -1,3 +1,4 @@
 pub mod RouteChained
 mod PhraseLemmas
 mod TargetLemmas
+mod VerbLemmas

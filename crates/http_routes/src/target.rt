@@ -46,11 +46,14 @@ fn served(route: Route) -> Option<Route>
 ///
 /// The target is matched whole, and no escape is decoded. There is no route for any other verb,
 /// for `register`, `closed` and `keys`, and for a meeting that no meeting can have as its name.
-#[tactic(auto, unfolding(crate::specs::Targets::target_route))]
+#[tactic(auto, using(crate::proofs::VerbLemmas::no_route), unfolding(crate::specs::Targets::target_route))]
 pub fn target_route(target: &[u8]) -> Option<Route>
     ensures { result ≡ target_route target.now }
 {
     let rest = behind_root(target)?;
     let (meeting, verb) = parted(rest)?;
-    served(route_of(meeting, verb)?)
+    match str::from_utf8(verb) {
+        Ok(verb) => served(route_of(meeting, verb)?),
+        Err(_) => None,
+    }
 }

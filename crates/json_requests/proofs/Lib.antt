@@ -8,4 +8,3 @@ mod JsonReadUpTo
 mod NumberLemmas
 mod RouteLemmas
 mod TextFieldLemmas
-mod VerbLemmas

@@ -239,7 +239,7 @@ pub fn request_of(
     alloc: Global,
     scratch: &mut Scratch,
     meeting: &[u8],
-    verb: &[u8],
+    verb: &str,
     body: &str,
 ) -> Result<Request, Ask>
     ensures { AskAgrees id result (request_of meeting.now verb.now body.now) }

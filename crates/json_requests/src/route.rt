@@ -47,7 +47,7 @@ fn no_meeting(meeting: &[u8]) -> Option<()>
 /// There is none where no such verb is listed, no meeting can have that name, or anything but `-`
 /// stands before `closed` and `keys`. It takes no memory and looks at no body.
 #[tactic(auto, unfolding(crate::specs::Routes::route_of))]
-pub fn route_of(meeting: &[u8], verb: &[u8]) -> Option<Route>
+pub fn route_of(meeting: &[u8], verb: &str) -> Option<Route>
     ensures { result ≡ route_of meeting.now verb.now }
 {
     match Verb::of_word(verb)? {

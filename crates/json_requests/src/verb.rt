@@ -63,11 +63,19 @@ pub enum Verb {
 
 impl Verb {
     /// The one that a word stands for, or none where no such word is listed.
-    #[tactic(auto, using(crate::proofs::VerbLemmas::unlisted))]
-    pub fn of_word(word: &[u8]) -> Option<Verb>
+    pub fn of_word(word: &str) -> Option<Verb>
         ensures { result ≡ verb_of word.now }
     {
-        match str::from_utf8(word).ok()? {
+        match word {
+            "mine" => Some(Verb::Party(PartyVerb::Mine)),
+            "notice" => Some(Verb::Party(PartyVerb::Notice)),
+            "attend" => Some(Verb::Party(PartyVerb::Attend)),
+            "cast" => Some(Verb::Party(PartyVerb::Cast)),
+            "appoint" => Some(Verb::Party(PartyVerb::Appoint)),
+            "authorise" => Some(Verb::Party(PartyVerb::Authorise)),
+            "end" => Some(Verb::Party(PartyVerb::End)),
+            "demand" => Some(Verb::Party(PartyVerb::Demand)),
+            "instructed" => Some(Verb::Party(PartyVerb::Instructed)),
             "call" => Some(Verb::Call),
             "closed" => Some(Verb::Closed),
             "keys" => Some(Verb::Keys),
@@ -79,15 +87,6 @@ impl Verb {
             "start" => Some(Verb::Office(OfficeVerb::Start)),
             "close" => Some(Verb::Office(OfficeVerb::Close)),
             "declare" => Some(Verb::Office(OfficeVerb::Declare)),
-            "notice" => Some(Verb::Party(PartyVerb::Notice)),
-            "mine" => Some(Verb::Party(PartyVerb::Mine)),
-            "appoint" => Some(Verb::Party(PartyVerb::Appoint)),
-            "end" => Some(Verb::Party(PartyVerb::End)),
-            "authorise" => Some(Verb::Party(PartyVerb::Authorise)),
-            "attend" => Some(Verb::Party(PartyVerb::Attend)),
-            "demand" => Some(Verb::Party(PartyVerb::Demand)),
-            "cast" => Some(Verb::Party(PartyVerb::Cast)),
-            "instructed" => Some(Verb::Party(PartyVerb::Instructed)),
             _ => None,
         }
     }

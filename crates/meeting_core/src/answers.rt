@@ -15,7 +15,9 @@ ghost use Rattle.meeting_core.specs.Decisions.{AreRead, party_call};
 ghost use Rattle.meeting_core.specs.Step.{decided};
 
 use caller_view::answer;
-use desk_words::{Answer, Change, Entry, MeetingChange, MeetingId, Moment, PartyRequest};
+use desk_words::{
+    Answer, Change, Entry, MeetingChange, MeetingId, Moment, PartyRequest, reply_unchanged,
+};
 use party_views::{OwnRows, PublicRecord, own_for};
 use std::alloc::{AllocError, Global};
 
@@ -24,11 +26,13 @@ pub(crate) fn in_meeting(meeting: MeetingId, answer: Answer<MeetingChange>) -> A
     ensures { result ≡ map_change (change.InMeeting meeting) answer }
 {
     let Answer { reply, change } = answer;
-    let change = match change {
-        None => None,
-        Some(change) => Some(Change::InMeeting { meeting, change }),
-    };
-    Answer { reply, change }
+    match change {
+        None => reply_unchanged(reply),
+        Some(change) => Answer {
+            reply,
+            change: Some(Change::InMeeting { meeting, change }),
+        },
+    }
 }
 
 /// An answer whose change is entered into the lists of that meeting.
@@ -37,14 +41,16 @@ pub(crate) fn entering(meeting: MeetingId, answer: Answer<Entry>) -> Answer<Chan
         answer }
 {
     let Answer { reply, change } = answer;
-    let change = match change {
-        None => None,
-        Some(entry) => Some(Change::InMeeting {
-            meeting,
-            change: MeetingChange::Enter(entry),
-        }),
-    };
-    Answer { reply, change }
+    match change {
+        None => reply_unchanged(reply),
+        Some(entry) => {
+            let change = MeetingChange::Enter(entry);
+            Answer {
+                reply,
+                change: Some(Change::InMeeting { meeting, change }),
+            }
+        }
+    }
 }
 
 /// The answer to a party, from the public record and those of its rows that it reads.

@@ -107,6 +107,7 @@ impl Book {
     }
 
     /// The answer to what a party asks in a meeting.
+    #[inline(never)]
     fn answer_to_party(
         &self,
         party: Party,
@@ -149,7 +150,31 @@ impl Book {
         office_answer(self.alloc, &self.closed, found, now, asked)
     }
 
+    /// The answer to what the office asks in a meeting, as a change of the office. A party's calls
+    /// are not to pay for the places of its values.
+    #[inline(never)]
+    fn change_for(
+        &self,
+        meeting: MeetingId,
+        now: Moment,
+        asked: &OfficeRequest,
+    ) -> Result<Answer<Change>, AllocError>
+        ensures answer { IfOk result (λ a. a ≡ map_change (change.InMeeting meeting)
+            (ruled_answer (office_ruling self.now.closed (meeting_at self.now meeting) now asked.now))) }
+        ensures limits { IfOk result (λ a. if_any keeps_limits a.change ≡ true) }
+        ensures sure { office_needs_no_memory asked.now ≡ true → IsOk result }
+        ensures refusals { refuses_at_once (office_ruling self.now.closed
+            (meeting_at self.now meeting) now asked.now)
+            ≡ true → IsOk result }
+        ensures same { is_register_held (meeting_at self.now meeting) asked.now ≡ true
+            → IsOk result }
+    {
+        let answer = self.answer_to_office(meeting, now, asked)?;
+        Ok(in_meeting(meeting, answer))
+    }
+
     /// The answer to what a party asks in a meeting, as a change of the office.
+    #[inline(always)]
     fn entry_for(
         &self,
         party: Party,
@@ -180,8 +205,7 @@ impl Book {
                     desk_answer(self.alloc, &self.keys, &self.closed, &self.meetings, asked)
                 }
                 Request::Office { meeting, asked } => {
-                    let answer = self.answer_to_office(*meeting, call.moment, asked)?;
-                    Ok(in_meeting(*meeting, answer))
+                    self.change_for(*meeting, call.moment, asked)
                 }
                 Request::Party { .. } => Ok(refuse(Refusal::PartyOnly)),
             },

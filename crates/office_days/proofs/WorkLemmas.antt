@@ -1,7 +1,8 @@
 -- Working days by weekdays, working seconds by days, and the search for a second.
-use Rattle.std.proofs.Common.{◌≡◌, ℕ, ◌+◌, ◌*◌, ◌/◌, ◌%◌, ◌<◌, ◌≤◌, true, false, ◌&&◌, List, Some, None, ap, arith, inl, inr}
+use Rattle.std.proofs.Common.{◌≡◌, ℕ, ◌+◌, ◌*◌, ◌-◌, ◌/◌, ◌%◌, ◌<◌, ◌≤◌, true, false, ◌&&◌, List, Some, None, ap, arith, inl, inr}
 use Rattle.std.proofs.lemmas.Bool.{cases_Bool, cases_lt, le-leb, lt-leb}
 use Rattle.office_days.specs.WorkingDays.{numbers_that, is_weekday, is_closed_day, is_working, working_days, work, leaves_hours, back, IsBack}
+use Rattle.office_days.specs.DaySearch.{IsBracket, IsLatest}
 use Rattle.office_days.proofs.Counting.{numbers_that-split, numbers_that-parts, numbers_that-bound, numbers_that-by_days, numbers_that-day_passes, numbers_that-day_fails, numbers_that-none_between, greatest_that-is, greatest_that-none}
 
 -- the weekdays up to a day are those before another, the working days from there on and the closed weekdays
@@ -36,13 +37,6 @@ work-by_days closed from to h =
 pub work-later : (closed : List ℕ) (from mid to : ℕ) → from ≤ mid → mid ≤ to → work closed mid to ≤ work closed from to
 work-later closed from mid to h k = omega (arith, numbers_that-split (λ second. is_working closed (second / 86400)) from mid to h k)
 
--- between a day whose beginning leaves enough working time and one from which on none does
-pub record IsBracket (closed : List ℕ) (wanted end leaves too_late : ℕ) : Type 0 where
-  pub ordered : leaves < too_late
-  pub within : too_late ≤ end / 86400 + 1
-  pub enough : wanted ≤ work closed (86400 * leaves) end
-  pub few : (later : ℕ) → too_late ≤ later → later ≤ end / 86400 → work closed (86400 * later) end < wanted
-
 -- ---- the last second that leaves enough
 
 -- within a working day each second that passes leaves one second less
@@ -58,7 +52,7 @@ work-past_day closed day second end fails low high upto =
     omega (arith, numbers_that-split (λ s. is_working closed (s / 86400)) (86400 * day) second end low upto, numbers_that-day_fails (is_working closed) day (86400 * day) second fails (omega arith) high)
 
 -- the last day whose beginning leaves enough
-pub record IsLastDay (closed : List ℕ) (wanted end day : ℕ) : Type 0 where
+record IsLastDay (closed : List ℕ) (wanted end day : ℕ) : Type 0 where
   pub within : day ≤ end / 86400
   pub leaves : wanted ≤ work closed (86400 * day) end
   pub last : (later : ℕ) → day < later → later ≤ end / 86400 → work closed (86400 * later) end < wanted
@@ -107,13 +101,7 @@ later_few closed wanted end day later some is past upto =
       | inr inside ↦ omega (arith, is.leaves, work-in_day closed day later end works (omega (arith, is.leaves)) inside upto)
     ]
 
--- the last second that leaves as much as is wanted
-pub record IsLatest (closed : List ℕ) (wanted end found : ℕ) : Type 0 where
-  pub within : found ≤ end
-  pub leaves : wanted ≤ work closed found end
-  pub latest : (later : ℕ) → found < later → later ≤ end → work closed later end < wanted
-
-pub latest_in_day : (closed : List ℕ) (wanted end day found : ℕ) → 0 < wanted → IsLastDay closed wanted end day → found + wanted ≡ 86400 * day + work closed (86400 * day) end
+latest_in_day : (closed : List ℕ) (wanted end day found : ℕ) → 0 < wanted → IsLastDay closed wanted end day → found + wanted ≡ 86400 * day + work closed (86400 * day) end
     → IsLatest closed wanted end found
 latest_in_day closed wanted end day found some is sum =
     let bounds = surplus_within closed wanted end day some is in
@@ -123,6 +111,18 @@ latest_in_day closed wanted end day found some is sum =
       leaves = omega (arith, at, is.leaves);
       latest = λ later after upto. later_few closed wanted end day later some is (omega arith) upto;
     }
+
+-- so it is in a bracket of two days that follow each other
+pub latest_in_bracket : (closed : List ℕ) (wanted end day left too_late : ℕ) → 0 < wanted → IsBracket closed wanted end day left too_late → too_late ≡ day + 1
+    → IsLatest closed wanted end (86400 * day + (left - wanted))
+latest_in_bracket closed wanted end day left too_late some bracket next =
+    let is : IsLastDay closed wanted end day =
+    record {
+      within = omega (arith, bracket.within, next);
+      leaves = omega (arith, bracket.is, bracket.enough);
+      last = λ later after upto. bracket.few later (omega (arith, next)) upto;
+    } in
+    latest_in_day closed wanted end day (86400 * day + (left - wanted)) some is (omega (arith, bracket.is, bracket.enough))
 
 -- ---- back
 

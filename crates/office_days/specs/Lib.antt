@@ -1,2 +1,3 @@
 pub mod Notice
 pub mod WorkingDays
+pub mod DaySearch

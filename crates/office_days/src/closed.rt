@@ -114,11 +114,9 @@ impl Closed {
         ensures value { result_ok result ≡ office.back self.now hours moment }
     {
         let wanted = 3_600 * hours as u64;
-        let closed = self.days();
-        let end = moment.seconds();
-        if working::work(closed, 0, end) < wanted {
-            return Err(OutOfRange);
+        match working::latest_that_leaves(self.days(), wanted, moment.seconds()) {
+            Some(start) => Moment::new(start).ok_or(OutOfRange),
+            None => Err(OutOfRange),
         }
-        Moment::new(working::latest_that_leaves(closed, wanted, end)).ok_or(OutOfRange)
     }
 }

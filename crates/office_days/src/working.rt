@@ -1,7 +1,8 @@
 //! Working days and working time over closed days in order.
-ghost use Rattle.std.specs.Prelude.{◌≡◌, ◌+◌, ◌*◌, ◌/◌, ◌<◌, ◌≤◌, ℕ, ◌&&◌, length, slice_index, count_by, IsTrue};
+ghost use Rattle.std.specs.Prelude.{◌≡◌, ◌+◌, ◌*◌, ◌/◌, ◌<◌, ◌≤◌, ℕ, ◌&&◌, length, slice_index, count_by, IsTrue, IfSome, None};
 ghost use Rattle.desk_words.specs.SortedLists.{is_day_list};
 ghost use Rattle.office_days.specs.WorkingDays as office;
+ghost use Rattle.office_days.specs.DaySearch.{IsBracket, IsLatest};
 
 use desk_words::Day;
 
@@ -98,58 +99,80 @@ pub fn work(closed: &[Day], from: u64, to: u64) -> u64
     DAY * whole_days + worked_that_day(closed, to) - worked_that_day(closed, from)
 }
 
-// A day whose beginning leaves as much working time before an end as is wanted, near the end.
-fn near_day_that_leaves(closed: &[Day], wanted: u64, end: u64) -> u64
-    requires sorted { IsTrue (is_day_list closed.now) }
-    requires enough { wanted ≤ office.work closed.now 0 end }
-    ensures within { result ≤ end / 86400 }
-    ensures leaves { wanted ≤ office.work closed.now (86400 * result) end }
+/// A day, what its beginning leaves of working time before an end, in seconds, and a later day from
+/// which on too little is left.
+#[derive(Clone, Copy)]
+struct Bracket {
+    day: u64,
+    left: u64,
+    too_late: u64,
+}
+
+// Two days around the last one whose beginning leaves as much working time before an end as is
+// wanted, near the end.
+fn bracket_near(closed: &[Day], wanted: u64, end: u64) -> Option<Bracket>
+    requires { IsTrue (is_day_list closed.now) }
+    ensures some { IfSome result (λ b. IsBracket closed.now wanted end b.day b.left b.too_late) }
+    ensures none { result ≡ None → office.work closed.now 0 end < wanted }
 {
     let last = end / DAY;
+    let mut too_late = last + 1;
     let mut back = 1;
     while back < last {
-        if work(closed, DAY * (last - back), end) >= wanted {
-            return last - back;
+        let day = last - back;
+        let left = work(closed, DAY * day, end);
+        if left >= wanted {
+            return Some(Bracket {
+                day,
+                left,
+                too_late,
+            });
         }
+        too_late = day;
         back *= 2;
     }
-    0
+    let left = work(closed, 0, end);
+    if left < wanted {
+        return None;
+    }
+    Some(Bracket {
+        day: 0,
+        left,
+        too_late,
+    })
 }
 
-// The last day whose beginning leaves as much working time before an end as is wanted.
-fn last_day_that_leaves(closed: &[Day], wanted: u64, end: u64) -> u64
-    requires sorted { IsTrue (is_day_list closed.now) }
-    requires enough { wanted ≤ office.work closed.now 0 end }
-    ensures within { result ≤ end / 86400 }
-    ensures leaves { wanted ≤ office.work closed.now (86400 * result) end }
-    ensures last { (later : ℕ) → result < later → later ≤ end / 86400
-        → office.work closed.now (86400 * later) end < wanted }
+// The last day whose beginning leaves as much working time before an end as is wanted, and the next.
+fn last_day_that_leaves(closed: &[Day], wanted: u64, end: u64) -> Option<Bracket>
+    requires { IsTrue (is_day_list closed.now) }
+    ensures some { IfSome result (λ b. IsBracket closed.now wanted end b.day b.left b.too_late) }
+    ensures next { IfSome result (λ b. b.too_late ≡ b.day + 1) }
+    ensures none { result ≡ None → office.work closed.now 0 end < wanted }
 {
-    let mut leaves = near_day_that_leaves(closed, wanted, end);
-    let mut too_late = end / DAY + 1;
-    while too_late - leaves > 1 {
-        let middle = leaves + (too_late - leaves) / 2;
-        if work(closed, DAY * middle, end) >= wanted {
-            leaves = middle;
+    let mut bracket = bracket_near(closed, wanted, end)?;
+    while bracket.too_late - bracket.day > 1 {
+        let day = bracket.day + (bracket.too_late - bracket.day) / 2;
+        let left = work(closed, DAY * day, end);
+        if left >= wanted {
+            bracket.day = day;
+            bracket.left = left;
         } else {
-            too_late = middle;
+            bracket.too_late = day;
         }
     }
-    leaves
+    Some(bracket)
 }
 
-/// The last second up to an end that leaves as much working time before the end as is wanted.
-pub fn latest_that_leaves(closed: &[Day], wanted: u64, end: u64) -> u64
-    requires sorted { IsTrue (is_day_list closed.now) }
-    requires enough { wanted ≤ office.work closed.now 0 end }
-    ensures within { result ≤ end }
-    ensures leaves { wanted ≤ office.work closed.now result end }
-    ensures latest { (later : ℕ) → result < later → later ≤ end
-        → office.work closed.now later end < wanted }
+/// The last second up to an end that leaves as much working time before the end as is wanted, or
+/// `None` where not even the first of all does.
+pub fn latest_that_leaves(closed: &[Day], wanted: u64, end: u64) -> Option<u64>
+    requires { IsTrue (is_day_list closed.now) }
+    ensures found { IfSome result (λ start. IsLatest closed.now wanted end start) }
+    ensures none { result ≡ None → office.work closed.now 0 end < wanted }
 {
     if wanted == 0 {
-        return end;
+        return Some(end);
     }
-    let begin = DAY * last_day_that_leaves(closed, wanted, end);
-    begin + (work(closed, begin, end) - wanted)
+    let last = last_day_that_leaves(closed, wanted, end)?;
+    Some(DAY * last.day + (last.left - wanted))
 }

@@ -117,7 +117,8 @@ pub(crate) fn presences_of(
     Ok(sessions)
 }
 
-/// The polls that a party demanded, in order of receipt.
+/// The polls that a party demanded, in order of receipt. In most meetings nobody demands one, and
+/// then nothing is looked up.
 pub(crate) fn demands_of(
     alloc: Global,
     demands: &Filed<DemandMark>,
@@ -125,6 +126,9 @@ pub(crate) fn demands_of(
 ) -> Result<Vec<DemandMark>, AllocError>
     ensures { IfOk result (λ found. found.items ≡ filter (is_demanded_by party) demands.now) }
 {
+    if demands.as_slice().is_empty() {
+        return Ok(Vec::new(alloc));
+    }
     demands.by_first(alloc, party)
 }
 

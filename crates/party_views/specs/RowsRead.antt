@@ -1,5 +1,5 @@
 -- What of a party's own things the answer to its request reads.
-use Rattle.std.specs.Prelude.{List, [], map, filter, Option, None, ◌==◌, if◌then◌else◌}
+use Rattle.std.specs.Prelude.{List, [], map, filter, Option, None, ◌==◌, if◌then◌else◌, Some}
 use Rattle.desk_words.specs.Names.{same_name}
 use Rattle.desk_words.specs.ViewTypes.{Number}
 use Rattle.vocabulary.specs.declared.kinds.Capacity.{Capacity}
@@ -160,12 +160,21 @@ rows_part (AsInstructed resolution) rows = record (no_rows_of rows.party) {
 abbrev pub rows_read : PartyRequest → OwnRows → OwnRows
 rows_read asked rows = rows_part (reads_of asked) rows
 
+-- the resolution on whose poll alone it is: that of a vote; else none is named
+abbrev pub resolution_read : Reads → Option Number
+resolution_read (Vote new) = Some new.resolution
+resolution_read (AsInstructed resolution) = Some resolution
+resolution_read other = None
+
+-- the polls on a resolution, or all where none is named
+abbrev pub polls_if_on : Option Number → List Poll → List Poll
+polls_if_on None polls = polls
+polls_if_on (Some resolution) polls = polls_on resolution polls
+
 -- the polls for which what appointments govern is read: of a vote that on its resolution, and else
 -- all
 abbrev pub polls_part : Reads → List Poll → List Poll
-polls_part (Vote new) polls = polls_on new.resolution polls
-polls_part (AsInstructed resolution) polls = polls_on resolution polls
-polls_part other polls = polls
+polls_part reads polls = polls_if_on (resolution_read reads) polls
 
 -- the polls for which the answer to a request reads what appointments govern
 abbrev pub polls_read : PartyRequest → List Poll → List Poll

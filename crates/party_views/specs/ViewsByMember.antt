@@ -1,6 +1,6 @@
 -- What is looked up by member and number while a party's own things are made. For private
 -- contracts.
-use Rattle.std.specs.Prelude.{◌≡◌, ◌<◌, ℕ, Bool, ◌&&◌, ◌==◌, List, length, map, option_and_then}
+use Rattle.std.specs.Prelude.{◌≡◌, ◌<◌, ℕ, Bool, ◌&&◌, ◌==◌, List, length, map, Option, Some, None, option_and_then}
 use Rattle.std.specs.BTreeMap.{BTreeMap, get}
 use Rattle.std.specs.List.{slice_get}
 use Rattle.std.specs.Ordering.{nat_cmp}
@@ -13,7 +13,7 @@ use Rattle.desk_words.specs.declared.own_things.SessionGoverned.{SessionGoverned
 use Rattle.desk_words.specs.declared.records.Appointment.{Appointment}
 use Rattle.desk_words.specs.declared.records.Meeting.{Meeting}
 use Rattle.desk_words.specs.declared.records.Poll.{Poll}
-use Rattle.proxy_rules.specs.Cutoffs.{cutoffs_of}
+use Rattle.proxy_rules.specs.Cutoffs.{cutoffs_of, is_late_poll}
 use Rattle.proxy_rules.specs.Uses.{Acts, Votes, Vote}
 use Rattle.proxy_rules.specs.declared.meeting_records.Cutoffs.{Cutoffs}
 use Rattle.party_views.specs.OwnViews.{governed_by, known_to_proxy, rows_by}
@@ -42,6 +42,12 @@ cutoffs_in_session meeting closed now number = record {
 -- both are the same cutoffs
 abbrev pub same_cutoffs : Cutoffs → Cutoffs → Bool
 same_cutoffs a b = a.appointments == b.appointments && a.endings == b.endings
+
+-- a poll is late, and on the resolution where one is named (section 327)
+abbrev pub is_asked_late : Option Number → List Day → Poll → Bool
+is_asked_late None closed poll = is_late_poll closed poll
+is_asked_late (Some resolution) closed poll =
+    poll.resolution == resolution && is_late_poll closed poll
 
 -- a late poll with the cutoffs for votes on it (section 327)
 abbrev pub late_of : Meeting → List Day → Moment → Poll → LatePoll

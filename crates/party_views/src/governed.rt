@@ -6,8 +6,9 @@ ghost use Rattle.std.specs.List.{slice_get};
 ghost use Rattle.std.specs.Option.{option_copied};
 ghost use Rattle.vocabulary.specs.Names.{name_cmp};
 ghost use Rattle.proxy_rules.specs.Cutoffs.{is_late_poll};
-ghost use Rattle.party_views.specs.ViewsByMember.{AreByMember, AreByMemberIfMany, late_in_rows, late_of, received_with, same_cutoffs, cutoffs_in_session, session_in_rows};
+ghost use Rattle.party_views.specs.ViewsByMember.{AreByMember, AreByMemberIfMany, is_asked_late, late_in_rows, late_of, received_with, same_cutoffs, cutoffs_in_session, session_in_rows};
 ghost use Rattle.party_views.specs.OwnViews.{governed_by, governed_in_holding, received_by, rows_by};
+ghost use Rattle.party_views.specs.RowsRead.{polls_if_on};
 ghost use Rattle.party_views.specs.SessionLists.{each_session};
 
 use crate::own_rows::MemberRows;
@@ -36,6 +37,26 @@ pub(crate) struct LatePoll {
     pub resolution: u64,
     /// Until when appointments and endings count for it.
     pub cutoffs: Cutoffs,
+}
+
+/// The polls for which what appointments govern is worked out: all of a meeting, or, where a
+/// resolution is named, that on it.
+#[derive(Clone, Copy)]
+pub(crate) struct PollsAsked<'a> {
+    pub all: &'a [Poll],
+    pub on: Option<u64>,
+}
+
+impl PollsAsked<'_> {
+    /// Whether a poll is late, and on the resolution where one is named.
+    fn has_late(&self, closed: &Closed, poll: &Poll) -> bool
+        ensures { result ≡ is_asked_late self.now.on closed.now poll.now }
+    {
+        match self.on {
+            Some(resolution) if poll.resolution != resolution => false,
+            _ => is_late_poll(closed, poll),
+        }
+    }
 }
 
 /// Of up to so many members the rows are looked through.
@@ -124,15 +145,16 @@ fn late_polls(
     alloc: Global,
     meeting: &Meeting,
     closed: &Closed,
-    polls: &[Poll],
+    polls: &PollsAsked,
     now: Moment,
 ) -> Result<Vec<LatePoll>, AllocError>
     ensures { IfOk result (λ late. late.items
-        ≡ map (late_of meeting.now closed.now now) (filter (is_late_poll closed.now) polls.now)) }
+        ≡ map (late_of meeting.now closed.now now)
+        (filter (is_late_poll closed.now) (polls_if_on polls.now.on polls.now.all.now))) }
 {
     let mut late = Vec::new(alloc);
-    for poll in polls {
-        if is_late_poll(closed, poll) {
+    for poll in polls.all {
+        if polls.has_late(closed, poll) {
             late.push(LatePoll {
                 resolution: poll.resolution,
                 cutoffs: cutoffs(meeting, Use::Vote(poll), closed, now),
@@ -337,11 +359,12 @@ pub(crate) fn received_from(
     members: &[MemberRows],
     closed: &Closed,
     meeting: &Meeting,
-    polls: &[Poll],
+    polls: &PollsAsked,
     now: Moment,
 ) -> Result<Listing<Received>, AllocError>
     ensures { IfOk result (λ all. all
-        ≡ map (received_by members.now closed.now meeting.now polls.now now) received) }
+        ≡ map (received_by members.now closed.now meeting.now
+        (polls_if_on polls.now.on polls.now.all.now) now) received) }
 {
     if received.is_empty() {
         return Ok(Listing::new(alloc));

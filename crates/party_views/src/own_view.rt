@@ -2,17 +2,17 @@
 ghost use Rattle.std.specs.Prelude.{◌≡◌, IfOk};
 ghost use Rattle.desk_words.specs.declared.office.MeetingLists.{MeetingLists};
 ghost use Rattle.party_views.specs.OwnViews.{nothing_of, own_by, own_from};
-ghost use Rattle.party_views.specs.RowsRead.{own_read, polls_on, polls_read, rows_read};
+ghost use Rattle.party_views.specs.RowsRead.{own_read, polls_if_on, reads_of, resolution_read, rows_read};
 ghost use Rattle.party_views.specs.PartyRows.{rows_of};
 ghost use Rattle.party_views.specs.Views.{own_in, public_in};
 ghost use Rattle.party_views.specs.declared.own_rows.OwnRows.{OwnRows};
 
 use crate::given::{authorised_from, given_from};
-use crate::governed::received_from;
+use crate::governed::{PollsAsked, received_from};
 use crate::own_rows::OwnRows;
 use crate::reads::{Reads, reads_of};
 use crate::views::{OwnView, PublicRecord};
-use desk_words::{Listing, Meeting, Moment, Party, PartyRequest, Poll};
+use desk_words::{Listing, Meeting, Moment, Party, PartyRequest};
 use office_days::Closed;
 use std::alloc::{AllocError, Global};
 
@@ -40,10 +40,11 @@ fn own_by(
     rows: OwnRows,
     closed: &Closed,
     meeting: &Meeting,
-    polls: &[Poll],
+    polls: &PollsAsked,
     now: Moment,
 ) -> Result<OwnView, AllocError>
-    ensures { IfOk result (λ own. own ≡ own_by rows closed.now meeting.now polls.now now) }
+    ensures { IfOk result (λ own. own
+        ≡ own_by rows closed.now meeting.now (polls_if_on polls.now.on polls.now.all.now) now) }
 {
     let OwnRows {
         party,
@@ -94,62 +95,25 @@ pub fn own_from(
 {
     match public.meeting {
         Some(meeting) => {
-            let polls = public.polls;
-            own_by(alloc, rows, public.closed, meeting, polls, now)
+            let polls = PollsAsked {
+                all: public.polls,
+                on: None,
+            };
+            own_by(alloc, rows, public.closed, meeting, &polls, now)
         }
         None => Ok(nothing_of(alloc, rows.party)),
     }
 }
 
-/// The poll on a resolution, as a list.
-fn polls_on(alloc: Global, polls: &[Poll], resolution: u64) -> Result<Vec<Poll>, AllocError>
-    ensures { IfOk result (λ on. on.items ≡ polls_on resolution polls.now) }
-{
-    polls
-        .iter()
-        .copied()
-        .filter(|poll| poll.resolution == resolution)
-        .collect(alloc)
-}
-
-/// The own things, with what appointments govern for the poll on a resolution alone.
-fn own_on(
-    alloc: Global,
-    rows: OwnRows,
-    public: &PublicRecord,
-    meeting: &Meeting,
-    now: Moment,
-    resolution: u64,
-) -> Result<OwnView, AllocError>
-    ensures { IfOk result (λ own. own
-        ≡ own_by rows public.now.closed meeting.now
-        (polls_on resolution public.now.polls) now) }
-{
-    let polls = polls_on(alloc, public.polls, resolution)?;
-    own_by(alloc, rows, public.closed, meeting, polls.as_slice(), now)
-}
-
-/// The own things of a party, by the polls for which the answer to a request reads them.
-#[inline(always)]
-fn own_asked(
-    alloc: Global,
-    rows: OwnRows,
-    public: &PublicRecord,
-    meeting: &Meeting,
-    now: Moment,
-    asked: &PartyRequest,
-) -> Result<OwnView, AllocError>
-    ensures { IfOk result (λ own. own
-        ≡ own_by rows public.now.closed meeting.now
-        (polls_read asked.now public.now.polls) now) }
+/// The resolution for whose poll alone the answer to a request reads what appointments govern, if
+/// there is one.
+fn resolution_read(asked: &PartyRequest) -> Option<u64>
+    ensures { result ≡ resolution_read (reads_of asked.now) }
 {
     match reads_of(asked) {
-        Reads::Vote(new) => own_on(alloc, rows, public, meeting, now, new.resolution),
-        Reads::AsInstructed(number) => own_on(alloc, rows, public, meeting, now, number),
-        _ => {
-            let polls = public.polls;
-            own_by(alloc, rows, public.closed, meeting, polls, now)
-        }
+        Reads::Vote(new) => Some(new.resolution),
+        Reads::AsInstructed(resolution) => Some(resolution),
+        _ => None,
     }
 }
 
@@ -168,7 +132,13 @@ pub fn own_for(
         → own ≡ own_read asked.now (own_from all public.now now)) }
 {
     match public.meeting {
-        Some(meeting) => own_asked(alloc, rows, public, meeting, now, asked),
+        Some(meeting) => {
+            let polls = PollsAsked {
+                all: public.polls,
+                on: resolution_read(asked),
+            };
+            own_by(alloc, rows, public.closed, meeting, &polls, now)
+        }
         None => Ok(nothing_of(alloc, rows.party)),
     }
 }

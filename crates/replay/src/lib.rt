@@ -5,6 +5,5 @@ pub mod laws;
 mod line;
 mod script;
 
-pub use json_requests::Scratch;
-pub use line::call_of;
+pub use line::{Scratch, call_of};
 pub use script::{ReplayFault, replay, replay_on};

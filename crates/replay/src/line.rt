@@ -1,17 +1,85 @@
 //! Lines of a replay.
-ghost use Rattle.std.specs.Prelude.{◌≡◌, option_map};
+ghost use Rattle.std.specs.Prelude.{◌≡◌, ◌<◌, IfSome, length, option_map, position};
+ghost use Rattle.calendar.specs.DateTexts.{moment_of};
 ghost use Rattle.vocabulary.specs.Identity.{id};
 ghost use Rattle.json_requests.specs.RefusalResults.{AskAgrees};
-ghost use Rattle.replay.specs.ReplayLines.{at_first_space, parts_of, parsed_call, text_in};
+ghost use Rattle.replay.specs.ReplayLines.{at_first_space, is_space, parts_of, parsed_call, text_in};
 ghost use Rattle.replay.specs.PartsView.{parts_view, text_view};
 
-use desk_words::{Call, Refusal, read_caller, read_moment};
-use json_requests::{Ask, Scratch, request_of};
+use desk_words::{Call, Moment, Refusal, read_caller, read_moment, write_moment};
+use json_requests::{Ask, Scratch as BodyScratch, request_of};
 use std::alloc::Global;
+use std::marker::Model;
 
 const UNREADABLE: Ask = Ask::Refused(Refusal::Unreadable);
 
 const KEY: Ask = Ask::Refused(Refusal::Key);
+
+/// A moment, which contracts see, and its text.
+#[derive(Drop)]
+struct SpelledMoment {
+    moment: Moment,
+    text: [u8; 19],
+}
+
+impl Model for SpelledMoment {
+    ghost use Rattle.std.specs.Prelude.{◌≡◌, ℕ, Some};
+    ghost use Rattle.calendar.specs.DateTexts.{moment_of};
+
+    ghost Value = { ℕ };
+
+    ghost view = { λ s. s.moment };
+
+    ghost invariant = { λ s. moment_of s.text ≡ Some s.moment };
+}
+
+impl SpelledMoment {
+    /// The first moment of all.
+    fn first() -> SpelledMoment {
+        let moment = Moment::first();
+        SpelledMoment {
+            moment,
+            text: write_moment(moment),
+        }
+    }
+
+    /// The moment of a text. Where it is this one's, it is not read again.
+    fn read(&mut self, text: &[u8]) -> Option<Moment>
+        ensures { result ≡ moment_of text.now }
+    {
+        if text == self.text.as_slice() {
+            return Some(self.moment);
+        }
+        let moment = read_moment(text)?;
+        if text.len() == 19 {
+            let mut letters = [0; 19];
+            letters.copy_from_slice(text);
+            *self = SpelledMoment {
+                moment,
+                text: letters,
+            };
+        }
+        Some(moment)
+    }
+}
+
+/// What is kept from one line to the next: the room that the reading of bodies needs, and the last
+/// moment, which most lines share with the line before.
+#[derive(Drop)]
+pub struct Scratch {
+    body: BodyScratch,
+    last: SpelledMoment,
+}
+
+impl Scratch {
+    /// No room yet.
+    pub fn new(alloc: Global) -> Scratch {
+        Scratch {
+            body: BodyScratch::new(alloc),
+            last: SpelledMoment::first(),
+        }
+    }
+}
 
 /// The parts of a line.
 #[derive(Clone, Copy)]
@@ -23,11 +91,20 @@ pub struct Parts<'a> {
     body: &'a str,
 }
 
+/// The place of the first space.
+fn first_space(text: &str) -> Option<usize>
+    ensures first { result ≡ position is_space text.now }
+    ensures bound { IfSome result (λ place. place < length text.now) }
+{
+    text.as_bytes().iter().position(|byte| *byte == b' ')
+}
+
 /// What stands before the first space, and what stands after it.
 fn parted(text: &str) -> Option<(&str, &str)>
     ensures { option_map (λ x. (x.0.now, x.1.now)) result ≡ at_first_space text.now }
 {
-    text.split_once(' ')
+    let space = first_space(text)?;
+    Some((&text[..space], &text[space + 1..]))
 }
 
 /// The parts of a line, at its first four spaces.
@@ -64,21 +141,24 @@ fn text_of(bytes: &[u8]) -> Result<&str, Ask>
 /// The call that a line asks: a moment, a caller, a meeting, a verb and a body, parted at its first
 /// four spaces; with three alone the body is empty. It is refused as `Unreadable` where it is no
 /// UTF-8, has fewer parts or no moment, then as `Key` where the caller is neither the office nor a
-/// party, and then as its request is. `Memory` is answered only where an allocation was refused. The
-/// room that reading needs is kept in `scratch`, from one line to the next.
+/// party, and then as its request is. `Memory` is answered only where an allocation was refused. What
+/// `scratch` keeps from one line to the next tells nothing.
 #[tactic(auto, unfolding(crate::specs::ReplayLines::parsed_call))]
 pub fn call_of(alloc: Global, scratch: &mut Scratch, line: &[u8]) -> Result<Call, Ask>
     ensures { AskAgrees id result (parsed_call line.now) }
 {
     let text = text_of(line)?;
     let parts = parts_of(text)?;
-    let moment = read_moment(parts.moment.as_bytes()).ok_or(UNREADABLE)?;
+    let moment = scratch
+        .last
+        .read(parts.moment.as_bytes())
+        .ok_or(UNREADABLE)?;
     let caller = read_caller(parts.caller.as_bytes()).ok_or(KEY)?;
     let request = request_of(
         alloc,
-        scratch,
+        &mut scratch.body,
         parts.meeting.as_bytes(),
-        parts.verb.as_bytes(),
+        parts.verb,
         parts.body,
     )?;
     Ok(Call {

@@ -16,12 +16,12 @@ ghost use Rattle.replay.specs.ReplayRuns.{as_line};
 ghost use Rattle.replay.specs.Transcript.{text_or_failure, AreAnswered, AreAnsweredOn, IsReplayedUntil, IsReplayedUntilOn, OfOpenOffice};
 ghost use Rattle.replay.specs.ReplaySteps.{replay_state, AnswersLine, Turns, Stops, HasEndedFor};
 
-use crate::line::call_of;
+use crate::line::{Scratch, call_of};
 use any_office::Office;
 use byte_io::{DeviceError, Sink, Source, write_all};
 use desk_words::{Failure, Refusal, Reply};
 use json_replies::reply_text_in;
-use json_requests::{Ask, Scratch};
+use json_requests::Ask;
 use line_reader::{LineReader, NextLine, ReadFault};
 use meeting_core::Book;
 use std::alloc::{AllocError, Global};
@@ -62,7 +62,7 @@ impl From<DeviceError> for ReplayFault {
 #[derive(Drop)]
 struct Rooms {
     alloc: Global,
-    /// For the reading of a body.
+    /// For the reading of a line.
     scratch: Scratch,
     /// For the text of an answer.
     text: Vec<u8>,

@@ -30,7 +30,10 @@ made_more make xs i x made after y h is so_far new put =
 
 -- the rows are what it may act by, and the rest
 pub rows_are : (found : Option MeetingLists) (party : Party)
-    → record (acting_for found party) {
+    → record (no_rows_of party) {
+      received = (acting_for found party).received;
+      members = (acting_for found party).members;
+      authorised = (acting_for found party).authorised;
       row = (own_marks found party).row;
       presences = (own_marks found party).presences;
       demands = (own_marks found party).demands;
@@ -59,7 +62,10 @@ standing_alone (Some m) party individual = λ i. record (rows_part reads.Standin
 
 -- of any other it is asked what others gave it
 pub standing_are : (found : Option MeetingLists) (party : Party) → holds_as_individual (row_of (register_in found) party) ≡ false
-    → record (acting_for found party) {
+    → record (no_rows_of party) {
+      received = (acting_for found party).received;
+      members = (acting_for found party).members;
+      authorised = (acting_for found party).authorised;
       row = (own_marks found party).row;
       presences = (own_marks found party).presences;
       demands = (own_marks found party).demands;

@@ -19,6 +19,7 @@ use Rattle.party_views.specs.declared.own_rows.AuthorityRows.{AuthorityRows}
 use Rattle.party_views.specs.declared.own_rows.MemberRows.{MemberRows}
 use Rattle.party_views.specs.declared.own_rows.OwnRows.{OwnRows}
 use Rattle.row_source.specs.declared.members.ReceivedRows.{ReceivedRows}
+use Rattle.row_source.specs.declared.needed_rows.ActingRows.{ActingRows}
 use Rattle.row_source.specs.declared.needed_rows.OwnMarks.{OwnMarks}
 
 -- a list of a meeting that is found
@@ -105,8 +106,8 @@ authority_at found a = record { authority = a; row = row_of (register_in found) 
 
 -- what others gave a party to act by: the appointments that name it, with the members who gave
 -- them, and the authorities (sections 323 and 324)
-abbrev pub acting_for : Option MeetingLists → Party → OwnRows
-acting_for found party = record (no_rows_of party) {
+abbrev pub acting_for : Option MeetingLists → Party → ActingRows
+acting_for found party = record {
   received = naming_in found party;
   members = (with_members found (naming_in found party)).members;
   authorised = map (authority_at found) (trusting_in found party);

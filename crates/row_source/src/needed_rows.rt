@@ -10,8 +10,8 @@ ghost use Rattle.row_source.specs.TrueLookUps.{IsTrueLookUp};
 
 use crate::members::{authorised, named};
 use crate::source::RowSource;
-use desk_words::{Capacity, DemandMark, Listing, NewCast, Party, RegisterRow};
-use party_views::{OwnRows, Reads, holds_as_individual};
+use desk_words::{Appointment, Capacity, DemandMark, Listing, NewCast, Party, RegisterRow};
+use party_views::{AuthorityRows, MemberRows, OwnRows, Reads, holds_as_individual};
 use std::alloc::Global;
 
 /// The rows of a party where there is no meeting.
@@ -42,22 +42,29 @@ struct OwnMarks {
     demands: Listing<DemandMark>,
 }
 
+/// What others gave a party to act by: appointments, with the members who gave them, and authorities.
+#[derive(Drop)]
+struct ActingRows {
+    received: Listing<Appointment>,
+    members: Listing<MemberRows>,
+    authorised: Listing<AuthorityRows>,
+}
+
 /// What others gave a party to act by.
 fn acting_for<R: RowSource>(
     source: &mut R,
     alloc: Global,
     party: Party,
-) -> Result<OwnRows, R::Error>
+) -> Result<ActingRows, R::Error>
     ensures { IsTrueLookUp R.trusted R.shows R.keeps R.leaves R.may_fail source.old source.new result
-        (λ found rows. rows ≡ acting_for found party) }
+        (λ found acting. acting ≡ acting_for found party) }
 {
     let named = named(source, alloc, None, party)?;
     let authorised = authorised(source, alloc, None, party)?;
-    Ok(OwnRows {
+    Ok(ActingRows {
         received: named.received,
         members: named.members,
         authorised,
-        ..no_rows_of(alloc, party)
     })
 }
 
@@ -98,12 +105,19 @@ fn standing_of<R: RowSource>(
             ..no_rows_of(alloc, party)
         });
     }
-    let acting = acting_for(source, alloc, party)?;
+    let ActingRows {
+        received,
+        members,
+        authorised,
+    } = acting_for(source, alloc, party)?;
     Ok(OwnRows {
         row,
+        received,
+        members,
+        authorised,
         presences,
         demands,
-        ..acting
+        ..no_rows_of(alloc, party)
     })
 }
 
@@ -116,22 +130,29 @@ fn rows_of<R: RowSource>(source: &mut R, alloc: Global, party: Party) -> Result<
     let ended = source.ended_by(party)?;
     let persons = source.persons_of(party)?;
     let casts = source.casts_of(party)?;
-    let acting = acting_for(source, alloc, party)?;
+    let ActingRows {
+        received,
+        members,
+        authorised,
+    } = acting_for(source, alloc, party)?;
     let OwnMarks {
         row,
         presences,
         demands,
     } = own_marks(source, party)?;
     Ok(OwnRows {
+        party,
         row,
         given_count: given.len() as u64,
         given,
         ended,
         persons,
+        received,
+        members,
+        authorised,
         presences,
         demands,
         casts,
-        ..acting
     })
 }
 

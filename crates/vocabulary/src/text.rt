@@ -7,25 +7,28 @@ ghost use Rattle.vocabulary.specs.declared.text.TextFault.TheVariants.{Form, Mem
 
 use std::alloc::{AllocError, Global};
 use std::marker::Model;
+use std::sync::ArcStr;
 
 /// The most bytes of a text.
 pub const LONGEST_TEXT: usize = 200;
 
-/// A text of 1 to `LONGEST_TEXT` bytes of UTF-8, with no byte below 32 and no byte 127.
+/// A text of 1 to `LONGEST_TEXT` bytes of UTF-8, with no byte below 32 and no byte 127. Its clones
+/// share its letters, so a clone takes no memory of its own.
 #[derive(Clone, Drop)]
 pub struct Text {
-    text: String,
+    text: ArcStr,
 }
 
 impl Model for Text {
-    ghost use Rattle.std.specs.Prelude.{ℕ, List, string_bytes};
+    ghost use Rattle.std.specs.Prelude.{ℕ, List};
+    ghost use Rattle.std.specs.Arc.{arc_str_bytes};
     ghost use Rattle.vocabulary.specs.PlainTexts.{IsText};
 
     ghost Value = { List ℕ };
 
-    ghost view = { λ t. string_bytes t.text };
+    ghost view = { λ t. arc_str_bytes t.text };
 
-    ghost invariant = { λ t. IsText (string_bytes t.text) };
+    ghost invariant = { λ t. IsText (arc_str_bytes t.text) };
 }
 
 /// Why no text was made.
@@ -77,7 +80,7 @@ impl Text {
             return Err(TextFault::Form);
         }
         Ok(Text {
-            text: String::from_str(alloc, text)?,
+            text: ArcStr::from_str(alloc, text)?,
         })
     }
 

@@ -1,9 +1,9 @@
 use Rattle.std.proofs.Common.{◌-◌}
-use Rattle.office_days.proofs.WorkLemmas.{IsBracket}
+use Rattle.office_days.specs.DaySearch.{IsBracket}
 use Rattle.office_days.proofs.working.last_day_that_leaves.Given as goal
 
-abbrev pub invariant-loop-too_late : goal.invariant-loop-too_late
-invariant-loop-too_late l = IsBracket l.closed l.wanted l.end l.leaves l.too_late
+abbrev pub invariant-loop-bracket : goal.invariant-loop-bracket
+invariant-loop-bracket l = IsBracket l.closed l.wanted l.end l.bracket.day l.bracket.left l.bracket.too_late
 
-abbrev pub decreases-loop-too_late : goal.decreases-loop-too_late
-decreases-loop-too_late l = l.too_late - l.leaves
+abbrev pub decreases-loop-bracket : goal.decreases-loop-bracket
+decreases-loop-bracket l = l.bracket.too_late - l.bracket.day

@@ -1,6 +1,7 @@
 use Rattle.std.proofs.Common.{ap, ◌∙◌}
 use Rattle.std.specs.Prelude.{List, map}
 use Rattle.desk_words.specs.declared.records.Appointment.{Appointment}
+use Rattle.party_views.specs.RowsRead.{polls_if_on}
 use Rattle.party_views.specs.ViewsByMember.{received_with}
 use Rattle.party_views.proofs.ViewKeptLemmas.{received-alike}
 use Rattle.party_views.proofs.governed.received_from.Goals as goal
@@ -13,4 +14,4 @@ returns c =
     c.from_vec.ensures
     ∙ c.in_ok-all.ensures
     ∙ ap (λ (received : List Appointment). map (received_with a.members.now c.as_slice.result.now c.as_slice-2.result.now) received) c.into_vec.ensures
-    ∙ received-alike a.members.now a.closed.now a.meeting.now a.polls.now a.now c.as_slice.result.now c.as_slice-2.result.now a.received sessions late
+    ∙ received-alike a.members.now a.closed.now a.meeting.now (polls_if_on a.polls.now.on a.polls.now.all.now) a.now c.as_slice.result.now c.as_slice-2.result.now a.received sessions late

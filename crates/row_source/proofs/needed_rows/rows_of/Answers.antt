@@ -1,4 +1,5 @@
 use Rattle.std.proofs.Common.{◌≡◌, Err, ap, length, rules, ◌∙◌}
+use Rattle.party_views.specs.PartyRows.{no_rows_of}
 use Rattle.row_source.proofs.SourceRowLemmas.{rows_are}
 use Rattle.row_source.proofs.SourceLookUpLemmas.{handed_on, holds_after, holds_both, holds_so}
 use Rattle.row_source.proofs.needed_rows.rows_of.Goals as goal
@@ -24,25 +25,28 @@ returns-in_err-casts g c =
     holds_after _ _ _ _ _ w.still_shows w.was_trusted w.keeps_then w.leaves_then _ _ _ c.in_ok-persons.persons c.in_err-casts.field-0.0 _ _ _ _ is
     (holds_both _ _ _ _ _ w.still_shows w.was_trusted w.keeps_then w.leaves_then _ _ _ c.in_ok-ended.ended c.in_ok-persons.persons _ _ (holds_both _ _ _ _ _ w.still_shows w.was_trusted w.keeps_then w.leaves_then _ _ _ c.in_ok-given.given c.in_ok-ended.ended _ _ c.in_ok-given.ensures c.in_ok-ended.ensures) c.in_ok-persons.ensures) c.in_err-casts.ensures
 
-pub returns-in_err-acting : goal.returns-in_err-acting
-returns-in_err-acting g c =
+pub returns-in_err-received : goal.returns-in_err-received
+returns-in_err-received g c =
     let w = g.met.R.RowSource in
-    let is : c.from_residual-in_err-acting.result ≡ Err c.in_err-acting.field-0.0 = search rules in
-    holds_after _ _ _ _ _ w.still_shows w.was_trusted w.keeps_then w.leaves_then _ _ _ c.in_ok-casts.casts c.in_err-acting.field-0.0 _ _ _ _ is
-    (holds_both _ _ _ _ _ w.still_shows w.was_trusted w.keeps_then w.leaves_then _ _ _ c.in_ok-persons.persons c.in_ok-casts.casts _ _ (holds_both _ _ _ _ _ w.still_shows w.was_trusted w.keeps_then w.leaves_then _ _ _ c.in_ok-ended.ended c.in_ok-persons.persons _ _ (holds_both _ _ _ _ _ w.still_shows w.was_trusted w.keeps_then w.leaves_then _ _ _ c.in_ok-given.given c.in_ok-ended.ended _ _ c.in_ok-given.ensures c.in_ok-ended.ensures) c.in_ok-persons.ensures) c.in_ok-casts.ensures) c.in_err-acting.ensures
+    let is : c.from_residual-in_err-received.result ≡ Err c.in_err-received.field-0.0 = search rules in
+    holds_after _ _ _ _ _ w.still_shows w.was_trusted w.keeps_then w.leaves_then _ _ _ c.in_ok-casts.casts c.in_err-received.field-0.0 _ _ _ _ is
+    (holds_both _ _ _ _ _ w.still_shows w.was_trusted w.keeps_then w.leaves_then _ _ _ c.in_ok-persons.persons c.in_ok-casts.casts _ _ (holds_both _ _ _ _ _ w.still_shows w.was_trusted w.keeps_then w.leaves_then _ _ _ c.in_ok-ended.ended c.in_ok-persons.persons _ _ (holds_both _ _ _ _ _ w.still_shows w.was_trusted w.keeps_then w.leaves_then _ _ _ c.in_ok-given.given c.in_ok-ended.ended _ _ c.in_ok-given.ensures c.in_ok-ended.ensures) c.in_ok-persons.ensures) c.in_ok-casts.ensures) c.in_err-received.ensures
 
 pub returns-in_err-row : goal.returns-in_err-row
 returns-in_err-row g c =
     let w = g.met.R.RowSource in
     let is : c.from_residual-in_err-row.result ≡ Err c.in_err-row.field-0.0 = handed_on c.from_residual-in_err-row.result c.in_err-row.field-0.0 c.from_residual-in_err-row.ensures.1 in
-    holds_after _ _ _ _ _ w.still_shows w.was_trusted w.keeps_then w.leaves_then _ _ _ c.in_ok-acting.acting c.in_err-row.field-0.0 _ _ _ _ is
-    (holds_both _ _ _ _ _ w.still_shows w.was_trusted w.keeps_then w.leaves_then _ _ _ c.in_ok-casts.casts c.in_ok-acting.acting _ _ (holds_both _ _ _ _ _ w.still_shows w.was_trusted w.keeps_then w.leaves_then _ _ _ c.in_ok-persons.persons c.in_ok-casts.casts _ _ (holds_both _ _ _ _ _ w.still_shows w.was_trusted w.keeps_then w.leaves_then _ _ _ c.in_ok-ended.ended c.in_ok-persons.persons _ _ (holds_both _ _ _ _ _ w.still_shows w.was_trusted w.keeps_then w.leaves_then _ _ _ c.in_ok-given.given c.in_ok-ended.ended _ _ c.in_ok-given.ensures c.in_ok-ended.ensures) c.in_ok-persons.ensures) c.in_ok-casts.ensures) c.in_ok-acting.ensures) c.in_err-row.ensures
+    holds_after _ _ _ _ _ w.still_shows w.was_trusted w.keeps_then w.leaves_then _ _ _ c.in_ok-received.field-0 c.in_err-row.field-0.0 _ _ _ _ is
+    (holds_both _ _ _ _ _ w.still_shows w.was_trusted w.keeps_then w.leaves_then _ _ _ c.in_ok-casts.casts c.in_ok-received.field-0 _ _ (holds_both _ _ _ _ _ w.still_shows w.was_trusted w.keeps_then w.leaves_then _ _ _ c.in_ok-persons.persons c.in_ok-casts.casts _ _ (holds_both _ _ _ _ _ w.still_shows w.was_trusted w.keeps_then w.leaves_then _ _ _ c.in_ok-ended.ended c.in_ok-persons.persons _ _ (holds_both _ _ _ _ _ w.still_shows w.was_trusted w.keeps_then w.leaves_then _ _ _ c.in_ok-given.given c.in_ok-ended.ended _ _ c.in_ok-given.ensures c.in_ok-ended.ensures) c.in_ok-persons.ensures) c.in_ok-casts.ensures) c.in_ok-received.ensures) c.in_err-row.ensures
 
 pub returns : goal.returns
 returns g c =
     let w = g.met.R.RowSource in
-    holds_so _ _ _ _ _ _ _ c.in_ok-row.field-0 _ _ _ (holds_both _ _ _ _ _ w.still_shows w.was_trusted w.keeps_then w.leaves_then _ _ _ c.in_ok-acting.acting c.in_ok-row.field-0 _ _ (holds_both _ _ _ _ _ w.still_shows w.was_trusted w.keeps_then w.leaves_then _ _ _ c.in_ok-casts.casts c.in_ok-acting.acting _ _ (holds_both _ _ _ _ _ w.still_shows w.was_trusted w.keeps_then w.leaves_then _ _ _ c.in_ok-persons.persons c.in_ok-casts.casts _ _ (holds_both _ _ _ _ _ w.still_shows w.was_trusted w.keeps_then w.leaves_then _ _ _ c.in_ok-ended.ended c.in_ok-persons.persons _ _ (holds_both _ _ _ _ _ w.still_shows w.was_trusted w.keeps_then w.leaves_then _ _ _ c.in_ok-given.given c.in_ok-ended.ended _ _ c.in_ok-given.ensures c.in_ok-ended.ensures) c.in_ok-persons.ensures) c.in_ok-casts.ensures) c.in_ok-acting.ensures) c.in_ok-row.ensures)
-    (λ found p. (λ i. record (p.0.1 i) {
+    holds_so _ _ _ _ _ _ _ c.in_ok-row.field-0 _ _ _ (holds_both _ _ _ _ _ w.still_shows w.was_trusted w.keeps_then w.leaves_then _ _ _ c.in_ok-received.field-0 c.in_ok-row.field-0 _ _ (holds_both _ _ _ _ _ w.still_shows w.was_trusted w.keeps_then w.leaves_then _ _ _ c.in_ok-casts.casts c.in_ok-received.field-0 _ _ (holds_both _ _ _ _ _ w.still_shows w.was_trusted w.keeps_then w.leaves_then _ _ _ c.in_ok-persons.persons c.in_ok-casts.casts _ _ (holds_both _ _ _ _ _ w.still_shows w.was_trusted w.keeps_then w.leaves_then _ _ _ c.in_ok-ended.ended c.in_ok-persons.persons _ _ (holds_both _ _ _ _ _ w.still_shows w.was_trusted w.keeps_then w.leaves_then _ _ _ c.in_ok-given.given c.in_ok-ended.ended _ _ c.in_ok-given.ensures c.in_ok-ended.ensures) c.in_ok-persons.ensures) c.in_ok-casts.ensures) c.in_ok-received.ensures) c.in_ok-row.ensures)
+    (λ found p. (λ i. record (no_rows_of c.args.party) {
+      received = (p.0.1 i).received;
+      members = (p.0.1 i).members;
+      authorised = (p.0.1 i).authorised;
       row = (p.1 i).row;
       presences = (p.1 i).presences;
       demands = (p.1 i).demands;

@@ -14,16 +14,16 @@ returns-then-holds_as_individual g c =
     (λ found p. (λ i. record (c.no_rows_of.ensures i) { row = (p i).row; presences = (p i).presences; demands = (p i).demands })
     ∙ standing_alone found c.args.party (sym (ap individual p) ∙ sym c.holds_as_individual.ensures ∙ c.if-holds_as_individual.true))
 
-pub returns-in_err-acting : goal.returns-in_err-acting
-returns-in_err-acting g c =
+pub returns-in_err-received : goal.returns-in_err-received
+returns-in_err-received g c =
     let w = g.met.R.RowSource in
-    let is : c.from_residual-in_err-acting.result ≡ Err c.in_err-acting.field-0.0 = handed_on c.from_residual-in_err-acting.result c.in_err-acting.field-0.0 c.from_residual-in_err-acting.ensures.1 in
-    holds_after _ _ _ _ _ w.still_shows w.was_trusted w.keeps_then w.leaves_then _ _ _ c.in_ok-row.field-0 c.in_err-acting.field-0.0 _ _ _ _ is
-    c.in_ok-row.ensures c.in_err-acting.ensures
+    let is : c.from_residual-in_err-received.result ≡ Err c.in_err-received.field-0.0 = handed_on c.from_residual-in_err-received.result c.in_err-received.field-0.0 c.from_residual-in_err-received.ensures.1 in
+    holds_after _ _ _ _ _ w.still_shows w.was_trusted w.keeps_then w.leaves_then _ _ _ c.in_ok-row.field-0 c.in_err-received.field-0.0 _ _ _ _ is
+    c.in_ok-row.ensures c.in_err-received.ensures
 
 pub returns : goal.returns
 returns g c =
     let w = g.met.R.RowSource in
-    holds_so _ _ _ _ _ _ _ c.in_ok-acting.acting _ _ _ (holds_both _ _ _ _ _ w.still_shows w.was_trusted w.keeps_then w.leaves_then _ _ _ c.in_ok-row.field-0 c.in_ok-acting.acting _ _ c.in_ok-row.ensures c.in_ok-acting.ensures)
-    (λ found p. (λ i. record (p.1 i) { row = (p.0 i).row; presences = (p.0 i).presences; demands = (p.0 i).demands })
+    holds_so _ _ _ _ _ _ _ c.in_ok-received.field-0 _ _ _ (holds_both _ _ _ _ _ w.still_shows w.was_trusted w.keeps_then w.leaves_then _ _ _ c.in_ok-row.field-0 c.in_ok-received.field-0 _ _ c.in_ok-row.ensures c.in_ok-received.ensures)
+    (λ found p. (λ i. record (c.no_rows_of-2.ensures i) { received = (p.1 i).received; members = (p.1 i).members; authorised = (p.1 i).authorised; row = (p.0 i).row; presences = (p.0 i).presences; demands = (p.0 i).demands })
     ∙ standing_are found c.args.party (sym (ap individual p.0) ∙ sym c.holds_as_individual.ensures ∙ c.if-holds_as_individual.false))

@@ -2,7 +2,7 @@ use Rattle.std.proofs.Common.{ap, sym, ◌∙◌}
 use Rattle.std.proofs.lemmas.Result.{IfOk-weaker}
 use Rattle.desk_words.specs.declared.answer.Answer.{Answer}
 use Rattle.desk_words.specs.declared.change.Change.{Change}
-use Rattle.desk_words.specs.Rulings.{ruled_answer, map_change}
+use Rattle.desk_words.specs.Rulings.{ruled_answer}
 use Rattle.desk_words.specs.declared.change.Change.TheVariants.{InMeeting}
 use Rattle.desk_words.specs.declared.change.Entry.{Entry}
 use Rattle.desk_words.specs.declared.change.MeetingChange.TheVariants.{Enter}
@@ -15,14 +15,13 @@ use Rattle.meeting_core.specs.Step.{ruling}
 use Rattle.meeting_core.proofs.RulingLemmas.{settled_within}
 use Rattle.meeting_core.proofs.book.Book.answer_to.Goals as goal
 
-pub returns-in_ok-answer-in-Office-request-clause-answer : goal.returns-in_ok-answer-in-Office-request-clause-answer
-returns-in_ok-answer-in-Office-request-clause-answer c =
+pub returns-in-Office-request-clause-answer : goal.returns-in-Office-request-clause-answer
+returns-in-Office-request-clause-answer c =
     let o = c.args.self.now in
     let now = c.args.call.now.moment in
     let meeting = c.in-Office-request.meeting in
     let ruled = office_ruling o.closed (meeting_at o meeting) now c.in-Office-request.asked in
-    c.in_meeting.ensures ∙ ap (map_change (InMeeting meeting)) c.in_ok-answer-in-Office-request.ensures.answer ∙ sym (settled_within (InMeeting meeting) ruled)
-    ∙ sym (λ i. ruled_answer (ruling o now (c.in-Office.is i) (c.in-Office-request.is i)))
+    IfOk-weaker c.change_for.result _ _ (λ a is. is ∙ sym (settled_within (InMeeting meeting) ruled) ∙ sym (λ i. ruled_answer (ruling o now (c.in-Office.is i) (c.in-Office-request.is i)))) c.change_for.ensures.answer
 
 pub returns-in-Party-request-2-clause-answer : goal.returns-in-Party-request-2-clause-answer
 returns-in-Party-request-2-clause-answer c =

@@ -7,6 +7,7 @@ use Rattle.std.proofs.lemmas.Bool.{and_parts, cases_Bool}
 use Rattle.std.proofs.lemmas.Slice.Eq.{bytes_eq-Decides}
 use Rattle.std.proofs.lemmas.Str.{IsUtf8-from_is_utf8}
 use Rattle.json_requests.specs.declared.verb.Verb.{Verb}
+use Rattle.json_requests.specs.Routes.{route_of}
 use Rattle.json_requests.specs.Verbs.{verbs, verb_of, verb_word}
 
 -- what is not UTF-8 is none of words that are
@@ -20,6 +21,11 @@ none_of (verb ∷ rest) texts word none =
     ]
 
 -- what is not UTF-8 is no verb's word
-pub unlisted : (word : List ℕ) → ¬ IsUtf8 word → verb_of word ≡ None
+unlisted : (word : List ℕ) → ¬ IsUtf8 word → verb_of word ≡ None
 unfolding is_utf8 chars lib.Utf8.encode
 unlisted word none = none_of verbs refl word none
+
+-- and leads nowhere
+pub no_route : (meeting verb : List ℕ) → ¬ IsUtf8 verb → route_of meeting verb ≡ None
+unfolding route_of
+no_route meeting verb none = rw (unlisted verb none) refl
