@@ -8,7 +8,7 @@ ghost use Rattle.desk_words.specs.declared.change.Change.TheVariants as change;
 ghost use Rattle.desk_words.specs.declared.change.MeetingChange.TheVariants as meeting_change;
 ghost use Rattle.office_decisions.specs.OfficeRulings.{is_register_held, office_ruling, refuses_at_once};
 ghost use Rattle.office_decisions.specs.OfficeRulings.{office_needs_no_memory};
-ghost use Rattle.office_decisions.specs.RequestLimits.{if_any, is_within_limits, keeps_limits};
+ghost use Rattle.office_decisions.specs.RequestLimits.{if_any, keeps_limits};
 ghost use Rattle.desk_words.specs.Changes.{applied, applied_if_any, empty_office, sets_fields};
 ghost use Rattle.meeting_core.specs.Step.{decided, is_at_once_to, needs_no_memory, stepped};
 
@@ -21,9 +21,8 @@ use crate::answers::{entering, in_meeting};
 use crate::changes::{add_meeting, change_meeting};
 use caller_view::{answer, answer_notice};
 use desk_words::{
-    Answer, Call, Caller, Change, DayList, Entry, KeyRows, Listing, MeetingChange, MeetingId,
-    MeetingLists, Moment, OfficeRequest, Party, PartyRequest, Refusal, Reply, Request,
-    find_meeting, refuse,
+    Answer, Call, Caller, Change, DayList, Entry, KeyRows, MeetingId, MeetingLists, Moment,
+    OfficeRequest, Party, PartyRequest, Refusal, Reply, Request, find_meeting, refuse,
 };
 pub use of_lists::BookFault;
 use office_days::Closed;
@@ -129,31 +128,10 @@ impl Book {
         answer(self.alloc, &public, own, now, asked)
     }
 
-    /// The answer to what the office asks in a meeting.
-    fn answer_to_office(
-        &self,
-        meeting: MeetingId,
-        now: Moment,
-        asked: &OfficeRequest,
-    ) -> Result<Answer<MeetingChange>, AllocError>
-        ensures answer { IfOk result (λ a. a
-            ≡ ruled_answer (office_ruling self.now.closed (meeting_at self.now meeting) now asked.now)) }
-        ensures limits { IfOk result (λ a. if_any is_within_limits a.change ≡ true) }
-        ensures sure { office_needs_no_memory asked.now ≡ true → IsOk result }
-        ensures refusals { refuses_at_once (office_ruling self.now.closed
-            (meeting_at self.now meeting) now asked.now)
-            ≡ true → IsOk result }
-        ensures same { is_register_held (meeting_at self.now meeting) asked.now ≡ true
-            → IsOk result }
-    {
-        let found = find_meeting(&self.meetings, meeting);
-        office_answer(self.alloc, &self.closed, found, now, asked)
-    }
-
     /// The answer to what the office asks in a meeting, as a change of the office. A party's calls
     /// are not to pay for the places of its values.
     #[inline(never)]
-    fn change_for(
+    fn answer_to_office(
         &self,
         meeting: MeetingId,
         now: Moment,
@@ -169,7 +147,8 @@ impl Book {
         ensures same { is_register_held (meeting_at self.now meeting) asked.now ≡ true
             → IsOk result }
     {
-        let answer = self.answer_to_office(meeting, now, asked)?;
+        let found = find_meeting(&self.meetings, meeting);
+        let answer = office_answer(self.alloc, &self.closed, found, now, asked)?;
         Ok(in_meeting(meeting, answer))
     }
 
@@ -205,7 +184,7 @@ impl Book {
                     desk_answer(self.alloc, &self.keys, &self.closed, &self.meetings, asked)
                 }
                 Request::Office { meeting, asked } => {
-                    self.change_for(*meeting, call.moment, asked)
+                    self.answer_to_office(*meeting, call.moment, asked)
                 }
                 Request::Party { .. } => Ok(refuse(Refusal::PartyOnly)),
             },

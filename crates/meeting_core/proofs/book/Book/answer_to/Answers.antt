@@ -21,7 +21,7 @@ returns-in-Office-request-clause-answer c =
     let now = c.args.call.now.moment in
     let meeting = c.in-Office-request.meeting in
     let ruled = office_ruling o.closed (meeting_at o meeting) now c.in-Office-request.asked in
-    IfOk-weaker c.change_for.result _ _ (λ a is. is ∙ sym (settled_within (InMeeting meeting) ruled) ∙ sym (λ i. ruled_answer (ruling o now (c.in-Office.is i) (c.in-Office-request.is i)))) c.change_for.ensures.answer
+    IfOk-weaker c.answer_to_office.result _ _ (λ a is. is ∙ sym (settled_within (InMeeting meeting) ruled) ∙ sym (λ i. ruled_answer (ruling o now (c.in-Office.is i) (c.in-Office-request.is i)))) c.answer_to_office.ensures.answer
 
 pub returns-in-Party-request-2-clause-answer : goal.returns-in-Party-request-2-clause-answer
 returns-in-Party-request-2-clause-answer c =

@@ -1,13 +1,11 @@
 use Rattle.std.proofs.Common.{◌≡◌, true, subst, ap, sym, ◌∙◌}
-use Rattle.std.proofs.lemmas.Result.{IfOk-weaker}
-use Rattle.std.specs.Prelude.{Option, IfOk, IfSome}
+use Rattle.std.specs.Prelude.{Option, IfSome}
 use Rattle.desk_words.specs.Finding.{meeting_named}
 use Rattle.desk_words.specs.Office.{is_meeting}
 use Rattle.desk_words.specs.declared.office.OfficeLists.{OfficeLists}
 use Rattle.desk_words.specs.declared.office.MeetingLists.{MeetingLists}
-use Rattle.desk_words.specs.Rulings.{ruled_answer}
-use Rattle.desk_words.specs.declared.answer.Answer.{Answer}
-use Rattle.desk_words.specs.declared.change.MeetingChange.{MeetingChange}
+use Rattle.desk_words.specs.Rulings.{map_change, ruled_answer}
+use Rattle.desk_words.specs.declared.change.Change.TheVariants.{InMeeting}
 use Rattle.std.specs.Option.{option_copied}
 use Rattle.office_decisions.specs.OfficeRulings.{office_ruling}
 use Rattle.desk_words.proofs.OfficeFacts.{found_meeting, office_facts}
@@ -32,7 +30,6 @@ returns-clause-answer c =
     let asked = c.args.asked.now in
     let same : found ≡ meeting_named o.meetings c.args.meeting = c.find_meeting-found.ensures ∙ ap (λ meetings. meeting_named meetings c.args.meeting) c.deref.ensures.value in
     let ruled = λ (found : Option MeetingLists). ruled_answer (office_ruling o.closed found now asked) in
-    subst (λ (held : OfficeLists). IfOk c.office_answer.result (λ (a : Answer MeetingChange). a ≡ ruled_answer (office_ruling held.closed (meeting_named held.meetings c.args.meeting) now asked)))
+    subst (λ (held : OfficeLists). c.in_meeting.result ≡ map_change (InMeeting c.args.meeting) (ruled_answer (office_ruling held.closed (meeting_named held.meetings c.args.meeting) now asked)))
     c.self.view_is
-    (IfOk-weaker c.office_answer.result (λ (a : Answer MeetingChange). a ≡ ruled found) (λ (a : Answer MeetingChange). a ≡ ruled (meeting_named o.meetings c.args.meeting))
-    (λ a is. is ∙ ap ruled same) c.office_answer.ensures.answer)
+    (c.in_meeting.ensures ∙ ap (map_change (InMeeting c.args.meeting)) (c.in_ok-answer.ensures.answer ∙ ap ruled same))
