@@ -10,7 +10,7 @@ pub(crate) fn parted_at(alloc: Global, cuts: &[u64]) -> Result<Vec<Range>, Alloc
     requires { IsTrue (rise_from 1 cuts.now) }
     ensures { IfOk result (λ ranges. ranges.items ≡ ranges_between 1 cuts.now) }
 {
-    let mut ranges = Vec::new(alloc);
+    let mut ranges = Vec::with_capacity(alloc, cuts.len().saturating_add(1))?;
     let mut from = 1;
     for cut in cuts {
         ranges.push(Range::with_ends(from, *cut - 1))?;

@@ -93,7 +93,7 @@ fn cuts_in_order(alloc: Global, covers: &[(Range, Tag)]) -> Result<Vec<u64>, All
     ensures cuts { IfOk result (λ cuts. (place : ℕ)
         → list_any (λ cut. cut == place) cuts.items ≡ (is_inner place && is_cut covers.now place)) }
 {
-    let mut cuts = Vec::new(alloc);
+    let mut cuts = Vec::with_capacity(alloc, covers.len().saturating_mul(2))?;
     for (range, _) in covers {
         push_cut(&mut cuts, range.from())?;
         push_cut(&mut cuts, range.to() + 1)?;
