@@ -1,4 +1,5 @@
 pub mod AlikeLemmas
+pub mod CommonWays
 pub mod LastInstructed
 pub mod LeftLemmas
 pub mod OwnCastLemmas

@@ -14,7 +14,6 @@ use Rattle.vocabulary.specs.declared.kinds.Capacity.TheVariants.{Member, Rep, Pr
 use Rattle.vocabulary.specs.declared.kinds.HolderKind.{HolderKind}
 use Rattle.vocabulary.specs.declared.kinds.HolderKind.TheVariants.{Individual, Corporation, Treasury}
 use Rattle.vocabulary.specs.declared.kinds.Way.{Way}
-use Rattle.vocabulary.specs.declared.kinds.Way.TheVariants.{For, Against, Withheld}
 use Rattle.desk_words.proofs.WordRowLemmas.{same_name-refl}
 use Rattle.desk_words.specs.declared.records.Appointment.{Appointment}
 use Rattle.desk_words.specs.declared.records.Authority.{Authority}
@@ -38,15 +37,11 @@ use Rattle.vote_rules.specs.InstructedCasts.{is_after, is_before}
 use Rattle.vote_rules.specs.Tallies.{share_at}
 use Rattle.vote_rules.specs.Votes.{Casts, common_way, first_that_applies, valid_vote}
 use Rattle.vote_rules.specs.declared.received.BlockCast.{BlockCast}
+use Rattle.vote_rules.proofs.CommonWays.{same_way-refl}
 use Rattle.vote_rules.proofs.VoteCastLemmas.{cover_way, way_of_covers}
 use Rattle.vote_rules.proofs.VoteListLemmas.{All-reverse, filter_map_mapped, find-agree, find_map-agree}
 
 -- ---- the rules, by those who vote for the holder
-
-same_way-refl : (way : Way) → same_way way way ≡ true
-same_way-refl For = refl
-same_way-refl Against = refl
-same_way-refl Withheld = refl
 
 -- one voter alone
 alone : (o : Option Way) → common_way (cons_option o []) ≡ option_map (λ way. Some way) o

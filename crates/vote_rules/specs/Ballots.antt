@@ -14,7 +14,7 @@ use Rattle.desk_words.specs.declared.records.Authority.{Authority}
 use Rattle.proxy_rules.specs.declared.pieces.GovernedPiece.{GovernedPiece}
 use Rattle.share_blocks.specs.Covers.{Cover}
 use Rattle.share_blocks.specs.Pieces.{Piece}
-use Rattle.proxy_rules.specs.Instructions.{allows, instructed_on}
+use Rattle.proxy_rules.specs.Instructions.{allows, instructed_on, same_way}
 use Rattle.vote_rules.specs.VoteCovers.{way_at}
 use Rattle.proxy_rules.specs.Parties.{authorised_by}
 use Rattle.proxy_rules.specs.Tiles.{are_tiled, governed_ranges}
@@ -59,6 +59,12 @@ vote_by_governing resolution place appointed proxies by =
 -- the ways in which the holder's voters cast on the place
 abbrev pub ways_at : List (List Piece) → Place → List Way
 ways_at holders place = filter_map (λ pieces. way_at None pieces place) holders
+
+-- the common way of casts and of one more
+abbrev pub joined_way : Option (Option Way) → Way → Option Way
+joined_way None way = Some way
+joined_way (Some None) way = None
+joined_way (Some (Some first)) way = if same_way first way then Some first else None
 
 -- the valid vote of the place: that of the holder's voters, and else that of the proxy who governs
 -- it

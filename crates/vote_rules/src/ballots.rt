@@ -1,13 +1,12 @@
 //! The valid vote of a place, by the casts of each voter who may vote for it.
 ghost use Rattle.std.specs.Prelude.{◌≡◌, ℕ, IfOk, None, Some, true, false, map, filter, nat_lt};
 ghost use Rattle.std.specs.BTreeMap.{get};
-ghost use Rattle.std.specs.List.{filter_map, list_all, slice_get};
 ghost use Rattle.std.specs.List.Sorted.{IsPartitionPoint};
 ghost use Rattle.vocabulary.specs.Names.{name_cmp};
 ghost use Rattle.vocabulary.specs.declared.kinds.Capacity.TheVariants.{Proxy};
 ghost use Rattle.desk_words.specs.declared.records.Appointment.{Appointment};
 ghost use Rattle.proxy_rules.specs.declared.pieces.GovernedPiece.{GovernedPiece};
-ghost use Rattle.vote_rules.specs.Ballots.{AreInOrder, capacity_for, governing_at, piece_at, vote_by, vote_by_governing, vote_by_proxy, vote_if, voters_for, ways_at};
+ghost use Rattle.vote_rules.specs.Ballots.{AreInOrder, capacity_for, governing_at, joined_way, piece_at, vote_by, vote_by_governing, vote_by_proxy, vote_if, voters_for, ways_at};
 ghost use Rattle.vote_rules.specs.VoteCovers.{vote_pieces, way_at};
 ghost use Rattle.proxy_rules.specs.Instructions.{same_way};
 ghost use Rattle.vote_rules.specs.Votes.{common_way};
@@ -80,7 +79,7 @@ fn pieces_by_each<B: Blocks>(
         (λ each. map B.pieces each.items
         ≡ map (vote_pieces casts.now (get name_cmp instructed.now) capacity) voters.now) }
 {
-    let mut each = Vec::new(alloc);
+    let mut each = Vec::with_capacity(alloc, voters.len())?;
     for voter in voters {
         let blocks = pieces_by(alloc, casts, instructed, capacity, *voter)?;
         each.push(blocks)?;
@@ -163,17 +162,6 @@ fn vote_by_governing<B: Blocks>(
     vote_by_proxy(blocks, appointment, resolution, place)
 }
 
-/// The ways in which the holder's voters cast on the place.
-#[tactic(auto, using(crate::proofs::VoteListLemmas::filter_map_mapped))]
-fn ways_at<B: Blocks>(alloc: Global, holders: &[B], place: u64) -> Result<Vec<Way>, AllocError>
-    ensures { IfOk result (λ ways. ways.items ≡ ways_at (map B.pieces holders.now) place) }
-{
-    holders
-        .iter()
-        .filter_map(|blocks| way_at(blocks, place, None))
-        .collect(alloc)
-}
-
 /// Whether both are the same way.
 fn same_way(way: Way, other: Way) -> bool
     ensures { result ≡ same_way way other }
@@ -181,26 +169,29 @@ fn same_way(way: Way, other: Way) -> bool
     way == other
 }
 
-/// The first of the ways.
-fn first_of(ways: &[Way]) -> Option<Way>
-    ensures { result ≡ slice_get ways.now 0 }
+/// The common way of casts and of one more.
+fn joined_way(common: Option<Option<Way>>, way: Way) -> Option<Way>
+    ensures { result ≡ joined_way common way }
 {
-    ways.first().copied()
+    match common {
+        None => Some(way),
+        Some(Some(first)) if same_way(first, way) => Some(first),
+        Some(_) => None,
+    }
 }
 
-/// Whether all of the ways are that one.
-fn are_all(ways: &[Way], way: Way) -> bool
-    ensures { result ≡ list_all (same_way way) ways.now }
+/// The common way in which the holder's voters cast on the place, where any of them does. Casts that
+/// differ are no vote.
+fn common_way<B: Blocks>(holders: &[B], place: u64) -> Option<Option<Way>>
+    ensures { result ≡ common_way (ways_at (map B.pieces holders.now) place) }
 {
-    ways.iter().all(|other| same_way(way, *other))
-}
-
-/// The common way of casts, where there are any. Casts that differ are no vote.
-fn common_way(ways: &[Way]) -> Option<Option<Way>>
-    ensures { result ≡ common_way ways.now }
-{
-    let way = first_of(ways)?;
-    Some(if are_all(ways, way) { Some(way) } else { None })
+    let mut common = None;
+    for blocks in holders {
+        if let Some(way) = way_at(blocks, place, None) {
+            common = Some(joined_way(common, way));
+        }
+    }
+    common
 }
 
 /// Where the first of the pieces stands that ends at the place or behind it, or how many there are.
@@ -234,23 +225,20 @@ pub(crate) fn governing_at(governed: &[GovernedPiece], place: u64) -> Option<usi
 }
 
 /// The valid vote of a place: that of the holder's voters, where any of them has a cast on it, and
-/// else that of the proxy whose appointment stands there. The error is want of memory.
+/// else that of the proxy whose appointment stands there.
 pub(crate) fn vote_by<B: Blocks>(
-    alloc: Global,
     ballots: &Ballots<B>,
     appointed: &[Appointment],
     by: Option<usize>,
     resolution: u64,
     place: u64,
-) -> Result<Option<Way>, AllocError>
-    ensures { IfOk result
-        (λ vote. vote
+) -> Option<Way>
+    ensures { result
         ≡ vote_by (map B.pieces ballots.now.holders.items)
-        (map B.pieces ballots.now.proxies.items) appointed.now by resolution place) }
+        (map B.pieces ballots.now.proxies.items) appointed.now by resolution place }
 {
-    let ways = ways_at(alloc, ballots.holders.as_slice(), place)?;
-    match common_way(ways.as_slice()) {
-        Some(vote) => Ok(vote),
-        None => Ok(vote_by_governing(ballots.proxies.as_slice(), appointed, by, resolution, place)),
+    match common_way(ballots.holders.as_slice(), place) {
+        Some(vote) => vote,
+        None => vote_by_governing(ballots.proxies.as_slice(), appointed, by, resolution, place),
     }
 }

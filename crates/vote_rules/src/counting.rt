@@ -60,30 +60,28 @@ fn add_shares(tally: &mut Tally, vote: Option<Way>, shares: u64)
 
 /// The count of the ranges, on each of which the valid vote is asked at its first place.
 fn tally_over<B: Blocks>(
-    alloc: Global,
     ballots: &Ballots<B>,
     appointed: &[Appointment],
     governed: &[GovernedPiece],
     resolution: u64,
     ranges: &[Range],
-) -> Result<Tally, AllocError>
+) -> Tally
     requires few { sum_by places_in ranges.now ≤ 10 ^ 12 }
     requires pieces { AreInOrder governed.now }
-    ensures { IfOk result
-        (λ tally. tally
+    ensures { result
         ≡ tally_over
         (λ place. vote_by (map B.pieces ballots.now.holders.items)
         (map B.pieces ballots.now.proxies.items) appointed.now
         (governing_at governed.now place) resolution place)
-        ranges.now) }
+        ranges.now }
 {
     let mut tally = NOTHING;
     for range in ranges {
         let by = governing_at(governed, range.from());
-        let vote = vote_by(alloc, ballots, appointed, by, resolution, range.from())?;
+        let vote = vote_by(ballots, appointed, by, resolution, range.from());
         add_shares(&mut tally, vote, places_in(*range));
     }
-    Ok(tally)
+    tally
 }
 
 /// The count of one holding, by what is cast on its shares, over blocks of either kind.
@@ -119,14 +117,13 @@ fn tally_row_by<B: Blocks>(
         row,
     )?;
     let ranges = parted::<PlainBlocks>(alloc, governed.as_slice(), on_row, holding.shares)?;
-    tally_over(
-        alloc,
+    Ok(tally_over(
         &ballots,
         appointed,
         governed.as_slice(),
         resolution,
         ranges.as_slice(),
-    )
+    ))
 }
 
 /// The count of a row whose shares all have this vote.

@@ -1,13 +1,10 @@
 use Rattle.std.proofs.Common.{◌≡◌, ℕ, ◌≤◌, List, map, ap, sym, subst, ◌∙◌, arith}
 use Rattle.std.specs.Prelude.{All, sum_by}
 use Rattle.std.specs.BTreeMap.{get}
-use Rattle.std.proofs.lemmas.Result.{IfOk-weaker}
 use Rattle.vocabulary.specs.declared.range.TheConstants.{MOST_PLACES}
 use Rattle.vocabulary.specs.Names.{name_cmp}
 use Rattle.vocabulary.specs.declared.kinds.Capacity.TheVariants.{Proxy}
 use Rattle.desk_words.specs.declared.records.Appointment.{Appointment}
-use Rattle.proxy_rules.specs.Holdings.{holding_by}
-use Rattle.proxy_rules.specs.Shares.{shares_of}
 use Rattle.proxy_rules.specs.Tiles.{places_in}
 use Rattle.proxy_rules.specs.declared.holdings.Holding.{Holding}
 use Rattle.vote_rules.specs.Ballots.{AreInOrder, IsUncut, capacity_for, cuts_of, governing_at, vote_by, voters_for}
@@ -50,14 +47,7 @@ returns g c =
     ∙ ap (λ l. map (vote_pieces casts last Proxy) (map proxy_of l)) c.as_slice-appointed.ensures in
     let uncut : All (IsUncut (cuts_of governed casts)) ranges =
     subst (λ cuts. All (IsUncut cuts) ranges) (λ i. cuts_of (c.as_slice.ensures.value i) casts) c.in_ok-ranges.ensures.uncut in
-    IfOk-weaker c.tally_over.result
-    (λ tally. tally ≡ tally_over
-    (λ place. vote_by (map g.B.Blocks.pieces c.in_ok-ballots.ballots.holders.items) (map g.B.Blocks.pieces c.in_ok-ballots.ballots.proxies.items) c.as_slice-appointed.result.now (governing_at c.as_slice-2.result.now place) resolution place)
-    c.as_slice-3.result.now)
-    (λ tally. tally ≡ tally_to (λ place. vote_among casts last authorities resolution row (share_at cutoffs (holding_by c.args.papers.now.appointments.now c.args.papers.now.endings.now row) row.member place)) (shares_of row))
-    (λ tally is.
-    is
+    c.tally_over.ensures
     ∙ (λ i. tally_over (λ place. vote_by (holders i) (proxies i) (c.as_slice-appointed.ensures i) (governing_at (c.as_slice-2.ensures.value i) place) resolution place) (c.as_slice-3.ensures.value i))
     ∙ counted cutoffs holding authorities casts last resolution row governed c.in_ok-governed.ensures few ranges c.in_ok-ranges.ensures.tiled uncut
-    ∙ ap (λ (h : Holding). tally_to (λ place. vote_among casts last authorities resolution row (share_at cutoffs h row.member place)) h.shares) c.in_ok-holding.ensures)
-    c.tally_over.ensures
+    ∙ ap (λ (h : Holding). tally_to (λ place. vote_among casts last authorities resolution row (share_at cutoffs h row.member place)) h.shares) c.in_ok-holding.ensures
