@@ -41,7 +41,8 @@ fn given_with(
     Ok(all)
 }
 
-/// The appointments that a party gave, each with its ending.
+/// The appointments that a party gave, each with its ending. Where there are none, nothing is looked
+/// up.
 pub(crate) fn given_from(
     alloc: Global,
     given: Listing<Appointment>,
@@ -49,6 +50,9 @@ pub(crate) fn given_from(
 ) -> Result<Listing<Given>, AllocError>
     ensures { IfOk result (λ all. all ≡ map (given_in ended.now) given) }
 {
+    if given.is_empty() {
+        return Ok(Listing::new(alloc));
+    }
     let moments = moments_by_number(alloc, ended)?;
     let all = given_with(alloc, given.into_vec(), &moments)?;
     Ok(Listing::from_vec(all))

@@ -20,6 +20,7 @@ use office_days::Closed;
 use proxy_rules::{Claims, Cutoffs, Use, cutoffs, is_late_poll};
 use std::alloc::{AllocError, Global};
 use std::collections::BTreeMap;
+use std::marker::Model;
 
 /// The cutoffs of a session.
 #[derive(Clone, Copy)]
@@ -28,6 +29,24 @@ pub(crate) struct SessionCutoffs {
     pub acts: Cutoffs,
     /// Until when they count for votes on its polls that are not late.
     pub votes: Cutoffs,
+}
+
+/// The cutoffs of each session. Most meetings have one alone, and then they take no memory. Contracts
+/// see the list.
+#[derive(Drop)]
+struct AllCutoffs {
+    first: SessionCutoffs,
+    /// Those of the sessions to which the meeting was adjourned.
+    later: Vec<SessionCutoffs>,
+}
+
+impl Model for AllCutoffs {
+    ghost use Rattle.std.specs.Prelude.{List, ◌∷◌};
+    ghost use Rattle.party_views.specs.declared.governed.SessionCutoffs.{SessionCutoffs};
+
+    ghost Value = { List SessionCutoffs };
+
+    ghost view = { λ a. a.first ∷ a.later.items };
 }
 
 /// A late poll, with the cutoffs for votes on it.
@@ -128,16 +147,17 @@ fn all_cutoffs(
     meeting: &Meeting,
     closed: &Closed,
     now: Moment,
-) -> Result<Vec<SessionCutoffs>, AllocError>
-    ensures { IfOk result (λ all. all.items
+) -> Result<AllCutoffs, AllocError>
+    ensures { IfOk result (λ all. all
         ≡ each_session (cutoffs_in_session meeting.now closed.now now) meeting.now) }
 {
-    let mut all = vec![in alloc; first_cutoffs(meeting, closed, now)]?;
+    let first = first_cutoffs(meeting, closed, now);
+    let mut later = Vec::new(alloc);
     for _session in meeting.later.as_slice() {
-        let number = all.as_slice().len() as u64 + 1;
-        all.push(session_cutoffs(meeting, closed, now, number))?;
+        let number = later.as_slice().len() as u64 + 2;
+        later.push(session_cutoffs(meeting, closed, now, number))?;
     }
-    Ok(all)
+    Ok(AllCutoffs { first, later })
 }
 
 /// Those of the polls that are late, each with the cutoffs for votes on it.
@@ -270,7 +290,7 @@ impl<'a> Members<'a> {
     fn sessions_governed(
         &self,
         alloc: Global,
-        sessions: &[SessionCutoffs],
+        sessions: &AllCutoffs,
         member: Party,
         number: u64,
     ) -> Result<Listing<SessionGoverned>, AllocError>
@@ -278,8 +298,10 @@ impl<'a> Members<'a> {
         ensures { IfOk result (λ all. all
             ≡ map (session_in_rows self.now.rows.now member number) sessions.now) }
     {
-        let mut all = Listing::from_vec(Vec::with_capacity(alloc, sessions.len())?);
-        for session in sessions {
+        let later = sessions.later.as_slice();
+        let mut all = Listing::from_vec(Vec::with_capacity(alloc, later.len() + 1)?);
+        all.push(self.session_governed(alloc, &sessions.first, member, number)?)?;
+        for session in later {
             all.push(self.session_governed(alloc, session, member, number)?)?;
         }
         Ok(all)
@@ -312,7 +334,7 @@ impl<'a> Members<'a> {
 fn known(
     alloc: Global,
     members: &Members,
-    sessions: &[SessionCutoffs],
+    sessions: &AllCutoffs,
     late: &[LatePoll],
     appointment: Appointment,
 ) -> Result<Received, AllocError>
@@ -335,7 +357,7 @@ fn known(
 fn all_known(
     alloc: Global,
     members: &Members,
-    sessions: &[SessionCutoffs],
+    sessions: &AllCutoffs,
     late: &[LatePoll],
     received: Vec<Appointment>,
 ) -> Result<Vec<Received>, AllocError>
@@ -379,7 +401,7 @@ pub(crate) fn received_from(
     let all = all_known(
         alloc,
         &members,
-        sessions.as_slice(),
+        &sessions,
         late.as_slice(),
         received.into_vec(),
     )?;

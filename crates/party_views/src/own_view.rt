@@ -35,6 +35,7 @@ fn nothing_of(alloc: Global, party: Party) -> OwnView
 }
 
 /// The own things of a party in a meeting, by the closed days and by these polls.
+#[inline(always)]
 fn own_by(
     alloc: Global,
     rows: OwnRows,

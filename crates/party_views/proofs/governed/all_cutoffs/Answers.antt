@@ -16,14 +16,14 @@ loop-session-preserved c =
     let same = c.as_slice-session-items.ensures in
     let i = c.loop-session._session-index in
     let x = c._session-item.result in
-    let front = meeting.first ∷ take i xs in
+    let front = take i xs in
     let more = take_more held i x c.loop-session-test.true ∙ ap (λ z. take i held ++ z ∷ []) (sym c._session-item.is) in
-    let next : take (i + 1) xs ≡ take i xs ++ x ∷ [] = ap (take (i + 1)) (sym same) ∙ more ∙ ap (λ zs. take i zs ++ x ∷ []) same in
+    let next : take (i + 1) xs ≡ front ++ x ∷ [] = ap (take (i + 1)) (sym same) ∙ more ∙ ap (λ zs. take i zs ++ x ∷ []) same in
     let count : length c.as_slice.result.now ≡ length front =
-    ap length (c.as_slice.ensures.value ∙ c.loop-session.invariant) ∙ length-numbered f 1 front in
-    let number : length c.as_slice.result.now + 1 ≡ 1 + length front = omega (arith, count) in
+    ap length (c.as_slice.ensures.value ∙ c.loop-session.invariant) ∙ length-numbered f 2 front in
+    let number : length c.as_slice.result.now + 2 ≡ 2 + length front = omega (arith, count) in
     c.in_ok-push.ensures.items
     ∙ ap (λ zs. zs ++ c.session_cutoffs.result ∷ []) c.loop-session.invariant
-    ∙ ap (λ y. enumerate_from f 1 front ++ y ∷ []) (c.session_cutoffs.ensures ∙ ap (λ k. f k x) number)
-    ∙ sym (numbered-more f 1 front x)
-    ∙ ap (λ ys. enumerate_from f 1 (meeting.first ∷ ys)) (sym next)
+    ∙ ap (λ y. enumerate_from f 2 front ++ y ∷ []) (c.session_cutoffs.ensures ∙ ap (λ k. f k x) number)
+    ∙ sym (numbered-more f 2 front x)
+    ∙ ap (enumerate_from f 2) (sym next)
