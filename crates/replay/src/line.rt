@@ -107,12 +107,19 @@ fn parted(text: &str) -> Option<(&str, &str)>
     Some((&text[..space], &text[space + 1..]))
 }
 
+/// The same, where the first space is not near: the library looks for it some letters at a time.
+fn parted_far(text: &str) -> Option<(&str, &str)>
+    ensures { option_map (λ x. (x.0.now, x.1.now)) result ≡ at_first_space text.now }
+{
+    text.split_once(' ')
+}
+
 /// The parts of a line, at its first four spaces.
 #[tactic(auto, unfolding(crate::specs::ReplayLines::parts_of))]
 fn parts_of(line: &str) -> Result<Parts<'_>, Ask>
     ensures { AskAgrees parts_view result (parts_of line.now) }
 {
-    let (moment, rest) = parted(line).ok_or(UNREADABLE)?;
+    let (moment, rest) = parted_far(line).ok_or(UNREADABLE)?;
     let (caller, rest) = parted(rest).ok_or(UNREADABLE)?;
     let (meeting, rest) = parted(rest).ok_or(UNREADABLE)?;
     let (verb, body) = match parted(rest) {
