@@ -1,4 +1,5 @@
 pub mod BookLemmas
+pub mod MomentFirst
 pub mod Progress
 pub mod ReplayRunLaws
 pub mod ReplayTurnLemmas

@@ -4,10 +4,9 @@ use Rattle.std.specs.Borrow.{Bor}
 use Rattle.replay.specs.declared.line.Parts.{Parts as PartsOf}
 use Rattle.replay.specs.ReplayLines.{Parts}
 
--- the five parts that a line was parted into
+-- the four parts behind a line's moment
 abbrev pub parts_view : PartsOf → Parts
 parts_view p = record {
-  moment = p.moment.now;
   caller = p.caller.now;
   meeting = p.meeting.now;
   verb = p.verb.now;

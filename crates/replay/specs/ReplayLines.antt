@@ -1,5 +1,5 @@
 -- The lines of a replay, and what each of them asks.
-use Rattle.std.specs.Prelude.{ℕ, ◌==◌, List, [], length, nat_lt, Option, Some, None, Result, Ok, Err, ok_or, unwrap_or, if◌then◌else◌, Bool}
+use Rattle.std.specs.Prelude.{ℕ, ◌==◌, List, [], length, nat_lt, Option, Some, None, option_and_then, option_map, Result, Ok, Err, ok_or, unwrap_or, if◌then◌else◌, Bool}
 use Rattle.std.specs.List.{position_or_len, before_first, after_first}
 use Rattle.std.specs.Str.{is_utf8}
 use Rattle.vocabulary.specs.ResultSteps.{◌>>=◌}
@@ -7,6 +7,7 @@ use Rattle.calendar.specs.DateTexts.{moment_of}
 use Rattle.vocabulary.specs.declared.refusal.Refusal.{Refusal}
 use Rattle.vocabulary.specs.declared.refusal.Refusal.TheVariants.{Key, TooLarge, Unreadable}
 use Rattle.desk_words.specs.Callers.{caller_of}
+use Rattle.desk_words.specs.ViewTypes.{Moment}
 use Rattle.desk_words.specs.declared.request.Call.{Call}
 use Rattle.line_reader.specs.NextLine.{longest_line}
 use Rattle.json_requests.specs.RefusalResults.{or_unreadable}
@@ -23,22 +24,27 @@ at_first_space bytes =
     then Some (before_first is_space bytes, after_first is_space bytes)
     else None
 
--- the five parts of a line
+-- the moment before the first space of a line, and what stands after that space
+abbrev pub moment_first : List ℕ → Option (Moment × List ℕ)
+moment_first line =
+    option_and_then
+    (λ parts. option_map (λ moment. (moment, parts.1)) (moment_of parts.0))
+    (at_first_space line)
+
+-- the four parts of a line behind its moment
 pub record Parts : Type 0 where
-  pub moment : List ℕ
   pub caller : List ℕ
   pub meeting : List ℕ
   pub verb : List ℕ
   pub body : List ℕ
 
--- a line is parted at its first four spaces; with three alone its body is empty
+-- what stands behind the moment is parted at its first three spaces; with two alone the body is empty
 unfoldable pub parts_of : List ℕ → Result Parts Refusal
-parts_of line = do
-  a ← or_unreadable (at_first_space line)
-  b ← or_unreadable (at_first_space a.1)
+parts_of rest = do
+  b ← or_unreadable (at_first_space rest)
   c ← or_unreadable (at_first_space b.1)
   let d = unwrap_or (at_first_space c.1) (c.1, [])
-  Ok (record { moment = a.0; caller = b.0; meeting = c.0; verb = d.0; body = d.1 })
+  Ok (record { caller = b.0; meeting = c.0; verb = d.0; body = d.1 })
 
 -- the caller that was found; where there is none, the key is refused
 abbrev pub known_caller : {A : Type 0} → Option A → Result A Refusal
@@ -48,16 +54,16 @@ known_caller found = ok_or found Key
 abbrev pub text_in : List ℕ → Result (List ℕ) Refusal
 text_in bytes = if is_utf8 bytes then Ok bytes else Err Unreadable
 
--- what a line asks: it must be UTF-8 and have its parts and a moment, then a known caller, then a
--- request
+-- what a line asks: it must be UTF-8, begin with a moment and have its parts, then a known caller,
+-- then a request
 unfoldable pub parsed_call : List ℕ → Result Call Refusal
 parsed_call line = do
   text ← text_in line
-  parts ← parts_of text
-  moment ← or_unreadable (moment_of parts.moment)
+  first ← or_unreadable (moment_first text)
+  parts ← parts_of first.1
   caller ← known_caller (caller_of parts.caller)
   request ← request_of parts.meeting parts.verb parts.body
-  Ok (record { moment = moment; caller = caller; request = request })
+  Ok (record { moment = first.0; caller = caller; request = request })
 
 -- what a line of any length asks: one that is too long is refused unread
 abbrev pub asked_in_line : List ℕ → Result Call Refusal

@@ -3,7 +3,7 @@ ghost use Rattle.std.specs.Prelude.{◌≡◌, ◌<◌, IfSome, length, option_m
 ghost use Rattle.calendar.specs.DateTexts.{moment_of};
 ghost use Rattle.vocabulary.specs.Identity.{id};
 ghost use Rattle.json_requests.specs.RefusalResults.{AskAgrees};
-ghost use Rattle.replay.specs.ReplayLines.{at_first_space, is_space, parts_of, parsed_call, text_in};
+ghost use Rattle.replay.specs.ReplayLines.{at_first_space, is_space, moment_first, parts_of, parsed_call, text_in};
 ghost use Rattle.replay.specs.PartsView.{parts_view, text_view};
 
 use desk_words::{Call, Moment, Refusal, read_caller, read_moment, write_moment};
@@ -15,11 +15,14 @@ const UNREADABLE: Ask = Ask::Refused(Refusal::Unreadable);
 
 const KEY: Ask = Ask::Refused(Refusal::Key);
 
+/// How many letters the text of a moment has.
+const MOMENT_LETTERS: usize = 19;
+
 /// A moment, which contracts see, and its text.
 #[derive(Drop)]
 struct SpelledMoment {
     moment: Moment,
-    text: [u8; 19],
+    text: [u8; MOMENT_LETTERS],
 }
 
 impl Model for SpelledMoment {
@@ -51,8 +54,8 @@ impl SpelledMoment {
             return Some(self.moment);
         }
         let moment = read_moment(text)?;
-        if text.len() == 19 {
-            let mut letters = [0; 19];
+        if text.len() == MOMENT_LETTERS {
+            let mut letters = [0; MOMENT_LETTERS];
             letters.copy_from_slice(text);
             *self = SpelledMoment {
                 moment,
@@ -60,6 +63,19 @@ impl SpelledMoment {
             };
         }
         Some(moment)
+    }
+
+    /// The moment before the first space of a line, and what stands after that space. No space is
+    /// looked for, since the text of a moment has none.
+    fn first_of<'a>(&mut self, line: &'a str) -> Option<(Moment, &'a str)>
+        ensures { option_map (λ x. (x.0, x.1.now)) result ≡ moment_first line.now }
+    {
+        let bytes = line.as_bytes();
+        if bytes.len() <= MOMENT_LETTERS || bytes[MOMENT_LETTERS] != b' ' {
+            return None;
+        }
+        let moment = self.read(&bytes[..MOMENT_LETTERS])?;
+        Some((moment, &line[MOMENT_LETTERS + 1..]))
     }
 }
 
@@ -81,10 +97,9 @@ impl Scratch {
     }
 }
 
-/// The parts of a line.
+/// The parts of a line behind its moment.
 #[derive(Clone, Copy)]
 pub struct Parts<'a> {
-    moment: &'a str,
     caller: &'a str,
     meeting: &'a str,
     verb: &'a str,
@@ -107,19 +122,11 @@ fn parted(text: &str) -> Option<(&str, &str)>
     Some((&text[..space], &text[space + 1..]))
 }
 
-/// The same, where the first space is not near: the library looks for it some letters at a time.
-fn parted_far(text: &str) -> Option<(&str, &str)>
-    ensures { option_map (λ x. (x.0.now, x.1.now)) result ≡ at_first_space text.now }
-{
-    text.split_once(' ')
-}
-
-/// The parts of a line, at its first four spaces.
+/// The parts of a line behind its moment, at the first three spaces there.
 #[tactic(auto, unfolding(crate::specs::ReplayLines::parts_of))]
-fn parts_of(line: &str) -> Result<Parts<'_>, Ask>
-    ensures { AskAgrees parts_view result (parts_of line.now) }
+fn parts_of(rest: &str) -> Result<Parts<'_>, Ask>
+    ensures { AskAgrees parts_view result (parts_of rest.now) }
 {
-    let (moment, rest) = parted_far(line).ok_or(UNREADABLE)?;
     let (caller, rest) = parted(rest).ok_or(UNREADABLE)?;
     let (meeting, rest) = parted(rest).ok_or(UNREADABLE)?;
     let (verb, body) = match parted(rest) {
@@ -127,7 +134,6 @@ fn parts_of(line: &str) -> Result<Parts<'_>, Ask>
         None => (rest, ""),
     };
     Ok(Parts {
-        moment,
         caller,
         meeting,
         verb,
@@ -155,11 +161,10 @@ pub fn call_of(alloc: Global, scratch: &mut Scratch, line: &[u8]) -> Result<Call
     ensures { AskAgrees id result (parsed_call line.now) }
 {
     let text = text_of(line)?;
-    let parts = parts_of(text)?;
-    let moment = scratch
-        .last
-        .read(parts.moment.as_bytes())
-        .ok_or(UNREADABLE)?;
+    let Some((moment, rest)) = scratch.last.first_of(text) else {
+        return Err(UNREADABLE);
+    };
+    let parts = parts_of(rest)?;
     let caller = read_caller(parts.caller.as_bytes()).ok_or(KEY)?;
     let request = request_of(
         alloc,
