@@ -38,7 +38,7 @@ pub record Parts : Type 0 where
   pub verb : List ℕ
   pub body : List ℕ
 
--- what stands behind the moment is parted at its first three spaces; with two alone the body is empty
+-- what stands behind the moment is parted at its first three spaces; with two the body is empty
 unfoldable pub parts_of : List ℕ → Result Parts Refusal
 parts_of rest = do
   b ← or_unreadable (at_first_space rest)
