@@ -7,8 +7,9 @@ use Rattle.sqlite.specs.Tree.{Trees}
 use Rattle.sqlite.proofs.StateLemmas.{survives_then}
 use Rattle.sqlite_trees.specs.declared.store.Store as store
 use Rattle.sql_open.specs.Crashes.{LeavesItself, OpensMoved}
-use Rattle.sql_open.specs.WholeDesk.{OpensAgain}
+use Rattle.sql_open.specs.WholeDesk.{IsWhole, OpensAgain}
 use Rattle.sql_open.specs.declared.version.KnownVersion.TheVariants.{Two}
+use Rattle.sql_open.proofs.OpeningLemmas.{some_is}
 
 -- where neither of two calls commits, a crash leaves what it left before both
 pub nothing_then : (a b c : State) → Survives a b (λ _. ⊥) → Survives b c (λ _. ⊥) → Survives a c (λ _. ⊥)
@@ -27,4 +28,4 @@ whole_again g desk conn opened office leaves may opens clean = opens clean offic
 
 -- what a crash leaves of tables of version 1, or of them while they are moved, is whole
 pub moved_again : {S : Type 0} (g : store.Ghosts S) → OpensMoved g
-moved_again g desk conn opened office whole leaves may opens clean = opens clean office (elim may [ inl was ↦ leaves (state g conn).now.trees was | inr moved ↦ (Two, moved.whole office whole) ])
+moved_again g desk conn opened office whole leaves may opens clean = opens clean office (elim may [ inl was ↦ leaves (state g conn).now.trees was | inr moved ↦ (Two, subst (IsWhole (state g conn).now.trees) (some_is (sym moved.was ∙ whole.holds)) moved.whole) ])

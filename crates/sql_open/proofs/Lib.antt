@@ -9,5 +9,6 @@ pub mod OpenedKeptLemmas
 pub mod OpenedMoveLemmas
 pub mod OpeningLemmas
 pub mod OrderedOffice
+pub mod ReopeningLemmas
 pub mod RisingLemmas
 pub mod WholeLemmas

@@ -1,5 +1,5 @@
 -- What is known of tables once their version was judged, whichever it is.
-use Rattle.std.proofs.Common.{◌≡◌, ◌≢◌, ◌⊎◌, true, [], IsTrue, refl, Ok, Err, Result, IfErr, IfOk, OnErr, OnOk, sym, ap, subst, ◌∙◌, inl, inr, arith}
+use Rattle.std.proofs.Common.{◌≡◌, ◌≢◌, ◌⊎◌, true, [], Some, IsTrue, refl, Ok, Err, Result, IfErr, IfOk, OnErr, OnOk, sym, ap, subst, ◌∙◌, inl, inr, arith}
 use Rattle.sqlite.specs.Effect.{Database}
 use Rattle.sqlite.specs.Held.{Held, state}
 use Rattle.sqlite.specs.State.{State, HasCleanDisk, IsLive, Survives}
@@ -8,7 +8,7 @@ use Rattle.sqlite.proofs.StateLemmas.{survives_then}
 use Rattle.sqlite_trees.specs.declared.store.Store as store
 use Rattle.desk_words.specs.declared.office.OfficeLists.{OfficeLists}
 use Rattle.sql_model.specs.MigratedRecords.{IsMoved}
-use Rattle.sql_model.specs.OfficeRecords.{are_left_empty, flat_one, flat_two}
+use Rattle.sql_model.specs.OfficeRecords.{are_left_empty, flat_one, flat_two, office_one}
 use Rattle.sql_model.specs.Standing.{HasNoVersion, IsVersion, IsVersionOf, one}
 use Rattle.sql_schema.specs.Contents as table
 use Rattle.sql_schema.specs.Contents.{demands_one, polls_one, presences_one}
@@ -22,7 +22,7 @@ use Rattle.sql_open.specs.OpeningByMigration.{MayMove}
 use Rattle.sql_open.specs.Opened.{IsWhyUnopened, KeepsOpenRows, StandsFor, StandsWhole, WereKnown}
 use Rattle.sql_open.specs.Opening.{IsFaultOf, IsNoDeskOf, IsOpenCause, ShowsLater}
 use Rattle.sql_open.specs.Rising.{RowsRise}
-use Rattle.sql_open.specs.WholeDesk.{IsWholeAs, OpensWhole}
+use Rattle.sql_open.specs.WholeDesk.{OpensWhole}
 use Rattle.sql_open.specs.declared.fault.OpenFault.{OpenFault}
 use Rattle.sql_open.specs.declared.fault.OpenFault.TheVariants.{NotADesk, NewerVersion}
 use Rattle.sql_open.specs.declared.opening.HandedBack.TheVariants as back
@@ -64,7 +64,7 @@ pub none_same : (known : KnownVersion) (s t : State) → s.now ≡ t.now → IsN
 none_same known s t same = subst (λ (d : Database). IsNoDeskOf known (record s { now = d })) same
 
 pub opened_same : (known : KnownVersion) (s t new : State) → s.now ≡ t.now → AreOpened known s new → AreOpened known t new
-opened_same One s t new same h = λ made. moved_same s new t new same refl (h (made_same One t s (sym same) made))
+opened_same One s t new same h = (made_same One s t same h.0, moved_same s new t new same refl h.1)
 opened_same Two s t new same h = h ∙ same
 
 -- ---- tables whose version was told, and what was then told of them
@@ -120,6 +120,11 @@ module _ {S : Type 0} (g : store.Ghosts S) (known : KnownVersion) (old told new 
       let there_is = as_told clean is_open in
       opened_same known (state g told) (state g old) (state g new) there_is (are (version_same known (state g old) (state g told) (sym there_is) (noted (early clean) notes)))
 
+  -- so it is where they were made as the program of their version makes them
+  pub are_if_made : HasCleanDisk (state g new) → IsTrue (state g told).is_open → IsMadeAs known (state g told).now.schema × (IsVersionOf (edition_of known) (state g told) → AreOpened known (state g told) (state g new))
+      → AreOpened known (state g old) (state g new)
+  are_if_made clean is_open it = are_if_noted clean is_open it.1 (notes_so known (state g old).now.schema (made_same known (state g told) (state g old) (as_told clean is_open) it.0))
+
   pub are_as_told : HasCleanDisk (state g new) → IsTrue (state g told).is_open → AreOpened known (state g told) (state g new) → AreOpened known (state g old) (state g new)
   are_as_told clean is_open are = opened_same known (state g told) (state g old) (state g new) (as_told clean is_open) are
 
@@ -168,9 +173,14 @@ module _ {S : Type 0} (g : store.Ghosts S) (old told new : Held S) (judged : Sur
       (λ clean db may.
       let early : HasCleanDisk (state g told) = omega (arith, later.clean, clean) in
       let there_is = (same early may.was_open).1 in
+      let made = made_same One (state g told) (state g old) there_is may.made in
+      let it = may.whole (version_same One (state g old) (state g told) (sym there_is) (noted early (notes_so One (state g old).now.schema made))) in
       record {
         were = record { shown = shown early; noted = noted early; columns = columns_same One (state g told) (state g old) there_is may.columns };
-        whole = λ office whole. may.whole office (subst (λ (d : Database). IsWholeAs One d.trees office) (sym there_is) whole);
+        made = made;
+        office = it.0;
+        was = subst (λ (d : Database). office_one d.trees ≡ Some it.0) there_is it.1;
+        whole = it.2;
       })
       judged later
 
@@ -193,7 +203,13 @@ module _ {S : Type 0} (g : store.Ghosts S) (conn opened : Held S) (same : (state
   }
 
   pub are_moved_same : (db : Trees) → AreMoved g (state g opened) db → AreMoved g (state g conn) db
-  are_moved_same db moved = record { were = were_same One moved.were; whole = λ office whole. moved.whole office (subst (λ (d : Database). IsWholeAs One d.trees office) (sym same) whole) }
+  are_moved_same db moved = record {
+    were = were_same One moved.were;
+    made = made_same One (state g opened) (state g conn) same moved.made;
+    office = moved.office;
+    was = subst (λ (d : Database). office_one d.trees ≡ Some moved.office) same moved.was;
+    whole = moved.whole;
+  }
 
   pub stands_as_opened : (new : State) (office : OfficeLists) (known : KnownVersion) → StandsFor (state g opened) new office known → StandsFor (state g conn) new office known
   stands_as_opened new office known = subst (λ (d : Database). StandsFor (record (state g opened) { now = d }) new office known) same

@@ -29,10 +29,10 @@ use Rattle.sql_open.specs.declared.fault.OpenFault.TheVariants.{NotADesk, NewerV
 use Rattle.sql_open.specs.declared.version.KnownVersion.TheVariants.{One}
 use Rattle.sql_open.proofs.CrashLemmas.{nothing_then}
 use Rattle.sql_open.proofs.FaultLemmas.{of_the_store}
-use Rattle.sql_open.proofs.OpeningLemmas.{desk_of_same, some_is, stands_same}
-use Rattle.sql_open.proofs.OpenedKeptLemmas.{moved_same, version_same}
+use Rattle.sql_open.proofs.OpeningLemmas.{desk_of_same, stands_same}
+use Rattle.sql_open.proofs.OpenedKeptLemmas.{made_same, moved_same, version_same}
 use Rattle.sql_open.proofs.RisingLemmas.{are_a_desk_one}
-use Rattle.sql_open.proofs.WholeLemmas.{leaves_whole, made_so, ones_made, whole_of}
+use Rattle.sql_open.proofs.WholeLemmas.{leaves_whole, ones_made, whole_of}
 
 -- ---- in the transaction
 
@@ -138,10 +138,12 @@ module _ {S : Type 0} (g : store.Ghosts S) (conn begun mid : Held S) (is : begun
   pub commits_moved : Survives (state g conn) end (MovesWhole (state g conn))
   commits_moved =
       survives_then (state g conn) (state g mid) end (λ _. ⊥) (λ db. db ≡ (state g mid).now.trees) (MovesWhole (state g conn)) (λ _ _ none. absurd none)
-      (λ clean db same first was h.
-      let holds = held_before clean first in
-      let one_office : office ≡ was = some_is (sym holds.was ∙ h) in
-      subst (λ (t : Trees). IsWhole t was) (sym same) (subst (IsWhole (state g mid).now.trees) one_office (whole_of (state g mid) office holds.stands holds.sound)))
+      (λ clean db same first.
+      let holds = held_before clean first in (
+        office,
+        holds.was,
+        subst (λ (t : Trees). IsWhole t office) (sym same) (whole_of (state g mid) office holds.stands holds.sound),
+      ))
       (survives_begun g conn begun mid is (Ok office) moves) commits
 
 -- ---- tables of version 1 whose columns stand
@@ -160,11 +162,19 @@ module _ (old judged new : State) (same : judged.now ≡ old.now) where
   pub no_office_from : HasNoOfficeBy one judged → HasNoOfficeBy one old
   no_office_from = subst (λ (d : Database). HasNoOfficeBy one (record judged { now = d })) same
 
-  pub may_move : (db : Trees) → IsTrue old.is_open → HasColumnsOf one.asked old.now.schema → RowsRise old → IsDatabase old.now → MovesWhole judged db → MayMove old db
-  may_move db was_open columns rise sound whole = record {
+  -- they were made as their program makes them
+  pub made_from : IsMadeAs One judged.now.schema → IsMadeAs One old.now.schema
+  made_from = made_same One judged old same
+
+  pub first_from : IsMadeAs One judged.now.schema → IsVersionOf one old → RowsRise old → IsDatabase old.now → IsFirst judged
+  first_from made version rise sound = first_same old judged (sym same) (first_of old (made_from made) version rise sound)
+
+  pub may_move : (db : Trees) → IsTrue old.is_open → HasColumnsOf one.asked old.now.schema → IsMadeAs One judged.now.schema → RowsRise old → IsDatabase old.now → MovesWhole judged db → MayMove old db
+  may_move db was_open columns made rise sound whole = record {
     was_open = was_open;
     columns = columns;
-    whole = λ office it.
-        let first = first_same old judged (sym same) (first_of old (made_so One old.now office it sound) it.version rise sound) in
-        whole first office (subst (λ (d : Database). office_one d.trees ≡ Some office) (sym same) it.holds);
+    made = made_from made;
+    whole = λ version.
+        let it = whole (first_from made version rise sound) in
+        (it.0, subst (λ (d : Database). office_one d.trees ≡ Some it.0) same it.1, it.2);
   }

@@ -1,11 +1,13 @@
 -- Tables that are whole: how they are known, and as what they are opened.
 use Rattle.std.proofs.Common.{◌≡◌, ◌≢◌, ◌⊎◌, ◌≤◌, ℕ, List, [], ◌∷◌, Option, Some, IsTrue, refl, sym, ap, subst, ◌∙◌, inl, inr, true≢false, arith}
 use Rattle.sqlite.specs.Effect.{Database, IsDatabase}
+use Rattle.sqlite.specs.Held.{state}
 use Rattle.sqlite.specs.Schema.{Schema}
 use Rattle.sqlite.specs.State.{State, IsLive}
 use Rattle.sqlite.specs.Tree.{Trees}
 use Rattle.sqlite_catalog.specs.Listing.{AreListed}
 use Rattle.sqlite_trees.specs.Objects.{catalog_tree}
+use Rattle.sqlite_trees.specs.declared.store.Store as store
 use Rattle.desk_words.specs.Changes.{empty_office}
 use Rattle.desk_words.specs.declared.office.OfficeLists.{OfficeLists}
 use Rattle.sql_rows.specs.declared.stored_records.Version.{Version}
@@ -19,7 +21,7 @@ use Rattle.sql_desk_tables.specs.ColumnChecks.{HasColumnsOf}
 use Rattle.sql_desk_tables.specs.Versions.{NotesVersion}
 use Rattle.sql_open.specs.Crashes.{LeavesItself}
 use Rattle.sql_open.specs.Known.{IsMadeAs, edition_of}
-use Rattle.sql_open.specs.Opened.{StandsFor}
+use Rattle.sql_open.specs.Opened.{OpensFirst, StandsFor}
 use Rattle.sql_open.specs.Opening.{IsOpenCause}
 use Rattle.sql_open.specs.WholeDesk.{IsNewDesk, IsWhole, IsWholeAs, IsWholeDesk, LeavesWhole}
 use Rattle.sql_open.specs.declared.fault.OpenFault.{OpenFault}
@@ -127,6 +129,10 @@ opens_whole old new told live is_open stands office (known, whole) =
     let it = stands known made whole.version in
     let same : told ≡ office = some_is (sym it.0 ∙ whole.holds) in
     subst (Stands new) same it.1
+
+-- tables of version 1 that were opened stand for the office that they held
+pub first_stands : {S : Type 0} (g : store.Ghosts S) → OpensFirst g
+first_stands g old new office were opened stands clean = stands clean One opened.0 (were.noted (notes_so One (state g old).now.schema opened.0))
 
 -- the tables of a database that is a new desk are those of one
 pub new_desk : (s : State) (db : Trees) → Stands s empty_office → s.now.schema ≡ desk_schema → IsDatabase s.now → db ≡ s.now.trees → IsNewDesk db

@@ -1,12 +1,13 @@
 -- What a crash leaves of a database that is opened, or handed back.
-use Rattle.std.specs.Prelude.{◌≡◌, ◌↔◌, ◌⊎◌}
+use Rattle.std.specs.Prelude.{◌≡◌, ◌↔◌, ◌⊎◌, Some}
 use Rattle.sqlite.specs.Held.{Held, state}
 use Rattle.sqlite.specs.State.{State, HasCleanDisk}
 use Rattle.sqlite.specs.Tree.{Trees}
 use Rattle.sqlite_trees.specs.declared.store.Store as store
 use Rattle.desk_words.specs.declared.office.OfficeLists.{OfficeLists}
+use Rattle.sql_model.specs.OfficeRecords.{office_one}
 use Rattle.sql_model.specs.Standing.{Stands}
-use Rattle.sql_open.specs.Known.{WereOf}
+use Rattle.sql_open.specs.Known.{IsMadeAs, WereOf}
 use Rattle.sql_open.specs.Opening.{IsCleanBack}
 use Rattle.sql_open.specs.WholeDesk.{IsWhole, IsWholeAs, IsWholeDesk, OpensWhole}
 use Rattle.sql_open.specs.declared.opening.HandedBack.{HandedBack}
@@ -26,11 +27,14 @@ may_leave_of g (back.Store store) = g.recovers store
 abbrev pub LeavesNoMore : {S : Type 0} → store.Ghosts S → State → HandedBack S → Type 0
 LeavesNoMore g old it = IsCleanBack g it → (db : Trees) → may_leave_of g it db → old.may_leave db
 
--- these tables are those of version 1, moved: where those were whole of an office, these are whole
--- of the same
+-- these tables are those of version 1, moved: those were made as its program makes them and held
+-- an office, and these are whole of it
 pub record AreMoved {S : Type 0} (g : store.Ghosts S) (old : State) (db : Trees) : Type 0 where
   pub were : WereOf g One old
-  pub whole : (office : OfficeLists) → IsWholeAs One old.now.trees office → IsWhole db office
+  pub made : IsMadeAs One old.now.schema
+  pub office : OfficeLists
+  pub was : office_one old.now.trees ≡ Some office
+  pub whole : IsWhole db office
 
 -- a crash leaves nothing of it that it did not leave before, but for tables of version 1 moved
 abbrev pub LeavesAtMostMoved : {S : Type 0} → store.Ghosts S → State → HandedBack S → Type 0

@@ -49,7 +49,8 @@ pub record WereOf {S : Type 0} (g : store.Ghosts S) (known : KnownVersion) (s : 
   pub noted : NotesVersion s.now.schema → IsVersionOf (edition_of known) s
   pub columns : HasColumnsOf (edition_of known).asked s.now.schema
 
--- tables of version 2 are opened as they are; those of version 1 are moved
+-- tables of version 2 are opened as they are; those of version 1 were made as its program makes
+-- them, and are moved
 abbrev pub AreOpened : KnownVersion → State → State → Type 0
-AreOpened One old new = IsMadeAs One old.now.schema → IsMoved old new
+AreOpened One old new = IsMadeAs One old.now.schema × IsMoved old new
 AreOpened Two old new = new.now ≡ old.now

@@ -19,6 +19,7 @@ use Rattle.sql_open.specs.declared.fault.OpenFault.{OpenFault}
 use Rattle.sql_open.specs.declared.fault.OpenFault.TheVariants.{NewerVersion, Store, Memory}
 use Rattle.sql_open.specs.declared.opening.HandedBack.{HandedBack}
 use Rattle.sql_open.specs.declared.version.KnownVersion.{KnownVersion}
+use Rattle.sql_open.specs.declared.version.KnownVersion.TheVariants.{One}
 
 -- where it went well, this holds
 abbrev pub OnDone : {S T E : Type 0} → store.Ghosts S → Held S → Result T E → Type 0 → Type 0
@@ -96,6 +97,17 @@ StandsFor old new office known =
 abbrev pub StandsWhole : {S : Type 0} → store.Ghosts S → Held S → Held S → OfficeLists → Type 0
 StandsWhole g old new office =
     IfMadeAs g old new (StandsFor (state g old) (state g new) office)
+
+-- tables of version 1 that were opened stand for the office that they held, and a crash leaves it
+-- whole
+abbrev pub OpensFirst : {S : Type 0} → store.Ghosts S → Type 0
+OpensFirst {S} g =
+    (old new : Held S) (office : OfficeLists)
+    → WereOf g One (state g old)
+    → AreOpened One (state g old) (state g new)
+    → StandsWhole g old new office
+    → HasCleanDisk (state g new)
+    → StandsFor (state g old) (state g new) office One
 
 -- a crash leaves what it left before, or tables of version 1 moved
 abbrev pub SurvivesMoving : {S : Type 0} → store.Ghosts S → Held S → Held S → Type 0

@@ -3,11 +3,13 @@ use Rattle.std.specs.Prelude.{◌≡◌, ◌≢◌, ◌⊎◌, ◌≤◌, false,
 use Rattle.std.specs.Prelude.{IfErr, IfOk, OnOk}
 use Rattle.sqlite.specs.declared.error.Error.{Error}
 use Rattle.sqlite.specs.declared.error.Error.TheVariants.{SqliteFailure}
-use Rattle.sqlite.specs.declared.error.ErrorCode.TheVariants.{OutOfMemory}
+use Rattle.sqlite.specs.declared.error.ErrorCode.TheVariants.{Closed, OutOfMemory}
 use Rattle.sqlite.specs.Effect.{Database}
 use Rattle.sqlite.specs.Held.{Held, state}
 use Rattle.sqlite.specs.State.{State, HasCleanDisk, IsUnchanged, Survives}
+use Rattle.sqlite.specs.Steps.{FailsToOpen}
 use Rattle.sqlite.specs.Tree.{Trees}
+use Rattle.sqlite_disk.specs.Disk.{MoreFaults}
 use Rattle.sqlite_trees.specs.View.{IsClean}
 use Rattle.sqlite_trees.specs.declared.store.Store as store
 use Rattle.desk_words.specs.declared.office.OfficeLists.{OfficeLists}
@@ -125,6 +127,26 @@ open_fault_of other = Store
 abbrev pub fault_of_columns : ColumnError → OpenFault
 fault_of_columns column.Missing = NotADesk
 fault_of_columns (column.Refused error) = open_fault_of error
+
+-- why the store of a connection was not opened once more: it is shut, or it was open and could not
+-- be read
+abbrev pub FailsToReopen : {S : Type 0} → store.Ghosts S → Held S → S → Error → Type 0
+FailsToReopen g conn left e =
+    (((g.view left).is_open ≡ false) × (e ≡ SqliteFailure Closed))
+    ⊎ (IsTrue (state g conn).is_open
+    × FailsToOpen (state g conn).now.trees (MoreFaults (state g conn).faults (g.faults left)) e)
+
+-- this is the fault that is reported then
+abbrev pub IsWhyShut : {S : Type 0} → store.Ghosts S → Held S → OpenFault → S → Type 0
+IsWhyShut g conn fault left =
+    IsClean (g.view left)
+    → (e : Error) × (fault ≡ open_fault_of e) × FailsToReopen g conn left e
+
+-- so it is where a store is handed back
+abbrev pub ReportsReopening : {S : Type 0} → store.Ghosts S → Held S → OpenFault → HandedBack S
+    → Type 0
+ReportsReopening g conn fault (back.Connection it) = Unit {0}
+ReportsReopening g conn fault (back.Store left) = IsWhyShut g conn fault left
 
 -- so far the disk returned what was written
 abbrev pub IsCleanBack : {S : Type 0} → store.Ghosts S → HandedBack S → Type 0

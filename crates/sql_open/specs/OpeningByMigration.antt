@@ -9,10 +9,11 @@ use Rattle.desk_words.specs.declared.office.OfficeLists.{OfficeLists}
 use Rattle.sql_schema.specs.Statements.{WasOpen}
 use Rattle.sql_model.specs.MigratedRecords.{IsMoved}
 use Rattle.sql_model.specs.OfficeRecords.{office_one}
-use Rattle.sql_model.specs.Standing.{HasNoOfficeBy, Stands, one}
+use Rattle.sql_model.specs.Standing.{HasNoOfficeBy, IsVersionOf, Stands, one}
 use Rattle.sql_desk_tables.specs.ColumnChecks.{HasColumnsOf}
 use Rattle.sql_migrate.specs.Migration.{IsFirst}
-use Rattle.sql_open.specs.WholeDesk.{IsWhole, IsWholeAs}
+use Rattle.sql_open.specs.Known.{IsMadeAs}
+use Rattle.sql_open.specs.WholeDesk.{IsWhole}
 use Rattle.sql_open.specs.declared.fault.OpenFault.{OpenFault}
 use Rattle.sql_open.specs.declared.fault.OpenFault.TheVariants.{NotADesk, NewerVersion}
 use Rattle.sql_open.specs.declared.version.KnownVersion.TheVariants.{One}
@@ -36,15 +37,20 @@ pub record IsMove {S : Type 0} (g : store.Ghosts S) (old new : Held S)
   pub was_open : WasOpen (state g old) (state g new)
   pub crash : Survives (state g old) (state g new) (λ _. ⊥)
 
--- what is committed of tables of version 1: where they were an office, these are whole of the same
+-- tables of version 1 held an office, and these are whole of it
+abbrev pub KeepsOffice : State → Trees → Type 0
+KeepsOffice old db =
+    (office : OfficeLists) × (office_one old.now.trees ≡ Some office) × IsWhole db office
+
+-- what is committed of tables of version 1 is their office, whole
 abbrev pub MovesWhole : State → Trees → Type 0
-MovesWhole old db =
-    IsFirst old
-    → (office : OfficeLists) → office_one old.now.trees ≡ Some office → IsWhole db office
+MovesWhole old db = IsFirst old → KeepsOffice old db
 
 -- the tables that are committed where tables of version 1 are moved: each column that is read of
--- those stood, and where they were whole of an office, these are whole of the same
+-- those stood, they were made as their program makes them, and where they noted version 1, these
+-- are whole of their office
 pub record MayMove (old : State) (db : Trees) : Type 0 where
   pub was_open : IsTrue old.is_open
   pub columns : HasColumnsOf one.asked old.now.schema
-  pub whole : (office : OfficeLists) → IsWholeAs One old.now.trees office → IsWhole db office
+  pub made : IsMadeAs One old.now.schema
+  pub whole : IsVersionOf one old → KeepsOffice old db

@@ -25,7 +25,8 @@ pub enum OpenFault {
     NotADesk,
     /// A later version of the program made its tables.
     NewerVersion,
-    /// The store refused a statement for another cause than memory.
+    /// The store refused a statement for another cause than memory, or the tables are of version 1
+    /// and not just those that its program made.
     Store,
     /// An allocation was refused.
     Memory,

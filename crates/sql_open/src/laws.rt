@@ -1,5 +1,6 @@
 //! What is known of the tables of a file as it is opened.
 ghost use Rattle.sql_open.specs.Crashes.{OpensMoved};
+ghost use Rattle.sql_open.specs.Opened.{OpensFirst};
 ghost use Rattle.sql_open.specs.Rising.{FoundRowsRise};
 ghost use Rattle.sql_open.specs.WholeDesk.{OpensAgain};
 
@@ -15,6 +16,12 @@ pub fn found_rows_rise()
 /// office, as its clause on whole tables says.
 pub fn opens_again<S: Alter>()
     ensures { OpensAgain S.Store }
+{}
+
+/// Tables of version 1 that `open` opens stand for the office that they held, and a crash leaves it
+/// whole. Its clauses on known tables and on what stands say so.
+pub fn opens_first<S: Alter>()
+    ensures { OpensFirst S.Store }
 {}
 
 /// `open` opens the office of a desk of version 1 whatever a crash leaves of it, before it is moved,

@@ -3,6 +3,7 @@
 
 mod creation;
 mod fault;
+mod first;
 pub mod laws;
 mod making;
 mod moving;

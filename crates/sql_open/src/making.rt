@@ -65,16 +65,25 @@ fn make_indexes<S: Alter>(tx: &mut Transaction<'_, S>) -> Result<(), Error>
     Ok(())
 }
 
+/// Makes the tables and indexes of version 1, all empty.
+pub(crate) fn make_first<S: Alter>(tx: &mut Transaction<'_, S>) -> Result<(), Error>
+    ensures same_reference { tx.new.conn.ghost_name ≡ tx.old.conn.ghost_name }
+    ensures made { IsMaking S.Store tx.old.conn.now tx.new.conn.now result
+        no_schema schema_one }
+{
+    make_meetings(tx)?;
+    make_proxy_tables(tx)?;
+    make_polls(tx)?;
+    make_indexes(tx)
+}
+
 /// Makes the tables and indexes, all empty: first those that version 1 has already.
 fn make_tables<S: Alter>(tx: &mut Transaction<'_, S>) -> Result<(), Error>
     ensures same_reference { tx.new.conn.ghost_name ≡ tx.old.conn.ghost_name }
     ensures made { IsMaking S.Store tx.old.conn.now tx.new.conn.now result
         no_schema desk_schema }
 {
-    make_meetings(tx)?;
-    make_proxy_tables(tx)?;
-    make_polls(tx)?;
-    make_indexes(tx)?;
+    make_first(tx)?;
     make_later(tx)
 }
 

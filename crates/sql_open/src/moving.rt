@@ -17,6 +17,7 @@ ghost use Rattle.sqlite.specs.State.{HasCleanDisk, Survives};
 
 use crate::creation::rests;
 use crate::fault::OpenFault;
+use crate::first::judge_declared;
 use crate::opening::{judge_columns, read_lists};
 use crate::version::KnownVersion;
 use desk_words::OfficeLists;
@@ -75,7 +76,8 @@ fn move_desk<S: Alter>(conn: &mut Connection<S>, alloc: Global) -> Result<Office
 }
 
 /// The office that tables of version 1 hold, which are moved, where each column that is read of
-/// that version stands. The store is open then.
+/// that version stands, and the database has just the tables and indexes that its program made.
+/// Otherwise nothing is written. The store is open then.
 pub(crate) fn moved_office<S: Alter>(
     conn: &mut Connection<S>,
     alloc: Global,
@@ -85,13 +87,13 @@ pub(crate) fn moved_office<S: Alter>(
         → RowsRise (state S.Store conn.old) }
     ensures ended { conn.new.in_transaction ≡ false }
     ensures stands { HasCleanDisk (state S.Store conn.new)
-        → IsMadeAs known.One (state S.Store conn.old).now.schema
         → IsVersionOf one (state S.Store conn.old) → IfOk result (λ office.
         StandsFor (state S.Store conn.old) (state S.Store conn.new) office known.One) }
     ensures opened { OnDone S.Store conn.new result (IsTrue (state S.Store conn.old).is_open
         × HasColumnsOf one.asked (state S.Store conn.old).now.schema
+        × (IsMadeAs known.One (state S.Store conn.old).now.schema
         × (IsVersionOf one (state S.Store conn.old)
-        → AreOpened known.One (state S.Store conn.old) (state S.Store conn.new))) }
+        → AreOpened known.One (state S.Store conn.old) (state S.Store conn.new)))) }
     ensures office { IfOk result (λ office. IsTrue (is_office office)) }
     ensures is_open { OnDone S.Store conn.new result (IsTrue (state S.Store conn.new).is_open) }
     ensures settled { OnDone S.Store conn.new result (LeavesItself (state S.Store conn.new)) }
@@ -107,6 +109,7 @@ pub(crate) fn moved_office<S: Alter>(
 {
     let _ = conn.schema();
     judge_columns(conn, KnownVersion::One)?;
+    judge_declared(conn, alloc)?;
     let _ = conn.schema();
     let office = move_desk(conn, alloc)?;
     rests(conn);

@@ -5,8 +5,8 @@ ghost use Rattle.sql_open.specs.Known.{AreOpened, IsMadeAs, edition_of};
 ghost use Rattle.sql_open.specs.Opened.{IsSettled, IsWhyUnopened, KeepsOpenRows, KeepsTables};
 ghost use Rattle.sql_open.specs.Opened.{OnDone, StandsFor, StandsWhole, StaysOpen};
 ghost use Rattle.sql_open.specs.Opened.{SurvivesMoving, WereKnown};
-ghost use Rattle.sql_open.specs.Opening.{HandsBack, IsInNone, IsNoDeskOf, IsVerdict};
-ghost use Rattle.sql_open.specs.Opening.{ReturnsOffice};
+ghost use Rattle.sql_open.specs.Opening.{HandsBack, IsInNone, IsNoDeskOf, IsVerdict, IsWhyShut};
+ghost use Rattle.sql_open.specs.Opening.{ReportsReopening, ReturnsOffice};
 ghost use Rattle.sql_open.specs.Rising.{RowsRise};
 ghost use Rattle.sql_open.specs.WholeDesk.{AsksOpen, OpensWhole};
 ghost use Rattle.sql_model.specs.Standing.{HasNoOffice, IsVersionOf, two};
@@ -42,7 +42,7 @@ pub enum HandedBack<S: Alter> {
 }
 
 /// Opens the store of the connection once more. Only what is known of a store as it is opened says
-/// that the numbers of the rows of each table rise.
+/// that the numbers of the rows of each table rise. The fault of a store that is shut is `Store`.
 #[tactic(auto, using(crate::proofs::FaultLemmas::of_the_store))]
 fn reopened<S: Alter + Drop>(
     alloc: Global,
@@ -55,6 +55,7 @@ fn reopened<S: Alter + Drop>(
     ensures rising { IfOk result (λ c. HasCleanDisk (state S.Store c)
         → RowsRise (state S.Store c)) }
     ensures fault { IfErr result (λ e. (e.0 ≢ NotADesk) × (e.0 ≢ NewerVersion)) }
+    ensures cause { IfErr result (λ e. IsWhyShut S.Store conn e.0 e.1) }
     ensures kept { IfErr result (λ e. IsClean (S.Store.view e.1)
         → IsTrue (S.Store.view e.1).is_open
         → (S.Store.view e.1).trees ≡ (state S.Store conn).now.trees) }
@@ -236,8 +237,9 @@ fn office_stored<S: Alter>(
 /// Tables of version 2 are opened as they are, and nothing is written: they stand first and are
 /// declared as `create` declares them; other tables, indexes and views may stand beside them.
 /// Tables of version 1 are moved to version 2 in one transaction, which is committed only where
-/// they hold an office: they and their indexes are as the program of version 1 made them, and no
-/// others stand beside them. Whatever tables the database holds, it is opened only where each
+/// they hold an office. They are moved only where they and their indexes are as the program of
+/// version 1 made them, and no other table, index or view stands beside them. Otherwise the fault
+/// is `Store`, and nothing is written. Whatever tables the database holds, it is opened only where each
 /// column that is read of their version stands.
 ///
 /// The version is asked before the other tables are read. The fault is `NewerVersion` only where
@@ -250,8 +252,8 @@ fn office_stored<S: Alter>(
 /// as they were. A connection in a transaction is refused as `Store` and handed back as it was. A
 /// limit of steps that was set on the connection is not kept. Of a desk that is opened a crash
 /// leaves the tables that are read, whole, and nothing else. After a refusal it leaves nothing that
-/// it did not leave before, or, of tables of version 1 alone, those tables moved, whole of the same
-/// office.
+/// it did not leave before, or, of tables of version 1 alone that hold an office, those tables
+/// moved, whole of that office.
 pub fn open<S: Alter + Drop>(
     alloc: Global,
     conn: Connection<S>,
@@ -265,6 +267,7 @@ pub fn open<S: Alter + Drop>(
     ensures cause { IfErr result (λ e. IsWhyUnopened S.Store conn e.0 e.1) }
     ensures kept { IfErr result (λ e. HandsBack S.Store (state S.Store conn).now.trees e.1) }
     ensures ended { IfErr result (λ e. conn.in_transaction ≡ false → IsInNone e.1) }
+    ensures reopening { IfErr result (λ e. ReportsReopening S.Store conn e.0 e.1) }
     ensures settled { IfOk result (λ opened. IsSettled S.Store opened.0) }
     ensures crash { IfErr result (λ e. LeavesAtMostMoved S.Store (state S.Store conn) e.1) }
     ensures inside { IsTrue conn.in_transaction

@@ -5,9 +5,8 @@ use Rattle.sqlite.specs.Held.{state}
 use Rattle.sql_open.specs.Rising.{Rise}
 use Rattle.sql_open.specs.declared.fault.OpenFault.{OpenFault}
 use Rattle.sql_open.specs.declared.version.KnownVersion.TheVariants.{One, Two}
-use Rattle.sql_open.proofs.OpenedKeptLemmas.{are_as_told, are_if_noted, kept_cause, kept_known, kept_rows, kept_stands, kept_whole, survives_as_is, survives_moved, version_cause}
+use Rattle.sql_open.proofs.OpenedKeptLemmas.{are_as_told, are_if_made, kept_cause, kept_known, kept_rows, kept_stands, kept_whole, survives_as_is, survives_moved, version_cause}
 use Rattle.sql_open.proofs.RisingLemmas.{are_noted}
-use Rattle.sql_open.proofs.WholeLemmas.{notes_so}
 use Rattle.sql_open.proofs.opening.office_stored.Goals as goal
 
 pub returns-in_err-judge_version-clause-cause : goal.returns-in_err-judge_version-clause-cause
@@ -32,21 +31,21 @@ pub returns-in-One-clause-stands : goal.returns-in-One-clause-stands
 returns-in-One-clause-stands g c =
     kept_stands g.S.Store One c.args.conn.now c.judge_version.new.conn c.moved_office.new.conn c.schema.ensures.live c.judge_version.ensures.same (λ clean. omega (arith, c.moved_office.ensures.crash.clean, clean))
     (λ clean notes. (rw c.in-One.is at c.in_ok-judge_version.ensures.noted) clean (are_noted (state g.S.Store c.args.conn.now) notes (c.requires.rising (omega (arith, c.judge_version.ensures.crash.clean, clean))))) (rw c.in-One.is at c.in_ok-judge_version.ensures.shown)
-    c.moved_office.result _ c.moved_office.ensures.stands c.moved_office.ensures.opened
+    c.moved_office.result _ (λ clean _. c.moved_office.ensures.stands clean) c.moved_office.ensures.opened
 
 pub returns-in-One-clause-whole : goal.returns-in-One-clause-whole
 returns-in-One-clause-whole g c =
     kept_whole g.S.Store One c.args.conn.now c.judge_version.new.conn c.moved_office.new.conn c.schema.ensures.live c.judge_version.ensures.same (λ clean. omega (arith, c.moved_office.ensures.crash.clean, clean))
     (λ clean notes. (rw c.in-One.is at c.in_ok-judge_version.ensures.noted) clean (are_noted (state g.S.Store c.args.conn.now) notes (c.requires.rising (omega (arith, c.judge_version.ensures.crash.clean, clean))))) (rw c.in-One.is at c.in_ok-judge_version.ensures.shown)
-    c.moved_office.result _ c.moved_office.ensures.stands c.moved_office.ensures.opened
+    c.moved_office.result _ (λ clean _. c.moved_office.ensures.stands clean) c.moved_office.ensures.opened
 
 pub returns-in-One-clause-known : goal.returns-in-One-clause-known
 returns-in-One-clause-known g c =
     kept_known g.S.Store One c.args.conn.now c.judge_version.new.conn c.moved_office.new.conn c.schema.ensures.live c.judge_version.ensures.same (λ clean. omega (arith, c.moved_office.ensures.crash.clean, clean))
     (λ clean notes. (rw c.in-One.is at c.in_ok-judge_version.ensures.noted) clean (are_noted (state g.S.Store c.args.conn.now) notes (c.requires.rising (omega (arith, c.judge_version.ensures.crash.clean, clean))))) (rw c.in-One.is at c.in_ok-judge_version.ensures.shown)
     c.moved_office.result _ c.moved_office.ensures.opened
-    (λ clean is_open are made. are_if_noted g.S.Store One c.args.conn.now c.judge_version.new.conn c.moved_office.new.conn c.schema.ensures.live c.judge_version.ensures.same (λ clean. omega (arith, c.moved_office.ensures.crash.clean, clean))
-    (λ clean notes. (rw c.in-One.is at c.in_ok-judge_version.ensures.noted) clean (are_noted (state g.S.Store c.args.conn.now) notes (c.requires.rising (omega (arith, c.judge_version.ensures.crash.clean, clean))))) (rw c.in-One.is at c.in_ok-judge_version.ensures.shown) clean is_open are (notes_so One _ made) made)
+    (λ clean is_open are. are_if_made g.S.Store One c.args.conn.now c.judge_version.new.conn c.moved_office.new.conn c.schema.ensures.live c.judge_version.ensures.same (λ clean. omega (arith, c.moved_office.ensures.crash.clean, clean))
+    (λ clean notes. (rw c.in-One.is at c.in_ok-judge_version.ensures.noted) clean (are_noted (state g.S.Store c.args.conn.now) notes (c.requires.rising (omega (arith, c.judge_version.ensures.crash.clean, clean))))) (rw c.in-One.is at c.in_ok-judge_version.ensures.shown) clean is_open are)
 
 pub returns-in-One-clause-cause : goal.returns-in-One-clause-cause
 returns-in-One-clause-cause g c =
