@@ -1,5 +1,5 @@
 //! The answer to a party.
-ghost use Rattle.std.specs.Prelude.{◌≡◌, true, IfOk, IsOk, map};
+ghost use Rattle.std.specs.Prelude.{◌≡◌, true, IfOk, IsOk, None, map};
 ghost use Rattle.desk_words.specs.Rulings.{refuses, reply_only, ruled_answer};
 ghost use Rattle.desk_words.specs.declared.reply.Reply.TheVariants as reply;
 ghost use Rattle.desk_words.specs.declared.request.PartyRequest.TheVariants as request;
@@ -123,15 +123,16 @@ fn noticed(
 }
 
 /// The answer to a party that asks for the notice, as `answer` says. It reads nothing of the
-/// party's own.
+/// party's own. That there is no meeting takes no memory to say.
 #[inline(never)]
 pub fn answer_notice(
     alloc: Global,
     public: &PublicRecord,
     now: Moment,
 ) -> Result<Answer<Entry>, AllocError>
-    ensures { IfOk result (λ a. (own : OwnView)
+    ensures answer { IfOk result (λ a. (own : OwnView)
         → a ≡ ruled_answer (party_ruling public.now own now request.Notice)) }
+    ensures sure { public.now.meeting ≡ None → IsOk result }
 {
     match public.meeting() {
         Some(meeting) => noticed(alloc, public, meeting, now),

@@ -19,7 +19,7 @@ use Rattle.desk_words.specs.declared.reply.Reply.TheVariants as reply
 use Rattle.json_replies.specs.AppointmentJson.{instruction_data, run_data, given_data, last_votes, poll_governed_data, received_data, session_governed_data}
 use Rattle.json_replies.specs.Forms.{numbered_array, is_adjourned, array_of, members, moment_data, numbered_values, only_if, or_null, decimal_data}
 use Rattle.json_replies.specs.NoticeJson.{result_data, has_later, noticed_poll_data, noticed_resolution_data, noticed_session_data, notice_data}
-use Rattle.json_replies.specs.Replies.{row_data, person_data, authorised_data, demand_data, cast_kind_data, cast_data, mine_data, reply_data}
+use Rattle.json_replies.specs.Replies.{row_data, person_data, authorised_data, demand_data, cast_kind_data, cast_data, mine_data, reply_data, sessions_present}
 use Rattle.json_replies.specs.ReplyMembers.{mine_rest}
 
 max_below : (a b k : ℕ) → a ≤ k → b ≤ k → max a b ≤ k
@@ -83,9 +83,9 @@ mine_below m =
     let persons : items_depth (items_of (map person_data m.persons)) ≤ 0 = items_below person_data 0 (λ _. omega arith) m.persons in
     let received : items_depth (items_of (map received_data m.received)) ≤ 5 = items_below received_data 5 received_below m.received in
     let row : depth (or_null row_data m.row) ≤ 1 = or_null_below row_data 1 (λ _. omega arith) m.row in
-    let presences : items_depth (items_of (map decimal_data m.presences)) ≤ 0 = items_below decimal_data 0 (λ _. omega arith) m.presences in
+    let presences : items_depth (items_of (map decimal_data (sessions_present m))) ≤ 0 = items_below decimal_data 0 (λ _. omega arith) (sessions_present m) in
     let rest : members_depth (members (mine_rest m)) ≤ 6 =
-    only_if_below (is_adjourned m.session) (codes "presences", array_of decimal_data m.presences) _ 6 (omega arith) (omega arith) in
+    only_if_below (is_adjourned m.session) (codes "presences", array_of decimal_data (sessions_present m)) _ 6 (omega arith) (omega arith) in
     omega arith
 
 noticed_session_below : (number : ℕ) (s : NoticedSession) → depth (noticed_session_data number s) ≤ 1

@@ -1,6 +1,6 @@
 -- Replies as JSON, over the words of `serde_json`. The members of an object stand in the order of
 -- the bytes of their keys.
-use Rattle.std.specs.Prelude.{ℕ, Bool, ◌==◌, List, [], ◌∷◌, codes}
+use Rattle.std.specs.Prelude.{ℕ, zero, suc, Bool, ◌==◌, List, [], ◌∷◌, ◌++◌, codes, if◌then◌else◌}
 use Rattle.std.specs.List.{list_any}
 use Rattle.serde_json.specs.Data.{Data, boolean, string}
 use Rattle.serde_json.specs.Written.{compact_text}
@@ -74,9 +74,21 @@ cast_kind_data resolution cast.AsInstructed =
 abbrev pub cast_data : CastMark → Data
 cast_data mark = cast_kind_data mark.resolution mark.what
 
--- the party is present in the last session
-abbrev pub is_present_last : Mine → Bool
-is_present_last m = list_any (λ session. session == m.session) m.presences
+-- the party is present in the session of this number
+abbrev pub is_present_in : List ℕ → ℕ → Bool
+is_present_in presences number = list_any (λ session. session == number) presences
+
+-- the sessions up to this one in which the party is present, in the order of their numbers
+abbrev pub present_up_to : List ℕ → ℕ → List ℕ
+present_up_to presences zero = []
+present_up_to presences (suc before) =
+    if is_present_in presences (suc before)
+    then present_up_to presences before ++ (suc before ∷ [])
+    else present_up_to presences before
+
+-- the sessions in which the party is present, in the order of their numbers
+abbrev pub sessions_present : Mine → List ℕ
+sessions_present m = present_up_to m.presences m.session
 
 -- a party's own things
 abbrev pub mine_data : Mine → Data
@@ -88,8 +100,9 @@ mine_data m = object_of (
     ∷ (codes "meeting", name_data m.meeting)
     ∷ (codes "ok", string (codes "mine"))
     ∷ (codes "persons", array_of person_data m.persons)
-    ∷ only_if (is_adjourned m.session) (codes "presences", array_of decimal_data m.presences) (
-    (codes "present", boolean (is_present_last m))
+    ∷ only_if (is_adjourned m.session)
+    (codes "presences", array_of decimal_data (sessions_present m)) (
+    (codes "present", boolean (is_present_in m.presences m.session))
     ∷ (codes "received", array_of received_data m.received)
     ∷ (codes "row", or_null row_data m.row)
     ∷ []))

@@ -12,7 +12,7 @@ use Rattle.desk_words.specs.declared.reply.NoticedPoll.{NoticedPoll}
 use Rattle.json_replies.specs.AppointmentJson.{given_data, instruction_data, last_votes, poll_governed_data, received_data, run_data, session_governed_data}
 use Rattle.json_replies.specs.Forms.{decimal_data, name_data, day_data, moment_data, or_null, array_of, numbered_array, only_if, is_adjourned}
 use Rattle.json_replies.specs.NoticeJson.{has_later, noticed_resolution_data, noticed_session_data, result_data}
-use Rattle.json_replies.specs.Replies.{authorised_data, cast_data, demand_data, is_present_last, row_data}
+use Rattle.json_replies.specs.Replies.{authorised_data, cast_data, demand_data, is_present_in, row_data, sessions_present}
 
 -- the members of a party's own things before the meeting's name
 abbrev pub mine_head : Mine → List (List ℕ × Data)
@@ -26,8 +26,9 @@ mine_head m =
 -- the members of a party's own things after the persons whom it authorised
 abbrev pub mine_rest : Mine → List (List ℕ × Data)
 mine_rest m =
-    only_if (is_adjourned m.session) (codes "presences", array_of decimal_data m.presences) (
-    (codes "present", boolean (is_present_last m))
+    only_if (is_adjourned m.session)
+    (codes "presences", array_of decimal_data (sessions_present m)) (
+    (codes "present", boolean (is_present_in m.presences m.session))
     ∷ (codes "received", array_of received_data m.received)
     ∷ (codes "row", or_null row_data m.row)
     ∷ [])

@@ -1,13 +1,12 @@
 //! A party's own things, as JSON.
-ghost use Rattle.std.specs.Prelude.{◌≡◌, OnOk};
-ghost use Rattle.json_replies.specs.Forms.{moment_data};
+ghost use Rattle.std.specs.Prelude.{◌≡◌, [], ◌∷◌, codes, OnOk};
+ghost use Rattle.json_replies.specs.Forms.{array_of, decimal_data, moment_data, only_if};
 ghost use Rattle.json_replies.specs.ReplyMembers.{mine_head, mine_rest};
-ghost use Rattle.json_replies.specs.Replies.{row_data, person_data, authorised_data, demand_data, cast_kind_data, cast_data, is_present_last, mine_data};
+ghost use Rattle.json_replies.specs.Replies.{row_data, person_data, authorised_data, demand_data, cast_kind_data, cast_data, is_present_in, sessions_present, mine_data};
 ghost use Rattle.json_replies.specs.Writing.{WritesMembers, WritesValue};
 
 use crate::shown::{
-    Shown, is_adjourned, put_list, put_list_if, put_number, put_or_null, put_text, put_truth,
-    write_number,
+    Shown, is_adjourned, put_list, put_number, put_or_null, put_text, put_truth, write_number,
 };
 use desk_words::{
     Authorised, Authority, Block, CastKind, CastMark, DemandMark, Mine, Moment, RegisterRow,
@@ -110,23 +109,60 @@ fn put_mine_head(out: &mut Writer, mine: &Mine) -> Result<(), AllocError>
     put_list(out, "given", mine.given.as_slice())
 }
 
-/// Whether the party is present in the last session.
-fn is_present(mine: &Mine) -> bool
-    ensures { result ≡ is_present_last mine.now }
+/// Whether the party is present in a session.
+fn is_present_in(mine: &Mine, number: u64) -> bool
+    ensures { result ≡ is_present_in mine.now.presences number }
 {
     mine.presences
         .as_slice()
         .iter()
-        .any(|session| *session == mine.session)
+        .any(|session| *session == number)
+}
+
+/// Writes the sessions in which the party is present, in the order of their numbers.
+fn write_presences(out: &mut Writer, mine: &Mine) -> Result<(), AllocError>
+    ensures { OnOk result
+        (WritesValue (array_of decimal_data (sessions_present mine.now)) out.old out.new) }
+{
+    out.begin_array()?;
+    let last = mine.session;
+    let mut session = 0;
+    while session < last {
+        session += 1;
+        if is_present_in(mine, session) {
+            write_number(out, session)?;
+        }
+    }
+    out.end_array()
+}
+
+/// Writes the member that is the list of these sessions.
+fn put_presences(out: &mut Writer, mine: &Mine) -> Result<(), AllocError>
+    ensures { OnOk result (WritesMembers
+        ((codes "presences", array_of decimal_data (sessions_present mine.now)) ∷ []) out.old out.new) }
+{
+    out.key("presences")?;
+    write_presences(out, mine)
+}
+
+/// Writes the same where the test holds.
+fn put_presences_if(out: &mut Writer, holds: bool, mine: &Mine) -> Result<(), AllocError>
+    ensures { OnOk result (WritesMembers (only_if holds
+        (codes "presences", array_of decimal_data (sessions_present mine.now)) []) out.old out.new) }
+{
+    if holds {
+        put_presences(out, mine)
+    } else {
+        Ok(())
+    }
 }
 
 /// Writes the members after the persons whom the party authorised.
 fn put_mine_rest(out: &mut Writer, mine: &Mine) -> Result<(), AllocError>
     ensures { OnOk result (WritesMembers (mine_rest mine.now) out.old out.new) }
 {
-    let adjourned = is_adjourned(mine.session);
-    put_list_if(out, adjourned, "presences", mine.presences.as_slice())?;
-    put_truth(out, "present", is_present(mine))?;
+    put_presences_if(out, is_adjourned(mine.session), mine)?;
+    put_truth(out, "present", is_present_in(mine, mine.session))?;
     put_list(out, "received", mine.received.as_slice())?;
     put_or_null(out, "row", &mine.row)
 }

@@ -145,23 +145,6 @@ pub(crate) fn put_truth(out: &mut Writer, key: &str, holds: bool) -> Result<(), 
     out.boolean(holds)
 }
 
-/// Writes a member that is the list of these, in their order, where the test holds.
-pub(crate) fn put_list_if<T: Shown>(
-    out: &mut Writer,
-    holds: bool,
-    key: &str,
-    items: &[T],
-) -> Result<(), AllocError>
-    ensures { OnOk result (WritesMembers
-        (only_if holds (key.now, array_of T.shown items.now) []) out.old out.new) }
-{
-    if holds {
-        put_list(out, key, items)
-    } else {
-        Ok(())
-    }
-}
-
 /// Writes a member that is a number, where the test holds.
 pub(crate) fn put_number_if(
     out: &mut Writer,

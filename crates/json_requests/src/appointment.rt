@@ -1,5 +1,6 @@
 //! Appointments of proxies, and their endings.
-ghost use Rattle.std.specs.Prelude.{nat_le};
+ghost use Rattle.json_requests.specs.declared.ask.BodyError.TheVariants.{Unreadable};
+ghost use Rattle.std.specs.Prelude.{nat_le, ◌≡◌, IfErr};
 ghost use Rattle.vocabulary.specs.OptionSteps.{guard};
 ghost use Rattle.serde_json.specs.Events.{items_len};
 ghost use Rattle.json_requests.specs.BodyValues.{view, items_view};
@@ -18,7 +19,8 @@ use std::alloc::Global;
 
 #[tactic(auto, unfolding(crate::specs::AppointmentBodies::instruction_at))]
 fn instruction(value: &Value<'_>) -> Result<Instr, BodyError>
-    ensures { BodyAgrees id result (instruction_at (view value.now)) }
+    ensures agrees { BodyAgrees id result (instruction_at (view value.now)) }
+    ensures sure { IfErr result (λ why. why ≡ Unreadable) }
 {
     instruction_in(Some(value))
 }
@@ -27,8 +29,9 @@ fn instruction(value: &Value<'_>) -> Result<Instr, BodyError>
 /// resolutions of a meeting.
 #[tactic(auto, using(crate::proofs::ItemLemmas::items_seen))]
 fn few(items: &[Value<'_>]) -> Result<(), BodyError>
-    ensures { BodyAgrees id result
+    ensures agrees { BodyAgrees id result
         (guard (nat_le (items_len (items_view items.now)) MOST_RESOLUTIONS)) }
+    ensures sure { IfErr result (λ why. why ≡ Unreadable) }
 {
     if items.len() <= MOST_RESOLUTIONS {
         Ok(())
@@ -90,7 +93,8 @@ pub(crate) const END: &[&str] = &["number"];
 /// The ending that its field gives.
 #[tactic(auto, unfolding(crate::specs::AppointmentBodies::end_in))]
 pub(crate) fn end(fields: &[Option<Value<'_>>]) -> Result<PartyRequest, BodyError>
-    ensures { BodyAgrees id result (end_in (fields_view fields.now)) }
+    ensures agrees { BodyAgrees id result (end_in (fields_view fields.now)) }
+    ensures sure { IfErr result (λ why. why ≡ Unreadable) }
 {
     let [number] = fields else {
         return Err(BodyError::Unreadable);

@@ -1,4 +1,6 @@
 //! The loading of closed days.
+ghost use Rattle.std.specs.Prelude.{◌≡◌, IfErr};
+ghost use Rattle.json_requests.specs.declared.ask.BodyError.TheVariants.{Unreadable};
 ghost use Rattle.json_requests.specs.BodyValues.{view, items_view};
 ghost use Rattle.vocabulary.specs.Identity.{id};
 ghost use Rattle.json_requests.specs.ParsedBodies.{BodyAgrees};
@@ -15,7 +17,8 @@ use std::alloc::Global;
 
 #[tactic(auto, unfolding(crate::specs::DayBodies::day_at))]
 fn day(value: &Value<'_>) -> Result<Day, BodyError>
-    ensures { BodyAgrees id result (day_at (view value.now)) }
+    ensures agrees { BodyAgrees id result (day_at (view value.now)) }
+    ensures sure { IfErr result (λ why. why ≡ Unreadable) }
 {
     day_in(Some(value))
 }

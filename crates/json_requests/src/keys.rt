@@ -1,4 +1,6 @@
 //! The loading of keys.
+ghost use Rattle.std.specs.Prelude.{◌≡◌, IfErr};
+ghost use Rattle.json_requests.specs.declared.ask.BodyError.TheVariants.{Unreadable};
 ghost use Rattle.json_requests.specs.BodyValues.{view, items_view};
 ghost use Rattle.desk_words.specs.SortedLists.{key_list_of};
 ghost use Rattle.vocabulary.specs.Identity.{id};
@@ -17,7 +19,8 @@ use std::alloc::Global;
 /// A row is a pair of a caller, `OFFICE` or a party, and its key.
 #[tactic(auto, unfolding(crate::specs::KeyBodies::key_row_of))]
 fn key_row(value: &Value<'_>) -> Result<KeyRow, BodyError>
-    ensures { BodyAgrees id result (key_row_of (view value.now)) }
+    ensures agrees { BodyAgrees id result (key_row_of (view value.now)) }
+    ensures sure { IfErr result (λ why. why ≡ Unreadable) }
 {
     exactly_items(value, 2)?;
     let caller = caller_in(item(value, 0))?;

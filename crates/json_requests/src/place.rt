@@ -1,4 +1,6 @@
 //! What stands at a place: at a name that is asked for, or at an index in an array.
+ghost use Rattle.std.specs.Prelude.{◌≡◌, IfErr};
+ghost use Rattle.json_requests.specs.declared.ask.BodyError.TheVariants.{Unreadable};
 ghost use Rattle.vocabulary.specs.OptionSteps.{guard};
 ghost use Rattle.json_requests.specs.BodyValues.{view, items_view};
 ghost use Rattle.calendar.specs.DateTexts.{day_of, moment_of};
@@ -21,7 +23,8 @@ use std::alloc::Global;
 
 /// Refuses what is no array of so many items.
 pub(crate) fn exactly_items(value: &Value<'_>, count: usize) -> Result<(), BodyError>
-    ensures { BodyAgrees id result (guard (has_items count (view value.now))) }
+    ensures agrees { BodyAgrees id result (guard (has_items count (view value.now))) }
+    ensures sure { IfErr result (λ why. why ≡ Unreadable) }
 {
     if has_items(value, count) {
         Ok(())
@@ -32,28 +35,32 @@ pub(crate) fn exactly_items(value: &Value<'_>, count: usize) -> Result<(), BodyE
 
 /// The string at a place.
 pub(crate) fn string_in<'a>(place: Option<&Value<'a>>) -> Result<&'a str, BodyError>
-    ensures { BodyAgrees (λ s. s.now) result (string_in (json_at place.entry)) }
+    ensures agrees { BodyAgrees (λ s. s.now) result (string_in (json_at place.entry)) }
+    ensures sure { IfErr result (λ why. why ≡ Unreadable) }
 {
     place.and_then(as_str).ok_or(BodyError::Unreadable)
 }
 
 /// The number at a place: whole, with no sign, fraction or exponent, and below 2^64.
 pub(crate) fn number_in(place: Option<&Value<'_>>) -> Result<u64, BodyError>
-    ensures { BodyAgrees id result (number_at (json_at place.entry)) }
+    ensures agrees { BodyAgrees id result (number_at (json_at place.entry)) }
+    ensures sure { IfErr result (λ why. why ≡ Unreadable) }
 {
     place.and_then(as_u64).ok_or(BodyError::Unreadable)
 }
 
 /// Whether `true` or `false` stands at a place.
 pub(crate) fn flag_in(place: Option<&Value<'_>>) -> Result<bool, BodyError>
-    ensures { BodyAgrees id result (flag_at (json_at place.entry)) }
+    ensures agrees { BodyAgrees id result (flag_at (json_at place.entry)) }
+    ensures sure { IfErr result (λ why. why ≡ Unreadable) }
 {
     place.and_then(as_bool).ok_or(BodyError::Unreadable)
 }
 
 /// The items of the array at a place.
 pub(crate) fn items_in<'v, 'a>(place: Option<&'v Value<'a>>) -> Result<&'v [Value<'a>], BodyError>
-    ensures { BodyAgrees (λ vs. items_view vs.now) result (items_in (json_at place.entry)) }
+    ensures agrees { BodyAgrees (λ vs. items_view vs.now) result (items_in (json_at place.entry)) }
+    ensures sure { IfErr result (λ why. why ≡ Unreadable) }
 {
     match place.and_then(as_array) {
         Some(items) => Ok(items),
@@ -63,84 +70,96 @@ pub(crate) fn items_in<'v, 'a>(place: Option<&'v Value<'a>>) -> Result<&'v [Valu
 
 #[tactic(auto, unfolding(crate::specs::JsonFields::parsed_at))]
 pub(crate) fn company_in(place: Option<&Value<'_>>) -> Result<Company, BodyError>
-    ensures { BodyAgrees id result (parsed_at company_of (json_at place.entry)) }
+    ensures agrees { BodyAgrees id result (parsed_at company_of (json_at place.entry)) }
+    ensures sure { IfErr result (λ why. why ≡ Unreadable) }
 {
     Company::of_word(string_in(place)?).ok_or(BodyError::Unreadable)
 }
 
 #[tactic(auto, unfolding(crate::specs::JsonFields::parsed_at))]
 pub(crate) fn meeting_kind_in(place: Option<&Value<'_>>) -> Result<MeetingKind, BodyError>
-    ensures { BodyAgrees id result (parsed_at meeting_kind_of (json_at place.entry)) }
+    ensures agrees { BodyAgrees id result (parsed_at meeting_kind_of (json_at place.entry)) }
+    ensures sure { IfErr result (λ why. why ≡ Unreadable) }
 {
     MeetingKind::of_word(string_in(place)?).ok_or(BodyError::Unreadable)
 }
 
 #[tactic(auto, unfolding(crate::specs::JsonFields::parsed_at))]
 pub(crate) fn resolution_kind_in(place: Option<&Value<'_>>) -> Result<ResKind, BodyError>
-    ensures { BodyAgrees id result (parsed_at resolution_kind_of (json_at place.entry)) }
+    ensures agrees { BodyAgrees id result (parsed_at resolution_kind_of (json_at place.entry)) }
+    ensures sure { IfErr result (λ why. why ≡ Unreadable) }
 {
     ResKind::of_word(string_in(place)?).ok_or(BodyError::Unreadable)
 }
 
 #[tactic(auto, unfolding(crate::specs::JsonFields::parsed_at))]
 pub(crate) fn holder_kind_in(place: Option<&Value<'_>>) -> Result<HolderKind, BodyError>
-    ensures { BodyAgrees id result (parsed_at holder_kind_of (json_at place.entry)) }
+    ensures agrees { BodyAgrees id result (parsed_at holder_kind_of (json_at place.entry)) }
+    ensures sure { IfErr result (λ why. why ≡ Unreadable) }
 {
     HolderKind::of_word(string_in(place)?).ok_or(BodyError::Unreadable)
 }
 
 #[tactic(auto, unfolding(crate::specs::JsonFields::parsed_at))]
 pub(crate) fn way_in(place: Option<&Value<'_>>) -> Result<Way, BodyError>
-    ensures { BodyAgrees id result (parsed_at way_of (json_at place.entry)) }
+    ensures agrees { BodyAgrees id result (parsed_at way_of (json_at place.entry)) }
+    ensures sure { IfErr result (λ why. why ≡ Unreadable) }
 {
     Way::of_word(string_in(place)?).ok_or(BodyError::Unreadable)
 }
 
 #[tactic(auto, unfolding(crate::specs::JsonFields::parsed_at))]
 pub(crate) fn capacity_in(place: Option<&Value<'_>>) -> Result<Capacity, BodyError>
-    ensures { BodyAgrees id result (parsed_at capacity_of (json_at place.entry)) }
+    ensures agrees { BodyAgrees id result (parsed_at capacity_of (json_at place.entry)) }
+    ensures sure { IfErr result (λ why. why ≡ Unreadable) }
 {
     Capacity::of_word(string_in(place)?).ok_or(BodyError::Unreadable)
 }
 
 #[tactic(auto, unfolding(crate::specs::JsonFields::parsed_at))]
 pub(crate) fn instruction_in(place: Option<&Value<'_>>) -> Result<Instr, BodyError>
-    ensures { BodyAgrees id result (parsed_at instruction_of (json_at place.entry)) }
+    ensures agrees { BodyAgrees id result (parsed_at instruction_of (json_at place.entry)) }
+    ensures sure { IfErr result (λ why. why ≡ Unreadable) }
 {
     Instr::of_word(string_in(place)?).ok_or(BodyError::Unreadable)
 }
 
 #[tactic(auto, unfolding(crate::specs::JsonFields::parsed_at))]
 pub(crate) fn day_in(place: Option<&Value<'_>>) -> Result<Day, BodyError>
-    ensures { BodyAgrees id result (parsed_at day_of (json_at place.entry)) }
+    ensures agrees { BodyAgrees id result (parsed_at day_of (json_at place.entry)) }
+    ensures sure { IfErr result (λ why. why ≡ Unreadable) }
 {
     read_day(string_in(place)?.as_bytes()).ok_or(BodyError::Unreadable)
 }
 
 #[tactic(auto, unfolding(crate::specs::JsonFields::parsed_at))]
 pub(crate) fn moment_in(place: Option<&Value<'_>>) -> Result<Moment, BodyError>
-    ensures { BodyAgrees id result (parsed_at moment_of (json_at place.entry)) }
+    ensures agrees { BodyAgrees id result (parsed_at moment_of (json_at place.entry)) }
+    ensures sure { IfErr result (λ why. why ≡ Unreadable) }
 {
     read_moment(string_in(place)?.as_bytes()).ok_or(BodyError::Unreadable)
 }
 
 #[tactic(auto, unfolding(crate::specs::JsonFields::parsed_at))]
 pub(crate) fn party_in(place: Option<&Value<'_>>) -> Result<Party, BodyError>
-    ensures { BodyAgrees id result (parsed_at party_of (json_at place.entry)) }
+    ensures agrees { BodyAgrees id result (parsed_at party_of (json_at place.entry)) }
+    ensures sure { IfErr result (λ why. why ≡ Unreadable) }
 {
     read_party(string_in(place)?.as_bytes()).ok_or(BodyError::Unreadable)
 }
 
 #[tactic(auto, unfolding(crate::specs::JsonFields::parsed_at))]
 pub(crate) fn caller_in(place: Option<&Value<'_>>) -> Result<Caller, BodyError>
-    ensures { BodyAgrees id result (parsed_at caller_of (json_at place.entry)) }
+    ensures agrees { BodyAgrees id result (parsed_at caller_of (json_at place.entry)) }
+    ensures sure { IfErr result (λ why. why ≡ Unreadable) }
 {
     read_caller(string_in(place)?.as_bytes()).ok_or(BodyError::Unreadable)
 }
 
 #[tactic(auto, unfolding(crate::specs::JsonFields::parsed_at))]
 pub(crate) fn key_in(place: Option<&Value<'_>>) -> Result<SecretKey, BodyError>
-    ensures { BodyAgrees id result (parsed_at key_of (json_at place.entry)) }
+    ensures agrees { BodyAgrees id result (parsed_at key_of (json_at place.entry)) }
+    ensures sure { IfErr result (λ why. why ≡ Unreadable) }
 {
     read_key(string_in(place)?.as_bytes()).ok_or(BodyError::Unreadable)
 }

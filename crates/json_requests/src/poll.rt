@@ -1,4 +1,6 @@
 //! Polls, and the votes on them.
+ghost use Rattle.std.specs.Prelude.{◌≡◌, IfErr};
+ghost use Rattle.json_requests.specs.declared.ask.BodyError.TheVariants.{Unreadable};
 ghost use Rattle.json_requests.specs.JsonFields.{fields_view};
 ghost use Rattle.vocabulary.specs.Identity.{id};
 ghost use Rattle.json_requests.specs.ParsedBodies.{BodyAgrees};
@@ -17,7 +19,8 @@ pub(crate) const ORDER: &[&str] = &["resolution", "take", "chair"];
 /// The poll that its fields order.
 #[tactic(auto, unfolding(crate::specs::PollBodies::order_in))]
 pub(crate) fn order(fields: &[Option<Value<'_>>]) -> Result<OfficeRequest, BodyError>
-    ensures { BodyAgrees id result (order_in (fields_view fields.now)) }
+    ensures agrees { BodyAgrees id result (order_in (fields_view fields.now)) }
+    ensures sure { IfErr result (λ why. why ≡ Unreadable) }
 {
     let [resolution, take, chair] = fields else {
         return Err(BodyError::Unreadable);
@@ -38,7 +41,8 @@ pub(crate) const POLL: &[&str] = &["resolution"];
 /// The poll that the field names.
 #[tactic(auto, unfolding(crate::specs::PollBodies::poll_body))]
 fn poll_in(fields: &[Option<Value<'_>>]) -> Result<u64, BodyError>
-    ensures { BodyAgrees id result (poll_body (fields_view fields.now)) }
+    ensures agrees { BodyAgrees id result (poll_body (fields_view fields.now)) }
+    ensures sure { IfErr result (λ why. why ≡ Unreadable) }
 {
     let [resolution] = fields else {
         return Err(BodyError::Unreadable);
@@ -48,7 +52,8 @@ fn poll_in(fields: &[Option<Value<'_>>]) -> Result<u64, BodyError>
 
 #[tactic(auto, unfolding(crate::specs::PollBodies::start_in))]
 pub(crate) fn start(fields: &[Option<Value<'_>>]) -> Result<OfficeRequest, BodyError>
-    ensures { BodyAgrees id result (start_in (fields_view fields.now)) }
+    ensures agrees { BodyAgrees id result (start_in (fields_view fields.now)) }
+    ensures sure { IfErr result (λ why. why ≡ Unreadable) }
 {
     let resolution = poll_in(fields)?;
     Ok(OfficeRequest::Start(resolution))
@@ -56,7 +61,8 @@ pub(crate) fn start(fields: &[Option<Value<'_>>]) -> Result<OfficeRequest, BodyE
 
 #[tactic(auto, unfolding(crate::specs::PollBodies::close_in))]
 pub(crate) fn close(fields: &[Option<Value<'_>>]) -> Result<OfficeRequest, BodyError>
-    ensures { BodyAgrees id result (close_in (fields_view fields.now)) }
+    ensures agrees { BodyAgrees id result (close_in (fields_view fields.now)) }
+    ensures sure { IfErr result (λ why. why ≡ Unreadable) }
 {
     let resolution = poll_in(fields)?;
     Ok(OfficeRequest::Close(resolution))
@@ -64,7 +70,8 @@ pub(crate) fn close(fields: &[Option<Value<'_>>]) -> Result<OfficeRequest, BodyE
 
 #[tactic(auto, unfolding(crate::specs::PollBodies::declare_in))]
 pub(crate) fn declare(fields: &[Option<Value<'_>>]) -> Result<OfficeRequest, BodyError>
-    ensures { BodyAgrees id result (declare_in (fields_view fields.now)) }
+    ensures agrees { BodyAgrees id result (declare_in (fields_view fields.now)) }
+    ensures sure { IfErr result (λ why. why ≡ Unreadable) }
 {
     let resolution = poll_in(fields)?;
     Ok(OfficeRequest::Declare(resolution))
@@ -72,7 +79,8 @@ pub(crate) fn declare(fields: &[Option<Value<'_>>]) -> Result<OfficeRequest, Bod
 
 #[tactic(auto, unfolding(crate::specs::PollBodies::demand_body))]
 pub(crate) fn demand(fields: &[Option<Value<'_>>]) -> Result<PartyRequest, BodyError>
-    ensures { BodyAgrees id result (demand_body (fields_view fields.now)) }
+    ensures agrees { BodyAgrees id result (demand_body (fields_view fields.now)) }
+    ensures sure { IfErr result (λ why. why ≡ Unreadable) }
 {
     let resolution = poll_in(fields)?;
     Ok(PartyRequest::Demand(resolution))
@@ -80,7 +88,8 @@ pub(crate) fn demand(fields: &[Option<Value<'_>>]) -> Result<PartyRequest, BodyE
 
 #[tactic(auto, unfolding(crate::specs::PollBodies::instructed_in))]
 pub(crate) fn instructed(fields: &[Option<Value<'_>>]) -> Result<PartyRequest, BodyError>
-    ensures { BodyAgrees id result (instructed_in (fields_view fields.now)) }
+    ensures agrees { BodyAgrees id result (instructed_in (fields_view fields.now)) }
+    ensures sure { IfErr result (λ why. why ≡ Unreadable) }
 {
     let resolution = poll_in(fields)?;
     Ok(PartyRequest::Instructed(resolution))
@@ -93,7 +102,8 @@ pub(crate) const CAST: &[&str] = &["resolution", "as", "member", "from", "to", "
 /// The vote that its fields cast.
 #[tactic(auto, unfolding(crate::specs::PollBodies::cast_body))]
 pub(crate) fn cast(fields: &[Option<Value<'_>>]) -> Result<PartyRequest, BodyError>
-    ensures { BodyAgrees id result (cast_body (fields_view fields.now)) }
+    ensures agrees { BodyAgrees id result (cast_body (fields_view fields.now)) }
+    ensures sure { IfErr result (λ why. why ≡ Unreadable) }
 {
     let [resolution, capacity, member, from, to, way] = fields else {
         return Err(BodyError::Unreadable);

@@ -1,4 +1,6 @@
 //! The adjournment of a meeting, presences, and the persons who are to represent parties.
+ghost use Rattle.std.specs.Prelude.{◌≡◌, IfErr};
+ghost use Rattle.json_requests.specs.declared.ask.BodyError.TheVariants.{Unreadable};
 ghost use Rattle.json_requests.specs.JsonFields.{fields_view};
 ghost use Rattle.vocabulary.specs.Identity.{id};
 ghost use Rattle.json_requests.specs.PresenceBodies.{authorise_in};
@@ -17,7 +19,8 @@ pub(crate) const ADJOURN: &[&str] = &["appointed"];
 /// The adjournment of the meeting.
 #[tactic(auto, unfolding(crate::specs::PresenceBodies::adjourn_in))]
 pub(crate) fn adjourn(fields: &[Option<Value<'_>>]) -> Result<OfficeRequest, BodyError>
-    ensures { BodyAgrees id result (adjourn_in (fields_view fields.now)) }
+    ensures agrees { BodyAgrees id result (adjourn_in (fields_view fields.now)) }
+    ensures sure { IfErr result (λ why. why ≡ Unreadable) }
 {
     let [appointed] = fields else {
         return Err(BodyError::Unreadable);
@@ -32,7 +35,8 @@ pub(crate) const PRESENCE: &[&str] = &["party"];
 /// The presence that the field notes.
 #[tactic(auto, unfolding(crate::specs::PresenceBodies::presence_body))]
 pub(crate) fn presence(fields: &[Option<Value<'_>>]) -> Result<OfficeRequest, BodyError>
-    ensures { BodyAgrees id result (presence_body (fields_view fields.now)) }
+    ensures agrees { BodyAgrees id result (presence_body (fields_view fields.now)) }
+    ensures sure { IfErr result (λ why. why ≡ Unreadable) }
 {
     let [party] = fields else {
         return Err(BodyError::Unreadable);
@@ -47,7 +51,8 @@ pub(crate) const AUTHORISE: &[&str] = &["person"];
 /// The authority that the field gives.
 #[tactic(auto, unfolding(crate::specs::PresenceBodies::authorise_in))]
 pub(crate) fn authorise(fields: &[Option<Value<'_>>]) -> Result<PartyRequest, BodyError>
-    ensures { BodyAgrees id result (authorise_in (fields_view fields.now)) }
+    ensures agrees { BodyAgrees id result (authorise_in (fields_view fields.now)) }
+    ensures sure { IfErr result (λ why. why ≡ Unreadable) }
 {
     let [person] = fields else {
         return Err(BodyError::Unreadable);

@@ -103,11 +103,11 @@ pub fn go_on_in_meeting(
     }
 }
 
-/// What is decided of what the office asks in a meeting, from those of the closed days and of the
-/// meeting's lists alone that the answer reads: it is so in every office of which these are read,
-/// and what it changes leaves the lists of an office. The fault is `NoOffice` exactly where what was
-/// read with the register is no meeting's; `Memory` is want of memory, and comes where
-/// `office_answer` may be refused it, alone.
+/// The answer to a request of the office in a meeting, from what the answer reads: the closed days
+/// and some lists of the meeting. Every office of which these are read gives the same answer, and
+/// its change leaves lists of an office. `NoOffice`: a register was read, and the lists are not a
+/// meeting's. `Memory`: an allocation failed, which it does only where `office_answer` may answer
+/// so.
 pub fn decide_in_meeting(
     alloc: Global,
     meeting: MeetingId,

@@ -144,8 +144,8 @@ pub fn rows_of(alloc: Global, lists: &MeetingLists, party: Party) -> Result<OwnR
     )
 }
 
-/// Those of the rows of a party in a meeting from which what the answer to a request reads is made,
-/// and nothing in place of the others, which are not looked up. The error is want of memory.
+/// The rows of a party in a meeting that its request reads. The other rows are not looked up, and
+/// their lists are empty. The error is want of memory.
 pub fn rows_for(
     alloc: Global,
     lists: &MeetingLists,

@@ -1,8 +1,10 @@
 //! Lines of a replay.
-ghost use Rattle.std.specs.Prelude.{◌≡◌, ◌<◌, IfSome, length, option_map, position};
+ghost use Rattle.std.specs.Prelude.{◌≡◌, ◌<◌, IfErr, IfSome, IsSome, length, option_map, position};
 ghost use Rattle.calendar.specs.DateTexts.{moment_of};
 ghost use Rattle.vocabulary.specs.Identity.{id};
+ghost use Rattle.vocabulary.specs.declared.refusal.Refusal.TheVariants.{Unreadable};
 ghost use Rattle.json_requests.specs.RefusalResults.{AskAgrees};
+ghost use Rattle.json_requests.specs.declared.ask.Ask.TheVariants.{Memory, Refused};
 ghost use Rattle.replay.specs.ReplayLines.{at_first_space, is_space, moment_first, parts_of, parsed_call, text_in};
 ghost use Rattle.replay.specs.PartsView.{parts_view, text_view};
 
@@ -125,7 +127,8 @@ fn parted(text: &str) -> Option<(&str, &str)>
 /// The parts of a line behind its moment, at the first three spaces there.
 #[tactic(auto, unfolding(crate::specs::ReplayLines::parts_of))]
 fn parts_of(rest: &str) -> Result<Parts<'_>, Ask>
-    ensures { AskAgrees parts_view result (parts_of rest.now) }
+    ensures agrees { AskAgrees parts_view result (parts_of rest.now) }
+    ensures sure { IfErr result (λ ask. ask ≡ Refused Unreadable) }
 {
     let (caller, rest) = parted(rest).ok_or(UNREADABLE)?;
     let (meeting, rest) = parted(rest).ok_or(UNREADABLE)?;
@@ -143,7 +146,8 @@ fn parts_of(rest: &str) -> Result<Parts<'_>, Ask>
 
 /// The text that bytes are.
 fn text_of(bytes: &[u8]) -> Result<&str, Ask>
-    ensures { AskAgrees text_view result (text_in bytes.now) }
+    ensures agrees { AskAgrees text_view result (text_in bytes.now) }
+    ensures sure { IfErr result (λ ask. ask ≡ Refused Unreadable) }
 {
     match str::from_utf8(bytes) {
         Ok(text) => Ok(text),
@@ -151,14 +155,17 @@ fn text_of(bytes: &[u8]) -> Result<&str, Ask>
     }
 }
 
-/// The call that a line asks: a moment, a caller, a meeting, a verb and a body, parted at its first
-/// four spaces; with three alone the body is empty. It is refused as `Unreadable` where it is no
-/// UTF-8, has fewer parts or no moment, then as `Key` where the caller is neither the office nor a
-/// party, and then as its request is. `Memory` is answered only where an allocation was refused. What
-/// `scratch` keeps from one line to the next tells nothing.
+/// The call that a line asks. Its parts are a moment, a caller, a meeting, a verb and a body,
+/// separated at the first four spaces; with three spaces the body is empty.
+///
+/// `Unreadable`: the line is not UTF-8, or has fewer parts or no moment. `Key`: the caller is
+/// neither the office nor a party. Then come the refusals of the request. `Memory`: an allocation
+/// failed, which it does for no line without a moment. The result does not depend on what `scratch`
+/// kept.
 #[tactic(auto, unfolding(crate::specs::ReplayLines::parsed_call))]
 pub fn call_of(alloc: Global, scratch: &mut Scratch, line: &[u8]) -> Result<Call, Ask>
-    ensures { AskAgrees id result (parsed_call line.now) }
+    ensures agrees { AskAgrees id result (parsed_call line.now) }
+    ensures sure { IfErr result (λ ask. ask ≡ Memory → IsSome (moment_first line.now)) }
 {
     let text = text_of(line)?;
     let Some((moment, rest)) = scratch.last.first_of(text) else {

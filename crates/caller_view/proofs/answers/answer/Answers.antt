@@ -17,4 +17,4 @@ returns-in-Notice-clause-answer c =
     let now = c.args.now in
     let asked = ap (λ (asked : PartyRequest). ruled_answer (party_ruling public own now asked)) (sym c.in-Notice.is) in
     IfOk-weaker c.answer_notice.result (λ (a : Answer Entry). (own : OwnView) → a ≡ ruled_answer (party_ruling public own now request.Notice))
-    (λ (a : Answer Entry). a ≡ ruled_answer (party_ruling public own now c.args.asked.now)) (λ a is. is own ∙ asked) c.answer_notice.ensures
+    (λ (a : Answer Entry). a ≡ ruled_answer (party_ruling public own now c.args.asked.now)) (λ a is. is own ∙ asked) c.answer_notice.ensures.answer

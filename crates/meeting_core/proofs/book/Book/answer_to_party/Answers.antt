@@ -45,7 +45,7 @@ returns-in-Notice c =
     ∙ ap (λ (f : Option MeetingLists). ruled_answer (party_ruling (public_in f o.closed) own now Notice)) same
     ∙ ap (λ (asked : PartyRequest). ruled_answer (party_ruling (public_of o c.args.meeting) own now asked)) (sym c.in-Notice.is) in
     subst (λ (held : OfficeLists). IfOk c.answer_notice.result (λ (a : Answer Entry). a ≡ ruled_answer (party_ruling (public_of held c.args.meeting) (own_of held c.args.party c.args.meeting now) now what))) c.self.view_is
-    (IfOk-weaker c.answer_notice.result (λ (a : Answer Entry). (own : OwnView) → a ≡ ruled_answer (party_ruling c.public_in-public.result own now Notice)) (λ (a : Answer Entry). a ≡ due) (λ a is. is own ∙ read) c.answer_notice.ensures)
+    (IfOk-weaker c.answer_notice.result (λ (a : Answer Entry). (own : OwnView) → a ≡ ruled_answer (party_ruling c.public_in-public.result own now Notice)) (λ (a : Answer Entry). a ≡ due) (λ a is. is own ∙ read) c.answer_notice.ensures.answer)
 
 pub returns : goal.returns
 returns c =
