@@ -1,2 +1,3 @@
+mod CrashedOfficeLaws
 pub mod OfficeHomeLemmas
 mod OfficeRunLaws

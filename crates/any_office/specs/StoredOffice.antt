@@ -38,12 +38,24 @@ pub record IsTransition {H : Type 0} (IsReliable IsOpen : H → Type 0)
   pub stands : IsReliable new → IsOpen new → (office : OfficeLists) → Stands old office
       → Stands new (office_after office made)
 
--- after a crash only this office may be found
-abbrev pub FindsOnly : {H : Type 0} → (H → OfficeLists → Type 0) → H → OfficeLists → Type 0
-FindsOnly MayFind new office = (found : OfficeLists) → MayFind new found → found ≡ office
+-- an office that is open is known to be stored
+abbrev pub IsKnownIfOpen : {H : Type 0} → (H → Type 0) → (H → OfficeLists → Type 0) → H → Type 0
+IsKnownIfOpen IsOpen Stands h = IsOpen h → (office : OfficeLists) × Stands h office
 
--- after a crash an office may be found that could be found before, or one for which this holds
-abbrev pub FindsAtMost : {H : Type 0} → (H → OfficeLists → Type 0) → H → H
-    → (OfficeLists → Type 0) → Type 0
-FindsAtMost MayFind old new IsNext =
-    (found : OfficeLists) → MayFind new found → MayFind old found ⊎ IsNext found
+-- whatever a crash leaves is opened as this office: as no other, and it is never unreadable
+abbrev pub LeavesOnly : {H L : Type 0} → (H → L → Type 0) → (L → OfficeLists → Type 0) → H
+    → OfficeLists → Type 0
+LeavesOnly {L = L} MayLeave OpensAs new office =
+    (left : L) → MayLeave new left → OpensAs left office
+
+-- whatever a crash leaves it could leave before, or this holds of it
+abbrev pub LeavesAtMost : {H L : Type 0} → (H → L → Type 0) → H → H → (L → Type 0) → Type 0
+LeavesAtMost {L = L} MayLeave old new IsNext =
+    (left : L) → MayLeave new left → MayLeave old left ⊎ IsNext left
+
+-- what stored the office was open, and what a crash left is opened as the office after the step of
+-- the call
+abbrev pub IsAfterCall : {H L : Type 0} → (H → Type 0) → (H → OfficeLists → Type 0)
+    → (L → OfficeLists → Type 0) → H → Call → L → Type 0
+IsAfterCall IsOpen Stands OpensAs old call left =
+    IsOpen old × ((office : OfficeLists) → Stands old office → OpensAs left (stepped office call))

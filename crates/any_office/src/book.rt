@@ -17,7 +17,11 @@ impl Office for Book {
 
     ghost faults = { λ _. 0 };
 
-    ghost may_find = { λ _ _. ⊥ };
+    ghost Left = { Unit {0} };
+
+    ghost may_leave = { λ _ _. ⊥ };
+
+    ghost opens_as = { λ _ _. ⊥ };
 
     ghost may_fail = { λ why. why ≡ Memory };
 

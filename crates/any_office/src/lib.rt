@@ -7,7 +7,8 @@ pub mod laws;
 
 ghost use Rattle.std.specs.Prelude.{◌≡◌, ℕ, IfErr, IfOk, None, Ok, OnOk};
 ghost use Rattle.std.specs.Fn.{FnOnceReturnsAt};
-ghost use Rattle.any_office.specs.StoredOffice.{FindsAtMost, FindsOnly, IsTransition, HoldsOfOffice, made_by};
+ghost use Rattle.any_office.specs.StoredOffice.{HoldsOfOffice, IsAfterCall, IsKnownIfOpen};
+ghost use Rattle.any_office.specs.StoredOffice.{IsTransition, LeavesAtMost, LeavesOnly, made_by};
 ghost use Rattle.desk_words.specs.declared.office.OfficeLists.{OfficeLists};
 ghost use Rattle.desk_words.specs.declared.reply.Failure.{Failure};
 ghost use Rattle.meeting_core.specs.KeyHolders.{caller_with};
@@ -32,8 +33,14 @@ pub trait Office {
     /// How often its devices failed or refused, counted up to a full count.
     ghost faults: { Self → ℕ };
 
-    /// After a crash now, it may be opened as this office.
-    ghost may_find: { Self → OfficeLists → Type 0 };
+    /// What a crash may leave of it.
+    ghost Left: { Type 0 };
+
+    /// A crash now may leave this.
+    ghost may_leave: { Self → Self.Left → Type 0 };
+
+    /// What a crash left is opened as this office.
+    ghost opens_as: { Self.Left → OfficeLists → Type 0 };
 
     /// Why a call on it may fail.
     ghost may_fail: { Failure → Type 0 };
@@ -46,16 +53,16 @@ pub trait Office {
         ensures leaves { IsTransition is_reliable is_open stands faults None self.old self.new }
         ensures stays_open { OnOk result (is_reliable self.new → is_open self.new) }
         ensures settled { HoldsOfOffice is_reliable stands self.old self.new
-            (λ office. OnOk result (FindsOnly may_find self.new office)) }
-        ensures crash { HoldsOfOffice is_reliable stands self.old self.new
-            (λ _. FindsAtMost may_find self.old self.new (λ _. ⊥)) };
+            (λ office. OnOk result (LeavesOnly may_leave opens_as self.new office)) }
+        ensures crash { is_reliable self.new → IsKnownIfOpen is_open stands self.old
+            → LeavesAtMost may_leave self.old self.new (λ _. ⊥) };
 
     /// Makes one call: what it stores is then the office after the step. `show` is asked once for
     /// what is answered of the reply, before the call is made to last. After a failure, that of
     /// `show` included, the office is as it was.
     ///
-    /// After an answer a crash leaves the office after the step. After a failure it leaves what it
-    /// left before, or the office after the step.
+    /// After an answer a crash leaves the office after the step, and nothing else. After a failure it
+    /// leaves what it left before, or, where it could be asked, the office after the step.
     fn perform<T: Drop, F: FnOnce(&Reply) -> Result<T, AllocError>>(
         &mut self,
         call: Call,
@@ -69,7 +76,8 @@ pub trait Office {
             self.old self.new }
         ensures stays_open { OnOk result (is_reliable self.new → is_open self.new) }
         ensures settled { HoldsOfOffice is_reliable stands self.old self.new
-            (λ office. OnOk result (FindsOnly may_find self.new (stepped office call))) }
-        ensures crash { HoldsOfOffice is_reliable stands self.old self.new (λ office.
-            FindsAtMost may_find self.old self.new (λ found. found ≡ stepped office call)) };
+            (λ office. OnOk result
+            (LeavesOnly may_leave opens_as self.new (stepped office call))) }
+        ensures crash { is_reliable self.new → LeavesAtMost may_leave self.old self.new
+            (IsAfterCall is_open stands opens_as self.old call) };
 }

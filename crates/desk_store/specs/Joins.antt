@@ -34,7 +34,3 @@ AreAfter old call db =
 -- where the store is open, the tables are those of a desk
 abbrev pub IsDeskIfOpen : State → Type 0
 IsDeskIfOpen s = IsTrue s.is_open → IsDesk s
-
--- after a crash now the tables may be whole of this office
-abbrev pub MayBeFound : State → OfficeLists → Type 0
-MayBeFound s office = (db : Trees) × s.may_leave db × IsWhole db office

@@ -1,4 +1,3 @@
-pub mod CrashRuns
 pub mod Joins
 pub mod StoreFailures
 pub mod TableReads

@@ -3,7 +3,6 @@
 
 mod deciding;
 mod desk;
-pub mod laws;
 mod office;
 mod opening;
 mod perform;

@@ -5,14 +5,15 @@ use desk_words::{Call, Caller, Failure, Reply, SecretKey};
 use sqlite::Alter;
 use std::alloc::AllocError;
 
-// It is reliable while the disk returns what was written, and open while its store is. After a crash
-// it may be opened as an office that the tables may then be whole of.
+// It is reliable while the disk returns what was written, and open while its store is. A crash leaves
+// tables, which are opened as the office that they are whole.
 impl<S: Alter> Office for Desk<S> {
     ghost use Rattle.std.specs.Prelude.{IsTrue};
     ghost use Rattle.sql_model.specs.Standing.{Stands};
-    ghost use Rattle.desk_store.specs.Joins.{MayBeFound};
+    ghost use Rattle.sql_open.specs.WholeDesk.{IsWholeDesk};
     ghost use Rattle.sqlite.specs.Held.{state};
     ghost use Rattle.sqlite.specs.State.{HasCleanDisk};
+    ghost use Rattle.sqlite.specs.Tree.{Trees};
 
     ghost stands = { λ desk office. Stands (state S.Store desk) office };
 
@@ -22,7 +23,11 @@ impl<S: Alter> Office for Desk<S> {
 
     ghost faults = { λ desk. (state S.Store desk).faults };
 
-    ghost may_find = { λ desk office. MayBeFound (state S.Store desk) office };
+    ghost Left = { Trees };
+
+    ghost may_leave = { λ desk db. (state S.Store desk).may_leave db };
+
+    ghost opens_as = { IsWholeDesk };
 
     ghost may_fail = { λ _. Unit {0} };
 

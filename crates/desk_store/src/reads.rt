@@ -1,9 +1,10 @@
 //! What the tables say, without a change. Of a desk that is read a crash leaves what it left
-//! before, also where its store is shut, and after an answer the tables that are read, and nothing
-//! else.
-ghost use Rattle.std.specs.Prelude.{◌≡◌, false, IfOk, IsTrue, None};
+//! before, also where its store is shut, and after an answer the tables that are read, whole, and
+//! nothing else.
+ghost use Rattle.std.specs.Prelude.{◌≡◌, false, IfOk, IsTrue, None, OnOk};
 ghost use Rattle.sql_open.specs.Crashes.{LeavesItself};
 ghost use Rattle.sql_open.specs.Opened.{OnDone};
+ghost use Rattle.sql_open.specs.WholeDesk.{LeavesWhole};
 ghost use Rattle.desk_store.specs.Joins.{IsDeskIfOpen, LeavesDesk};
 ghost use Rattle.party_views.specs.Views.{own_of, public_of};
 ghost use Rattle.desk_store.specs.TableReads.{HoldsOfDesk};
@@ -29,6 +30,8 @@ impl<S: Alter> Desk<S> {
         ensures stays_open { OnDone S.Store self.new result
             (IsTrue (state S.Store self.new).is_open) }
         ensures settled { OnDone S.Store self.new result (LeavesItself (state S.Store self.new)) }
+        ensures whole { HoldsOfDesk S.Store self.old self.new
+            (λ office. OnOk result (LeavesWhole (state S.Store self.new) office)) }
         ensures crash { IsDeskIfOpen (state S.Store self.old)
             → Survives (state S.Store self.old) (state S.Store self.new) (λ _. ⊥) }
     {
@@ -49,6 +52,8 @@ impl<S: Alter> Desk<S> {
         ensures stays_open { OnDone S.Store self.new result
             (IsTrue (state S.Store self.new).is_open) }
         ensures settled { OnDone S.Store self.new result (LeavesItself (state S.Store self.new)) }
+        ensures whole { HoldsOfDesk S.Store self.old self.new
+            (λ office. OnOk result (LeavesWhole (state S.Store self.new) office)) }
         ensures crash { IsDeskIfOpen (state S.Store self.old)
             → Survives (state S.Store self.old) (state S.Store self.new) (λ _. ⊥) }
     {
@@ -64,6 +69,8 @@ impl<S: Alter> Desk<S> {
         ensures stays_open { OnDone S.Store self.new result
             (IsTrue (state S.Store self.new).is_open) }
         ensures settled { OnDone S.Store self.new result (LeavesItself (state S.Store self.new)) }
+        ensures whole { HoldsOfDesk S.Store self.old self.new
+            (λ office. OnOk result (LeavesWhole (state S.Store self.new) office)) }
         ensures crash { IsDeskIfOpen (state S.Store self.old)
             → Survives (state S.Store self.old) (state S.Store self.new) (λ _. ⊥) }
     {
@@ -80,6 +87,8 @@ impl<S: Alter> Desk<S> {
         ensures stays_open { OnDone S.Store self.new result
             (IsTrue (state S.Store self.new).is_open) }
         ensures settled { OnDone S.Store self.new result (LeavesItself (state S.Store self.new)) }
+        ensures whole { HoldsOfDesk S.Store self.old self.new
+            (λ office. OnOk result (LeavesWhole (state S.Store self.new) office)) }
         ensures crash { IsDeskIfOpen (state S.Store self.old)
             → Survives (state S.Store self.old) (state S.Store self.new) (λ _. ⊥) }
     {
@@ -102,6 +111,8 @@ impl<S: Alter> Desk<S> {
         ensures stays_open { OnDone S.Store self.new result
             (IsTrue (state S.Store self.new).is_open) }
         ensures settled { OnDone S.Store self.new result (LeavesItself (state S.Store self.new)) }
+        ensures whole { HoldsOfDesk S.Store self.old self.new
+            (λ office. OnOk result (LeavesWhole (state S.Store self.new) office)) }
         ensures crash { IsDeskIfOpen (state S.Store self.old)
             → Survives (state S.Store self.old) (state S.Store self.new) (λ _. ⊥) }
     {
