@@ -1,1 +1,2 @@
+mod ConnectionLemmas
 mod ListenerTurnLemmas

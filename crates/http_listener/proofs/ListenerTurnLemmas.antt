@@ -1,6 +1,5 @@
 -- One turn after another.
-use Rattle.std.proofs.Common.{◌≡◌, ◌⊎◌, inl, inr, ℕ, ◌+◌, ◌≤◌, List, [], ◌∷◌, ◌++◌, Option, Some, None, Result, Ok, Err, refl, subst, sym, ◌∙◌, arith, length-append}
-use Rattle.std.specs.Prelude.{MatchResult, OnErr, OnOk}
+use Rattle.std.proofs.Common.{◌≡◌, ◌⊎◌, inl, inr, ℕ, ◌+◌, ◌≤◌, List, [], ◌∷◌, ◌++◌, Option, Some, None, Result, Ok, Err, refl, subst, sym, ◌∙◌, arith, length, length-append}
 use Rattle.any_office.proofs.OfficeHomeLemmas.{closes_then}
 use Rattle.any_office.specs.StoredOffice.{office_after}
 use Rattle.any_office.specs.OfficeRuns.{calls_in}
@@ -24,7 +23,10 @@ use Rattle.desk_words.specs.declared.caller.Caller.{Caller}
 use Rattle.desk_words.specs.declared.request.Call.{Call}
 use Rattle.desk_words.specs.declared.request.Request.{Request}
 use Rattle.meeting_core.specs.Step.{run_of, stepped}
-use Rattle.http_listener.specs.Turns.{AreMadeAt, IsMadeAt, Ran, Turned}
+use Rattle.http_listener.specs.Connections.{Gone, IsTurn, LeadsBy, Served, Standing, Turn}
+use Rattle.http_listener.specs.Turns.{AreMadeAt, IsMadeAt, LoopsAreRuns, Ran, RanAt, Turned}
+use Rattle.http_listener.specs.declared.listening.LoopFault.TheVariants as fault
+use Rattle.tcp_close.specs.declared.listener.Listener as listener
 
 -- a run goes on from the office that another left
 run-then : (office : OfficeLists) (made later : List (Option Call)) → (run_of (run_of office (calls_in made)).office (calls_in later)).office ≡ (run_of office (calls_in (made ++ later))).office
@@ -140,17 +142,38 @@ module _ {O : Type 0} (g : office.Ghosts O) where
   served_untimed k r h result old new from till reader reader' before after (inr (inl it, same, unwritten)) untimed = let both = sym it.is ∙ untimed in absurd (cc)
   served_untimed k r h result old new from till reader reader' before after (inr (inr it, same, unwritten)) untimed = (it.fails, same)
 
--- the same, by what was made of the result
-module _ {T U E O C R W : Type 0} (g : office.Ghosts O) (k : clock.Ghosts C) (r : source.Ghosts R) (h : sink.Ghosts W) (result : Result T NowError) (old new : O) (from till : C)
-    (reader reader' : R) (before after : W) (serves : ServesRequest g k r h result old new from till reader reader' before after) where
-  pub turned_if : (told : Result U E) → MatchResult told (λ _. result ≡ Err Clock → ⊥) (λ _. result ≡ Err Clock) → OnOk told (Turned g k.gives 1 from till old new)
-  turned_if (Ok x) timed = served_turn g k r h result old new from till reader reader' before after serves timed
-  turned_if (Err e) timed = tt
+-- ---- one turn after another
 
-  pub untimed_if : (told : Result U E) → MatchResult told (λ _. result ≡ Err Clock → ⊥) (λ _. result ≡ Err Clock) → OnErr told (k.fails from till × (new ≡ old))
-  untimed_if (Ok x) timed = tt
-  untimed_if (Err e) timed = served_untimed g k r h result old new from till reader reader' before after serves timed
+module _ {L R W C O : Type 0} (l : listener.Ghosts L R W) (r : source.Ghosts R) (w : sink.Ghosts W) (k : clock.Ghosts C) (g : office.Ghosts O) where
+  turn-ran : (turn : Turn R W) (before after : Standing L C O) → IsTurn l r w k g turn before after → Turned g k.gives 1 before.clock after.clock before.office after.office
+  turn-ran (Served taken ended) before after is =
+      served_turn g k r w is.0 before.office after.office before.clock after.clock taken.reader ended.reader taken.writer ended.writer is.2.served.serves is.1
+  turn-ran Gone before after is =
+      subst (λ c. Turned g k.gives 1 before.clock c before.office after.office) (sym is.1.same_clock)
+      (subst (λ s. Turned g k.gives 1 before.clock before.clock before.office s) (sym is.1.same_office) (turned-none g k.gives 1 before.clock before.office))
 
-pub on_err : {U E : Type 0} {P Q : Type 0} (told : Result U E) → OnErr told P → (P → Q) → OnErr told Q
-on_err (Ok x) p next = tt
-on_err (Err e) p next = next p
+  leads-ran : (turns : List (Turn R W)) (before after : Standing L C O) → LeadsBy l r w k g before turns after → Turned g k.gives (length turns) before.clock after.clock before.office after.office
+  leads-ran [] before after same =
+      subst (λ (it : Standing L C O). Turned g k.gives 0 before.clock it.clock before.office it.office) (sym same) (turned-none g k.gives 0 before.clock before.office)
+  leads-ran (turn ∷ later) before after leads =
+      turned-then g k.gives 1 (length later) (length (turn ∷ later)) before.clock leads.0.clock after.clock before.office leads.0.office after.office (omega arith)
+      (turn-ran turn before leads.0 leads.1) (leads-ran later leads.0 after leads.2)
+
+  -- fewer turns than so many
+  ran-fewer : (count : ℕ) (turns : List (Turn R W)) (before between after : Standing L C O) → LeadsBy l r w k g before turns between → length turns ≤ count → after.office ≡ between.office
+      → RanAt k g count before.clock between.clock before.office after.office
+  ran-fewer count turns before between after leads room same =
+      subst (λ s. Turned g k.gives count before.clock between.clock before.office s) (sym same)
+      (turned-within g k.gives (length turns) count before.clock between.clock before.office between.office room (leads-ran turns before between leads))
+
+  pub loops_ran : LoopsAreRuns l r w k g
+  loops_ran count (Ok x) before after served =
+      subst (λ (it : Standing L C O). RanAt k g count before.clock it.clock before.office it.office) (sym served.ends.1)
+      (ran-fewer count served.turns before served.between served.between served.leads (omega (arith, served.ends.0)) refl)
+  loops_ran count (Err fault.Socket) before after served =
+      subst (λ c. RanAt k g count before.clock c before.office after.office) (sym served.ends.1.1.same_clock)
+      (ran-fewer count served.turns before served.between after served.leads (omega (arith, served.ends.0)) served.ends.1.1.same_office)
+  loops_ran count (Err fault.Clock) before after served =
+      let it = served.ends.1 in
+      let none = served_untimed g k r w (Err Clock) served.between.office after.office served.between.clock after.clock it.0.reader it.1.reader it.0.writer it.1.writer it.2.served.serves refl in
+      (served.between.clock, ran-fewer count served.turns before served.between after served.leads (omega (arith, served.ends.0)) none.1, none.0)

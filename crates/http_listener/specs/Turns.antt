@@ -1,14 +1,20 @@
 -- What serving one connection after another leaves.
-use Rattle.std.specs.Prelude.{◌≡◌, ◌⊎◌, ⊤, ℕ, ◌≤◌, List, [], ◌∷◌, length, Option, Some, None}
+use Rattle.std.specs.Prelude.{◌≡◌, ◌⊎◌, ⊤, ℕ, ◌≤◌, List, [], ◌∷◌, length, Option, Some, None, Result, Err}
 use Rattle.any_office.specs.StoredOffice.{HasFailed}
 use Rattle.any_office.specs.OfficeRuns.{calls_in}
 use Rattle.any_office.specs.declared.Office as office
+use Rattle.byte_io.specs.declared.sink.Sink as sink
+use Rattle.byte_io.specs.declared.source.Source as source
 use Rattle.clocks.specs.GivenMoments.{GivesMoments}
 use Rattle.clocks.specs.declared.clock.Clock as clock
 use Rattle.desk_words.specs.ViewTypes.{Moment}
 use Rattle.desk_words.specs.declared.office.OfficeLists.{OfficeLists}
 use Rattle.desk_words.specs.declared.request.Call.{Call}
 use Rattle.meeting_core.specs.Step.{run_of}
+use Rattle.tcp_close.specs.declared.listener.Listener as listener
+use Rattle.http_listener.specs.Connections.{ServesTurns, Standing}
+use Rattle.http_listener.specs.declared.listening.LoopFault.{LoopFault}
+use Rattle.http_listener.specs.declared.listening.LoopFault.TheVariants as fault
 
 -- a call, if one was made, was made at that moment
 abbrev pub IsMadeAt : Option Call → Moment → Type 0
@@ -52,3 +58,19 @@ module _ {O : Type 0} (g : office.Ghosts O) where
 -- this clock gave them, and the run was of this office
 abbrev pub RanAt : {C O : Type 0} → clock.Ghosts C → office.Ghosts O → ℕ → C → C → O → O → Type 0
 RanAt k g most before after old new = Turned g k.gives most before after old new
+
+-- such a run was made; and where no moment was told, the clock gave no further one
+abbrev pub RanBy : {L C O : Type 0} → clock.Ghosts C → office.Ghosts O → ℕ
+    → Result (Unit {0}) LoopFault → Standing L C O → Standing L C O → Type 0
+RanBy {C = C} k g most (Err fault.Clock) before after =
+    (between : C) × RanAt k g most before.clock between before.office after.office
+    × k.fails between after.clock
+RanBy k g most told before after =
+    RanAt k g most before.clock after.clock before.office after.office
+
+-- a loop over connections, however it ends, leaves an office after such a run
+abbrev pub LoopsAreRuns : {L R W C O : Type 0} → listener.Ghosts L R W → source.Ghosts R
+    → sink.Ghosts W → clock.Ghosts C → office.Ghosts O → Type 0
+LoopsAreRuns {L} {R} {W} {C} {O} l r w k g =
+    (count : ℕ) (result : Result (Unit {0}) LoopFault) (before after : Standing L C O)
+    → ServesTurns l r w k g count result before after → RanBy k g count result before after

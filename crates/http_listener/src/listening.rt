@@ -1,16 +1,14 @@
 //! One connection after another.
-ghost use Rattle.std.specs.Prelude.{◌≡◌, Err, IfErr, MatchResult, OnErr, OnOk};
+ghost use Rattle.std.specs.Prelude.{◌≡◌, Err, IfErr, MatchResult, OnOk};
 ghost use Rattle.desk_http.specs.declared.now.NowError.TheVariants as now_fault;
-ghost use Rattle.http_listener.specs.Turns.{RanAt};
+ghost use Rattle.http_listener.specs.Connections.{HasNoListener, HasNoMoment, IsTurn, ServesConnection, ServesTurns, Turn, standing};
 ghost use Rattle.http_listener.specs.declared.listening.LoopFault.TheVariants.{Clock, Socket};
 
 use any_office::Office;
-use byte_io::{ReadDevice, WriteDevice};
 use clocks::{Clock, ClockError};
 use desk_http::{NowError, serve_now};
 use std::alloc::Global;
-use std::net::{TcpListener, TcpStream};
-use tcp_close::{Accepted, Listener, SocketError, end_connection};
+use tcp_close::{Accepted, Connection, Listener, SocketError, next_connection};
 
 /// Why a loop ends before all its connections were served. Want of memory is told to the peer, so
 /// it ends no loop.
@@ -40,7 +38,8 @@ impl From<ClockError> for LoopFault {
 
 /// What of a request that was served ends a loop: that the clock gave no moment.
 fn unless_untimed(served: Result<(), NowError>) -> Result<(), ClockError>
-    ensures { MatchResult result (λ _. served ≡ Err now_fault.Clock → ⊥) (λ _. served ≡ Err now_fault.Clock) }
+    ensures { MatchResult result (λ _. served ≡ Err now_fault.Clock → ⊥)
+        (λ _. served ≡ Err now_fault.Clock) }
 {
     match served {
         Err(NowError::Clock) => Err(ClockError),
@@ -48,23 +47,28 @@ fn unless_untimed(served: Result<(), NowError>) -> Result<(), ClockError>
     }
 }
 
-/// Serves the one request of a connection, and ends it, also where its peer failed.
-fn serve_connection<O: Office, C: Clock>(
+/// Serves the one request of a connection, and gives the connection back to its listener to be
+/// ended, also where its peer failed.
+fn serve_connection<O: Office, L: Listener, C: Clock>(
     alloc: Global,
+    listener: &mut L,
     office: &mut O,
     clock: &mut C,
-    stream: TcpStream,
-) -> Result<(), ClockError>
-    ensures turned { OnOk result
-        (RanAt C.Clock O.Office 1 clock.old clock.new office.old office.new) }
-    ensures failed { OnErr result (C.fails clock.old clock.new) }
-    ensures untouched { OnErr result (office.new ≡ office.old) }
+    taken: Connection<L::Reader, L::Writer>,
+) -> Result<(), NowError>
+    ensures { ServesConnection L.Listener L.Reader.Source L.Writer.Sink C.Clock O.Office result taken
+        (standing listener.old clock.old office.old) (standing listener.new clock.new office.new) }
 {
-    let mut reader = ReadDevice::new(&stream);
-    let mut writer = WriteDevice::new(&stream);
-    let served = serve_now(alloc, office, clock, &mut reader, &mut writer);
-    end_connection(stream);
-    unless_untimed(served)
+    let mut connection = taken;
+    let served = serve_now(
+        alloc,
+        office,
+        clock,
+        &mut connection.reader,
+        &mut connection.writer,
+    );
+    listener.end(connection);
+    served
 }
 
 /// Serves the next connection of a listener, or counts a peer that was gone before.
@@ -74,45 +78,49 @@ fn serve_next<O: Office, L: Listener, C: Clock>(
     office: &mut O,
     clock: &mut C,
 ) -> Result<(), LoopFault>
-    ensures turned { OnOk result
-        (RanAt C.Clock O.Office 1 clock.old clock.new office.old office.new) }
-    ensures failed { IfErr result (λ fault. fault ≡ Clock → C.fails clock.old clock.new) }
-    ensures unasked { IfErr result (λ fault. fault ≡ Socket
-        → (clock.new ≡ clock.old) × L.fails listener.old listener.new) }
-    ensures untouched { OnErr result (office.new ≡ office.old) }
+    ensures turned { OnOk result ((turn : Turn L.Reader L.Writer)
+        × IsTurn L.Listener L.Reader.Source L.Writer.Sink C.Clock O.Office turn
+        (standing listener.old clock.old office.old)
+        (standing listener.new clock.new office.new)) }
+    ensures no_listener { IfErr result (λ fault. fault ≡ Socket
+        → HasNoListener L.Listener L.Reader.Source L.Writer.Sink C.Clock O.Office
+        (standing listener.old clock.old office.old)
+        (standing listener.new clock.new office.new)) }
+    ensures no_moment { IfErr result (λ fault. fault ≡ Clock
+        → HasNoMoment L.Listener L.Reader.Source L.Writer.Sink C.Clock O.Office
+        (standing listener.old clock.old office.old)
+        (standing listener.new clock.new office.new)) }
 {
-    match listener.next()? {
-        Accepted::Peer(stream) => Ok(serve_connection(alloc, office, clock, stream)?),
+    match next_connection(listener)? {
+        Accepted::Peer(taken) => {
+            let served = serve_connection(alloc, listener, office, clock, taken);
+            Ok(unless_untimed(served)?)
+        }
         Accepted::Gone => Ok(()),
     }
 }
 
-/// Serves one connection of a listener after another by an office, so many in all, each at the
-/// moment that the clock gives once its request was read. It waits for each peer as long as it
-/// takes.
+/// Serves one connection of a listener after another by an office, so many in all. It waits for
+/// each peer as long as it takes.
 ///
-/// A connection whose peer fails counts, and so does that of a peer that is gone before it is
-/// taken. Where the office is no longer open each request is answered by 503 and changes nothing.
+/// Each turn takes the next connection, serves its one request as `serve_now` does, by its own
+/// source and sink and at the moment that the clock gives once the request was read, and has the
+/// listener end it as it is then, also where its peer failed. A peer that is gone before its
+/// connection is taken counts as a turn in which nothing else is done. Where the office is no longer
+/// open each request is answered by 503 and changes nothing.
 ///
-/// For `Ok` and for each fault: no failure is made good, only a device that fails shuts the office,
-/// and the office that was stored is afterwards the one after a run of further calls, at most one a
-/// connection, each at a moment that the clock gave. `Socket` is told only where the listener
-/// failed, and `Clock` only where the clock gave no moment.
-pub fn serve_listener<O: Office, L: Listener, C: Clock>(
+/// `Socket` is told only where the listener failed, and not by one peer that is gone; then nothing
+/// else was asked. `Clock` is told only where the clock gave no moment for a request that was read;
+/// its connection was ended, and nothing was written or changed.
+pub fn serve_loop<O: Office, L: Listener, C: Clock>(
     alloc: Global,
     listener: &mut L,
     office: &mut O,
     clock: &mut C,
     count: u32,
 ) -> Result<(), LoopFault>
-    ensures served { OnOk result
-        (RanAt C.Clock O.Office count clock.old clock.new office.old office.new) }
-    ensures no_listener { IfErr result (λ fault. fault ≡ Socket
-        → RanAt C.Clock O.Office count clock.old clock.new office.old office.new
-        × ((between : L) × L.fails between listener.new)) }
-    ensures no_moment { IfErr result (λ fault. fault ≡ Clock
-        → (between : C) × RanAt C.Clock O.Office count clock.old between office.old office.new
-        × C.fails between clock.new) }
+    ensures { ServesTurns L.Listener L.Reader.Source L.Writer.Sink C.Clock O.Office count result
+        (standing listener.old clock.old office.old) (standing listener.new clock.new office.new) }
 {
     let mut served = 0;
     while served < count {
@@ -120,24 +128,4 @@ pub fn serve_listener<O: Office, L: Listener, C: Clock>(
         served += 1;
     }
     Ok(())
-}
-
-/// Serves one connection of a socket after another by an office, as `serve_listener` does.
-pub fn serve_loop<O: Office, C: Clock>(
-    alloc: Global,
-    listener: &TcpListener,
-    office: &mut O,
-    clock: &mut C,
-    count: u32,
-) -> Result<(), LoopFault>
-    ensures served { OnOk result
-        (RanAt C.Clock O.Office count clock.old clock.new office.old office.new) }
-    ensures no_listener { IfErr result (λ fault. fault ≡ Socket
-        → RanAt C.Clock O.Office count clock.old clock.new office.old office.new) }
-    ensures no_moment { IfErr result (λ fault. fault ≡ Clock
-        → (between : C) × RanAt C.Clock O.Office count clock.old between office.old office.new
-        × C.fails between clock.new) }
-{
-    let mut sockets = listener;
-    serve_listener(alloc, &mut sockets, office, clock, count)
 }

@@ -1,3 +1,4 @@
+mod ConnectionRunLemmas
 mod PickLemmas
 mod ReplayLemmas
 mod TextLemmas

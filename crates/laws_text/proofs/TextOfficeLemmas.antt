@@ -1,13 +1,11 @@
 -- What an office tells is a run.
-use Rattle.std.proofs.Common.{◌≡◌, ◌⊎◌, inl, inr, ℕ, List, [], ◌∷◌, map, refl, ap, sym, ◌∙◌, subst}
-use Rattle.std.proofs.lemmas.List.{append_cancel_left}
+use Rattle.std.proofs.Common.{◌≡◌, ◌⊎◌, inl, inr, ℕ, List, [], ◌∷◌, refl, ap, sym, ◌∙◌, subst}
 use Rattle.std.specs.Prelude.{Option, Some, None, option_map, Result, Ok, Err, IfOk}
 use Rattle.std.specs.declared.alloc.Global.{Global}
 use Rattle.std.specs.declared.vec.Vec.{Vec}
 use Rattle.any_office.specs.StoredOffice.{HoldsOfOffice, made_by, office_after}
 use Rattle.any_office.specs.OfficeRuns.{LeavesOffice}
 use Rattle.any_office.specs.declared.Office as office
-use Rattle.desk_words.specs.Changes.{empty_office}
 use Rattle.desk_words.specs.declared.caller.Caller.{Caller}
 use Rattle.desk_words.specs.declared.office.OfficeLists.{OfficeLists}
 use Rattle.desk_words.specs.declared.reply.Failure.{Failure}
@@ -22,7 +20,7 @@ use Rattle.desk_http.specs.HttpAnswers.{call_received, call_of, reply_in, reply_
 use Rattle.desk_http.specs.Served.{IsServed, replied_text}
 use Rattle.meeting_core.specs.KeyHolders.{caller_with}
 use Rattle.meeting_core.specs.Step.{decided, run_of}
-use Rattle.laws_text.specs.Connections.{AreServed, Connection, ConnectionsAreIsolated, ConnectionsAreAnswered, ConnectionsAnswerRuns, as_http, asked_on, asked_over, asks_by}
+use Rattle.laws_text.specs.Connections.{as_http, asked_on, asks_by}
 use Rattle.laws_text.specs.Offices.{AlikeOfficesAreIsolated, AreAnsweredStored, AskedText, AskedEffect, HasFailure, HasReply, HasAnsweredARun, IsOf, IsAnsweredStored, IsAnsweredInOffice, Makes, Nothing, OfficesAreIsolated, OfficesKeepSecrets, OfficesAnswerRuns, Tells, Writing, as_json, asked_by_call, call_made, reply_to}
 use Rattle.laws_text.specs.Exchanges.{Exchange, AreTextsOfRun, calls_made}
 use Rattle.laws_text.specs.TextSecrecy.{AreIsolatedTo, KeepSecret, TextsAreIsolated, TextsFromNothingAreIsolated, TextsKeepSecrets}
@@ -60,7 +58,7 @@ made-told writing office a e of call is = by of.is
     by (inr failed) = let none : None ≡ Some call = sym failed.made ∙ is in absurd (cc)
 
 module _ {O : Type 0} (g : office.Ghosts O) where
-  told-more : (writing : Writing) (first : OfficeLists) (a : AskedText) (later : List AskedText) (between new : O) → (told : IsAnsweredInOffice g writing a first between)
+  pub told-more : (writing : Writing) (first : OfficeLists) (a : AskedText) (later : List AskedText) (between new : O) → (told : IsAnsweredInOffice g writing a first between)
       → HasAnsweredARun g writing (office_after first told.exchange.made) later new → HasAnsweredARun g writing first (a ∷ later) new
   told-more writing first a later between new told rest =
       let e = told.exchange in record {
@@ -145,7 +143,7 @@ replied-by office (Some call) reply same = ap (λ r. Some r) (sym (same call ref
 replied-by office None reply same = refl
 
 module _ {O : Type 0} (g : office.Ghosts O) where
-  served-told : (now : ℕ) (received : ReceivedRequest) (first : OfficeLists) (old new : O) (text : List ℕ) → g.is_open new → IsServed g first now received old new text
+  pub served-told : (now : ℕ) (received : ReceivedRequest) (first : OfficeLists) (old new : O) (text : List ℕ) → g.is_open new → IsServed g first now received old new text
       → IsAnsweredInOffice g as_http (asked_on now received text) first new
   served-told now received first old new text is_open (inl replied) = record {
     exchange = record { made = call_received first now received; text = text };
@@ -165,29 +163,6 @@ module _ {O : Type 0} (g : office.Ghosts O) where
     of = record { same = refl; is = inr (record { failure = failed.failure; text = failed.text_is; made = refl }) };
     stands = failed.same is_open;
   }
-
-  pub connections_told : ConnectionsAreAnswered g
-  connections_told c old new served = record {
-    was_reliable = served.was_reliable;
-    was_open = served.was_open;
-    told = λ reliable is_open first stands.
-        (let it = served.serves reliable first stands in
-        subst (λ t. IsAnsweredInOffice g as_http (asked_on c.moment c.received t) first new) (sym (append_cancel_left c.before c.text it.0 it.2))
-        (served-told c.moment c.received first old new it.0 is_open it.1));
-  }
-
-  served_told : (connections : List Connection) (old new : O) → AreServed g old connections new → AreAnsweredStored g as_http old (map asked_over connections) new
-  served_told [] old new served = served
-  served_told (c ∷ later) old new served = (served.0, connections_told c old served.0 served.1, served_told later served.0 new served.2)
-
-  pub connections_tell : ConnectionsAnswerRuns g
-  connections_tell connections old new served = offices_tell g as_http old new (map asked_over connections) (served_told connections old new served)
-
-  pub connections_isolated : TextsFromNothingAreIsolated → ConnectionsAreIsolated g
-  connections_isolated law party one other left kept first second =
-      let told = connections_tell one first.old left first.served first.reliable first.is_open empty_office first.empty in
-      let later = connections_tell other second.old kept second.served second.reliable second.is_open empty_office second.empty in
-      record { told = told; later = later; isolated = offices_isolated g law as_http party (map asked_over one) (map asked_over other) left kept told later }
 
 -- ---- by perform
 

@@ -1,7 +1,9 @@
 -- What is written over HTTP, one connection after another.
-use Rattle.std.specs.Prelude.{◌≡◌, ℕ, List, [], ◌∷◌, ◌++◌, map, Option, Some, None}
-use Rattle.std.specs.Io.KnownBytes.{Appends}
+use Rattle.std.specs.Prelude.{◌≡◌, ◌⊎◌, ℕ, List, [], ◌∷◌, map, filter_map, Option, Some, None, Result}
 use Rattle.any_office.specs.declared.Office as office
+use Rattle.byte_io.specs.declared.sink.Sink as sink
+use Rattle.byte_io.specs.declared.source.Source as source
+use Rattle.clocks.specs.declared.clock.Clock as clock
 use Rattle.desk_words.specs.Changes.{empty_office}
 use Rattle.desk_words.specs.ViewTypes.{Moment, Party}
 use Rattle.desk_words.specs.declared.office.OfficeLists.{OfficeLists}
@@ -9,8 +11,12 @@ use Rattle.desk_words.specs.declared.reply.Reply.{Reply}
 use Rattle.desk_words.specs.declared.request.Call.{Call}
 use Rattle.http_requests.specs.declared.received.ReceivedRequest.{ReceivedRequest}
 use Rattle.desk_http.specs.HttpAnswers.{call_received, reply_in}
-use Rattle.desk_http.specs.Served.{Serves, failure_text, replied_text}
-use Rattle.laws_text.specs.Offices.{AskedText, AskedEffect, HasAnsweredARun, IsAnsweredStored, Makes, Nothing, Tells, Writing}
+use Rattle.desk_http.specs.Served.{FailsReading, FailsWriting, Receives, WritesPart, WritesText, failure_text, replied_text}
+use Rattle.http_listener.specs.Connections.{Gone, Served, ServesTurns, Standing, Turn}
+use Rattle.http_listener.specs.declared.listening.LoopFault.{LoopFault}
+use Rattle.tcp_close.specs.declared.connection.Connection.{Connection}
+use Rattle.tcp_close.specs.declared.listener.Listener as listener
+use Rattle.laws_text.specs.Offices.{AskedText, AskedEffect, HasAnsweredARun, Makes, Nothing, Tells, Writing}
 use Rattle.laws_text.specs.TextSecrecy.{AreIsolatedFromNothing}
 
 -- replies and failures are written as texts of HTTP
@@ -24,72 +30,103 @@ asks_by None (Some reply) = Tells reply
 asks_by None None = Nothing
 
 -- what was received on a connection at a moment asks the call of the caller whose key came, or is
--- replied to without one; with the text that was written
+-- replied to without one; with the text that answers it
 abbrev pub asked_on : Moment → ReceivedRequest → List ℕ → AskedText
 asked_on now received text = record {
   asks = λ office. asks_by (call_received office now received) (reply_in office now received);
   text = text;
 }
 
--- a request that was received at a moment, and the text that was written, behind what stood there
-pub record Connection : Type 0 where
+-- a request that was received at a moment, and the text that answers it
+pub record AnsweredRequest : Type 0 where
   pub moment : Moment
   pub received : ReceivedRequest
-  pub before : List ℕ
   pub text : List ℕ
 
--- what was asked on it
-abbrev pub asked_over : Connection → AskedText
-asked_over c = asked_on c.moment c.received c.text
+-- what was asked by it
+abbrev pub asked_by_request : AnsweredRequest → AskedText
+asked_by_request a = asked_on a.moment a.received a.text
 
--- it was served by an office: no failure is made good, and nothing is opened again
-pub record IsServedOn {O : Type 0} (g : office.Ghosts O) (c : Connection) (old new : O)
-    : Type 0 where
-  pub was_reliable : g.is_reliable new → g.is_reliable old
-  pub was_open : g.is_reliable new → g.is_open new → g.is_open old
-  pub serves : Serves g c.moment c.received old new
-      (Appends (Some c.before) (Some (c.before ++ c.text)))
+-- the requests that were answered
+abbrev pub answered_in : List (Option AnsweredRequest) → List AnsweredRequest
+answered_in = filter_map (λ (answer : Option AnsweredRequest). answer)
 
--- one after another
-abbrev pub AreServed : {O : Type 0} → office.Ghosts O → O → List Connection → O → Type 0
-AreServed g old [] new = new ≡ old
-AreServed {O} g old (c ∷ later) new =
-    (between : O) × IsServedOn g c old between × AreServed g between later new
+module _ {R W C : Type 0} (r : source.Ghosts R) (w : sink.Ghosts W) (k : clock.Ghosts C) where
+  -- the request is what was received of a peer, at the moment that the clock gave then; and the
+  -- text was written to that peer, or where the sink failed a part of it
+  pub record IsAnsweredOn (taken ended : Connection R W) (answer : AnsweredRequest) (from till : C)
+      : Type 0 where
+    pub read : Receives r taken.reader ended.reader answer.received
+    pub given : k.gives from answer.moment till
+    pub written : WritesText w taken.writer ended.writer answer.text
+        ⊎ (FailsWriting w taken.writer ended.writer
+        × WritesPart w taken.writer ended.writer answer.text)
 
--- what is written to a connection answers it: the text of the reply, or of a failure
-abbrev pub ConnectionsAreAnswered : {O : Type 0} → office.Ghosts O → Type 0
-ConnectionsAreAnswered {O} g =
-    (c : Connection) (old new : O) → IsServedOn g c old new
-    → IsAnsweredStored g as_http (asked_over c) old new
+  -- the source failed, and nothing was written
+  pub record IsCutShort (taken ended : Connection R W) : Type 0 where
+    pub failed : FailsReading r taken.reader ended.reader
+    pub unwritten : ended.writer ≡ taken.writer
 
--- and what is written to one connection after another is a run, where an office was stored, up to
--- one that is reliable and open
-abbrev pub ConnectionsAnswerRuns : {O : Type 0} → office.Ghosts O → Type 0
-ConnectionsAnswerRuns {O} g =
-    (connections : List Connection) (old new : O) → AreServed g old connections new
-    → g.is_reliable new → g.is_open new → (first : OfficeLists) → g.stands old first
-    → HasAnsweredARun g as_http first (map asked_over connections) new
+  -- a turn answered this request, or none
+  abbrev pub AnswersBy : Turn R W → Option AnsweredRequest → C → C → Type 0
+  AnswersBy (Served taken ended) (Some answer) from till =
+      IsAnsweredOn taken ended answer from till
+  AnswersBy (Served taken ended) None from till = IsCutShort taken ended
+  AnswersBy Gone (Some answer) from till = ⊥
+  AnswersBy Gone None from till = till ≡ from
 
--- connections were served one after another, from an office that holds nothing up to one that is
--- reliable and open
-pub record AreServedFromNothing {O : Type 0} (g : office.Ghosts O) (connections : List Connection)
-    (new : O) : Type 0 where
-  pub old : O
-  pub empty : g.stands old empty_office
-  pub served : AreServed g old connections new
-  pub reliable : g.is_reliable new
-  pub is_open : g.is_open new
+  -- one after another
+  abbrev pub AnswerBy : List (Turn R W) → List (Option AnsweredRequest) → C → C → Type 0
+  AnswerBy [] [] from till = till ≡ from
+  AnswerBy [] (answer ∷ answers) from till = ⊥
+  AnswerBy (turn ∷ later) [] from till = ⊥
+  AnswerBy (turn ∷ later) (answer ∷ answers) from till =
+      (between : C) × AnswersBy turn answer from between × AnswerBy later answers between till
 
--- two whole lists of connections answer a run each, and these are isolated
-pub record AnswerIsolatedRuns {O : Type 0} (g : office.Ghosts O) (party : Party)
-    (one other : List Connection) (left kept : O) : Type 0 where
-  pub told : HasAnsweredARun g as_http empty_office (map asked_over one) left
-  pub later : HasAnsweredARun g as_http empty_office (map asked_over other) kept
-  pub isolated : AreIsolatedFromNothing party told.run.exchanges later.run.exchanges
+-- what was written to the peers of a listener answers a run from an office: the requests that were
+-- answered, a turn each or none, and the run that they are
+pub record TurnsAnswerARun {R W C O : Type 0} (r : source.Ghosts R) (w : sink.Ghosts W)
+    (k : clock.Ghosts C) (g : office.Ghosts O) (turns : List (Turn R W)) (first : OfficeLists)
+    (from : C) (new : O) : Type 0 where
+  pub answers : List (Option AnsweredRequest)
+  pub till : C
+  pub are : AnswerBy r w k turns answers from till
+  pub answered : HasAnsweredARun g as_http first (map asked_by_request (answered_in answers)) new
 
--- so two lists of connections, each from an office that holds nothing, are isolated
-abbrev pub ConnectionsAreIsolated : {O : Type 0} → office.Ghosts O → Type 0
-ConnectionsAreIsolated {O} g =
-    (party : Party) (one other : List Connection) (left kept : O)
-    → AreServedFromNothing g one left → AreServedFromNothing g other kept
-    → AnswerIsolatedRuns g party one other left kept
+module _ {L R W C O : Type 0} (l : listener.Ghosts L R W) (r : source.Ghosts R) (w : sink.Ghosts W)
+    (k : clock.Ghosts C) (g : office.Ghosts O) where
+  -- what is written to one connection after another, as a loop promises, however it ends, answers
+  -- a run, where an office was stored, up to one that is reliable and open
+  abbrev pub ConnectionsAnswerRuns : Type 0
+  ConnectionsAnswerRuns =
+      (count : ℕ) (result : Result (Unit {0}) LoopFault) (before after : Standing L C O)
+      → (served : ServesTurns l r w k g count result before after)
+      → g.is_reliable after.office → g.is_open after.office
+      → (first : OfficeLists) → g.stands before.office first
+      → TurnsAnswerARun r w k g served.turns first before.clock after.office
+
+  -- connections were served one after another, from an office that holds nothing up to one that is
+  -- reliable and open
+  pub record ServesFromNothing (before after : Standing L C O) : Type 0 where
+    pub empty : g.stands before.office empty_office
+    pub count : ℕ
+    pub result : Result (Unit {0}) LoopFault
+    pub served : ServesTurns l r w k g count result before after
+    pub reliable : g.is_reliable after.office
+    pub is_open : g.is_open after.office
+
+  -- two whole lists of connections answer a run each, and these are isolated
+  pub record AnswerIsolatedRuns (party : Party) (one other : List (Turn R W)) (from since : C)
+      (left kept : O) : Type 0 where
+    pub told : TurnsAnswerARun r w k g one empty_office from left
+    pub later : TurnsAnswerARun r w k g other empty_office since kept
+    pub isolated : AreIsolatedFromNothing party told.answered.run.exchanges
+        later.answered.run.exchanges
+
+  -- so two lists of connections, each from an office that holds nothing, are isolated
+  abbrev pub ConnectionsAreIsolated : Type 0
+  ConnectionsAreIsolated =
+      (party : Party) (before after since until : Standing L C O)
+      → (one : ServesFromNothing before after) → (other : ServesFromNothing since until)
+      → AnswerIsolatedRuns party one.served.turns other.served.turns before.clock since.clock
+      after.office until.office

@@ -4,7 +4,6 @@ ghost use Rattle.any_office.specs.StoredOffice.{HoldsOfOffice, made_by};
 ghost use Rattle.any_office.specs.OfficeRuns.{LeavesOffice};
 ghost use Rattle.json_replies.specs.Replies.{reply_bytes};
 ghost use Rattle.meeting_core.specs.Step.{decided};
-ghost use Rattle.laws_text.specs.Connections.{ConnectionsAreIsolated, ConnectionsAreAnswered, ConnectionsAnswerRuns};
 ghost use Rattle.laws_text.specs.Offices.{AlikeOfficesAreIsolated, OfficesAreIsolated, OfficesKeepSecrets, OfficesAnswerRuns};
 ghost use Rattle.laws_text.specs.Offices.{IsAnsweredStored, as_json, asked_by_call};
 
@@ -34,24 +33,6 @@ pub fn offices_show_no_more<O: Office>()
     ensures isolated { OfficesAreIsolated O.Office }
     ensures alike { AlikeOfficesAreIsolated O.Office }
     ensures secret { OfficesKeepSecrets O.Office }
-{
-    texts_show_no_more();
-}
-
-/// What is written to a connection, as `reply_to`, `serve_one` and `serve_now` promise where they
-/// end well, is the text of the reply to the call of the caller whose key came, or of the refusal
-/// of what is no call, or it reports a failure. So the texts written to one connection after
-/// another, as in `serve_loop`, are those of a run.
-pub fn connections_are_answered<O: Office>()
-    ensures holds { ConnectionsAreAnswered O.Office }
-    ensures runs { ConnectionsAnswerRuns O.Office }
-{}
-
-/// So two whole lists of connections, each from an office that holds nothing, are isolated: where
-/// the calls that were made on them show a party the same, with all its sources in either, what is
-/// written to its connections is the same bytes, one for one.
-pub fn connections_show_no_more<O: Office>()
-    ensures { ConnectionsAreIsolated O.Office }
 {
     texts_show_no_more();
 }

@@ -1,11 +1,12 @@
 //! The end of a connection.
-ghost use Rattle.std.specs.Prelude.{◌≡◌, ◌+◌, ◌<◌, ◌≤◌, IfOk, OnOk, OnErr};
+ghost use Rattle.std.specs.Prelude.{◌≡◌, ◌+◌, ◌<◌, IfOk, OnOk, OnErr};
 ghost use Rattle.std.specs.Io.KnownBytes.{IsAtEnd};
 ghost use Rattle.byte_io.specs.Counts.{one_more};
 ghost use Rattle.tcp_close.specs.Draining.{PassesAtMost};
+ghost use Rattle.tcp_close.specs.Ending.{EndsInOrder, TakesRest};
 
-use byte_io::{DeviceError, ReadDevice, Source};
-use std::net::{Shutdown, TcpStream};
+use crate::closing::Closing;
+use byte_io::{DeviceError, Source};
 
 /// The most bytes of a peer's rest that are taken before its connection is closed: 1 MiB.
 ///
@@ -42,19 +43,24 @@ pub fn drain<S: Source>(source: &mut S) -> Result<usize, DeviceError>
     Ok(taken)
 }
 
-/// Ends a connection: first our side of it, so that the peer sees where the reply ends; then it
-/// takes what has already come of the peer's rest, and closes. It waits for nothing, so a peer that
-/// sends later may still lose the reply. Returns how many bytes it took.
-///
-/// Where the system refuses one of these the peer is gone, and there is nothing to save.
-pub fn end_connection(stream: TcpStream) -> u64
-    ensures { result ≤ MOST_DRAINED }
+/// Takes what has already come of the peer's rest, if the connection can be kept from waiting.
+fn take_rest<S: Source + Closing>(socket: &mut S)
+    ensures { TakesRest S.Source S.Closing socket.old socket.new }
 {
-    let _ = stream.shutdown(Shutdown::Write);
-    if stream.set_nonblocking(true).is_err() {
-        return 0;
+    match socket.stop_waiting() {
+        Ok(()) => {
+            let _ = drain(socket);
+        }
+        Err(DeviceError) => {}
     }
-    let mut rest = ReadDevice::new(&stream);
-    let _ = drain(&mut rest);
-    rest.passed
+}
+
+/// Ends a connection: first our side of it, so that the peer sees where the reply ends; then it
+/// takes what has already come of the peer's rest, at most 1 MiB. It waits for nothing, so a peer
+/// that sends later may still lose the reply. The connection closes when it is dropped.
+pub fn end_connection<S: Source + Closing>(socket: &mut S)
+    ensures { EndsInOrder S.Source S.Closing socket.old socket.new }
+{
+    socket.end_reply();
+    take_rest(socket);
 }

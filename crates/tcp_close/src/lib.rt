@@ -2,8 +2,19 @@
 #![tactic(auto)]
 
 mod accepting;
+mod closing;
+mod connection;
 mod ending;
 pub mod laws;
+mod listener;
+mod memory;
+mod next;
+mod socket;
 
-pub use accepting::{Accepted, Listener, SocketError, answer_of};
+pub use accepting::{Accepted, SocketError, answer_of};
+pub use closing::Closing;
+pub use connection::Connection;
 pub use ending::{MOST_DRAINED, drain, end_connection};
+pub use listener::Listener;
+pub use memory::{Peer, SliceListener};
+pub use next::next_connection;

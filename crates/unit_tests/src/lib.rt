@@ -21,6 +21,8 @@ mod endings;
 #[cfg(test)]
 mod fixtures;
 #[cfg(test)]
+mod gone;
+#[cfg(test)]
 mod heads;
 #[cfg(test)]
 mod lines;

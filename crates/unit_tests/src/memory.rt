@@ -19,7 +19,7 @@ const CALLED: &str = "HTTP/1.1 200 OK\r\nContent-Type: application/json\r\n\
                       Content-Length: 15\r\nConnection: close\r\n\r\n\
                       {\"ok\":\"called\"}";
 
-const NO_KEY: &str = "HTTP/1.1 401 Unauthorized\r\nContent-Type: application/json\r\n\
+pub(crate) const NO_KEY: &str = "HTTP/1.1 401 Unauthorized\r\nContent-Type: application/json\r\n\
                       Content-Length: 26\r\nConnection: close\r\n\r\n\
                       {\"code\":1,\"refused\":\"Key\"}";
 

@@ -7,8 +7,9 @@ use desk_words::{Moment, read_moment};
 use http_listener::{LoopFault, serve_loop};
 use meeting_core::Book;
 use std::alloc::Global;
-use std::net::{TcpListener, TcpStream};
+use std::net::TcpStream;
 use std::test::Fail;
+use tcp_close::Listener;
 
 /// The keys of two parties, and the call of a meeting.
 const LINES: &[&str] = &[
@@ -43,9 +44,9 @@ impl Office {
     }
 
     /// Serves so many connections.
-    pub(crate) fn serve_loop<C: Clock>(
+    pub(crate) fn serve_loop<L: Listener, C: Clock>(
         &mut self,
-        listener: &TcpListener,
+        listener: &mut L,
         clock: &mut C,
         count: u32,
     ) -> Result<(), LoopFault> {

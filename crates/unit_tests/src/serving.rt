@@ -6,10 +6,10 @@ use std::alloc::{AllocError, Global};
 use std::net::{TcpListener, TcpStream};
 use std::test::Fail;
 
-const MINE: &str = "GET /m/G1/mine HTTP/1.1\r\nDesk-Key: zzzzzzzzzzzzzzzz\r\n\r\n";
+pub(crate) const MINE: &str = "GET /m/G1/mine HTTP/1.1\r\nDesk-Key: zzzzzzzzzzzzzzzz\r\n\r\n";
 
 /// What is told to a party that has nothing of its own.
-const NOTHING: &str = "HTTP/1.1 200 OK\r\nContent-Type: application/json\r\n\
+pub(crate) const NOTHING: &str = "HTTP/1.1 200 OK\r\nContent-Type: application/json\r\n\
                        Content-Length: 133\r\nConnection: close\r\n\r\n\
                        {\"authorised\":[],\"casts\":[],\"demands\":[],\"given\":[],\"meeting\":\"G1\",\
                        \"ok\":\"mine\",\"persons\":[],\"present\":false,\"received\":[],\"row\":null}";
@@ -21,16 +21,13 @@ const TOO_LARGE: &str = "HTTP/1.1 413 Payload Too Large\r\nContent-Type: applica
 // More than is read with a head, and less than the system takes in before a connection is served.
 const BEHIND: usize = 20_000;
 
-/// Serves all connections of a listener that were made, so many, at one moment each.
-fn serve(alloc: Global, listener: &TcpListener, count: u8) -> Result<(), Fail> {
+/// Serves all connections of a listener that were made, so many, at one moment each, and closes the
+/// listener.
+fn serve_all(alloc: Global, listener: TcpListener, count: u8) -> Result<(), Fail> {
     let moments = [moment("2026-06-02T09:00:00")?; 2];
     let mut clock = SliceClock::new(&moments[..usize::from(count).min(2)]);
-    Ok(Office::new(alloc)?.serve_loop(listener, &mut clock, u32::from(count))?)
-}
-
-/// The same, and closes the listener.
-fn serve_all(alloc: Global, listener: TcpListener, count: u8) -> Result<(), Fail> {
-    serve(alloc, &listener, count)
+    let mut sockets = listener;
+    Ok(Office::new(alloc)?.serve_loop(&mut sockets, &mut clock, u32::from(count))?)
 }
 
 /// A request, and so many bytes behind it.
