@@ -18,9 +18,10 @@ digits and `-`. Prints `loaded`, or `same` where these are the keys held. A faul
 status 3 and its line, as `BadRow 2 key` or `Twice 3`, and nothing is loaded.";
 
 pub(crate) const DAYS: &str =
-    "Loads the days on which the office is closed, in place of those held. The file is text, a day such as
-2026-12-25 on each line. Prints `loaded`, or `same` where these are the days held. A line that is no day
-ends with status 3 and `BadRow` with its number, and nothing is loaded.";
+    "Loads the closed days, in place of those held: Christmas Day, Good Friday and the bank holidays (section
+1173 of the Companies Act 2006). The file is text, a day such as 2026-12-25 on each line. Prints `loaded`,
+or `same` where these are the days held. A line that is no day ends with status 3 and `BadRow` with its
+number, and nothing is loaded.";
 
 pub(crate) const REGISTER: &str =
     "Loads the register of members for a meeting, in place of the one held. The file is CSV as a spreadsheet

@@ -13,7 +13,7 @@ use Rattle.cli_commands.specs.LoadCommands.{AnswersFile, Loads}
 use Rattle.cli_commands.specs.FileReading.{Reader, load_asked}
 
 module _ {X : Type 0} (spelled_by : List ℕ → Result X FileError) (asking : X → Request) (limit : ℕ)
-    (before after : Reader) (held : OfficeLists) (now : Moment) (end : Ending) (Stands : OfficeLists → Type 0) where
+    (before after : Reader) (held : OfficeLists) (now : Moment) (end : Ending) (Stands Unsure : OfficeLists → Type 0) where
   -- it is what some bytes spell that came
   abbrev pub IsSpelled : Result X FileError → Type 0
   IsSpelled read =
@@ -27,21 +27,21 @@ module _ {X : Type 0} (spelled_by : List ℕ → Result X FileError) (asking : X
 
   asked : (read : Result X FileError) (bytes : List ℕ)
       → HasReceived bytes before.rest before.passed after.passed → spelled_by bytes ≡ read → IsWhole
-      → AnswersFile held now (load_asked asking read) end Stands
-      → Loads spelled_by asking limit before after held now end Stands
+      → AnswersFile held now (load_asked asking read) end Stands Unsure
+      → Loads spelled_by asking limit before after held now end Stands Unsure
   asked read bytes came spelled whole after_it =
       inl (record {
         bytes = bytes;
         came = came;
         whole = whole;
-        follows = subst (λ r. AnswersFile held now (load_asked asking r) end Stands) (sym spelled) after_it;
+        follows = subst (λ r. AnswersFile held now (load_asked asking r) end Stands Unsure) (sym spelled) after_it;
       })
 
   follows : (read : Result X FileError) → IfRecordsRead read (IsSpelled read) → IfRecordsRead read IsWhole
       → IfErr read
       (λ f. IsReadCause f limit before.passed after.passed before.failures after.failures)
-      → AnswersFile held now (load_asked asking read) end Stands
-      → Loads spelled_by asking limit before after held now end Stands
+      → AnswersFile held now (load_asked asking read) end Stands Unsure
+      → Loads spelled_by asking limit before after held now end Stands Unsure
   follows (Ok rows) spelled whole cause after_it =
       asked (Ok rows) spelled.0 spelled.1 spelled.2 whole after_it
   follows (Err (file.BadRow line why)) spelled whole cause after_it =
@@ -58,8 +58,8 @@ module _ {X : Type 0} (spelled_by : List ℕ → Result X FileError) (asking : X
       → IfRecordsRead read (IsSpelled read) → IfRecordsRead read IsWhole
       → IfErr read
       (λ f. IsReadCause f limit before.passed after.passed before.failures after.failures)
-      → file ≡ load_asked asking read → AnswersFile held now file end Stands
-      → Loads spelled_by asking limit before after held now end Stands
+      → file ≡ load_asked asking read → AnswersFile held now file end Stands Unsure
+      → Loads spelled_by asking limit before after held now end Stands Unsure
   loads read file spelled whole cause made after_it =
       follows read spelled whole cause
-      (subst (λ f. AnswersFile held now f end Stands) made after_it)
+      (subst (λ f. AnswersFile held now f end Stands Unsure) made after_it)

@@ -26,28 +26,31 @@ ended_by_reply reply.Same = ending 0 (codes "same")
 ended_by_reply (reply.Refused refusal) = ended_by_refusal refusal
 ended_by_reply other = success
 
--- the call was answered, and the office after it is stored; or the store failed, or memory ran out
-abbrev pub AnswersCall : OfficeLists → Call → Ending → (OfficeLists → Type 0) → Type 0
-AnswersCall held call end Stands =
+-- the call was answered, and the office after it is stored; or the store failed, or memory ran out,
+-- and it is unsure whether that office is stored, or the one before
+abbrev pub AnswersCall : OfficeLists → Call → Ending → (OfficeLists → Type 0)
+    → (OfficeLists → Type 0) → Type 0
+AnswersCall held call end Stands Unsure =
     ((end ≡ ended_by_reply (decided held call).reply) × Stands (stepped held call))
-    ⊎ ((end ≡ ended_by fault.Store) ⊎ (end ≡ ended_by fault.Memory))
+    ⊎ (((end ≡ ended_by fault.Store) ⊎ (end ≡ ended_by fault.Memory)) × Unsure (stepped held call))
 
 -- what a file asks was answered so; or its fault was reported, and the office is stored as it was
 abbrev pub AnswersFile : OfficeLists → Moment → Result Request FileError → Ending
-    → (OfficeLists → Type 0) → Type 0
-AnswersFile held now (Err fault) end Stands = (end ≡ ended_by_file fault) × Stands held
-AnswersFile held now (Ok request) end Stands = AnswersCall held (by_office now request) end Stands
+    → (OfficeLists → Type 0) → (OfficeLists → Type 0) → Type 0
+AnswersFile held now (Err fault) end Stands Unsure = (end ≡ ended_by_file fault) × Stands held
+AnswersFile held now (Ok request) end Stands Unsure =
+    AnswersCall held (by_office now request) end Stands Unsure
 
 -- the whole file was read: `bytes` came, and what they spell was asked of the office, or the first
 -- fault that they have was reported
 pub record HasAsked {X : Type 0} (spelled_by : List ℕ → Result X FileError) (asking : X → Request)
     (limit : ℕ) (before after : Reader) (held : OfficeLists) (now : Moment) (end : Ending)
-    (Stands : OfficeLists → Type 0) : Type 0 where
+    (Stands Unsure : OfficeLists → Type 0) : Type 0 where
   pub bytes : List ℕ
   pub came : HasReceived bytes before.rest before.passed after.passed
   pub whole : IsReadWhole limit before.rest after.rest before.passed after.passed
       before.failures after.failures
-  pub follows : AnswersFile held now (load_asked asking (spelled_by bytes)) end Stands
+  pub follows : AnswersFile held now (load_asked asking (spelled_by bytes)) end Stands Unsure
 
 -- what the file spells was not found out: a read failed, or it had more bytes than the limit, or
 -- memory ran out; nothing was asked, and the office is stored as it was
@@ -61,7 +64,8 @@ pub record HasNotRead (limit : ℕ) (before after : Reader) (held : OfficeLists)
 
 -- it has done either
 abbrev pub Loads : {X : Type 0} → (List ℕ → Result X FileError) → (X → Request) → ℕ
-    → Reader → Reader → OfficeLists → Moment → Ending → (OfficeLists → Type 0) → Type 0
-Loads spelled_by asking limit before after held now end Stands =
-    HasAsked spelled_by asking limit before after held now end Stands
+    → Reader → Reader → OfficeLists → Moment → Ending → (OfficeLists → Type 0)
+    → (OfficeLists → Type 0) → Type 0
+Loads spelled_by asking limit before after held now end Stands Unsure =
+    HasAsked spelled_by asking limit before after held now end Stands Unsure
     ⊎ HasNotRead limit before after held end Stands

@@ -1,5 +1,6 @@
 //! The commands that load a file.
 ghost use Rattle.std.specs.Prelude.{◌≡◌, ◌≢◌, ◌⊎◌, ◌≤◌, ◌+◌};
+ghost use Rattle.any_office.specs.Storing.{HoldsOfStored, IsStored, IsStoredOrNext};
 ghost use Rattle.any_office.specs.StoredOffice.{HasFailed, HoldsOfOffice};
 ghost use Rattle.cli_exit.specs.Endings.{ended_view};
 ghost use Rattle.csv_import.specs.DayFiles.{day_file};
@@ -62,9 +63,14 @@ fn register_asked(
 /// Asks the office for what a file spells, or tells the file's fault.
 fn load<O: Office>(office: &mut O, now: Moment, file: Result<Request, FileError>) -> Ended
     ensures follows { HoldsOfOffice O.is_reliable O.stands office.old office.new
-        (λ held. AnswersFile held now file (ended_view result) (O.stands office.new)) }
+        (λ held. AnswersFile held now file (ended_view result)
+        (O.stands office.new) (λ _. O.is_open office.new → O.stands office.new held)) }
+    ensures stores { HoldsOfStored O.Office office.old office.new
+        (λ held. AnswersFile held now file (ended_view result)
+        (IsStored O.Office office.new) (IsStoredOrNext O.Office office.new held)) }
     ensures same { HoldsOfOffice O.is_reliable O.stands office.old office.new
         (λ held. O.is_open office.new → result.status ≢ 0 → O.stands office.new held) }
+    ensures trust { O.is_reliable office.new → O.is_reliable office.old }
     ensures closes { O.is_reliable office.new → O.is_open office.old
         → O.is_open office.new ⊎ HasFailed (O.faults office.old) (O.faults office.new) }
 {
@@ -80,7 +86,8 @@ fn load<O: Office>(office: &mut O, now: Moment, file: Result<Request, FileError>
 /// A fault of the file ends with 3 and its line and cause, and nothing is asked. `ReadFault` says
 /// that a read failed or that more bytes came than the file may have. `Memory` ends with 3 too, and
 /// so does `Store`, only where the office was asked. With any other status than 0 an office that is
-/// open is stored as it was. One that is open stays so, or a device under it failed in this call.
+/// open is stored as it was. Whatever a crash leaves is the office after the request; or, after
+/// `Store` or `Memory`, that office or the one before. One that is open stays so, or a device under it failed in this call.
 pub fn keys<O: Office, R: Source>(
     alloc: Global,
     office: &mut O,
@@ -91,9 +98,17 @@ pub fn keys<O: Office, R: Source>(
         (λ held. Loads key_file with_keys FILE_LIMIT
         (reader_at (R.remaining reader.old) (R.passed reader.old) (R.failures reader.old))
         (reader_at (R.remaining reader.new) (R.passed reader.new) (R.failures reader.new))
-        held now (ended_view result) (O.stands office.new)) }
+        held now (ended_view result)
+        (O.stands office.new) (λ _. O.is_open office.new → O.stands office.new held)) }
+    ensures stores { HoldsOfStored O.Office office.old office.new
+        (λ held. Loads key_file with_keys FILE_LIMIT
+        (reader_at (R.remaining reader.old) (R.passed reader.old) (R.failures reader.old))
+        (reader_at (R.remaining reader.new) (R.passed reader.new) (R.failures reader.new))
+        held now (ended_view result)
+        (IsStored O.Office office.new) (IsStoredOrNext O.Office office.new held)) }
     ensures same { HoldsOfOffice O.is_reliable O.stands office.old office.new
         (λ held. O.is_open office.new → result.status ≢ 0 → O.stands office.new held) }
+    ensures trust { O.is_reliable office.new → O.is_reliable office.old }
     ensures closes { O.is_reliable office.new → O.is_open office.old
         → O.is_open office.new ⊎ HasFailed (O.faults office.old) (O.faults office.new) }
     ensures bound { R.passed reader.new ≤ R.passed reader.old + FILE_LIMIT + 1 }
@@ -113,9 +128,17 @@ pub fn days<O: Office, R: Source>(
         (λ held. Loads day_file with_days DAY_FILE_LIMIT
         (reader_at (R.remaining reader.old) (R.passed reader.old) (R.failures reader.old))
         (reader_at (R.remaining reader.new) (R.passed reader.new) (R.failures reader.new))
-        held now (ended_view result) (O.stands office.new)) }
+        held now (ended_view result)
+        (O.stands office.new) (λ _. O.is_open office.new → O.stands office.new held)) }
+    ensures stores { HoldsOfStored O.Office office.old office.new
+        (λ held. Loads day_file with_days DAY_FILE_LIMIT
+        (reader_at (R.remaining reader.old) (R.passed reader.old) (R.failures reader.old))
+        (reader_at (R.remaining reader.new) (R.passed reader.new) (R.failures reader.new))
+        held now (ended_view result)
+        (IsStored O.Office office.new) (IsStoredOrNext O.Office office.new held)) }
     ensures same { HoldsOfOffice O.is_reliable O.stands office.old office.new
         (λ held. O.is_open office.new → result.status ≢ 0 → O.stands office.new held) }
+    ensures trust { O.is_reliable office.new → O.is_reliable office.old }
     ensures closes { O.is_reliable office.new → O.is_open office.old
         → O.is_open office.new ⊎ HasFailed (O.faults office.old) (O.faults office.new) }
     ensures bound { R.passed reader.new ≤ R.passed reader.old + DAY_FILE_LIMIT + 1 }
@@ -139,9 +162,17 @@ pub fn register<O: Office, R: Source>(
         (λ held. Loads register_file (with_register meeting record_moment) FILE_LIMIT
         (reader_at (R.remaining reader.old) (R.passed reader.old) (R.failures reader.old))
         (reader_at (R.remaining reader.new) (R.passed reader.new) (R.failures reader.new))
-        held now (ended_view result) (O.stands office.new)) }
+        held now (ended_view result)
+        (O.stands office.new) (λ _. O.is_open office.new → O.stands office.new held)) }
+    ensures stores { HoldsOfStored O.Office office.old office.new
+        (λ held. Loads register_file (with_register meeting record_moment) FILE_LIMIT
+        (reader_at (R.remaining reader.old) (R.passed reader.old) (R.failures reader.old))
+        (reader_at (R.remaining reader.new) (R.passed reader.new) (R.failures reader.new))
+        held now (ended_view result)
+        (IsStored O.Office office.new) (IsStoredOrNext O.Office office.new held)) }
     ensures same { HoldsOfOffice O.is_reliable O.stands office.old office.new
         (λ held. O.is_open office.new → result.status ≢ 0 → O.stands office.new held) }
+    ensures trust { O.is_reliable office.new → O.is_reliable office.old }
     ensures closes { O.is_reliable office.new → O.is_open office.old
         → O.is_open office.new ⊎ HasFailed (O.faults office.old) (O.faults office.new) }
     ensures bound { R.passed reader.new ≤ R.passed reader.old + FILE_LIMIT + 1 }

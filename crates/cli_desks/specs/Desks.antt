@@ -1,6 +1,6 @@
 -- How the making and the opening of a desk end.
 use Rattle.std.specs.Prelude.{◌≡◌, ◌≢◌, ◌⊎◌, codes}
-use Rattle.sqlite.specs.Held.{Held}
+use Rattle.sqlite.specs.Held.{Held, state}
 use Rattle.sqlite.specs.State.{State, HasCleanDisk}
 use Rattle.sqlite_trees.specs.declared.store.Store as store
 use Rattle.sql_schema.specs.Tables.{no_schema}
@@ -10,6 +10,7 @@ use Rattle.cli_exit.specs.declared.ended.ExitError.{ExitError}
 use Rattle.cli_exit.specs.declared.ended.ExitError.TheVariants as fault
 use Rattle.sql_model.specs.Standing.{Stands}
 use Rattle.sql_open.specs.Opened.{IsWhyUnopened}
+use Rattle.sql_open.specs.WholeDesk.{LeavesWhole}
 use Rattle.sql_open.specs.declared.fault.CreateError.{CreateError}
 use Rattle.sql_open.specs.declared.fault.CreateError.TheVariants as creating
 use Rattle.sql_open.specs.declared.fault.OpenFault.{OpenFault}
@@ -25,6 +26,11 @@ Creates before after end =
     ⊎ (((end ≡ ended_by fault.NotEmpty) × (before.now.schema ≢ no_schema))
     ⊎ (((end ≡ ended_by fault.Store) ⊎ (end ≡ ended_by fault.Memory))
     × (before.now.schema ≡ no_schema)))
+
+-- of a desk that was made a crash leaves the desk that holds nothing, and nothing else
+abbrev pub LeavesNewDesk : {S : Type 0} → store.Ghosts S → Held S → Ending → Type 0
+LeavesNewDesk g made end =
+    end.status ≡ 0 → HasCleanDisk (state g made) → LeavesWhole (state g made) empty_office
 
 -- the fault for which a desk was not made
 abbrev pub create_fault : CreateError → ExitError

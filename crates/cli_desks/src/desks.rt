@@ -1,10 +1,11 @@
 //! The making and the opening of a desk.
 ghost use Rattle.std.specs.Prelude.{◌≡◌, ◌≢◌, false, IfErr, IfOk, IsTrue};
 ghost use Rattle.cli_exit.specs.Endings.{ended_by, ended_view};
-ghost use Rattle.sql_open.specs.Opened.{IfMadeAs, KeepsOpenRows, StandsFor, StaysOpen};
-ghost use Rattle.sql_open.specs.Opened.{WereKnown};
+ghost use Rattle.sql_open.specs.Opened.{IfMadeAs, IsSettled, KeepsOpenRows, StandsFor, StaysOpen};
+ghost use Rattle.sql_open.specs.Opened.{SurvivesMaking, SurvivesMoving, WereKnown};
 ghost use Rattle.sql_open.specs.Rising.{RowsRise};
-ghost use Rattle.cli_desks.specs.Desks.{Creates, IsUnopened, create_fault, open_fault};
+ghost use Rattle.sql_open.specs.WholeDesk.{OpensWhole};
+ghost use Rattle.cli_desks.specs.Desks.{Creates, IsUnopened, LeavesNewDesk, create_fault, open_fault};
 ghost use Rattle.desk_words.specs.declared.office.OfficeLists.{OfficeLists};
 ghost use Rattle.sqlite.specs.Held.{state};
 ghost use Rattle.sqlite.specs.State.{HasCleanDisk};
@@ -18,13 +19,16 @@ use std::alloc::Global;
 /// with 3 and `NotEmpty` where the database has a table, an index or a view, and with 3 and `Store`
 /// or `Memory` where it fails, or the connection is in a transaction. The connection is handed
 /// back, in no transaction where it was in none; with any other status than 0 its tables are as
-/// they were.
+/// they were. Of a desk that is made a crash leaves the desk that holds nothing, and nothing else;
+/// else it leaves what it left before, or that.
 #[tactic(auto, using(crate::proofs::CommandDeskLemmas::unmade))]
 pub fn init<S: Alter + Drop>(conn: Connection<S>) -> (Ended, Connection<S>)
     ensures creates { Creates (state S.Store conn) (state S.Store result.1) (ended_view result.0) }
     ensures same { HasCleanDisk (state S.Store result.1) → IsTrue (state S.Store result.1).is_open
         → result.0.status ≢ 0 → (state S.Store result.1).now ≡ (state S.Store conn).now }
     ensures ended { conn.in_transaction ≡ false → result.1.in_transaction ≡ false }
+    ensures leaves { LeavesNewDesk S.Store result.1 (ended_view result.0) }
+    ensures crash { SurvivesMaking S.Store conn result.1 }
 {
     match sql_open::create(conn) {
         Ok(conn) => (Ended::with_word("created"), conn),
@@ -68,23 +72,19 @@ pub fn open<S: Alter + Drop>(
     ensures stands { IfOk result (λ opened. IfMadeAs S.Store conn opened (λ known.
         (office : OfficeLists)
         × StandsFor (state S.Store conn) (state S.Store opened) office known)) }
+    ensures whole { IfOk result (λ opened. OpensWhole S.Store conn opened) }
     ensures known { IfOk result (λ opened. WereKnown S.Store conn opened) }
     ensures is_open { IfOk result (λ opened. StaysOpen S.Store opened) }
     ensures none { IfOk result (λ opened. opened.in_transaction ≡ false) }
     ensures fault { IfErr result (λ e. IsUnopened S.Store conn (ended_view e.0) e.1) }
     ensures kept { IfErr result (λ e. KeepsOpenRows S.Store conn e.1) }
     ensures ended { IfErr result (λ e. e.1.in_transaction ≡ false) }
+    ensures settled { IfOk result (λ opened. IsSettled S.Store opened) }
+    ensures survives { IfOk result (λ opened. SurvivesMoving S.Store conn opened) }
+    ensures crash { IfErr result (λ e. SurvivesMoving S.Store conn e.1) }
 {
     match sql_open::open_risen(alloc, conn) {
         Ok((opened, _)) => Ok(opened),
         Err((fault, conn)) => Err((by_open(fault), conn)),
     }
-}
-
-/// How the program ends where a desk is not opened. The connection that was handed back is dropped.
-pub fn ended_of<S: Alter + Drop>(refused: (Ended, Connection<S>)) -> Ended
-    ensures { result ≡ refused.0 }
-{
-    let (ended, _) = refused;
-    ended
 }

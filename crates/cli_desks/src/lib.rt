@@ -4,4 +4,4 @@
 
 mod desks;
 
-pub use desks::{ended_of, init, open};
+pub use desks::{init, open};

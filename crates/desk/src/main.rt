@@ -1,12 +1,50 @@
 //! The desk of a company's general meetings.
 #![tactic(auto)]
 
-use cli_run::{run, status_of};
-use desk_file::DiskDesk;
-use sql_file::DeskFile;
+mod system;
+
+use byte_io::ReadDevice;
+use cli_exit::{Ended, ExitError, Line};
+use desk_file::DiskFiles;
+use host::Host;
+use host_run::{run, tell};
+use sql_file::{DeskFile, SystemFiles};
 use std::process::ExitCode;
+use std::{env, io};
+use system::{Stream, System};
+
+/// The words of the program, without its own name. Words that are no text ask for nothing.
+fn words(rt: &HostRuntime) -> Result<Vec<String>, Ended> {
+    let mut words = Vec::new(rt.alloc());
+    let given = env::args(rt).map_err(by_words_error)?;
+    for word in given.skip(1) {
+        words.push(word).map_err(|_| Ended::by(ExitError::Memory))?;
+    }
+    Ok(words)
+}
+
+fn by_words_error(error: io::Error) -> Ended {
+    if error.kind() == io::ErrorKind::OutOfMemory {
+        return Ended::by(ExitError::Memory);
+    }
+    Ended {
+        status: 2,
+        line: Some(Line::Name("words")),
+    }
+}
 
 fn main(rt: HostRuntime) -> ExitCode {
-    let ended = run::<DiskDesk<DeskFile>>(&rt);
-    ExitCode::from(status_of(&rt, &ended))
+    let mut host = Host {
+        offices: DiskFiles::<DeskFile>::new(SystemFiles::new(rt)),
+        files: System(rt),
+        clocks: System(rt),
+        input: ReadDevice::new(rt.reader()),
+        output: Stream::new(rt.stdout()),
+        errors: Stream::new(rt.stderr()),
+        ports: System(rt),
+    };
+    ExitCode::from(match words(&rt) {
+        Ok(words) => run(rt.alloc(), &words, &mut host),
+        Err(ended) => tell(&ended, &mut host.output, &mut host.errors),
+    })
 }

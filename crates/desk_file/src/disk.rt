@@ -1,49 +1,129 @@
 //! A desk in a file, made, opened and closed.
+ghost use Rattle.std.specs.Prelude.{◌≡◌};
+
 use crate::printing::results;
 use byte_io::Sink;
 use cli_exit::Ended;
 use desk_store::Desk;
 use desk_words::MeetingId;
+use host::OfficeFiles;
 use office_file::OfficeFile;
-use sql_file::TableFile;
+use sql_file::{SystemFiles, TableFile};
+use sqlite::Alter;
 use std::alloc::Global;
-use std::rt::HostRuntime;
+use std::marker::PhantomData;
 
 /// The desk of one company in a file.
-pub struct DiskDesk<S: TableFile> {
+pub struct DiskDesk<S: Alter> {
     pub(crate) desk: Desk<S>,
 }
 
-/// Copies what was committed from the log into the desk's file. Where that fails, it is in the log,
-/// and the next opening finds it there.
-impl<S: TableFile> Drop for DiskDesk<S> {
+impl<S: Alter + Drop> Drop for DiskDesk<S> {
     fn drop(self) {
+        let DiskDesk { desk: _ } = self;
+    }
+}
+
+impl<S: Alter + Drop> DiskDesk<S> {
+    /// The desk itself.
+    fn into_desk(self) -> Desk<S>
+        ensures { result ≡ self.desk }
+    {
         let DiskDesk { desk } = self;
-        sql_file::close(desk.close());
+        desk
+    }
+}
+
+impl<S: Alter + Drop> OfficeFile for DiskDesk<S> {
+    fn results<W: Sink>(&mut self, alloc: Global, meeting: MeetingId, writer: &mut W) -> Ended {
+        results(alloc, &mut self.desk, meeting, writer)
+    }
+}
+
+/// The desks in the files of a system, whose tables have stores `S`.
+#[derive(Drop)]
+pub struct DiskFiles<S> {
+    files: SystemFiles,
+    store: PhantomData<S>,
+}
+
+impl<S> DiskFiles<S> {
+    /// The desks in these files.
+    pub fn new(files: SystemFiles) -> DiskFiles<S>
+        ensures { result.files ≡ files }
+    {
+        DiskFiles {
+            files,
+            store: PhantomData,
+        }
     }
 }
 
 // Tables of version 1 are moved to version 2 as they are opened.
-impl<S: TableFile> OfficeFile for DiskDesk<S> {
-    ghost use Rattle.sql_file.specs.OpenedFiles.{IsOpened};
-    ghost use Rattle.sqlite.specs.Held.{state};
-    ghost use Rattle.sqlite.specs.State.{HasCleanDisk};
+impl<S: TableFile> OfficeFiles for DiskFiles<S> {
+    ghost use Rattle.file_probe.specs.FileEndings.{EndsCreating, EndsOpening};
+    ghost use Rattle.sql_file.specs.ClosedFiles.{LetsGo};
+    ghost use Rattle.sql_file.specs.MadeFiles.{CreatesFile};
+    ghost use Rattle.sql_file.specs.OpenedFiles.{OpensFile, RefusesFile};
+    ghost use Rattle.sql_file.proofs.FileLaws as laws;
 
-    ghost is_opened = { λ disk. HasCleanDisk (state S.Store disk.desk)
-        → IsOpened (state S.Store) disk.desk };
+    type File = DiskDesk<S>;
 
-    fn create(rt: &HostRuntime, file: &str) -> Ended {
-        sql_file::create::<S>(rt, file)
+    ghost is_reliable = { λ disk. S.is_reliable disk.files };
+
+    ghost stores = { λ disk name office next.
+        laws.Stores S.may_hold S.is_reliable S.Store disk.files name office next };
+
+    ghost opens = { λ old name desk new.
+        OpensFile S.finds S.Store old.files name desk.desk new.files };
+
+    ghost refuses = { λ old name end new. EndsOpening end
+        × RefusesFile S.finds S.refuses (LetsGo S.gives_up S.Store) S.Store old.files name new.files };
+
+    ghost closes = { λ old name desk new. LetsGo S.closes S.Store old.files name desk.desk new.files };
+
+    ghost creates = { λ old name end new. EndsCreating end
+        × CreatesFile S.finds S.refuses S.removes (LetsGo S.closes S.Store) S.makes S.Store
+        old.files name end new.files };
+
+    fn create(&mut self, name: &str) -> Ended {
+        sql_file::create::<S>(&mut self.files, name)
     }
 
-    fn open(rt: &HostRuntime, file: &str) -> Result<DiskDesk<S>, Ended> {
-        let conn = sql_file::open::<S>(rt, file)?;
+    fn open(&mut self, alloc: Global, name: &str) -> Result<DiskDesk<S>, Ended> {
+        let conn = sql_file::open(alloc, &mut self.files, name)?;
         Ok(DiskDesk {
-            desk: Desk::of_opened(rt.alloc(), conn),
+            desk: Desk::of_opened(alloc, conn),
         })
     }
 
-    fn results<W: Sink>(&mut self, alloc: Global, meeting: MeetingId, writer: &mut W) -> Ended {
-        results(alloc, &mut self.desk, meeting, writer)
+    fn close(&mut self, name: &str, file: DiskDesk<S>)
+        ensures { LetsGo S.closes S.Store self.old.files name.now file.desk self.new.files }
+    {
+        sql_file::close(&mut self.files, name, file.into_desk().close());
     }
+
+    ghost opens_stored = { λ old new name desk office.
+        laws.opens_stored S.may_hold S.is_reliable S.Store.own S.finds S.finds_held
+        old.files new.files name desk.desk office };
+
+    ghost refuses_stored = { λ old new name end office next refuses.
+        laws.refuses_stored S.may_hold S.is_reliable S.Store.own S.finds S.finds_held
+        S.refuses S.refuses_held (LetsGo S.gives_up S.Store.own)
+        (laws.let_go_held S.Store.own S.may_hold S.is_reliable S.gives_up S.gives_up_held)
+        old.files new.files name office next refuses.1 };
+
+    ghost closes_stored = { λ old new name desk.
+        laws.closes_stored S.may_hold S.is_reliable S.Store.own (LetsGo S.closes S.Store.own)
+        (laws.let_go_held S.Store.own S.may_hold S.is_reliable S.closes S.closes_held)
+        old.files new.files name desk.desk };
+
+    ghost closes_reliable = { λ old new name desk closes reliable.
+        (laws.let_go_held S.Store.own S.may_hold S.is_reliable S.closes S.closes_held
+        old.files new.files name desk.desk closes reliable).0 };
+
+    ghost creates_stored = { λ old new name end creates.
+        laws.creates_stored S.may_hold S.is_reliable S.Store.own (LetsGo S.closes S.Store.own)
+        (laws.let_go_held S.Store.own S.may_hold S.is_reliable S.closes S.closes_held)
+        S.finds S.refuses S.removes S.makes old.files new.files name end creates.1 };
 }

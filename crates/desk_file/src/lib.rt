@@ -2,8 +2,9 @@
 #![tactic(auto)]
 
 mod disk;
+pub mod laws;
 mod office;
 mod printing;
 
-pub use disk::DiskDesk;
+pub use disk::{DiskDesk, DiskFiles};
 pub use printing::results;

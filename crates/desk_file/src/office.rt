@@ -2,16 +2,17 @@
 use crate::disk::DiskDesk;
 use any_office::Office;
 use desk_words::{Call, Caller, Failure, Reply, SecretKey};
-use sql_file::TableFile;
+use sqlite::Alter;
 use std::alloc::AllocError;
 
 // What is said of it is said of its tables, as the connection to the file shows them.
-impl<S: TableFile> Office for DiskDesk<S> {
+impl<S: Alter> Office for DiskDesk<S> {
     ghost use Rattle.std.specs.Prelude.{IsTrue};
     ghost use Rattle.sql_model.specs.Standing.{Stands};
-    ghost use Rattle.desk_store.specs.Joins.{MayBeFound};
+    ghost use Rattle.sql_open.specs.WholeDesk.{IsWholeDesk};
     ghost use Rattle.sqlite.specs.Held.{state};
     ghost use Rattle.sqlite.specs.State.{HasCleanDisk};
+    ghost use Rattle.sqlite.specs.Tree.{Trees};
 
     ghost stands = { λ disk office. Stands (state S.Store disk.desk) office };
 
@@ -21,7 +22,11 @@ impl<S: TableFile> Office for DiskDesk<S> {
 
     ghost faults = { λ disk. (state S.Store disk.desk).faults };
 
-    ghost may_find = { λ disk office. MayBeFound (state S.Store disk.desk) office };
+    ghost Left = { Trees };
+
+    ghost may_leave = { λ disk db. (state S.Store disk.desk).may_leave db };
+
+    ghost opens_as = { IsWholeDesk };
 
     ghost may_fail = { λ _. Unit {0} };
 

@@ -4,10 +4,10 @@ ghost use Rattle.party_views.specs.Views.{public_of};
 ghost use Rattle.cli_exit.specs.Endings.{ended_view};
 ghost use Rattle.cli_results.specs.ResultPrinting.{Prints};
 ghost use Rattle.sql_model.specs.Standing.{Stands};
-ghost use Rattle.desk_store.specs.Joins.{LeavesDesk};
+ghost use Rattle.desk_store.specs.Joins.{IsDeskIfOpen, LeavesDesk};
 ghost use Rattle.desk_words.specs.declared.office.OfficeLists.{OfficeLists};
 ghost use Rattle.sqlite.specs.Held.{state};
-ghost use Rattle.sqlite.specs.State.{HasCleanDisk};
+ghost use Rattle.sqlite.specs.State.{HasCleanDisk, Survives};
 
 use byte_io::Sink;
 use cli_exit::Ended;
@@ -20,7 +20,8 @@ use std::alloc::Global;
 /// line. A meeting that there is not ends with 1 and its refusal, and nothing is written.
 ///
 /// `WriteFault` says that a write failed; what was written is then a part of the text from its
-/// front. After `Store` and `Memory` nothing was written. The tables stay as they are.
+/// front. After `Store` and `Memory` nothing was written. The tables stay as they are, and a crash
+/// leaves what it left before.
 #[tactic(auto, using(crate::proofs::PrintLemmas::not_begun))]
 pub fn results<S: Alter, W: Sink>(
     alloc: Global,
@@ -38,6 +39,8 @@ pub fn results<S: Alter, W: Sink>(
         → (office : OfficeLists) → Stands (state S.Store desk.old) office
         → Stands (state S.Store desk.new) office }
     ensures leaves { LeavesDesk S.Store None desk.old desk.new }
+    ensures crash { IsDeskIfOpen (state S.Store desk.old)
+        → Survives (state S.Store desk.old) (state S.Store desk.new) (λ _. ⊥) }
 {
     match desk.read_public(meeting) {
         Ok(kept) => cli_results::print(alloc, &kept.record(), writer),

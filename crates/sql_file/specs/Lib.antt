@@ -1,1 +1,3 @@
+pub mod ClosedFiles
+pub mod MadeFiles
 pub mod OpenedFiles

@@ -2,18 +2,19 @@
 ghost use Rattle.std.specs.Prelude.{◌≡◌, false, IfErr, IfOk};
 ghost use Rattle.cli_exit.specs.Endings.{ended_by, ended_view};
 ghost use Rattle.file_probe.specs.FileEndings.{EndsCreating, EndsOpening};
-ghost use Rattle.sql_file.specs.OpenedFiles.{IsOpened, making_fault, opening_fault};
+ghost use Rattle.sql_file.specs.ClosedFiles.{LetsGo};
+ghost use Rattle.sql_file.specs.MadeFiles.{CreatesFile, MakesTables};
+ghost use Rattle.sql_file.specs.OpenedFiles.{OpensFile, OpensTables, RefusesFile, RefusesTables};
+ghost use Rattle.sql_file.specs.OpenedFiles.{making_fault, opening_fault};
 ghost use Rattle.sql_open.specs.Rising.{RowsRise};
 ghost use Rattle.sqlite.specs.Held.{state};
 ghost use Rattle.sqlite.specs.State.{HasCleanDisk};
 
-use crate::{ConnectError, TableFile};
-use cli_desks::{ended_of, init};
+use crate::files::{ConnectError, SystemFiles, TableFile};
+use cli_desks::init;
 use cli_exit::{Ended, ExitError};
-use file_probe::{find, make_file};
 use sqlite::Connection;
-use std::fs;
-use std::rt::HostRuntime;
+use std::alloc::Global;
 
 /// How the program ends where a file is not opened to make a desk: with status 3.
 fn by_making(error: ConnectError) -> Ended
@@ -36,36 +37,55 @@ fn by_opening(error: ConnectError) -> Ended
     })
 }
 
+/// Closes the file of that name, of which this is the connection. What is not committed is lost.
+pub fn close<S: TableFile>(files: &mut SystemFiles, name: &str, conn: Connection<S>)
+    ensures { LetsGo S.closes S.Store files.old name.now conn files.new }
+{
+    conn.into_store().close(files, name);
+}
+
+/// Gives up the file of that name, of which this is the connection. What is not committed is lost.
+fn give_up<S: TableFile>(files: &mut SystemFiles, name: &str, conn: Connection<S>)
+    ensures { LetsGo S.gives_up S.Store files.old name.now conn files.new }
+{
+    conn.into_store().give_up(files, name);
+}
+
+/// Makes the tables of a new desk in a file that there is, and closes it. A file that was made for it
+/// is removed where the system refuses its name or that of its log.
+fn create_in<S: TableFile>(files: &mut SystemFiles, name: &str, is_new: bool) -> Ended
+    ensures { MakesTables S.finds S.refuses S.removes (LetsGo S.closes S.Store) S.Store files.old name.now (ended_view result) files.new }
+{
+    match S::connect(files, name) {
+        Ok(conn) => {
+            let (ended, conn) = init(conn);
+            close(files, name, conn);
+            ended
+        }
+        Err(error) => {
+            if is_new && error == ConnectError::CannotOpen {
+                S::remove_file(files, name);
+            }
+            by_making(error)
+        }
+    }
+}
+
 /// Makes the tables of a new desk in a file, closes it, and ends with status 0 and `created`. The
 /// file is made where it is not there, so that its owner alone can read it, and is not left there
 /// where the system refuses its name or that of its log. It ends with 3 and `NotEmpty` where the
 /// file holds a table, an index or a view, or where a desk left its log beside this name and no
 /// file, or one that is empty or a single byte: both are left as they are. It ends with 3 and
 /// `Store` or `Memory` where it fails.
-pub fn create<S: TableFile>(rt: &HostRuntime, file: &str) -> Ended
-    ensures { EndsCreating (ended_view result) }
+pub fn create<S: TableFile>(files: &mut SystemFiles, name: &str) -> Ended
+    ensures creates { CreatesFile S.finds S.refuses S.removes (LetsGo S.closes S.Store) S.makes
+        S.Store files.old name.now (ended_view result) files.new }
+    ensures ends { EndsCreating (ended_view result) }
 {
-    let is_new = match make_file(rt, file) {
-        Ok(is_new) => is_new,
-        Err(ended) => return ended,
-    };
-    let conn = match S::connect(rt, file) {
-        Ok(conn) => conn,
-        Err(error) => {
-            if is_new && error == ConnectError::CannotOpen {
-                let _ = fs::remove_file(rt, file);
-            }
-            return by_making(error);
-        }
-    };
-    let (ended, conn) = init(conn);
-    close(conn);
-    ended
-}
-
-/// Closes the file of a connection, as `TableFile::close_file` does. What is not committed is lost.
-pub fn close<S: TableFile>(conn: Connection<S>) {
-    conn.into_store().close_file();
+    match S::make_file(files, name) {
+        Ok(is_new) => create_in::<S>(files, name, is_new),
+        Err(ended) => ended,
+    }
 }
 
 /// Opens the tables of the desk in a file. Those of version 1 are moved to version 2. A file that
@@ -73,30 +93,50 @@ pub fn close<S: TableFile>(conn: Connection<S>) {
 /// `Store`. One that is empty or a single byte is `NotADesk`, and so is one whose rows are not as it
 /// declares them; beside the log of a desk an empty one is `Store`, and the log is left as it is
 /// too.
-pub fn open<S: TableFile>(rt: &HostRuntime, file: &str) -> Result<Connection<S>, Ended>
-    ensures opened { IfOk result (λ conn. HasCleanDisk (state S.Store conn)
-        → IsOpened (state S.Store) conn) }
+pub fn open<S: TableFile>(
+    alloc: Global,
+    files: &mut SystemFiles,
+    name: &str,
+) -> Result<Connection<S>, Ended>
+    ensures opened { IfOk result
+        (λ conn. OpensFile S.finds S.Store files.old name.now conn files.new) }
     ensures none { IfOk result (λ conn. conn.in_transaction ≡ false) }
+    ensures refused { IfErr result
+        (λ _. RefusesFile S.finds S.refuses (LetsGo S.gives_up S.Store) S.Store files.old name.now files.new) }
     ensures fault { IfErr result (λ ended. EndsOpening (ended_view ended)) }
 {
-    if let Some(fault) = find(rt, file)?.opening_fault() {
+    if let Some(fault) = S::probe(files, name)?.opening_fault() {
         return Err(Ended::by(fault));
     }
-    let conn = S::connect(rt, file).map_err(by_opening)?;
-    opened(rt, conn)
+    match S::connect(files, name) {
+        Ok(conn) => opened(alloc, files, name, conn),
+        Err(error) => Err(by_opening(error)),
+    }
 }
 
-/// Opens the tables of the desk in a file that was just opened as a database.
-fn opened<S: TableFile>(rt: &HostRuntime, conn: Connection<S>) -> Result<Connection<S>, Ended>
+/// Opens the tables of the desk in the file of that name, which was just opened as a database. Where
+/// they are refused the file is given up.
+fn opened<S: TableFile>(
+    alloc: Global,
+    files: &mut SystemFiles,
+    name: &str,
+    conn: Connection<S>,
+) -> Result<Connection<S>, Ended>
     requires none { conn.in_transaction ≡ false }
-    requires rising { HasCleanDisk (state S.Store conn) → RowsRise (state S.Store conn) }
-    ensures opened { IfOk result (λ conn. HasCleanDisk (state S.Store conn)
-        → IsOpened (state S.Store) conn) }
-    ensures none { IfOk result (λ conn. conn.in_transaction ≡ false) }
+    requires rising { HasCleanDisk (state S.Store conn)
+        → RowsRise (state S.Store conn) }
+    ensures opened { IfOk result
+        (λ opened. (files.new ≡ files.old) × OpensTables S.Store conn opened) }
+    ensures none { IfOk result (λ opened. opened.in_transaction ≡ false) }
+    ensures refused { IfErr result
+        (λ _. RefusesTables (LetsGo S.gives_up S.Store) S.Store files.old name.now conn files.new) }
     ensures fault { IfErr result (λ ended. EndsOpening (ended_view ended)) }
 {
-    match cli_desks::open(rt.alloc(), conn) {
-        Ok(conn) => Ok(conn),
-        Err(refused) => Err(ended_of(refused)),
+    match cli_desks::open(alloc, conn) {
+        Ok(opened) => Ok(opened),
+        Err((ended, refused)) => {
+            give_up(files, name, refused);
+            Err(ended)
+        }
     }
 }

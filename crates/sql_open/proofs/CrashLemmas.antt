@@ -24,8 +24,8 @@ leaves_itself g h settled stays is_open rests = λ db.
 
 -- what a crash leaves whole is opened
 pub whole_again : {S : Type 0} (g : store.Ghosts S) → OpensAgain g
-whole_again g desk conn opened office leaves may opens clean = opens clean office (Two, leaves (state g conn).now.trees may)
+whole_again g desk conn opened office leaves may opens clean = (opens clean office (Two, leaves (state g conn).now.trees may)).0
 
 -- what a crash leaves of tables of version 1, or of them while they are moved, is whole
 pub moved_again : {S : Type 0} (g : store.Ghosts S) → OpensMoved g
-moved_again g desk conn opened office whole leaves may opens clean = opens clean office (elim may [ inl was ↦ leaves (state g conn).now.trees was | inr moved ↦ (Two, subst (IsWhole (state g conn).now.trees) (some_is (sym moved.was ∙ whole.holds)) moved.whole) ])
+moved_again g desk conn opened office whole leaves may opens clean = (opens clean office (elim may [ inl was ↦ leaves (state g conn).now.trees was | inr moved ↦ (Two, subst (IsWhole (state g conn).now.trees) (some_is (sym moved.was ∙ whole.holds)) moved.whole) ])).0

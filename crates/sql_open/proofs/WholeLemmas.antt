@@ -123,12 +123,12 @@ no_fault_of_whole fault s office (known, whole) live opened cause = go fault ref
 
 -- tables that were whole stand for their office, where tables of its version stand for the office that they held
 pub opens_whole : (old new : State) (told : OfficeLists) → IsLive old → IsTrue old.is_open
-    → ((known : KnownVersion) → IsMadeAs known old.now.schema → IsVersionOf (edition_of known) old → StandsFor old new told known) → (office : OfficeLists) → IsWholeDesk old.now.trees office → Stands new office
+    → ((known : KnownVersion) → IsMadeAs known old.now.schema → IsVersionOf (edition_of known) old → StandsFor old new told known) → (office : OfficeLists) → IsWholeDesk old.now.trees office → Stands new office × LeavesWhole new office
 opens_whole old new told live is_open stands office (known, whole) =
     let made = made_so known old.now office whole (live is_open).0 in
     let it = stands known made whole.version in
     let same : told ≡ office = some_is (sym it.0 ∙ whole.holds) in
-    subst (Stands new) same it.1
+    (subst (Stands new) same it.1, subst (LeavesWhole new) same it.2)
 
 -- tables of version 1 that were opened stand for the office that they held
 pub first_stands : {S : Type 0} (g : store.Ghosts S) → OpensFirst g

@@ -59,12 +59,13 @@ pub record AsksOpen {S T E : Type 0} (g : store.Ghosts S) (old new : Held S) (re
 abbrev pub LeavesWhole : State → OfficeLists → Type 0
 LeavesWhole s office = (db : Trees) → s.may_leave db → IsWhole db office
 
--- tables that were whole, in either version, are opened as their office
+-- tables that were whole, in either version, are opened as their office, and a crash then leaves it
+-- whole
 abbrev pub OpensWhole : {S : Type 0} → store.Ghosts S → Held S → Held S → Type 0
 OpensWhole g old new =
     HasCleanDisk (state g new) → (office : OfficeLists)
     → IsWholeDesk (state g old).now.trees office
-    → Stands (state g new) office
+    → Stands (state g new) office × LeavesWhole (state g new) office
 
 -- what a crash leaves whole, `open` opens as that office: where a connection shows tables that a
 -- crash may leave of a desk which it leaves whole

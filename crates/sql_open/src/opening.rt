@@ -306,6 +306,7 @@ pub fn open_risen<S: Alter + Drop>(
     ensures kept { IfErr result (λ e. KeepsOpenRows S.Store conn e.1) }
     ensures back { IfErr result (λ e. e.1.in_transaction ≡ false) }
     ensures settled { IfOk result (λ opened. IsSettled S.Store opened.0) }
+    ensures survives { IfOk result (λ opened. SurvivesMoving S.Store conn opened.0) }
     ensures crash { IfErr result (λ e. SurvivesMoving S.Store conn e.1) }
 {
     let mut conn = conn;

@@ -1,0 +1,5 @@
+use Rattle.host_run.proofs.laws.a_new_desk_is_stored.Goals as goal
+
+-- by the law of the files that hold offices
+pub returns : goal.returns
+returns g c = λ before after file end creates reliable zero. g.met.O.OfficeFiles.creates_stored before after file end creates reliable zero

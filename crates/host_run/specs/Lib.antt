@@ -1,0 +1,5 @@
+pub mod Opening
+pub mod Commands
+pub mod Runs
+pub mod Stored
+pub mod Telling

@@ -1,0 +1,2 @@
+pub mod OneOffice
+pub mod OneOfficeLaws

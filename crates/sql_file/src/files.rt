@@ -1,0 +1,127 @@
+//! Files that hold tables.
+ghost use Rattle.std.specs.Prelude.{◌≡◌, false, ℕ, List, IfErr, IfOk, OnErr};
+ghost use Rattle.cli_exit.specs.Endings.{ended_view};
+ghost use Rattle.file_probe.specs.FileEndings.{EndsUnmade, FailsToConnect};
+ghost use Rattle.sql_open.specs.Rising.{RowsRise};
+ghost use Rattle.sql_file.specs.ClosedFiles.{HoldsWhatIsLeft};
+ghost use Rattle.sqlite.specs.Held.{Held, state};
+ghost use Rattle.sqlite.specs.State.{HasCleanDisk};
+ghost use Rattle.sqlite.specs.Tree.{Trees};
+ghost use Rattle.sql_file.specs.declared.files.SystemFiles.{SystemFiles};
+
+use cli_exit::Ended;
+use file_probe::FileState;
+use sqlite::{Alter, Connection};
+use std::rt::HostRuntime;
+
+/// Why a file is not opened as a database.
+#[derive(Clone, Copy, PartialEq, Eq)]
+pub enum ConnectError {
+    /// The system refuses its name or that of its log.
+    CannotOpen,
+    /// It is a database whose rows are not as it declares them, or none.
+    NotADatabase,
+    /// An allocation was refused.
+    Memory,
+    /// It cannot be read or written.
+    Store,
+}
+
+/// The files of a system, by their names.
+#[derive(Drop)]
+pub struct SystemFiles {
+    pub(crate) system: HostRuntime,
+}
+
+impl SystemFiles {
+    /// The files of this system.
+    pub fn new(system: HostRuntime) -> SystemFiles {
+        SystemFiles { system }
+    }
+}
+
+/// The store of the tables in a file of the system, while it is open. Its ghost members say what
+/// becomes of the files.
+pub trait TableFile: Alter + Drop {
+    /// So far the files return what was written to them, and nothing else writes to them.
+    ghost is_reliable: { SystemFiles → Type 0 };
+
+    /// The file of that name may hold these tables, in it and in its log.
+    ghost may_hold: { SystemFiles → List ℕ → Trees → Type 0 };
+
+    /// Holds of the files, a name, the file of that name as it is opened as a database, and the files
+    /// as they are then.
+    ghost finds: { SystemFiles → List ℕ → Held Self → SystemFiles → Type 0 };
+
+    /// Holds of the files, a name under which no database is opened, and the files as they are then.
+    ghost refuses: { SystemFiles → List ℕ → SystemFiles → Type 0 };
+
+    /// Holds of the files, a name under which an empty file is made, if nothing has it, and the files
+    /// as they are then.
+    ghost makes: { SystemFiles → List ℕ → SystemFiles → Type 0 };
+
+    /// Holds of the files, a name whose file is removed, and the files as they are then.
+    ghost removes: { SystemFiles → List ℕ → SystemFiles → Type 0 };
+
+    /// Holds of the files, a name, the store of the file of that name as it is given up, and the files
+    /// as they are then.
+    ghost gives_up: { SystemFiles → List ℕ → Self → SystemFiles → Type 0 };
+
+    /// Holds of the files, a name, the store of the file of that name as it is closed, and the files
+    /// as they are then.
+    ghost closes: { SystemFiles → List ℕ → Self → SystemFiles → Type 0 };
+
+    /// What stands under a name, and in the log beside it.
+    fn probe(files: &SystemFiles, name: &str) -> Result<FileState, Ended>
+        ensures { IfErr result (λ ended. FailsToConnect (ended_view ended)) };
+
+    /// Makes an empty file that its owner alone can read and write, and tells whether it did. What
+    /// stands under that name already is left as it is.
+    fn make_file(files: &mut SystemFiles, name: &str) -> Result<bool, Ended>
+        ensures made { IfOk result (λ _. makes files.old name.now files.new) }
+        ensures unmade { IfErr result
+            (λ ended. EndsUnmade (ended_view ended) × (files.new ≡ files.old)) };
+
+    /// Removes a file that was just made.
+    fn remove_file(files: &mut SystemFiles, name: &str)
+        ensures { removes files.old name.now files.new };
+
+    /// Opens a file as a database. It is made where it is not there.
+    fn connect(files: &mut SystemFiles, name: &str) -> Result<Connection<Self>, ConnectError>
+        ensures found { IfOk result (λ conn. finds files.old name.now conn files.new) }
+        ensures none { IfOk result (λ conn. conn.in_transaction ≡ false) }
+        ensures rising { IfOk result (λ conn. HasCleanDisk (state Self.Store conn)
+            → RowsRise (state Self.Store conn)) }
+        ensures refused { OnErr result (refuses files.old name.now files.new) };
+
+    /// Gives up a file that is open. What was not committed is lost, and nothing is copied from its
+    /// log.
+    fn give_up(self, files: &mut SystemFiles, name: &str)
+        ensures { gives_up files.old name.now self files.new };
+
+    /// Copies what was committed from the log into the file, and closes both. What was not committed
+    /// is lost. Where copying fails, what was committed is in the log, and the next opening finds it
+    /// there.
+    fn close(self, files: &mut SystemFiles, name: &str)
+        ensures { closes files.old name.now self files.new };
+
+    /// A file that is opened held what is found in it, and what a crash may leave of it.
+    ghost finds_held: { (old new : SystemFiles) (name : List ℕ) (conn : Held Self)
+        → finds old name conn new
+        → (HasCleanDisk (state Self.Store conn)
+        → may_hold old name (state Self.Store conn).now.trees)
+        × ((db : Trees) → (state Self.Store conn).may_leave db → may_hold old name db) };
+
+    /// A file that is refused holds what it held.
+    ghost refuses_held: { (old new : SystemFiles) (name : List ℕ) (db : Trees) → refuses old name new
+        → is_reliable new → may_hold new name db → may_hold old name db };
+
+    /// A file that is given up holds what a crash may leave of it, and its disk returned what was
+    /// written.
+    ghost gives_up_held: { (old new : SystemFiles) (name : List ℕ) (store : Self)
+        → gives_up old name store new → is_reliable new → HoldsWhatIsLeft Self.Store store (may_hold new name) };
+
+    /// So does a file that is closed.
+    ghost closes_held: { (old new : SystemFiles) (name : List ℕ) (store : Self)
+        → closes old name store new → is_reliable new → HoldsWhatIsLeft Self.Store store (may_hold new name) };
+}
