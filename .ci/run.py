@@ -10,7 +10,9 @@ import sys
 
 import gate
 
-CHECKS = ("tests/files-check", "docs/openapi-check", "docs/layers-check", "docs/trust-check")
+CHECKS = (
+    "tests/files-check", "docs/names-check", "docs/openapi-check", "docs/layers-check", "docs/trust-check", "tests/first-replay",
+)
 PROGRAM = "crates/desk/out/desk"
 
 
