@@ -2,7 +2,7 @@
 
 import { lastSession } from "./words.js";
 
-const READS = ["notice", "mine"];
+export const READS = ["notice", "mine"];
 
 // What a reply says: {is: "ok", value}, {is: "refused", code} or {is: "fault", what}.
 export function readReply(status, text) {
@@ -17,15 +17,32 @@ export function readReply(status, text) {
   return { is: "fault", what: "foreign" };
 }
 
-// The key in what was typed, or in a file that has the bare key or a line "Desk-Key: key". null where there is none.
+export const isName = (text) => /^[A-Z0-9]{1,16}$/.test(text);
+
+// The key in what was typed, which may have spaces in it, or in a key file: a line "Desk-Key: key", and a line "Desk-Party: M1" that
+// says whose it is. {key, party}, where `party` is null if that is not said; null where there is no key.
 export function readKey(text) {
-  const lines = text.replace(/^\uFEFF/, "").split(/\r?\n/).map((line) => line.trim()).filter((line) => line !== "");
-  if (lines.length !== 1) return null;
-  const key = lines[0].replace(/^desk-key:\s*/i, "");
-  return /^[A-Za-z0-9-]{16,64}$/.test(key) ? key : null;
+  const found = { key: null, party: null };
+  for (const line of text.replace(/^\uFEFF/, "").split(/\r?\n/).filter((line) => line.trim() !== "")) {
+    const [, name, value] = /^\s*(?:desk-(key|party):)?(.*)$/i.exec(line);
+    const what = (name ?? "key").toLowerCase();
+    if (found[what] !== null) return null;
+    found[what] = value.replace(/\s/g, "");
+  }
+  if (!/^[A-Za-z0-9-]{16,64}$/.test(found.key ?? "") || !(found.party === null || isName(found.party))) return null;
+  return found;
 }
 
-export const isName = (text) => /^[A-Z0-9]{1,16}$/.test(text);
+const SETTINGS = ["company", "chair", "place", "contact", "texts"];
+
+// What the secretary put into settings.json, as texts. What is not there, or is no text, is left out.
+export function readSettings(text) {
+  let value = {};
+  try { value = JSON.parse(text) ?? {}; } catch { /* It is shown as if there were none. */ }
+  const settings = Object.fromEntries(SETTINGS.map((name) => [name, value[name]]).filter(([, words]) => typeof words === "string" && words.trim() !== ""));
+  if (!isName(settings.chair ?? "")) delete settings.chair;
+  return settings;
+}
 
 export class Desk {
   #last = Promise.resolve();

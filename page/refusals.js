@@ -1,5 +1,7 @@
 // One sentence for each refusal and failure, with what to do. Where the cause depends on the request, `by` has it by verb.
 
+import { READS } from "./desk.js";
+
 export const REFUSALS = {
   1: { name: "Key", say: "The desk does not know this key: look at it letter by letter, or ask the secretary for a new one." },
   2: { name: "Route", say: "A meeting has no such name: it is 1 to 16 capitals and digits, as in the notice." },
@@ -56,16 +58,16 @@ export const REFUSALS = {
   35: { name: "PollRunning", say: "A poll runs: close the voting first, and then adjourn the meeting." },
 };
 
-// A fault that is no refusal. `sure` says that the request was not done.
+// A fault that is no refusal. `sure` says that the request was not done; of any other that is unknown, unless it only read.
 export const FAULTS = {
   Store: { sure: false, say: "The desk's file could not be read or written: tell the secretary to look at the disk and the desk at once." },
   Memory: { sure: true, say: "The desk's machine had no memory left, and nothing was done: wait a moment, and try again." },
-  none: { sure: false, say: "No reply came. It is unknown whether this was done." },
-  foreign: { sure: false, say: "The reply was not the desk's. It is unknown whether this was done." },
+  none: { sure: false, say: "No reply came." },
+  foreign: { sure: false, say: "The reply was not the desk's." },
   413: { sure: true, say: "This was too long, and nothing was done: shorten the texts." },
   429: { sure: true, say: "Too many requests came from here, and nothing was done: wait a minute, and try again." },
-  502: { sure: false, say: "The desk does not answer: the secretary may have stopped it for a while. It is unknown whether this was done." },
-  504: { sure: false, say: "The desk took too long to answer. It is unknown whether this was done." },
+  502: { sure: false, say: "The desk does not answer: the secretary may have stopped it for a while." },
+  504: { sure: false, say: "The desk took too long to answer." },
 };
 
 // The sentence for a reply that is not an acceptance.
@@ -75,7 +77,8 @@ export function sentence(reply, verb) {
     if (!row) return `The desk refused this for a reason that this page does not know (${reply.code}): tell the secretary.`;
     return row.by?.[verb] ?? row.say;
   }
-  return (FAULTS[reply.what] ?? FAULTS.foreign).say;
+  const { sure, say } = FAULTS[reply.what] ?? FAULTS.foreign;
+  return say + (sure || READS.includes(verb) ? "" : " It is unknown whether this was done.");
 }
 
 // Whether a request may have been done though no acceptance came.

@@ -45,11 +45,18 @@ export function dayWords(text) {
   return `${WEEK[date.getUTCDay()]} ${date.getUTCDate()} ${YEAR[date.getUTCMonth()]} ${date.getUTCFullYear()}`;
 }
 
+// The zone whose wall clock the office goes by. Its name stands behind each moment, and behind the label of each field for one.
+let zoneWords = "";
+export function useZone(zone) {
+  zoneWords = zone && ` (${zone.split("/").at(-1).replace(/_/g, " ")} time)`;
+}
+export const inZone = (words) => words + zoneWords;
+
 export function momentWords(text) {
   const number = momentNumber(text);
   if (number === null) return text;
   const time = momentText(number).slice(11);
-  return `${dayWords(text.slice(0, 10))} at ${time.endsWith(":00") ? time.slice(0, 5) : time}`;
+  return inZone(`${dayWords(text.slice(0, 10))} at ${time.endsWith(":00") ? time.slice(0, 5) : time}`);
 }
 
 // The wall clock of a zone, in seconds as momentNumber counts them.
@@ -59,8 +66,6 @@ export function wallClock(zone, instant = Date.now()) {
   const part = (type) => Number(parts.find((item) => item.type === type).value);
   return Date.UTC(part("year"), part("month") - 1, part("day"), part("hour"), part("minute"), part("second")) / 1000;
 }
-
-const several = (number, one) => `${number} ${one}${number === 1 ? "" : "s"}`;
 
 // A length of time by its two largest parts: "2 days 3 hours".
 export function lengthWords(seconds) {
@@ -81,7 +86,15 @@ export function cutoffWords(cutoff, now) {
 export const clearDays = (given, appointed) => dayNumber(appointed.slice(0, 10)) - dayNumber(given) - 1;
 
 export const numberWords = (number) => String(number).replace(/\B(?=(\d{3})+$)/g, ",");
-export const sharesWords = (number) => `${numberWords(number)} share${number === 1 ? "" : "s"}`;
+export const several = (number, one) => `${numberWords(number)} ${one}${number === 1 ? "" : "s"}`;
+export const sharesWords = (number) => several(number, "share");
+
+// A part of a whole in percent. It is cut after two decimals and not rounded, so that what falls short of a majority never reads as one.
+export function percentWords(part, whole) {
+  if (whole === 0) return "–";
+  const cut = BigInt(part) * 10000n / BigInt(whole);
+  return `${cut / 100n}.${String(cut % 100n).padStart(2, "0")}%`;
+}
 
 // A number of shares as it is typed, 0 to 10^12, with commas or spaces between groups. null where it is none.
 export function readNumber(text) {
@@ -157,7 +170,7 @@ export function givenAway(given, poll, session) {
 // The blocks of shares on which the caller may vote: {as, member, runs, way}, where `way` is an instruction or "free". A member
 // whose proxies govern some of its shares has two blocks: `part` "kept" for those that no proxy has, and "all".
 export function blocksOf(mine, resolution, notice) {
-  const blocks = [];
+  const blocks = [], proxies = new Map();
   const { number, poll } = resolution;
   const session = sessionOf(notice, poll);
   if (mine.row !== null && mine.row.kind === "individual") {
@@ -175,12 +188,14 @@ export function blocksOf(mine, resolution, notice) {
     const runs = poll !== null && poll.late ? late?.governs ?? [] : received.sessions?.[session.number - 1].governs ?? received.governs;
     const way = received.instructions[number - 1] ?? "free";
     if (runs.length === 0) continue;
-    const block = blocks.find((item) => item.as === "proxy" && item.member === received.member && item.way === way);
+    const whose = `${received.member} ${way}`, block = proxies.get(whose);
     if (block) block.runs = runs.reduce(plusRuns, block.runs);
-    else blocks.push({ as: "proxy", member: received.member, runs, way });
+    else proxies.set(whose, { as: "proxy", member: received.member, runs, way });
   }
-  return blocks;
+  return [...blocks, ...proxies.values()];
 }
+
+export const isFree = (block) => block.as !== "proxy" || block.way === "free";
 
 // The casts for a block: `split` has the numbers of shares for each way, taken in the order of the shares.
 export function castsOf(block, self, resolution, split) {
@@ -196,25 +211,55 @@ export function castsOf(block, self, resolution, split) {
   return casts;
 }
 
-// What was recorded for a block, by the last cast on each share: {for, against, withheld}, each a list of runs.
-export function recordedFor(block, casts, resolution) {
-  const told = { for: [], against: [], withheld: [] };
-  const put = (way, run) => {
-    for (const other of WAYS) told[other] = minusRuns(told[other], run);
-    told[way] = plusRuns(told[way], run);
-  };
-  for (const cast of casts) {
-    if (cast.resolution !== resolution) continue;
-    if (cast.as === "instructed") {
-      if (block.as === "proxy" && block.way !== "free") for (const run of block.runs) put(block.way, run);
-    } else if (cast.as === block.as && (block.member === null || cast.member === block.member)) {
+// What was recorded on a resolution: of a block, by the last cast on each share, {for, against, withheld}, each a list of runs.
+// The casts are looked at once, for however many blocks.
+export function recorder(casts, resolution) {
+  const whose = ({ as, member }) => as === "member" ? as : `${as} ${member}`;
+  const placed = new Map();
+  let instructed = -1;
+  casts.forEach((cast, place) => {
+    if (cast.resolution !== resolution) return;
+    if (cast.as === "instructed") instructed = place;
+    else if (placed.has(whose(cast))) placed.get(whose(cast)).push([place, cast]);
+    else placed.set(whose(cast), [[place, cast]]);
+  });
+  return (block) => {
+    const told = { for: [], against: [], withheld: [] };
+    const put = (way, run) => {
+      for (const other of WAYS) told[other] = minusRuns(told[other], run);
+      told[way] = plusRuns(told[way], run);
+    };
+    const since = isFree(block) ? -1 : instructed;
+    if (since >= 0) for (const run of block.runs) put(block.way, run);
+    for (const [place, cast] of placed.get(whose(block)) ?? []) {
+      if (place < since) continue;
       for (const [from, to] of block.runs) {
         const run = [Math.max(from, cast.from), Math.min(to, cast.to)];
         if (run[0] <= run[1]) put(cast.way, run);
       }
     }
+    return told;
+  };
+}
+
+// The desk takes so many votes of a party on a resolution.
+export const MOST_VOTES = 1024;
+
+// What it takes to vote one way on blocks: {casts, shares, left, same}. Shares that are recorded so already take no cast. Where there are
+// more casts than `room`, blocks with the fewest shares a cast are `left` out. `same` blocks take none.
+export function planAll(blocks, told, room, self, resolution, way) {
+  const plans = blocks.map((block) => {
+    const runs = told(block)[way].reduce(minusRuns, block.runs), shares = countRuns(runs);
+    return { block, shares, casts: castsOf({ ...block, runs }, self, resolution, { [way]: shares }) };
+  }).filter(({ casts }) => casts.length > 0);
+  const left = new Set();
+  for (const plan of [...plans].sort((one, other) => other.shares / other.casts.length - one.shares / one.casts.length)) {
+    if (plan.casts.length <= room) room -= plan.casts.length;
+    else left.add(plan);
   }
-  return told;
+  const sent = plans.filter((plan) => !left.has(plan));
+  return { casts: sent.flatMap(({ casts }) => casts), shares: sent.reduce((sum, { shares }) => sum + shares, 0),
+    left: plans.filter((plan) => left.has(plan)).map(({ block }) => block), same: blocks.length - plans.length };
 }
 
 export function recordedWords(told) {
@@ -232,14 +277,14 @@ export function stageOf(resolution) {
   return poll.started !== null ? "open" : "ordered";
 }
 
-// After how many seconds the page asks again by itself: 5 while a poll is open, 15 during the meeting, else 0, never.
+// After how many seconds the page asks again by itself: 5 while a poll is open, 15 while one is ordered or closed and about the
+// time of the meeting, 60 otherwise, and 0, never, once every resolution is declared.
 export function askAgain(notice, now) {
-  if (notice === null) return 0;
   const stages = notice.resolutions.map(stageOf);
+  if (stages.every((stage) => stage === "declared")) return 0;
   if (stages.includes("open")) return 5;
-  if (stages.includes("ordered") || stages.includes("closed")) return 15;
   const near = Math.abs(momentNumber(lastSession(notice).appointed) - now) < 3600;
-  return near && stages.includes("no poll") ? 15 : 0;
+  return near || stages.includes("ordered") || stages.includes("closed") ? 15 : 60;
 }
 
 // The bar of a result, in thousandths of the votes, with the line at the majority and the sentence below it.
@@ -265,17 +310,15 @@ export function checkCall(form, now) {
   const bad = (field, text) => errors.push({ field, text });
   if (!/^[A-Z0-9]{1,16}$/.test(form.meeting)) bad("call-name", "The name of the meeting has 1 to 16 capitals and digits, such as G1.");
   const given = dayNumber(form.given), appointed = momentNumber(form.appointed), record = momentNumber(form.record);
-  if (given === null) bad("call-given", "Give the day of notice, from 1900 to 2999.");
+  if (given === null) bad("call-given", "Give the day on which notice is taken as received, from 1900 to 2999.");
   if (appointed === null) bad("call-appointed", "Give the day and time of the meeting.");
   if (record === null) bad("call-record", "Give the record moment of the register.");
   if (given !== null && appointed !== null) {
     const clear = clearDays(form.given, form.appointed);
     const enough = form.company === "public" && form.kind === "annual" ? 21 : 14;
     if (clear < enough) bad("call-appointed", `There are ${Math.max(clear, 0)} clear days between notice and meeting. ${enough} are needed.`);
-    if (form.given.slice(0, 4) !== form.appointed.slice(0, 4)) warnings.push("The day of notice and the meeting are in different years.");
     if (clear > 90) warnings.push(`There are ${clear} clear days between notice and meeting. Look at both days.`);
   }
-  if (given !== null && given > Math.floor(now / 86400)) warnings.push("The day of notice is in the future.");
   if (appointed !== null && appointed < now) warnings.push("The time of the meeting is past.");
   if (appointed !== null && [0, 6].includes(new Date(appointed * 1000).getUTCDay())) warnings.push("The meeting is on a weekend.");
   if (appointed !== null && record !== null && record > appointed) {
@@ -291,11 +334,15 @@ export function checkCall(form, now) {
   return { errors, warnings };
 }
 
-// The names of parties in a file: the first field of each line, without the holder of treasury shares. null for a file of keys, which does not belong here.
+// The parties in a file, {party, name}: the first field of each line, and the holder's name where the line is one of a register.
+// The holder of treasury shares is left out. null for a file of keys, which does not belong here.
 export function namesIn(text) {
   const lines = text.replace(/^\uFEFF/, "").split(/\r?\n/);
   if (/^party,key/.test(lines[0])) return null;
-  const names = lines.map((line) => line.split(",")).filter(([, kind]) => kind !== "treasury").map(([name]) => name.trim())
-    .filter((name) => /^[A-Z0-9]{1,16}$/.test(name) && name !== "OFFICE");
-  return [...new Set(names)];
+  const found = new Map();
+  for (const line of lines) {
+    const [, party, kind, quoted, plain] = /^\s*([A-Z0-9]{1,16})\s*(?:$|,([a-z]*)(?:,(?:"((?:[^"]|"")*)"|([^,]*)))?)/.exec(line) ?? [];
+    if (party !== undefined && party !== "OFFICE" && kind !== "treasury") found.set(party, quoted?.replace(/""/g, '"') ?? plain ?? "");
+  }
+  return [...found].map(([party, name]) => ({ party, name }));
 }

@@ -2,7 +2,7 @@
 import { test } from "node:test";
 import assert from "node:assert/strict";
 import { readFileSync } from "node:fs";
-import { Desk, readReply, readKey, isName, stands, stoodByNotice } from "../desk.js";
+import { Desk, readReply, readKey, readSettings, isName, stands, stoodByNotice } from "../desk.js";
 import { hindrance } from "../office.js";
 import { momentNumber } from "../words.js";
 import { REFUSALS, FAULTS, sentence, isUnknown, meansDone } from "../refusals.js";
@@ -18,12 +18,21 @@ test("replies of the desk and of a front", () => {
   assert.deepEqual(readReply(302, "null"), { is: "fault", what: "foreign" });
 });
 
-test("keys, bare and from a file", () => {
-  assert.equal(readKey("Desk-Key: zzzzzzzzzzzzzzzz\n"), "zzzzzzzzzzzzzzzz");
-  assert.equal(readKey("\uFEFFdesk-key:zzzzzzzzzzzzzzzz\r\n\r\n"), "zzzzzzzzzzzzzzzz");
-  assert.equal(readKey("  zzzzzzzz-zzzzzzz "), "zzzzzzzz-zzzzzzz");
-  for (const bad of ["", "short", "z".repeat(65), "zzzzzzzz zzzzzzzz", "party,key\nM1,zzzzzzzzzzzzzzzz", "zzzzzzzzzzzzzzzé"]) assert.equal(readKey(bad), null);
+test("keys, typed and from a file, and whose they are", () => {
+  const key = "zzzzzzzz-zzzzzzz";
+  for (const bare of [`Desk-Key: ${key}\n`, `\uFEFFdesk-key:${key}\r\n\r\n`, `  ${key} `, "zzzz zzzz -zzz\tzzzz"]) assert.deepEqual(readKey(bare), { key, party: null });
+  assert.deepEqual(readKey(`Desk-Key: ${key}\nDesk-Party: M1\n`), { key, party: "M1" });
+  assert.deepEqual(readKey(`desk-party:  OFFICE\r\nDESK-KEY:${key}`), { key, party: "OFFICE" });
+  for (const bad of ["", "short", "z".repeat(65), "party,key\nM1,zzzzzzzzzzzzzzzz", "zzzzzzzzzzzzzzzé", "Desk-Party: M1", `Desk-Key: ${key}\nDesk-Party: m1`,
+    `Desk-Key: ${key}\n${key}`, `${key}\nDesk-Party: M1\nDesk-Party: M1`, `Desk-Key: ${key}\nDesk-Other: M1`]) assert.equal(readKey(bad), null, bad);
   assert.ok(isName("OFFICE") && isName("1") && !isName("") && !isName("m1") && !isName("A".repeat(17)));
+});
+
+test("the secretary's settings are texts, and what else is in their file is left out", () => {
+  const whole = { company: "Carr <b>Ltd</b>", chair: "M9", place: "1 High Street", contact: "x@y.example", texts: "https://y.example/g1" };
+  assert.deepEqual(readSettings(JSON.stringify({ ...whole, more: "x" })), whole);
+  assert.deepEqual(readSettings('{"company":7,"chair":"the chair","place":" ","texts":null}'), {});
+  for (const bad of ["", "null", "[]", "7", "<html>", '{"company":']) assert.deepEqual(readSettings(bad), {}, bad);
 });
 
 test("a request has one header, its method and no key in its address; one is sent at a time", async () => {
@@ -75,6 +84,7 @@ test("refusals that each verb may get, by HTTP.md, have a sentence; a repeated s
   assert.ok(meansDone("declare", { is: "refused", code: 32 }) && meansDone("start", { is: "refused", code: 9 }) && !meansDone("order", { is: "refused", code: 28 }));
   assert.match(sentence({ is: "refused", code: 99 }, "cast"), /\(99\)/);
   assert.match(sentence({ is: "fault", what: 503 }, "cast"), /unknown/);
+  assert.doesNotMatch(sentence({ is: "fault", what: 502 }, "mine"), /unknown/);
   assert.ok(!isUnknown({ is: "fault", what: "Memory" }) && !isUnknown({ is: "fault", what: 413 }) && isUnknown({ is: "fault", what: "Store" }) && isUnknown({ is: "fault", what: 502 }));
 });
 
@@ -88,15 +98,15 @@ test("what stands in the way of opening and starting", () => {
   const notice = { register: true, appointed: "2026-06-18T10:00:00" };
   const now = momentNumber("2026-06-18T10:00:00");
   assert.equal(hindrance("open", notice, null, now), null);
-  assert.match(hindrance("open", notice, null, now - 1), /can be opened on Thursday 18 June 2026 at 10:00/);
+  assert.match(hindrance("open", notice, null, now - 1), /can be opened from Thursday 18 June 2026 at 10:00/);
   assert.match(hindrance("open", { ...notice, register: false }, null, now), /register is not loaded/);
   assert.equal(hindrance("start", notice, { poll: { take: "2026-06-18T10:00:00" } }, now), null);
   assert.match(hindrance("start", notice, { poll: { take: "2026-06-18T10:10:00" } }, now), /can be started/);
   const adjourned = { ...notice, sessions: [{ number: 1, ...notice }, { number: 2, appointed: "2026-06-25T10:00:00", opened: null }] };
-  assert.match(hindrance("open", adjourned, null, now), /can be opened on Thursday 25 June 2026 at 10:00/);
+  assert.match(hindrance("open", adjourned, null, now), /can be opened from Thursday 25 June 2026 at 10:00/);
   const polls = (...given) => ({ ...notice, resolutions: given.map((poll, place) => ({ number: place + 1, poll })) });
   assert.equal(hindrance("adjourn", polls(null, { late: true, started: null, closed: null }), null, now), null);
-  assert.match(hindrance("adjourn", polls(null, { late: false, started: null, closed: null }), null, now), /resolution 2 is closed/);
+  assert.match(hindrance("adjourn", polls(null, { late: false, started: null, closed: null }), null, now), /the voting is closed on resolution 2/);
   assert.match(hindrance("adjourn", { ...polls(null), sessions: Array(10).fill({}) }, null, now), /ten sessions/);
 });
 

@@ -35,6 +35,17 @@ test("the wall clock of the United Kingdom has summer time", () => {
   assert.equal(w.momentText(w.wallClock("Europe/London", Date.UTC(2026, 11, 18, 9, 0, 0))), "2026-12-18T09:00:00");
 });
 
+test("each moment has the name of its zone", () => {
+  w.useZone("America/New_York");
+  assert.equal(w.momentWords("2026-06-18T10:00:00"), "Thursday 18 June 2026 at 10:00 (New York time)");
+  w.useZone("");
+  assert.equal(w.momentWords("2026-06-18T10:00:00"), "Thursday 18 June 2026 at 10:00");
+});
+
+test("parts in percent are cut, and exact", () => {
+  assert.deepEqual([w.percentWords(110, 190), w.percentWords(749999999999, 1000000000000), w.percentWords(1, 3), w.percentWords(3, 3), w.percentWords(0, 0)], ["57.89%", "74.99%", "33.33%", "100.00%", "–"]);
+});
+
 test("numbers up to 10^12 are exact", () => {
   assert.equal(w.readNumber("1,000,000,000,000"), 1000000000000);
   assert.equal(w.readNumber("999 999 999 999"), 999999999999);
@@ -128,7 +139,7 @@ test("a holding in parts, as replies of the cases tell it", () => {
   assert.deepEqual(w.castsOf(block, "P", 1, { for: 80 }).map(({ from, to }) => [from, to]), [[1, 40], [61, 100]]);
   const casts = w.castsOf(block, "P", 1, { for: 41, withheld: 39 });
   assert.deepEqual(casts.map(({ from, to, way }) => [from, to, way]), [[1, 40, "for"], [61, 61, "for"], [62, 100, "withheld"]]);
-  assert.deepEqual(w.recordedFor(block, casts, 1), { for: [[1, 40], [61, 61]], against: [], withheld: [[62, 100]] });
+  assert.deepEqual(w.recorder(casts, 1)(block), { for: [[1, 40], [61, 61]], against: [], withheld: [[62, 100]] });
 
   // A member, proxy and representative in one: the first resolution as the meeting has it, the second by a late poll.
   const [full] = told("own-things-full", "mine");
@@ -137,7 +148,7 @@ test("a holding in parts, as replies of the cases tell it", () => {
   assert.deepEqual(blocks(1, { late: false }), [...own, ["proxy", "M1", [[1, 60]], "for", undefined]]);
   assert.deepEqual(blocks(2, {}), [...own, ["proxy", "M1", [[1, 40]], "free", undefined]]);
   const [kept, , rep, proxy] = w.blocksOf(full, { ...late, poll: { ...late.poll, late: false } }, notice);
-  assert.deepEqual([kept, rep, proxy].map((each) => w.recordedFor(each, full.casts, 1)), [{ for: [], against: [[11, 40]], withheld: [] },
+  assert.deepEqual([kept, rep, proxy].map((each) => w.recorder(full.casts, 1)(each)), [{ for: [], against: [[11, 40]], withheld: [] },
     { for: [[1, 50]], against: [], withheld: [] }, { for: [[1, 60]], against: [], withheld: [] }]);
 });
 
@@ -177,13 +188,56 @@ test("casts for a block, in parts and split, and what was recorded", () => {
     { resolution: 1, as: "proxy", member: "M1", from: 1, to: 40, way: "for" }, { resolution: 1, as: "proxy", member: "M1", from: 61, to: 100, way: "for" }]);
   const casts = w.castsOf(block, "P", 1, { for: 50, against: 20, withheld: 1 });
   assert.deepEqual(casts.map(({ from, to, way }) => [from, to, way]), [[1, 40, "for"], [61, 70, "for"], [71, 90, "against"], [91, 91, "withheld"]]);
-  const told = w.recordedFor(block, [...casts, { resolution: 1, as: "proxy", member: "M1", from: 30, to: 65, way: "withheld" }, { resolution: 2, as: "proxy", member: "M1", from: 1, to: 100, way: "against" }], 1);
+  const told = w.recorder([...casts, { resolution: 1, as: "proxy", member: "M1", from: 30, to: 65, way: "withheld" }, { resolution: 2, as: "proxy", member: "M1", from: 1, to: 100, way: "against" }], 1)(block);
   assert.deepEqual(told, { for: [[1, 29], [66, 70]], against: [[71, 90]], withheld: [[30, 40], [61, 65], [91, 91]] });
   assert.equal(w.recordedWords({ for: [[1, 29], [66, 70]], against: [], withheld: [] }), "for on 34 shares (1 to 29, 66 to 70)");
   const own = { as: "member", member: null, runs: [[1, 100]], way: "free" };
   assert.deepEqual(w.castsOf(own, "M1", 1, { against: 100 }), [{ resolution: 1, as: "member", member: "M1", from: 1, to: 100, way: "against" }]);
   const bound = { ...block, way: "for" };
-  assert.deepEqual(w.recordedFor(bound, [{ as: "instructed", resolution: 1 }], 1).for, block.runs);
+  assert.deepEqual(w.recorder([{ as: "instructed", resolution: 1 }], 1)(bound).for, block.runs);
+});
+
+test("what was recorded is found in one pass, as by looking at each share", () => {
+  let seed = 11;
+  const next = (most) => (seed = seed * 48271 % 2147483647) % most;
+  for (let round = 0; round < 200; round += 1) {
+    const casts = Array.from({ length: next(12) }, () => next(4) === 0 ? { as: "instructed", resolution: 1 + next(2) }
+      : { as: ["member", "rep", "proxy"][next(3)], member: ["A", "B"][next(2)], resolution: 1 + next(2), from: 1 + next(5), to: 5 + next(5), way: w.WAYS[next(3)] });
+    for (const block of [{ as: "proxy", member: "A", runs: [[1, 3], [6, 8]], way: ["free", ...w.WAYS][next(4)] }, { as: "rep", member: "B", runs: [[1, 9]], way: "free" }]) {
+      const places = { for: [], against: [], withheld: [] };
+      for (const place of block.runs.flatMap(([from, to]) => Array.from({ length: to - from + 1 }, (_, more) => from + more))) {
+        const last = casts.filter((cast) => cast.resolution === 1 && (cast.as === "instructed" ? block.as === "proxy" && block.way !== "free"
+          : cast.as === block.as && cast.member === block.member && cast.from <= place && place <= cast.to)).at(-1);
+        if (last !== undefined) places[last.way ?? block.way].push(place);
+      }
+      const told = w.recorder(casts, 1)(block);
+      for (const way of w.WAYS) assert.deepEqual(told[way].flatMap(([from, to]) => Array.from({ length: to - from + 1 }, (_, more) => from + more)), places[way]);
+    }
+  }
+});
+
+test("one way on all blocks: what is recorded takes no cast, and the fewest shares are left out", () => {
+  const block = (member, ...runs) => ({ as: "proxy", member, runs, way: "free" });
+  const blocks = [block("A", [1, 5]), block("B", [1, 3], [5, 6]), block("C", [1, 100]), { as: "member", member: null, runs: [[1, 7]], way: "free" }];
+  const plan = (casts, room) => {
+    const { casts: sent, shares, left, same } = w.planAll(blocks, w.recorder(casts, 1), room, "M", 1, "for");
+    return [sent.map(({ as, member, from, to, way }) => `${as} ${member} ${from}-${to} ${way}`), shares, left.map(({ member }) => member), same];
+  };
+  assert.deepEqual(plan([], 9), [["proxy A 1-5 for", "proxy B 1-3 for", "proxy B 5-6 for", "proxy C 1-100 for", "member M 1-7 for"], 117, [], 0]);
+  assert.deepEqual(plan([], 3), [["proxy A 1-5 for", "proxy C 1-100 for", "member M 1-7 for"], 112, ["B"], 0]);
+  assert.deepEqual(plan([], 1), [["proxy C 1-100 for"], 100, ["A", "B", null], 0]);
+  const cast = (member, from, to, way, as = "proxy") => ({ resolution: 1, as, member, from, to, way });
+  assert.deepEqual(plan([cast("A", 1, 5, "for"), cast("C", 1, 60, "for"), cast("C", 10, 20, "against")], 9),
+    [["proxy B 1-3 for", "proxy B 5-6 for", "proxy C 10-20 for", "proxy C 61-100 for", "member M 1-7 for"], 63, [], 1]);
+  assert.deepEqual(plan([cast("A", 1, 5, "for"), cast("B", 1, 6, "for"), cast("C", 1, 100, "for"), cast("M", 1, 7, "for", "member")], 9), [[], 0, [], 4]);
+});
+
+test("1,100 members take no more than a second, whatever was recorded", () => {
+  const received = Array.from({ length: 1100 }, (_, place) => ({ member: `X${place}`, governs: [[1, 10]], instructions: ["free", "free"], polls: [] }));
+  const casts = received.slice(0, 1024).map(({ member }) => ({ resolution: 2, as: "proxy", member, from: 1, to: 10, way: "for" }));
+  const begun = performance.now(), blocks = w.blocksOf(mine({ received, casts }), open, notice), told = w.recorder(casts, 2);
+  assert.equal(blocks.filter((block) => told(block).for.length === 1).length, 1024);
+  assert.ok(performance.now() - begun < 1000);
 });
 
 test("stages, asking again and the bar", () => {
@@ -194,8 +248,10 @@ test("stages, asking again and the bar", () => {
   const now = w.momentNumber("2026-06-01T10:00:00");
   assert.equal(w.askAgain(notice([null, { ...poll, started: "x" }]), now), 5);
   assert.equal(w.askAgain(notice([null, poll]), now), 15);
-  assert.equal(w.askAgain(notice([null]), now), 0);
+  assert.equal(w.askAgain(notice([null]), now), 60);
   assert.equal(w.askAgain(notice([null]), w.momentNumber("2026-06-18T09:30:00")), 15);
+  assert.equal(w.askAgain(notice([null]), w.momentNumber("2026-06-18T11:10:00")), 60);
+  assert.equal(w.askAgain(notice([{ ...poll, result: {} }, null]), w.momentNumber("2026-06-18T12:30:00")), 60);
   assert.equal(w.askAgain(notice([{ ...poll, result: {} }]), w.momentNumber("2026-06-18T09:30:00")), 0);
   const bar = w.resultBar("special", { for: 60, against: 50, withheld: 40, eligible: 190, carried: false });
   assert.deepEqual([bar.yes, bar.line, bar.votes, bar.unvoted], [545, 750, 110, 40]);
@@ -212,7 +268,8 @@ test("a call is checked before it is sent", () => {
   assert.deepEqual(told({ company: "public", kind: "annual" })[0], ["call-appointed"]);
   assert.deepEqual(told({ company: "public", kind: "annual", appointed: "2026-06-23T10:00:00" })[0], []);
   assert.match(w.checkCall({ ...call, record: "2026-06-18T10:00:01" }, now).warnings[0], /record moment is after/);
-  assert.match(w.checkCall({ ...call, given: "2025-06-01" }, now).warnings[0], /different years/);
+  assert.match(w.checkCall({ ...call, given: "2025-06-01" }, now).warnings[0], /381 clear days/);
+  assert.deepEqual(told({ given: "2026-06-03" }), [[], 0]);
   assert.deepEqual(told({ given: "", appointed: "", record: "", meeting: "g1", resolutions: [] })[0], ["call-name", "call-given", "call-appointed", "call-record", "call-add"]);
   assert.deepEqual(told({ resolutions: [["special", ""]] })[0], ["call-text-1"]);
   assert.deepEqual(told({ resolutions: [["special", "é".repeat(101)]] })[0], ["call-text-1"]);
@@ -220,7 +277,9 @@ test("a call is checked before it is sent", () => {
 });
 
 test("names from a file, and not from the keys", () => {
-  assert.deepEqual(w.namesIn("OFFICE\nM1\r\nM2\n\nM1\n"), ["M1", "M2"]);
-  assert.deepEqual(w.namesIn("member,kind,name,shares,paid\nM1,individual,Ada,100,100\nT1,treasury,Own,1,1\n"), ["M1"]);
+  const plain = (party) => ({ party, name: "" });
+  assert.deepEqual(w.namesIn("OFFICE\nM1\r\nM2\n\nM1\nm3\n"), [plain("M1"), plain("M2")]);
+  assert.deepEqual(w.namesIn('member,kind,name,shares,paid\nM1,individual,Ada,100,100\nM2,corporation,"Carr, ""X"" Ltd",1,1\nT1,treasury,Own,1,1\n'),
+    [{ party: "M1", name: "Ada" }, { party: "M2", name: 'Carr, "X" Ltd' }]);
   assert.equal(w.namesIn("party,key\nM1,zzzzzzzzzzzzzzzz\n"), null);
 });
