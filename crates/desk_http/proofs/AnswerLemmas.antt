@@ -1,9 +1,10 @@
 -- How what is asked of an office by one request joins.
-use Rattle.std.proofs.Common.{◌≡◌, ◌⊎◌, inl, inr, ℕ, true, List, Option, Some, None, Result, Ok, Err, refl, sym, ap, subst, ◌∙◌}
+use Rattle.std.proofs.Common.{◌≡◌, inl, inr, ℕ, true, List, [], ◌∷◌, Option, Some, None, Result, Ok, Err, refl, sym, ap, subst, ◌∙◌}
 use Rattle.std.specs.Prelude.{IfErr, IfOk, OnErr, OnOk, is_some}
 use Rattle.any_office.proofs.OfficeHomeLemmas.{leaves_same, leaves_then}
 use Rattle.any_office.specs.StoredOffice.{office_after}
-use Rattle.any_office.specs.OfficeRuns.{LeavesOffice}
+use Rattle.any_office.specs.CrashedOffice.{CrashLeaves, LeadsOn, Reads, calls_answered}
+use Rattle.any_office.specs.OfficeRuns.{LeavesOffice, calls_in}
 use Rattle.any_office.specs.declared.Office as office
 use Rattle.vocabulary.specs.declared.refusal.Refusal.{Refusal}
 use Rattle.vocabulary.specs.declared.refusal.Refusal.TheVariants.{Key}
@@ -19,7 +20,8 @@ use Rattle.http_requests.specs.declared.received.ReceivedRequest.TheVariants.{Re
 use Rattle.http_requests.specs.declared.received.ReceiveError.{ReceiveError}
 use Rattle.http_requests.specs.declared.received.ReceiveError.TheVariants as unreceived
 use Rattle.meeting_core.specs.KeyHolders.{caller_with}
-use Rattle.desk_http.specs.HttpAnswers.{IsAnswer, IsCutOff, AnswerMayFail, MakesCall, ShowsReply, call_received, call_of, if_ok, reply_in, reply_of, unread_reply}
+use Rattle.desk_http.specs.AskedOffice.{asked_by, calls_tried}
+use Rattle.desk_http.specs.HttpAnswers.{IsAnswer, IsCutOff, IsNoneOr, AnswerMayFail, MakesCall, ShowsReply, call_by, call_received, call_of, if_ok, reply_in, reply_of, unread_reply}
 use Rattle.desk_http.specs.declared.answers.Answered.{Answered}
 use Rattle.desk_http.specs.declared.answers.AnswerError.{AnswerError}
 use Rattle.desk_http.specs.declared.answers.AnswerError.TheVariants as unanswered
@@ -48,9 +50,26 @@ module _ (Stands : OfficeLists → Type 0) (office : OfficeLists) (now : Moment)
   refused_done received refusal (Ok a) is shown =
       subst (λ q. IsAnswer (reply_in office now q) a × Stands (office_after office (call_received office now q))) (sym is) ((reply.Refused refusal, refl, shown), stands)
 
-if_ok_or_none : {T E : Type 0} (r : Result T E) (call : Option Call) → (if_ok r call ≡ None) ⊎ (if_ok r call ≡ call)
+if_ok_or_none : {T E : Type 0} (r : Result T E) (call : Option Call) → IsNoneOr (if_ok r call) call
 if_ok_or_none (Ok x) call = inr refl
 if_ok_or_none (Err e) call = inl refl
+
+nobody_calls : (now : Moment) (received : ReceivedRequest) → call_by now None received ≡ None
+nobody_calls now (Refused refusal) = refl
+nobody_calls now (With key heard) = refl
+
+-- behind a reading, the one call is tried
+tries_call : {T E : Type 0} (call : Option Call) (r : Result T E) → calls_tried (Reads ∷ asked_by call r) ≡ calls_in (call ∷ [])
+tries_call None r = refl
+tries_call (Some call) (Ok x) = refl
+tries_call (Some call) (Err e) = refl
+
+-- and it is answered where there is a result
+answers_call : {T E : Type 0} (call : Option Call) (r : Result T E) → calls_answered (Reads ∷ asked_by call r) ≡ calls_in (if_ok r call ∷ [])
+answers_call None (Ok x) = refl
+answers_call None (Err e) = refl
+answers_call (Some call) (Ok x) = refl
+answers_call (Some call) (Err e) = refl
 
 pub always_err : {T E : Type 0} {W : Type 0} (r : Result T E) → W → OnErr r W
 always_err (Ok x) w = tt
@@ -82,19 +101,49 @@ module _ {O : Type 0} (g : office.Ghosts O) where
   pub not_asked : (o : O) → LeavesOffice g None o o
   not_asked o = leaves_same g.is_reliable g.is_open g.stands g.faults o
 
-  -- no call is made
-  pub makes_none : (call : OfficeLists → Option Call) (old new : O) → LeavesOffice g None old new → MakesCall g call old new
-  makes_none call old new leaves = record { made = None; leaves = leaves; by = λ reliable office stands. inl refl }
+  -- nothing is asked
+  pub makes_none : (now : Moment) (received : ReceivedRequest) (o : O) → MakesCall g now received o o
+  makes_none now received o = record {
+    asked = [];
+    leads = refl;
+    found = None;
+    tries = ap (λ call. calls_in (call ∷ [])) (sym (nobody_calls now received));
+    by = λ reliable office stands. inl (nobody_calls now received);
+    made = None;
+    answers = refl;
+    is_tried = inl refl;
+    leaves = not_asked o;
+  }
 
-  -- the call is made, if it is answered, of the caller that was found
-  pub makes_found : {T E : Type 0} (r : Result T E) (found : Option Caller) (now : Moment) (heard : Result Request ReceiveError) (who : OfficeLists → Option Caller) (a b c : O)
-      → (g.is_reliable b → (office : OfficeLists) → g.stands a office → found ≡ who office) → LeavesOffice g None a b → LeavesOffice g (if_ok r (call_of now found heard)) b c
-      → MakesCall g (λ office. call_of now (who office) heard) a c
-  makes_found r found now heard who a b c is one two = record {
+  -- a key is read, and no call is tried
+  pub makes_reading : (now : Moment) (received : ReceivedRequest) (old new : O) → LeavesOffice g None old new → (g.is_reliable new → CrashLeaves g Reads old new) → MakesCall g now received old new
+  makes_reading now received old new leaves crash = record {
+    asked = Reads ∷ [];
+    leads = (new, leaves, crash, refl);
+    found = None;
+    tries = ap (λ call. calls_in (call ∷ [])) (sym (nobody_calls now received));
+    by = λ reliable office stands. inl (nobody_calls now received);
+    made = None;
+    answers = refl;
+    is_tried = inl refl;
+    leaves = leaves;
+  }
+
+  -- the call is tried of the caller that was found, and made if it is answered
+  pub makes_found : {T E : Type 0} (r : Result T E) (found : Option Caller) (now : Moment) (key : List ℕ) (heard : Result Request ReceiveError) (a b c : O)
+      → (g.is_reliable b → (office : OfficeLists) → g.stands a office → found ≡ caller_with office.keys key) → LeavesOffice g None a b → (g.is_reliable b → CrashLeaves g Reads a b)
+      → LeavesOffice g (if_ok r (call_of now found heard)) b c → LeadsOn g b (asked_by (call_of now found heard) r) c
+      → MakesCall g now (With key heard) a c
+  makes_found r found now key heard a b c is one crash two leads = record {
+    asked = Reads ∷ asked_by (call_of now found heard) r;
+    leads = (b, one, crash, leads);
+    found = found;
+    tries = tries_call (call_of now found heard) r;
+    by = λ reliable office stands. inr (ap (λ w. call_of now w heard) (is (two.was_reliable reliable) office stands));
     made = if_ok r (call_of now found heard);
+    answers = answers_call (call_of now found heard) r;
+    is_tried = if_ok_or_none r (call_of now found heard);
     leaves = leaves_then g.is_reliable g.is_open g.stands g.faults (if_ok r (call_of now found heard)) a b c one two;
-    by = λ reliable office stands.
-        subst (λ w. (if_ok r (call_of now found heard) ≡ None) ⊎ (if_ok r (call_of now found heard) ≡ call_of now w heard)) (is (two.was_reliable reliable) office stands) (if_ok_or_none r (call_of now found heard));
   }
 
   -- what failed behind a reading made no call
@@ -107,6 +156,11 @@ module _ {O : Type 0} (g : office.Ghosts O) where
       → LeavesOffice g (if_ok r (call_of now (Some who) heard)) o o
   unheard_leaves o (Err e) now who heard why is = not_asked o
   unheard_leaves o (Ok x) now who heard why is = subst (λ h. LeavesOffice g (call_of now (Some who) h) o o) (sym is) (not_asked o)
+
+  -- what was not heard asks nothing
+  pub unheard_leads : {T E : Type 0} (o : O) (r : Result T E) (now : Moment) (who : Caller) (heard : Result Request ReceiveError) (why : ReceiveError) → heard ≡ Err why
+      → LeadsOn g o (asked_by (call_of now (Some who) heard) r) o
+  unheard_leads o r now who heard why is = subst (λ h. LeadsOn g o (asked_by (call_of now (Some who) h) r) o) (sym is) refl
 
   -- of a caller that was found, it is cut off only where its source failed
   pub found_cut : {T : Type 0} (r : Result T AnswerError) (key : List ℕ) (heard : Result Request ReceiveError) (who : Caller) (a b c : O)

@@ -88,7 +88,7 @@ module _ {O W : Type 0} (g : office.Ghosts O) (h : sink.Ghosts W) (now : Moment)
   pub answered_replies : {T E : Type 0} (written : Result T E) (told : Result T ServeFault) (answered : Answered) → told ≡ as_write written
       → (g.is_reliable new → (office : OfficeLists) → g.stands old office
       → IsAnswer (reply_in office now received) answered × g.stands new (office_after office (call_received office now received)))
-      → MakesCall g (λ office. call_received office now received) old new
+      → MakesCall g now received old new
       → OnOk written (WritesText h before after (reply_text answered.status answered.body.items)) → OnErr written (WritesPart h before after (reply_text answered.status answered.body.items))
       → OnOk written (h.failures after ≡ h.failures before) → OnErr written (FailsWriting h before after)
       → Replies g h now received told old new before after
@@ -103,7 +103,7 @@ module _ {O W : Type 0} (g : office.Ghosts O) (h : sink.Ghosts W) (now : Moment)
 
   -- where there is none, and its failure is told
   pub unanswered_replies : {T : Type 0} (told : Result T ServeFault) (why : AnswerError) → (why ≡ CutOff → IsCutOff g received old new) → LeavesOffice g None old new
-      → MakesCall g (λ office. call_received office now received) old new
+      → MakesCall g now received old new
       → OnOk told (FailureTextHolds why (WritesText h before after)) → OnFault told Write (FailureTextHolds why (WritesPart h before after)) → OnFault told Read ((why ≡ CutOff) × (after ≡ before))
       → OnOk told (h.failures after ≡ h.failures before) → OnFault told Write (FailsWriting h before after)
       → Replies g h now received told old new before after

@@ -1,6 +1,7 @@
 -- What is replied to what was received, and which call is made of it.
-use Rattle.std.specs.Prelude.{◌≡◌, ◌⊎◌, Bool, true, false, Option, Some, None, is_some, IsTrue, Result, Ok, Err}
-use Rattle.any_office.specs.OfficeRuns.{LeavesOffice}
+use Rattle.std.specs.Prelude.{◌≡◌, ◌⊎◌, Bool, true, false, List, [], ◌∷◌, Option, Some, None, is_some, IsTrue, Result, Ok, Err}
+use Rattle.any_office.specs.CrashedOffice.{LeadsOn, OfficeEvent, calls_answered}
+use Rattle.any_office.specs.OfficeRuns.{LeavesOffice, calls_in}
 use Rattle.any_office.specs.declared.Office as office
 use Rattle.vocabulary.specs.declared.refusal.Refusal.TheVariants.{Key}
 use Rattle.desk_words.specs.ViewTypes.{Moment}
@@ -21,6 +22,7 @@ use Rattle.http_requests.specs.declared.received.ReceiveError.TheVariants as unr
 use Rattle.http_routes.specs.Statuses.{reply_status}
 use Rattle.meeting_core.specs.KeyHolders.{caller_with}
 use Rattle.meeting_core.specs.Step.{decided}
+use Rattle.desk_http.specs.AskedOffice.{calls_tried}
 use Rattle.desk_http.specs.declared.answers.Answered.{Answered}
 use Rattle.desk_http.specs.declared.answers.AnswerError.{AnswerError}
 use Rattle.desk_http.specs.declared.answers.AnswerError.TheVariants as unanswered
@@ -32,6 +34,11 @@ call_of now None heard = None
 call_of now (Some who) (Ok request) =
     Some (record { moment = now; caller = who; request = request })
 call_of now (Some who) (Err why) = None
+
+-- the call that a caller makes of what was received; none of what was refused as it came
+abbrev pub call_by : Moment → Option Caller → ReceivedRequest → Option Call
+call_by now who (Refused refusal) = None
+call_by now who (With key heard) = call_of now who heard
 
 -- the call that is made of what was received: that of the caller whose key it is
 abbrev pub call_received : OfficeLists → Moment → ReceivedRequest → Option Call
@@ -87,6 +94,10 @@ abbrev pub if_ok : {T E : Type 0} → Result T E → Option Call → Option Call
 if_ok (Ok x) call = call
 if_ok (Err e) call = None
 
+-- no call, or this one
+abbrev pub IsNoneOr : Option Call → Option Call → Type 0
+IsNoneOr made call = (made ≡ None) ⊎ (made ≡ call)
+
 -- ---- wherever the office is stored
 
 module _ {O : Type 0} (g : office.Ghosts O) where
@@ -96,9 +107,17 @@ module _ {O : Type 0} (g : office.Ghosts O) where
     pub caller : g.is_reliable new → (office : OfficeLists) → g.stands old office
         → IsTrue (is_of_caller office received)
 
-  -- a call was made, or none: the one that the office that was stored lets be made, if it lets any
-  pub record MakesCall (call : OfficeLists → Option Call) (old new : O) : Type 0 where
-    pub made : Option Call
-    pub leaves : LeavesOffice g made old new
+  -- what was asked of the office for what was received. One call was tried, or none, answered or
+  -- failed: that of the caller whose key was found, if one was. It is the call that the office that
+  -- was stored lets be made, and it was made or not
+  pub record MakesCall (now : Moment) (received : ReceivedRequest) (old new : O) : Type 0 where
+    pub asked : List OfficeEvent
+    pub leads : LeadsOn g old asked new
+    pub found : Option Caller
+    pub tries : calls_tried asked ≡ calls_in (call_by now found received ∷ [])
     pub by : g.is_reliable new → (office : OfficeLists) → g.stands old office
-        → (made ≡ None) ⊎ (made ≡ call office)
+        → IsNoneOr (call_by now found received) (call_received office now received)
+    pub made : Option Call
+    pub answers : calls_answered asked ≡ calls_in (made ∷ [])
+    pub is_tried : IsNoneOr made (call_by now found received)
+    pub leaves : LeavesOffice g made old new

@@ -1,3 +1,4 @@
+pub mod AskedOffice
 pub mod HttpAnswers
 pub mod ReplySecrecy
 pub mod Served

@@ -113,7 +113,7 @@ as_write (Err e) = Err Write
 
 -- what was received is answered by an office at a moment, and written: the reply or a failure is
 -- told, or a write failed, or the body was cut off, and then nothing is written or changed;
--- whatever is reported, one call was made at most
+-- whatever is reported, one call was tried at most
 pub record Replies {T O W : Type 0} (g : office.Ghosts O) (h : sink.Ghosts W) (now : Moment)
     (received : ReceivedRequest) (result : Result T ServeFault) (old new : O) (before after : W)
     : Type 0 where
@@ -121,7 +121,7 @@ pub record Replies {T O W : Type 0} (g : office.Ghosts O) (h : sink.Ghosts W) (n
   pub partly : OnFault result Write (Serves g now received old new (WritesPart h before after))
   pub unread : OnFault result Read
       (IsCutOff g received old new × LeavesOffice g None old new × (after ≡ before))
-  pub makes : MakesCall g (λ office. call_received office now received) old new
+  pub makes : MakesCall g now received old new
   pub works : OnOk result (h.failures after ≡ h.failures before)
   pub failed : OnFault result Write (FailsWriting h before after)
 

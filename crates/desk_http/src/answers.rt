@@ -1,7 +1,9 @@
 //! What an office answers to a request.
 ghost use Rattle.std.specs.Prelude.{◌≡◌, IfErr, IfOk, OnErr, OnOk, Some, None, true};
 ghost use Rattle.any_office.specs.StoredOffice.{HoldsOfOffice, office_after};
+ghost use Rattle.any_office.specs.CrashedOffice.{LeadsOn};
 ghost use Rattle.any_office.specs.OfficeRuns.{LeavesOffice};
+ghost use Rattle.desk_http.specs.AskedOffice.{asked_by};
 ghost use Rattle.desk_http.specs.HttpAnswers.{IsAnswer, IsCutOff, AnswerMayFail, MakesCall, ShowsReply};
 ghost use Rattle.desk_http.specs.HttpAnswers.{call_of, call_received, unread_fault, if_ok};
 ghost use Rattle.desk_http.specs.HttpAnswers.{reply_in, reply_of, unread_reply};
@@ -83,7 +85,7 @@ fn answer_unreceived(alloc: Global, why: ReceiveError) -> Result<Answered, Answe
     }
 }
 
-/// The answer to what was heard of a caller.
+/// The answer to what was heard of a caller. A request is one call.
 fn answer_to<O: Office>(
     alloc: Global,
     office: &mut O,
@@ -96,6 +98,8 @@ fn answer_to<O: Office>(
         × O.stands office.new (office_after stored (call_of moment (Some caller) heard)))) }
     ensures leaves { LeavesOffice O.Office (if_ok result (call_of moment (Some caller) heard))
         office.old office.new }
+    ensures leads { LeadsOn O.Office office.old
+        (asked_by (call_of moment (Some caller) heard) result) office.new }
     ensures cause { IfErr result (AnswerMayFail heard) }
     ensures cut_off { source_failed heard ≡ true → OnOk result ⊥ }
 {
@@ -123,8 +127,7 @@ fn answer_with<O: Office>(
     ensures done { HoldsOfOffice O.is_reliable O.stands office.old office.new (λ stored. IfOk result
         (λ a. IsAnswer (reply_in stored moment (With key heard)) a × O.stands office.new
         (office_after stored (call_received stored moment (With key heard))))) }
-    ensures makes { MakesCall O.Office (λ stored. call_received stored moment (With key heard))
-        office.old office.new }
+    ensures makes { MakesCall O.Office moment (With key heard) office.old office.new }
     ensures unmade { OnErr result (LeavesOffice O.Office None office.old office.new) }
     ensures cause { IfErr result
         (λ why. why ≡ CutOff → IsCutOff O.Office (With key heard) office.old office.new) }
@@ -143,6 +146,9 @@ fn answer_with<O: Office>(
 /// heard is answered by its refusal, and a request is a call of that caller at that moment, made as
 /// `Office::perform` makes it: the reply is made before the call is made to last.
 ///
+/// At most that one call is tried, and it is answered or fails. `makes` says what was asked of the
+/// office, event by event, so that it also says what a crash leaves.
+///
 /// The error is a failure of the office or want of memory, after which nothing has changed, or
 /// `CutOff`, only where the source failed in the body and the key is a caller's. A body that was
 /// cut off so has no other reply than `Key`.
@@ -155,8 +161,7 @@ pub fn answer<O: Office>(
     ensures done { HoldsOfOffice O.is_reliable O.stands office.old office.new (λ stored. IfOk result
         (λ a. IsAnswer (reply_in stored moment received) a
         × O.stands office.new (office_after stored (call_received stored moment received)))) }
-    ensures makes { MakesCall O.Office (λ stored. call_received stored moment received)
-        office.old office.new }
+    ensures makes { MakesCall O.Office moment received office.old office.new }
     ensures unmade { OnErr result (LeavesOffice O.Office None office.old office.new) }
     ensures cause { IfErr result
         (λ why. why ≡ CutOff → IsCutOff O.Office received office.old office.new) }

@@ -43,9 +43,9 @@ impl Clock for OnlyAt {
 /// `Read` and `Write` are told only where that device failed, once in the call. After `Read`
 /// nothing is written or changed, and the clock was not asked, but for a source that failed in the
 /// body; after `Write` a part of one of these texts is written, and the office is as after that
-/// text; after `Clock` nothing is written or changed. The one call that may have been made is the
-/// one that was received. At most 8,192 + 65,536 bytes are taken, and 8,192 where the head alone is
-/// answered; those behind the request are not looked at.
+/// text; after `Clock` nothing is written or changed. The one call that may have been tried, answered
+/// or failed, is the one that was received, at that moment. At most 8,192 + 65,536 bytes are taken,
+/// and 8,192 where the head alone is answered; those behind the request are not looked at.
 pub fn serve_now<O: Office, C: Clock, R: Source, W: Sink>(
     alloc: Global,
     office: &mut O,

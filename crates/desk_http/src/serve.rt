@@ -71,9 +71,10 @@ fn write_unanswered<W: Sink>(why: AnswerError, writer: &mut W) -> Result<(), Ser
 /// Answers what was received, at a moment, by an office, and writes the reply.
 ///
 /// The text is that of the reply, and the office is the one after the call, if one was made; or it
-/// is a fixed text that tells of a failure, which takes no memory, and the office is as it was. The
-/// fault is `Write` where a write failed, and `Read` only where the source of what was received had
-/// failed in the body: nothing is then written or changed.
+/// is a fixed text that tells of a failure, which takes no memory, and the office is as it was. At
+/// most one call is tried, as `answer` tries it. The fault is `Write` where a write failed, and
+/// `Read` only where the source of what was received had failed in the body: nothing is then written
+/// or changed.
 pub fn reply_to<O: Office, W: Sink>(
     alloc: Global,
     office: &mut O,

@@ -1,14 +1,17 @@
 -- One turn after another.
-use Rattle.std.proofs.Common.{◌≡◌, ◌⊎◌, inl, inr, ℕ, ◌+◌, ◌≤◌, List, [], ◌∷◌, ◌++◌, Option, Some, None, Result, Ok, Err, refl, subst, sym, ◌∙◌, arith, length, length-append}
+use Rattle.std.proofs.lemmas.List.Elements.{filter_map-append}
+use Rattle.std.proofs.Common.{◌≡◌, inl, inr, ℕ, ◌+◌, ◌≤◌, List, [], ◌∷◌, ◌++◌, Option, Some, None, Result, Ok, Err, refl, subst, sym, ◌∙◌, arith, length, length-append, ap}
 use Rattle.any_office.proofs.OfficeHomeLemmas.{closes_then}
 use Rattle.any_office.specs.StoredOffice.{office_after}
+use Rattle.any_office.specs.CrashedOffice.{LeadsOn, OfficeEvent, Reads, Answers, Fails, calls_answered}
 use Rattle.any_office.specs.OfficeRuns.{calls_in}
 use Rattle.any_office.specs.declared.Office as office
 use Rattle.clocks.specs.declared.clock.Clock as clock
 use Rattle.byte_io.specs.declared.sink.Sink as sink
 use Rattle.byte_io.specs.declared.source.Source as source
 use Rattle.clocks.specs.GivenMoments.{GivesMoments}
-use Rattle.desk_http.specs.HttpAnswers.{MakesCall, call_received, call_of}
+use Rattle.desk_http.specs.AskedOffice.{call_tried}
+use Rattle.desk_http.specs.HttpAnswers.{MakesCall, call_by, call_of}
 use Rattle.desk_http.specs.Served.{ServesRequest}
 use Rattle.desk_http.specs.declared.now.NowError.{NowError}
 use Rattle.desk_http.specs.declared.now.NowError.TheVariants.{Clock}
@@ -16,7 +19,6 @@ use Rattle.desk_http.proofs.ServedLemmas.{served_no_clock}
 use Rattle.http_requests.specs.declared.received.ReceivedRequest.{ReceivedRequest}
 use Rattle.http_requests.specs.declared.received.ReceivedRequest.TheVariants.{Refused, With}
 use Rattle.http_requests.specs.declared.received.ReceiveError.{ReceiveError}
-use Rattle.meeting_core.specs.KeyHolders.{caller_with}
 use Rattle.desk_words.specs.ViewTypes.{Moment}
 use Rattle.desk_words.specs.declared.office.OfficeLists.{OfficeLists}
 use Rattle.desk_words.specs.declared.caller.Caller.{Caller}
@@ -24,21 +26,29 @@ use Rattle.desk_words.specs.declared.request.Call.{Call}
 use Rattle.desk_words.specs.declared.request.Request.{Request}
 use Rattle.meeting_core.specs.Step.{run_of, stepped}
 use Rattle.http_listener.specs.Connections.{Gone, IsTurn, LeadsBy, Served, Standing, Turn}
-use Rattle.http_listener.specs.Turns.{AreMadeAt, IsMadeAt, LoopsAreRuns, Ran, RanAt, Turned}
+use Rattle.http_listener.specs.Turns.{AreMadeAt, AreTriedAt, IsMadeAt, LoopsAreRuns, Ran, RanAt, Turned}
 use Rattle.http_listener.specs.declared.listening.LoopFault.TheVariants as fault
 use Rattle.tcp_close.specs.declared.listener.Listener as listener
 
 -- a run goes on from the office that another left
-run-then : (office : OfficeLists) (made later : List (Option Call)) → (run_of (run_of office (calls_in made)).office (calls_in later)).office ≡ (run_of office (calls_in (made ++ later))).office
+run-then : (office : OfficeLists) (asked later : List OfficeEvent) → (run_of (run_of office (calls_answered asked)).office (calls_answered later)).office ≡ (run_of office (calls_answered (asked ++ later))).office
 run-then office [] later = refl
-run-then office (None ∷ made) later = run-then office made later
-run-then office (Some call ∷ made) later = run-then (stepped office call) made later
+run-then office (Reads ∷ asked) later = run-then office asked later
+run-then office (Answers call ∷ asked) later = run-then (stepped office call) asked later
+run-then office (Fails call ∷ asked) later = run-then office asked later
 
 made-then : (made later : List (Option Call)) (moments more : List Moment) → AreMadeAt made moments → AreMadeAt later more → AreMadeAt (made ++ later) (moments ++ more)
 made-then [] later [] more p q = q
 made-then [] later (now ∷ moments) more p q = absurd p
 made-then (one ∷ made) later [] more p q = absurd p
 made-then (one ∷ made) later (now ∷ moments) more p q = (p.0, made-then made later moments more p.1 q)
+
+tried-then : (asked later : List OfficeEvent) (moments more : List Moment) → AreTriedAt asked moments → AreTriedAt later more → AreTriedAt (asked ++ later) (moments ++ more)
+tried-then asked later moments more p q = (
+  p.0 ++ q.0,
+  made-then p.0 q.0 moments more p.1 q.1,
+  filter_map-append (λ (tried : Option Call). tried) p.0 q.0 ∙ (λ i. p.2 i ++ q.2 i) ∙ sym (filter_map-append call_tried asked later),
+)
 
 gave-then : {C : Type 0} (gives : C → Moment → C → Type 0) (a b c : C) (moments more : List Moment) → GivesMoments gives a moments b → GivesMoments gives b more c → GivesMoments gives a (moments ++ more) c
 gave-then {C} gives a b c [] more p q = subst (λ (it : C). GivesMoments gives it more c) p q
@@ -50,13 +60,9 @@ heard-at now None heard = tt
 heard-at now (Some who) (Ok request) = refl
 heard-at now (Some who) (Err why) = tt
 
-received-at : (office : OfficeLists) (now : Moment) (received : ReceivedRequest) → IsMadeAt (call_received office now received) now
-received-at office now (Refused refusal) = tt
-received-at office now (With key heard) = heard-at now (caller_with office.keys key) heard
-
-made-at : (now : Moment) (made call : Option Call) → IsMadeAt call now → (made ≡ None) ⊎ (made ≡ call) → IsMadeAt made now
-made-at now made call at (inl none) = subst (λ (c : Option Call). IsMadeAt c now) (sym none) tt
-made-at now made call at (inr same) = subst (λ (c : Option Call). IsMadeAt c now) (sym same) at
+received-at : (now : Moment) (who : Option Caller) (received : ReceivedRequest) → IsMadeAt (call_by now who received) now
+received-at now who (Refused refusal) = tt
+received-at now who (With key heard) = heard-at now who heard
 
 -- a run of one call, or of none
 run-one : (office : OfficeLists) (made : Option Call) → office_after office made ≡ (run_of office (calls_in (made ∷ []))).office
@@ -64,6 +70,11 @@ run-one office None = refl
 run-one office (Some call) = refl
 
 module _ {O : Type 0} (g : office.Ghosts O) where
+  -- what was asked first and what was asked then
+  leads-on : (a b c : O) (asked later : List OfficeEvent) → LeadsOn g a asked b → LeadsOn g b later c → LeadsOn g a (asked ++ later) c
+  leads-on a b c [] later first next = subst (λ (o : O). LeadsOn g o later c) first next
+  leads-on a b c (one ∷ asked) later first next = (first.0, first.1, first.2, leads-on first.0 b c asked later first.3 next)
+
   -- where nothing was done, all is as it was
   pub ran-none : (s : O) → Ran g [] s s
   ran-none s = record {
@@ -71,7 +82,10 @@ module _ {O : Type 0} (g : office.Ghosts O) where
     was_open = λ reliable is_open. is_open;
     closes = λ reliable is_open. inl is_open;
     counts = omega arith;
-    stands = λ reliable is_open office stands. ([], tt, stands);
+    asked = [];
+    leads = refl;
+    at = ([], tt, refl);
+    stands = λ reliable is_open office stands. stands;
   }
 
   pub ran-then : (a b c : O) (moments more : List Moment) → Ran g moments a b → Ran g more b c → Ran g (moments ++ more) a c
@@ -80,10 +94,12 @@ module _ {O : Type 0} (g : office.Ghosts O) where
     was_open = λ reliable is_open. first.was_open (next.was_reliable reliable) (next.was_open reliable is_open);
     closes = λ reliable is_open. closes_then g.is_reliable g.is_open g.stands g.faults a b c first.counts next.counts (first.closes (next.was_reliable reliable) is_open) (next.closes reliable);
     counts = omega (arith, first.counts, next.counts);
+    asked = first.asked ++ next.asked;
+    leads = leads-on a b c first.asked next.asked first.leads next.leads;
+    at = tried-then first.asked next.asked moments more first.at next.at;
     stands = λ reliable is_open office stands.
         let mid = first.stands (next.was_reliable reliable) (next.was_open reliable is_open) office stands in
-        let end = next.stands reliable is_open (run_of office (calls_in mid.0)).office mid.2 in
-        (mid.0 ++ end.0, made-then mid.0 end.0 moments more mid.1 end.1, subst (λ (o : OfficeLists). g.stands c o) (run-then office mid.0 end.0) end.2);
+        subst (λ (o : OfficeLists). g.stands c o) (run-then office first.asked next.asked) (next.stands reliable is_open (run_of office (calls_answered first.asked)).office mid);
   }
 
   -- where the clock was not asked and nothing was done
@@ -111,17 +127,17 @@ module _ {O : Type 0} (g : office.Ghosts O) where
   }
 
   -- what is left of one request is left of a run at one moment
-  pub ran-made : (now : Moment) (received : ReceivedRequest) (a b : O) → MakesCall g (λ office. call_received office now received) a b → Ran g (now ∷ []) a b
+  pub ran-made : (now : Moment) (received : ReceivedRequest) (a b : O) → MakesCall g now received a b → Ran g (now ∷ []) a b
   ran-made now received a b makes = record {
     was_reliable = makes.leaves.was_reliable;
     was_open = makes.leaves.was_open;
     closes = makes.leaves.closes;
     counts = makes.leaves.counts;
-    stands = λ reliable is_open office stands. (
-      makes.made ∷ [],
-      (made-at now makes.made (call_received office now received) (received-at office now received) (makes.by reliable office stands), tt),
-      subst (λ (o : OfficeLists). g.stands b o) (run-one office makes.made) (makes.leaves.stands reliable is_open office stands),
-    );
+    asked = makes.asked;
+    leads = makes.leads;
+    at = (call_by now makes.found received ∷ [], (received-at now makes.found received, tt), sym makes.tries);
+    stands = λ reliable is_open office stands.
+        subst (λ (o : OfficeLists). g.stands b o) (run-one office makes.made ∙ sym (ap (λ calls. (run_of office calls).office) makes.answers)) (makes.leaves.stands reliable is_open office stands);
   }
 
   -- what the serving of one request leaves, where the clock gave a moment or was not asked

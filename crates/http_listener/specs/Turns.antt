@@ -1,12 +1,14 @@
 -- What serving one connection after another leaves.
 use Rattle.std.specs.Prelude.{◌≡◌, ◌⊎◌, ⊤, ℕ, ◌≤◌, List, [], ◌∷◌, length, Option, Some, None, Result, Err}
 use Rattle.any_office.specs.StoredOffice.{HasFailed}
+use Rattle.any_office.specs.CrashedOffice.{LeadsOn, OfficeEvent, calls_answered}
 use Rattle.any_office.specs.OfficeRuns.{calls_in}
 use Rattle.any_office.specs.declared.Office as office
 use Rattle.byte_io.specs.declared.sink.Sink as sink
 use Rattle.byte_io.specs.declared.source.Source as source
 use Rattle.clocks.specs.GivenMoments.{GivesMoments}
 use Rattle.clocks.specs.declared.clock.Clock as clock
+use Rattle.desk_http.specs.AskedOffice.{calls_tried}
 use Rattle.desk_words.specs.ViewTypes.{Moment}
 use Rattle.desk_words.specs.declared.office.OfficeLists.{OfficeLists}
 use Rattle.desk_words.specs.declared.request.Call.{Call}
@@ -16,36 +18,38 @@ use Rattle.http_listener.specs.Connections.{ServesTurns, Standing}
 use Rattle.http_listener.specs.declared.listening.LoopFault.{LoopFault}
 use Rattle.http_listener.specs.declared.listening.LoopFault.TheVariants as fault
 
--- a call, if one was made, was made at that moment
+-- a call, if one was tried, was tried at that moment
 abbrev pub IsMadeAt : Option Call → Moment → Type 0
 IsMadeAt None now = ⊤
 IsMadeAt (Some call) now = call.moment ≡ now
 
--- at each of these moments one call was made, or none
+-- at each of these moments one call was tried, or none
 abbrev pub AreMadeAt : List (Option Call) → List Moment → Type 0
 AreMadeAt [] [] = ⊤
 AreMadeAt [] (now ∷ moments) = ⊥
-AreMadeAt (made ∷ later) [] = ⊥
-AreMadeAt (made ∷ later) (now ∷ moments) = IsMadeAt made now × AreMadeAt later moments
+AreMadeAt (tried ∷ later) [] = ⊥
+AreMadeAt (tried ∷ later) (now ∷ moments) = IsMadeAt tried now × AreMadeAt later moments
+
+-- the calls that were tried, answered or failed, were tried at these moments: at each one or none
+abbrev pub AreTriedAt : List OfficeEvent → List Moment → Type 0
+AreTriedAt asked moments =
+    (tried : List (Option Call)) × AreMadeAt tried moments × (calls_in tried ≡ calls_tried asked)
 
 module _ {O : Type 0} (g : office.Ghosts O) where
-  -- it stores this office after a run of calls, at each of these moments one or none
-  abbrev pub HasRun : OfficeLists → List Moment → O → Type 0
-  HasRun office moments new =
-      (made : List (Option Call)) × AreMadeAt made moments
-      × g.stands new (run_of office (calls_in made)).office
-
-  -- what is left of an office after such a run: no failure is made good, and nothing is opened
-  -- again; only a device that fails shuts it; and the office that was stored is the one after the
-  -- run
+  -- what is left of an office of which this was asked, at these moments: no failure is made good,
+  -- and nothing is opened again; only a device that fails shuts it; and the office that was stored
+  -- is the one after the run of the calls that were answered
   pub record Ran (moments : List Moment) (old new : O) : Type 0 where
     pub was_reliable : g.is_reliable new → g.is_reliable old
     pub was_open : g.is_reliable new → g.is_open new → g.is_open old
     pub closes : g.is_reliable new → g.is_open old
         → g.is_open new ⊎ HasFailed (g.faults old) (g.faults new)
     pub counts : g.faults old ≤ g.faults new
+    pub asked : List OfficeEvent
+    pub leads : LeadsOn g old asked new
+    pub at : AreTriedAt asked moments
     pub stands : g.is_reliable new → g.is_open new → (office : OfficeLists) → g.stands old office
-        → HasRun office moments new
+        → g.stands new (run_of office (calls_answered asked)).office
 
   -- a clock gave some moments, at most so many, and such a run was made at these
   pub record Turned {C : Type 0} (gives : C → Moment → C → Type 0) (most : ℕ) (clock clock' : C)

@@ -107,7 +107,8 @@ fn serve_next<O: Office, L: Listener, C: Clock>(
 /// source and sink and at the moment that the clock gives once the request was read, and has the
 /// listener end it as it is then, also where its peer failed. A peer that is gone before its
 /// connection is taken counts as a turn in which nothing else is done. Where the office is no longer
-/// open each request is answered by 503 and changes nothing.
+/// open each request is answered by 503 and changes nothing. `laws::loops_are_runs` says what such a
+/// loop asked of the office, also for a crash.
 ///
 /// `Socket` is told only where the listener failed, and not by one peer that is gone; then nothing
 /// else was asked. `Clock` is told only where the clock gave no moment for a request that was read;

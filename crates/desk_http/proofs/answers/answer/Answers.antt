@@ -1,4 +1,3 @@
-use Rattle.desk_http.specs.HttpAnswers.{call_received}
 use Rattle.desk_http.proofs.AnswerLemmas.{always_err, makes_none, not_asked, refused_done}
 use Rattle.desk_http.proofs.answers.answer.Goals as goal
 
@@ -8,7 +7,7 @@ returns-in-Refused-clause-done g c = λ reliable office stands.
 
 pub returns-in-Refused-clause-makes : goal.returns-in-Refused-clause-makes
 returns-in-Refused-clause-makes g c =
-    makes_none g.O.Office (λ office. call_received office c.args.moment c.args.received) c.args.office.now c.args.office.now (not_asked g.O.Office c.args.office.now)
+    makes_none g.O.Office c.args.moment c.args.received c.args.office.now
 
 pub returns-in-Refused-clause-unmade : goal.returns-in-Refused-clause-unmade
 returns-in-Refused-clause-unmade g c = always_err c.refused.result (not_asked g.O.Office c.args.office.now)
