@@ -1,6 +1,6 @@
 //! The files that hold offices.
 ghost use Rattle.std.specs.Prelude.{◌≡◌, ℕ, List, IfErr, IfOk};
-ghost use Rattle.any_office.specs.Storing.{IsStored, LeavesEither};
+ghost use Rattle.any_office.specs.Storing.{IsStored};
 ghost use Rattle.cli_exit.specs.Endings.{Ending, ended_view};
 ghost use Rattle.desk_words.specs.Changes.{empty_office};
 ghost use Rattle.desk_words.specs.declared.office.OfficeLists.{OfficeLists};
@@ -17,9 +17,14 @@ pub trait OfficeFiles {
     /// So far the files return what was written to them, and nothing else writes to them.
     ghost is_reliable: { Self → Type 0 };
 
-    /// The file of that name stores one of these two offices: all that it may hold, also after a
-    /// crash, is opened as one of them. Where both are the same, it stores that one.
-    ghost stores: { Self → List ℕ → OfficeLists → OfficeLists → Type 0 };
+    /// What a file may hold.
+    ghost Left: { Type 0 };
+
+    /// The file of that name may hold this, also after a crash.
+    ghost may_hold: { Self → List ℕ → Self.Left → Type 0 };
+
+    /// What a file holds is opened as this office.
+    ghost opens_as: { Self.Left → OfficeLists → Type 0 };
 
     /// Holds of the files, a name, the office that is opened under it, and the files as they are
     /// then.
@@ -52,27 +57,31 @@ pub trait OfficeFiles {
     fn close(&mut self, name: &str, file: Self::File)
         ensures { closes self.old name.now file self.new };
 
-    /// The office that a file stores is the one that is opened.
+    /// The office as which all is opened that a file may hold is the one that is opened.
     ghost opens_stored: { (old new : Self) (name : List ℕ) (file : Self.File)
         (office : OfficeLists) → opens old name file new → Self.File.Office.is_reliable file
-        → stores old name office office → IsStored Self.File.Office file office };
+        → ((left : Self.Left) → may_hold old name left → opens_as left office)
+        → IsStored Self.File.Office file office };
 
-    /// A file that is refused stores what it stored.
-    ghost refuses_stored: { (old new : Self) (name : List ℕ) (end : Ending)
-        (office next : OfficeLists) → refuses old name end new → is_reliable new
-        → stores old name office next → stores new name office next };
+    /// What a file that is refused may hold is opened as what it could hold before.
+    ghost refuses_held: { (old new : Self) (name : List ℕ) (end : Ending) (left : Self.Left)
+        → refuses old name end new → is_reliable new → may_hold new name left
+        → (was : Self.Left) × may_hold old name was
+        × ((office : OfficeLists) → opens_as was office → opens_as left office) };
 
-    /// A file that is closed stores what a crash may leave of it.
-    ghost closes_stored: { (old new : Self) (name : List ℕ) (file : Self.File)
-        (office next : OfficeLists) → closes old name file new → is_reliable new
-        → LeavesEither Self.File.Office file office next → stores new name office next };
+    /// What a file that is closed may hold is opened as what a crash may leave of it.
+    ghost closes_held: { (old new : Self) (name : List ℕ) (file : Self.File) (left : Self.Left)
+        → closes old name file new → is_reliable new → may_hold new name left
+        → (kept : Self.File.Office.Left) × Self.File.Office.may_leave file kept
+        × ((office : OfficeLists) → Self.File.Office.opens_as kept office
+        → opens_as left office) };
 
     /// The devices of a file that is closed returned what was written.
     ghost closes_reliable: { (old new : Self) (name : List ℕ) (file : Self.File)
         → closes old name file new → is_reliable new → Self.File.Office.is_reliable file };
 
-    /// A file in which a new office was made stores the office that holds nothing.
-    ghost creates_stored: { (old new : Self) (name : List ℕ) (end : Ending)
+    /// A file in which a new office was made is opened as the office that holds nothing.
+    ghost creates_held: { (old new : Self) (name : List ℕ) (end : Ending) (left : Self.Left)
         → creates old name end new → is_reliable new → end.status ≡ 0
-        → stores new name empty_office empty_office };
+        → may_hold new name left → opens_as left empty_office };
 }

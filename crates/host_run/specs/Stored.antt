@@ -18,9 +18,21 @@ use Rattle.host_run.specs.Opening.{OnFile, AtMoment}
 use Rattle.host_run.specs.declared.loading.Load.{Load}
 
 module _ {O D : Type 0} (o : offices.Ghosts O D) where
+  -- the file of that name stores an office of which this holds: as such a one all is opened that it
+  -- may hold, also after a crash
+  abbrev pub StoresSome : O → List ℕ → (OfficeLists → Type 0) → Type 0
+  StoresSome files name Is =
+      (left : o.Left) → o.may_hold files name left
+      → (office : OfficeLists) × o.opens_as left office × Is office
+
   -- the file of that name stores this office
   abbrev pub Stores : O → List ℕ → OfficeLists → Type 0
-  Stores files name office = o.stores files name office office
+  Stores files name office = (left : o.Left) → o.may_hold files name left → o.opens_as left office
+
+  -- the file of that name stores one of these two offices
+  abbrev pub StoresEither : O → List ℕ → OfficeLists → OfficeLists → Type 0
+  StoresEither files name office next =
+      (left : o.Left) → o.may_hold files name left → o.opens_as left office ⊎ o.opens_as left next
 
   -- a file in which a new office was made stores the office that holds nothing
   abbrev pub CreatesStored : Type 0
@@ -49,7 +61,7 @@ module _ {O D K C F R : Type 0} (o : offices.Ghosts O D) (d : office.Ghosts D)
       (λ now. OnFile f name before after
       ((end ≡ ended_by fault.ReadFault) × Stores o offices' file held)
       (λ opened read. LoadsKind kind (reader_of r opened) (reader_of r read) held now end
-      (Stores o offices' file) (o.stores offices' file held)))
+      (Stores o offices' file) (StoresEither o offices' file held)))
 
   -- of the office that a file stored, where the files are reliable afterwards: it was refused, and
   -- stores it still; or a file was loaded into it

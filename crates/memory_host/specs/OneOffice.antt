@@ -14,10 +14,9 @@ HoldsOffice stored.Nothing office = ⊥
 HoldsOffice (stored.Office opened) office = opened.book ≡ office
 HoldsOffice stored.Opened office = ⊤
 
--- under its name, all that it may hold is one of these two offices
-abbrev pub StoresEither : Type 0 → Stored → OfficeLists → OfficeLists → Type 0
-StoresEither Named it office next =
-    Named → (left : OfficeLists) → HoldsOffice it left → (left ≡ office) ⊎ (left ≡ next)
+-- under its name it may hold this office
+abbrev pub MayHold : Type 0 → Stored → OfficeLists → Type 0
+MayHold Named it left = Named × HoldsOffice it left
 
 -- its office was opened
 abbrev pub Opens : Stored → OpenBook → Stored → Type 0

@@ -16,7 +16,8 @@ pub struct OfficeFileGiven<'a> {
 
 impl OfficeFiles for OfficeFileGiven<'_> {
     ghost use Rattle.std.specs.Prelude.{◌≡◌};
-    ghost use Rattle.memory_host.specs.OneOffice.{Creates, Opens, Refuses, StoresEither};
+    ghost use Rattle.desk_words.specs.declared.office.OfficeLists.{OfficeLists};
+    ghost use Rattle.memory_host.specs.OneOffice.{Creates, MayHold, Opens, Refuses};
     ghost use Rattle.memory_host.specs.declared.stored.Stored.TheVariants as stored;
     ghost use Rattle.memory_host.specs.OneOfficeLaws as laws;
 
@@ -24,7 +25,11 @@ impl OfficeFiles for OfficeFileGiven<'_> {
 
     ghost is_reliable = { λ _. Unit {0} };
 
-    ghost stores = { λ files name office next. StoresEither (name ≡ files.name.now) files.stored office next };
+    ghost Left = { OfficeLists };
+
+    ghost may_hold = { λ files name left. MayHold (name ≡ files.name.now) files.stored left };
+
+    ghost opens_as = { λ left office. left ≡ office };
 
     ghost opens = { λ old name file new.
         (name ≡ old.name.now) × (Opens old.stored file new.stored × (new.name ≡ old.name)) };
@@ -72,15 +77,16 @@ impl OfficeFiles for OfficeFileGiven<'_> {
     ghost opens_stored = { λ old new name file office opens _ stores.
         laws.opened (name ≡ old.name.now) old.stored new.stored file office opens.0 opens.1.0 stores };
 
-    ghost refuses_stored = { λ old new name end office next refuses _ stores.
-        laws.kept (λ files. StoresEither (name ≡ files.name.now) files.stored office next)
-        old new refuses.1 stores };
+    ghost refuses_held = { λ old new name end left refuses _ may.
+        laws.kept (λ files left. MayHold (name ≡ files.name.now) files.stored left)
+        old new left refuses.1 may };
 
-    ghost closes_stored = { λ old new name file office next closes _ leaves.
-        laws.closed (name ≡ new.name.now) new.stored file office next closes.0 leaves };
+    ghost closes_held = { λ old new name file left closes _ may.
+        laws.closed (name ≡ new.name.now) new.stored file left closes.0 may };
 
     ghost closes_reliable = { λ _ _ _ _ _ _. tt };
 
-    ghost creates_stored = { λ old new name end creates _ zero.
-        laws.created (name ≡ new.name.now) (name ≡ old.name.now) old.stored end new.stored creates.1 zero };
+    ghost creates_held = { λ old new name end left creates _ zero may.
+        laws.created (name ≡ new.name.now) (name ≡ old.name.now) old.stored end new.stored left
+        creates.1 zero may };
 }

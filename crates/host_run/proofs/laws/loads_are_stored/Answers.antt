@@ -5,5 +5,5 @@ use Rattle.host_run.proofs.laws.loads_are_stored.Goals as goal
 pub returns : goal.returns
 returns g c =
     let laws = g.met.O.OfficeFiles in
-    loads_stored g.O.OfficeFiles g.O.File.Office laws.opens_stored laws.refuses_stored laws.closes_stored laws.closes_reliable
+    loads_stored g.O.OfficeFiles g.O.File.Office laws.opens_stored laws.refuses_held laws.closes_held laws.closes_reliable
     g.K.ZoneClocks g.K.Made.Clock g.F.Files g.F.File.Source

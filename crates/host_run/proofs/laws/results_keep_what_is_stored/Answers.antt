@@ -5,4 +5,4 @@ use Rattle.host_run.proofs.laws.results_keep_what_is_stored.Goals as goal
 pub returns : goal.returns
 returns g c =
     let laws = g.met.O.OfficeFiles in
-    results_stored g.O.OfficeFiles g.O.File.Office laws.opens_stored laws.refuses_stored laws.closes_stored laws.closes_reliable g.W.Sink
+    results_stored g.O.OfficeFiles g.O.File.Office laws.opens_stored laws.refuses_held laws.closes_held laws.closes_reliable g.W.Sink
