@@ -8,7 +8,7 @@ use cli_exit::{Ended, ExitError, Line};
 use desk_file::DiskFiles;
 use host::Host;
 use host_run::{run, tell};
-use sql_file::{DeskFile, SystemFiles};
+use sql_file::{Begins, DeskFile, SystemFiles, Wary};
 use std::process::ExitCode;
 use std::{env, io};
 use system::{Stream, System};
@@ -33,9 +33,11 @@ fn by_words_error(error: io::Error) -> Ended {
     }
 }
 
-fn main(rt: HostRuntime) -> ExitCode {
+/// Runs the program on this system, of whose file `S` tells what it holds as it is opened, and returns
+/// the status.
+fn run_on<S: Begins>(rt: HostRuntime) -> u8 {
     let mut host = Host {
-        offices: DiskFiles::<DeskFile>::new(SystemFiles::new(rt)),
+        offices: DiskFiles::<DeskFile<S>>::new(SystemFiles::new(rt)),
         files: System(rt),
         clocks: System(rt),
         input: ReadDevice::new(rt.reader()),
@@ -43,8 +45,12 @@ fn main(rt: HostRuntime) -> ExitCode {
         errors: Stream::new(rt.stderr()),
         ports: System(rt),
     };
-    ExitCode::from(match words(&rt) {
+    match words(&rt) {
         Ok(words) => run(rt.alloc(), &words, &mut host),
         Err(ended) => tell(&ended, &mut host.output, &mut host.errors),
-    })
+    }
+}
+
+fn main(rt: HostRuntime) -> ExitCode {
+    ExitCode::from(run_on::<Wary>(rt))
 }

@@ -11,7 +11,6 @@ use office_file::OfficeFile;
 use sql_file::{SystemFiles, TableFile};
 use sqlite::Alter;
 use std::alloc::Global;
-use std::marker::PhantomData;
 
 /// The desk of one company in a file.
 pub struct DiskDesk<S: Alter> {
@@ -43,19 +42,15 @@ impl<S: Alter + Drop> OfficeFile for DiskDesk<S> {
 /// The desks in the files of a system, whose tables have stores `S`.
 #[derive(Drop)]
 pub struct DiskFiles<S> {
-    files: SystemFiles,
-    store: PhantomData<S>,
+    files: SystemFiles<S>,
 }
 
 impl<S> DiskFiles<S> {
     /// The desks in these files.
-    pub fn new(files: SystemFiles) -> DiskFiles<S>
+    pub fn new(files: SystemFiles<S>) -> DiskFiles<S>
         ensures { result.files ≡ files }
     {
-        DiskFiles {
-            files,
-            store: PhantomData,
-        }
+        DiskFiles { files }
     }
 }
 
@@ -65,14 +60,19 @@ impl<S: TableFile> OfficeFiles for DiskFiles<S> {
     ghost use Rattle.sql_file.specs.ClosedFiles.{LetsGo};
     ghost use Rattle.sql_file.specs.MadeFiles.{CreatesFile};
     ghost use Rattle.sql_file.specs.OpenedFiles.{OpensFile, RefusesFile};
+    ghost use Rattle.sql_open.specs.WholeDesk.{IsWholeDesk};
+    ghost use Rattle.sqlite.specs.Tree.{Trees};
     ghost use Rattle.sql_file.proofs.FileLaws as laws;
 
     type File = DiskDesk<S>;
 
     ghost is_reliable = { λ disk. S.is_reliable disk.files };
 
-    ghost stores = { λ disk name office next.
-        laws.Stores S.may_hold S.is_reliable S.Store disk.files name office next };
+    ghost Left = { Trees };
+
+    ghost may_hold = { λ disk name db. S.may_hold disk.files name db };
+
+    ghost opens_as = { IsWholeDesk };
 
     ghost opens = { λ old name desk new.
         OpensFile S.finds S.Store old.files name desk.desk new.files };
@@ -107,23 +107,23 @@ impl<S: TableFile> OfficeFiles for DiskFiles<S> {
         laws.opens_stored S.may_hold S.is_reliable S.Store.own S.finds S.finds_held
         old.files new.files name desk.desk office };
 
-    ghost refuses_stored = { λ old new name end office next refuses.
-        laws.refuses_stored S.may_hold S.is_reliable S.Store.own S.finds S.finds_held
-        S.refuses S.refuses_held (LetsGo S.gives_up S.Store.own)
-        (laws.let_go_held S.Store.own S.may_hold S.is_reliable S.gives_up S.gives_up_held)
-        old.files new.files name office next refuses.1 };
+    ghost refuses_held = { λ old new name end db refuses.
+        laws.refuses_held S.may_hold S.is_reliable S.Store.own S.finds S.finds_held
+        S.refuses S.refuses_held S.gives_up S.gives_up_held
+        old.files new.files name db refuses.1 };
 
-    ghost closes_stored = { λ old new name desk.
-        laws.closes_stored S.may_hold S.is_reliable S.Store.own (LetsGo S.closes S.Store.own)
-        (laws.let_go_held S.Store.own S.may_hold S.is_reliable S.closes S.closes_held)
-        old.files new.files name desk.desk };
+    ghost closes_held = { λ old new name desk db closes reliable may. (
+      db,
+      (laws.let_go_held S.Store.own S.may_hold S.is_reliable S.closes S.closes_held
+          old.files new.files name desk.desk closes reliable).1 db may,
+      (λ office whole. whole),
+    ) };
 
     ghost closes_reliable = { λ old new name desk closes reliable.
         (laws.let_go_held S.Store.own S.may_hold S.is_reliable S.closes S.closes_held
         old.files new.files name desk.desk closes reliable).0 };
 
-    ghost creates_stored = { λ old new name end creates.
-        laws.creates_stored S.may_hold S.is_reliable S.Store.own (LetsGo S.closes S.Store.own)
-        (laws.let_go_held S.Store.own S.may_hold S.is_reliable S.closes S.closes_held)
-        S.finds S.refuses S.removes S.makes old.files new.files name end creates.1 };
+    ghost creates_held = { λ old new name end db creates.
+        laws.creates_held S.may_hold S.is_reliable S.Store.own S.closes S.closes_held
+        S.finds S.refuses S.removes S.makes old.files new.files name end db creates.1 };
 }

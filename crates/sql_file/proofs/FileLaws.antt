@@ -48,52 +48,38 @@ let_go_held g MayHold IsReliable Does law old new name conn (store, quiet, does)
     (omega (arith, quiet.clean, it.clean), λ db may. quiet.outcomes db (it.left db may))
 
 module _ {F S : Type 0} (MayHold : F → List ℕ → Trees → Type 0) (IsReliable : F → Type 0) (g : store.Ghosts S) where
-  -- all that the file of that name may hold is whole of one of these offices
-  abbrev pub Stores : F → List ℕ → OfficeLists → OfficeLists → Type 0
-  Stores files name office next = (db : Trees) → MayHold files name db → IsWholeDesk db office ⊎ IsWholeDesk db next
-
-  module _ (Finds : F → List ℕ → Held S → F → Type 0) (finds_held : (old new : F) (name : List ℕ) (conn : Held S) → Finds old name conn new
-      → (HasCleanDisk (state g conn) → MayHold old name (state g conn).now.trees) × ((db : Trees) → (state g conn).may_leave db → MayHold old name db)) where
-    -- the office that a file stores is the one that is opened
-    pub opens_stored : (old new : F) (name : List ℕ) (desk : Held S) (office : OfficeLists) → OpensFile Finds g old name desk new → HasCleanDisk (state g desk) → Stores old name office office
+  module _ (Finds : F → List ℕ → Held S → F → Type 0) (finds_held : (old new : F) (name : List ℕ) (conn : Held S) → Finds old name conn new → HasCleanDisk (state g conn) → MayHold old name (state g conn).now.trees) where
+    -- the office that is opened is the one as which all is opened that the file may hold
+    pub opens_stored : (old new : F) (name : List ℕ) (desk : Held S) (office : OfficeLists) → OpensFile Finds g old name desk new → HasCleanDisk (state g desk) → ((db : Trees) → MayHold old name db → IsWholeDesk db office)
         → Stands (state g desk) office × ((db : Trees) → (state g desk).may_leave db → IsWholeDesk db office)
     opens_stored old new name desk office (first, finds, tables) clean stores =
         let early : HasCleanDisk (state g first) = omega (arith, tables.survives.clean, clean) in
-        let whole : IsWholeDesk (state g first).now.trees office =
-        elim (stores (state g first).now.trees ((finds_held old new name first finds).0 early)) [ inl whole ↦ whole | inr whole ↦ whole ] in
-        let it = tables.whole clean office whole in
+        let it = tables.whole clean office (stores (state g first).now.trees (finds_held old new name first finds early)) in
         (it.0, λ db may. (Two, it.1 db may))
 
-    -- a file that is refused stores what it stored
-    pub refuses_stored : (Refuses : F → List ℕ → F → Type 0) → ((old new : F) (name : List ℕ) (db : Trees) → Refuses old name new → IsReliable new → MayHold new name db → MayHold old name db)
-        → (GivesUp : F → List ℕ → Held S → F → Type 0) → ((old new : F) (name : List ℕ) (conn : Held S) → GivesUp old name conn new → IsReliable new → HasCleanDisk (state g conn) × ((db : Trees) → MayHold new name db → (state g conn).may_leave db))
-        → (old new : F) (name : List ℕ) (office next : OfficeLists) → RefusesFile Finds Refuses GivesUp g old name new → IsReliable new → Stores old name office next → Stores new name office next
-    refuses_stored Refuses refused GivesUp given_up old new name office next (inl same) reliable stores = subst (λ (f : F). Stores f name office next) (sym same) stores
-    refuses_stored Refuses refused GivesUp given_up old new name office next (inr (inl refuses)) reliable stores = λ db may. stores db (refused old new name db refuses reliable may)
-    refuses_stored Refuses refused GivesUp given_up old new name office next (inr (inr (between, first, finds, (back, survives, gives_up)))) reliable stores = λ db may.
-        let it = given_up between new name back gives_up reliable in
-        let early : HasCleanDisk (state g first) = omega (arith, survives.clean, it.0) in
-        let held = finds_held old between name first finds in
-        elim (survives.crash it.0 db (it.1 db may)) [
-          | inl was ↦ stores db (held.1 db was)
-          | inr moved ↦
-              elim (stores (state g first).now.trees (held.0 early)) [
-                | inl whole ↦ inl (moved_whole g (state g first) db office moved whole)
-                | inr whole ↦ inr (moved_whole g (state g first) db next moved whole)
-              ]
+    -- what a file that is refused may hold it could hold before, or it is opened as what it could hold
+    pub refuses_held : (Refuses : F → List ℕ → F → Type 0) → ((old new : F) (name : List ℕ) (db : Trees) → Refuses old name new → IsReliable new → MayHold new name db → MayHold old name db)
+        → (GivesUp : F → List ℕ → S → F → Type 0) → ((old between new : F) (name : List ℕ) (conn : Held S) (store : S) → Finds old name conn between → GivesUp between name store new → IsReliable new
+        → HoldsWhatIsLeft g store (MayHold new name) × ((db : Trees) → (state g conn).may_leave db → MayHold old name db))
+        → (old new : F) (name : List ℕ) (db : Trees) → RefusesFile Finds Refuses (LetsGo GivesUp g) g old name new → IsReliable new → MayHold new name db
+        → (was : Trees) × MayHold old name was × ((office : OfficeLists) → IsWholeDesk was office → IsWholeDesk db office)
+    refuses_held Refuses refused GivesUp given_up old new name db (inl same) reliable may = (db, subst (λ (f : F). MayHold f name db) same may, λ office whole. whole)
+    refuses_held Refuses refused GivesUp given_up old new name db (inr (inl refuses)) reliable may = (db, refused old new name db refuses reliable may, λ office whole. whole)
+    refuses_held Refuses refused GivesUp given_up old new name db (inr (inr (between, first, finds, (back, survives, (store, quiet, gives_up))))) reliable may =
+        let it = given_up old between new name first store finds gives_up reliable in
+        let clean : HasCleanDisk (state g back) = omega (arith, quiet.clean, it.0.clean) in
+        let early : HasCleanDisk (state g first) = omega (arith, survives.clean, clean) in
+        elim (survives.crash clean db (quiet.outcomes db (it.0.left db may))) [
+          | inl was ↦ (db, it.1 db was, λ office whole. whole)
+          | inr moved ↦ ((state g first).now.trees, finds_held old between name first finds early, λ office whole. moved_whole g (state g first) db office moved whole)
         ]
 
-  module _ (Closes : F → List ℕ → Held S → F → Type 0) (closes_held : (old new : F) (name : List ℕ) (conn : Held S) → Closes old name conn new → IsReliable new → HasCleanDisk (state g conn) × ((db : Trees) → MayHold new name db → (state g conn).may_leave db)) where
-    -- a file that is closed stores what a crash leaves of it
-    pub closes_stored : (old new : F) (name : List ℕ) (conn : Held S) (office next : OfficeLists) → Closes old name conn new → IsReliable new
-        → ((db : Trees) → (state g conn).may_leave db → IsWholeDesk db office ⊎ IsWholeDesk db next) → Stores new name office next
-    closes_stored old new name conn office next closes reliable leaves db may = leaves db ((closes_held old new name conn closes reliable).1 db may)
-
-    -- a file in which a desk was made stores the office that holds nothing
-    pub creates_stored : (Finds : F → List ℕ → Held S → F → Type 0) (Refuses Removes Makes : F → List ℕ → F → Type 0) (old new : F) (name : List ℕ) (end : Ending)
-        → CreatesFile Finds Refuses Removes Closes Makes g old name end new → IsReliable new → end.status ≡ 0 → Stores new name empty_office empty_office
-    creates_stored Finds Refuses Removes Makes old new name end (inl refused) reliable zero = absurd (unmade end refused.0 zero)
-    creates_stored Finds Refuses Removes Makes old new name end (inr (made, makes, inl (between, first, conn, finds, creates, leaves, survives, closes))) reliable zero = λ db may.
-        let it = closes_held between new name conn closes reliable in
-        inl (Two, leaves zero it.0 db (it.1 db may))
-    creates_stored Finds Refuses Removes Makes old new name end (inr (made, makes, inr (between, refuses, removed, ends))) reliable zero = absurd (unconnected end ends zero)
+  module _ (Closes : F → List ℕ → S → F → Type 0) (closes_held : (old new : F) (name : List ℕ) (store : S) → Closes old name store new → IsReliable new → HoldsWhatIsLeft g store (MayHold new name)) where
+    -- a file in which a desk was made is opened as the office that holds nothing
+    pub creates_held : (Finds : F → List ℕ → Held S → F → Type 0) (Refuses Removes Makes : F → List ℕ → F → Type 0) (old new : F) (name : List ℕ) (end : Ending) (db : Trees)
+        → CreatesFile Finds Refuses Removes (LetsGo Closes g) Makes g old name end new → IsReliable new → end.status ≡ 0 → MayHold new name db → IsWholeDesk db empty_office
+    creates_held Finds Refuses Removes Makes old new name end db (inl refused) reliable zero may = absurd (unmade end refused.0 zero)
+    creates_held Finds Refuses Removes Makes old new name end db (inr (made, makes, inl (between, first, finds, (conn, creates, leaves, survives, closes)))) reliable zero may =
+        let it = let_go_held g MayHold IsReliable Closes closes_held between new name conn closes reliable in
+        (Two, leaves zero it.0 db (it.1 db may))
+    creates_held Finds Refuses Removes Makes old new name end db (inr (made, makes, inr (between, refuses, removed, ends))) reliable zero may = absurd (unconnected end ends zero)

@@ -1,3 +1,5 @@
 pub mod ClosedFiles
 pub mod MadeFiles
 pub mod OpenedFiles
+pub mod SystemHeld
+pub mod SystemLaws

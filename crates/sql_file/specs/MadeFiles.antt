@@ -8,15 +8,21 @@ use Rattle.cli_exit.specs.declared.ended.ExitError.TheVariants as fault
 use Rattle.file_probe.specs.FileEndings.{EndsUnmade}
 use Rattle.sql_open.specs.Opened.{SurvivesMaking}
 
+-- the tables of a desk were made in a database, or not, and the file of that name was closed
+abbrev pub MakesIn : {F S : Type 0} → (F → List ℕ → Held S → F → Type 0) → store.Ghosts S
+    → F → List ℕ → Held S → Ending → F → Type 0
+MakesIn {S = S} Closes g before name first end after =
+    (made : Held S) × Creates (state g first) (state g made) end × LeavesNewDesk g made end
+    × SurvivesMaking g first made × Closes before name made after
+
 module _ {F S : Type 0} (Finds : F → List ℕ → Held S → F → Type 0)
     (Refuses Removes : F → List ℕ → F → Type 0) (Closes : F → List ℕ → Held S → F → Type 0) where
-  -- a database was found in the file of that name, the tables of a desk were made in it, or not,
-  -- and it was closed; or none was found there, and the file is removed, or not
+  -- a database was found in the file of that name, and that was done with it; or none was found
+  -- there, and the file is removed, or not
   abbrev pub MakesTables : store.Ghosts S → F → List ℕ → Ending → F → Type 0
   MakesTables g before name end after =
-      ((between : F) × (first made : Held S) × Finds before name first between
-      × Creates (state g first) (state g made) end × LeavesNewDesk g made end
-      × SurvivesMaking g first made × Closes between name made after)
+      ((between : F) × (first : Held S) × Finds before name first between
+      × MakesIn Closes g between name first end after)
       ⊎ ((between : F) × Refuses before name between
       × ((after ≡ between) ⊎ Removes between name after)
       × ((end ≡ ended_by fault.Store) ⊎ (end ≡ ended_by fault.Memory)))

@@ -1,5 +1,5 @@
 //! Files that hold tables.
-ghost use Rattle.std.specs.Prelude.{◌≡◌, false, ℕ, List, IfErr, IfOk, OnErr};
+ghost use Rattle.std.specs.Prelude.{◌≡◌, false, true, ℕ, List, [], IfErr, IfOk, OnErr};
 ghost use Rattle.cli_exit.specs.Endings.{ended_view};
 ghost use Rattle.file_probe.specs.FileEndings.{EndsUnmade, FailsToConnect};
 ghost use Rattle.sql_open.specs.Rising.{RowsRise};
@@ -11,6 +11,7 @@ ghost use Rattle.sql_file.specs.declared.files.SystemFiles.{SystemFiles};
 
 use cli_exit::Ended;
 use file_probe::FileState;
+use http_server::Log;
 use sqlite::{Alter, Connection};
 use std::rt::HostRuntime;
 
@@ -27,16 +28,37 @@ pub enum ConnectError {
     Store,
 }
 
-/// The files of a system, by their names.
+/// The files of a system, of which a program opens one, and once: what a file holds is known as it is
+/// opened first, and then by the store that was let go.
 #[derive(Drop)]
-pub struct SystemFiles {
+pub struct SystemFiles<S> {
     pub(crate) system: HostRuntime,
+    /// Whether a file was opened, or removed.
+    pub(crate) is_used: bool,
+    /// The stores that were let go. Only clauses read them.
+    pub(crate) let_go: Log<S, ()>,
 }
 
-impl SystemFiles {
+impl<S> SystemFiles<S> {
     /// The files of this system.
-    pub fn new(system: HostRuntime) -> SystemFiles {
-        SystemFiles { system }
+    pub fn new(system: HostRuntime) -> SystemFiles<S>
+        ensures unused { result.is_used ≡ false }
+        ensures none { result.let_go.items ≡ [] }
+    {
+        SystemFiles {
+            system,
+            is_used: false,
+            let_go: Log::new(),
+        }
+    }
+
+    /// Marks that a file was opened, or removed, and that none was closed.
+    pub(crate) fn use_up(&mut self)
+        ensures used { self.new.is_used ≡ true }
+        ensures none { self.new.let_go.items ≡ [] }
+    {
+        self.is_used = true;
+        self.let_go = Log::new();
     }
 }
 
@@ -44,50 +66,50 @@ impl SystemFiles {
 /// becomes of the files.
 pub trait TableFile: Alter + Drop {
     /// So far the files return what was written to them, and nothing else writes to them.
-    ghost is_reliable: { SystemFiles → Type 0 };
+    ghost is_reliable: { SystemFiles Self → Type 0 };
 
     /// The file of that name may hold these tables, in it and in its log.
-    ghost may_hold: { SystemFiles → List ℕ → Trees → Type 0 };
+    ghost may_hold: { SystemFiles Self → List ℕ → Trees → Type 0 };
 
     /// Holds of the files, a name, the file of that name as it is opened as a database, and the files
     /// as they are then.
-    ghost finds: { SystemFiles → List ℕ → Held Self → SystemFiles → Type 0 };
+    ghost finds: { SystemFiles Self → List ℕ → Held Self → SystemFiles Self → Type 0 };
 
     /// Holds of the files, a name under which no database is opened, and the files as they are then.
-    ghost refuses: { SystemFiles → List ℕ → SystemFiles → Type 0 };
+    ghost refuses: { SystemFiles Self → List ℕ → SystemFiles Self → Type 0 };
 
     /// Holds of the files, a name under which an empty file is made, if nothing has it, and the files
     /// as they are then.
-    ghost makes: { SystemFiles → List ℕ → SystemFiles → Type 0 };
+    ghost makes: { SystemFiles Self → List ℕ → SystemFiles Self → Type 0 };
 
     /// Holds of the files, a name whose file is removed, and the files as they are then.
-    ghost removes: { SystemFiles → List ℕ → SystemFiles → Type 0 };
+    ghost removes: { SystemFiles Self → List ℕ → SystemFiles Self → Type 0 };
 
     /// Holds of the files, a name, the store of the file of that name as it is given up, and the files
     /// as they are then.
-    ghost gives_up: { SystemFiles → List ℕ → Self → SystemFiles → Type 0 };
+    ghost gives_up: { SystemFiles Self → List ℕ → Self → SystemFiles Self → Type 0 };
 
     /// Holds of the files, a name, the store of the file of that name as it is closed, and the files
     /// as they are then.
-    ghost closes: { SystemFiles → List ℕ → Self → SystemFiles → Type 0 };
+    ghost closes: { SystemFiles Self → List ℕ → Self → SystemFiles Self → Type 0 };
 
     /// What stands under a name, and in the log beside it.
-    fn probe(files: &SystemFiles, name: &str) -> Result<FileState, Ended>
+    fn probe(files: &SystemFiles<Self>, name: &str) -> Result<FileState, Ended>
         ensures { IfErr result (λ ended. FailsToConnect (ended_view ended)) };
 
     /// Makes an empty file that its owner alone can read and write, and tells whether it did. What
     /// stands under that name already is left as it is.
-    fn make_file(files: &mut SystemFiles, name: &str) -> Result<bool, Ended>
+    fn make_file(files: &mut SystemFiles<Self>, name: &str) -> Result<bool, Ended>
         ensures made { IfOk result (λ _. makes files.old name.now files.new) }
         ensures unmade { IfErr result
             (λ ended. EndsUnmade (ended_view ended) × (files.new ≡ files.old)) };
 
     /// Removes a file that was just made.
-    fn remove_file(files: &mut SystemFiles, name: &str)
+    fn remove_file(files: &mut SystemFiles<Self>, name: &str)
         ensures { removes files.old name.now files.new };
 
     /// Opens a file as a database. It is made where it is not there.
-    fn connect(files: &mut SystemFiles, name: &str) -> Result<Connection<Self>, ConnectError>
+    fn connect(files: &mut SystemFiles<Self>, name: &str) -> Result<Connection<Self>, ConnectError>
         ensures found { IfOk result (λ conn. finds files.old name.now conn files.new) }
         ensures none { IfOk result (λ conn. conn.in_transaction ≡ false) }
         ensures rising { IfOk result (λ conn. HasCleanDisk (state Self.Store conn)
@@ -96,32 +118,34 @@ pub trait TableFile: Alter + Drop {
 
     /// Gives up a file that is open. What was not committed is lost, and nothing is copied from its
     /// log.
-    fn give_up(self, files: &mut SystemFiles, name: &str)
+    fn give_up(self, files: &mut SystemFiles<Self>, name: &str)
         ensures { gives_up files.old name.now self files.new };
 
     /// Copies what was committed from the log into the file, and closes both. What was not committed
     /// is lost. Where copying fails, what was committed is in the log, and the next opening finds it
     /// there.
-    fn close(self, files: &mut SystemFiles, name: &str)
+    fn close(self, files: &mut SystemFiles<Self>, name: &str)
         ensures { closes files.old name.now self files.new };
 
-    /// A file that is opened held what is found in it, and what a crash may leave of it.
-    ghost finds_held: { (old new : SystemFiles) (name : List ℕ) (conn : Held Self)
-        → finds old name conn new
-        → (HasCleanDisk (state Self.Store conn)
-        → may_hold old name (state Self.Store conn).now.trees)
-        × ((db : Trees) → (state Self.Store conn).may_leave db → may_hold old name db) };
+    /// A file that is opened held what is found in it.
+    ghost finds_held: { (old new : SystemFiles Self) (name : List ℕ) (conn : Held Self)
+        → finds old name conn new → HasCleanDisk (state Self.Store conn)
+        → may_hold old name (state Self.Store conn).now.trees };
 
     /// A file that is refused holds what it held.
-    ghost refuses_held: { (old new : SystemFiles) (name : List ℕ) (db : Trees) → refuses old name new
-        → is_reliable new → may_hold new name db → may_hold old name db };
+    ghost refuses_held: { (old new : SystemFiles Self) (name : List ℕ) (db : Trees)
+        → refuses old name new → is_reliable new → may_hold new name db → may_hold old name db };
 
-    /// A file that is given up holds what a crash may leave of it, and its disk returned what was
+    /// A file that is given up holds what a crash may leave of it, its disk returned what was written,
+    /// and it held what a crash could leave of it as it was opened.
+    ghost gives_up_held: { (old between new : SystemFiles Self) (name : List ℕ) (conn : Held Self)
+        (store : Self) → finds old name conn between → gives_up between name store new
+        → is_reliable new → HoldsWhatIsLeft Self.Store store (may_hold new name)
+        × ((db : Trees) → (state Self.Store conn).may_leave db → may_hold old name db) };
+
+    /// A file that is closed holds what a crash may leave of it, and its disk returned what was
     /// written.
-    ghost gives_up_held: { (old new : SystemFiles) (name : List ℕ) (store : Self)
-        → gives_up old name store new → is_reliable new → HoldsWhatIsLeft Self.Store store (may_hold new name) };
-
-    /// So does a file that is closed.
-    ghost closes_held: { (old new : SystemFiles) (name : List ℕ) (store : Self)
-        → closes old name store new → is_reliable new → HoldsWhatIsLeft Self.Store store (may_hold new name) };
+    ghost closes_held: { (old new : SystemFiles Self) (name : List ℕ) (store : Self)
+        → closes old name store new → is_reliable new
+        → HoldsWhatIsLeft Self.Store store (may_hold new name) };
 }

@@ -9,4 +9,5 @@ mod system;
 
 pub use files::{ConnectError, SystemFiles, TableFile};
 pub use opening::{close, create, open};
-pub use system::DeskFile;
+pub use sqlite::Wary;
+pub use system::{Begins, DeskFile};

@@ -3,7 +3,7 @@ ghost use Rattle.std.specs.Prelude.{◌≡◌, false, IfErr, IfOk};
 ghost use Rattle.cli_exit.specs.Endings.{ended_by, ended_view};
 ghost use Rattle.file_probe.specs.FileEndings.{EndsCreating, EndsOpening};
 ghost use Rattle.sql_file.specs.ClosedFiles.{LetsGo};
-ghost use Rattle.sql_file.specs.MadeFiles.{CreatesFile, MakesTables};
+ghost use Rattle.sql_file.specs.MadeFiles.{CreatesFile, MakesIn, MakesTables};
 ghost use Rattle.sql_file.specs.OpenedFiles.{OpensFile, OpensTables, RefusesFile, RefusesTables};
 ghost use Rattle.sql_file.specs.OpenedFiles.{making_fault, opening_fault};
 ghost use Rattle.sql_open.specs.Rising.{RowsRise};
@@ -38,30 +38,36 @@ fn by_opening(error: ConnectError) -> Ended
 }
 
 /// Closes the file of that name, of which this is the connection. What is not committed is lost.
-pub fn close<S: TableFile>(files: &mut SystemFiles, name: &str, conn: Connection<S>)
+pub fn close<S: TableFile>(files: &mut SystemFiles<S>, name: &str, conn: Connection<S>)
     ensures { LetsGo S.closes S.Store files.old name.now conn files.new }
 {
     conn.into_store().close(files, name);
 }
 
 /// Gives up the file of that name, of which this is the connection. What is not committed is lost.
-fn give_up<S: TableFile>(files: &mut SystemFiles, name: &str, conn: Connection<S>)
+fn give_up<S: TableFile>(files: &mut SystemFiles<S>, name: &str, conn: Connection<S>)
     ensures { LetsGo S.gives_up S.Store files.old name.now conn files.new }
 {
     conn.into_store().give_up(files, name);
 }
 
+/// Makes the tables of a new desk in the file of that name, of which this is the connection, and
+/// closes it.
+fn make_in<S: TableFile>(files: &mut SystemFiles<S>, name: &str, conn: Connection<S>) -> Ended
+    ensures { MakesIn (LetsGo S.closes S.Store) S.Store files.old name.now conn (ended_view result) files.new }
+{
+    let (ended, conn) = init(conn);
+    close(files, name, conn);
+    ended
+}
+
 /// Makes the tables of a new desk in a file that there is, and closes it. A file that was made for it
 /// is removed where the system refuses its name or that of its log.
-fn create_in<S: TableFile>(files: &mut SystemFiles, name: &str, is_new: bool) -> Ended
+fn create_in<S: TableFile>(files: &mut SystemFiles<S>, name: &str, is_new: bool) -> Ended
     ensures { MakesTables S.finds S.refuses S.removes (LetsGo S.closes S.Store) S.Store files.old name.now (ended_view result) files.new }
 {
     match S::connect(files, name) {
-        Ok(conn) => {
-            let (ended, conn) = init(conn);
-            close(files, name, conn);
-            ended
-        }
+        Ok(conn) => make_in(files, name, conn),
         Err(error) => {
             if is_new && error == ConnectError::CannotOpen {
                 S::remove_file(files, name);
@@ -77,7 +83,7 @@ fn create_in<S: TableFile>(files: &mut SystemFiles, name: &str, is_new: bool) ->
 /// file holds a table, an index or a view, or where a desk left its log beside this name and no
 /// file, or one that is empty or a single byte: both are left as they are. It ends with 3 and
 /// `Store` or `Memory` where it fails.
-pub fn create<S: TableFile>(files: &mut SystemFiles, name: &str) -> Ended
+pub fn create<S: TableFile>(files: &mut SystemFiles<S>, name: &str) -> Ended
     ensures creates { CreatesFile S.finds S.refuses S.removes (LetsGo S.closes S.Store) S.makes
         S.Store files.old name.now (ended_view result) files.new }
     ensures ends { EndsCreating (ended_view result) }
@@ -95,7 +101,7 @@ pub fn create<S: TableFile>(files: &mut SystemFiles, name: &str) -> Ended
 /// too.
 pub fn open<S: TableFile>(
     alloc: Global,
-    files: &mut SystemFiles,
+    files: &mut SystemFiles<S>,
     name: &str,
 ) -> Result<Connection<S>, Ended>
     ensures opened { IfOk result
@@ -118,7 +124,7 @@ pub fn open<S: TableFile>(
 /// they are refused the file is given up.
 fn opened<S: TableFile>(
     alloc: Global,
-    files: &mut SystemFiles,
+    files: &mut SystemFiles<S>,
     name: &str,
     conn: Connection<S>,
 ) -> Result<Connection<S>, Ended>
