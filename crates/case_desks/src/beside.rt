@@ -79,6 +79,11 @@ impl Beside {
         self.book = book;
     }
 
+    /// The keys that the office loaded last.
+    pub(crate) fn keys(&self) -> Result<KeyRows, AllocError> {
+        self.keys.copy()
+    }
+
     /// Takes a word that may be a party's name, where it begins with a letter.
     fn take_party(&mut self, word: &[u8]) -> Result<(), AllocError> {
         if let (Some(b'A'..=b'Z'), Some(party)) = (word.first(), read_party(word)) {

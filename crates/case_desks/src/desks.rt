@@ -1,19 +1,27 @@
-//! A desk over a database in memory, with a book and a desk that is asked over HTTP beside it.
+//! A desk over a database in memory, with a book, a desk that is asked over HTTP and the program over
+//! a host in memory beside it.
 //!
 //! The book makes the same calls, and has to answer alike; after each call, each file that is
 //! loaded and each opening the two have to hold the same, as `beside` tells, and the desk has to
 //! read just that where it reads one meeting or one party alone. The second desk is asked the same
-//! over HTTP, wherever a verb has a method, and has to reply with the same JSON.
+//! over HTTP, wherever a verb has a method, and has to reply with the same JSON. The program holds
+//! the same office: it serves the same requests, loads the same files and prints the same results,
+//! each by a run of its own, and has to end and to print alike. Where statements changed the tables,
+//! the next opening gives it the desk's book.
 use crate::asked::failure_word;
 use crate::beside::Beside;
 use crate::memory_desk::MemoryDesk;
 use crate::served::Served;
 use byte_io::VecSink;
+use case_hosts::Hosted;
 use case_steps::{Answer, Handed, ended_text};
 use cli_exit::Ended;
 use desk_words::{Call, Caller, Moment, read_key, read_meeting, read_moment};
 use replay::{Scratch, call_of};
 use std::alloc::{AllocError, Global};
+
+/// What is replied where a request is not served.
+const NO_REPLY: &str = "no reply";
 
 /// A desk over a database in memory, and a book and a further desk that make the same calls.
 #[derive(Drop)]
@@ -22,6 +30,7 @@ pub(crate) struct Desks<T> {
     tables: T,
     beside: Beside,
     served: Served<T>,
+    hosted: Hosted,
     /// Whether a statement was run since a desk last had the database.
     is_altered: bool,
 }
@@ -34,6 +43,7 @@ impl<T: MemoryDesk> Desks<T> {
             tables: T::new(alloc)?,
             beside: Beside::new(alloc),
             served: Served::new(alloc)?,
+            hosted: Hosted::new(alloc),
             is_altered: false,
         })
     }
@@ -64,11 +74,23 @@ impl<T: MemoryDesk> Desks<T> {
     /// Takes the desk's own book as the one beside it, where statements changed the tables.
     fn take_altered(&mut self) {
         if self.is_altered {
-            if let Some(Ok(book)) = self.tables.book() {
+            if let (Some(Ok(book)), Some(Ok(again))) = (self.tables.book(), self.tables.book()) {
                 self.beside.set_book(book);
+                self.hosted.set_book(again);
                 self.is_altered = false;
             }
         }
+    }
+
+    /// Makes a desk of the database, and where that is done an office that the program holds.
+    fn create(&mut self) -> Result<Answer, AllocError> {
+        self.served.alter("create", "");
+        let word = self.tables.create();
+        let mut answer = Answer::of(self.alloc, word)?;
+        if word == "created" {
+            self.hosted.create(&mut answer.wrong)?;
+        }
+        Ok(answer)
     }
 
     /// Opens the database as a desk.
@@ -109,7 +131,8 @@ impl<T: MemoryDesk> Desks<T> {
                 .wrong
                 .push_str("the book beside it answers otherwise\n")?;
         }
-        self.served.call(line, &reply, &mut answer.wrong)
+        self.served.call(line, &reply, &mut answer.wrong)?;
+        self.hosted.call(line, &reply, &mut answer.wrong)
     }
 
     /// The answer to a call, whose reply can be shown or not for want of memory; then the book
@@ -158,6 +181,12 @@ impl<T: MemoryDesk> Desks<T> {
         self.compare(&mut answer.wrong)
     }
 
+    /// Gives the program's office the keys that it loaded last, in place of that of a call.
+    fn give_keys(&mut self, moment: Moment) -> Result<(), AllocError> {
+        let keys = self.beside.keys()?;
+        self.hosted.give_keys(moment, keys)
+    }
+
     /// Loads the file by a command of the office.
     fn load(&mut self, command: &str, words: &str, file: &[u8]) -> Result<Answer, AllocError> {
         let Some(handed) = Handed::read(command, words, file) else {
@@ -168,6 +197,9 @@ impl<T: MemoryDesk> Desks<T> {
             return Answer::of(self.alloc, "no desk");
         };
         let mut answer = Answer::new(self.alloc, ended_text(self.alloc, ended)?);
+        self.give_keys(handed.now)?;
+        self.hosted
+            .load(command, words, &handed, &answer.text, &mut answer.wrong)?;
         self.compare_load(&handed, &mut answer)?;
         Ok(answer)
     }
@@ -181,8 +213,8 @@ impl<T: MemoryDesk> Desks<T> {
 
     /// The results that are printed of a meeting, and how the command ends. It is wrong where the
     /// book beside the desk prints something else, or else than the front of it where a write fails.
-    fn results(&mut self, meeting: &str) -> Result<Answer, AllocError> {
-        let Some(meeting) = read_meeting(meeting.as_bytes()) else {
+    fn results(&mut self, words: &str) -> Result<Answer, AllocError> {
+        let Some(meeting) = read_meeting(words.as_bytes()) else {
             return Answer::of(self.alloc, "no meeting");
         };
         let mut sink = VecSink::new(self.alloc);
@@ -192,6 +224,7 @@ impl<T: MemoryDesk> Desks<T> {
         let mut answer = self.printed(sink.as_slice(), ended)?;
         self.beside
             .compare_results(meeting, sink.as_slice(), &mut answer.wrong)?;
+        self.hosted.results(words, &answer.text, &mut answer.wrong)?;
         Ok(answer)
     }
 
@@ -199,7 +232,7 @@ impl<T: MemoryDesk> Desks<T> {
     fn reply_to(&mut self, moment: Moment, request: &[u8]) -> Result<String, AllocError> {
         let mut sink = VecSink::new(self.alloc);
         if !self.tables.serve(moment, request, &mut sink) {
-            return String::from_str(self.alloc, "no reply");
+            return String::from_str(self.alloc, NO_REPLY);
         }
         String::from_utf8_lossy(self.alloc, sink.as_slice())
     }
@@ -235,6 +268,10 @@ impl<T: MemoryDesk> Desks<T> {
         let mut answer = Answer::new(self.alloc, reply);
         if is_cut {
             self.compare_prefixes(moment, request, &mut answer)?;
+        } else if answer.text.as_str() != NO_REPLY {
+            self.give_keys(moment)?;
+            self.hosted
+                .serve_alike(moment, request, &answer.text, &mut answer.wrong)?;
         }
         self.compare(&mut answer.wrong)?;
         Ok(answer)
@@ -244,7 +281,6 @@ impl<T: MemoryDesk> Desks<T> {
     fn word(&mut self, command: &str, rest: &str) -> &'static str {
         self.served.alter(command, rest);
         match command {
-            "create" => self.tables.create(),
             "close" => self.tables.close(),
             "sql" => self.execute(rest),
             "caller" => self.caller(rest),
@@ -261,6 +297,7 @@ impl<T: MemoryDesk> Desks<T> {
     ) -> Result<Answer, AllocError> {
         match command {
             "new" => self.renew(),
+            "create" => self.create(),
             "open" => self.open(),
             "call" => self.call(words, true),
             "unshown" => self.call(words, false),

@@ -1,16 +1,13 @@
 //! A desk that is asked over HTTP, beside the one that is asked by calls.
 use crate::memory_desk::MemoryDesk;
 use byte_io::VecSink;
+use case_hosts::{KEY, request_text};
 use case_steps::Handed;
 use desk_words::{
     Call, Caller, DeskRequest, KeyRow, KeyRows, ListFault, Moment, Request, read_key,
 };
-use http_routes::{method_of, target_route};
 use replay::{Scratch, call_of};
 use std::alloc::{AllocError, Global};
-
-/// The key of whoever makes the call.
-const KEY: &str = "the-key-of-a-caller";
 
 /// A desk over a database in memory that is asked over HTTP wherever a verb has a method. It knows
 /// the caller of the call that is made, and nobody else.
@@ -18,23 +15,6 @@ const KEY: &str = "the-key-of-a-caller";
 pub(crate) struct Served<T> {
     alloc: Global,
     tables: T,
-}
-
-/// The request over HTTP that a line of a replay asks, where its verb has a method.
-fn request_text(alloc: Global, line: &str) -> Result<Option<String>, AllocError> {
-    let mut parts = line.splitn(5, ' ').skip(2);
-    let (Some(meeting), Some(verb)) = (parts.next(), parts.next()) else {
-        return Ok(None);
-    };
-    let body = parts.next().unwrap_or("");
-    let target = format!(in alloc; "/m/{meeting}/{verb}")?;
-    let Some(route) = target_route(target.as_bytes()) else {
-        return Ok(None);
-    };
-    let method = method_of(&route);
-    let head = format!(in alloc; "{method} {target} HTTP/1.1\nDesk-Key: {KEY}")?;
-    let text = format!(in alloc; "{head}\nContent-Length: {}\n\n{body}", body.len())?;
-    Ok(Some(text))
 }
 
 /// The call of the office by which a caller has the key, and nobody else one.
