@@ -4,6 +4,7 @@ import contextlib
 import os
 import random
 import re
+import resource
 import shlex
 import shutil
 import socket
@@ -28,6 +29,7 @@ class Runs:
     def __init__(self, program, room):
         self.program, self.room = program, room
         self.made = self.wrong = 0
+        self.limit = None
 
     def path(self, name):
         """The path of a file in the room, which words name ./NAME; the room itself is . there."""
@@ -54,16 +56,33 @@ class Runs:
 
     def ends(self, words, status=0, output="", error="", given="", stdin=None, stdout=None):
         """Runs the program once, with this input, or from and to these files. The error is one line, or * for any text."""
+        found = self.found(words, given, stdin, stdout)
+        how = "".join(f" {sign} {file}" for sign, file in (("<", stdin), (">", stdout)) if file)
+        self.compare(f"desk {words}{how}", found, status, output, error)
+
+    def found(self, words, given="", stdin=None, stdout=None):
+        """How the program ends that is run so."""
         self.write("in", given)
         self.write("out", "")
         source = os.open(stdin or self.path("in"), os.O_RDONLY)
         with open(self.path("err"), "wb") as err, open(stdout or self.path("out"), "wb") as out:
-            how = {"stdin": source, "stdout": out, "stderr": err, "timeout": SECONDS}
+            how = {"stdin": source, "stdout": out, "stderr": err, "timeout": SECONDS, "preexec_fn": self.limit}
             returned = status_of([self.program, *self.words(words)], how)
         os.close(source)
-        found = Ended(returned, self.read("out"), self.read("err"))
-        how = "".join(f" {sign} {file}" for sign, file in (("<", stdin), (">", stdout)) if file)
-        self.compare(f"desk {words}{how}", found, status, output, error)
+        return Ended(returned, self.read("out"), self.read("err"))
+
+    @contextlib.contextmanager
+    def limited(self, size):
+        """Within it each run that is not of a served desk has so many bytes of addresses at most, and leaves no core."""
+        def limit():
+            resource.setrlimit(resource.RLIMIT_CORE, (0, 0))
+            resource.setrlimit(resource.RLIMIT_AS, (size, size))
+
+        self.limit = limit
+        try:
+            yield
+        finally:
+            self.limit = None
 
     def compare(self, what, found, status=0, output="", error=""):
         """Holds an end to what is wanted of it."""
@@ -98,11 +117,11 @@ class Runs:
         self.made += 1
         self.holds([bytes_of(part) for part in parts] == before, f"desk {words}: a file is not as it was")
 
-    def refuses_all(self, error, file):
-        """Each command but `init` ends with 3 and that line, and leaves the file and its log."""
+    def refuses_all(self, error, file, but_log=False):
+        """Each command but `init` ends with 3 and that line, and leaves the file and its log, which may be begun anew or not."""
         for words in (f"keys {file} ./keys.csv", f"days {file} ./days.txt", f"results {file} G1", f"serve {file} --port 1",
                       f"register {file} G1 2026-06-16T18:00:00 ./register.csv"):
-            self.leaves(words, 3, error)
+            self.leaves(words, 3, error, but_log=but_log)
 
     def remove(self, *names):
         """Removes the files whose names begin so."""
