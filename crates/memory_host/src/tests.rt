@@ -25,7 +25,7 @@ fn paper(alloc: Global) -> Paper {
     }
 }
 
-fn host<'a>(alloc: Global, csv: &'a [u8], moments: &'a [Moment]) -> InMemory<'a> {
+fn host<'a>(alloc: Global, moments: &'a [Moment], peers: &'a [Peer<'a>]) -> InMemory<'a> {
     Host {
         offices: OfficeFileGiven {
             alloc,
@@ -34,7 +34,7 @@ fn host<'a>(alloc: Global, csv: &'a [u8], moments: &'a [Moment]) -> InMemory<'a>
         },
         files: FileGiven {
             name: "keys.csv",
-            bytes: csv,
+            bytes: b"",
         },
         clocks: ClocksGiven { moments },
         input: SliceSource::new(b""),
@@ -43,7 +43,7 @@ fn host<'a>(alloc: Global, csv: &'a [u8], moments: &'a [Moment]) -> InMemory<'a>
         ports: PortGiven {
             alloc,
             port: 8080,
-            peers: &[],
+            peers,
         },
     }
 }
@@ -64,51 +64,11 @@ fn run_words(alloc: Global, host: &mut InMemory<'_>, given: &[&str]) -> Result<u
 }
 
 #[test]
-fn keys_are_loaded(rt: HostRuntime) -> Result<(), AllocError> {
-    let alloc = rt.alloc();
-    let csv = b"party,key\nOFFICE,office-key-0000001\n";
-    let moments = first_of_june()?;
-    let mut host = host(alloc, csv, &moments);
-    let made = run_words(alloc, &mut host, &["init", "g.desk"])?;
-    let loaded = run_words(alloc, &mut host, &["keys", "g.desk", "keys.csv"])?;
-    let lacking = run_words(alloc, &mut host, &["results", "g.desk", "G1"])?;
-    assert_eq!(rt; (made, loaded, lacking), (0, 0, 1));
-    assert_eq!(rt;
-        host.output.bytes.as_slice(),
-        b"created\nloaded\n".as_slice()
-    );
-    assert_eq!(rt;
-        host.errors.bytes.as_slice(),
-        b"refused 8 NoMeeting\n".as_slice()
-    );
-    Ok(())
-}
-
-#[test]
-fn a_script_is_answered(rt: HostRuntime) -> Result<(), AllocError> {
-    let alloc = rt.alloc();
-    let mut host = host(alloc, b"", &[]);
-    host.input = SliceSource::new(b"2026-06-01T09:00:00 Z G9 notice {}\n");
-    let answered = run_words(alloc, &mut host, &["replay"])?;
-    assert_eq!(rt; answered, 0);
-    assert_eq!(rt;
-        host.output.bytes.as_slice(),
-        b"{\"code\":8,\"refused\":\"NoMeeting\"}\n".as_slice()
-    );
-    Ok(())
-}
-
-#[test]
 fn a_port_that_is_not_there_is_not_served(rt: HostRuntime) -> Result<(), AllocError> {
     let alloc = rt.alloc();
     let moments = first_of_june()?;
     let peers = [Peer::Sends(b"GET /m/G1/notice HTTP/1.1\r\n\r\n")];
-    let mut host = host(alloc, b"", &moments);
-    host.ports = PortGiven {
-        alloc,
-        port: 8080,
-        peers: &peers,
-    };
+    let mut host = host(alloc, &moments, &peers);
     let made = run_words(alloc, &mut host, &["init", "g.desk"])?;
     let other = run_words(alloc, &mut host, &["serve", "g.desk", "--port", "8081"])?;
     let served = run_words(
