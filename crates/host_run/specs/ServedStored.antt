@@ -38,7 +38,8 @@ module _ {O D K C : Type 0} (o : offices.Ghosts O D) (k : zones.Ghosts K C)
     pub moments : List Moment
     pub bound : length moments ≤ requests
     pub gave : (moments ≡ [])
-        ⊎ ((made till : C) × k.makes clocks zone made clocks' × GivesMoments c.gives made moments till)
+        ⊎ ((made till : C) × k.makes clocks zone made clocks'
+        × GivesMoments c.gives made moments till)
     pub asked : List OfficeEvent
     pub at : AreTriedAt asked moments
     pub stores : StoresSome o offices' file (IsAfterRun held asked)
