@@ -1,9 +1,9 @@
 -- What the statements on `closed` do.
-use Rattle.std.proofs.Common.{◌≡◌, ℕ, ℤ, List, [], ◌∷◌, codes, Some, Ok, Err, Result, OnOk, IsTrue, refl, nat_lt}
+use Rattle.std.proofs.Common.{◌≡◌, ℕ, ℤ, List, [], ◌∷◌, Some, Ok, Err, Result, OnOk, IsTrue, refl, nat_lt}
 use Rattle.sqlite.specs.declared.types.Value.TheVariants.{Null, Int}
 use Rattle.sqlite.specs.Term.{Term, lit, col}
 use Rattle.sqlite.specs.Source.TheVariants.{Values}
-use Rattle.sqlite.specs.Command.TheVariants.{Insert, Delete}
+use Rattle.sqlite.specs.Command.TheVariants.{Insert}
 use Rattle.sqlite_tied.specs.Compute.{everything}
 use Rattle.sqlite.specs.declared.error.Error.{Error}
 use Rattle.sqlite.specs.Listing.{understood}
@@ -11,22 +11,14 @@ use Rattle.sqlite.specs.State.{State, ExecutesInside}
 use Rattle.sql_rows.specs.ColumnValues.{unix_day, day_in}
 use Rattle.sql_rows.specs.DeskRows.{closed_in}
 use Rattle.sql_lemmas.proofs.GivenNumbers.{days_below}
-use Rattle.sql_schema.specs.Tables.{up_to_keys, closed_table as table}
-use Rattle.sql_schema.specs.SqlTexts.{adding_text, making_text}
+use Rattle.sql_schema.specs.Tables.{closed_table as table}
+use Rattle.sql_schema.specs.SqlTexts.{adding_text}
 use Rattle.sql_schema.specs.Contents.{closed}
-use Rattle.sql_schema.specs.Statements.{IsDesk, Empties, AddsAfter, layout_two, HasTables}
+use Rattle.sql_schema.specs.Statements.{IsDesk, AddsAfter, layout_two, HasTables}
 use Rattle.sql_lemmas.proofs.Adding.{adds_numbered, means_more}
-use Rattle.sql_lemmas.proofs.Deleting.{chosen}
-use Rattle.sql_lemmas.proofs.Emptying.{empties, leaves_rows}
-use Rattle.sql_lemmas.proofs.Listing.{ListsTable, ListsAs}
-use Rattle.sql_lemmas.proofs.Making.{MakesTable}
 use Rattle.sql_lemmas.proofs.Values.{cast_null, cast_int}
 use Rattle.sql_lemmas.proofs.Frames.{twos_apart, wide_one, RunsOn}
 use Rattle.sqlite.specs.Schema.{Schema}
-
-pub makes : MakesTable up_to_keys (making_text (codes "day INTEGER NOT NULL PRIMARY KEY" ∷ []) [] table) table
-unfolding understood everything Rattle.sqlite_schema.specs.Names.same_name
-makes = record { is = refl; alone = refl; plain = (refl, refl); defined = refl; full = refl }
 
 abbrev terms : List Term
 terms = col 0 0 ∷ lit Null ∷ []
@@ -46,17 +38,3 @@ adds_day day n is old new (Ok count) was inside h = λ records known passed.
     let row = adds_numbered (twos_apart old.now.schema was.schema) 2 (record table { tree = 4 }) terms 2 (adding_text table) (Int n ∷ []) n (Null ∷ []) (add_runs old.now.schema was.schema).is (add_runs old.now.schema was.schema).plain (add_runs old.now.schema was.schema).there refl (rw (cast_null, cast_int n) refl) old new (Ok count) refl was inside
     (days_below (old.now.trees 4) records n day (was.rising 4 refl) is known passed) h in
     means_more closed (Null ∷ []) day old new row.0 (rw row.1 (means n day is))
-
-pub lists : ListsTable layout_two closed table
-unfolding understood everything
-lists = record { asks = wide_one (ListsAs closed table) (λ others apart indexes views. record { is = refl; plain = (refl, refl); unlisted = refl }); none = refl; numbered = refl }
-
-abbrev empty_text : List ℕ
-empty_text = codes "DELETE FROM closed"
-
-empty_runs : (s : Schema) → HasTables layout_two s → RunsOn s empty_text (Delete 2 (record { lets = []; body = chosen 4 [] })) 2 (record table { tree = 4 })
-unfolding understood everything
-empty_runs = wide_one (λ s. RunsOn s empty_text (Delete 2 (record { lets = []; body = chosen 4 [] })) 2 (record table { tree = 4 })) (λ others apart indexes views. record { is = refl; plain = (refl, refl); there = refl })
-
-pub empties_all : (old new : State) (r : Result ℕ Error) → IsDesk old → IsTrue old.in_transaction → ExecutesInside 0 empty_text [] old new r → OnOk r (Empties closed old new)
-empties_all old new r was inside h = empties layout_two closed old new r (leaves_rows (twos_apart old.now.schema was.schema) 2 (record table { tree = 4 }) [] empty_text [] (empty_runs old.now.schema was.schema).is (empty_runs old.now.schema was.schema).plain (empty_runs old.now.schema was.schema).there refl refl old new r refl was inside h)

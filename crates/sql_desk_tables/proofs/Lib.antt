@@ -1,5 +1,4 @@
 pub mod ClosedLemmas
-pub mod ResolutionLemmas
 pub mod TableColumnLemmas
 pub mod TableDeskLemmas
 pub mod TableKeyLemmas

@@ -1,75 +1,34 @@
 -- What the statements on `keys` do.
-use Rattle.std.proofs.Common.{◌≡◌, ℕ, List, [], ◌∷◌, codes, Some, Result, OnOk, IfOk, IfErr, IsTrue, ◌⊎◌, refl, ◌∙◌, filter}
+use Rattle.std.proofs.Common.{◌≡◌, ℕ, List, [], ◌∷◌, codes, Some, Result, IfOk, IfErr, ◌⊎◌, refl, ◌∙◌, filter}
 use Rattle.sqlite.specs.declared.types.Value.TheVariants.{Text}
 use Rattle.sqlite.specs.Order.{Row, column}
 use Rattle.sqlite.specs.Term.{Term, col, op2}
 use Rattle.sqlite.specs.Collation.TheVariants.{Binary}
 use Rattle.sqlite_sql.specs.declared.ops.BinaryOp.TheVariants.{Compare}
 use Rattle.sqlite_sql.specs.declared.ops.CompareOp.TheVariants.{Eq}
-use Rattle.sqlite.specs.Command.TheVariants.{Delete}
 use Rattle.sqlite_tied.specs.Compute.{everything}
 use Rattle.sqlite.specs.declared.error.Error.{Error}
 use Rattle.sqlite.specs.Listing.{understood}
-use Rattle.sqlite.specs.State.{State, ExecutesInside, Shown, IsUnchanged, FailsToQuery, IsTooLate, KeepsCommit}
+use Rattle.sqlite.specs.State.{State, Shown, IsUnchanged, FailsToQuery, IsTooLate, KeepsCommit}
 use Rattle.desk_words.specs.declared.caller.KeyRow.{KeyRow}
 use Rattle.sql_rows.specs.ColumnValues.{parsed_in}
 use Rattle.sql_rows.specs.DeskRows.{key_row_in}
 use Rattle.vocabulary.specs.Names.{key_of, same_name}
 use Rattle.desk_words.specs.Callers.{caller_of}
-use Rattle.sql_schema.specs.Tables.{up_to_desk, keys_table as table}
-use Rattle.sql_schema.specs.SqlTexts.{adding_text, finding_text, given_names, making_text}
+use Rattle.sql_schema.specs.Tables.{keys_table as table}
+use Rattle.sql_schema.specs.SqlTexts.{finding_text, given_names}
 use Rattle.sql_schema.specs.Contents.{keys}
-use Rattle.sql_schema.specs.Statements.{IsDesk, columns_of, records_in, Empties, layout_two, HasTables}
-use Rattle.sql_lemmas.proofs.Adding.{AddsBy, AddsGiven, adds_given}
+use Rattle.sql_schema.specs.Statements.{IsDesk, columns_of, records_in, layout_two, HasTables}
 use Rattle.sql_lemmas.proofs.Commits.{query_keeps}
-use Rattle.sql_lemmas.proofs.Deleting.{chosen, passes}
-use Rattle.sql_lemmas.proofs.Emptying.{empties, leaves_rows}
-use Rattle.sql_lemmas.proofs.Listing.{ListsTable, shown_terms, ListsAs}
-use Rattle.sql_lemmas.proofs.Making.{MakesTable}
+use Rattle.sql_lemmas.proofs.Deleting.{passes}
+use Rattle.sql_lemmas.proofs.Listing.{shown_terms}
 use Rattle.sql_lemmas.proofs.Reading.{AsksAs, sought, finds}
 use Rattle.sql_rows.specs.Meanings.{all_meanings}
 use Rattle.sql_rows.proofs.RowMeaningLemmas.{bound, option_ap}
 use Rattle.sql_lemmas.proofs.Tests.{keys_tell}
 use Rattle.std.proofs.Math.Bool.{and-true}
-use Rattle.sql_lemmas.proofs.Values.{cast_null}
-use Rattle.sql_lemmas.proofs.Frames.{twos_apart, wide_one, RunsOn}
+use Rattle.sql_lemmas.proofs.Frames.{wide_one}
 use Rattle.sqlite.specs.Schema.{Schema}
-
--- how the columns that have a key are declared
-abbrev first_columns : List (List ℕ)
-first_columns = codes "party TEXT NOT NULL PRIMARY KEY" ∷ codes "secret TEXT NOT NULL UNIQUE" ∷ []
-
-pub makes : MakesTable up_to_desk (making_text first_columns [] table) table
-unfolding understood everything Rattle.sqlite_schema.specs.Names.same_name
-makes = record { is = refl; alone = refl; plain = (refl, refl); defined = refl; full = refl }
-
-adds : (s : Schema) → HasTables layout_two s → AddsGiven layout_two s keys table
-unfolding understood everything
-adds = wide_one (λ s. AddsGiven layout_two s keys table) (λ others apart indexes views. record { place = 1; is = refl; plain = (refl, refl); there = refl; numbered = refl })
-
-pub lists : ListsTable layout_two keys table
-unfolding understood everything
-lists = record { asks = wide_one (ListsAs keys table) (λ others apart indexes views. record { is = refl; plain = (refl, refl); unlisted = refl }); none = refl; numbered = refl }
-
-module _ (k : KeyRow) (party : List ℕ) (secret : List ℕ) where
-  abbrev pub values : Row
-  values = Text party ∷ Text secret ∷ []
-
-  pub adds_key : caller_of party ≡ Some k.caller → key_of secret ≡ Some k.secret
-      → AddsBy layout_two keys (adding_text table) values k
-  unfolding key_row_in parsed_in
-  adds_key party_is secret_is =
-      adds_given twos_apart adds values values k (rw (cast_null) refl) (λ id. rw (party_is, secret_is) refl)
-
-abbrev empty_text : List ℕ
-empty_text = codes "DELETE FROM keys"
-
-empty_runs : (s : Schema) → HasTables layout_two s → RunsOn s empty_text (Delete 1 (record { lets = []; body = chosen 1 [] })) 1 (record table { tree = 1 })
-unfolding understood everything
-empty_runs = wide_one (λ s. RunsOn s empty_text (Delete 1 (record { lets = []; body = chosen 1 [] })) 1 (record table { tree = 1 })) (λ others apart indexes views. record { is = refl; plain = (refl, refl); there = refl })
-
-pub empties_all : (old new : State) (r : Result ℕ Error) → IsDesk old → IsTrue old.in_transaction → ExecutesInside 0 empty_text [] old new r → OnOk r (Empties keys old new)
-empties_all old new r was inside h = empties layout_two keys old new r (leaves_rows (twos_apart old.now.schema was.schema) 1 (record table { tree = 1 }) [] empty_text [] (empty_runs old.now.schema was.schema).is (empty_runs old.now.schema was.schema).plain (empty_runs old.now.schema was.schema).there refl refl old new r refl was inside h)
 
 abbrev find_text : List ℕ
 find_text = finding_text table (codes "secret = ?1")

@@ -1,8 +1,7 @@
 -- What the statements on `meetings` do.
-use Rattle.std.proofs.Common.{◌≡◌, ℕ, ℤ, pos, Bool, List, [], ◌∷◌, codes, true, false, Option, Some, Ok, Result, OnOk, IsTrue, refl, sym, ap, subst, ◌∙◌, if◌then◌else◌}
+use Rattle.std.proofs.Common.{◌≡◌, ℕ, ℤ, pos, Bool, List, [], ◌∷◌, codes, true, false, Some, Ok, Result, OnOk, IsTrue, refl, sym, ap, subst, ◌∙◌, if◌then◌else◌}
 use Rattle.sqlite.specs.declared.types.Value.{Value}
 use Rattle.sqlite.specs.declared.types.Value.TheVariants.{Null, Int, Text}
-use Rattle.sqlite.specs.Values.{or_null}
 use Rattle.sqlite.specs.Order.{Row, column}
 use Rattle.sqlite.specs.Term.{Term, lit, col, op2}
 use Rattle.sqlite.specs.Collation.TheVariants.{Binary}
@@ -17,18 +16,15 @@ use Rattle.sqlite.specs.declared.error.Error.{Error}
 use Rattle.sqlite.specs.Listing.{understood}
 use Rattle.sqlite.specs.State.{State, ExecutesInside}
 use Rattle.sqlite.proofs.Callers.{IsPlain, command_of, statement_of}
-use Rattle.desk_words.specs.declared.records.Meeting.{Meeting}
-use Rattle.sql_rows.specs.ColumnValues.{day_in, unix_day, flag_in, flag_of, integer_of, moment_in, moment_of_number, natural_of, number_in, natural_value, read_word, some_moment_in, some_moment_of, parsed_in, parsed_of, parsed_word_in, parsed_word_of}
+use Rattle.sql_rows.specs.ColumnValues.{day_in, unix_day, flag_in, flag_of, integer_of, moment_in, moment_of_number, natural_of, number_in, natural_value, some_moment_in, some_moment_of, parsed_in, parsed_of, parsed_word_in, parsed_word_of}
 use Rattle.sql_rows.specs.Meetings.{meeting_in}
 use Rattle.vocabulary.specs.Kinds.{company_of, meeting_kind_of}
 use Rattle.vocabulary.specs.Names.{meeting_of, same_name}
 use Rattle.sql_schema.specs.Tables.{up_to_closed, up_to_meetings, meetings_table as table, sequence}
-use Rattle.sql_schema.specs.SqlTexts.{adding_text, making_text, seq_column}
-use Rattle.sql_schema.specs.Contents.{meetings, without_resolutions, loaded_at, first_opened_at}
+use Rattle.sql_schema.specs.SqlTexts.{making_text, seq_column}
+use Rattle.sql_schema.specs.Contents.{meetings, loaded_at, first_opened_at}
 use Rattle.sql_schema.specs.Statements.{IsDesk, Sets, columns_of, ExtendsSchema, layout_two, HasTables}
-use Rattle.sql_lemmas.proofs.Adding.{AddsBy, AddsGiven, adds_given}
 use Rattle.sql_lemmas.proofs.Deleting.{picked, passes}
-use Rattle.sql_lemmas.proofs.Listing.{ListsTable, ListsAs}
 use Rattle.sql_lemmas.proofs.Making.{made_counted}
 use Rattle.sqlite.specs.Kind.TheVariants.{Integer, Text as Texts}
 use Rattle.sqlite.specs.Cast.{cast}
@@ -42,7 +38,7 @@ use Rattle.sql_rows.proofs.RowMeaningLemmas.{bound, option_ap}
 use Rattle.sql_lemmas.proofs.Tests.{names_tell, kept_spelled, kept_worded, kept_integer, kept_some_moment}
 use Rattle.std.proofs.Math.Bool.{and-true}
 use Rattle.sql_lemmas.proofs.Updating.{new_row, changes_rows, sets}
-use Rattle.sql_lemmas.proofs.Values.{cast_flag, cast_int, cast_null, cast_some, flag, flag_kept}
+use Rattle.sql_lemmas.proofs.Values.{cast_int}
 use Rattle.sql_lemmas.proofs.Frames.{twos_apart, wide_one, RunsOn}
 use Rattle.sqlite.specs.Schema.{Schema}
 
@@ -68,24 +64,6 @@ make_lacks = (refl, refl)
 pub makes : (old new : State) (r : Result ℕ Error) → old.now.schema ≡ up_to_closed → IsTrue old.in_transaction → ExecutesInside 0 make_text [] old new r
     → OnOk r (ExtendsSchema up_to_closed up_to_meetings old new × IsTrue new.in_transaction)
 makes old new r = made_counted old new up_to_closed make_text table sequence r make_is.0 make_is.1 make_plain make_is.2 make_lacks.0 make_lacks.1
-
-adds : (s : Schema) → HasTables layout_two s → AddsGiven layout_two s meetings table
-unfolding understood everything
-adds = wide_one (λ s. AddsGiven layout_two s meetings table) (λ others apart indexes views. record { place = 3; is = refl; plain = (refl, refl); there = refl; numbered = refl })
-
-pub lists : ListsTable layout_two meetings table
-unfolding understood everything
-lists = record { asks = wide_one (ListsAs meetings table) (λ others apart indexes views. record { is = refl; plain = (refl, refl); unlisted = refl }); none = refl; numbered = refl }
-
-module _ (m : Meeting) (meeting : List ℕ) (company : List ℕ) (kind : List ℕ) (given : ℤ) (appointed : ℤ) (recorded : ℤ) (opened : Option ℤ) where
-  abbrev pub values : Row
-  values = Text meeting ∷ Text company ∷ Text kind ∷ Int given ∷ Int appointed ∷ Int recorded ∷ flag m.loaded ∷ or_null Int opened ∷ []
-
-  pub adds_meeting : meeting_of meeting ≡ Some m.id → read_word company_of company ≡ Some m.company → read_word meeting_kind_of kind ≡ Some m.kind → unix_day given ≡ Some m.given → moment_of_number appointed ≡ Some m.first.appointed → moment_of_number recorded ≡ Some m.record_moment → some_moment_of (or_null Int opened) ≡ Some m.first.opened
-      → AddsBy layout_two meetings (adding_text table) values (without_resolutions m)
-  unfolding meeting_in day_in flag_in moment_in number_in some_moment_in parsed_in parsed_word_in
-  adds_meeting meeting_is company_is kind_is given_is appointed_is recorded_is opened_is =
-      adds_given twos_apart adds values (Null ∷ values) (without_resolutions m) (rw (cast_null, cast_int given, cast_int appointed, cast_int recorded, cast_flag m.loaded, cast_some opened) refl) (λ id. rw (meeting_is, company_is, kind_is, given_is, appointed_is, recorded_is, opened_is, flag_kept m.loaded) refl)
 
 abbrev load_text : List ℕ
 load_text = codes "UPDATE meetings SET loaded = 1 WHERE meeting = ?1"

@@ -1,6 +1,6 @@
 -- What the statements on `register` do.
-use Rattle.std.proofs.Common.{◌≡◌, ℕ, ℤ, List, [], ◌∷◌, codes, Some, Result, OnOk, IsTrue, refl, ◌∙◌}
-use Rattle.sqlite.specs.declared.types.Value.TheVariants.{Int, Text}
+use Rattle.std.proofs.Common.{◌≡◌, ℕ, List, [], ◌∷◌, codes, Some, Result, OnOk, IsTrue, refl, ◌∙◌}
+use Rattle.sqlite.specs.declared.types.Value.TheVariants.{Text}
 use Rattle.sqlite.specs.Order.{Row, column}
 use Rattle.sqlite.specs.Term.{col, op2}
 use Rattle.sqlite.specs.Collation.TheVariants.{Binary}
@@ -13,47 +13,20 @@ use Rattle.sqlite.specs.Listing.{understood}
 use Rattle.sqlite.specs.State.{State, ExecutesInside}
 use Rattle.sql_rows.specs.declared.stored_records.InMeeting.{InMeeting}
 use Rattle.desk_words.specs.declared.records.RegisterRow.{RegisterRow}
-use Rattle.sql_rows.specs.ColumnValues.{natural_of, number_in, read_word, parsed_in, plain_text_of, parsed_word_in}
+use Rattle.sql_rows.specs.ColumnValues.{number_in, parsed_in, plain_text_of, parsed_word_in}
 use Rattle.sql_rows.specs.Meetings.{holding_in}
 use Rattle.vocabulary.specs.Kinds.{holder_kind_of}
 use Rattle.vocabulary.specs.Names.{meeting_of, party_of, same_name}
-use Rattle.sql_schema.specs.Tables.{up_to_resolutions, register_table as table}
-use Rattle.sql_schema.specs.SqlTexts.{adding_text, once_text}
+use Rattle.sql_schema.specs.Tables.{register_table as table}
 use Rattle.sql_schema.specs.Contents.{register}
 use Rattle.sql_schema.specs.Statements.{IsDesk, TakesOut, columns_of, layout_two, HasTables}
-use Rattle.sql_lemmas.proofs.Adding.{AddsBy, AddsGiven, adds_given}
 use Rattle.sql_lemmas.proofs.Deleting.{chosen, passes}
 use Rattle.sql_lemmas.proofs.Emptying.{takes_out, leaves_rows}
-use Rattle.sql_lemmas.proofs.Listing.{ListsTable, ListsAs}
-use Rattle.sql_lemmas.proofs.Making.{MakesTable}
 use Rattle.sql_rows.proofs.RowMeaningLemmas.{bound, option_ap}
 use Rattle.sql_lemmas.proofs.Tests.{names_tell}
 use Rattle.std.proofs.Math.Bool.{and-true}
-use Rattle.sql_lemmas.proofs.Values.{cast_int, cast_null}
 use Rattle.sql_lemmas.proofs.Frames.{twos_apart, wide_one, RunsOn}
 use Rattle.sqlite.specs.Schema.{Schema}
-
-pub makes : MakesTable up_to_resolutions (once_text table) table
-unfolding understood everything Rattle.sqlite_schema.specs.Names.same_name
-makes = record { is = refl; alone = refl; plain = (refl, refl); defined = refl; full = refl }
-
-adds : (s : Schema) → HasTables layout_two s → AddsGiven layout_two s register table
-unfolding understood everything
-adds = wide_one (λ s. AddsGiven layout_two s register table) (λ others apart indexes views. record { place = 6; is = refl; plain = (refl, refl); there = refl; numbered = refl })
-
-pub lists : ListsTable layout_two register table
-unfolding understood everything
-lists = record { asks = wide_one (ListsAs register table) (λ others apart indexes views. record { is = refl; plain = (refl, refl); unlisted = refl }); none = refl; numbered = refl }
-
-module _ (m : List ℕ) (x : RegisterRow) (meeting : List ℕ) (member : List ℕ) (kind : List ℕ) (name : List ℕ) (shares : ℤ) (paid : ℤ) where
-  abbrev pub values : Row
-  values = Text meeting ∷ Text member ∷ Text kind ∷ Text name ∷ Int shares ∷ Int paid ∷ []
-
-  pub adds_register : meeting_of meeting ≡ Some m → party_of member ≡ Some x.member → read_word holder_kind_of kind ≡ Some x.kind → read_word plain_text_of name ≡ Some x.name → natural_of shares ≡ Some x.shares → natural_of paid ≡ Some x.paid
-      → AddsBy layout_two register (adding_text table) values (record { meeting = m; item = x })
-  unfolding holding_in number_in parsed_in parsed_word_in
-  adds_register meeting_is member_is kind_is name_is shares_is paid_is =
-      adds_given twos_apart adds values values (record { meeting = m; item = x }) (rw (cast_null, cast_int shares, cast_int paid) refl) (λ id. rw (meeting_is, member_is, kind_is, name_is, shares_is, paid_is) refl)
 
 abbrev empty_text : List ℕ
 empty_text = codes "DELETE FROM register WHERE meeting = ?1"

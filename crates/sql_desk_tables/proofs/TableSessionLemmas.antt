@@ -1,5 +1,5 @@
 -- What the statements on `sessions` do.
-use Rattle.std.proofs.Common.{◌≡◌, ℕ, ℤ, Bool, true, false, ◌&&◌, List, [], ◌∷◌, codes, if◌then◌else◌, Option, Some, Result, OnOk, IsTrue, refl, sym, ap₂, subst, ◌∙◌}
+use Rattle.std.proofs.Common.{◌≡◌, ℕ, ℤ, Bool, true, false, ◌&&◌, List, [], ◌∷◌, codes, if◌then◌else◌, Some, Result, OnOk, IsTrue, refl, sym, ap₂, subst, ◌∙◌}
 use Rattle.std.proofs.Math.Bool.{and-true}
 use Rattle.sqlite.specs.Cast.{cast}
 use Rattle.sqlite.specs.Collation.TheVariants.{Binary}
@@ -12,7 +12,6 @@ use Rattle.sqlite.specs.Schema.{Schema}
 use Rattle.sqlite.specs.State.{State, ExecutesInside}
 use Rattle.sqlite.specs.Term.{Term, col, op2}
 use Rattle.sqlite.specs.Tree.{rowid}
-use Rattle.sqlite.specs.Values.{or_null}
 use Rattle.sqlite.specs.declared.error.Error.{Error}
 use Rattle.sqlite.specs.declared.types.Value.TheVariants.{Int, Text}
 use Rattle.sqlite_sql.specs.declared.ops.BinaryOp.TheVariants.{Compare}
@@ -22,45 +21,19 @@ use Rattle.sqlite_trees.specs.View.{is_int}
 use Rattle.vocabulary.specs.Names.{meeting_of}
 use Rattle.desk_words.specs.declared.records.Session.{Session}
 use Rattle.sql_rows.proofs.RowMeaningLemmas.{bound, option_ap}
-use Rattle.sql_rows.specs.ColumnValues.{moment_in, moment_of_number, natural_of, number_in, some_moment_in, some_moment_of, parsed_in}
+use Rattle.sql_rows.specs.ColumnValues.{moment_in, moment_of_number, natural_of, number_in, some_moment_in, parsed_in}
 use Rattle.sql_rows.specs.Meetings.{session_in}
 use Rattle.sql_rows.specs.declared.stored_records.InMeeting.{InMeeting}
 use Rattle.sql_rows.specs.declared.stored_records.Numbered.{Numbered}
 use Rattle.sql_schema.specs.Contents.{is_session_named, numbered_opened_at, session_opened_at, sessions}
 use Rattle.sql_schema.specs.Statements.{IsDesk, Sets, columns_of, layout_two, HasTables}
-use Rattle.sql_schema.specs.Tables.{schema_one, sessions_table as table}
-use Rattle.sql_schema.specs.SqlTexts.{adding_text, once_text}
-use Rattle.sql_lemmas.proofs.Adding.{AddsBy, AddsGiven, adds_given}
+use Rattle.sql_schema.specs.Tables.{sessions_table as table}
 use Rattle.sql_lemmas.proofs.Deleting.{picked, passes}
 use Rattle.sql_lemmas.proofs.Frames.{twos_apart, wide, RunsOn}
-use Rattle.sql_lemmas.proofs.Listing.{ListsTable, ListsAs}
-use Rattle.sql_lemmas.proofs.Making.{MakesTable}
 use Rattle.sql_lemmas.proofs.Seq.{is_its_id}
 use Rattle.sql_lemmas.proofs.Tests.{names_tell, numbers_tell, kept_spelled, kept_integer}
 use Rattle.sql_lemmas.proofs.Updating.{new_row, changes_rows, sets}
-use Rattle.sql_lemmas.proofs.Values.{cast_int, cast_null, cast_some}
-
-pub makes : MakesTable schema_one (once_text table) table
-unfolding understood everything Rattle.sqlite_schema.specs.Names.same_name
-makes = record { is = refl; alone = refl; plain = (refl, refl); defined = refl; full = refl }
-
-adds : (s : Schema) → HasTables layout_two s → AddsGiven layout_two s sessions table
-unfolding understood everything
-adds = wide (λ s. AddsGiven layout_two s sessions table) (λ others apart indexes views. record { place = 14; is = refl; plain = (refl, refl); there = refl; numbered = refl })
-
-pub lists : ListsTable layout_two sessions table
-unfolding understood everything
-lists = record { asks = wide (ListsAs sessions table) (λ others apart indexes views. record { is = refl; plain = (refl, refl); unlisted = refl }); none = refl; numbered = refl }
-
-module _ (m : List ℕ) (n : ℕ) (x : Session) (meeting : List ℕ) (number : ℤ) (appointed : ℤ) (opened : Option ℤ) where
-  abbrev pub values : Row
-  values = Text meeting ∷ Int number ∷ Int appointed ∷ or_null Int opened ∷ []
-
-  pub adds_session : meeting_of meeting ≡ Some m → natural_of number ≡ Some n → moment_of_number appointed ≡ Some x.appointed → some_moment_of (or_null Int opened) ≡ Some x.opened
-      → AddsBy layout_two sessions (adding_text table) values (record { meeting = m; item = record { number = n; item = x } })
-  unfolding session_in moment_in number_in some_moment_in parsed_in
-  adds_session meeting_is number_is appointed_is opened_is =
-      adds_given twos_apart adds values values (record { meeting = m; item = record { number = n; item = x } }) (rw (cast_null, cast_int number, cast_int appointed, cast_some opened) refl) (λ id. rw (meeting_is, number_is, appointed_is, opened_is) refl)
+use Rattle.sql_lemmas.proofs.Values.{cast_int}
 
 -- ---- a session that is opened
 

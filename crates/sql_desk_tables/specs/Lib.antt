@@ -1,3 +1,4 @@
 pub mod ColumnChecks
+pub mod DeskTables
 pub mod Together
 pub mod Versions

@@ -1,14 +1,54 @@
 //! The table `meetings`: the meetings, in the order in which they were called (section 307).
-ghost use Rattle.std.specs.Prelude.{◌≡◌, IfOk};
-ghost use Rattle.sql_schema.specs.Contents.{loaded_at, meetings, first_opened_at, without_resolutions};
-ghost use Rattle.sql_schema.specs.Statements.{Adds, ChangesNothing, CommitsNothing, Does, IsRead, Makes, ReadsTable, Sets};
-ghost use Rattle.sql_schema.specs.Tables.{up_to_closed, up_to_meetings};
+ghost use Rattle.std.specs.Prelude.{◌≡◌, refl};
+ghost use Rattle.sql_schema.specs.Contents.{first_opened_at, loaded_at, meetings, without_resolutions};
+ghost use Rattle.sql_schema.specs.Statements.{Adds, CommitsNothing, Does, Makes, Sets};
+ghost use Rattle.sql_schema.specs.Tables.{meetings_table, up_to_closed, up_to_meetings};
+ghost use Rattle.sql_desk_tables.specs.DeskTables.{meetings_added, meetings_listed};
 
 use desk_words::{Meeting, MeetingId, Moment};
 use sql_rows::{
-    company_text, day_number, meeting_kind_text, meeting_text, moment_number, some_moment_number,
+    MeetingRow, company_text, day_number, meeting_kind_text, meeting_text, moment_number,
+    some_moment_number,
 };
-use sqlite::{Alter, Error, Row, Transaction, params};
+use sql_stored::{FilledTable, ListedTable, ReadTable, add_row, adding, listing};
+use sqlite::{Alter, Error, Transaction, params};
+
+/// The name and the columns of the table, for a text of this form.
+#[macro_export]
+macro_rules! meetings_text {
+    ($form:ident $(, $more:literal)*) => {
+        $form!("meetings", "meeting, company, kind, given, appointed, record, loaded, opened", "seq" $(, $more)*)
+    };
+}
+
+/// The meetings, in the order in which they were called (section 307).
+pub struct Meetings;
+
+impl ListedTable for Meetings {
+    type Record = MeetingRow;
+
+    ghost declared = { meetings_table };
+
+    ghost table = { meetings };
+
+    fn listing() -> &'static str {
+        meetings_text!(listing)
+    }
+
+    ghost lists = { meetings_listed };
+}
+
+impl ReadTable for Meetings {
+    ghost reads_as = { refl };
+}
+
+impl FilledTable for Meetings {
+    fn adding() -> &'static str {
+        meetings_text!(adding, "?1, ?2, ?3, ?4, ?5, ?6, ?7, ?8")
+    }
+
+    ghost adds = { meetings_added };
+}
 
 /// Makes the table, after that of closed.
 pub fn make<S: Alter>(tx: &mut Transaction<'_, S>) -> Result<usize, Error>
@@ -30,8 +70,8 @@ pub fn add<S: Alter>(tx: &mut Transaction<'_, S>, meeting: &Meeting) -> Result<u
         (Adds meetings (without_resolutions meeting.now)) }
     ensures commits { CommitsNothing S.Store tx.old.conn.now tx.new.conn.now }
 {
-    tx.execute(
-        "INSERT INTO meetings (meeting, company, kind, given, appointed, record, loaded, opened) VALUES (?1, ?2, ?3, ?4, ?5, ?6, ?7, ?8)",
+    add_row::<Meetings, S>(
+        tx,
         params![
             meeting_text(&meeting.id),
             company_text(meeting.company),
@@ -42,20 +82,6 @@ pub fn add<S: Alter>(tx: &mut Transaction<'_, S>, meeting: &Meeting) -> Result<u
             meeting.loaded,
             some_moment_number(meeting.first.opened)
         ],
-    )
-}
-
-/// The rows, in the order in which they were called.
-pub fn all<S: Alter>(tx: &mut Transaction<'_, S>) -> Result<Vec<Row>, Error>
-    ensures same_reference { tx.new.conn.ghost_name ≡ tx.old.conn.ghost_name }
-    ensures rows { IsRead S.Store tx.old.conn.now tx.new.conn.now
-        → IfOk result
-        (λ rows. ReadsTable S.Store tx.old.conn.now tx.new.conn.now meetings rows.items) }
-    ensures changes { ChangesNothing S.Store tx.old.conn.now tx.new.conn.now }
-{
-    tx.query_all(
-        "SELECT meeting, company, kind, given, appointed, record, loaded, opened FROM meetings ORDER BY seq",
-        &[],
     )
 }
 

@@ -1,35 +1,74 @@
 //! The table `register`: the rows of the registers (section 113).
-ghost use Rattle.std.specs.Prelude.{◌≡◌, ℕ, List, ◌∷◌, ◌++◌, IfOk, OnOk, Some, flat_map};
+ghost use Rattle.std.specs.Prelude.{◌++◌, ◌∷◌, ◌≡◌, IfOk, List, OnOk, Some, flat_map, refl, ℕ};
 ghost use Rattle.vocabulary.specs.Names.{meeting_of, same_name};
 ghost use Rattle.sql_schema.specs.Contents.{register};
-ghost use Rattle.sql_schema.specs.Statements.{Adds, ChangesNothing, CommitsNothing, Does, IsRead, Makes, ReadsTable, TakesOut};
-ghost use Rattle.sql_schema.specs.Tables.{up_to_resolutions, up_to_register};
+ghost use Rattle.sql_schema.specs.Statements.{Adds, CommitsNothing, Does, TakesOut};
+ghost use Rattle.sql_schema.specs.Tables.{register_table, up_to_resolutions};
 ghost use Rattle.sql_desk_tables.specs.Together.{AddsAll, AreValuesOf, EachMeans, RowValues, rows_of_meeting, values_row};
 ghost use Rattle.sqlite.specs.Values.{bound};
 ghost use Rattle.sqlite.specs.declared.types.Value.TheVariants.{Text};
+ghost use Rattle.sql_schema.specs.SqlTexts.{once_text};
+ghost use Rattle.sql_desk_tables.specs.DeskTables.{register_added, register_listed, register_made};
 
 use desk_words::{MeetingId, RegisterRow};
 use sql_lemmas::whole;
-use sql_rows::{holder_kind_text, meeting_text, party_text, text_value};
+use sql_rows::{InMeeting, holder_kind_text, meeting_text, party_text, text_value};
+use sql_stored::{FilledTable, ListedTable, MadeTable, ReadTable, add_row, adding, listing};
 use sqlite::types::{ToSql, ValueRef};
-use sqlite::{Alter, Error, Row, Transaction, params};
+use sqlite::{Alter, Error, Transaction, params};
 use std::alloc::Global;
+
+/// The name and the columns of the table, for a text of this form.
+#[macro_export]
+macro_rules! register_text {
+    ($form:ident $(, $more:literal)*) => {
+        $form!("register", "meeting, member, kind, name, shares, paid", "rowid" $(, $more)*)
+    };
+}
+
+/// The rows of the registers (section 113).
+pub struct Register;
+
+impl ListedTable for Register {
+    type Record = InMeeting<RegisterRow>;
+
+    ghost declared = { register_table };
+
+    ghost table = { register };
+
+    fn listing() -> &'static str {
+        register_text!(listing)
+    }
+
+    ghost lists = { register_listed };
+}
+
+impl ReadTable for Register {
+    ghost reads_as = { refl };
+}
+
+impl MadeTable for Register {
+    ghost before = { up_to_resolutions };
+
+    ghost making = { once_text register_table };
+
+    fn making() -> &'static str {
+        "CREATE TABLE register (meeting TEXT NOT NULL REFERENCES meetings (meeting), member TEXT NOT NULL, kind TEXT NOT NULL, name TEXT NOT NULL, shares INTEGER NOT NULL, paid INTEGER NOT NULL, PRIMARY KEY (meeting, member)) STRICT"
+    }
+
+    ghost makes = { register_made };
+}
+
+impl FilledTable for Register {
+    fn adding() -> &'static str {
+        register_text!(adding, "?1, ?2, ?3, ?4, ?5, ?6")
+    }
+
+    ghost adds = { register_added };
+}
 
 /// How many rows `add_together` adds.
 pub const TOGETHER: usize = 8;
-
-/// Makes the table, after that of resolutions.
-pub fn make<S: Alter>(tx: &mut Transaction<'_, S>) -> Result<usize, Error>
-    ensures same_reference { tx.new.conn.ghost_name ≡ tx.old.conn.ghost_name }
-    ensures made { Makes S.Store tx.old.conn.now tx.new.conn.now result up_to_resolutions
-        up_to_register }
-    ensures commits { CommitsNothing S.Store tx.old.conn.now tx.new.conn.now }
-{
-    tx.execute(
-        "CREATE TABLE register (meeting TEXT NOT NULL REFERENCES meetings (meeting), member TEXT NOT NULL, kind TEXT NOT NULL, name TEXT NOT NULL, shares INTEGER NOT NULL, paid INTEGER NOT NULL, PRIMARY KEY (meeting, member)) STRICT",
-        &[],
-    )
-}
 
 /// Adds a row of a meeting's register.
 pub fn add<S: Alter>(
@@ -44,8 +83,8 @@ pub fn add<S: Alter>(
 {
     let shares = whole(holding.shares)?;
     let paid = whole(holding.paid)?;
-    tx.execute(
-        "INSERT INTO register (meeting, member, kind, name, shares, paid) VALUES (?1, ?2, ?3, ?4, ?5, ?6)",
+    add_row::<Register, S>(
+        tx,
         params![
             meeting_text(&meeting),
             party_text(&holding.member),
@@ -107,20 +146,6 @@ pub fn add_together<S: Alter>(
     tx.execute(
         "INSERT INTO register (meeting, member, kind, name, shares, paid) VALUES (?1, ?2, ?3, ?4, ?5, ?6), (?1, ?7, ?8, ?9, ?10, ?11), (?1, ?12, ?13, ?14, ?15, ?16), (?1, ?17, ?18, ?19, ?20, ?21), (?1, ?22, ?23, ?24, ?25, ?26), (?1, ?27, ?28, ?29, ?30, ?31), (?1, ?32, ?33, ?34, ?35, ?36), (?1, ?37, ?38, ?39, ?40, ?41)",
         values.as_slice(),
-    )
-}
-
-/// The rows, in the order in which they were added.
-pub fn all<S: Alter>(tx: &mut Transaction<'_, S>) -> Result<Vec<Row>, Error>
-    ensures same_reference { tx.new.conn.ghost_name ≡ tx.old.conn.ghost_name }
-    ensures rows { IsRead S.Store tx.old.conn.now tx.new.conn.now
-        → IfOk result
-        (λ rows. ReadsTable S.Store tx.old.conn.now tx.new.conn.now register rows.items) }
-    ensures changes { ChangesNothing S.Store tx.old.conn.now tx.new.conn.now }
-{
-    tx.query_all(
-        "SELECT meeting, member, kind, name, shares, paid FROM register ORDER BY rowid",
-        &[],
     )
 }
 

@@ -1,24 +1,64 @@
 //! The table `sessions`: the sessions to which meetings were adjourned, numbered from 2.
-ghost use Rattle.std.specs.Prelude.{◌≡◌, IfOk};
+ghost use Rattle.std.specs.Prelude.{◌≡◌, refl};
 ghost use Rattle.sql_schema.specs.Contents.{session_opened_at, sessions};
-ghost use Rattle.sql_schema.specs.Statements.{Adds, ChangesNothing, CommitsNothing, Does, IsRead, Makes, ReadsTable, Sets};
-ghost use Rattle.sql_schema.specs.Tables.{schema_one, up_to_sessions};
+ghost use Rattle.sql_schema.specs.Statements.{Adds, CommitsNothing, Does, Sets};
+ghost use Rattle.sql_schema.specs.Tables.{schema_one, sessions_table};
+ghost use Rattle.sql_schema.specs.SqlTexts.{once_text};
+ghost use Rattle.sql_desk_tables.specs.DeskTables.{sessions_added, sessions_listed, sessions_made};
 
 use desk_words::{MeetingId, Moment, Session};
 use sql_lemmas::whole;
-use sql_rows::{meeting_text, moment_number, some_moment_number};
-use sqlite::{Alter, Error, Row, Transaction, params};
+use sql_rows::{InMeeting, Numbered, meeting_text, moment_number, some_moment_number};
+use sql_stored::{FilledTable, ListedTable, MadeTable, ReadTable, add_row, adding, listing};
+use sqlite::{Alter, Error, Transaction, params};
 
-/// Makes the table, the first that version 2 adds.
-pub fn make<S: Alter>(tx: &mut Transaction<'_, S>) -> Result<usize, Error>
-    ensures same_reference { tx.new.conn.ghost_name ≡ tx.old.conn.ghost_name }
-    ensures made { Makes S.Store tx.old.conn.now tx.new.conn.now result schema_one up_to_sessions }
-    ensures commits { CommitsNothing S.Store tx.old.conn.now tx.new.conn.now }
-{
-    tx.execute(
-        "CREATE TABLE sessions (meeting TEXT NOT NULL REFERENCES meetings (meeting), number INTEGER NOT NULL, appointed INTEGER NOT NULL, opened INTEGER, PRIMARY KEY (meeting, number)) STRICT",
-        &[],
-    )
+/// The name and the columns of the table, for a text of this form.
+#[macro_export]
+macro_rules! sessions_text {
+    ($form:ident $(, $more:literal)*) => {
+        $form!("sessions", "meeting, number, appointed, opened", "rowid" $(, $more)*)
+    };
+}
+
+/// The sessions to which meetings were adjourned, numbered from 2.
+pub struct Sessions;
+
+impl ListedTable for Sessions {
+    type Record = InMeeting<Numbered<Session>>;
+
+    ghost declared = { sessions_table };
+
+    ghost table = { sessions };
+
+    fn listing() -> &'static str {
+        sessions_text!(listing)
+    }
+
+    ghost lists = { sessions_listed };
+}
+
+impl ReadTable for Sessions {
+    ghost reads_as = { refl };
+}
+
+impl MadeTable for Sessions {
+    ghost before = { schema_one };
+
+    ghost making = { once_text sessions_table };
+
+    fn making() -> &'static str {
+        "CREATE TABLE sessions (meeting TEXT NOT NULL REFERENCES meetings (meeting), number INTEGER NOT NULL, appointed INTEGER NOT NULL, opened INTEGER, PRIMARY KEY (meeting, number)) STRICT"
+    }
+
+    ghost makes = { sessions_made };
+}
+
+impl FilledTable for Sessions {
+    fn adding() -> &'static str {
+        sessions_text!(adding, "?1, ?2, ?3, ?4")
+    }
+
+    ghost adds = { sessions_added };
 }
 
 /// Adds a further session of a meeting, with its number.
@@ -38,28 +78,14 @@ pub fn add<S: Alter>(
     ensures commits { CommitsNothing S.Store tx.old.conn.now tx.new.conn.now }
 {
     let number = whole(number)?;
-    tx.execute(
-        "INSERT INTO sessions (meeting, number, appointed, opened) VALUES (?1, ?2, ?3, ?4)",
+    add_row::<Sessions, S>(
+        tx,
         params![
             meeting_text(&meeting),
             number,
             moment_number(session.appointed),
             some_moment_number(session.opened)
         ],
-    )
-}
-
-/// The rows, in the order in which they were added.
-pub fn all<S: Alter>(tx: &mut Transaction<'_, S>) -> Result<Vec<Row>, Error>
-    ensures same_reference { tx.new.conn.ghost_name ≡ tx.old.conn.ghost_name }
-    ensures rows { IsRead S.Store tx.old.conn.now tx.new.conn.now
-        → IfOk result
-        (λ rows. ReadsTable S.Store tx.old.conn.now tx.new.conn.now sessions rows.items) }
-    ensures changes { ChangesNothing S.Store tx.old.conn.now tx.new.conn.now }
-{
-    tx.query_all(
-        "SELECT meeting, number, appointed, opened FROM sessions ORDER BY rowid",
-        &[],
     )
 }
 

@@ -1,5 +1,6 @@
 pub mod Acting
 pub mod Adding
+pub mod Asking
 pub mod Commits
 pub mod Copying
 pub mod Deleting
@@ -9,6 +10,7 @@ pub mod GivenNumbers
 pub mod Listing
 pub mod Making
 pub mod Meanings
+pub mod Queries
 pub mod Reading
 pub mod Seq
 pub mod SqlNumberLemmas

@@ -18,7 +18,7 @@ use Rattle.sql_lemmas.proofs.Reading.{AsksAs, whole, reads_whole}
 abbrev pub shown_terms : {A : Type 0} → TableOf A → List Term
 shown_terms it = map (col 1) it.columns
 
-shows_columns : (params row : Row) (places : List ℕ) → eval_all (map (col 1) places) (params ∷ row ∷ []) ≡ map (column row) places
+pub shows_columns : (params row : Row) (places : List ℕ) → eval_all (map (col 1) places) (params ∷ row ∷ []) ≡ map (column row) places
 shows_columns params row [] = refl
 shows_columns params row (at ∷ places) = ap (λ l. column row at ∷ l) (shows_columns params row places)
 

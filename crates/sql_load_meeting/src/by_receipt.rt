@@ -17,8 +17,9 @@ use desk_words::{
 use keyed_seq::FiledBy;
 use sql_assemble::LoadError;
 use sql_load_public::query_records::records_found;
-use sql_queries::{casts, presences, whole_lists};
+use sql_queries::{appointments, authorities, casts, demands, endings, presences};
 use sql_rows::InMeeting;
+use sql_stored::find;
 use sqlite::{Alter, Transaction};
 use std::alloc::Global;
 
@@ -51,7 +52,7 @@ pub(crate) fn appointments_of<S: Alter>(
 {
     filed(
         alloc,
-        records_found(alloc, whole_lists::appointments(tx, meeting)),
+        records_found(alloc, find::<appointments::OfMeeting, S>(tx, meeting)),
     )
 }
 
@@ -67,7 +68,7 @@ pub(crate) fn endings_of<S: Alter>(
 {
     filed(
         alloc,
-        records_found(alloc, whole_lists::endings(tx, meeting)),
+        records_found(alloc, find::<endings::OfMeeting, S>(tx, meeting)),
     )
 }
 
@@ -83,7 +84,7 @@ pub(crate) fn authorities_of<S: Alter>(
 {
     filed(
         alloc,
-        records_found(alloc, whole_lists::authorities(tx, meeting)),
+        records_found(alloc, find::<authorities::OfMeeting, S>(tx, meeting)),
     )
 }
 
@@ -99,7 +100,7 @@ pub(crate) fn presences_of<S: Alter>(
 {
     filed(
         alloc,
-        records_found(alloc, whole_lists::presences(tx, meeting)),
+        records_found(alloc, find::<presences::OfMeeting, S>(tx, meeting)),
     )
 }
 
@@ -117,7 +118,7 @@ pub(crate) fn presence_of<S: Alter>(
 {
     filed(
         alloc,
-        records_found(alloc, presences::of_party(tx, meeting, party)),
+        records_found(alloc, find::<presences::OfParty, S>(tx, (meeting, party))),
     )
 }
 
@@ -133,7 +134,7 @@ pub(crate) fn demands_of<S: Alter>(
 {
     filed(
         alloc,
-        records_found(alloc, whole_lists::demands(tx, meeting)),
+        records_found(alloc, find::<demands::OfMeeting, S>(tx, meeting)),
     )
 }
 
@@ -150,6 +151,9 @@ pub(crate) fn casts_on<S: Alter>(
 {
     filed(
         alloc,
-        records_found(alloc, casts::on_resolution(tx, meeting, resolution)),
+        records_found(
+            alloc,
+            find::<casts::OnResolution, S>(tx, (meeting, resolution)),
+        ),
     )
 }

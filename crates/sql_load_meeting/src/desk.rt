@@ -8,6 +8,8 @@ ghost use Rattle.sql_load_public.specs.TableLookUps.{HoldsOfStoredOffice};
 
 use desk_words::{KeyRows, MeetingId};
 use sql_assemble::{LoadError, key_rows};
+use sql_desk_tables::keys::Keys;
+use sql_desk_tables::meetings::Meetings;
 use sql_load_office::listing;
 use sql_rows::MeetingRow;
 use sqlite::{Alter, Transaction};
@@ -28,7 +30,7 @@ pub fn read_keys<S: Alter>(tx: &mut Transaction<'_, S>, alloc: Global) -> Result
     ensures holds { HoldsOfStoredOffice S.Store tx.old.conn.now tx.new.conn.now result
         (λ office keys. keys ≡ office.keys) }
 {
-    let rows = listing(tx, alloc)?;
+    let rows = listing::<Keys, S>(tx, alloc)?;
     key_rows(rows)
 }
 
@@ -54,7 +56,7 @@ pub fn read_count<S: Alter>(
           held = length office.meetings;
         }) }
 {
-    let rows = listing(tx, alloc)?;
+    let rows = listing::<Meetings, S>(tx, alloc)?;
     Ok(MeetingCount {
         is_named: is_named(rows.as_slice(), meeting),
         held: rows.len(),

@@ -15,7 +15,8 @@ use desk_words::{Filed, Listing, Meeting, MeetingId, MeetingLists, Party, Poll, 
 use sql_assemble::{LoadError, register_rows};
 use sql_load_public::query_records::{items, records_found};
 use sql_load_public::{meeting_of, polls_of};
-use sql_queries::whole_lists;
+use sql_queries::register;
+use sql_stored::find;
 use sqlite::{Alter, Transaction};
 use std::alloc::Global;
 use std::mem;
@@ -32,7 +33,7 @@ fn register_of<S: Alter>(
 {
     let rows = items(
         alloc,
-        records_found(alloc, whole_lists::register(tx, meeting)),
+        records_found(alloc, find::<register::OfMeeting, S>(tx, meeting)),
     )?;
     register_rows(rows)
 }

@@ -7,7 +7,10 @@ ghost use Rattle.vocabulary.specs.OptionSteps.{guard};
 ghost use Rattle.sql_assemble.specs.LoadResults.{ReadAgrees, any_at_all};
 
 use sql_assemble::LoadError;
-use sql_meeting_tables::{demands_one, polls_one, presences_one};
+use sql_meeting_tables::demands_one::DemandsOne;
+use sql_meeting_tables::polls_one::PollsOne;
+use sql_meeting_tables::presences_one::PresencesOne;
+use sql_stored::all;
 use sqlite::{Alter, Row, Transaction};
 
 /// Takes rows where there are none. The fault is `NoOffice` only where there is one.
@@ -26,7 +29,7 @@ fn no_presences<S: Alter>(tx: &mut Transaction<'_, S>) -> Result<(), LoadError>
     ensures read { IsReading S.Store tx.old.conn.now tx.new.conn.now any_at_all result
         (λ trees. guard (has_no_row contents.presences_one trees)) }
 {
-    nothing(presences_one::all(tx)?)
+    nothing(all::<PresencesOne, S>(tx)?)
 }
 
 /// Reads that the demands of version 1 are none. The fault is `NoOffice` only where there is one.
@@ -35,7 +38,7 @@ fn no_demands<S: Alter>(tx: &mut Transaction<'_, S>) -> Result<(), LoadError>
     ensures read { IsReading S.Store tx.old.conn.now tx.new.conn.now any_at_all result
         (λ trees. guard (has_no_row contents.demands_one trees)) }
 {
-    nothing(demands_one::all(tx)?)
+    nothing(all::<DemandsOne, S>(tx)?)
 }
 
 /// Reads that the polls of version 1 are none. The fault is `NoOffice` only where there is one.
@@ -44,7 +47,7 @@ fn no_polls<S: Alter>(tx: &mut Transaction<'_, S>) -> Result<(), LoadError>
     ensures read { IsReading S.Store tx.old.conn.now tx.new.conn.now any_at_all result
         (λ trees. guard (has_no_row contents.polls_one trees)) }
 {
-    nothing(polls_one::all(tx)?)
+    nothing(all::<PollsOne, S>(tx)?)
 }
 
 /// Reads that the tables that version 2 leaves empty have no row. The fault is `NoOffice` only where

@@ -12,6 +12,19 @@ use desk_words::{
     Resolution, Session,
 };
 use sql_assemble::{FlatRecords, LoadError, MeetingRecords};
+use sql_desk_tables::closed::ClosedDays;
+use sql_desk_tables::keys::Keys;
+use sql_desk_tables::meetings::Meetings;
+use sql_desk_tables::register::Register;
+use sql_desk_tables::resolutions::Resolutions;
+use sql_desk_tables::sessions::Sessions;
+use sql_meeting_tables::appointments::Appointments;
+use sql_meeting_tables::authorities::Authorities;
+use sql_meeting_tables::casts::Casts;
+use sql_meeting_tables::demands::Demands;
+use sql_meeting_tables::endings::Endings;
+use sql_meeting_tables::polls::Polls;
+use sql_meeting_tables::presences::Presences;
 use sql_rows::{InMeeting, Numbered};
 use sqlite::{Alter, Transaction};
 use std::alloc::Global;
@@ -48,9 +61,9 @@ fn read_called<S: Alter>(tx: &mut Transaction<'_, S>, alloc: Global) -> Result<C
     ensures same_reference { tx.new.conn.ghost_name ≡ tx.old.conn.ghost_name }
     ensures read { IsReading S.Store tx.old.conn.now tx.new.conn.now any_at_all result called_in }
 {
-    let sessions = listing(tx, alloc)?;
-    let resolutions = listing(tx, alloc)?;
-    let register = listing(tx, alloc)?;
+    let sessions = listing::<Sessions, S>(tx, alloc)?;
+    let resolutions = listing::<Resolutions, S>(tx, alloc)?;
+    let register = listing::<Register, S>(tx, alloc)?;
     Ok(Called {
         sessions,
         resolutions,
@@ -62,9 +75,9 @@ fn read_given<S: Alter>(tx: &mut Transaction<'_, S>, alloc: Global) -> Result<Gi
     ensures same_reference { tx.new.conn.ghost_name ≡ tx.old.conn.ghost_name }
     ensures read { IsReading S.Store tx.old.conn.now tx.new.conn.now any_at_all result given_in }
 {
-    let appointments = listing(tx, alloc)?;
-    let endings = listing(tx, alloc)?;
-    let authorities = listing(tx, alloc)?;
+    let appointments = listing::<Appointments, S>(tx, alloc)?;
+    let endings = listing::<Endings, S>(tx, alloc)?;
+    let authorities = listing::<Authorities, S>(tx, alloc)?;
     Ok(Given {
         appointments,
         endings,
@@ -76,10 +89,10 @@ fn read_polled<S: Alter>(tx: &mut Transaction<'_, S>, alloc: Global) -> Result<P
     ensures same_reference { tx.new.conn.ghost_name ≡ tx.old.conn.ghost_name }
     ensures read { IsReading S.Store tx.old.conn.now tx.new.conn.now any_at_all result polled_in }
 {
-    let presences = listing(tx, alloc)?;
-    let demands = listing(tx, alloc)?;
-    let polls = listing(tx, alloc)?;
-    let casts = listing(tx, alloc)?;
+    let presences = listing::<Presences, S>(tx, alloc)?;
+    let demands = listing::<Demands, S>(tx, alloc)?;
+    let polls = listing::<Polls, S>(tx, alloc)?;
+    let casts = listing::<Casts, S>(tx, alloc)?;
     Ok(Polled {
         presences,
         demands,
@@ -116,9 +129,9 @@ pub fn read_flat<S: Alter>(
     ensures read { IsReading S.Store tx.old.conn.now tx.new.conn.now any_at_all result flat_in }
 {
     read_left(tx)?;
-    let keys = listing(tx, alloc)?;
-    let closed = listing(tx, alloc)?;
-    let meetings = listing(tx, alloc)?;
+    let keys = listing::<Keys, S>(tx, alloc)?;
+    let closed = listing::<ClosedDays, S>(tx, alloc)?;
+    let meetings = listing::<Meetings, S>(tx, alloc)?;
     let called = read_called(tx, alloc)?;
     let given = read_given(tx, alloc)?;
     let polled = read_polled(tx, alloc)?;

@@ -10,4 +10,4 @@ mod table;
 pub use flat::read_flat;
 pub use office::read_office;
 pub use sql_assemble::LoadError;
-pub use table::{Kept, listing};
+pub use table::listing;

@@ -21,6 +21,7 @@ use proxy_rules::{Claim, claims_in, shares};
 use sql_assemble::LoadError;
 use sql_load_public::query_records::{first, items, records_found};
 use sql_queries::{appointments, authorities, casts, demands, endings, presences, register};
+use sql_stored::find;
 use sqlite::{Alter, Transaction};
 use std::alloc::Global;
 
@@ -37,7 +38,7 @@ pub(crate) fn row_of<S: Alter>(
 {
     let rows = items(
         alloc,
-        records_found(alloc, register::of_member(tx, meeting, member)),
+        records_found(alloc, find::<register::OfMember, S>(tx, (meeting, member))),
     )?;
     Ok(first(rows))
 }
@@ -81,7 +82,10 @@ pub(crate) fn given_by<S: Alter>(
 {
     items(
         alloc,
-        records_found(alloc, appointments::given_by(tx, meeting, member)),
+        records_found(
+            alloc,
+            find::<appointments::GivenBy, S>(tx, (meeting, member)),
+        ),
     )
 }
 
@@ -132,7 +136,7 @@ pub(crate) fn naming<S: Alter>(
 {
     items(
         alloc,
-        records_found(alloc, appointments::naming(tx, meeting, party)),
+        records_found(alloc, find::<appointments::Naming, S>(tx, (meeting, party))),
     )
 }
 
@@ -176,7 +180,7 @@ pub(crate) fn ended_by<S: Alter>(
 {
     items(
         alloc,
-        records_found(alloc, endings::made_by(tx, meeting, member)),
+        records_found(alloc, find::<endings::MadeBy, S>(tx, (meeting, member))),
     )
 }
 
@@ -194,7 +198,7 @@ pub(crate) fn persons_of<S: Alter>(
 {
     items(
         alloc,
-        records_found(alloc, authorities::given_by(tx, meeting, party)),
+        records_found(alloc, find::<authorities::GivenBy, S>(tx, (meeting, party))),
     )
 }
 
@@ -212,7 +216,7 @@ pub(crate) fn trusting<S: Alter>(
 {
     items(
         alloc,
-        records_found(alloc, authorities::naming(tx, meeting, party)),
+        records_found(alloc, find::<authorities::Naming, S>(tx, (meeting, party))),
     )
 }
 
@@ -232,7 +236,7 @@ pub(crate) fn trusting_for<S: Alter>(
         alloc,
         records_found(
             alloc,
-            authorities::naming_by(tx, meeting, corporation, party),
+            find::<authorities::NamingBy, S>(tx, (meeting, corporation, party)),
         ),
     )
 }
@@ -251,7 +255,7 @@ fn marks_of<S: Alter>(
 {
     items(
         alloc,
-        records_found(alloc, presences::of_party(tx, meeting, party)),
+        records_found(alloc, find::<presences::OfParty, S>(tx, (meeting, party))),
     )
 }
 
@@ -295,7 +299,7 @@ pub(crate) fn demands_of<S: Alter>(
 {
     items(
         alloc,
-        records_found(alloc, demands::made_by(tx, meeting, party)),
+        records_found(alloc, find::<demands::MadeBy, S>(tx, (meeting, party))),
     )
 }
 
@@ -312,7 +316,7 @@ pub(crate) fn casts_of<S: Alter>(
 {
     items(
         alloc,
-        records_found(alloc, casts::cast_by(tx, meeting, party)),
+        records_found(alloc, find::<casts::CastBy, S>(tx, (meeting, party))),
     )
 }
 
@@ -344,6 +348,9 @@ pub(crate) fn casts_on<S: Alter>(
     }
     items(
         alloc,
-        records_found(alloc, casts::cast_on(tx, meeting, party, resolution)),
+        records_found(
+            alloc,
+            find::<casts::CastOn, S>(tx, (meeting, party, resolution)),
+        ),
     )
 }

@@ -17,9 +17,11 @@ use desk_words::{
 use office_days::Closed;
 use party_views::PublicRecord;
 use sql_assemble::{LoadError, day_list, poll_list, resolution_list, session_list};
+use sql_desk_tables::closed::ClosedDays;
 use sql_load_office::listing;
 use sql_queries::{meetings, polls, resolutions, sessions};
 use sql_rows::{InMeeting, MeetingRow, Numbered};
+use sql_stored::find;
 use sqlite::{Alter, Transaction};
 use std::alloc::Global;
 use std::marker::Model;
@@ -58,7 +60,7 @@ pub fn read_closed<S: Alter>(
     ensures holds { HoldsOfStoredOffice S.Store tx.old.conn.now tx.new.conn.now result
         (λ office closed. closed ≡ office.closed) }
 {
-    let days = listing(tx, alloc)?;
+    let days = listing::<ClosedDays, S>(tx, alloc)?;
     Ok(Closed::from_list(day_list(days)?))
 }
 
@@ -95,7 +97,7 @@ fn later_of<S: Alter>(
 {
     let rows = items(
         alloc,
-        records_found(alloc, sessions::of_meeting(tx, meeting)),
+        records_found(alloc, find::<sessions::OfMeeting, S>(tx, meeting)),
     )?;
     session_list(alloc, rows)
 }
@@ -111,14 +113,14 @@ pub fn meeting_of<S: Alter>(
         (λ office kept. kept
         ≡ option_map (λ (m : MeetingLists). m.meeting) (meeting_at office meeting)) }
 {
-    let rows = records_found(alloc, meetings::named(tx, meeting))?;
+    let rows = records_found(alloc, find::<meetings::Named, S>(tx, meeting))?;
     let Some(row) = first(rows) else {
         return Ok(None);
     };
     let later = later_of(tx, alloc, meeting)?;
     let rows = items(
         alloc,
-        records_found(alloc, resolutions::of_meeting(tx, meeting)),
+        records_found(alloc, find::<resolutions::OfMeeting, S>(tx, meeting)),
     )?;
     let resolutions = resolution_list(alloc, rows)?;
     Ok(Some(whole_meeting(row, later, resolutions)))
@@ -134,7 +136,10 @@ pub fn polls_of<S: Alter>(
     ensures holds { HoldsOfStoredOffice S.Store tx.old.conn.now tx.new.conn.now result
         (λ office kept. kept ≡ polls_in (meeting_at office meeting)) }
 {
-    let rows = items(alloc, records_found(alloc, polls::of_meeting(tx, meeting)))?;
+    let rows = items(
+        alloc,
+        records_found(alloc, find::<polls::OfMeeting, S>(tx, meeting)),
+    )?;
     poll_list(rows)
 }
 
@@ -197,7 +202,7 @@ fn unread_of<S: Alter>(
         (λ office kept. MayHave (meeting_at office meeting) count
         → kept ≡ option_map (with_unread count) (public_of office meeting).meeting) }
 {
-    let rows = records_found(alloc, meetings::named(tx, meeting))?;
+    let rows = records_found(alloc, find::<meetings::Named, S>(tx, meeting))?;
     let Some(row) = first(rows) else {
         return Ok(None);
     };

@@ -1,11 +1,3 @@
-pub mod AppointmentLemmas
-pub mod AuthorityLemmas
-pub mod EndingLemmas
-pub mod FirstDemandLemmas
-pub mod FirstPollLemmas
-pub mod FirstPresenceLemmas
-pub mod IndexLemmas
-pub mod MeetingTableCastLemmas
 pub mod MeetingTableDemandLemmas
 pub mod PollLemmas
 pub mod PresenceLemmas

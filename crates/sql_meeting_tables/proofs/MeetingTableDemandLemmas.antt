@@ -1,22 +1,19 @@
 -- What the statements on `demands` do.
-use Rattle.std.proofs.Common.{◌≡◌, ℕ, ℤ, pos, List, [], ◌∷◌, drop, true, Some, Result, OnOk, IsTrue, refl, sym, subst}
-use Rattle.sqlite.specs.declared.types.Value.TheVariants.{Null, Int, Text}
+use Rattle.std.proofs.Common.{◌≡◌, ℕ, pos, [], ◌∷◌, drop, true, Some, Result, OnOk, IsTrue, refl, sym, subst}
+use Rattle.sqlite.specs.declared.types.Value.TheVariants.{Null, Int}
 use Rattle.sqlite.specs.Order.{Row, column}
 use Rattle.sqlite_tied.specs.Compute.{everything}
 use Rattle.sqlite.specs.Listing.{understood}
 use Rattle.desk_words.specs.declared.records.DemandMark.{DemandMark}
-use Rattle.sql_rows.specs.ColumnValues.{moment_in, moment_of_number, natural_of, number_in, parsed_in}
-use Rattle.sql_rows.specs.Marks.{demand_mark_in, demand_one_in}
+use Rattle.sql_rows.specs.ColumnValues.{moment_in, moment_of_number, number_in, parsed_in}
+use Rattle.sql_rows.specs.Marks.{demand_one_in}
 use Rattle.vocabulary.specs.Names.{meeting_of, party_of}
-use Rattle.sql_schema.specs.Tables.{up_to_presences2, demands2_table as table, demands_table as first}
-use Rattle.sql_schema.specs.SqlTexts.{adding_text, copying_text, filed_text}
+use Rattle.sql_schema.specs.Tables.{demands2_table as table, demands_table as first}
+use Rattle.sql_schema.specs.SqlTexts.{copying_text}
 use Rattle.sql_schema.specs.Contents.{demands, demands_one}
 use Rattle.sql_schema.specs.Statements.{IsDesk, columns_of, layout_two, HasTables}
-use Rattle.sql_lemmas.proofs.Adding.{AddsBy, AddsGiven, adds_given}
-use Rattle.sql_lemmas.proofs.Listing.{ListsTable, ListsAs}
-use Rattle.sql_lemmas.proofs.Making.{MakesTable}
-use Rattle.sql_lemmas.proofs.Values.{cast_int, cast_null}
-use Rattle.sql_lemmas.proofs.Frames.{twos_apart, wide}
+use Rattle.sql_lemmas.proofs.Values.{cast_int}
+use Rattle.sql_lemmas.proofs.Frames.{wide}
 use Rattle.sqlite.specs.Cast.{cast}
 use Rattle.sqlite.specs.Collation.TheVariants.{Binary}
 use Rattle.sqlite.specs.Edit.{id_in}
@@ -36,28 +33,6 @@ use Rattle.sql_lemmas.proofs.Copying.{CopiesTable, table_copied}
 use Rattle.sql_lemmas.proofs.Seq.{is_its_id}
 use Rattle.sql_lemmas.proofs.Tests.{integer_stays, number_stays, text_stays}
 use Rattle.sqlite.specs.Schema.{Schema}
-
-pub makes : MakesTable up_to_presences2 (filed_text table) table
-unfolding understood everything Rattle.sqlite_schema.specs.Names.same_name
-makes = record { is = refl; alone = refl; plain = (refl, refl); defined = refl; full = refl }
-
-adds : (s : Schema) → HasTables layout_two s → AddsGiven layout_two s demands table
-unfolding understood everything
-adds = wide (λ s. AddsGiven layout_two s demands table) (λ others apart indexes views. record { place = 16; is = refl; plain = (refl, refl); there = refl; numbered = refl })
-
-pub lists : ListsTable layout_two demands table
-unfolding understood everything
-lists = record { asks = wide (ListsAs demands table) (λ others apart indexes views. record { is = refl; plain = (refl, refl); unlisted = refl }); none = refl; numbered = refl }
-
-module _ (m : List ℕ) (x : DemandMark) (meeting : List ℕ) (session : ℤ) (resolution : ℤ) (party : List ℕ) (moment : ℤ) where
-  abbrev pub values : Row
-  values = Text meeting ∷ Int session ∷ Int resolution ∷ Text party ∷ Int moment ∷ []
-
-  pub adds_demand : meeting_of meeting ≡ Some m → natural_of session ≡ Some x.session → natural_of resolution ≡ Some x.resolution → party_of party ≡ Some x.party → moment_of_number moment ≡ Some x.moment
-      → AddsBy layout_two demands (adding_text table) values (record { meeting = m; item = x })
-  unfolding demand_mark_in moment_in number_in parsed_in
-  adds_demand meeting_is session_is resolution_is party_is moment_is =
-      adds_given twos_apart adds values (Null ∷ values) (record { meeting = m; item = x }) (rw (cast_null, cast_int session, cast_int resolution, cast_int moment) refl) (λ id. rw (meeting_is, session_is, resolution_is, party_is, moment_is) refl)
 
 -- ---- the rows of version 1
 

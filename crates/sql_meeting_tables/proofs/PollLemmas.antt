@@ -1,8 +1,7 @@
 -- What the statements on `polls` do.
-use Rattle.std.proofs.Common.{◌≡◌, ℕ, ℤ, pos, Bool, true, ◌&&◌, List, [], ◌∷◌, drop, codes, false, Option, Some, Result, OnOk, IsTrue, refl, sym, ap, ap₂, subst, ◌∙◌, if◌then◌else◌}
+use Rattle.std.proofs.Common.{◌≡◌, ℕ, ℤ, pos, Bool, true, ◌&&◌, List, [], ◌∷◌, drop, codes, false, Some, Result, OnOk, IsTrue, refl, sym, ap, ap₂, subst, ◌∙◌, if◌then◌else◌}
 use Rattle.sqlite.specs.declared.types.Value.{Value}
 use Rattle.sqlite.specs.declared.types.Value.TheVariants.{Int, Text}
-use Rattle.sqlite.specs.Values.{or_null}
 use Rattle.sqlite.specs.Order.{Row, column}
 use Rattle.sqlite.specs.Term.{Term, col, op2}
 use Rattle.sqlite.specs.Collation.TheVariants.{Binary}
@@ -17,19 +16,16 @@ use Rattle.desk_words.specs.declared.records.Poll.{Poll}
 use Rattle.sql_rows.specs.ColumnValues.{flag_in, flag_of, integer_of, moment_in, moment_of_number, natural_of, number_in, natural_value, some_moment_in, some_moment_of, parsed_in, parsed_of}
 use Rattle.sql_rows.specs.Marks.{declared_in, declared_of, poll_in, poll_one_in}
 use Rattle.vocabulary.specs.Names.{meeting_of}
-use Rattle.sql_schema.specs.Tables.{up_to_demands2, polls2_table as table, polls_table as first}
-use Rattle.sql_schema.specs.SqlTexts.{adding_text, copying_text, once_text}
+use Rattle.sql_schema.specs.Tables.{polls2_table as table, polls_table as first}
+use Rattle.sql_schema.specs.SqlTexts.{copying_text}
 use Rattle.sql_schema.specs.Contents.{polls, polls_one, is_poll_named, started_at, closed_at, declared_with}
 use Rattle.sql_schema.specs.Statements.{IsDesk, Sets, columns_of, layout_two, HasTables}
-use Rattle.sql_lemmas.proofs.Adding.{AddsBy, AddsGiven, adds_given}
 use Rattle.sql_lemmas.proofs.Deleting.{picked, passes}
-use Rattle.sql_lemmas.proofs.Listing.{ListsTable, ListsAs}
 use Rattle.sql_meeting_tables.specs.Copying.{CopiesTyped}
 use Rattle.sql_meeting_tables.proofs.TypedLemmas.{KeepsTyped, integers_stay, row_stays, texts_stay, typed_copied}
 use Rattle.sqlite_schema.specs.Rules.{are_typed}
 use Rattle.std.specs.List.{AllByRecursion}
 use Rattle.sql_lemmas.proofs.Copying.{CopiesTable, table_copied}
-use Rattle.sql_lemmas.proofs.Making.{MakesTable}
 use Rattle.sql_schema.specs.CopiedRows.{Copies, in_first_session}
 use Rattle.sqlite.specs.Kind.TheVariants.{Integer, Text as Texts}
 use Rattle.sqlite.specs.Cast.{cast}
@@ -45,31 +41,9 @@ use Rattle.sql_rows.proofs.RowMeaningLemmas.{bound, option_ap}
 use Rattle.sql_lemmas.proofs.Tests.{names_tell, numbers_tell, kept_spelled, kept_integer, kept_some_moment, declared_stays, integer_stays, number_stays, some_moment_stays, text_stays}
 use Rattle.std.proofs.Math.Bool.{and-true}
 use Rattle.sql_lemmas.proofs.Updating.{new_row, changes_rows, sets}
-use Rattle.sql_lemmas.proofs.Values.{cast_flag, cast_int, cast_null, cast_some, flag, flag_kept}
+use Rattle.sql_lemmas.proofs.Values.{cast_int}
 use Rattle.sql_lemmas.proofs.Frames.{twos_apart, wide, RunsOn}
 use Rattle.sqlite.specs.Schema.{Schema}
-
-pub makes : MakesTable up_to_demands2 (once_text table) table
-unfolding understood everything Rattle.sqlite_schema.specs.Names.same_name
-makes = record { is = refl; alone = refl; plain = (refl, refl); defined = refl; full = refl }
-
-adds : (s : Schema) → HasTables layout_two s → AddsGiven layout_two s polls table
-unfolding understood everything
-adds = wide (λ s. AddsGiven layout_two s polls table) (λ others apart indexes views. record { place = 17; is = refl; plain = (refl, refl); there = refl; numbered = refl })
-
-pub lists : ListsTable layout_two polls table
-unfolding understood everything
-lists = record { asks = wide (ListsAs polls table) (λ others apart indexes views. record { is = refl; plain = (refl, refl); unlisted = refl }); none = refl; numbered = refl }
-
-module _ (m : List ℕ) (x : Poll) (meeting : List ℕ) (session : ℤ) (resolution : ℤ) (ordered : ℤ) (take : ℤ) (started : Option ℤ) (closed : Option ℤ) (votes_for : Option ℤ) (votes_against : Option ℤ) (withheld : Option ℤ) (eligible : Option ℤ) where
-  abbrev pub values : Row
-  values = Text meeting ∷ Int session ∷ Int resolution ∷ Int ordered ∷ Int take ∷ flag x.chair ∷ or_null Int started ∷ or_null Int closed ∷ or_null Int votes_for ∷ or_null Int votes_against ∷ or_null Int withheld ∷ or_null Int eligible ∷ []
-
-  pub adds_poll : meeting_of meeting ≡ Some m → natural_of session ≡ Some x.session → natural_of resolution ≡ Some x.resolution → moment_of_number ordered ≡ Some x.ordered → moment_of_number take ≡ Some x.take → some_moment_of (or_null Int started) ≡ Some x.started → some_moment_of (or_null Int closed) ≡ Some x.closed → declared_of (or_null Int votes_for) (or_null Int votes_against) (or_null Int withheld) (or_null Int eligible) ≡ Some x.declared
-      → AddsBy layout_two polls (adding_text table) values (record { meeting = m; item = x })
-  unfolding poll_in declared_in flag_in moment_in number_in some_moment_in parsed_in
-  adds_poll meeting_is session_is resolution_is ordered_is take_is started_is closed_is declared_is =
-      adds_given twos_apart adds values values (record { meeting = m; item = x }) (rw (cast_null, cast_int session, cast_int resolution, cast_int ordered, cast_int take, cast_flag x.chair, cast_some started, cast_some closed, cast_some votes_for, cast_some votes_against, cast_some withheld, cast_some eligible) refl) (λ id. rw (meeting_is, session_is, resolution_is, ordered_is, take_is, started_is, closed_is, declared_is, flag_kept x.chair) refl)
 
 abbrev named : List Term
 named = op2 (Compare Eq Binary) (col 1 1) (col 0 0) ∷ op2 (Compare Eq Binary) (col 1 3) (col 0 1) ∷ []

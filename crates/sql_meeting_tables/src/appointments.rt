@@ -1,26 +1,65 @@
 //! The table `appointments`: the appointments of proxies, in order of receipt (section 324).
-ghost use Rattle.std.specs.Prelude.{◌≡◌, IfOk};
+ghost use Rattle.std.specs.Prelude.{◌≡◌, refl};
 ghost use Rattle.sql_schema.specs.Contents.{appointments};
-ghost use Rattle.sql_schema.specs.Statements.{Adds, ChangesNothing, CommitsNothing, Does, IsRead, Makes, ReadsTable};
-ghost use Rattle.sql_schema.specs.Tables.{up_to_register, up_to_appointments};
+ghost use Rattle.sql_schema.specs.Statements.{Adds, CommitsNothing, Does};
+ghost use Rattle.sql_schema.specs.Tables.{appointments_table, up_to_register};
+ghost use Rattle.sql_schema.specs.SqlTexts.{filed_text};
+ghost use Rattle.sql_meeting_tables.specs.HandedInTables.{appointments_added, appointments_listed, appointments_made};
 
 use desk_words::{Appointment, MeetingId};
 use sql_lemmas::whole;
-use sql_rows::{letters_of, meeting_text, moment_number, party_text, range_numbers};
-use sqlite::{Alter, Error, Row, Transaction, params};
+use sql_rows::{InMeeting, letters_of, meeting_text, moment_number, party_text, range_numbers};
+use sql_stored::{FilledTable, ListedTable, MadeTable, ReadTable, add_row, adding, listing};
+use sqlite::{Alter, Error, Transaction, params};
 use std::alloc::Global;
 
-/// Makes the table, after that of register.
-pub fn make<S: Alter>(tx: &mut Transaction<'_, S>) -> Result<usize, Error>
-    ensures same_reference { tx.new.conn.ghost_name ≡ tx.old.conn.ghost_name }
-    ensures made { Makes S.Store tx.old.conn.now tx.new.conn.now result up_to_register
-        up_to_appointments }
-    ensures commits { CommitsNothing S.Store tx.old.conn.now tx.new.conn.now }
-{
-    tx.execute(
-        "CREATE TABLE appointments (seq INTEGER PRIMARY KEY AUTOINCREMENT, meeting TEXT NOT NULL REFERENCES meetings (meeting), member TEXT NOT NULL, number INTEGER NOT NULL, proxy TEXT NOT NULL, first INTEGER NOT NULL, last INTEGER NOT NULL, instructions TEXT NOT NULL, moment INTEGER NOT NULL, UNIQUE (meeting, member, number)) STRICT",
-        &[],
-    )
+/// The name and the columns of the table, for a text of this form.
+#[macro_export]
+macro_rules! appointments_text {
+    ($form:ident $(, $more:literal)*) => {
+        $form!("appointments", "meeting, member, number, proxy, first, last, instructions, moment", "seq" $(, $more)*)
+    };
+}
+
+/// The appointments of proxies, in order of receipt (section 324).
+pub struct Appointments;
+
+impl ListedTable for Appointments {
+    type Record = InMeeting<Appointment>;
+
+    ghost declared = { appointments_table };
+
+    ghost table = { appointments };
+
+    fn listing() -> &'static str {
+        appointments_text!(listing)
+    }
+
+    ghost lists = { appointments_listed };
+}
+
+impl ReadTable for Appointments {
+    ghost reads_as = { refl };
+}
+
+impl MadeTable for Appointments {
+    ghost before = { up_to_register };
+
+    ghost making = { filed_text appointments_table };
+
+    fn making() -> &'static str {
+        "CREATE TABLE appointments (seq INTEGER PRIMARY KEY AUTOINCREMENT, meeting TEXT NOT NULL REFERENCES meetings (meeting), member TEXT NOT NULL, number INTEGER NOT NULL, proxy TEXT NOT NULL, first INTEGER NOT NULL, last INTEGER NOT NULL, instructions TEXT NOT NULL, moment INTEGER NOT NULL, UNIQUE (meeting, member, number)) STRICT"
+    }
+
+    ghost makes = { appointments_made };
+}
+
+impl FilledTable for Appointments {
+    fn adding() -> &'static str {
+        appointments_text!(adding, "?1, ?2, ?3, ?4, ?5, ?6, ?7, ?8")
+    }
+
+    ghost adds = { appointments_added };
 }
 
 /// Adds an appointment in a meeting.
@@ -38,8 +77,8 @@ pub fn add<S: Alter>(
     let number = whole(appointment.number)?;
     let (first, last) = range_numbers(appointment.range);
     let letters = letters_of(alloc, &appointment.instructions)?;
-    tx.execute(
-        "INSERT INTO appointments (meeting, member, number, proxy, first, last, instructions, moment) VALUES (?1, ?2, ?3, ?4, ?5, ?6, ?7, ?8)",
+    add_row::<Appointments, S>(
+        tx,
         params![
             meeting_text(&meeting),
             party_text(&appointment.member),
@@ -50,19 +89,5 @@ pub fn add<S: Alter>(
             &letters,
             moment_number(appointment.moment)
         ],
-    )
-}
-
-/// The rows, in order of receipt.
-pub fn all<S: Alter>(tx: &mut Transaction<'_, S>) -> Result<Vec<Row>, Error>
-    ensures same_reference { tx.new.conn.ghost_name ≡ tx.old.conn.ghost_name }
-    ensures rows { IsRead S.Store tx.old.conn.now tx.new.conn.now
-        → IfOk result
-        (λ rows. ReadsTable S.Store tx.old.conn.now tx.new.conn.now appointments rows.items) }
-    ensures changes { ChangesNothing S.Store tx.old.conn.now tx.new.conn.now }
-{
-    tx.query_all(
-        "SELECT meeting, member, number, proxy, first, last, instructions, moment FROM appointments ORDER BY seq",
-        &[],
     )
 }

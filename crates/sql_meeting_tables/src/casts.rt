@@ -1,24 +1,64 @@
 //! The table `casts`: the votes, in order of receipt (sections 284 and 322).
-ghost use Rattle.std.specs.Prelude.{◌≡◌, IfOk};
+ghost use Rattle.std.specs.Prelude.{◌≡◌, refl};
 ghost use Rattle.sql_schema.specs.Contents.{casts};
-ghost use Rattle.sql_schema.specs.Statements.{Adds, ChangesNothing, CommitsNothing, Does, IsRead, Makes, ReadsTable};
-ghost use Rattle.sql_schema.specs.Tables.{up_to_polls, up_to_casts};
+ghost use Rattle.sql_schema.specs.Statements.{Adds, CommitsNothing, Does};
+ghost use Rattle.sql_schema.specs.Tables.{casts_table, up_to_polls};
+ghost use Rattle.sql_schema.specs.SqlTexts.{filed_text};
+ghost use Rattle.sql_meeting_tables.specs.HandedInTables.{casts_added, casts_listed, casts_made};
 
 use desk_words::{CastMark, MeetingId};
 use sql_lemmas::whole;
-use sql_rows::{cast_columns, meeting_text, moment_number, party_text};
-use sqlite::{Alter, Error, Row, Transaction, params};
+use sql_rows::{InMeeting, cast_columns, meeting_text, moment_number, party_text};
+use sql_stored::{FilledTable, ListedTable, MadeTable, ReadTable, add_row, adding, listing};
+use sqlite::{Alter, Error, Transaction, params};
 
-/// Makes the table, after that of polls.
-pub fn make<S: Alter>(tx: &mut Transaction<'_, S>) -> Result<usize, Error>
-    ensures same_reference { tx.new.conn.ghost_name ≡ tx.old.conn.ghost_name }
-    ensures made { Makes S.Store tx.old.conn.now tx.new.conn.now result up_to_polls up_to_casts }
-    ensures commits { CommitsNothing S.Store tx.old.conn.now tx.new.conn.now }
-{
-    tx.execute(
-        "CREATE TABLE casts (seq INTEGER PRIMARY KEY AUTOINCREMENT, meeting TEXT NOT NULL REFERENCES meetings (meeting), resolution INTEGER NOT NULL, voter TEXT NOT NULL, capacity TEXT NOT NULL, member TEXT, first INTEGER, last INTEGER, way TEXT, moment INTEGER NOT NULL) STRICT",
-        &[],
-    )
+/// The name and the columns of the table, for a text of this form.
+#[macro_export]
+macro_rules! casts_text {
+    ($form:ident $(, $more:literal)*) => {
+        $form!("casts", "meeting, resolution, voter, capacity, member, first, last, way, moment", "seq" $(, $more)*)
+    };
+}
+
+/// The votes, in order of receipt (sections 284 and 322).
+pub struct Casts;
+
+impl ListedTable for Casts {
+    type Record = InMeeting<CastMark>;
+
+    ghost declared = { casts_table };
+
+    ghost table = { casts };
+
+    fn listing() -> &'static str {
+        casts_text!(listing)
+    }
+
+    ghost lists = { casts_listed };
+}
+
+impl ReadTable for Casts {
+    ghost reads_as = { refl };
+}
+
+impl MadeTable for Casts {
+    ghost before = { up_to_polls };
+
+    ghost making = { filed_text casts_table };
+
+    fn making() -> &'static str {
+        "CREATE TABLE casts (seq INTEGER PRIMARY KEY AUTOINCREMENT, meeting TEXT NOT NULL REFERENCES meetings (meeting), resolution INTEGER NOT NULL, voter TEXT NOT NULL, capacity TEXT NOT NULL, member TEXT, first INTEGER, last INTEGER, way TEXT, moment INTEGER NOT NULL) STRICT"
+    }
+
+    ghost makes = { casts_made };
+}
+
+impl FilledTable for Casts {
+    fn adding() -> &'static str {
+        casts_text!(adding, "?1, ?2, ?3, ?4, ?5, ?6, ?7, ?8, ?9")
+    }
+
+    ghost adds = { casts_added };
 }
 
 /// Adds a vote in a meeting.
@@ -34,8 +74,8 @@ pub fn add<S: Alter>(
 {
     let resolution = whole(cast.resolution)?;
     let columns = cast_columns(&cast.what);
-    tx.execute(
-        "INSERT INTO casts (meeting, resolution, voter, capacity, member, first, last, way, moment) VALUES (?1, ?2, ?3, ?4, ?5, ?6, ?7, ?8, ?9)",
+    add_row::<Casts, S>(
+        tx,
         params![
             meeting_text(&meeting),
             resolution,
@@ -47,19 +87,5 @@ pub fn add<S: Alter>(
             columns.way,
             moment_number(cast.moment)
         ],
-    )
-}
-
-/// The rows, in order of receipt.
-pub fn all<S: Alter>(tx: &mut Transaction<'_, S>) -> Result<Vec<Row>, Error>
-    ensures same_reference { tx.new.conn.ghost_name ≡ tx.old.conn.ghost_name }
-    ensures rows { IsRead S.Store tx.old.conn.now tx.new.conn.now
-        → IfOk result
-        (λ rows. ReadsTable S.Store tx.old.conn.now tx.new.conn.now casts rows.items) }
-    ensures changes { ChangesNothing S.Store tx.old.conn.now tx.new.conn.now }
-{
-    tx.query_all(
-        "SELECT meeting, resolution, voter, capacity, member, first, last, way, moment FROM casts ORDER BY seq",
-        &[],
     )
 }

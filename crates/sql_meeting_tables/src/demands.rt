@@ -1,27 +1,66 @@
 //! The table `demands2`: the demands of polls, in order of receipt (sections 321 and 329).
-ghost use Rattle.std.specs.Prelude.{◌≡◌, IfOk};
+ghost use Rattle.std.specs.Prelude.{◌≡◌, refl};
 ghost use Rattle.sql_schema.specs.Contents.{demands, demands_one};
 ghost use Rattle.sql_schema.specs.CopiedRows.{Copies};
 ghost use Rattle.sql_meeting_tables.specs.Copying.{CopiesTyped};
-ghost use Rattle.sql_schema.specs.Statements.{Adds, ChangesNothing, CommitsNothing, Does, IsRead, Makes, ReadsTable};
-ghost use Rattle.sql_schema.specs.Tables.{demands_table, up_to_demands2, up_to_presences2};
+ghost use Rattle.sql_schema.specs.Statements.{Adds, CommitsNothing, Does};
+ghost use Rattle.sql_schema.specs.Tables.{demands2_table, demands_table, up_to_presences2};
+ghost use Rattle.sql_schema.specs.SqlTexts.{filed_text};
+ghost use Rattle.sql_meeting_tables.specs.SessionTables.{demands_added, demands_listed, demands_made};
 
 use desk_words::{DemandMark, MeetingId};
 use sql_lemmas::whole;
-use sql_rows::{meeting_text, moment_number, party_text};
-use sqlite::{Alter, Error, Row, Transaction, params};
+use sql_rows::{InMeeting, meeting_text, moment_number, party_text};
+use sql_stored::{FilledTable, ListedTable, MadeTable, ReadTable, add_row, adding, listing};
+use sqlite::{Alter, Error, Transaction, params};
 
-/// Makes the table, after that of presences.
-pub fn make<S: Alter>(tx: &mut Transaction<'_, S>) -> Result<usize, Error>
-    ensures same_reference { tx.new.conn.ghost_name ≡ tx.old.conn.ghost_name }
-    ensures made { Makes S.Store tx.old.conn.now tx.new.conn.now result up_to_presences2
-        up_to_demands2 }
-    ensures commits { CommitsNothing S.Store tx.old.conn.now tx.new.conn.now }
-{
-    tx.execute(
-        "CREATE TABLE demands2 (seq INTEGER PRIMARY KEY AUTOINCREMENT, meeting TEXT NOT NULL REFERENCES meetings (meeting), session INTEGER NOT NULL, resolution INTEGER NOT NULL, party TEXT NOT NULL, moment INTEGER NOT NULL, UNIQUE (meeting, session, resolution, party)) STRICT",
-        &[],
-    )
+/// The name and the columns of the table, for a text of this form.
+#[macro_export]
+macro_rules! demands_text {
+    ($form:ident $(, $more:literal)*) => {
+        $form!("demands2", "meeting, session, resolution, party, moment", "seq" $(, $more)*)
+    };
+}
+
+/// The demands of polls, in order of receipt (sections 321 and 329).
+pub struct Demands;
+
+impl ListedTable for Demands {
+    type Record = InMeeting<DemandMark>;
+
+    ghost declared = { demands2_table };
+
+    ghost table = { demands };
+
+    fn listing() -> &'static str {
+        demands_text!(listing)
+    }
+
+    ghost lists = { demands_listed };
+}
+
+impl ReadTable for Demands {
+    ghost reads_as = { refl };
+}
+
+impl MadeTable for Demands {
+    ghost before = { up_to_presences2 };
+
+    ghost making = { filed_text demands2_table };
+
+    fn making() -> &'static str {
+        "CREATE TABLE demands2 (seq INTEGER PRIMARY KEY AUTOINCREMENT, meeting TEXT NOT NULL REFERENCES meetings (meeting), session INTEGER NOT NULL, resolution INTEGER NOT NULL, party TEXT NOT NULL, moment INTEGER NOT NULL, UNIQUE (meeting, session, resolution, party)) STRICT"
+    }
+
+    ghost makes = { demands_made };
+}
+
+impl FilledTable for Demands {
+    fn adding() -> &'static str {
+        demands_text!(adding, "?1, ?2, ?3, ?4, ?5")
+    }
+
+    ghost adds = { demands_added };
 }
 
 /// Adds a party's demand of a poll in a session of a meeting.
@@ -37,8 +76,8 @@ pub fn add<S: Alter>(
 {
     let session = whole(demand.session)?;
     let resolution = whole(demand.resolution)?;
-    tx.execute(
-        "INSERT INTO demands2 (meeting, session, resolution, party, moment) VALUES (?1, ?2, ?3, ?4, ?5)",
+    add_row::<Demands, S>(
+        tx,
         params![
             meeting_text(&meeting),
             session,
@@ -46,20 +85,6 @@ pub fn add<S: Alter>(
             party_text(&demand.party),
             moment_number(demand.moment)
         ],
-    )
-}
-
-/// The rows, in order of receipt.
-pub fn all<S: Alter>(tx: &mut Transaction<'_, S>) -> Result<Vec<Row>, Error>
-    ensures same_reference { tx.new.conn.ghost_name ≡ tx.old.conn.ghost_name }
-    ensures rows { IsRead S.Store tx.old.conn.now tx.new.conn.now
-        → IfOk result
-        (λ rows. ReadsTable S.Store tx.old.conn.now tx.new.conn.now demands rows.items) }
-    ensures changes { ChangesNothing S.Store tx.old.conn.now tx.new.conn.now }
-{
-    tx.query_all(
-        "SELECT meeting, session, resolution, party, moment FROM demands2 ORDER BY seq",
-        &[],
     )
 }
 

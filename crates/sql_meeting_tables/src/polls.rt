@@ -1,28 +1,67 @@
 //! The table `polls2`: the polls (section 321).
-ghost use Rattle.std.specs.Prelude.{◌≡◌, IfOk};
+ghost use Rattle.std.specs.Prelude.{◌≡◌, refl};
 ghost use Rattle.sql_schema.specs.Contents.{closed_at, declared_with, polls, polls_one, started_at};
 ghost use Rattle.sql_schema.specs.CopiedRows.{Copies};
 ghost use Rattle.sql_meeting_tables.specs.Copying.{CopiesTyped};
-ghost use Rattle.sql_schema.specs.Statements.{Adds, ChangesNothing, CommitsNothing, Does, IsRead, Makes, ReadsTable, Sets};
-ghost use Rattle.sql_schema.specs.Tables.{polls_table, up_to_demands2, up_to_polls2};
+ghost use Rattle.sql_schema.specs.Statements.{Adds, CommitsNothing, Does, Sets};
+ghost use Rattle.sql_schema.specs.Tables.{polls2_table, polls_table, up_to_demands2};
+ghost use Rattle.sql_schema.specs.SqlTexts.{once_text};
+ghost use Rattle.sql_meeting_tables.specs.SessionTables.{polls_added, polls_listed, polls_made};
 
 use desk_words::{MeetingId, Moment, Poll, Tally};
 use sql_lemmas::{tally, whole};
-use sql_rows::{meeting_text, moment_number, some_moment_number};
+use sql_rows::{InMeeting, meeting_text, moment_number, some_moment_number};
 use sql_schema::PollName;
-use sqlite::{Alter, Error, Row, Transaction, params};
+use sql_stored::{FilledTable, ListedTable, MadeTable, ReadTable, add_row, adding, listing};
+use sqlite::{Alter, Error, Transaction, params};
 
-/// Makes the table, after that of demands.
-pub fn make<S: Alter>(tx: &mut Transaction<'_, S>) -> Result<usize, Error>
-    ensures same_reference { tx.new.conn.ghost_name ≡ tx.old.conn.ghost_name }
-    ensures made { Makes S.Store tx.old.conn.now tx.new.conn.now result up_to_demands2
-        up_to_polls2 }
-    ensures commits { CommitsNothing S.Store tx.old.conn.now tx.new.conn.now }
-{
-    tx.execute(
-        "CREATE TABLE polls2 (meeting TEXT NOT NULL REFERENCES meetings (meeting), session INTEGER NOT NULL, resolution INTEGER NOT NULL, ordered INTEGER NOT NULL, take INTEGER NOT NULL, chair INTEGER NOT NULL, started INTEGER, closed INTEGER, votes_for INTEGER, votes_against INTEGER, withheld INTEGER, eligible INTEGER, PRIMARY KEY (meeting, resolution)) STRICT",
-        &[],
-    )
+/// The name and the columns of the table, for a text of this form.
+#[macro_export]
+macro_rules! polls_text {
+    ($form:ident $(, $more:literal)*) => {
+        $form!("polls2", "meeting, session, resolution, ordered, take, chair, started, closed, votes_for, votes_against, withheld, eligible", "rowid" $(, $more)*)
+    };
+}
+
+/// The polls (section 321).
+pub struct Polls;
+
+impl ListedTable for Polls {
+    type Record = InMeeting<Poll>;
+
+    ghost declared = { polls2_table };
+
+    ghost table = { polls };
+
+    fn listing() -> &'static str {
+        polls_text!(listing)
+    }
+
+    ghost lists = { polls_listed };
+}
+
+impl ReadTable for Polls {
+    ghost reads_as = { refl };
+}
+
+impl MadeTable for Polls {
+    ghost before = { up_to_demands2 };
+
+    ghost making = { once_text polls2_table };
+
+    fn making() -> &'static str {
+        "CREATE TABLE polls2 (meeting TEXT NOT NULL REFERENCES meetings (meeting), session INTEGER NOT NULL, resolution INTEGER NOT NULL, ordered INTEGER NOT NULL, take INTEGER NOT NULL, chair INTEGER NOT NULL, started INTEGER, closed INTEGER, votes_for INTEGER, votes_against INTEGER, withheld INTEGER, eligible INTEGER, PRIMARY KEY (meeting, resolution)) STRICT"
+    }
+
+    ghost makes = { polls_made };
+}
+
+impl FilledTable for Polls {
+    fn adding() -> &'static str {
+        polls_text!(adding, "?1, ?2, ?3, ?4, ?5, ?6, ?7, ?8, ?9, ?10, ?11, ?12")
+    }
+
+    ghost adds = { polls_added };
 }
 
 /// Adds a poll of a session of a meeting.
@@ -39,8 +78,8 @@ pub fn add<S: Alter>(
     let session = whole(poll.session)?;
     let resolution = whole(poll.resolution)?;
     let tally = tally(poll.declared)?;
-    tx.execute(
-        "INSERT INTO polls2 (meeting, session, resolution, ordered, take, chair, started, closed, votes_for, votes_against, withheld, eligible) VALUES (?1, ?2, ?3, ?4, ?5, ?6, ?7, ?8, ?9, ?10, ?11, ?12)",
+    add_row::<Polls, S>(
+        tx,
         params![
             meeting_text(&meeting),
             session,
@@ -55,20 +94,6 @@ pub fn add<S: Alter>(
             tally.withheld,
             tally.eligible
         ],
-    )
-}
-
-/// The rows, in the order in which they were added.
-pub fn all<S: Alter>(tx: &mut Transaction<'_, S>) -> Result<Vec<Row>, Error>
-    ensures same_reference { tx.new.conn.ghost_name ≡ tx.old.conn.ghost_name }
-    ensures rows { IsRead S.Store tx.old.conn.now tx.new.conn.now
-        → IfOk result
-        (λ rows. ReadsTable S.Store tx.old.conn.now tx.new.conn.now polls rows.items) }
-    ensures changes { ChangesNothing S.Store tx.old.conn.now tx.new.conn.now }
-{
-    tx.query_all(
-        "SELECT meeting, session, resolution, ordered, take, chair, started, closed, votes_for, votes_against, withheld, eligible FROM polls2 ORDER BY rowid",
-        &[],
     )
 }
 

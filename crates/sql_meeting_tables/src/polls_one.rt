@@ -1,42 +1,54 @@
 //! The table `polls` of version 1, which version 2 leaves empty.
-ghost use Rattle.std.specs.Prelude.{◌≡◌, IfOk};
 ghost use Rattle.sql_schema.specs.Contents.{polls_one};
-ghost use Rattle.sql_schema.specs.Statements.{ChangesNothing, CommitsNothing, Does, Empties, IsRead, Makes, ReadsTable};
-ghost use Rattle.sql_schema.specs.Tables.{up_to_demands, up_to_polls};
+ghost use Rattle.sql_schema.specs.Tables.{polls_table, up_to_demands};
+ghost use Rattle.sql_schema.specs.SqlTexts.{once_text};
+ghost use Rattle.sql_meeting_tables.specs.FirstTables.{polls_one_emptied, polls_one_listed, polls_one_made};
 
-use sqlite::{Alter, Error, Row, Transaction};
+use desk_words::Poll;
+use sql_rows::InMeeting;
+use sql_stored::{EmptiedTable, ListedTable, MadeTable, listing};
 
-/// Makes the table, after that of demands.
-pub fn make<S: Alter>(tx: &mut Transaction<'_, S>) -> Result<usize, Error>
-    ensures same_reference { tx.new.conn.ghost_name ≡ tx.old.conn.ghost_name }
-    ensures made { Makes S.Store tx.old.conn.now tx.new.conn.now result up_to_demands up_to_polls }
-    ensures commits { CommitsNothing S.Store tx.old.conn.now tx.new.conn.now }
-{
-    tx.execute(
-        "CREATE TABLE polls (meeting TEXT NOT NULL REFERENCES meetings (meeting), resolution INTEGER NOT NULL, ordered INTEGER NOT NULL, take INTEGER NOT NULL, chair INTEGER NOT NULL, started INTEGER, closed INTEGER, votes_for INTEGER, votes_against INTEGER, withheld INTEGER, eligible INTEGER, PRIMARY KEY (meeting, resolution)) STRICT",
-        &[],
-    )
+/// The name and the columns of the table, for a text of this form.
+#[macro_export]
+macro_rules! polls_one_text {
+    ($form:ident $(, $more:literal)*) => {
+        $form!("polls", "meeting, resolution, ordered, take, chair, started, closed, votes_for, votes_against, withheld, eligible", "rowid" $(, $more)*)
+    };
 }
 
-/// The rows, in the order in which they were added.
-pub fn all<S: Alter>(tx: &mut Transaction<'_, S>) -> Result<Vec<Row>, Error>
-    ensures same_reference { tx.new.conn.ghost_name ≡ tx.old.conn.ghost_name }
-    ensures rows { IsRead S.Store tx.old.conn.now tx.new.conn.now
-        → IfOk result
-        (λ rows. ReadsTable S.Store tx.old.conn.now tx.new.conn.now polls_one rows.items) }
-    ensures changes { ChangesNothing S.Store tx.old.conn.now tx.new.conn.now }
-{
-    tx.query_all(
-        "SELECT meeting, resolution, ordered, take, chair, started, closed, votes_for, votes_against, withheld, eligible FROM polls ORDER BY rowid",
-        &[],
-    )
+/// The polls (section 321), as version 1 kept them.
+pub struct PollsOne;
+
+impl ListedTable for PollsOne {
+    type Record = InMeeting<Poll>;
+
+    ghost declared = { polls_table };
+
+    ghost table = { polls_one };
+
+    fn listing() -> &'static str {
+        polls_one_text!(listing)
+    }
+
+    ghost lists = { polls_one_listed };
 }
 
-/// Takes out every row.
-pub fn empty<S: Alter>(tx: &mut Transaction<'_, S>) -> Result<usize, Error>
-    ensures same_reference { tx.new.conn.ghost_name ≡ tx.old.conn.ghost_name }
-    ensures emptied { Does S.Store tx.old.conn.now tx.new.conn.now result (Empties polls_one) }
-    ensures commits { CommitsNothing S.Store tx.old.conn.now tx.new.conn.now }
-{
-    tx.execute("DELETE FROM polls", &[])
+impl MadeTable for PollsOne {
+    ghost before = { up_to_demands };
+
+    ghost making = { once_text polls_table };
+
+    fn making() -> &'static str {
+        "CREATE TABLE polls (meeting TEXT NOT NULL REFERENCES meetings (meeting), resolution INTEGER NOT NULL, ordered INTEGER NOT NULL, take INTEGER NOT NULL, chair INTEGER NOT NULL, started INTEGER, closed INTEGER, votes_for INTEGER, votes_against INTEGER, withheld INTEGER, eligible INTEGER, PRIMARY KEY (meeting, resolution)) STRICT"
+    }
+
+    ghost makes = { polls_one_made };
+}
+
+impl EmptiedTable for PollsOne {
+    fn emptying() -> &'static str {
+        "DELETE FROM polls"
+    }
+
+    ghost empties = { polls_one_emptied };
 }

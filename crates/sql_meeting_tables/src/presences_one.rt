@@ -1,43 +1,54 @@
 //! The table `presences` of version 1, which version 2 leaves empty.
-ghost use Rattle.std.specs.Prelude.{◌≡◌, IfOk};
 ghost use Rattle.sql_schema.specs.Contents.{presences_one};
-ghost use Rattle.sql_schema.specs.Statements.{ChangesNothing, CommitsNothing, Does, Empties, IsRead, Makes, ReadsTable};
-ghost use Rattle.sql_schema.specs.Tables.{up_to_authorities, up_to_presences};
+ghost use Rattle.sql_schema.specs.Tables.{presences_table, up_to_authorities};
+ghost use Rattle.sql_schema.specs.SqlTexts.{filed_text};
+ghost use Rattle.sql_meeting_tables.specs.FirstTables.{presences_one_emptied, presences_one_listed, presences_one_made};
 
-use sqlite::{Alter, Error, Row, Transaction};
+use desk_words::PresenceMark;
+use sql_rows::InMeeting;
+use sql_stored::{EmptiedTable, ListedTable, MadeTable, listing};
 
-/// Makes the table, after that of authorities.
-pub fn make<S: Alter>(tx: &mut Transaction<'_, S>) -> Result<usize, Error>
-    ensures same_reference { tx.new.conn.ghost_name ≡ tx.old.conn.ghost_name }
-    ensures made { Makes S.Store tx.old.conn.now tx.new.conn.now result up_to_authorities
-        up_to_presences }
-    ensures commits { CommitsNothing S.Store tx.old.conn.now tx.new.conn.now }
-{
-    tx.execute(
-        "CREATE TABLE presences (seq INTEGER PRIMARY KEY AUTOINCREMENT, meeting TEXT NOT NULL REFERENCES meetings (meeting), party TEXT NOT NULL, moment INTEGER NOT NULL, UNIQUE (meeting, party)) STRICT",
-        &[],
-    )
+/// The name and the columns of the table, for a text of this form.
+#[macro_export]
+macro_rules! presences_one_text {
+    ($form:ident $(, $more:literal)*) => {
+        $form!("presences", "meeting, party, moment", "seq" $(, $more)*)
+    };
 }
 
-/// The rows, in order of receipt.
-pub fn all<S: Alter>(tx: &mut Transaction<'_, S>) -> Result<Vec<Row>, Error>
-    ensures same_reference { tx.new.conn.ghost_name ≡ tx.old.conn.ghost_name }
-    ensures rows { IsRead S.Store tx.old.conn.now tx.new.conn.now
-        → IfOk result
-        (λ rows. ReadsTable S.Store tx.old.conn.now tx.new.conn.now presences_one rows.items) }
-    ensures changes { ChangesNothing S.Store tx.old.conn.now tx.new.conn.now }
-{
-    tx.query_all(
-        "SELECT meeting, party, moment FROM presences ORDER BY seq",
-        &[],
-    )
+/// The parties that were present, in order of receipt (section 318), as version 1 kept them.
+pub struct PresencesOne;
+
+impl ListedTable for PresencesOne {
+    type Record = InMeeting<PresenceMark>;
+
+    ghost declared = { presences_table };
+
+    ghost table = { presences_one };
+
+    fn listing() -> &'static str {
+        presences_one_text!(listing)
+    }
+
+    ghost lists = { presences_one_listed };
 }
 
-/// Takes out every row.
-pub fn empty<S: Alter>(tx: &mut Transaction<'_, S>) -> Result<usize, Error>
-    ensures same_reference { tx.new.conn.ghost_name ≡ tx.old.conn.ghost_name }
-    ensures emptied { Does S.Store tx.old.conn.now tx.new.conn.now result (Empties presences_one) }
-    ensures commits { CommitsNothing S.Store tx.old.conn.now tx.new.conn.now }
-{
-    tx.execute("DELETE FROM presences", &[])
+impl MadeTable for PresencesOne {
+    ghost before = { up_to_authorities };
+
+    ghost making = { filed_text presences_table };
+
+    fn making() -> &'static str {
+        "CREATE TABLE presences (seq INTEGER PRIMARY KEY AUTOINCREMENT, meeting TEXT NOT NULL REFERENCES meetings (meeting), party TEXT NOT NULL, moment INTEGER NOT NULL, UNIQUE (meeting, party)) STRICT"
+    }
+
+    ghost makes = { presences_one_made };
+}
+
+impl EmptiedTable for PresencesOne {
+    fn emptying() -> &'static str {
+        "DELETE FROM presences"
+    }
+
+    ghost empties = { presences_one_emptied };
 }

@@ -3,8 +3,12 @@ ghost use Rattle.std.specs.Prelude.{◌≡◌};
 ghost use Rattle.sql_migrate.specs.NewTables.{IsMaking};
 ghost use Rattle.sql_schema.specs.Tables.{desk_schema, schema_one, up_to_polls2};
 
-use sql_desk_tables::sessions;
-use sql_meeting_tables::{demands, indexes, polls, presences};
+use sql_desk_tables::sessions::Sessions;
+use sql_meeting_tables::demands::Demands;
+use sql_meeting_tables::indexes::{CastsByResolution, Demands2ByParty, Presences2ByParty};
+use sql_meeting_tables::polls::Polls;
+use sql_meeting_tables::presences::Presences;
+use sql_stored::{make, make_index};
 use sqlite::{Alter, Error, Transaction};
 
 /// Makes the tables of further sessions, and of presences, demands and polls in each session.
@@ -12,10 +16,10 @@ fn make_tables<S: Alter>(tx: &mut Transaction<'_, S>) -> Result<(), Error>
     ensures same_reference { tx.new.conn.ghost_name ≡ tx.old.conn.ghost_name }
     ensures made { IsMaking S.Store tx.old.conn.now tx.new.conn.now result schema_one up_to_polls2 }
 {
-    sessions::make(tx)?;
-    presences::make(tx)?;
-    demands::make(tx)?;
-    polls::make(tx)?;
+    make::<Sessions, S>(tx)?;
+    make::<Presences, S>(tx)?;
+    make::<Demands, S>(tx)?;
+    make::<Polls, S>(tx)?;
     Ok(())
 }
 
@@ -25,9 +29,9 @@ fn make_indexes<S: Alter>(tx: &mut Transaction<'_, S>) -> Result<(), Error>
     ensures made { IsMaking S.Store tx.old.conn.now tx.new.conn.now result
         up_to_polls2 desk_schema }
 {
-    indexes::make_presences2_by_party(tx)?;
-    indexes::make_demands2_by_party(tx)?;
-    indexes::make_casts_by_resolution(tx)?;
+    make_index::<Presences2ByParty, S>(tx)?;
+    make_index::<Demands2ByParty, S>(tx)?;
+    make_index::<CastsByResolution, S>(tx)?;
     Ok(())
 }
 

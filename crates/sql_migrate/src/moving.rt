@@ -5,7 +5,11 @@ ghost use Rattle.sql_schema.specs.Statements.{CommitsNothing};
 
 use crate::making::make_later;
 use sql_desk_tables::desk;
-use sql_meeting_tables::{demands, demands_one, polls, polls_one, presences, presences_one};
+use sql_meeting_tables::demands_one::DemandsOne;
+use sql_meeting_tables::polls_one::PollsOne;
+use sql_meeting_tables::presences_one::PresencesOne;
+use sql_meeting_tables::{demands, polls, presences};
+use sql_stored::empty;
 use sqlite::{Alter, Error, Transaction};
 
 /// Copies presences, demands and polls into the tables of version 2.
@@ -28,9 +32,9 @@ fn empty_tables<S: Alter>(tx: &mut Transaction<'_, S>) -> Result<(), Error>
         (EmptiesAll S.Store tx.old.conn.now tx.new.conn.now) }
     ensures commits { CommitsNothing S.Store tx.old.conn.now tx.new.conn.now }
 {
-    presences_one::empty(tx)?;
-    demands_one::empty(tx)?;
-    polls_one::empty(tx)?;
+    empty::<PresencesOne, S>(tx)?;
+    empty::<DemandsOne, S>(tx)?;
+    empty::<PollsOne, S>(tx)?;
     Ok(())
 }
 

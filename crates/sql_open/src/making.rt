@@ -5,11 +5,23 @@ ghost use Rattle.sql_open.specs.NewDesk.{LeavesEmptyDesk};
 ghost use Rattle.sql_schema.specs.Tables.{desk_schema, no_schema, schema_one, up_to_casts};
 ghost use Rattle.sql_schema.specs.Tables.{up_to_presences, up_to_register};
 
-use sql_desk_tables::{closed, desk, keys, meetings, register, resolutions};
-use sql_meeting_tables::{
-    appointments, authorities, casts, demands_one, endings, indexes, polls_one, presences_one,
+use sql_desk_tables::closed::ClosedDays;
+use sql_desk_tables::keys::Keys;
+use sql_desk_tables::register::Register;
+use sql_desk_tables::resolutions::Resolutions;
+use sql_desk_tables::{desk, meetings};
+use sql_meeting_tables::appointments::Appointments;
+use sql_meeting_tables::authorities::Authorities;
+use sql_meeting_tables::casts::Casts;
+use sql_meeting_tables::demands_one::DemandsOne;
+use sql_meeting_tables::endings::Endings;
+use sql_meeting_tables::indexes::{
+    AppointmentsByProxy, AuthoritiesByPerson, CastsByVoter, DemandsByParty,
 };
+use sql_meeting_tables::polls_one::PollsOne;
+use sql_meeting_tables::presences_one::PresencesOne;
 use sql_migrate::make_later;
+use sql_stored::{make, make_index};
 use sqlite::{Alter, Error, Transaction};
 
 /// Makes the tables of the desk, of its meetings, and of their resolutions and registers.
@@ -19,11 +31,11 @@ fn make_meetings<S: Alter>(tx: &mut Transaction<'_, S>) -> Result<(), Error>
         no_schema up_to_register }
 {
     desk::make(tx)?;
-    keys::make(tx)?;
-    closed::make(tx)?;
+    make::<Keys, S>(tx)?;
+    make::<ClosedDays, S>(tx)?;
     meetings::make(tx)?;
-    resolutions::make(tx)?;
-    register::make(tx)?;
+    make::<Resolutions, S>(tx)?;
+    make::<Register, S>(tx)?;
     Ok(())
 }
 
@@ -33,10 +45,10 @@ fn make_proxy_tables<S: Alter>(tx: &mut Transaction<'_, S>) -> Result<(), Error>
     ensures made { IsMaking S.Store tx.old.conn.now tx.new.conn.now result
         up_to_register up_to_presences }
 {
-    appointments::make(tx)?;
-    endings::make(tx)?;
-    authorities::make(tx)?;
-    presences_one::make(tx)?;
+    make::<Appointments, S>(tx)?;
+    make::<Endings, S>(tx)?;
+    make::<Authorities, S>(tx)?;
+    make::<PresencesOne, S>(tx)?;
     Ok(())
 }
 
@@ -46,9 +58,9 @@ fn make_polls<S: Alter>(tx: &mut Transaction<'_, S>) -> Result<(), Error>
     ensures made { IsMaking S.Store tx.old.conn.now tx.new.conn.now result
         up_to_presences up_to_casts }
 {
-    demands_one::make(tx)?;
-    polls_one::make(tx)?;
-    casts::make(tx)?;
+    make::<DemandsOne, S>(tx)?;
+    make::<PollsOne, S>(tx)?;
+    make::<Casts, S>(tx)?;
     Ok(())
 }
 
@@ -58,10 +70,10 @@ fn make_indexes<S: Alter>(tx: &mut Transaction<'_, S>) -> Result<(), Error>
     ensures made { IsMaking S.Store tx.old.conn.now tx.new.conn.now result
         up_to_casts schema_one }
 {
-    indexes::make_appointments_by_proxy(tx)?;
-    indexes::make_authorities_by_person(tx)?;
-    indexes::make_demands_by_party(tx)?;
-    indexes::make_casts_by_voter(tx)?;
+    make_index::<AppointmentsByProxy, S>(tx)?;
+    make_index::<AuthoritiesByPerson, S>(tx)?;
+    make_index::<DemandsByParty, S>(tx)?;
+    make_index::<CastsByVoter, S>(tx)?;
     Ok(())
 }
 

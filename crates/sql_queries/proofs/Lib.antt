@@ -1,14 +1,2 @@
-pub mod AppointmentQueries
-pub mod Asking
-pub mod AuthorityQueries
-pub mod CastQueries
-pub mod DemandQueries
-pub mod EndingQueries
 pub mod LastQueries
-pub mod MeetingQueries
-pub mod PollQueries
-pub mod PresenceQueries
-pub mod Queries
-pub mod RegisterQueries
 pub mod ResolutionQueries
-pub mod SessionQueries

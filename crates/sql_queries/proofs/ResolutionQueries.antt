@@ -1,4 +1,4 @@
--- What is found in `resolutions`.
+-- What is found of the last resolution.
 use Rattle.std.proofs.Common.{◌≡◌, ℕ, List, [], ◌∷◌, codes, Some, refl, ◌∙◌}
 use Rattle.sqlite.specs.declared.types.Value.TheVariants.{Text}
 use Rattle.sqlite.specs.Order.{Row}
@@ -15,9 +15,10 @@ use Rattle.sql_rows.proofs.RowMeaningLemmas.{bound, option_ap}
 use Rattle.vocabulary.specs.Names.{meeting_of, same_name}
 use Rattle.sql_schema.specs.Contents.{resolutions}
 use Rattle.sql_schema.specs.Statements.{columns_of, HasTables, layout_two}
-use Rattle.sql_lemmas.proofs.Reading.{sought, AsksAs}
+use Rattle.sql_lemmas.proofs.Reading.{AsksAs}
+use Rattle.sql_queries.specs.DeskQueries.{names_resolution}
 use Rattle.sql_queries.proofs.LastQueries.{IsLastQuery, sought_last}
-use Rattle.sql_queries.proofs.Queries.{IsQuery, names_meeting, one_tells}
+use Rattle.sql_lemmas.proofs.Queries.{names_meeting, one_tells}
 use Rattle.sql_lemmas.proofs.Frames.{wide_one}
 use Rattle.sqlite.specs.Schema.{Schema}
 
@@ -26,37 +27,6 @@ shows = col 1 1 ∷ col 1 2 ∷ col 1 3 ∷ col 1 4 ∷ []
 
 abbrev names : List (List ℕ)
 names = codes "meeting" ∷ codes "number" ∷ codes "kind" ∷ codes "body" ∷ []
-
--- what a row names
-names_in : (cells : Row) (x : InMeeting (Numbered Resolution)) → resolution_in cells ≡ Some x → parsed_in meeting_of cells 0 ≡ Some x.meeting
-unfolding resolution_in
-names_in cells x h =
-    let meeting = bound (parsed_in meeting_of cells 0) _ x h in
-    let number = bound (number_in cells 1) _ x meeting.2 in
-    let kind = bound (parsed_word_in resolution_kind_of cells 2) _ x number.2 in
-    let text = bound (parsed_word_in plain_text_of cells 3) _ x kind.2 in
-    meeting.1 ∙ option_ap (λ (y : InMeeting (Numbered Resolution)). y.meeting) text.2
-
-abbrev of_meeting_text : List ℕ
-of_meeting_text = codes "SELECT meeting, number, kind, body FROM resolutions WHERE meeting = ?1 ORDER BY rowid"
-
-of_meeting_asks : (s : Schema) → HasTables layout_two s → AsksAs s of_meeting_text (sought 8 (names_meeting 1) shows) names
-unfolding understood everything
-of_meeting_asks = wide_one (λ s. AsksAs s of_meeting_text (sought 8 (names_meeting 1) shows) names) (λ others apart indexes views. record { is = refl; plain = (refl, refl); unlisted = refl })
-
--- the rows of the meeting
-pub of_meeting : (m meeting : List ℕ) → meeting_of meeting ≡ Some m → IsQuery resolutions of_meeting_text (Text meeting ∷ []) (λ x. same_name x.meeting m)
-unfolding parsed_in
-of_meeting m meeting meeting_is = record {
-  tests = names_meeting 1;
-  project = shows;
-  names = names;
-  asks = of_meeting_asks;
-  none = refl;
-  numbered = refl;
-  columns = λ cells. refl;
-  same = λ cells x h. one_tells cells 1 meeting m x.meeting (names_in (columns_of resolutions cells) x h) meeting_is;
-}
 
 abbrev last_of_meeting_text : List ℕ
 last_of_meeting_text = codes "SELECT meeting, number, kind, body FROM resolutions WHERE meeting = ?1 ORDER BY number DESC LIMIT 1"
@@ -87,6 +57,6 @@ last_of_meeting m meeting meeting_is = record {
   asks = last_of_meeting_asks;
   none = refl;
   columns = λ cells. refl;
-  same = λ cells x h. one_tells cells 1 meeting m x.meeting (names_in (columns_of resolutions cells) x h) meeting_is;
+  same = λ cells x h. one_tells cells 1 meeting m x.meeting (names_resolution (columns_of resolutions cells) x h) meeting_is;
   numbers = λ cells x h. number_in_row (columns_of resolutions cells) x h;
 }

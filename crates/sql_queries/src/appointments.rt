@@ -1,47 +1,65 @@
 //! The appointments of proxies in a meeting (section 324), by who gave them and by whom they name.
-ghost use Rattle.std.specs.Prelude.{◌≡◌, ◌&&◌, IfOk};
-ghost use Rattle.vocabulary.specs.Names.{same_name};
-ghost use Rattle.sql_schema.specs.Contents.{appointments};
-ghost use Rattle.sql_schema.specs.Statements.{ChangesNothing, FindsRecords, IsRead};
+ghost use Rattle.std.specs.Prelude.{◌∷◌, []};
+ghost use Rattle.sql_queries.specs.HandedInQueries.{appointment_given_by, appointment_naming, appointments_of_meeting};
 
 use desk_words::{MeetingId, Party};
-use sql_rows::{meeting_text, party_text};
-use sqlite::{Alter, Error, Row, Transaction, params};
+use sql_meeting_tables::appointments::Appointments;
+use sql_meeting_tables::appointments_text;
+use sql_stored::{Query, finding};
 
-/// The rows of the appointments that a member gave in a meeting, in order of receipt.
-pub fn given_by<S: Alter>(
-    tx: &mut Transaction<'_, S>,
-    meeting: MeetingId,
-    member: Party,
-) -> Result<Vec<Row>, Error>
-    ensures same_reference { tx.new.conn.ghost_name ≡ tx.old.conn.ghost_name }
-    ensures rows { IsRead S.Store tx.old.conn.now tx.new.conn.now
-        → IfOk result
-        (λ rows. FindsRecords S.Store tx.old.conn.now tx.new.conn.now appointments
-        (λ it. same_name it.meeting meeting && same_name it.item.member member) rows.items) }
-    ensures changes { ChangesNothing S.Store tx.old.conn.now tx.new.conn.now }
-{
-    tx.query_all(
-        "SELECT meeting, member, number, proxy, first, last, instructions, moment FROM appointments WHERE meeting = ?1 AND member = ?2 ORDER BY seq",
-        params![meeting_text(&meeting), party_text(&member)],
-    )
+/// The appointments that a member gave in a meeting.
+pub struct GivenBy;
+
+impl Query for GivenBy {
+    type Table = Appointments;
+
+    type Key = (MeetingId, Party);
+
+    ghost places = { 0 ∷ 1 ∷ [] };
+
+    ghost key_of = { λ it. (it.meeting, it.item.member) };
+
+    fn finding() -> &'static str {
+        appointments_text!(finding, "meeting = ?1 AND member = ?2")
+    }
+
+    ghost finds = { appointment_given_by };
 }
 
-/// The rows of the appointments in a meeting that name a party as their proxy, in order of receipt.
-pub fn naming<S: Alter>(
-    tx: &mut Transaction<'_, S>,
-    meeting: MeetingId,
-    proxy: Party,
-) -> Result<Vec<Row>, Error>
-    ensures same_reference { tx.new.conn.ghost_name ≡ tx.old.conn.ghost_name }
-    ensures rows { IsRead S.Store tx.old.conn.now tx.new.conn.now
-        → IfOk result
-        (λ rows. FindsRecords S.Store tx.old.conn.now tx.new.conn.now appointments
-        (λ it. same_name it.meeting meeting && same_name it.item.proxy proxy) rows.items) }
-    ensures changes { ChangesNothing S.Store tx.old.conn.now tx.new.conn.now }
-{
-    tx.query_all(
-        "SELECT meeting, member, number, proxy, first, last, instructions, moment FROM appointments WHERE meeting = ?1 AND proxy = ?2 ORDER BY seq",
-        params![meeting_text(&meeting), party_text(&proxy)],
-    )
+/// The appointments in a meeting that name a party as their proxy.
+pub struct Naming;
+
+impl Query for Naming {
+    type Table = Appointments;
+
+    type Key = (MeetingId, Party);
+
+    ghost places = { 0 ∷ 3 ∷ [] };
+
+    ghost key_of = { λ it. (it.meeting, it.item.proxy) };
+
+    fn finding() -> &'static str {
+        appointments_text!(finding, "meeting = ?1 AND proxy = ?2")
+    }
+
+    ghost finds = { appointment_naming };
+}
+
+/// The appointments of proxies in a meeting (section 324).
+pub struct OfMeeting;
+
+impl Query for OfMeeting {
+    type Table = Appointments;
+
+    type Key = MeetingId;
+
+    ghost places = { 0 ∷ [] };
+
+    ghost key_of = { λ it. it.meeting };
+
+    fn finding() -> &'static str {
+        appointments_text!(finding, "meeting = ?1")
+    }
+
+    ghost finds = { appointments_of_meeting };
 }

@@ -1,76 +1,85 @@
 //! The authorities of representatives in a meeting (section 323), by who gave them and by whom
 //! they name.
-ghost use Rattle.std.specs.Prelude.{◌≡◌, ◌&&◌, IfOk};
-ghost use Rattle.vocabulary.specs.Names.{same_name};
-ghost use Rattle.sql_schema.specs.Contents.{authorities};
-ghost use Rattle.sql_schema.specs.Statements.{ChangesNothing, FindsRecords, IsRead};
+ghost use Rattle.std.specs.Prelude.{◌∷◌, []};
+ghost use Rattle.sql_queries.specs.HandedInQueries.{authorities_of_meeting, authority_given_by, authority_naming, authority_naming_by};
 
 use desk_words::{MeetingId, Party};
-use sql_rows::{meeting_text, party_text};
-use sqlite::{Alter, Error, Row, Transaction, params};
+use sql_meeting_tables::authorities::Authorities;
+use sql_meeting_tables::authorities_text;
+use sql_stored::{Query, finding};
 
-/// The rows of the authorities that a corporation gave in a meeting, in order of receipt.
-pub fn given_by<S: Alter>(
-    tx: &mut Transaction<'_, S>,
-    meeting: MeetingId,
-    corporation: Party,
-) -> Result<Vec<Row>, Error>
-    ensures same_reference { tx.new.conn.ghost_name ≡ tx.old.conn.ghost_name }
-    ensures rows { IsRead S.Store tx.old.conn.now tx.new.conn.now
-        → IfOk result
-        (λ rows. FindsRecords S.Store tx.old.conn.now tx.new.conn.now authorities
-        (λ it. same_name it.meeting meeting && same_name it.item.corporation corporation)
-        rows.items) }
-    ensures changes { ChangesNothing S.Store tx.old.conn.now tx.new.conn.now }
-{
-    tx.query_all(
-        "SELECT meeting, corporation, person, moment FROM authorities WHERE meeting = ?1 AND corporation = ?2 ORDER BY seq",
-        params![meeting_text(&meeting), party_text(&corporation)],
-    )
+/// The authorities that a corporation gave in a meeting.
+pub struct GivenBy;
+
+impl Query for GivenBy {
+    type Table = Authorities;
+
+    type Key = (MeetingId, Party);
+
+    ghost places = { 0 ∷ 1 ∷ [] };
+
+    ghost key_of = { λ it. (it.meeting, it.item.corporation) };
+
+    fn finding() -> &'static str {
+        authorities_text!(finding, "meeting = ?1 AND corporation = ?2")
+    }
+
+    ghost finds = { authority_given_by };
 }
 
-/// The rows of the authorities in a meeting that name a person, in order of receipt.
-pub fn naming<S: Alter>(
-    tx: &mut Transaction<'_, S>,
-    meeting: MeetingId,
-    person: Party,
-) -> Result<Vec<Row>, Error>
-    ensures same_reference { tx.new.conn.ghost_name ≡ tx.old.conn.ghost_name }
-    ensures rows { IsRead S.Store tx.old.conn.now tx.new.conn.now
-        → IfOk result
-        (λ rows. FindsRecords S.Store tx.old.conn.now tx.new.conn.now authorities
-        (λ it. same_name it.meeting meeting && same_name it.item.person person) rows.items) }
-    ensures changes { ChangesNothing S.Store tx.old.conn.now tx.new.conn.now }
-{
-    tx.query_all(
-        "SELECT meeting, corporation, person, moment FROM authorities WHERE meeting = ?1 AND person = ?2 ORDER BY seq",
-        params![meeting_text(&meeting), party_text(&person)],
-    )
+/// The authorities in a meeting that name a person.
+pub struct Naming;
+
+impl Query for Naming {
+    type Table = Authorities;
+
+    type Key = (MeetingId, Party);
+
+    ghost places = { 0 ∷ 2 ∷ [] };
+
+    ghost key_of = { λ it. (it.meeting, it.item.person) };
+
+    fn finding() -> &'static str {
+        authorities_text!(finding, "meeting = ?1 AND person = ?2")
+    }
+
+    ghost finds = { authority_naming };
 }
 
-/// The rows of the authorities that a corporation gave to a person in a meeting, in order of
-/// receipt.
-pub fn naming_by<S: Alter>(
-    tx: &mut Transaction<'_, S>,
-    meeting: MeetingId,
-    corporation: Party,
-    person: Party,
-) -> Result<Vec<Row>, Error>
-    ensures same_reference { tx.new.conn.ghost_name ≡ tx.old.conn.ghost_name }
-    ensures rows { IsRead S.Store tx.old.conn.now tx.new.conn.now
-        → IfOk result
-        (λ rows. FindsRecords S.Store tx.old.conn.now tx.new.conn.now authorities
-        (λ it. same_name it.meeting meeting
-        && (same_name it.item.corporation corporation && same_name it.item.person person))
-        rows.items) }
-    ensures changes { ChangesNothing S.Store tx.old.conn.now tx.new.conn.now }
-{
-    tx.query_all(
-        "SELECT meeting, corporation, person, moment FROM authorities WHERE meeting = ?1 AND corporation = ?2 AND person = ?3 ORDER BY seq",
-        params![
-            meeting_text(&meeting),
-            party_text(&corporation),
-            party_text(&person)
-        ],
-    )
+/// The authorities that a corporation gave to a person in a meeting.
+pub struct NamingBy;
+
+impl Query for NamingBy {
+    type Table = Authorities;
+
+    type Key = (MeetingId, Party, Party);
+
+    ghost places = { 0 ∷ 1 ∷ 2 ∷ [] };
+
+    ghost key_of = { λ it. (it.meeting, it.item.corporation, it.item.person) };
+
+    fn finding() -> &'static str {
+        authorities_text!(finding, "meeting = ?1 AND corporation = ?2 AND person = ?3")
+    }
+
+    ghost finds = { authority_naming_by };
+}
+
+/// The authorities of representatives in a meeting (section 323).
+pub struct OfMeeting;
+
+impl Query for OfMeeting {
+    type Table = Authorities;
+
+    type Key = MeetingId;
+
+    ghost places = { 0 ∷ [] };
+
+    ghost key_of = { λ it. it.meeting };
+
+    fn finding() -> &'static str {
+        authorities_text!(finding, "meeting = ?1")
+    }
+
+    ghost finds = { authorities_of_meeting };
 }

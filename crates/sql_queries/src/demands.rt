@@ -1,28 +1,46 @@
 //! The demands of polls in a meeting (sections 321 and 329), by the party.
-ghost use Rattle.std.specs.Prelude.{◌≡◌, ◌&&◌, IfOk};
-ghost use Rattle.vocabulary.specs.Names.{same_name};
-ghost use Rattle.sql_schema.specs.Contents.{demands};
-ghost use Rattle.sql_schema.specs.Statements.{ChangesNothing, FindsRecords, IsRead};
+ghost use Rattle.std.specs.Prelude.{◌∷◌, []};
+ghost use Rattle.sql_queries.specs.SessionQueries.{demand_made_by, demands_of_meeting};
 
 use desk_words::{MeetingId, Party};
-use sql_rows::{meeting_text, party_text};
-use sqlite::{Alter, Error, Row, Transaction, params};
+use sql_meeting_tables::demands::Demands;
+use sql_meeting_tables::demands_text;
+use sql_stored::{Query, finding};
 
-/// The rows of the demands of polls that a party made in a meeting, in order of receipt.
-pub fn made_by<S: Alter>(
-    tx: &mut Transaction<'_, S>,
-    meeting: MeetingId,
-    party: Party,
-) -> Result<Vec<Row>, Error>
-    ensures same_reference { tx.new.conn.ghost_name ≡ tx.old.conn.ghost_name }
-    ensures rows { IsRead S.Store tx.old.conn.now tx.new.conn.now
-        → IfOk result
-        (λ rows. FindsRecords S.Store tx.old.conn.now tx.new.conn.now demands
-        (λ it. same_name it.meeting meeting && same_name it.item.party party) rows.items) }
-    ensures changes { ChangesNothing S.Store tx.old.conn.now tx.new.conn.now }
-{
-    tx.query_all(
-        "SELECT meeting, session, resolution, party, moment FROM demands2 WHERE meeting = ?1 AND party = ?2 ORDER BY seq",
-        params![meeting_text(&meeting), party_text(&party)],
-    )
+/// The demands of polls that a party made in a meeting.
+pub struct MadeBy;
+
+impl Query for MadeBy {
+    type Table = Demands;
+
+    type Key = (MeetingId, Party);
+
+    ghost places = { 0 ∷ 3 ∷ [] };
+
+    ghost key_of = { λ it. (it.meeting, it.item.party) };
+
+    fn finding() -> &'static str {
+        demands_text!(finding, "meeting = ?1 AND party = ?2")
+    }
+
+    ghost finds = { demand_made_by };
+}
+
+/// The demands of polls in a meeting (sections 321 and 329).
+pub struct OfMeeting;
+
+impl Query for OfMeeting {
+    type Table = Demands;
+
+    type Key = MeetingId;
+
+    ghost places = { 0 ∷ [] };
+
+    ghost key_of = { λ it. it.meeting };
+
+    fn finding() -> &'static str {
+        demands_text!(finding, "meeting = ?1")
+    }
+
+    ghost finds = { demands_of_meeting };
 }

@@ -13,4 +13,3 @@ pub mod presences;
 pub mod register;
 pub mod resolutions;
 pub mod sessions;
-pub mod whole_lists;

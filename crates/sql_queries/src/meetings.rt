@@ -1,24 +1,27 @@
 //! The meetings (section 307), found by their names.
-ghost use Rattle.std.specs.Prelude.{◌≡◌, IfOk};
-ghost use Rattle.vocabulary.specs.Names.{same_name};
-ghost use Rattle.sql_schema.specs.Contents.{meetings};
-ghost use Rattle.sql_schema.specs.Statements.{ChangesNothing, FindsRecords, IsRead};
+ghost use Rattle.std.specs.Prelude.{◌∷◌, []};
+ghost use Rattle.sql_queries.specs.DeskQueries.{meeting_named};
 
 use desk_words::MeetingId;
-use sql_rows::meeting_text;
-use sqlite::{Alter, Error, Row, Transaction, params};
+use sql_desk_tables::meetings::Meetings;
+use sql_desk_tables::meetings_text;
+use sql_stored::{Query, finding};
 
-/// The row of the meeting of a name, of which there is one at most.
-pub fn named<S: Alter>(tx: &mut Transaction<'_, S>, meeting: MeetingId) -> Result<Vec<Row>, Error>
-    ensures same_reference { tx.new.conn.ghost_name ≡ tx.old.conn.ghost_name }
-    ensures rows { IsRead S.Store tx.old.conn.now tx.new.conn.now
-        → IfOk result
-        (λ rows. FindsRecords S.Store tx.old.conn.now tx.new.conn.now meetings
-        (λ it. same_name it.id meeting) rows.items) }
-    ensures changes { ChangesNothing S.Store tx.old.conn.now tx.new.conn.now }
-{
-    tx.query_all(
-        "SELECT meeting, company, kind, given, appointed, record, loaded, opened FROM meetings WHERE meeting = ?1 ORDER BY seq",
-        params![meeting_text(&meeting)],
-    )
+/// The meeting of a name, of which there is one at most.
+pub struct Named;
+
+impl Query for Named {
+    type Table = Meetings;
+
+    type Key = MeetingId;
+
+    ghost places = { 0 ∷ [] };
+
+    ghost key_of = { λ it. it.id };
+
+    fn finding() -> &'static str {
+        meetings_text!(finding, "meeting = ?1")
+    }
+
+    ghost finds = { meeting_named };
 }

@@ -1,28 +1,46 @@
 //! The rows of members in the register of a meeting (section 113).
-ghost use Rattle.std.specs.Prelude.{◌≡◌, ◌&&◌, IfOk};
-ghost use Rattle.vocabulary.specs.Names.{same_name};
-ghost use Rattle.sql_schema.specs.Contents.{register};
-ghost use Rattle.sql_schema.specs.Statements.{ChangesNothing, FindsRecords, IsRead};
+ghost use Rattle.std.specs.Prelude.{◌∷◌, []};
+ghost use Rattle.sql_queries.specs.DeskQueries.{holding_of_member, register_of_meeting};
 
 use desk_words::{MeetingId, Party};
-use sql_rows::{meeting_text, party_text};
-use sqlite::{Alter, Error, Row, Transaction, params};
+use sql_desk_tables::register::Register;
+use sql_desk_tables::register_text;
+use sql_stored::{Query, finding};
 
 /// The row of a member in the register of a meeting, of which there is one at most.
-pub fn of_member<S: Alter>(
-    tx: &mut Transaction<'_, S>,
-    meeting: MeetingId,
-    member: Party,
-) -> Result<Vec<Row>, Error>
-    ensures same_reference { tx.new.conn.ghost_name ≡ tx.old.conn.ghost_name }
-    ensures rows { IsRead S.Store tx.old.conn.now tx.new.conn.now
-        → IfOk result
-        (λ rows. FindsRecords S.Store tx.old.conn.now tx.new.conn.now register
-        (λ it. same_name it.meeting meeting && same_name it.item.member member) rows.items) }
-    ensures changes { ChangesNothing S.Store tx.old.conn.now tx.new.conn.now }
-{
-    tx.query_all(
-        "SELECT meeting, member, kind, name, shares, paid FROM register WHERE meeting = ?1 AND member = ?2 ORDER BY rowid",
-        params![meeting_text(&meeting), party_text(&member)],
-    )
+pub struct OfMember;
+
+impl Query for OfMember {
+    type Table = Register;
+
+    type Key = (MeetingId, Party);
+
+    ghost places = { 0 ∷ 1 ∷ [] };
+
+    ghost key_of = { λ it. (it.meeting, it.item.member) };
+
+    fn finding() -> &'static str {
+        register_text!(finding, "meeting = ?1 AND member = ?2")
+    }
+
+    ghost finds = { holding_of_member };
+}
+
+/// The register of a meeting (section 113).
+pub struct OfMeeting;
+
+impl Query for OfMeeting {
+    type Table = Register;
+
+    type Key = MeetingId;
+
+    ghost places = { 0 ∷ [] };
+
+    ghost key_of = { λ it. it.meeting };
+
+    fn finding() -> &'static str {
+        register_text!(finding, "meeting = ?1")
+    }
+
+    ghost finds = { register_of_meeting };
 }

@@ -6,7 +6,10 @@ ghost use Rattle.sql_write.specs.Writes.{Rewrites, Writes, any_records, no_days}
 ghost use Rattle.sql_write.specs.Writes.{days_added, keys_added};
 
 use desk_words::{Day, DayList, KeyRow, KeyRows};
+use sql_desk_tables::closed::ClosedDays;
+use sql_desk_tables::keys::Keys;
 use sql_desk_tables::{closed, keys};
+use sql_stored::empty;
 use sqlite::{Alter, Error, Transaction};
 
 fn add_keys<S: Alter>(tx: &mut Transaction<'_, S>, keys: &[KeyRow]) -> Result<(), Error>
@@ -26,7 +29,7 @@ pub(crate) fn set_keys<S: Alter>(tx: &mut Transaction<'_, S>, keys: &KeyRows) ->
     ensures writes { Writes S.Store tx.old.conn.now tx.new.conn.now result
         (change.SetKeys keys.now) }
 {
-    keys::empty(tx)?;
+    empty::<Keys, S>(tx)?;
     add_keys(tx, keys.as_slice())
 }
 
@@ -52,6 +55,6 @@ pub(crate) fn set_closed_days<S: Alter>(
     ensures writes { Writes S.Store tx.old.conn.now tx.new.conn.now result
         (change.SetClosedDays days.now) }
 {
-    closed::empty(tx)?;
+    empty::<ClosedDays, S>(tx)?;
     add_days(tx, days.as_slice())
 }

@@ -8,6 +8,8 @@ ghost use Rattle.sql_write.specs.Writes.{resolutions_added, rows_added};
 use desk_words::{Meeting, MeetingId, Moment, Register, RegisterRow, Resolution, Session};
 use sql_desk_tables::register::TOGETHER;
 use sql_desk_tables::{meetings, register, resolutions, sessions};
+use sql_queries::sessions::OfMeeting;
+use sql_stored::find;
 use sqlite::{Alter, Error, Transaction};
 use std::alloc::Global;
 
@@ -105,7 +107,7 @@ pub(crate) fn open_meeting<S: Alter>(
     ensures writes { Writes S.Store tx.old.conn.now tx.new.conn.now result
         (change.InMeeting meeting (meeting_change.SetOpened moment)) }
 {
-    let further = sql_queries::sessions::of_meeting(tx, meeting)?;
+    let further = find::<OfMeeting, S>(tx, meeting)?;
     let last = further.len() as u64 + 1;
     if last == 1 {
         meetings::open(tx, meeting, moment)?;
@@ -126,7 +128,7 @@ pub(crate) fn add_session<S: Alter>(
     ensures writes { Writes S.Store tx.old.conn.now tx.new.conn.now result
         (change.InMeeting meeting (meeting_change.AddSession appointed)) }
 {
-    let further = sql_queries::sessions::of_meeting(tx, meeting)?;
+    let further = find::<OfMeeting, S>(tx, meeting)?;
     let number = further.len() as u64 + 2;
     let session = Session {
         appointed,

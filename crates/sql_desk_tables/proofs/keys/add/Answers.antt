@@ -1,14 +1,18 @@
-use Rattle.sqlite.specs.Held.{state}
-use Rattle.sql_lemmas.proofs.Commits.{writes_nothing}
-use Rattle.sql_desk_tables.proofs.TableKeyLemmas.{adds_key}
+use Rattle.std.proofs.Common.{[], ◌∷◌, refl}
+use Rattle.sqlite.specs.declared.types.Value.TheVariants.{Text}
+use Rattle.sqlite.specs.Order.{Row}
+use Rattle.sql_lemmas.proofs.Values.{cast_null}
+use Rattle.sql_rows.specs.ColumnValues.{parsed_in}
+use Rattle.sql_rows.specs.DeskRows.{key_row_in}
 use Rattle.sql_desk_tables.proofs.keys.add.Goals as goal
 
 pub returns-clause-added : goal.returns-clause-added
-returns-clause-added g c = λ clean inside desk.
-    adds_key c.args.key.now c.caller_text.result.now c.key_text.result.now
-    c.caller_text.ensures c.key_text.ensures
-    (state g.S.Store c.args.tx.now.conn.now) (state g.S.Store c.execute.new.self.conn.now) c.execute.result desk inside
-    (rw (c.params-to_sql.ensures, c.params-to_sql-2.ensures) at (c.execute.ensures.runs clean inside))
-
-pub returns-clause-commits : goal.returns-clause-commits
-returns-clause-commits g c = writes_nothing g.S.Store c.args.tx.now.conn.now c.execute.new.self.conn.now _ _ c.execute.result c.execute.ensures.ended c.execute.ensures.runs c.execute.ensures.survives
+unfolding key_row_in parsed_in
+returns-clause-added g c =
+    let values : Row = Text c.caller_text.result.now ∷ Text c.key_text.result.now ∷ [] in
+    c.add_row.ensures.added c.args.key.now
+    (rw (c.params-to_sql.ensures, c.params-to_sql-2.ensures) (record {
+      cells = values;
+      kept = rw (cast_null) refl;
+      means = λ id. rw (c.caller_text.ensures, c.key_text.ensures) refl;
+    }))

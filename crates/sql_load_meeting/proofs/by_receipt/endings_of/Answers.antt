@@ -8,5 +8,5 @@ use Rattle.sql_load_meeting.proofs.by_receipt.endings_of.Goals as goal
 
 pub returns-clause-holds : goal.returns-clause-holds
 returns-clause-holds g c =
-    items_told g.S.Store c.args.tx.now.conn.now c.endings.new.tx.conn.now (λ v. v.items) table.endings (λ flat. flat.endings) (λ trees flat held. held.endings) _ c.endings.result c.endings.ensures.rows c.endings.ensures.changes
+    items_told g.S.Store c.args.tx.now.conn.now c.find.new.tx.conn.now (λ v. v.items) table.endings (λ flat. flat.endings) (λ trees flat held. held.endings) _ c.find.result c.find.ensures.rows c.find.ensures.changes
     c.records_found.result c.records_found.ensures c.filed.result c.filed.ensures _ (λ flat office of kept. list_is (list_of Endings) refl flat office c.args.meeting of)

@@ -23,12 +23,12 @@ pub returns-in_err-rows-clause-holds : goal.returns-in_err-rows-clause-holds
 returns-in_err-rows-clause-holds g c =
     let is : c.from_residual.result ≡ Err c.in_err-rows.field-0.0 = search rules in
     holds_stop g.S.Store _ _ (AreRows c.args.meeting) _ c.in_err-rows.field-0.0 c.from_residual.result is
-    (items_told g.S.Store c.args.tx.now.conn.now c.register.new.tx.conn.now (λ v. v.items) table.register (λ flat. flat.register) (λ trees flat held. held.register) _ c.register.result c.register.ensures.rows c.register.ensures.changes c.records_found.result c.records_found.ensures
+    (items_told g.S.Store c.args.tx.now.conn.now c.find.new.tx.conn.now (λ v. v.items) table.register (λ flat. flat.register) (λ trees flat held. held.register) _ c.find.result c.find.ensures.rows c.find.ensures.changes c.records_found.result c.records_found.ensures
     (Err c.in_err-rows.field-0.0) c.in_err-rows.ensures (AreRows c.args.meeting) (λ flat office of kept. list_is (list_of Register) refl flat office c.args.meeting of))
 
 pub returns-clause-holds : goal.returns-clause-holds
 returns-clause-holds g c =
     holds_so g.S.Store _ _ (AreRows c.args.meeting) _ c.in_ok-rows.rows c.register_rows.result
-    (items_told g.S.Store c.args.tx.now.conn.now c.register.new.tx.conn.now (λ v. v.items) table.register (λ flat. flat.register) (λ trees flat held. held.register) _ c.register.result c.register.ensures.rows c.register.ensures.changes c.records_found.result c.records_found.ensures
+    (items_told g.S.Store c.args.tx.now.conn.now c.find.new.tx.conn.now (λ v. v.items) table.register (λ flat. flat.register) (λ trees flat held. held.register) _ c.find.result c.find.ensures.rows c.find.ensures.changes c.records_found.result c.records_found.ensures
     _ c.in_ok-rows.ensures (AreRows c.args.meeting) (λ flat office of kept. list_is (list_of Register) refl flat office c.args.meeting of))
     (λ office kept rows. yields_tell are_rows c.register_rows.result (register_in (meeting_named office.meetings c.args.meeting)) _ c.register_rows.ensures (ap (λ l. Some l) rows) (register_right office c.args.meeting kept))

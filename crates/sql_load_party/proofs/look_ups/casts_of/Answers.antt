@@ -8,5 +8,5 @@ use Rattle.sql_load_party.proofs.look_ups.casts_of.Goals as goal
 
 pub returns-clause-holds : goal.returns-clause-holds
 returns-clause-holds g c =
-    items_told g.S.Store c.args.tx.now.conn.now c.cast_by.new.tx.conn.now (λ v. v.items) table.casts (λ flat. flat.casts) (λ trees flat held. held.casts) _ c.cast_by.result c.cast_by.ensures.rows c.cast_by.ensures.changes
+    items_told g.S.Store c.args.tx.now.conn.now c.find.new.tx.conn.now (λ v. v.items) table.casts (λ flat. flat.casts) (λ trees flat held. held.casts) _ c.find.result c.find.ensures.rows c.find.ensures.changes
     c.records_found.result c.records_found.ensures c.items.result c.items.ensures _ (λ flat office of kept. received_so (list_of Casts) (λ l. refl) c.args.meeting (is_cast_by c.args.party) flat office of)

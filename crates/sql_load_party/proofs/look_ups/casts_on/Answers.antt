@@ -15,7 +15,7 @@ pub returns-clause-holds : goal.returns-clause-holds
 returns-clause-holds g c =
     let by = is_cast_by c.args.party in
     let on = λ (x : CastMark). x.resolution == c.args.resolution in
-    items_told g.S.Store c.args.tx.now.conn.now c.cast_on.new.tx.conn.now (λ v. v.items) table.casts (λ flat. flat.casts) (λ trees flat held. held.casts) _ c.cast_on.result c.cast_on.ensures.rows c.cast_on.ensures.changes
+    items_told g.S.Store c.args.tx.now.conn.now c.find.new.tx.conn.now (λ v. v.items) table.casts (λ flat. flat.casts) (λ trees flat held. held.casts) _ c.find.result c.find.ensures.rows c.find.ensures.changes
     c.records_found.result c.records_found.ensures c.items.result c.items.ensures _
     (λ flat office of kept.
     let casts = casts_in (meeting_at office c.args.meeting) in

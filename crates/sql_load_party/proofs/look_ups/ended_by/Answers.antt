@@ -8,5 +8,5 @@ use Rattle.sql_load_party.proofs.look_ups.ended_by.Goals as goal
 
 pub returns-clause-holds : goal.returns-clause-holds
 returns-clause-holds g c =
-    items_told g.S.Store c.args.tx.now.conn.now c.made_by.new.tx.conn.now (λ v. v.items) table.endings (λ flat. flat.endings) (λ trees flat held. held.endings) _ c.made_by.result c.made_by.ensures.rows c.made_by.ensures.changes
+    items_told g.S.Store c.args.tx.now.conn.now c.find.new.tx.conn.now (λ v. v.items) table.endings (λ flat. flat.endings) (λ trees flat held. held.endings) _ c.find.result c.find.ensures.rows c.find.ensures.changes
     c.records_found.result c.records_found.ensures c.items.result c.items.ensures _ (λ flat office of kept. received_so (list_of Endings) (λ l. refl) c.args.meeting (is_ended_of c.args.member) flat office of)

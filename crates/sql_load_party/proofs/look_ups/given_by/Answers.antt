@@ -8,5 +8,5 @@ use Rattle.sql_load_party.proofs.look_ups.given_by.Goals as goal
 
 pub returns-clause-holds : goal.returns-clause-holds
 returns-clause-holds g c =
-    items_told g.S.Store c.args.tx.now.conn.now c.given_by.new.tx.conn.now (λ v. v.items) table.appointments (λ flat. flat.appointments) (λ trees flat held. held.appointments) _ c.given_by.result c.given_by.ensures.rows c.given_by.ensures.changes
+    items_told g.S.Store c.args.tx.now.conn.now c.find.new.tx.conn.now (λ v. v.items) table.appointments (λ flat. flat.appointments) (λ trees flat held. held.appointments) _ c.find.result c.find.ensures.rows c.find.ensures.changes
     c.records_found.result c.records_found.ensures c.items.result c.items.ensures _ (λ flat office of kept. received_so (list_of Appointments) (λ l. refl) c.args.meeting (is_given_by c.args.member) flat office of)

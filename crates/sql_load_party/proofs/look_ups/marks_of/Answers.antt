@@ -8,5 +8,5 @@ use Rattle.sql_load_party.proofs.look_ups.marks_of.Goals as goal
 
 pub returns-clause-holds : goal.returns-clause-holds
 returns-clause-holds g c =
-    items_told g.S.Store c.args.tx.now.conn.now c.of_party.new.tx.conn.now (λ v. v.items) table.presences (λ flat. flat.presences) (λ trees flat held. held.presences) _ c.of_party.result c.of_party.ensures.rows c.of_party.ensures.changes
+    items_told g.S.Store c.args.tx.now.conn.now c.find.new.tx.conn.now (λ v. v.items) table.presences (λ flat. flat.presences) (λ trees flat held. held.presences) _ c.find.result c.find.ensures.rows c.find.ensures.changes
     c.records_found.result c.records_found.ensures c.items.result c.items.ensures _ (λ flat office of kept. received_so (list_of Presences) (λ l. refl) c.args.meeting (is_presence_of c.args.party) flat office of)

@@ -18,12 +18,12 @@ pub returns-in_err-rows-clause-holds : goal.returns-in_err-rows-clause-holds
 returns-in_err-rows-clause-holds g c =
     let is : c.from_residual.result ≡ Err c.in_err-rows.field-0.0 = search rules in
     holds_stop g.S.Store _ _ (IsRow c.args.meeting c.args.member) _ c.in_err-rows.field-0.0 c.from_residual.result is
-    (items_told g.S.Store c.args.tx.now.conn.now c.of_member.new.tx.conn.now (λ v. v.items) table.register (λ flat. flat.register) (λ trees flat held. held.register) _ c.of_member.result c.of_member.ensures.rows c.of_member.ensures.changes c.records_found.result c.records_found.ensures
+    (items_told g.S.Store c.args.tx.now.conn.now c.find.new.tx.conn.now (λ v. v.items) table.register (λ flat. flat.register) (λ trees flat held. held.register) _ c.find.result c.find.ensures.rows c.find.ensures.changes c.records_found.result c.records_found.ensures
     (Err c.in_err-rows.field-0.0) c.in_err-rows.ensures (IsRow c.args.meeting c.args.member) (λ flat office of kept. row_so c.args.meeting c.args.member flat office of kept))
 
 pub returns-clause-holds : goal.returns-clause-holds
 returns-clause-holds g c =
     holds_so g.S.Store _ _ (IsRow c.args.meeting c.args.member) _ c.in_ok-rows.rows _
-    (items_told g.S.Store c.args.tx.now.conn.now c.of_member.new.tx.conn.now (λ v. v.items) table.register (λ flat. flat.register) (λ trees flat held. held.register) _ c.of_member.result c.of_member.ensures.rows c.of_member.ensures.changes c.records_found.result c.records_found.ensures
+    (items_told g.S.Store c.args.tx.now.conn.now c.find.new.tx.conn.now (λ v. v.items) table.register (λ flat. flat.register) (λ trees flat held. held.register) _ c.find.result c.find.ensures.rows c.find.ensures.changes c.records_found.result c.records_found.ensures
     _ c.in_ok-rows.ensures (IsRow c.args.meeting c.args.member) (λ flat office of kept. row_so c.args.meeting c.args.member flat office of kept))
     (λ office kept row. c.first.ensures ∙ row)

@@ -8,5 +8,5 @@ use Rattle.sql_load_party.proofs.look_ups.trusting.Goals as goal
 
 pub returns-clause-holds : goal.returns-clause-holds
 returns-clause-holds g c =
-    items_told g.S.Store c.args.tx.now.conn.now c.naming.new.tx.conn.now (λ v. v.items) table.authorities (λ flat. flat.authorities) (λ trees flat held. held.authorities) _ c.naming.result c.naming.ensures.rows c.naming.ensures.changes
+    items_told g.S.Store c.args.tx.now.conn.now c.find.new.tx.conn.now (λ v. v.items) table.authorities (λ flat. flat.authorities) (λ trees flat held. held.authorities) _ c.find.result c.find.ensures.rows c.find.ensures.changes
     c.records_found.result c.records_found.ensures c.items.result c.items.ensures _ (λ flat office of kept. received_so (list_of Authorities) (λ l. refl) c.args.meeting (authorises c.args.party) flat office of)

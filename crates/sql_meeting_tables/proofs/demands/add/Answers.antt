@@ -1,18 +1,21 @@
-use Rattle.std.proofs.Common.{◌≡◌, w64, rules, to_z, of_z}
-use Rattle.sqlite.specs.Held.{state}
-use Rattle.sql_lemmas.proofs.Commits.{writes_nothing}
-use Rattle.sql_meeting_tables.proofs.MeetingTableDemandLemmas.{adds_demand}
+use Rattle.std.proofs.Common.{◌≡◌, [], ◌∷◌, refl, w64, rules, to_z, of_z}
+use Rattle.sqlite.specs.declared.types.Value.TheVariants.{Null, Int, Text}
+use Rattle.sqlite.specs.Order.{Row}
+use Rattle.sql_lemmas.proofs.Values.{cast_int, cast_null}
+use Rattle.sql_rows.specs.ColumnValues.{moment_in, number_in, parsed_in}
+use Rattle.sql_rows.specs.Marks.{demand_mark_in}
 use Rattle.sql_meeting_tables.proofs.demands.add.Goals as goal
 
 pub returns-clause-added : goal.returns-clause-added
-returns-clause-added g c = λ clean inside desk.
+unfolding demand_mark_in moment_in number_in parsed_in
+returns-clause-added g c =
     let same_0 : to_z w64 (of_z w64 c.in_ok-resolution.resolution) ≡ c.in_ok-resolution.resolution = search rules in
     let same_2 : to_z w64 (of_z w64 c.in_ok-session.session) ≡ c.in_ok-session.session = search rules in
     let same_1 : to_z w64 (of_z w64 c.moment_number.result) ≡ c.moment_number.result = search rules in
-    adds_demand c.args.meeting c.args.demand.now c.meeting_text.result.now c.in_ok-session.session c.in_ok-resolution.resolution c.party_text.result.now c.moment_number.result
-    c.meeting_text.ensures c.in_ok-session.ensures.kept c.in_ok-resolution.ensures.kept c.party_text.ensures c.moment_number.ensures
-    (state g.S.Store c.args.tx.now.conn.now) (state g.S.Store c.execute.new.self.conn.now) c.execute.result desk inside
-    (rw (c.params-to_sql.ensures, c.params-to_sql-2.ensures, c.params-to_sql-3.ensures, c.params-to_sql-4.ensures, c.params-to_sql-5.ensures, same_0, same_1, same_2) at (c.execute.ensures.runs clean inside))
-
-pub returns-clause-commits : goal.returns-clause-commits
-returns-clause-commits g c = writes_nothing g.S.Store c.args.tx.now.conn.now c.execute.new.self.conn.now _ _ c.execute.result c.execute.ensures.ended c.execute.ensures.runs c.execute.ensures.survives
+    let values : Row = Text c.meeting_text.result.now ∷ Int c.in_ok-session.session ∷ Int c.in_ok-resolution.resolution ∷ Text c.party_text.result.now ∷ Int c.moment_number.result ∷ [] in
+    c.add_row.ensures.added (record { meeting = c.args.meeting; item = c.args.demand.now })
+    (rw (c.params-to_sql.ensures, c.params-to_sql-2.ensures, c.params-to_sql-3.ensures, c.params-to_sql-4.ensures, c.params-to_sql-5.ensures, same_0, same_1, same_2) (record {
+      cells = Null ∷ values;
+      kept = rw (cast_null, cast_int c.in_ok-session.session, cast_int c.in_ok-resolution.resolution, cast_int c.moment_number.result) refl;
+      means = λ id. rw (c.meeting_text.ensures, c.in_ok-session.ensures.kept, c.in_ok-resolution.ensures.kept, c.party_text.ensures, c.moment_number.ensures) refl;
+    }))

@@ -1,5 +1,5 @@
 use Rattle.sql_queries.proofs.LastQueries.{finds_last}
-use Rattle.sql_queries.proofs.Queries.{asked_alone}
+use Rattle.sql_lemmas.proofs.Queries.{asked_alone}
 use Rattle.sql_queries.proofs.ResolutionQueries.{last_of_meeting}
 use Rattle.sql_queries.proofs.resolutions.last_of_meeting.Goals as goal
 

@@ -6,7 +6,7 @@ use Rattle.sql_write.proofs.meetings.open_meeting.Goals.{then-last-eq1+in_ok-ope
 pub returns-clause-writes : goal.returns-clause-writes
 returns-clause-writes g c =
     let old = c.args.tx.now.conn.now in
-    let mid = c.of_meeting.new.tx.conn.now in
+    let mid = c.find.new.tx.conn.now in
     let reading = c.in_ok-further.ensures in
     let rows = c.in_ok-further.further.items in
     elim c.if-last-eq1.branch [

@@ -1,0 +1,126 @@
+-- The queries of what is of a session, over the tables of a desk.
+use Rattle.std.specs.Prelude.{[], ◌∷◌, ◌≡◌, Some, refl}
+use Rattle.std.proofs.Common.{◌∙◌}
+use Rattle.desk_words.specs.declared.records.DemandMark.{DemandMark}
+use Rattle.desk_words.specs.declared.records.Poll.{Poll}
+use Rattle.desk_words.specs.declared.records.PresenceMark.{PresenceMark}
+use Rattle.sql_lemmas.proofs.Frames.{wide}
+use Rattle.sql_rows.proofs.RowMeaningLemmas.{bound, option_ap}
+use Rattle.sql_rows.specs.ColumnValues.{flag_in, moment_in, number_in, parsed_in, some_moment_in}
+use Rattle.sql_rows.specs.Marks.{declared_in, demand_mark_in, poll_in, presence_in}
+use Rattle.sql_rows.specs.declared.stored_records.InMeeting.{InMeeting}
+use Rattle.sql_schema.specs.Contents.{demands, polls, presences}
+use Rattle.sql_schema.specs.Tables.{demands2_table, polls2_table, presences2_table}
+use Rattle.sql_stored.specs.Keys.{FindsAs, FindsBy, HoldMeeting, HoldParty, both_tests, first_test}
+use Rattle.sqlite.specs.Listing.{understood}
+use Rattle.sqlite.specs.Order.{Row}
+use Rattle.sqlite_tied.specs.Compute.{everything}
+use Rattle.vocabulary.specs.Names.{meeting_of, party_of}
+
+-- ---- the presences
+
+-- what a row names
+names_presence : (cells : Row) (x : InMeeting PresenceMark)
+    → presence_in cells ≡ Some x
+    → (parsed_in meeting_of cells 0 ≡ Some x.meeting)
+    × (parsed_in party_of cells 2 ≡ Some x.item.party)
+unfolding presence_in
+names_presence cells x h =
+    let meeting = bound (parsed_in meeting_of cells 0) _ x h in
+    let session = bound (number_in cells 1) _ x meeting.2 in
+    let party = bound (parsed_in party_of cells 2) _ x session.2 in
+    let moment = bound (moment_in cells 3) _ x party.2 in (
+      meeting.1 ∙ option_ap (λ (y : InMeeting PresenceMark). y.meeting) moment.2,
+      party.1 ∙ option_ap (λ (y : InMeeting PresenceMark). y.item.party) moment.2,
+    )
+
+pub presence_of_party
+    : FindsBy presences presences2_table both_tests HoldParty (0 ∷ 2 ∷ [])
+    (λ it. (it.meeting, it.item.party))
+unfolding understood everything
+presence_of_party = record {
+  asks = wide (FindsAs presences presences2_table both_tests (0 ∷ 2 ∷ []))
+      (λ others apart indexes views. record { is = refl; plain = (refl, refl); unlisted = refl });
+  alone = λ schema base. refl;
+  holds = λ cells x h. names_presence cells x h;
+}
+
+pub presences_of_meeting
+    : FindsBy presences presences2_table first_test HoldMeeting (0 ∷ [])
+    (λ it. it.meeting)
+unfolding understood everything
+presences_of_meeting = record {
+  asks = wide (FindsAs presences presences2_table first_test (0 ∷ []))
+      (λ others apart indexes views. record { is = refl; plain = (refl, refl); unlisted = refl });
+  alone = λ schema base. refl;
+  holds = λ cells x h. (names_presence cells x h).0;
+}
+
+-- ---- the demands of polls
+
+-- what a row names
+names_demand : (cells : Row) (x : InMeeting DemandMark)
+    → demand_mark_in cells ≡ Some x
+    → (parsed_in meeting_of cells 0 ≡ Some x.meeting)
+    × (parsed_in party_of cells 3 ≡ Some x.item.party)
+unfolding demand_mark_in
+names_demand cells x h =
+    let meeting = bound (parsed_in meeting_of cells 0) _ x h in
+    let session = bound (number_in cells 1) _ x meeting.2 in
+    let resolution = bound (number_in cells 2) _ x session.2 in
+    let party = bound (parsed_in party_of cells 3) _ x resolution.2 in
+    let moment = bound (moment_in cells 4) _ x party.2 in (
+      meeting.1 ∙ option_ap (λ (y : InMeeting DemandMark). y.meeting) moment.2,
+      party.1 ∙ option_ap (λ (y : InMeeting DemandMark). y.item.party) moment.2,
+    )
+
+pub demand_made_by
+    : FindsBy demands demands2_table both_tests HoldParty (0 ∷ 3 ∷ [])
+    (λ it. (it.meeting, it.item.party))
+unfolding understood everything
+demand_made_by = record {
+  asks = wide (FindsAs demands demands2_table both_tests (0 ∷ 3 ∷ []))
+      (λ others apart indexes views. record { is = refl; plain = (refl, refl); unlisted = refl });
+  alone = λ schema base. refl;
+  holds = λ cells x h. names_demand cells x h;
+}
+
+pub demands_of_meeting
+    : FindsBy demands demands2_table first_test HoldMeeting (0 ∷ [])
+    (λ it. it.meeting)
+unfolding understood everything
+demands_of_meeting = record {
+  asks = wide (FindsAs demands demands2_table first_test (0 ∷ []))
+      (λ others apart indexes views. record { is = refl; plain = (refl, refl); unlisted = refl });
+  alone = λ schema base. refl;
+  holds = λ cells x h. (names_demand cells x h).0;
+}
+
+-- ---- the polls
+
+-- what a row names
+names_poll : (cells : Row) (x : InMeeting Poll)
+    → poll_in cells ≡ Some x → parsed_in meeting_of cells 0 ≡ Some x.meeting
+unfolding poll_in
+names_poll cells x h =
+    let meeting = bound (parsed_in meeting_of cells 0) _ x h in
+    let session = bound (number_in cells 1) _ x meeting.2 in
+    let resolution = bound (number_in cells 2) _ x session.2 in
+    let ordered = bound (moment_in cells 3) _ x resolution.2 in
+    let taken = bound (moment_in cells 4) _ x ordered.2 in
+    let chair = bound (flag_in cells 5) _ x taken.2 in
+    let started = bound (some_moment_in cells 6) _ x chair.2 in
+    let closed = bound (some_moment_in cells 7) _ x started.2 in
+    let declared = bound (declared_in cells 8) _ x closed.2 in
+    meeting.1 ∙ option_ap (λ (y : InMeeting Poll). y.meeting) declared.2
+
+pub polls_of_meeting
+    : FindsBy polls polls2_table first_test HoldMeeting (0 ∷ [])
+    (λ it. it.meeting)
+unfolding understood everything
+polls_of_meeting = record {
+  asks = wide (FindsAs polls polls2_table first_test (0 ∷ []))
+      (λ others apart indexes views. record { is = refl; plain = (refl, refl); unlisted = refl });
+  alone = λ schema base. refl;
+  holds = λ cells x h. names_poll cells x h;
+}
