@@ -1,9 +1,8 @@
 //! What the words of the program ask.
 use crate::endings::ended_text;
 use crate::findings::Answer;
-use cli_args::read_words;
+use cli_args::{Plan, read_words};
 use cli_exit::Ended;
-use cli_plans::Plan;
 use desk_words::{Moment, write_moment};
 use std::alloc::{AllocError, Global};
 

@@ -1,2 +1,3 @@
 pub mod AppLemmas
 pub mod WordLemmas
+pub mod WordNumberLemmas

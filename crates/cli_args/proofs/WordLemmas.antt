@@ -9,10 +9,10 @@ use Rattle.clap.specs.declared.error.kind.ErrorKind.{ErrorKind}
 use Rattle.clap.specs.declared.error.kind.ErrorKind.TheVariants as kind
 use Rattle.cli_args.specs.App.{desk_app}
 use Rattle.cli_args.specs.Words.{IsRefused, asked_by_words, asked_in}
-use Rattle.cli_plans.specs.Plans.{CommandAsked, Wrong, Words, PlanAgrees, PlanErrAgrees, plan_view}
-use Rattle.cli_plans.specs.declared.plan.Plan.{Plan}
-use Rattle.cli_plans.specs.declared.plan.WordsFault.{WordsFault}
-use Rattle.cli_plans.specs.declared.plan.WordsFault.TheVariants as fault
+use Rattle.cli_args.specs.Plans.{CommandAsked, Wrong, Words, PlanAgrees, PlanErrAgrees, plan_view}
+use Rattle.cli_args.specs.declared.plan.Plan.{Plan}
+use Rattle.cli_exit.specs.declared.words.WordsFault.{WordsFault}
+use Rattle.cli_exit.specs.declared.words.WordsFault.TheVariants as fault
 
 -- words in which no fault is found
 pub asked-taken : (words : List Text) → fault_of desk_app words ≡ [] → asked_by_words words ≡ asked_in (subcommand_of desk_app words)

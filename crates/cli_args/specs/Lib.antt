@@ -1,2 +1,3 @@
 pub mod App
+pub mod Plans
 pub mod Words

@@ -5,9 +5,9 @@ use Rattle.clap.specs.declared.error.kind.ErrorKind.TheVariants as kind
 use Rattle.clap.specs.Faults.{fault_of}
 use Rattle.clap.specs.Simple.{subcommand_of}
 use Rattle.clap.specs.Walk.{Row, Text, first_of, is_empty}
-use Rattle.cli_plans.specs.Plans.{CommandAsked, CommandTexts, Wrong, Words, asked_by_name}
-use Rattle.cli_plans.specs.declared.plan.WordsFault.{WordsFault}
-use Rattle.cli_plans.specs.declared.plan.WordsFault.TheVariants as fault
+use Rattle.cli_args.specs.Plans.{CommandAsked, CommandTexts, Wrong, Words, asked_by_name}
+use Rattle.cli_exit.specs.declared.words.WordsFault.{WordsFault}
+use Rattle.cli_exit.specs.declared.words.WordsFault.TheVariants as fault
 use Rattle.cli_args.specs.App.{desk_app}
 
 -- the fault of words that `clap` refuses for this cause: their text, or want of memory

@@ -2,7 +2,11 @@
 #![tactic(auto)]
 
 mod app;
+mod command_words;
 mod help;
+mod plan;
 mod words;
 
+pub use command_words::CommandWords;
+pub use plan::{Plan, plan_of};
 pub use words::read_words;

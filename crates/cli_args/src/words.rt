@@ -4,13 +4,15 @@ ghost use Rattle.clap.specs.Matches.{found_of};
 ghost use Rattle.clap.specs.Values.{kind_of};
 ghost use Rattle.clap.specs.Simple.{subcommand_rows_of};
 ghost use Rattle.clap.specs.Walk.{rows_of};
-ghost use Rattle.cli_plans.specs.Plans.{PlanAgrees, plan_view, texts_of};
+ghost use Rattle.cli_args.specs.Plans.{PlanAgrees, plan_view, texts_of};
 ghost use Rattle.cli_args.specs.Words.{IsRefused, asked_by_words, asked_in, texts_in};
 
 use crate::app::desk_matches;
+use crate::command_words::CommandWords;
+use crate::plan::{Plan, plan_of};
 use clap::error::ErrorKind;
 use clap::{ArgMatches, Error};
-use cli_plans::{CommandWords, Plan, WordsFault, plan_of};
+use cli_exit::WordsFault;
 use std::alloc::Global;
 
 /// The words that are given to a command, each by its id.

@@ -1,3 +1,4 @@
 pub mod FileReading
 pub mod LoadCommands
 pub mod ReplayCommand
+pub mod Serving

@@ -6,7 +6,9 @@ mod asking;
 mod clock;
 mod loads;
 mod replaying;
+mod serving;
 
 pub use clock::moment_at;
 pub use loads::{days, keys, register};
 pub use replaying::replay;
+pub use serving::serve;

@@ -9,8 +9,8 @@ use Rattle.csv_import.specs.declared.fault.FileError.{FileError}
 use Rattle.csv_import.specs.declared.fault.FileError.TheVariants as file
 use Rattle.byte_io.specs.declared.failure.PrintError.{PrintError}
 use Rattle.byte_io.specs.declared.failure.PrintError.TheVariants as print
-use Rattle.cli_plans.specs.declared.plan.WordsFault.{WordsFault}
-use Rattle.cli_plans.specs.declared.plan.WordsFault.TheVariants as words
+use Rattle.cli_exit.specs.declared.words.WordsFault.{WordsFault}
+use Rattle.cli_exit.specs.declared.words.WordsFault.TheVariants as words
 use Rattle.desk_words.specs.declared.reply.Failure.{Failure}
 use Rattle.desk_words.specs.declared.reply.Failure.TheVariants as failure
 use Rattle.cli_exit.specs.declared.line.Line.{Line}

@@ -3,8 +3,8 @@ ghost use Rattle.std.specs.Prelude.{◌≡◌};
 ghost use Rattle.cli_exit.specs.Endings.{ended_view, success, ending, fault_word, ended_by, ended_by_failure, ended_by_refusal, ended_by_file, ended_by_print, ended_by_words};
 
 use crate::line::Line;
+use crate::words::WordsFault;
 use byte_io::PrintError;
-use cli_plans::WordsFault;
 use csv_import::FileError;
 use desk_words::Failure;
 use vocabulary::Refusal;

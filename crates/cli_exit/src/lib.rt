@@ -3,6 +3,8 @@
 
 mod ended;
 mod line;
+mod words;
 
 pub use ended::{Ended, ExitError};
 pub use line::Line;
+pub use words::WordsFault;

@@ -2,7 +2,7 @@
 //! gives or takes, so this file is read, and not proved.
 use byte_io::{DeviceError, ReadDevice, Sink};
 use cli_exit::Line;
-use clocks::WallClock;
+use wall_clock::WallClock;
 use host::{Console, Files, Ports, ZoneClocks, prints_nothing};
 use std::fs;
 use std::net::{Ipv4Addr, TcpListener};

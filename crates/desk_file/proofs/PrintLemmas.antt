@@ -2,7 +2,7 @@
 use Rattle.std.proofs.Common.{◌≡◌, inl, inr}
 use Rattle.party_views.specs.Public.{PublicRecord}
 use Rattle.cli_exit.specs.Endings.{Ending, ended_by_failure}
-use Rattle.cli_results.specs.ResultPrinting.{Prints, Writer}
+use Rattle.desk_papers.specs.ResultPrinting.{Prints, Writer}
 use Rattle.desk_words.specs.declared.reply.Failure.{Failure}
 use Rattle.desk_words.specs.declared.reply.Failure.TheVariants.{Store, Memory}
 

@@ -2,7 +2,7 @@
 ghost use Rattle.std.specs.Prelude.{IsTrue, None};
 ghost use Rattle.party_views.specs.Views.{public_of};
 ghost use Rattle.cli_exit.specs.Endings.{ended_view};
-ghost use Rattle.cli_results.specs.ResultPrinting.{Prints};
+ghost use Rattle.desk_papers.specs.ResultPrinting.{Prints};
 ghost use Rattle.sql_model.specs.Standing.{Stands};
 ghost use Rattle.desk_store.specs.Joins.{IsDeskIfOpen, LeavesDesk};
 ghost use Rattle.desk_words.specs.declared.office.OfficeLists.{OfficeLists};
@@ -43,7 +43,7 @@ pub fn results<S: Alter, W: Sink>(
         → Survives (state S.Store desk.old) (state S.Store desk.new) (λ _. ⊥) }
 {
     match desk.read_public(meeting) {
-        Ok(kept) => cli_results::print(alloc, &kept.record(), writer),
+        Ok(kept) => desk_papers::show_results(alloc, &kept.record(), writer),
         Err(failure) => Ended::by_failure(failure),
     }
 }

@@ -4,7 +4,7 @@ use Rattle.std.specs.Prelude.{IfErr, OnErr, OnOk}
 use Rattle.any_office.specs.StoredOffice.{office_after}
 use Rattle.any_office.specs.OfficeRuns.{LeavesOffice}
 use Rattle.any_office.specs.declared.Office as office
-use Rattle.clocks.specs.declared.clock.Clock as clock
+use Rattle.wall_clock.specs.declared.clock.Clock as clock
 use Rattle.byte_io.specs.declared.sink.Sink as sink
 use Rattle.byte_io.specs.declared.source.Source as source
 use Rattle.desk_words.specs.ViewTypes.{Moment}

@@ -1,4 +1,3 @@
 pub mod AskedOffice
 pub mod HttpAnswers
-pub mod ReplySecrecy
 pub mod Served

@@ -5,7 +5,7 @@ use Rattle.std.specs.Io.KnownBytes.{Appends}
 use Rattle.any_office.specs.StoredOffice.{HasFailed, office_after}
 use Rattle.any_office.specs.OfficeRuns.{LeavesOffice}
 use Rattle.any_office.specs.declared.Office as office
-use Rattle.clocks.specs.declared.clock.Clock as clock
+use Rattle.wall_clock.specs.declared.clock.Clock as clock
 use Rattle.byte_io.specs.Counts.{one_more}
 use Rattle.byte_io.specs.Written.{AppendsPrefix}
 use Rattle.byte_io.specs.declared.sink.Sink as sink

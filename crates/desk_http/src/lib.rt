@@ -3,7 +3,6 @@
 #![tactic(auto)]
 
 mod answers;
-pub mod laws;
 mod now;
 mod serve;
 

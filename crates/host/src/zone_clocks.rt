@@ -1,7 +1,7 @@
 //! The clocks of zones.
 ghost use Rattle.wall_clock.specs.Zones.{Zone};
 
-use clocks::Clock;
+use wall_clock::Clock;
 use wall_clock::OfficeZone;
 
 /// The clocks of zones, over the system's clock.

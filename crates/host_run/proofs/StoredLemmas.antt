@@ -10,7 +10,7 @@ use Rattle.any_office.specs.CrashedOffice.{CrashesLeaveARun, calls_answered}
 use Rattle.any_office.specs.StoredOffice.{LeavesOnly, office_after}
 use Rattle.any_office.specs.Storing.{IsStored, IsStoredOrNext}
 use Rattle.any_office.specs.declared.Office as office
-use Rattle.clocks.specs.declared.clock.Clock as clock
+use Rattle.wall_clock.specs.declared.clock.Clock as clock
 use Rattle.cli_exit.specs.Endings.{Ending, ended_by}
 use Rattle.cli_exit.specs.declared.ended.ExitError.TheVariants as fault
 use Rattle.cli_commands.specs.FileReading.{Reader}

@@ -5,7 +5,7 @@ use Rattle.host.specs.declared.offices.OfficeFiles as offices
 use Rattle.host.specs.declared.files.Files as files
 use Rattle.host.specs.declared.ports.Ports as ports
 use Rattle.host.specs.declared.zone_clocks.ZoneClocks as zones
-use Rattle.clocks.specs.declared.clock.Clock as clock
+use Rattle.wall_clock.specs.declared.clock.Clock as clock
 use Rattle.wall_clock.specs.Zones.{Zone}
 use Rattle.byte_io.specs.declared.source.Source as source
 use Rattle.byte_io.specs.declared.sink.Sink as sink
@@ -14,10 +14,10 @@ use Rattle.any_office.specs.StoredOffice.{HoldsOfOffice, IsKnownIfOpen, LeavesAt
 use Rattle.any_office.specs.Storing.{HoldsOfStored, IsStored, IsStoredOrNext}
 use Rattle.cli_exit.specs.Endings.{Ending, ended_by}
 use Rattle.cli_exit.specs.declared.ended.ExitError.TheVariants as fault
-use Rattle.cli_serve.specs.Serving.{EndsServing}
+use Rattle.cli_commands.specs.Serving.{EndsServing}
 use Rattle.http_listener.specs.Connections.{standing}
 use Rattle.tcp_close.specs.declared.listener.Listener as listener
-use Rattle.cli_results.specs.ResultPrinting.{Prints, Writer}
+use Rattle.desk_papers.specs.ResultPrinting.{Prints, Writer}
 use Rattle.cli_commands.specs.FileReading.{Reader, with_days, with_keys, with_register}
 use Rattle.cli_commands.specs.LoadCommands.{Loads}
 use Rattle.cli_commands.specs.ReplayCommand.{AllIfKnown, UntilIfKnown, ended_replaying, failures_of}

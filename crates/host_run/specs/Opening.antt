@@ -4,7 +4,7 @@ use Rattle.host.specs.declared.offices.OfficeFiles as offices
 use Rattle.host.specs.declared.files.Files as files
 use Rattle.host.specs.declared.zone_clocks.ZoneClocks as zones
 use Rattle.host.specs.declared.ports.Ports as ports
-use Rattle.clocks.specs.declared.clock.Clock as clock
+use Rattle.wall_clock.specs.declared.clock.Clock as clock
 use Rattle.cli_exit.specs.Endings.{Ending}
 use Rattle.desk_words.specs.ViewTypes.{Moment}
 use Rattle.wall_clock.specs.Zones.{Zone}

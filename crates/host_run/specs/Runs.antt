@@ -3,7 +3,7 @@ use Rattle.std.specs.Prelude.{◌≡◌, ℕ, List, Result, Ok, Err}
 use Rattle.host.specs.declared.offices.OfficeFiles as offices
 use Rattle.host.specs.declared.files.Files as files
 use Rattle.host.specs.declared.zone_clocks.ZoneClocks as zones
-use Rattle.clocks.specs.declared.clock.Clock as clock
+use Rattle.wall_clock.specs.declared.clock.Clock as clock
 use Rattle.host.specs.declared.ports.Ports as ports
 use Rattle.tcp_close.specs.declared.listener.Listener as listener
 use Rattle.host.specs.declared.host.Host.{Host}
@@ -13,10 +13,10 @@ use Rattle.any_office.specs.declared.Office as office
 use Rattle.cli_args.specs.Words.{asked_by_words}
 use Rattle.cli_exit.specs.Endings.{Ending, ended_by_words, ended_view}
 use Rattle.cli_exit.specs.declared.ended.Ended.{Ended}
-use Rattle.cli_plans.specs.Plans.{PlanAgrees, plan_view}
-use Rattle.cli_plans.specs.declared.plan.Plan.{Plan}
-use Rattle.cli_plans.specs.declared.plan.Plan.TheVariants as plan
-use Rattle.cli_plans.specs.declared.plan.WordsFault.{WordsFault}
+use Rattle.cli_args.specs.Plans.{PlanAgrees, plan_view}
+use Rattle.cli_args.specs.declared.plan.Plan.{Plan}
+use Rattle.cli_args.specs.declared.plan.Plan.TheVariants as plan
+use Rattle.cli_exit.specs.declared.words.WordsFault.{WordsFault}
 use Rattle.host_run.specs.Commands.{LoadsFile, PrintsResults, Replays, ServesFile}
 use Rattle.host_run.specs.Telling.{Tells}
 use Rattle.host_run.specs.declared.loading.Load.TheVariants as load

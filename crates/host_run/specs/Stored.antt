@@ -6,7 +6,7 @@ use Rattle.host.specs.declared.zone_clocks.ZoneClocks as zones
 use Rattle.byte_io.specs.declared.source.Source as source
 use Rattle.byte_io.specs.declared.sink.Sink as sink
 use Rattle.any_office.specs.declared.Office as office
-use Rattle.clocks.specs.declared.clock.Clock as clock
+use Rattle.wall_clock.specs.declared.clock.Clock as clock
 use Rattle.cli_exit.specs.Endings.{Ending, ended_by}
 use Rattle.cli_exit.specs.declared.ended.ExitError.TheVariants as fault
 use Rattle.desk_words.specs.Changes.{empty_office}

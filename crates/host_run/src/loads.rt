@@ -6,7 +6,7 @@ use crate::loading::Load;
 use any_office::Office;
 use byte_io::{DeviceError, Source};
 use cli_exit::{Ended, ExitError};
-use clocks::{Clock, ClockError};
+use wall_clock::{Clock, ClockError};
 use desk_words::Moment;
 use host::{Files, OfficeFiles, ZoneClocks};
 use std::alloc::Global;

@@ -9,9 +9,8 @@ use crate::prints::{replay, results};
 use crate::serving::serve;
 use crate::telling::tell;
 use byte_io::Source;
-use cli_args::read_words;
-use cli_exit::Ended;
-use cli_plans::{Plan, WordsFault};
+use cli_args::{Plan, read_words};
+use cli_exit::{Ended, WordsFault};
 use host::{Console, Files, Host, OfficeFiles, Ports, ZoneClocks};
 use std::alloc::Global;
 

@@ -26,7 +26,7 @@ fn serve_on<D: Office, L: Listener, K: ZoneClocks, W: Console>(
     match output.print_line(&Line::Name("listening")) {
         Ok(()) => {
             let mut clock = clocks.in_zone(zone);
-            cli_serve::serve(alloc, listener, desk, &mut clock, requests)
+            cli_commands::serve(alloc, listener, desk, &mut clock, requests)
         }
         Err(_) => Ended::by(ExitError::WriteFault),
     }

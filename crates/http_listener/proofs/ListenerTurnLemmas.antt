@@ -6,10 +6,10 @@ use Rattle.any_office.specs.StoredOffice.{office_after}
 use Rattle.any_office.specs.CrashedOffice.{LeadsOn, OfficeEvent, Reads, Answers, Fails, calls_answered}
 use Rattle.any_office.specs.OfficeRuns.{calls_in}
 use Rattle.any_office.specs.declared.Office as office
-use Rattle.clocks.specs.declared.clock.Clock as clock
+use Rattle.wall_clock.specs.declared.clock.Clock as clock
 use Rattle.byte_io.specs.declared.sink.Sink as sink
 use Rattle.byte_io.specs.declared.source.Source as source
-use Rattle.clocks.specs.GivenMoments.{GivesMoments}
+use Rattle.wall_clock.specs.GivenMoments.{GivesMoments}
 use Rattle.desk_http.specs.AskedOffice.{call_tried}
 use Rattle.desk_http.specs.HttpAnswers.{MakesCall, call_by, call_of}
 use Rattle.desk_http.specs.Served.{ServesRequest}

@@ -6,8 +6,8 @@ use Rattle.any_office.specs.OfficeRuns.{calls_in}
 use Rattle.any_office.specs.declared.Office as office
 use Rattle.byte_io.specs.declared.sink.Sink as sink
 use Rattle.byte_io.specs.declared.source.Source as source
-use Rattle.clocks.specs.GivenMoments.{GivesMoments}
-use Rattle.clocks.specs.declared.clock.Clock as clock
+use Rattle.wall_clock.specs.GivenMoments.{GivesMoments}
+use Rattle.wall_clock.specs.declared.clock.Clock as clock
 use Rattle.desk_http.specs.AskedOffice.{calls_tried}
 use Rattle.desk_words.specs.ViewTypes.{Moment}
 use Rattle.desk_words.specs.declared.office.OfficeLists.{OfficeLists}

@@ -2,7 +2,7 @@
 ghost use Rattle.http_listener.specs.Turns.{LoopsAreRuns};
 
 use any_office::Office;
-use clocks::Clock;
+use wall_clock::Clock;
 use tcp_close::Listener;
 
 /// What serving one connection after another leaves of an office, as `serve_loop` promises it,

@@ -5,7 +5,7 @@ ghost use Rattle.http_listener.specs.Connections.{HasNoListener, HasNoMoment, Is
 ghost use Rattle.http_listener.specs.declared.listening.LoopFault.TheVariants.{Clock, Socket};
 
 use any_office::Office;
-use clocks::{Clock, ClockError};
+use wall_clock::{Clock, ClockError};
 use desk_http::{NowError, serve_now};
 use std::alloc::Global;
 use tcp_close::{Accepted, Connection, Listener, SocketError, next_connection};

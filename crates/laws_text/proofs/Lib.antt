@@ -1,4 +1,5 @@
 mod ConnectionRunLemmas
+pub mod HttpLawLemmas
 mod PickLemmas
 mod ReplayLemmas
 mod TextLemmas

@@ -3,7 +3,7 @@ use Rattle.std.specs.Prelude.{◌≡◌, ◌⊎◌, ℕ, List, [], ◌∷◌, ma
 use Rattle.any_office.specs.declared.Office as office
 use Rattle.byte_io.specs.declared.sink.Sink as sink
 use Rattle.byte_io.specs.declared.source.Source as source
-use Rattle.clocks.specs.declared.clock.Clock as clock
+use Rattle.wall_clock.specs.declared.clock.Clock as clock
 use Rattle.desk_words.specs.Changes.{empty_office}
 use Rattle.desk_words.specs.ViewTypes.{Moment, Party}
 use Rattle.desk_words.specs.declared.office.OfficeLists.{OfficeLists}

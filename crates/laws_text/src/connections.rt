@@ -3,7 +3,7 @@ ghost use Rattle.laws_text.specs.Connections.{ConnectionsAnswerRuns, Connections
 
 use crate::texts::texts_show_no_more;
 use any_office::Office;
-use clocks::Clock;
+use wall_clock::Clock;
 use tcp_close::Listener;
 
 /// What `serve_loop` writes to one connection after another, whether it ends well or by a fault, are

@@ -5,9 +5,11 @@
 mod connections;
 mod offices;
 mod replays;
+mod requests;
 mod texts;
 
 pub use connections::{connections_are_answered, connections_show_no_more};
 pub use offices::{answer_call, offices_show_no_more, offices_show_runs};
 pub use replays::{replays_show_no_more, replays_show_runs};
+pub use requests::replies_show_no_more;
 pub use texts::texts_show_no_more;

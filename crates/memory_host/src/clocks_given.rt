@@ -1,5 +1,5 @@
 //! Clocks whose moments are known.
-use clocks::SliceClock;
+use wall_clock::SliceClock;
 use desk_words::Moment;
 use host::ZoneClocks;
 use wall_clock::OfficeZone;

@@ -49,6 +49,6 @@ impl Office for OpenBook {
 
 impl OfficeFile for OpenBook {
     fn results<W: Sink>(&mut self, alloc: Global, meeting: MeetingId, writer: &mut W) -> Ended {
-        cli_results::print(alloc, &self.book.public_of(meeting), writer)
+        desk_papers::show_results(alloc, &self.book.public_of(meeting), writer)
     }
 }

@@ -4,7 +4,7 @@
 
 ghost use Rattle.any_office.specs.StoredOffice.{HoldsOfOffice, IsKnownIfOpen, LeavesAtMost};
 ghost use Rattle.cli_exit.specs.Endings.{ended_view};
-ghost use Rattle.cli_results.specs.ResultPrinting.{Prints};
+ghost use Rattle.desk_papers.specs.ResultPrinting.{Prints};
 ghost use Rattle.desk_words.specs.declared.office.OfficeLists.{OfficeLists};
 ghost use Rattle.party_views.specs.Views.{public_of};
 

@@ -2,7 +2,7 @@
 use crate::memory::NO_KEY;
 use crate::office::{Office, moment};
 use crate::serving::{MINE, NOTHING};
-use clocks::SliceClock;
+use wall_clock::SliceClock;
 use http_listener::LoopFault;
 use std::alloc::Global;
 use std::io::ErrorKind;

@@ -1,7 +1,7 @@
 //! An office in memory, in which one meeting is called, and which is asked over connections.
 use crate::book::call;
 use byte_io::{ReadDevice, WriteDevice};
-use clocks::Clock;
+use wall_clock::Clock;
 use desk_http::{NowError, serve_now};
 use desk_words::{Moment, read_moment};
 use http_listener::{LoopFault, serve_loop};

@@ -1,7 +1,7 @@
 //! That the clock is asked once a request was read.
 use crate::office::{Office, moment};
 use crate::peers::{is_told, listen, send};
-use clocks::{Clock, ClockError};
+use wall_clock::{Clock, ClockError};
 use desk_words::Moment;
 use std::alloc::Global;
 use std::net::TcpStream;

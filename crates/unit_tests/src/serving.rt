@@ -1,7 +1,7 @@
 //! Connections that are served.
 use crate::office::{Office, moment};
 use crate::peers::{connect, is_told, listen, reply_to, send};
-use clocks::SliceClock;
+use wall_clock::SliceClock;
 use std::alloc::{AllocError, Global};
 use std::net::{TcpListener, TcpStream};
 use std::test::Fail;

@@ -1,2 +1,4 @@
 pub mod Clock
+pub mod GivenMoments
+pub mod WallMoments
 pub mod Zones

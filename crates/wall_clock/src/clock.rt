@@ -1,63 +1,34 @@
-//! The office's wall clock.
-ghost use Rattle.std.specs.Prelude.{◌≡◌, ◌≤◌, ◌^◌, ◌↔◌, ℕ, pos, neg_ℤ, ◌≤ℤ◌, IfOk, Err};
-ghost use Rattle.wall_clock.specs.Clock.{IsSecondOf, ShowsSecond, last_moment, unix_seconds};
-ghost use Rattle.wall_clock.specs.declared.clock.ClockFault.TheVariants.{OutOfRange, Memory};
+//! What moments are asked of.
+ghost use Rattle.std.specs.Prelude.{ℕ, IfOk, OnErr};
 
-use crate::zone::OfficeZone;
 use calendar::Moment;
-use jiff::Timestamp;
+use std::error::Error;
+use std::fmt;
 
-/// Why an instant has no moment on the wall clock.
-#[derive(Clone, Copy, PartialEq, Eq)]
-pub enum ClockFault {
-    /// The clock shows a second before 1900-01-01T00:00:00 or after 2999-12-31T23:59:59.
-    OutOfRange,
-    /// An allocation was refused. No zone that the library reads needs memory today.
-    Memory,
-}
+/// A clock gave no moment.
+#[derive(Clone, Copy, Debug, PartialEq, Eq)]
+pub struct ClockError;
 
-// 1900-01-01T00:00:00, in seconds since 1970-01-01T00:00:00.
-const FIRST: i64 = -2_208_988_800;
-
-// The whole second that an instant lies in.
-fn second_of(instant: Timestamp) -> i64
-    ensures { IsSecondOf instant.nanosecond result }
-{
-    let second = instant.as_second();
-    if instant.subsec_nanosecond() < 0 {
-        second - 1
-    } else {
-        second
+impl fmt::Display for ClockError {
+    fn fmt<W: fmt::Write>(&self, f: &mut fmt::Formatter<W>) -> fmt::Result {
+        f.write_str("a clock failed")
     }
 }
 
-// What a zone's clock shows at an instant, in seconds since 1970-01-01T00:00:00 on it.
-fn second_shown(instant: Timestamp, zone: &OfficeZone) -> i64
-    ensures shown { ShowsSecond zone.now instant.nanosecond result }
-    ensures above { neg_ℤ (pos (2 ^ 62)) ≤ℤ result }
-    ensures below { result ≤ℤ pos (2 ^ 62) }
-{
-    second_of(instant) + zone.offset_at(instant) as i64
-}
+impl Error for ClockError {}
 
-/// The moment that a zone's clock shows at an instant: the civil second that the instant lies in.
-/// The two instants of an hour that is repeated give one moment. The fault is `OutOfRange` exactly
-/// where the clock shows a second outside the years 1900 to 2999, and never `Memory`.
-pub fn wall_clock(instant: Timestamp, zone: &OfficeZone) -> Result<Moment, ClockFault>
-    ensures shows { IfOk result
-        (λ moment. ShowsSecond zone.now instant.nanosecond (unix_seconds moment)) }
-    ensures out_of_range { (result ≡ Err OutOfRange)
-        ↔
-        ((moment : ℕ) → moment ≤ last_moment
-        → ShowsSecond zone.now instant.nanosecond (unix_seconds moment) → ⊥) }
-    ensures no_memory { (result ≡ Err Memory) → ⊥ }
-{
-    let second = second_shown(instant, zone);
-    if second < FIRST {
-        return Err(ClockFault::OutOfRange);
-    }
-    match Moment::new((second - FIRST) as u64) {
-        Some(moment) => Ok(moment),
-        None => Err(ClockFault::OutOfRange),
-    }
+/// A clock, which is asked for one moment after another. It may go back.
+pub trait Clock {
+    /// Holds of a clock, a moment that it gives, and the clock as it is then.
+    ghost gives: { Self → ℕ → Self → Type 0 };
+
+    /// Holds of a clock that gives no moment, and the clock as it is then.
+    ghost fails: { Self → Self → Type 0 };
+
+    /// The moment now.
+    ///
+    /// The error is that the clock gives none.
+    fn now(&mut self) -> Result<Moment, ClockError>
+        ensures given { IfOk result (λ moment. gives self.old moment self.new) }
+        ensures failed { OnErr result (fails self.old self.new) };
 }

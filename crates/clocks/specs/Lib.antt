@@ -1,2 +1,0 @@
-pub mod GivenMoments
-pub mod WallMoments
