@@ -11,7 +11,8 @@ import sys
 import gate
 
 CHECKS = (
-    "tests/files-check", "docs/names-check", "docs/openapi-check", "docs/layers-check", "docs/trust-check", "tests/first-replay",
+    "tests/files-check", "tests/unused", "docs/names-check", "docs/openapi-check", "docs/layers-check", "docs/trust-check",
+    "tests/first-replay",
 )
 PROGRAM = "crates/desk/out/desk"
 

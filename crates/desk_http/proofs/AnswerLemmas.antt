@@ -1,6 +1,6 @@
 -- How what is asked of an office by one request joins.
 use Rattle.std.proofs.Common.{◌≡◌, inl, inr, ℕ, true, List, [], ◌∷◌, Option, Some, None, Result, Ok, Err, refl, sym, ap, subst, ◌∙◌}
-use Rattle.std.specs.Prelude.{IfErr, IfOk, OnErr, OnOk, is_some}
+use Rattle.std.specs.Prelude.{IfErr, IfOk, OnErr, is_some}
 use Rattle.any_office.proofs.OfficeHomeLemmas.{leaves_same, leaves_then}
 use Rattle.any_office.specs.StoredOffice.{office_after}
 use Rattle.any_office.specs.CrashedOffice.{CrashLeaves, LeadsOn, Reads, calls_answered}
@@ -74,18 +74,6 @@ answers_call (Some call) (Err e) = refl
 pub always_err : {T E : Type 0} {W : Type 0} (r : Result T E) → W → OnErr r W
 always_err (Ok x) w = tt
 always_err (Err e) w = w
-
--- a source that failed in the body has no reply to a caller
-pub cut_unheard : {E : Type 0} (heard : Result Request ReceiveError) (why : ReceiveError) (r : Result Answered E) → heard ≡ Err why → IfOk r (IsAnswer (unread_reply why)) → source_failed heard ≡ true → OnOk r ⊥
-cut_unheard heard why (Err e) is shown cut = tt
-cut_unheard heard (unreceived.Refused refusal) (Ok a) is shown cut = let told : source_failed (Err (unreceived.Refused refusal)) ≡ true = subst (λ h. source_failed h ≡ true) is cut in absurd (cc)
-cut_unheard heard unreceived.Memory (Ok a) is shown cut = let told : source_failed (Err unreceived.Memory) ≡ true = subst (λ h. source_failed h ≡ true) is cut in absurd (cc)
-cut_unheard heard unreceived.Failed (Ok a) is shown cut = let none = shown.1 in absurd (cc)
-
--- what was asked was heard
-pub cut_heard : {E : Type 0} {X : Type 0} (heard : Result Request ReceiveError) (request : Request) (r : Result X E) → heard ≡ Ok request → source_failed heard ≡ true → OnOk r ⊥
-cut_heard heard request (Err e) is cut = tt
-cut_heard heard request (Ok a) is cut = let told : source_failed (Ok request) ≡ true = subst (λ h. source_failed h ≡ true) is cut in absurd (cc)
 
 -- what is not answered of a caller is cut off only where its source failed
 pub fault_cut : (heard : Result Request ReceiveError) (why : AnswerError) → AnswerMayFail heard why → why ≡ unanswered.CutOff → source_failed heard ≡ true

@@ -1,20 +1,17 @@
 -- What is written of a reply, and of a failure.
-use Rattle.std.proofs.Common.{◌≡◌, ◌⊎◌, ℕ, inl, inr, List, None, Result, Ok, Err, refl, subst, sym, ◌∙◌}
+use Rattle.std.proofs.Common.{◌≡◌, ◌⊎◌, ℕ, inl, inr, List, None, Result, Ok, Err, refl, subst, sym}
 use Rattle.std.specs.Prelude.{IfErr, OnErr, OnOk}
 use Rattle.any_office.specs.StoredOffice.{office_after}
 use Rattle.any_office.specs.OfficeRuns.{LeavesOffice}
 use Rattle.any_office.specs.declared.Office as office
-use Rattle.wall_clock.specs.declared.clock.Clock as clock
 use Rattle.byte_io.specs.declared.sink.Sink as sink
-use Rattle.byte_io.specs.declared.source.Source as source
 use Rattle.desk_words.specs.ViewTypes.{Moment}
 use Rattle.desk_words.specs.declared.office.OfficeLists.{OfficeLists}
 use Rattle.desk_words.specs.declared.reply.Failure.{Failure}
 use Rattle.http_requests.specs.declared.received.ReceivedRequest.{ReceivedRequest}
 use Rattle.http_routes.specs.ReplyTexts.{reply_text}
 use Rattle.desk_http.specs.HttpAnswers.{IsAnswer, IsCutOff, MakesCall, call_received, reply_in}
-use Rattle.desk_http.specs.Served.{FailsWriting, OnFault, Replies, Serves, ServesRequest, FailureTextHolds, WritesPart, WritesText, as_served, as_write, failure_text, only_at}
-use Rattle.desk_http.specs.declared.now.NowError.{NowError}
+use Rattle.desk_http.specs.Served.{FailsWriting, OnFault, Replies, Serves, FailureTextHolds, WritesPart, WritesText, as_served, as_write, failure_text}
 use Rattle.desk_http.specs.declared.now.NowError.TheVariants.{Clock}
 use Rattle.desk_http.specs.declared.answers.Answered.{Answered}
 use Rattle.desk_http.specs.declared.answers.AnswerError.{AnswerError}
@@ -122,20 +119,3 @@ module _ {O W : Type 0} (g : office.Ghosts O) (h : sink.Ghosts W) (now : Moment)
 pub served_no_clock : {T : Type 0} (told : Result T ServeFault) → as_served told ≡ Err Clock → ⊥
 served_no_clock (Ok x) is = absurd (cc)
 served_no_clock (Err fault) is = absurd (cc)
-
--- as by a clock that gives one moment
-pub served_only : {T O C R W : Type 0} (g : office.Ghosts O) (k : clock.Ghosts C) (r : source.Ghosts R) (h : sink.Ghosts W) (moment : Moment) (result : Result T NowError) (told : Result T ServeFault)
-    (old new : O) (from till : C) (reader reader' : R) (before after : W) → ((now : Moment) → k.gives from now till → now ≡ moment) → (k.fails from till → ⊥) → result ≡ as_served told
-    → ServesRequest g k r h result old new from till reader reader' before after → ServesRequest g (only_at moment) r h (as_served told) old new tt tt reader reader' before after
-served_only g k r h moment result told old new from till reader reader' before after only never same (inl it) = inl (record {
-  received = it.received;
-  read = it.read;
-  moment = it.moment;
-  given = only it.moment it.given;
-  told = it.told;
-  is = sym same ∙ it.is;
-  replies = it.replies;
-})
-served_only g k r h moment result told old new from till reader reader' before after only never same (inr (inl it, still, unwritten)) =
-    inr (inl (record { is = sym same ∙ it.is; failed = it.failed; bound = it.bound; unasked = refl }), still, unwritten)
-served_only g k r h moment result told old new from till reader reader' before after only never same (inr (inr it, still, unwritten)) = absurd (never it.fails)

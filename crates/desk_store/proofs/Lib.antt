@@ -1,6 +1,5 @@
 pub mod CallerLemmas
 pub mod DecidingLemmas
-pub mod DeskOfficeLemmas
 pub mod DeskReadLemmas
 pub mod JoinLemmas
 pub mod KeepingLemmas

@@ -13,16 +13,8 @@ Keeps-consumes None b k = tt
 Keeps-consumes (Some x) None k = absurd k
 Keeps-consumes (Some x) (Some y) k = sym k
 
-Keeps-same : (a : Option (List ℕ)) → Keeps a a
-Keeps-same None = tt
-Keeps-same (Some x) = refl
-
 none_comes : (old new : List ℕ) (a b : Option (List ℕ)) (p p' : ℕ) → new ≡ old → Keeps a b → p' ≡ p → ReceivesBytes old new a b p p'
 none_comes old new a b p p' e k same = record { bytes = []; behind = e ∙ sym (append-nil old); consumed = Keeps-consumes a b k; counted = omega (arith, same) }
-
--- nothing came
-pub nothing_comes : (bytes : List ℕ) (a : Option (List ℕ)) (p : ℕ) → ReceivesBytes bytes bytes a a p p
-nothing_comes bytes a p = none_comes bytes bytes a a p p refl (Keeps-same a) refl
 
 -- the source failed, and whatever it left behind the bytes so far is not read
 pub none_read : (filled room : ℕ) (old new : List ℕ) (a b : Option (List ℕ)) (p p' : ℕ) → filled ≤ length old → Keeps a b → p' ≡ p
@@ -53,14 +45,6 @@ Comes-chained x y z a b c p q r one two = record {
 -- what is known of the input: the bytes so far, and those that are left
 input_is : (before now known left : List ℕ) (p q : ℕ) → ReceivesBytes before now (Some known) (Some left) p q → now ++ left ≡ before ++ known
 input_is before now known left p q c = ap (λ l. l ++ left) c.behind ∙ append_assoc before c.bytes left ∙ ap (λ l. before ++ l) (sym c.consumed)
-
--- what the bytes so far are, whatever follows, is what the known input is
-pub found_known : (front : Front) (held : HeadBuffer) (before : List ℕ) (a b : Option (List ℕ)) (p q : ℕ) → ReceivesBytes before held.bytes a b p q
-    → ((left : List ℕ) → Finds front (held.bytes ++ left) left held) → FindsKnown front before a b held
-found_known front held before None b p q c found = tt
-found_known front held before (Some known) None p q c found = absurd c.consumed
-found_known front held before (Some known) (Some left) p q c found =
-    subst (λ input. Finds front input left held) (input_is before held.bytes known left p q c) (found left)
 
 -- and so is what they are where nothing is left
 pub ended_known : (held : HeadBuffer) (before : List ℕ) (a b : Option (List ℕ)) (p q : ℕ) → ReceivesBytes before held.bytes a b p q

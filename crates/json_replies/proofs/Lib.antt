@@ -1,4 +1,3 @@
 pub mod Depths
-pub mod FailureTexts
 pub mod Moments
 pub mod WritingLemmas

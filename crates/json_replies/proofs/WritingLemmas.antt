@@ -56,9 +56,6 @@ number_written {E} {r} {n} fits w = one_token w refl (ap (option_map number) (nu
 pub truth_written : {E : Type 0} {r : Result (Unit {0}) E} {holds : Bool} {a b : Written} → Writes r a b (Token.boolean holds) → OnOk r (WritesValue (boolean holds) a b)
 truth_written w = one_token w refl refl
 
-pub null_written : {E : Type 0} {r : Result (Unit {0}) E} {a b : Written} → Writes r a b Token.null → OnOk r (WritesValue null a b)
-null_written w = one_token w refl refl
-
 -- a value, which is the value that was to be written
 pub value_as : {A : Type 0} (f : A → Data) {x y : A} {a b : Written} → x ≡ y → WritesValue (f x) a b → WritesValue (f y) a b
 value_as f {x} {y} {a} {b} is w = subst (λ z. WritesValue (f z) a b) is w
@@ -77,10 +74,6 @@ then {ms} {ns} {a} {b} {c} h k = record {
   appends = subst (λ ts. Appends ts a c) (named_after ms ns) (appended (named_tokens ms) (named_tokens ns) a b c h.appends k.appends);
   reads = both_read ms ns h.reads k.reads;
 }
-
--- no member
-pub none_written : {a : Written} → WritesMembers [] a a
-none_written {a} = record { appends = record { tokens = sym (append-nil a.tokens); before = refl }; reads = tt }
 
 -- a member that is there where a test holds, and further members after it
 pub then_if : (holds : Bool) (m : List ℕ × Data) {ns : List (List ℕ × Data)} {a b c : Written}

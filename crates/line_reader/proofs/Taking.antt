@@ -1,5 +1,5 @@
 -- Lines that are taken from the front of the unread bytes.
-use Rattle.std.proofs.Common.{◌≡◌, ℕ, ◌+◌, ◌<◌, ◌≤◌, List, ◌++◌, Option, Some, None, length, drop, sym, ap, ◌∙◌, arith, append_assoc, length-append, length-drop, IfSome}
+use Rattle.std.proofs.Common.{◌≡◌, ℕ, ◌+◌, ◌<◌, ◌≤◌, List, ◌++◌, Option, Some, None, length, drop, sym, ap, ◌∙◌, arith, append_assoc, length-append, length-drop}
 use Rattle.std.proofs.Math.Seq.{drop-append-add, drop-append_seam}
 use Rattle.std.proofs.lemmas.List.{drop-append-le}
 use Rattle.std.specs.Io.KnownBytes.{Keeps}
@@ -50,18 +50,8 @@ loses-line (Some x) (Some y) (Some z) front pending rest place s p none first in
     let there : after_line pending ++ z ≡ after_line y = sym (after_line-append_some pending z some) ∙ ap after_line p ∙ after_line-append_none front y none in
     rw given (there ∙ sym behind)
 
-pub SameWhole-same : (m n : ℕ) (a : Option (List ℕ)) → n ≡ m → SameWhole m a n a
-SameWhole-same m n None e = tt
-SameWhole-same m n (Some xs) e = ap (λ k. k + length xs) e
-
 pub SameWhole-chained : (m n k j : ℕ) (a b c : Option (List ℕ)) → SameWhole m a n b → SameWhole n b k c → j ≡ k → SameWhole m a j c
 SameWhole-chained m n k j None b c p q e = tt
 SameWhole-chained m n k j (Some x) None c p q e = absurd p
 SameWhole-chained m n k j (Some x) (Some y) None p q e = absurd q
 SameWhole-chained m n k j (Some x) (Some y) (Some z) p q e = omega (arith, p, q, e)
-
--- where more bytes were taken than a limit, the input is longer than that
-pub SameWhole-exceeds : (limit m n : ℕ) (a b : Option (List ℕ)) → SameWhole m a n b → limit < n → IfSome a (λ xs. limit < m + length xs)
-SameWhole-exceeds limit m n None b p h = tt
-SameWhole-exceeds limit m n (Some x) None p h = absurd p
-SameWhole-exceeds limit m n (Some x) (Some y) p h = omega (arith, p, h)

@@ -7,9 +7,8 @@ use Rattle.desk_words.specs.declared.caller.Caller.{Caller}
 use Rattle.desk_words.specs.declared.caller.Caller.TheVariants as caller
 use Rattle.desk_words.specs.declared.change.Change.{Change}
 use Rattle.desk_words.specs.declared.change.Change.TheVariants.{InMeeting, SetClosedDays, SetKeys}
-use Rattle.desk_words.specs.declared.change.Entry.{Entry}
 use Rattle.desk_words.specs.declared.change.MeetingChange.{MeetingChange}
-use Rattle.desk_words.specs.declared.change.MeetingChange.TheVariants.{Enter, SetRegister}
+use Rattle.desk_words.specs.declared.change.MeetingChange.TheVariants.{SetRegister}
 use Rattle.desk_words.specs.declared.office.OfficeLists.{OfficeLists}
 use Rattle.desk_words.specs.declared.office.MeetingLists.{MeetingLists}
 use Rattle.desk_words.specs.declared.reply.Reply.TheVariants as reply
@@ -22,7 +21,7 @@ use Rattle.desk_words.specs.declared.request.Request.TheVariants as asked
 use Rattle.vocabulary.specs.declared.refusal.Refusal.{Refusal}
 use Rattle.party_views.specs.Views.{meeting_at}
 use Rattle.office_decisions.specs.OfficeRulings.{is_register_held, is_some_at_once, ruling_on}
-use Rattle.office_decisions.specs.RequestLimits.{if_any, keeps_limits}
+use Rattle.office_decisions.specs.RequestLimits.{if_any}
 use Rattle.desk_words.specs.Changes.{applied_if_any, sets_fields}
 use Rattle.meeting_core.specs.Step.{decided, is_at_once_to, is_start_or_close, needs_no_memory, ruling, stepped}
 use Rattle.meeting_core.proofs.RulingLemmas.{change_of, quiet_of}
@@ -54,11 +53,6 @@ pub at_once_quiet : (o : OfficeLists) (call : Call) → is_at_once_to call.calle
 at_once_quiet o call h = quiet o call (at_once_by call.caller (decided o call) h)
 
 -- ---- limits of what a party changes, and what sets fields alone
-
--- what is entered has no limits of its own
-pub entry_limits : (id : List ℕ) (entry : Option Entry) → if_any keeps_limits (option_map (λ e. InMeeting id (Enter e)) entry) ≡ true
-entry_limits id None = refl
-entry_limits id (Some entry) = refl
 
 sets_found : (found : Option MeetingLists) (id : List ℕ) (f : MeetingLists → Ruling MeetingChange)
     → ((m : MeetingLists) → if_any sets_fields (option_map (InMeeting id) (f m).accepted.change) ≡ true)

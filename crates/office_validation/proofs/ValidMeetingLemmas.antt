@@ -1,8 +1,7 @@
 -- The lists of a meeting, tested one after another.
-use Rattle.std.proofs.Common.{◌≡◌, ℕ, zero, suc, ◌+◌, ◌<◌, ◌≤◌, arith, Bool, true, false, ◌&&◌, cond, List, [], ◌∷◌, length, get_or, take, set, map, inl, inr, refl, ap, sym, ◌∙◌, true≢false}
-use Rattle.std.specs.Prelude.{Some, None, is_some}
+use Rattle.std.proofs.Common.{◌≡◌, ℕ, zero, suc, ◌+◌, ◌<◌, ◌≤◌, arith, Bool, true, false, ◌&&◌, cond, List, [], ◌∷◌, length, get_or, take, set, map, refl, ap, sym, ◌∙◌}
+use Rattle.std.specs.Prelude.{Some, None}
 use Rattle.std.specs.List.{list_all}
-use Rattle.std.proofs.lemmas.Bool.{cases_Bool}
 use Rattle.std.proofs.lemmas.List.{take_all}
 use Rattle.std.proofs.lemmas.List.Folds.{list_all-map, list_all_at, list_all_more}
 use Rattle.std.specs.Cmp.Derive.{both_true}
@@ -11,7 +10,6 @@ use Rattle.desk_words.specs.Office.{implies, is_loaded_right, is_meeting, no_row
 use Rattle.desk_words.specs.Registers.{is_register}
 use Rattle.desk_words.specs.declared.office.MeetingLists.{MeetingLists}
 use Rattle.desk_words.specs.declared.records.RegisterRow.{RegisterRow}
-use Rattle.desk_words.proofs.OfficeFacts.{meeting_facts}
 use Rattle.office_validation.specs.Validation.{in_order, rows_checked}
 
 -- what is given under a condition
@@ -43,13 +41,6 @@ pub loaded-some : (m : MeetingLists) (rows : List RegisterRow) → implies (is_o
 loaded-some m rows right some =
     let both = given-some (cond m.meeting.loaded (is_register (in_order m).register) (no_rows (in_order m).register)) (in_order m).register rows some in
     (both_true both.0 right, ap (λ r. record m { register = r }) (sym both.1))
-
--- lists whose register is not loaded as it should be are none of a meeting
-pub is_meeting-unloaded : (m : MeetingLists) → is_loaded_right m ≡ false → is_meeting m ≡ false
-is_meeting-unloaded m h = elim (cases_Bool (is_meeting m)) [
-  | inl good ↦ absurd (true≢false (sym (meeting_facts m good).loaded ∙ h))
-  | inr wrong ↦ wrong
-]
 
 -- each of the lists is that of a meeting, once its register is in order
 abbrev pub are_each : List MeetingLists → Bool

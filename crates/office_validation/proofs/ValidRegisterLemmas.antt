@@ -1,5 +1,5 @@
 -- Rows of a register that come in any order.
-use Rattle.std.proofs.Common.{◌≡◌, true, false, ◌&&◌, ◌==◌, cond, List, [], ◌∷◌, length, refl, ap, sym, ◌∙◌, arith}
+use Rattle.std.proofs.Common.{◌≡◌, true, false, ◌&&◌, ◌==◌, cond, List, [], ◌∷◌, length, refl, ap, sym, ◌∙◌}
 use Rattle.std.specs.Prelude.{Some, None, Result, Err}
 use Rattle.std.specs.Cmp.{both_ways}
 use Rattle.std.specs.Cmp.Lexicographic.{nat_list_cmp_total}
@@ -46,11 +46,6 @@ some_rows row [] = refl
 some_rows row (first ∷ rest) =
     elim (member_before row first) as (λ b. no_rows (cond b (row ∷ first ∷ rest) (first ∷ insert_by member_before row rest)) ≡ false)
     [ true ↦ refl | false ↦ refl ]
-
--- where no register is loaded there are no rows
-pub rows_checked-none : (rows : List RegisterRow) → length rows ≡ 0 → rows_checked false rows ≡ Some rows
-rows_checked-none [] none = refl
-rows_checked-none (row ∷ rows) none = absurd (omega arith)
 
 -- and rows are too many
 pub rows_checked-some : (rows : List RegisterRow) → (length rows == 0) ≡ false → rows_checked false rows ≡ None

@@ -1,5 +1,5 @@
 -- The rows that are looked up by member are the last of that name.
-use Rattle.std.proofs.Common.{◌≡◌, ℕ, ◌+◌, ◌<◌, Bool, true, false, cond, List, [], ◌∷◌, ◌++◌, length, get_or, take, map, refl, sym, ap, ◌∙◌, arith}
+use Rattle.std.proofs.Common.{◌≡◌, ℕ, ◌+◌, ◌<◌, Bool, true, false, cond, List, [], ◌∷◌, ◌++◌, length, get_or, take, map, refl, sym, ap, ◌∙◌}
 use Rattle.std.proofs.lemmas.Bool.{eqb-true}
 use Rattle.std.proofs.lemmas.Option.{slice_get-get_or}
 use Rattle.std.specs.Prelude.{◌==◌, Option, Some, filter, find, option_and_then, reverse}
@@ -9,7 +9,6 @@ use Rattle.std.specs.Cmp.Lexicographic.{texts_ties}
 use Rattle.std.specs.Ordering.{is_eq}
 use Rattle.std.proofs.lemmas.List.{reverse-append, take_more}
 use Rattle.vocabulary.specs.Names.{same_name, name_cmp}
-use Rattle.desk_words.specs.declared.own_things.Received.{Received}
 use Rattle.desk_words.specs.declared.records.Appointment.{Appointment}
 use Rattle.desk_words.specs.declared.records.Meeting.{Meeting}
 use Rattle.desk_words.specs.declared.records.Poll.{Poll}
@@ -76,8 +75,3 @@ received-alike members closed meeting polls now sessions late (a ∷ received) b
     let polls_too = ap (map (late_in_rows members a.member a.number)) are_late ∙ late-governed members closed meeting now a.member a.number (filter (is_late_poll closed) polls) in
     ap (λ first. first ∷ map (received_with members sessions late) received) (λ i. known_to_proxy a (sessions_too i) (polls_too i))
     ∙ ap (λ rest. received_by members closed meeting polls now a ∷ rest) (received-alike members closed meeting polls now sessions late received by_cutoffs are_late)
-
--- of no appointments nothing is known
-pub none-received : (known : Appointment → Received) (received : List Appointment) → (length received == 0) ≡ true → [] ≡ map known received
-none-received known [] none = refl
-none-received known (a ∷ received) none = absurd (omega (arith, eqb-true (length (a ∷ received)) 0 none))

@@ -1,16 +1,15 @@
 -- The roles in which persons act.
-use Rattle.std.proofs.Common.{◌≡◌, ℕ, zero, suc, ◌+◌, ◌<◌, ◌≤◌, Bool, true, false, cond, List, [], ◌∷◌, ◌++◌, length, get_or, take, refl, sym, ap, ◌∙◌, arith}
+use Rattle.std.proofs.Common.{◌≡◌, ℕ, zero, suc, ◌+◌, ◌<◌, Bool, true, false, cond, List, [], ◌∷◌, ◌++◌, length, get_or, take, refl, sym, ap, ◌∙◌, arith}
 use Rattle.std.specs.Prelude.{◌||◌, not, nat_lt, sum_by, Option, Some, None, option_map}
 use Rattle.std.specs.Cmp.Lexicographic.{nat_list_cmp_total, texts_ties}
-use Rattle.std.specs.List.{cons_option, filter_map, list_any, flat_map}
+use Rattle.std.specs.List.{cons_option, filter_map, list_any}
 use Rattle.std.specs.Option.{option_map_or}
 use Rattle.std.specs.Ordering.{is_eq, is_lt, eq_by_cmp}
 use Rattle.std.specs.Set.{is_member}
 use Rattle.std.proofs.lemmas.Bool.Decides.{nat_tests}
-use Rattle.std.proofs.lemmas.List.{append-nil, take_more}
-use Rattle.std.proofs.lemmas.List.Concat.{flat_map-append}
+use Rattle.std.proofs.lemmas.List.{append-nil}
 use Rattle.std.proofs.lemmas.List.Folds.{list_any_more}
-use Rattle.std.proofs.lemmas.List.Sums.{sum_by-cons, get_or-le-sum_by}
+use Rattle.std.proofs.lemmas.List.Sums.{sum_by-cons}
 use Rattle.seq.proofs.Booleans.{neither_first, neither_second}
 use Rattle.std.proofs.Math.Bool.{or-false}
 use Rattle.std.proofs.lemmas.Bool.{not-true, or_from}
@@ -20,9 +19,7 @@ use Rattle.seq.specs.Ordered.{ascends_by, differ_by}
 use Rattle.vocabulary.specs.Names.{same_name, name_cmp}
 use Rattle.vocabulary.specs.declared.kinds.Capacity.{Capacity}
 use Rattle.desk_words.proofs.WordRowLemmas.{same_name-true}
-use Rattle.desk_words.specs.Registers.{all_shares}
 use Rattle.desk_words.specs.declared.records.Appointment.{Appointment}
-use Rattle.desk_words.specs.declared.records.RegisterRow.{RegisterRow}
 use Rattle.proxy_rules.specs.Tiles.{ArePieces, governing_of, places_in, shares_if}
 use Rattle.proxy_rules.specs.declared.holdings.Holding.{Holding}
 use Rattle.proxy_rules.specs.declared.meeting_records.Cutoffs.{Cutoffs}
@@ -108,13 +105,3 @@ pub proxies-shares : (person : List ℕ) (cutoffs : Cutoffs) (holding : Holding)
 proxies-shares person cutoffs holding pieces are = proxies-pieces person holding pieces ∙ ap (nat_lt 0) (places_that-pieces (names person) cutoffs holding pieces are)
 
 -- ---- rows
-
--- the roles of one row more
-pub roles-more : {X Y : Type 0} (f : X → List Y) (xs : List X) (i : ℕ) (x : X) → i < length xs → x ≡ get_or xs i x → flat_map f (take i xs) ++ f x ≡ flat_map f (take (i + 1) xs)
-roles-more f xs i x lt is =
-    ap (λ ys. flat_map f (take i xs) ++ ys) (sym (append-nil (f x)))
-    ∙ sym (ap (flat_map f) (take_more xs i x lt ∙ ap (λ y. take i xs ++ y ∷ []) (sym is)) ∙ flat_map-append f (take i xs) (x ∷ []))
-
--- no row has more shares than all rows
-pub row_shares-le : (rows : List RegisterRow) (i : ℕ) (row : RegisterRow) → i < length rows → row ≡ get_or rows i row → row.shares ≤ all_shares rows
-row_shares-le rows i row lt is = omega (arith, get_or-le-sum_by (λ (r : RegisterRow). r.shares) rows i row lt, ap (λ (r : RegisterRow). r.shares) is)

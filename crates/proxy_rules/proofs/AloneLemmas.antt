@@ -1,14 +1,13 @@
 -- What one appointment governs beside those that were received after it.
-use Rattle.std.proofs.Common.{◌≡◌, ℕ, zero, suc, ◌+◌, ◌-◌, ◌<◌, ◌≤◌, min, Bool, true, false, not, cond, List, [], ◌∷◌, ◌++◌, length, get_or, take, drop, refl, sym, ap, ◌∙◌, arith, inl, inr}
-use Rattle.std.specs.Prelude.{◌⊎◌, ◌&&◌, ◌||◌, ◌==◌, nat_le, nat_lt, Option, Some, None, find, reverse, option_and_then}
+use Rattle.std.proofs.Common.{◌≡◌, ℕ, zero, suc, ◌+◌, ◌-◌, ◌<◌, ◌≤◌, min, Bool, true, false, not, cond, List, [], ◌∷◌, ◌++◌, length, take, drop, refl, sym, ap, ◌∙◌, arith, inl, inr}
+use Rattle.std.specs.Prelude.{◌⊎◌, ◌&&◌, ◌||◌, ◌==◌, nat_le, Option, Some, None, find, reverse, option_and_then}
 use Rattle.std.specs.List.{list_any, slice_get}
 use Rattle.std.specs.Option.{option_map_or, option_or}
 use Rattle.std.specs.Cmp.{first_so, second_so}
 use Rattle.std.proofs.lemmas.Bool.{and_from, and_parts, cases_lt, eq-eqb, eqb-true, le-leb, leb-true, ne_eqb}
 use Rattle.std.proofs.lemmas.Bool.Decides.{nat_tests}
 use Rattle.std.proofs.lemmas.List.{append-nil, length-drop, reverse-append, take_all}
-use Rattle.std.proofs.lemmas.List.Folds.{find-append, list_any-append, list_any_more}
-use Rattle.seq.proofs.Booleans.{neither_first, neither_second}
+use Rattle.std.proofs.lemmas.List.Folds.{find-append, list_any-append}
 use Rattle.std.proofs.Math.Bool.{or_comm}
 use Rattle.seq.proofs.Kept.{found-any, found-passes, none-found}
 use Rattle.vocabulary.specs.Places.{Places, holds, is_range}
@@ -234,48 +233,6 @@ taken_through cutoffs later place to a there is =
           (and_from (nat_le a.moment cutoffs.appointments) (holds a.range other) over.0
           (and_from (nat_le a.range.from other) (nat_le other a.range.to) (le-leb a.range.from other (omega (arith, low, after))) (le-leb other a.range.to (omega (arith, before, is))))),
     )
-
--- before an appointment begins that is not over a place, no place from that on is its own
-pub free_before_it : (cutoffs : Cutoffs) (a : Appointment) (place last other : ℕ) → is_over cutoffs place a ≡ false → place < a.range.from → last + 1 ≡ a.range.from → other ≤ last
-    → is_over cutoffs other a ≡ false
-free_before_it cutoffs a place last other free below is upto =
-    let fails : holds a.range other ≡ false = (let past : other < a.range.from = omega (arith, is) in grind (arith, nat_tests)) in
-    ap (λ b. nat_le a.moment cutoffs.appointments && b) fails ∙ never (nat_le a.moment cutoffs.appointments)
-  where
-    never : (b : Bool) → (b && false) ≡ false
-    never true = refl
-    never false = refl
-
--- and none of one that begins no later, or past an end
-pub free_otherwise : (cutoffs : Cutoffs) (a : Appointment) (place end other : ℕ) → is_over cutoffs place a ≡ false
-    → (nat_le a.moment cutoffs.appointments && (nat_lt place a.range.from && nat_le a.range.from end)) ≡ false → place ≤ other → other ≤ end
-    → is_over cutoffs other a ≡ false
-free_otherwise cutoffs a place end other free not_so after upto =
-    elim (nat_le a.moment cutoffs.appointments) as (λ b. (b && holds a.range place) ≡ false → (b && (nat_lt place a.range.from && nat_le a.range.from end)) ≡ false → (b && holds a.range other) ≡ false) [
-      | true ↦ λ free not_so. grind (arith, nat_tests)
-      | false ↦ λ free not_so. refl
-    ] free not_so
-
--- one appointment more that takes no place up to an end
-pub free_more : (cutoffs : Cutoffs) (appointed : List Appointment) (i : ℕ) (a : Appointment) (place last end next : ℕ) → i < length appointed → a ≡ get_or appointed i a
-    → IsFreeTo cutoffs (take i appointed) place last end → (place ≤ next) × (next ≤ end) → ((other : ℕ) → place ≤ other → other ≤ next → is_over cutoffs other a ≡ false)
-    → IsFreeTo cutoffs (take (i + 1) appointed) place last next
-free_more cutoffs appointed i a place last end next h is before within free = record {
-  from = within.0;
-  to = omega (arith, within.1, before.to);
-  free = λ other after upto.
-      list_any_more (is_over cutoffs other) appointed i a h
-      ∙ ap (λ b. b || is_over cutoffs other (get_or appointed i a)) (before.free other after (omega (arith, within.1)))
-      ∙ ap (is_over cutoffs other) (sym is) ∙ free other after upto;
-}
-
--- what does not take a place among all does not alone
-pub not_taken_by : (cutoffs : Cutoffs) (appointed : List Appointment) (i : ℕ) (a : Appointment) (place : ℕ) → i < length appointed → a ≡ get_or appointed i a
-    → is_taken cutoffs appointed place ≡ false → is_over cutoffs place a ≡ false
-not_taken_by cutoffs [] i a place h is none = absurd (omega (arith, h))
-not_taken_by cutoffs (x ∷ xs) zero a place h is none = ap (is_over cutoffs place) is ∙ neither_first (is_over cutoffs place x) (is_taken cutoffs xs place) none
-not_taken_by cutoffs (x ∷ xs) (suc i) a place h is none =
-    not_taken_by cutoffs xs i a place (omega (arith, h)) is (neither_second (is_over cutoffs place x) (is_taken cutoffs xs place) none)
 
 -- ---- the turns of the loop over what is left of a range
 

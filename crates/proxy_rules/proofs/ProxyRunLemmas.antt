@@ -11,12 +11,6 @@ use Rattle.proxy_rules.specs.PlaceRuns.{joined, runs_that, are_parted}
 
 -- ---- one run more
 
--- behind others the last run is joined as it is alone
-pub joined-last : (runs : List Places) (last run : Places) → joined (runs ++ last ∷ []) run ≡ runs ++ joined (last ∷ []) run
-joined-last [] last run = refl
-joined-last (first ∷ []) last run = refl
-joined-last (first ∷ second ∷ runs) last run = ap (λ l. first ∷ l) (joined-last (second ∷ runs) last run)
-
 -- the last run, made longer
 pub set-joined : (runs : List Places) (last run longer : Places) (n : ℕ) → length runs ≡ n + 1 → last ≡ get_or runs n last → last.to + 1 ≡ run.from
     → longer ≡ record { from = last.from; to = run.to } → set runs n longer ≡ joined runs run
@@ -37,11 +31,6 @@ push-joined (r ∷ []) last run zero len is apart =
 push-joined (r ∷ []) last run (suc n) len is apart = absurd (omega arith)
 push-joined (r ∷ s ∷ runs) last run zero len is apart = absurd (omega arith)
 push-joined (r ∷ s ∷ runs) last run (suc n) len is apart = ap (λ l. r ∷ l) (push-joined (s ∷ runs) last run n (omega (arith, len)) is apart)
-
--- the first run
-pub none-joined : (runs : List Places) (run : Places) → length runs ≡ 0 → runs ++ run ∷ [] ≡ joined runs run
-none-joined [] run none = refl
-none-joined (r ∷ runs) run none = absurd (omega arith)
 
 -- what is joined to some run leaves a run, behind which the next comes
 joined-cons : (first : Places) (runs : List Places) (run next : Places) → joined (first ∷ joined runs run) next ≡ first ∷ joined (joined runs run) next

@@ -3,8 +3,8 @@ use Rattle.std.proofs.Common.{◌≡◌, ℕ, ◌+◌, ◌≤◌, Bool, true, fa
 use Rattle.std.specs.Prelude.{All, Option, Some, None, IfSome}
 use Rattle.std.proofs.Math.Seq.{take-append-add, take-append_seam}
 use Rattle.std.proofs.lemmas.List.{take-append-drop}
-use Rattle.std.proofs.lemmas.List.Elements.{All-nil, All-push}
-use Rattle.std.specs.Io.KnownBytes.{Appends, IsAtEnd, Keeps, prepend_known}
+use Rattle.std.proofs.lemmas.List.Elements.{All-push}
+use Rattle.std.specs.Io.KnownBytes.{Appends, IsAtEnd, Keeps}
 use Rattle.byte_io.specs.Written.{AppendsPrefix}
 use Rattle.line_reader.specs.FirstLine.{StaysInLine}
 use Rattle.line_reader.specs.Lines.{feed_place, feeds_in, lines_of, first_line, after_line}
@@ -70,10 +70,6 @@ appends-kept None b c xs p q = tt
 appends-kept (Some x) None c xs p q = absurd p
 appends-kept (Some x) (Some y) None xs p q = absurd q
 appends-kept (Some x) (Some y) (Some z) xs p q = q ∙ p
-
-appends-nothing : (a : Option (List ℕ)) → Appends a a []
-appends-nothing None = tt
-appends-nothing (Some x) = sym (append-nil x)
 
 -- the bytes that were given as lines, and those that were lost, are all that came
 came : (input given bytes lost left : List ℕ) (taken : ℕ) → input ≡ given ++ bytes → bytes ≡ lost ++ left → taken + length left ≡ 0 + length input → take taken input ≡ given ++ lost
@@ -149,19 +145,6 @@ module _ (may_fail : Failure → Type 0) (start : OfficeLists) where
     pub fed : feeds_in given ≤ length done
     pub answered : Done done office (Appends old new)
 
-  -- nothing is answered yet
-  pub progress_none : (input : List ℕ) (unread : Option (List ℕ)) (old : Option (List ℕ)) → unread ≡ Some input → Progress input unread start old old
-  progress_none input unread old h = record {
-    rest = input;
-    unread_is = h;
-    given = [];
-    input_is = refl;
-    done = [];
-    lines = refl;
-    fed = omega arith;
-    answered = record { failed = []; each = refl; causes = All-nil (λ (f : Option Failure). IfSome f (LineMayFail may_fail)); office_is = refl; written = appends-nothing old };
-  }
-
   one_more_line : (input rest rest' : List ℕ) (office after : OfficeLists) (old mid new : Option (List ℕ)) (p : Progress input (Some rest) office old mid) → p.rest ≡ rest → rest' ≡ after_line rest
       → AnswersFirst may_fail rest office after (Appends mid new) → Progress input (Some rest') after old new
   one_more_line input rest rest' office after old mid new p same rest_is a =
@@ -232,11 +215,6 @@ module _ (may_fail : Failure → Type 0) (start : OfficeLists) where
     progress_stopped Write input (Some bytes) left last taken office after old mid new p s stands w = stopped_writing input bytes office after old mid new p (rest_of bytes p.rest p.unread_is) s stands
 
   -- ---- where the input is known
-
-  pub known_none : (known : Option (List ℕ)) (pending : List ℕ) (old : Option (List ℕ)) → pending ≡ []
-      → IfSome known (λ input. Progress input (prepend_known pending known) start old old)
-  known_none None pending old h = tt
-  known_none (Some input) pending old h = progress_none input (Some (pending ++ input)) old (ap (λ front. Some (front ++ input)) h)
 
   pub known_more : (known unread left : Option (List ℕ)) (more : Bool) (office after : OfficeLists) (old mid new : Option (List ℕ))
       → IfSome known (λ input. Progress input unread office old mid) → more ≡ true → Turns may_fail more (replay_state unread office mid) (replay_state left after new)

@@ -20,11 +20,6 @@ module _ {S E : Type 0} (trusted : S → Type 0) (shows : S → Option MeetingLi
   holds_as a b (Ok x) P Q next one = record { holds = λ trust found shown. next found x (one.holds trust found shown); kept = one.kept; left = one.left }
   holds_as a b (Err e) P Q next one = record { holds = one.holds; kept = one.kept; left = one.left }
 
-  -- an error of a look-up is that of the whole
-  pub holds_stop : {X Y : Type 0} (a b : S) (e : E) (r : Result Y E) (P : Option MeetingLists → X → Type 0) (Q : Option MeetingLists → Y → Type 0)
-      → r ≡ Err e → IsTrueLookUp trusted shows keeps leaves may_fail a b (Err e) P → IsTrueLookUp trusted shows keeps leaves may_fail a b r Q
-  holds_stop {X} {Y} a b e r P Q is one = subst (λ (q : Result Y E). IsTrueLookUp trusted shows keeps leaves may_fail a b q Q) (sym is) (record { holds = one.holds; kept = tt; left = one.left })
-
   -- and so is one that is met behind it
   pub holds_refused : {X Y : Type 0} (a b : S) (x : X) (r : Result Y E) (P : Option MeetingLists → X → Type 0) (Q : Option MeetingLists → Y → Type 0) (gives : E → Type 0)
       → ((e : E) → gives e → may_fail e) → IsErrAnd r gives → IsTrueLookUp trusted shows keeps leaves may_fail a b (Ok x) P → IsTrueLookUp trusted shows keeps leaves may_fail a b r Q

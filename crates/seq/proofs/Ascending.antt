@@ -1,7 +1,7 @@
 -- Lists in the order of a key, and lists whose keys differ.
-use Rattle.std.proofs.Common.{◌≡◌, ℕ, zero, suc, ◌+◌, ◌-◌, ◌<◌, Bool, true, false, not, ◌&&◌, ◌||◌, cond, List, [], ◌∷◌, ◌++◌, length, get_or, filter, take, refl, sym, ap, ◌∙◌, subst, arith, add-one, Ordering, Less, Equal, Greater, true≢false, IsPermutation, ◌⊎◌, inl, inr}
-use Rattle.std.specs.Prelude.{Option, Contains, IfSome}
-use Rattle.std.specs.List.{list_any, slice_get, AllByRecursion, IsDistinct, AllAdjacentBelow, IsAllAdjacentAnswer}
+use Rattle.std.proofs.Common.{◌≡◌, ℕ, zero, suc, ◌+◌, ◌-◌, ◌<◌, Bool, true, false, not, ◌&&◌, ◌||◌, cond, List, [], ◌∷◌, length, get_or, filter, take, refl, sym, ap, ◌∙◌, subst, arith, add-one, Ordering, Less, Equal, Greater, true≢false, IsPermutation, ◌⊎◌, inl, inr}
+use Rattle.std.specs.Prelude.{Contains}
+use Rattle.std.specs.List.{list_any, AllByRecursion, IsDistinct, AllAdjacentBelow, IsAllAdjacentAnswer}
 use Rattle.std.specs.List.Sorted.{IsStrictlySortedBy, IsSortedBy, IsSortedByKey}
 use Rattle.std.specs.Ordering.{is_lt, is_eq, eq_by_cmp, on, ordering_reverse}
 use Rattle.std.specs.Cmp.{IsTotalOrder, first_so, second_so, both_ways, eq_by_cmp_equiv}
@@ -177,18 +177,6 @@ module _ {X K : Type 0} {cmp : K → K → Ordering} (total : IsTotalOrder cmp) 
   ascends_by-take (suc (suc n)) (x ∷ y ∷ rest) up =
       and_from _ _ (first_so (key_before key cmp x y) (ascends_by (key_before key cmp) (y ∷ rest)) up)
       (ascends_by-take (suc n) (y ∷ rest) (ascends_by-tail x (y ∷ rest) up))
-
-  -- one value more, which comes after the last
-  pub ascends_by-push : (xs : List X) (y : X) → ascends_by (key_before key cmp) xs ≡ true → IfSome (slice_get xs (length xs - 1)) (λ x. key_before key cmp x y ≡ true) → ascends_by (key_before key cmp) (xs ++ y ∷ []) ≡ true
-  ascends_by-push [] y up after = refl
-  ascends_by-push (x ∷ []) y up after = and_from _ _ after refl
-  ascends_by-push (x ∷ z ∷ rest) y up after =
-      let P : Option X → Type 0 = λ last. IfSome last (λ w. key_before key cmp w y ≡ true) in
-      let count : suc (suc (length rest)) - 1 ≡ suc (length rest) = omega arith in
-      let count' : suc (length rest) - 1 ≡ length rest = omega arith in
-      let after' : P (slice_get (z ∷ rest) (suc (length rest) - 1)) = subst (λ n. P (slice_get (z ∷ rest) n)) (sym count') (subst (λ n. P (slice_get (x ∷ z ∷ rest) n)) count after) in
-      and_from _ _ (first_so (key_before key cmp x z) (ascends_by (key_before key cmp) (z ∷ rest)) up)
-      (ascends_by-push (z ∷ rest) y (ascends_by-tail x (z ∷ rest) up) after')
 
   -- ---- two lists in order that hold the same values
 

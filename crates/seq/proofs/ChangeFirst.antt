@@ -1,6 +1,6 @@
 -- What a change of the first value that passes a test is, by the place of that value.
 use Rattle.std.proofs.Common.{◌≡◌, ℕ, ◌+◌, Bool, true, false, cond, List, [], ◌∷◌, refl, ap, sym, ◌∙◌, add-one}
-use Rattle.std.specs.Prelude.{Option, Some, None, find, option_map, slice_set, slice_index_or}
+use Rattle.std.specs.Prelude.{Option, Some, None, option_map, slice_set, slice_index_or}
 use Rattle.std.specs.List.{position_from}
 use Rattle.seq.specs.Edits.{change_first}
 
@@ -38,19 +38,3 @@ change_first-none p f n [] = λ _. refl
 change_first-none p f n (x ∷ xs) =
     elim (p x) as (λ b. cond b (Some n) (position_from p (n + 1) xs) ≡ None → cond b (f x ∷ xs) (x ∷ change_first p f xs) ≡ x ∷ xs)
     [ true ↦ λ h. absurd (cc) | false ↦ λ h. ap (λ ys. x ∷ ys) (change_first-none p f (n + 1) xs h) ]
-
--- only what the first one that passes becomes makes a difference
-pub change_first-found : {X : Type 0} (p : X → Bool) (f : X → X) (xs : List X) (x : X) → find p xs ≡ Some x → change_first p (λ _. f x) xs ≡ change_first p f xs
-change_first-found p f [] x = λ h. refl
-change_first-found p f (y ∷ ys) x =
-    elim (p y) as (λ b. cond b (Some y) (find p ys) ≡ Some x → cond b (f x ∷ ys) (y ∷ change_first p (λ _. f x) ys) ≡ cond b (f y ∷ ys) (y ∷ change_first p f ys)) [
-      | true ↦ λ h. (let same : y ≡ x = cc in ap (λ z. f z ∷ ys) (sym same))
-      | false ↦ λ h. ap (λ zs. y ∷ zs) (change_first-found p f ys x h)
-    ]
-
--- where none is found, the list stays as it is
-pub change_first-absent : {X : Type 0} (p : X → Bool) (f : X → X) (xs : List X) → find p xs ≡ None → change_first p f xs ≡ xs
-change_first-absent p f [] = λ h. refl
-change_first-absent p f (y ∷ ys) =
-    elim (p y) as (λ b. cond b (Some y) (find p ys) ≡ None → cond b (f y ∷ ys) (y ∷ change_first p f ys) ≡ y ∷ ys)
-    [ true ↦ λ h. absurd (cc) | false ↦ λ h. ap (λ zs. y ∷ zs) (change_first-absent p f ys h) ]

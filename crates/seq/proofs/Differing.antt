@@ -29,15 +29,6 @@ length-change_first p f (x ∷ xs) =
     elim (p x) as (λ b. length (cond b (f x ∷ xs) (x ∷ change_first p f xs)) ≡ length (x ∷ xs))
     [ true ↦ refl | false ↦ omega (arith, length-change_first p f xs) ]
 
--- values that all pass still do after a change that keeps what passes
-pub all_changed : {X : Type 0} (q p : X → Bool) (f : X → X) (xs : List X) → ((x : X) → q x ≡ true → q (f x) ≡ true) → list_all q xs ≡ true → list_all q (change_first p f xs) ≡ true
-all_changed q p f [] k = λ h. h
-all_changed q p f (x ∷ xs) k =
-    elim (p x) as (λ b. (q x && list_all q xs) ≡ true → list_all q (cond b (f x ∷ xs) (x ∷ change_first p f xs)) ≡ true) [
-      | true ↦ λ h. and_from _ _ (k x (first_so (q x) (list_all q xs) h)) (second_so (q x) (list_all q xs) h)
-      | false ↦ λ h. and_from _ _ (first_so (q x) (list_all q xs) h) (all_changed q p f xs k (second_so (q x) (list_all q xs) h))
-    ]
-
 -- whether any passes stays so after a change that the test does not see
 any_changed : {X : Type 0} (q p : X → Bool) (f : X → X) (xs : List X) → ((x : X) → q (f x) ≡ q x) → list_any q (change_first p f xs) ≡ list_any q xs
 any_changed q p f [] k = refl

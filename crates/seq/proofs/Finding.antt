@@ -1,8 +1,8 @@
 -- Where a search finds a value, or that there is none.
 use Rattle.std.proofs.Common.{◌≡◌, ℕ, zero, suc, ◌+◌, ◌<◌, Bool, true, false, cond, List, [], ◌∷◌, length, get_or, refl, sym, ap, ◌∙◌, arith, inl, inr, Ordering, Less, Equal}
-use Rattle.std.specs.Prelude.{Some, None, Result, Ok, Err, MatchResult, find}
-use Rattle.std.specs.List.{AllByRecursion, All, slice_get}
-use Rattle.std.specs.List.Sorted.{IsSortedBy, IsBinarySearchResult, IsSearchInRange}
+use Rattle.std.specs.Prelude.{Some, None, Ok, Err, find}
+use Rattle.std.specs.List.{AllByRecursion, All}
+use Rattle.std.specs.List.Sorted.{IsSortedBy, IsBinarySearchResult}
 use Rattle.std.specs.Ordering.{is_lt, is_eq, ordering_reverse}
 use Rattle.std.specs.Cmp.{IsTotalOrder}
 use Rattle.std.proofs.lemmas.Bool.{cases_lt}
@@ -28,17 +28,6 @@ find-first test (y ∷ ys) zero x within is passes earlier = ap (λ b. cond b (S
 find-first test (y ∷ ys) (suc i) x within is passes earlier =
     ap (λ b. cond b (Some y) (find test ys)) (earlier 0 (omega arith))
     ∙ find-first test ys i x (omega arith) is passes (λ k below. earlier (suc k) (omega arith))
-
--- within a list the default does not matter
-get_or_at : {X : Type 0} (xs : List X) (i : ℕ) (d e : X) → i < length xs → get_or xs i d ≡ get_or xs i e
-get_or_at [] i d e within = absurd (omega arith)
-get_or_at (x ∷ xs) zero d e within = refl
-get_or_at (x ∷ xs) (suc i) d e within = get_or_at xs i d e (omega arith)
-
-slice_get-within : {X : Type 0} (xs : List X) (i : ℕ) (d : X) → i < length xs → slice_get xs i ≡ Some (get_or xs i d)
-slice_get-within [] i d within = absurd (omega arith)
-slice_get-within (x ∷ xs) zero d within = refl
-slice_get-within (x ∷ xs) (suc i) d within = slice_get-within xs i d (omega arith)
 
 module _ {X K : Type 0} {cmp : K → K → Ordering} (total : IsTotalOrder cmp) (key : X → K) where
   abbrev order : X → X → Ordering
@@ -68,16 +57,3 @@ module _ {X K : Type 0} {cmp : K → K → Ordering} (total : IsTotalOrder cmp) 
       let parts = ended (searchable_from_sorted total key xs wanted (sorted_by_key-from_ascends xs up)) in
       find-all_fail (has_key key cmp wanted) xs
       (λ k d within. elim (cases_lt k i) [ inl lower ↦ ap is_eq (parts.0 k d (omega arith) lower) | inr upper ↦ ap is_eq (parts.1 k d upper within) ])
-
-  -- in a list in order a binary search tells where the value that has the key stands
-  pub find-binary_search : (xs : List X) (wanted : K) (answer : Result ℕ ℕ) → ascends_by (key_before key cmp) xs ≡ true → IsSearchInRange answer (length xs) → IsBinarySearchResult (λ y. cmp (key y) wanted) xs answer
-      → MatchResult answer (λ i. find (has_key key cmp wanted) xs ≡ slice_get xs i) (λ _. find (has_key key cmp wanted) xs ≡ None)
-  find-binary_search [] wanted (Ok i) up within ended = refl
-  find-binary_search (x ∷ xs) wanted (Ok i) up within ended =
-      let there = get_or (x ∷ xs) i x in
-      find-at (x ∷ xs) wanted i there up within (get_or_at (x ∷ xs) i x there within) ended ∙ sym (slice_get-within (x ∷ xs) i x within)
-  find-binary_search xs wanted (Err i) up within ended = find-absent xs wanted i up ended
-
-  -- a test of the keys that tells them apart as the order does finds the same
-  pub find-has_key : (same : K → K → Bool) → ((a b : K) → is_eq (cmp a b) ≡ same a b) → (xs : List X) (wanted : K) → find (has_key key cmp wanted) xs ≡ find (λ x. same (key x) wanted) xs
-  find-has_key same ties xs wanted = ap (λ test. find test xs) (λ i x. ties (key x) wanted i)

@@ -1,10 +1,10 @@
 -- Keys that are numbers: the words on an order as tests of the numbers.
 use Rattle.std.proofs.Common.{◌≡◌, ℕ, ◌<◌, List, refl, ap, arith, Ordering}
-use Rattle.std.specs.Prelude.{◌==◌, nat_lt, find}
+use Rattle.std.specs.Prelude.{◌==◌, nat_lt}
 use Rattle.std.specs.Ordering.{is_lt, is_eq, nat_cmp, MatchOrdering}
 use Rattle.std.proofs.lemmas.Bool.Decides.{nat_tests}
 use Rattle.std.proofs.lemmas.Cmp.{ranked}
-use Rattle.seq.specs.Ordered.{ascends_by, differ_by, key_before, same_key, has_key}
+use Rattle.seq.specs.Ordered.{ascends_by, differ_by, key_before, same_key}
 
 lt_ranked : (a b : ℕ) (answer : Ordering) → MatchOrdering answer (a < b) (a ≡ b) (b < a) → is_lt answer ≡ nat_lt a b
 lt_ranked a b answer says = grind (arith, nat_tests)
@@ -26,7 +26,3 @@ module _ {X : Type 0} (key : X → ℕ) (xs : List X) where
   -- keys differ where no two numbers are equal
   pub differ_by-numbers : differ_by (same_key key nat_cmp) xs ≡ differ_by (λ a b. key a == key b) xs
   differ_by-numbers = ap (λ alike. differ_by alike xs) (λ i a b. is_eq-nat_cmp (key a) (key b) i)
-
-  -- the value of a key is the one of that number
-  pub find-numbers : (wanted : ℕ) → find (has_key key nat_cmp wanted) xs ≡ find (λ x. key x == wanted) xs
-  find-numbers wanted = ap (λ test. find test xs) (λ i x. is_eq-nat_cmp (key x) wanted i)

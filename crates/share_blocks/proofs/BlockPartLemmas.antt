@@ -1,8 +1,6 @@
 -- Pieces by where they begin: what parts them, and what tags do.
 use Rattle.std.proofs.Common.{◌≡◌, ℕ, ◌+◌, ◌-◌, ◌<◌, ◌≤◌, true, false, not, ◌&&◌, cond, List, [], ◌∷◌, ◌++◌, map, refl, ap, sym, ◌∙◌, arith, Less, Equal, Greater}
 use Rattle.std.specs.Prelude.{⊤, ◌==◌, nat_le, nat_lt, filter, Some, None}
-use Rattle.std.specs.List.{AllByRecursion}
-use Rattle.std.specs.List.Sorted.{IsStrictlySortedBy}
 use Rattle.std.specs.BTreeMap.{insert_entry, is_at}
 use Rattle.std.specs.BTreeMap.Range.{entries_between, range_contains}
 use Rattle.std.specs.declared.ops.Bound.TheVariants.{Included, Unbounded}
@@ -12,7 +10,6 @@ use Rattle.std.specs.Ordering.{is_eq, is_lt, match_ordering, nat_cmp}
 use Rattle.std.proofs.lemmas.Bool.{le-leb, le-ltb, leb-false, leb-true, lt-leb, lt-ltb, ltb-false, ltb-true}
 use Rattle.std.proofs.lemmas.Bool.Decides.{nat_tests}
 use Rattle.std.proofs.lemmas.Cmp.{ranked}
-use Rattle.std.proofs.lemmas.Map.Keys.{sorted_head, sorted_tail}
 use Rattle.std.proofs.Math.Bool.{and-false}
 use Rattle.vocabulary.specs.declared.range.TheConstants.{MOST_PLACES}
 use Rattle.seq.proofs.Booleans.{same_false}
@@ -28,17 +25,6 @@ use Rattle.share_blocks.specs.Pieces.{Piece, cut_at, split_at, ranges_of, tagged
 abbrev pub RiseFrom : ℕ → List ℕ → Type 0
 RiseFrom first [] = ⊤
 RiseFrom first (k ∷ ks) = (first ≤ k) × (k ≤ MOST_PLACES) × RiseFrom (k + 1) ks
-
-above : (first : ℕ) (ks : List ℕ) → AllByRecursion (λ y. nat_cmp first y ≡ Less) ks → AllByRecursion (λ y. first + 1 ≤ y) ks
-above first [] all = tt
-above first (k ∷ ks) all = (next first k all.0, above first ks all.1)
-  where
-    next : (a b : ℕ) → nat_cmp a b ≡ Less → a + 1 ≤ b
-    next a b less = omega (arith, ltb-true a b (sym (is_lt-nat_cmp a b) ∙ ap is_lt less))
-
-pub rise-sorted : (first : ℕ) (ks : List ℕ) → AllByRecursion (λ k. first ≤ k) ks → AllByRecursion (λ k. k ≤ MOST_PLACES) ks → IsStrictlySortedBy nat_cmp ks → RiseFrom first ks
-rise-sorted first [] low high up = tt
-rise-sorted first (k ∷ ks) low high up = (low.0, high.0, rise-sorted (k + 1) ks (above k ks (sorted_head nat_cmp k ks up)) high.1 (sorted_tail nat_cmp k ks up))
 
 rise-lower : (first second : ℕ) (ks : List ℕ) → first ≤ second → RiseFrom second ks → RiseFrom first ks
 rise-lower first second [] less rise = tt

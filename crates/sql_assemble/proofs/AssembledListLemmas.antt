@@ -47,11 +47,6 @@ pub second_false : (a b : Bool) → b ≡ false → (a && b) ≡ false
 second_false true b h = h
 second_false false b h = refl
 
--- what is either of two holds, where it is not the first
-made_so : {X : Type 0} (b : Bool) (x y : X) → ◌≡◌ {A = Option X} (if b then Some x else None) (Some y) → y ≡ x
-made_so true x y h = let same : x ≡ y = cc in sym same
-made_so false x y h = absurd cc
-
 none_so : {X : Type 0} (b : Bool) (x : X) → ◌≡◌ {A = Option X} (if b then Some x else None) None → b ≡ false
 none_so true x h = absurd cc
 none_so false x h = refl
@@ -62,9 +57,6 @@ keep_keys-permutation : (xs ys : List KeyRow) → IsPermutation xs ys → keep_k
 keep_keys-permutation xs ys moved h =
     both_true (ap (λ n. nat_le n 40000) (length_permutation xs ys moved) ∙ first_so (nat_le (length xs) 40000) (differ_by same_secret xs) h)
     (differ_by_key-IsPermutation nat_list_cmp_total (λ (row : KeyRow). row.secret) xs ys moved ∙ second_so (nat_le (length xs) 40000) (differ_by same_secret xs) h)
-
-pub keys_made : (rows list : List KeyRow) → key_list_of rows ≡ Some list → Some (sort_by caller_before rows) ≡ Some list
-keys_made rows list h = ap (λ l. Some l) (sym (made_so (are_keys rows) (sort_by caller_before rows) list h))
 
 pub keys_refused : (rows : List KeyRow) → key_list_of rows ≡ None → is_key_list (sort_by caller_before rows) ≡ false
 keys_refused rows none =
@@ -82,9 +74,6 @@ keys_refused rows none =
     ]
 
 -- ---- registers
-
-pub register_made : (rows list : List RegisterRow) → register_of rows ≡ Some list → Some (sort_by member_before rows) ≡ Some list
-register_made rows list h = ap (λ l. Some l) (sym (made_so (are_holdings rows) (sort_by member_before rows) list h))
 
 sorted_some : (x : RegisterRow) (xs : List RegisterRow) → no_rows (insert_by member_before x xs) ≡ false
 sorted_some x [] = refl
@@ -206,12 +195,6 @@ sessions_wrong own none m h =
     let lists = lists_own_with own p.later p.resolutions in
     let wrong : are_sessions lists.meeting ≡ false = ap (λ b. b && list_all is_opened (take (length p.later) (lists.meeting.first ∷ p.later))) (none p.later p.sessions) in
     subst (λ (x : MeetingLists). is_meeting x ≡ false) p.is (rw (second_false (are_resolutions p.resolutions) (are_sessions lists.meeting) wrong) refl)
-
--- where its resolutions are none
-pub resolutions_wrong : (own : OwnRecords) → ((found : List Resolution) → resolutions_own own.resolutions ≡ Some found → are_resolutions found ≡ false) → (m : MeetingLists) → lists_own own ≡ Some m → is_meeting m ≡ false
-resolutions_wrong own none m h =
-    let p = parts own m h in
-    subst (λ (x : MeetingLists). is_meeting x ≡ false) p.is (rw (none p.resolutions p.numbered) refl)
 
 loaded_wrong : (m : MeetingLists) → are_rows m.register ≡ false → is_loaded_right m ≡ false
 loaded_wrong m none = go m.meeting.loaded (no_rows m.register) (is_register m.register) none

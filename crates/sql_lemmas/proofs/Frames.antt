@@ -143,16 +143,6 @@ module _ {layout : Layout} {schema : Schema} (apart : AreApart layout schema) wh
   pub of_tables : (P : ℕ → Type 0) → AllByRecursion (λ (t : Table). P t.tree) schema.tables → (number : ℕ) → IsTrue (has_table layout number) → P number
   of_tables P all number is = of_tree P schema.tables number all (declared_apart number is).0
 
-  -- each table but that of the counts and one other keeps its rows
-  abbrev pub KeepsListed : ℕ → State → State → Type 0
-  KeepsListed changed old new = (k : ℕ) (it : Table) → slice_get schema.tables k ≡ Some it → it.tree ≢ apart.counts.tree → it.tree ≢ changed → new.now.trees it.tree ≡ old.now.trees it.tree
-
-  pub by_number : (changed : ℕ) (old new : State) → KeepsListed changed old new → KeepsOthersIn layout changed old new
-  by_number changed old new kept = λ number is other.
-      let it = listed_in schema.tables number (declared_apart number is).0 in
-      let same = it.numbered in
-      subst (λ n. new.now.trees n ≡ old.now.trees n) same (kept it.place it.table it.there (λ e. no_count number is (sym same ∙ e)) (λ e. other (sym same ∙ e)))
-
   -- tables with no row are those of a desk
   pub empty_is_desk : (s : State) → AreEmpty schema s → HasTables layout schema → IsDeskOf layout s
   empty_is_desk s h has = record { schema = subst (HasTables layout) (sym h.0) has; rising = λ number is. subst IsRising (sym (of_tables (λ n. s.now.trees n ≡ []) h.1 number is)) (tt, tt) }

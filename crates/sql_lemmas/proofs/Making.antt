@@ -1,5 +1,5 @@
 -- What CREATE TABLE does, for any schema.
-use Rattle.std.proofs.Common.{◌≡◌, ℕ, List, [], ◌∷◌, ◌++◌, true, false, append_assoc, drop, length, slice_get, Some, None, Ok, Err, Result, OnOk, IsTrue, refl, sym, ap, subst, ◌∙◌}
+use Rattle.std.proofs.Common.{◌≡◌, ℕ, List, [], ◌∷◌, ◌++◌, true, false, drop, length, slice_get, Some, None, Ok, Err, Result, OnOk, IsTrue, refl, sym, ap, subst, ◌∙◌}
 use Rattle.std.specs.List.{AllByRecursion}
 use Rattle.sqlite.specs.Table.{Table}
 use Rattle.sqlite.specs.Schema.{Schema}
@@ -58,23 +58,6 @@ still_empty (t ∷ tables) a b h k = (k.0 ∙ h.0, still_empty tables a b h.1 k.
 -- the tables of a schema stand first in another
 abbrev pub Grows : Schema → Schema → Type 0
 Grows before after = after.tables ≡ before.tables ++ drop (length before.tables) after.tables
-
--- tables of tables are made of the first
-pub extends_then : (a b c : Schema) → Grows a b → Grows b c → (old mid new : State) → ExtendsSchema a b old mid → ExtendsSchema b c mid new → ExtendsSchema a c old new
-extends_then a b c ab bc old mid new one two = record {
-  schema = two.schema;
-  kept = kept_twice a.tables old.now.trees mid.now.trees new.now.trees one.kept (before_of (λ t. new.now.trees t.tree ≡ mid.now.trees t.tree) a.tables (drop (length a.tables) b.tables) split);
-  empty = subst (λ (l : List Table). AllByRecursion (λ (t : Table). new.now.trees t.tree ≡ []) l) (sym rest)
-      (all_of (λ t. new.now.trees t.tree ≡ []) (drop (length a.tables) b.tables) (drop (length b.tables) c.tables)
-      (still_empty (drop (length a.tables) b.tables) mid.now.trees new.now.trees one.empty (behind_of (λ t. new.now.trees t.tree ≡ mid.now.trees t.tree) a.tables (drop (length a.tables) b.tables) split)) two.empty);
-}
-  where
-    split : KeepsRows (a.tables ++ drop (length a.tables) b.tables) mid.now.trees new.now.trees
-    split = subst (λ (l : List Table). KeepsRows l mid.now.trees new.now.trees) ab two.kept
-
-    rest : drop (length a.tables) c.tables ≡ drop (length a.tables) b.tables ++ drop (length b.tables) c.tables
-    rest = ap (drop (length a.tables)) (bc ∙ ap (λ (l : List Table). l ++ drop (length b.tables) c.tables) ab ∙ append_assoc a.tables (drop (length a.tables) b.tables) (drop (length b.tables) c.tables))
-        ∙ behind a.tables (drop (length a.tables) b.tables ++ drop (length b.tables) c.tables)
 
 -- of tables with no row such are made
 pub extends_empty : (a b : Schema) → Grows a b → (old new : State) → ExtendsSchema a b old new → AreEmpty a old → AreEmpty b new

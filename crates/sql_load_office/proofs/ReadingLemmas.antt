@@ -1,29 +1,21 @@
 -- One reading of the tables after another.
-use Rattle.std.proofs.Common.{◌≡◌, ◌==◌, ◌&&◌, true, false, length, refl, List, Bool, Option, Some, None, Ok, Err, Result, OnOk, sym, ap, subst, ◌∙◌, arith, true≢false}
+use Rattle.std.proofs.Common.{◌≡◌, ◌&&◌, true, false, refl, Bool, Option, Ok, Err, Result, OnOk, sym, subst, ◌∙◌, arith, true≢false}
 use Rattle.std.proofs.lemmas.Result.{on_ok_weaker}
 use Rattle.vocabulary.specs.OptionSteps.{◌>>=◌, guard}
-use Rattle.sqlite.specs.declared.error.Error.{Error}
-use Rattle.sqlite.specs.declared.error.Error.TheVariants.{SqliteFailure}
-use Rattle.sqlite.specs.declared.error.ErrorCode.TheVariants.{OutOfMemory}
 use Rattle.sqlite.specs.Effect.{Database}
 use Rattle.sqlite.specs.Held.{Held, state}
 use Rattle.sqlite.specs.State.{State, HasCleanDisk, IsUnchanged, KeepsCommit, Survives}
 use Rattle.sqlite.specs.Tree.{Trees}
 use Rattle.sqlite.proofs.StateLemmas.{survives_then}
 use Rattle.sqlite_trees.specs.declared.store.Store as store
-use Rattle.sql_rows.specs.Meanings.{RowErrAgrees, all_meanings}
-use Rattle.sql_rows.specs.declared.fault.RowError.{RowError}
-use Rattle.sql_rows.specs.declared.fault.RowError.TheVariants as row
-use Rattle.sqlite.specs.Order.{Row}
-use Rattle.std.proofs.lemmas.List.{length-map}
 use Rattle.sql_model.specs.OfficeRecords.{are_left_empty, has_no_row}
 use Rattle.sql_schema.specs.Contents.{demands_one, polls_one, presences_one}
-use Rattle.sql_schema.specs.Statements.{ChangesNothing, columns_of, HasTables, IsDesk, IsRead, IsRising, TableOf, layout_two, records_in, table_rows}
+use Rattle.sql_schema.specs.Statements.{ChangesNothing, HasTables, IsDesk, IsRead, IsRising, layout_two}
 use Rattle.sql_rows.proofs.RowMeaningLemmas.{bound}
 use Rattle.sql_assemble.specs.declared.fault.LoadError.{LoadError}
 use Rattle.sql_assemble.specs.declared.fault.LoadError.TheVariants.{NoOffice, Store, Memory}
 use Rattle.sql_load_office.specs.WholeReading.{IsReading}
-use Rattle.sql_assemble.specs.LoadResults.{ReadErrAgrees, ReadAgrees, any_at_all, fault_of_error, fault_of_row}
+use Rattle.sql_assemble.specs.LoadResults.{ReadErrAgrees, ReadAgrees, any_at_all}
 
 pub desk_same : (old new : State) → IsUnchanged old new → IsDesk old → IsDesk new
 desk_same old new h desk =
@@ -114,22 +106,7 @@ module _ {S : Type 0} (g : store.Ghosts S) where
 
 -- ---- one table
 
-pub error_cause : {X : Type 0} (right : X → Bool) (e : Error) (said : Option X) → ReadErrAgrees right (fault_of_error e) said
-error_cause right (SqliteFailure OutOfMemory) said = tt
-error_cause right other said = tt
-
-pub row_cause : {X : Type 0} (right : X → Bool) (fault : RowError) (said : Option X) → RowErrAgrees fault said → ReadErrAgrees right (fault_of_row fault) said
-row_cause right row.Unreadable said none = λ x h. absurd (let no : ◌≡◌ {A = Option _} None (Some x) = sym none ∙ h in cc)
-row_cause right row.Memory said none = tt
-
-pub meaning_is : {A : Type 0} (table : TableOf A) (means : Row → Option A) (rows : List Row) (trees : Trees) → table.means ≡ means → rows ≡ table_rows table trees → all_meanings means rows ≡ records_in table trees
-meaning_is table means rows trees same is = ap (λ f. all_meanings f rows) (sym same) ∙ ap (all_meanings table.means) is
-
 -- ---- the tables that version 2 leaves empty
-
--- the rows that are read are none where the table has none
-pub none_read : {A : Type 0} (table : TableOf A) (rows : List Row) (trees : Trees) → rows ≡ table_rows table trees → (length rows == 0) ≡ has_no_row table trees
-none_read table rows trees is = ap (λ (l : List Row). length l == 0) is ∙ ap (λ n. n == 0) (length-map (trees table.number) (columns_of table))
 
 only_all : (a b c : Bool) → (guard a >>= λ _. guard b >>= λ _. guard c) ≡ guard (a && b && c)
 only_all true true c = refl

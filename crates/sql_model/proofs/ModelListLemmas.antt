@@ -15,10 +15,6 @@ pub any-map : {X Y : Type 0} (f : X → Y) (test : Y → Bool) (xs : List X) →
 any-map f test [] = refl
 any-map f test (x ∷ xs) = ap (λ b. test (f x) || b) (any-map f test xs)
 
-pub differ-map : {X Y : Type 0} (f : X → Y) (alike : Y → Y → Bool) (xs : List X) → differ_by alike (map f xs) ≡ differ_by (λ a b. alike (f a) (f b)) xs
-differ-map f alike [] = refl
-differ-map f alike (x ∷ xs) = rw (any-map f (alike (f x)) xs, differ-map f alike xs) refl
-
 -- ---- lists in order
 
 insert_by-map : {X : Type 0} (before : X → X → Bool) (f : X → X) → ((a b : X) → before (f a) (f b) ≡ before a b) → (x : X) (xs : List X) → insert_by before (f x) (map f xs) ≡ map f (insert_by before x xs)

@@ -9,7 +9,7 @@ use Rattle.desk_words.specs.Office.{is_office}
 use Rattle.sql_rows.specs.declared.stored_records.Version.{Version}
 use Rattle.vocabulary.specs.OptionSteps.{◌>>=◌}
 use Rattle.sql_schema.specs.Contents.{desk}
-use Rattle.sql_schema.specs.Statements.{HasTables, IsDeskOf, Layout, layout_one, layout_two, records_in}
+use Rattle.sql_schema.specs.Statements.{IsDeskOf, Layout, layout_one, layout_two, records_in}
 use Rattle.sql_schema.specs.Tables.{asked_one, asked_two}
 use Rattle.sql_model.specs.OfficeRecords.{FlatLists, flat_one, flat_two, office_of_records}
 
@@ -42,10 +42,6 @@ two = record {
 -- the lists of an office that tables of the version are, or nothing where their rows are none
 abbrev pub office_by : Edition → Trees → Option OfficeLists
 office_by edition trees = edition.flat trees >>= office_of_records
-
--- the tables of the version are declared, whatever stands beside them
-abbrev pub IsDeclaredBy : Edition → State → Type 0
-IsDeclaredBy edition s = HasTables edition.layout s.now.schema
 
 -- the tables note that they are of the version, once
 abbrev pub IsVersionOf : Edition → State → Type 0

@@ -59,10 +59,3 @@ cause_same NotADesk s t same h = subst (λ (d : Database). IsNoDesk (record s { 
 cause_same NewerVersion s t same h = subst (λ (d : Database). IsNewer (record s { now = d })) same h
 cause_same Store s t same h = tt
 cause_same Memory s t same h = tt
-
--- and so are faults of the version
-pub version_fault_same : (fault : OpenFault) (s t : State) → s.now ≡ t.now → IsFaultOf HasNoVersion fault s → IsFaultOf HasNoVersion fault t
-version_fault_same NotADesk s t same h = subst (λ (d : Database). HasNoVersion (record s { now = d })) same h
-version_fault_same NewerVersion s t same h = subst (λ (d : Database). IsNewer (record s { now = d })) same h
-version_fault_same Store s t same h = tt
-version_fault_same Memory s t same h = tt

@@ -1,19 +1,16 @@
 -- The move of tables of version 1, and what is known of them after it.
-use Rattle.std.proofs.Common.{◌≡◌, true, Some, Ok, Err, Result, IfOk, IsTrue, refl, sym, ap, subst, ◌∙◌, inl, inr, arith}
-use Rattle.sqlite.specs.declared.error.Error.{Error}
+use Rattle.std.proofs.Common.{◌≡◌, true, Some, Ok, Err, Result, IfOk, IsTrue, refl, sym, subst, arith}
 use Rattle.sqlite.specs.Effect.{Database, IsDatabase}
 use Rattle.sqlite.specs.Held.{Held, state}
 use Rattle.sqlite.specs.State.{State, HasCleanDisk, Survives}
 use Rattle.sqlite.specs.Tree.{Trees}
 use Rattle.sqlite.proofs.StateLemmas.{survives_then}
 use Rattle.sqlite_trees.specs.declared.store.Store as store
-use Rattle.vocabulary.specs.OptionSteps.{◌>>=◌}
 use Rattle.desk_words.specs.declared.office.OfficeLists.{OfficeLists}
-use Rattle.sql_rows.proofs.RowMeaningLemmas.{bound}
 use Rattle.sql_model.specs.MigratedRecords.{IsMoved}
-use Rattle.sql_model.specs.OfficeRecords.{flat_one, flat_two, office_in, office_of_records, office_one}
-use Rattle.sql_model.specs.Standing.{HasNoOfficeBy, IsVersionOf, Stands, one}
-use Rattle.sql_migrate.specs.Migration.{IsFirst, IsSecond, MovesTables}
+use Rattle.sql_model.specs.OfficeRecords.{office_one}
+use Rattle.sql_model.specs.Standing.{HasNoOfficeBy, IsVersionOf, one}
+use Rattle.sql_migrate.specs.Migration.{IsFirst}
 use Rattle.sql_schema.specs.Statements.{layout_one}
 use Rattle.sql_schema.specs.Tables.{schema_one}
 use Rattle.sql_desk_tables.specs.ColumnChecks.{HasColumnsOf}
@@ -21,74 +18,16 @@ use Rattle.sql_open.specs.Crashes.{LeavesItself}
 use Rattle.sql_open.specs.Known.{IsMadeAs}
 use Rattle.sql_open.specs.OpeningByMigration.{HoldsMoved, IsMove, MayMove, MovesWhole}
 use Rattle.sql_open.specs.Opened.{StandsFor}
-use Rattle.sql_open.specs.Opening.{HoldsOffice, IsVerdict, open_fault_of}
 use Rattle.sql_open.specs.Rising.{RowsRise}
 use Rattle.sql_open.specs.WholeDesk.{IsWhole}
 use Rattle.sql_open.specs.declared.fault.OpenFault.{OpenFault}
-use Rattle.sql_open.specs.declared.fault.OpenFault.TheVariants.{NotADesk, NewerVersion}
 use Rattle.sql_open.specs.declared.version.KnownVersion.TheVariants.{One}
-use Rattle.sql_open.proofs.CrashLemmas.{nothing_then}
-use Rattle.sql_open.proofs.FaultLemmas.{of_the_store}
 use Rattle.sql_open.proofs.OpeningLemmas.{desk_of_same, stands_same}
 use Rattle.sql_open.proofs.OpenedKeptLemmas.{made_same, moved_same, version_same}
 use Rattle.sql_open.proofs.RisingLemmas.{are_a_desk_one}
 use Rattle.sql_open.proofs.WholeLemmas.{leaves_whole, ones_made, whole_of}
 
 -- ---- in the transaction
-
--- what was read of the tables once they are moved, they held
-holds_moved : (a b c : State) (office : OfficeLists) → IsSecond a b → HoldsOffice b office → c.now ≡ b.now → HoldsMoved a c office
-holds_moved a b c office second holds same =
-    let flat = bound (flat_two b.now.trees) office_of_records office holds.0 in
-    let meant = second.meant flat.0 flat.1 in
-    let stands : Stands b office = record { desk = second.desk; version = second.version; holds = holds.0; kept = holds.1 } in
-    record {
-      stands = stands_same b c office (sym same) stands;
-      sound = subst IsDatabase (sym same) second.sound;
-      was = ap (λ o. o >>= office_of_records) meant ∙ flat.2;
-      moved = moved_same a b a c refl (sym same) (second.moved flat.0 meant);
-    }
-
--- an office that the tables held, they hold once they are moved
-office_moved : (a b : State) (office : OfficeLists) → IsSecond a b → office_one a.now.trees ≡ Some office → office_in b.now.trees ≡ Some office
-office_moved a b office second h =
-    let flat = bound (flat_one a.now.trees) office_of_records office h in
-    ap (λ o. o >>= office_of_records) ((second.moved flat.0 flat.1).records) ∙ h
-
-module _ {S : Type 0} (g : store.Ghosts S) (a b c : Held S) where
-  clean_before : (r : Result OfficeLists OpenFault) → IsVerdict g b c r → HasCleanDisk (state g c) → HasCleanDisk (state g b)
-  clean_before r verdict clean = omega (arith, verdict.changes.crash.clean, clean)
-
-  right_read : (r : Result OfficeLists OpenFault) → IsVerdict g b c r → HasCleanDisk (state g c) → IsSecond (state g a) (state g b) → IfOk r (HoldsMoved (state g a) (state g c))
-  right_read (Ok office) verdict clean second = holds_moved (state g a) (state g b) (state g c) office second (verdict.right (clean, second.desk)) (verdict.same (clean, second.desk)).0.now_is
-  right_read (Err fault) verdict clean second = tt
-
-  pub moved_read : {T : Type 0} (t : T) (r : Result OfficeLists OpenFault) → MovesTables g a b (Ok t) → IsVerdict g b c r → IsMove g a c r
-  moved_read t r moves verdict = record {
-    right = λ clean inside first. right_read r verdict clean (moves.moved (clean_before r verdict clean) inside first);
-    none = λ clean inside first told office h.
-        let second = moves.moved (clean_before r verdict clean) inside first in
-        verdict.none (clean, second.desk) told office (office_moved (state g a) (state g b) office second h);
-    other = verdict.other;
-    was_open = λ clean is_open. (moves.commits.kept (clean_before r verdict clean)).was_open (verdict.changes.was_open clean is_open);
-    crash = nothing_then (state g a) (state g b) (state g c) moves.commits.crash verdict.changes.crash;
-  }
-
-  -- the store refused, or memory
-  pub move_refused : {T : Type 0} (e : Error) (f : OpenFault) → f ≡ open_fault_of e → MovesTables {T = T} g a b (Err e) → IsMove g a b (Err f)
-  move_refused e f is moves = record {
-    right = λ clean inside first. tt;
-    none = λ clean inside first told. absurd (not_told told);
-    other = not_newer;
-    was_open = λ clean is_open. (moves.commits.kept clean).was_open is_open;
-    crash = moves.commits.crash;
-  }
-    where
-      not_told : ◌≡◌ {A = Result OfficeLists OpenFault} (Err f) (Err NotADesk) → ⊥
-      not_told told = elim (of_the_store e) [ inl s ↦ absurd cc | inr m ↦ absurd cc ]
-
-      not_newer : ◌≡◌ {A = Result OfficeLists OpenFault} (Err f) (Err NewerVersion) → ⊥
-      not_newer told = elim (of_the_store e) [ inl s ↦ absurd cc | inr m ↦ absurd cc ]
 
 -- ---- the transaction
 

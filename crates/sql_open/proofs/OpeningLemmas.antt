@@ -13,7 +13,6 @@ use Rattle.sqlite_catalog.specs.Listing.{AreListed}
 use Rattle.sqlite_trees.specs.Objects.{catalog_tree}
 use Rattle.sqlite.specs.Effect.{Database}
 use Rattle.sql_schema.specs.Statements.{HasTables, IsDesk, IsDeskOf, IsRising, Layout, layout_two}
-use Rattle.sql_desk_tables.specs.Versions.{AreNoted, NotesVersion}
 use Rattle.sql_open.proofs.OneSchema.{one_schema}
 use Rattle.sqlite_trees.specs.declared.store.Store as store
 use Rattle.seq.specs.Sorting.{sort_by}
@@ -119,10 +118,4 @@ stands_same s t office same stands = record {
   version = subst (λ (d : Database). IsVersion (record s { now = d })) same stands.version;
   holds = subst (λ (d : Database). office_in d.trees ≡ Some office) same stands.holds;
   kept = stands.kept;
-}
-
-pub noted_same : (s t : State) → s.now ≡ t.now → AreNoted s → AreNoted t
-noted_same s t same noted = record {
-  noted = subst (λ (d : Database). NotesVersion d.schema) same noted.noted;
-  rising = subst (λ (d : Database). IsRising (d.trees 0)) same noted.rising;
 }

@@ -1,5 +1,5 @@
 -- Refusals and their one order.
-use Rattle.std.specs.Prelude.{ℕ, Bool, true, ◌&&◌, nat_lt, List, [], ◌∷◌, Option, Some, None, codes, if◌then◌else◌}
+use Rattle.std.specs.Prelude.{ℕ, Bool, List, [], ◌∷◌, Option, Some, None, codes, if◌then◌else◌}
 use Rattle.vocabulary.specs.declared.refusal.Refusal.{Refusal}
 use Rattle.vocabulary.specs.declared.refusal.Refusal.TheVariants.{Key, Route, Method, TooLarge, Unreadable, OfficeOnly, PartyOnly, NoMeeting, Exists, ShortNotice, NoResolution, BadRange, SelfNamed, BadInstructions, TooMany, NoSuchNumber, AlreadyEnded, NoRegister, OtherRecord, Opened, NotOpened, Early, NoQuorum, NotPresent, NoRight, PollOrdered, NoPoll, DemandTooSmall, PollNotOpen, PollClosed, NotClosed, Declared, NotYours, AgainstInstruction, PollRunning}
 
@@ -88,13 +88,3 @@ pub record Case : Type 0 where
 abbrev pub first_refusal : List Case → Option Refusal
 first_refusal [] = None
 first_refusal (case ∷ cases) = if case.holds then Some case.refusal else first_refusal cases
-
--- each case has a higher number than the one before it, the first one than the number given
-abbrev pub ascend_from : ℕ → List Case → Bool
-ascend_from n [] = true
-ascend_from n (case ∷ cases) =
-    nat_lt n (number_of case.refusal) && ascend_from (number_of case.refusal) cases
-
--- the cases stand in the one order, so that the first whose condition holds has the lowest number
-abbrev pub are_in_order : List Case → Bool
-are_in_order cases = ascend_from 0 cases

@@ -96,10 +96,6 @@ module _ (resolution : ℕ) (share : Share) (capacity : Capacity) (voter : List 
   abbrev way_of_block : BlockCast → Option Way
   way_of_block c = option_and_then (cover_way instructed share.place) (cover_of capacity voter c)
 
-  -- of a record: the way of its block, if it passes a test and is cast on the member's shares
-  abbrev entry_way : (BlockCast → Bool) → Entry → Option Way
-  entry_way test entry = option_and_then (λ (c : BlockCast). cond (is_on_shares_of share.member c) (cond (test c) (way_of_block c) None) None) (block_on resolution entry)
-
   with_tests : (own mine on held pass : Bool) (o : Option Way)
       → cond on (cond pass (cond (mine && own) (cond held o None) None) None) None ≡ cond pass (cond own (cond (mine && on && held) o None) None) None
   with_tests true true true held pass o = refl

@@ -1,5 +1,5 @@
 -- Counts of shares.
-use Rattle.std.proofs.Common.{◌≡◌, ℕ, zero, suc, ◌+◌, ◌<◌, ◌≤◌, Bool, true, false, cond, List, [], ◌∷◌, length, get_or, take, refl, sym, ap, ◌∙◌, arith, add-one}
+use Rattle.std.proofs.Common.{◌≡◌, ℕ, zero, suc, ◌+◌, ◌<◌, ◌≤◌, Bool, true, false, cond, List, [], ◌∷◌, length, get_or, take, refl, sym, ap, ◌∙◌, arith}
 use Rattle.std.specs.Prelude.{Option, Some, None, All, sum_by}
 use Rattle.std.specs.Cmp.Derive.{both_true}
 use Rattle.std.proofs.lemmas.List.Sums.{sum_by-cons, sum_by_more, sum_by_more_le, sum_by_more_le_part, sum_by-le-sum_by}
@@ -17,10 +17,6 @@ use Rattle.vote_rules.specs.Tallies.{is_vote, votes_to, votes, tally_by}
 use Rattle.proxy_rules.specs.Tiles.{are_tiled, places_if, places_in}
 use Rattle.proxy_rules.proofs.TileLemmas.{every_place, places_that_le, places_that-tiles, tiled}
 use Rattle.proxy_rules.proofs.ShareLemmas.{shares_of-le, all_shares-le}
-
--- one place more
-pub places_that_more : (test : ℕ → Bool) (n : ℕ) → places_that test (n + 1) ≡ places_that test n + cond (test (n + 1)) 1 0
-places_that_more test n = rw add-one refl
 
 -- no row has more votes one way than shares
 pub votes_to-le : (vote : ℕ → Option Way) (way : Way) (row : RegisterRow) → votes_to vote way (shares_of row) ≤ row.shares

@@ -3,7 +3,7 @@ use Rattle.std.proofs.Common.{◌≡◌, ℕ, suc, ◌+◌, ◌<◌, Bool, true,
 use Rattle.std.specs.Prelude.{Option, Some, None, All, filter, find, reverse, option_and_then, is_some, sum_by}
 use Rattle.std.specs.List.{cons_option, enumerate_from, filter_map}
 use Rattle.std.specs.Option.{option_or}
-use Rattle.std.proofs.lemmas.List.{reverse-append, take_more, length-take, map-append}
+use Rattle.std.proofs.lemmas.List.{reverse-append, take_more, length-take}
 use Rattle.std.proofs.lemmas.List.Elements.{All-head, All-push, All-same, All-tail}
 use Rattle.std.proofs.lemmas.List.Sums.{sum_by-cons}
 use Rattle.vote_rules.specs.Casts.{find_map}
@@ -46,10 +46,6 @@ given_if f (Some x) xs = refl
 pub find_map-filter_map : {X Y Z : Type 0} (f : Y → Option Z) (h : X → Option Y) (xs : List X) → find_map f (filter_map h xs) ≡ find_map (λ x. option_and_then f (h x)) xs
 find_map-filter_map f h [] = refl
 find_map-filter_map f h (x ∷ xs) = given_if f (h x) (filter_map h xs) ∙ ap (option_or (option_and_then f (h x))) (find_map-filter_map f h xs)
-
-pub find_map-nothing : {X Y : Type 0} (xs : List X) → find_map {Y = Y} (λ x. None) xs ≡ None
-find_map-nothing [] = refl
-find_map-nothing (x ∷ xs) = find_map-nothing xs
 
 -- two functions that agree on each element
 pub find_map-agree : {X Y : Type 0} (f h : X → Option Y) (xs : List X) → All (λ x. f x ≡ h x) xs → find_map f xs ≡ find_map h xs
@@ -113,7 +109,3 @@ kept_place false x o = refl
 pub filter_map_mapped : {X Y Z : Type 0} (f : Y → Option Z) (h : X → Y) (xs : List X) → filter_map f (map h xs) ≡ filter_map (λ x. f (h x)) xs
 filter_map_mapped f h [] = refl
 filter_map_mapped f h (x ∷ xs) = ap (cons_option (f (h x))) (filter_map_mapped f h xs)
-
--- one element more of a mapped list
-pub map_more : {X Y : Type 0} (f : X → Y) (xs : List X) (i : ℕ) (x : X) → i < length xs → x ≡ get_or xs i x → map f (take (i + 1) xs) ≡ map f (take i xs) ++ f x ∷ []
-map_more f xs i x lt is = ap (map f) (take_more xs i x lt ∙ ap (λ y. take i xs ++ y ∷ []) (sym is)) ∙ map-append f (take i xs) (x ∷ [])
