@@ -20,7 +20,7 @@ use Rattle.sqlite_trees.specs.declared.error.StoreError.TheVariants as kind
 use Rattle.sqlite_trees.specs.declared.store.Store as store
 use Rattle.sql_schema.specs.Statements.{HasTables, layout_one, layout_two}
 use Rattle.sql_lemmas.proofs.Frames.{as_one, beside, wide}
-use Rattle.sql_schema.specs.Tables.{desk_table, keys_table, closed_table, meetings_table, resolutions_table, register_table, appointments_table, endings_table, authorities_table, presences_table, demands_table, polls_table, casts_table, sessions_table, presences2_table, demands2_table, polls2_table, asked_one}
+use Rattle.sql_schema.specs.Tables.{desk_table, keys_table, closed_table, meetings_table, resolutions_table, register_table, appointments_table, endings_table, authorities_table, presences_before_sessions_table, demands_before_sessions_table, polls_before_sessions_table, casts_table, sessions_table, presences_table, demands_table, polls_table, asked_one}
 use Rattle.sql_schema.specs.SqlTexts.{asking_text}
 use Rattle.sqlite.specs.Table.{Table}
 use Rattle.sqlite_schema.specs.declared.schema.Index.{Index}
@@ -166,17 +166,17 @@ module _ (others : List Table) (indexes : List Index) (views : List Stored) wher
   unfolding understood everything
   asks_authorities = refl
 
-  asks_presences : IsOk (understood (beside layout_one others indexes views) (asking_text presences_table))
+  asks_presences_before_sessions : IsOk (understood (beside layout_one others indexes views) (asking_text presences_before_sessions_table))
   unfolding understood everything
-  asks_presences = refl
+  asks_presences_before_sessions = refl
 
-  asks_demands : IsOk (understood (beside layout_one others indexes views) (asking_text demands_table))
+  asks_demands_before_sessions : IsOk (understood (beside layout_one others indexes views) (asking_text demands_before_sessions_table))
   unfolding understood everything
-  asks_demands = refl
+  asks_demands_before_sessions = refl
 
-  asks_polls : IsOk (understood (beside layout_one others indexes views) (asking_text polls_table))
+  asks_polls_before_sessions : IsOk (understood (beside layout_one others indexes views) (asking_text polls_before_sessions_table))
   unfolding understood everything
-  asks_polls = refl
+  asks_polls_before_sessions = refl
 
   asks_casts : IsOk (understood (beside layout_one others indexes views) (asking_text casts_table))
   unfolding understood everything
@@ -184,7 +184,7 @@ module _ (others : List Table) (indexes : List Index) (views : List Stored) wher
 
 pub columns_one_stand : (s : Schema) → HasTables layout_one s → HasColumnsOf asked_one s
 unfolding HasColumnsOf
-columns_one_stand = wide (HasColumnsOf asked_one) (λ others apart indexes views. (asks_desk others indexes views, (asks_keys others indexes views, (asks_closed others indexes views, (asks_meetings others indexes views, (asks_resolutions others indexes views, (asks_register others indexes views, (asks_appointments others indexes views, (asks_endings others indexes views, (asks_authorities others indexes views, (asks_presences others indexes views, (asks_demands others indexes views, (asks_polls others indexes views, (asks_casts others indexes views, tt))))))))))))))
+columns_one_stand = wide (HasColumnsOf asked_one) (λ others apart indexes views. (asks_desk others indexes views, (asks_keys others indexes views, (asks_closed others indexes views, (asks_meetings others indexes views, (asks_resolutions others indexes views, (asks_register others indexes views, (asks_appointments others indexes views, (asks_endings others indexes views, (asks_authorities others indexes views, (asks_presences_before_sessions others indexes views, (asks_demands_before_sessions others indexes views, (asks_polls_before_sessions others indexes views, (asks_casts others indexes views, tt))))))))))))))
 
 -- and so it is with those of the tables that version 2 adds
 module _ (others : List Table) (indexes : List Index) (views : List Stored) where
@@ -192,20 +192,20 @@ module _ (others : List Table) (indexes : List Index) (views : List Stored) wher
   unfolding understood everything
   asks_sessions = refl
 
-  asks_presences2 : IsOk (understood (beside layout_two others indexes views) (asking_text presences2_table))
+  asks_presences : IsOk (understood (beside layout_two others indexes views) (asking_text presences_table))
   unfolding understood everything
-  asks_presences2 = refl
+  asks_presences = refl
 
-  asks_demands2 : IsOk (understood (beside layout_two others indexes views) (asking_text demands2_table))
+  asks_demands : IsOk (understood (beside layout_two others indexes views) (asking_text demands_table))
   unfolding understood everything
-  asks_demands2 = refl
+  asks_demands = refl
 
-  asks_polls2 : IsOk (understood (beside layout_two others indexes views) (asking_text polls2_table))
+  asks_polls : IsOk (understood (beside layout_two others indexes views) (asking_text polls_table))
   unfolding understood everything
-  asks_polls2 = refl
+  asks_polls = refl
 
 sessions_stand : (s : Schema) → HasTables layout_two s → AreUnderstood s session_columns
-sessions_stand = wide (λ s. AreUnderstood s session_columns) (λ others apart indexes views. (asks_sessions others indexes views, (asks_presences2 others indexes views, (asks_demands2 others indexes views, (asks_polls2 others indexes views, tt)))))
+sessions_stand = wide (λ s. AreUnderstood s session_columns) (λ others apart indexes views. (asks_sessions others indexes views, (asks_presences others indexes views, (asks_demands others indexes views, (asks_polls others indexes views, tt)))))
 
 pub columns_stand : (s : Schema) → HasTables layout_two s → HasColumns s
 unfolding HasColumnsOf

@@ -7,7 +7,7 @@ use Rattle.sqlite.specs.Schema.{Schema}
 use Rattle.sqlite.specs.State.{HasCleanDisk, Survives}
 use Rattle.sqlite.specs.Table.{Table}
 use Rattle.sqlite_trees.specs.declared.store.Store as store
-use Rattle.sql_schema.specs.Tables.{desk_table, keys_table, closed_table, meetings_table, resolutions_table, register_table, appointments_table, endings_table, authorities_table, presences_table, demands_table, polls_table, casts_table, sessions_table, presences2_table, demands2_table, polls2_table, asked_two}
+use Rattle.sql_schema.specs.Tables.{desk_table, keys_table, closed_table, meetings_table, resolutions_table, register_table, appointments_table, endings_table, authorities_table, presences_before_sessions_table, demands_before_sessions_table, polls_before_sessions_table, casts_table, sessions_table, presences_table, demands_table, polls_table, asked_two}
 use Rattle.sql_schema.specs.SqlTexts.{asking_text}
 use Rattle.sql_desk_tables.specs.declared.columns.ColumnError.{ColumnError}
 use Rattle.sql_desk_tables.specs.declared.columns.ColumnError.TheVariants.{Missing}
@@ -23,16 +23,16 @@ meeting_columns =
 abbrev pub proxy_columns : List (List ℕ)
 proxy_columns =
     map asking_text
-    (appointments_table ∷ endings_table ∷ authorities_table ∷ presences_table ∷ [])
+    (appointments_table ∷ endings_table ∷ authorities_table ∷ presences_before_sessions_table ∷ [])
 
 -- the columns of demands, polls and votes
 abbrev pub poll_columns : List (List ℕ)
-poll_columns = map asking_text (demands_table ∷ polls_table ∷ casts_table ∷ [])
+poll_columns = map asking_text (demands_before_sessions_table ∷ polls_before_sessions_table ∷ casts_table ∷ [])
 
 -- the columns of the tables that version 2 adds
 abbrev pub session_columns : List (List ℕ)
 session_columns =
-    map asking_text (sessions_table ∷ presences2_table ∷ demands2_table ∷ polls2_table ∷ [])
+    map asking_text (sessions_table ∷ presences_table ∷ demands_table ∷ polls_table ∷ [])
 
 -- over tables of this schema each text is a statement
 abbrev pub AreUnderstood : Schema → List (List ℕ) → Type 0

@@ -9,7 +9,7 @@ use Rattle.sqlite.specs.Tree.{Trees}
 use Rattle.sqlite.proofs.StateLemmas.{survives_then}
 use Rattle.sqlite_trees.specs.declared.store.Store as store
 use Rattle.sql_model.specs.OfficeRecords.{are_left_empty, has_no_row}
-use Rattle.sql_schema.specs.Contents.{demands_one, polls_one, presences_one}
+use Rattle.sql_schema.specs.Contents.{demands_before_sessions, polls_before_sessions, presences_before_sessions}
 use Rattle.sql_schema.specs.Statements.{ChangesNothing, HasTables, IsDesk, IsRead, IsRising, layout_two}
 use Rattle.sql_rows.proofs.RowMeaningLemmas.{bound}
 use Rattle.sql_assemble.specs.declared.fault.LoadError.{LoadError}
@@ -114,5 +114,5 @@ only_all true false c = refl
 only_all false b c = refl
 
 -- one table after another has no row
-pub left_is : ◌≡◌ {A = Trees → Option (Unit {0})} (λ trees. guard (has_no_row presences_one trees) >>= λ _. guard (has_no_row demands_one trees) >>= λ _. guard (has_no_row polls_one trees)) (λ trees. guard (are_left_empty trees))
-left_is = λ i trees. only_all (has_no_row presences_one trees) (has_no_row demands_one trees) (has_no_row polls_one trees) i
+pub left_is : ◌≡◌ {A = Trees → Option (Unit {0})} (λ trees. guard (has_no_row presences_before_sessions trees) >>= λ _. guard (has_no_row demands_before_sessions trees) >>= λ _. guard (has_no_row polls_before_sessions trees)) (λ trees. guard (are_left_empty trees))
+left_is = λ i trees. only_all (has_no_row presences_before_sessions trees) (has_no_row demands_before_sessions trees) (has_no_row polls_before_sessions trees) i

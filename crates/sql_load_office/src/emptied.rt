@@ -7,9 +7,9 @@ ghost use Rattle.vocabulary.specs.OptionSteps.{guard};
 ghost use Rattle.sql_assemble.specs.LoadResults.{ReadAgrees, any_at_all};
 
 use sql_assemble::LoadError;
-use sql_meeting_tables::demands_one::DemandsOne;
-use sql_meeting_tables::polls_one::PollsOne;
-use sql_meeting_tables::presences_one::PresencesOne;
+use sql_meeting_tables::demands_before_sessions::DemandsBeforeSessions;
+use sql_meeting_tables::polls_before_sessions::PollsBeforeSessions;
+use sql_meeting_tables::presences_before_sessions::PresencesBeforeSessions;
 use sql_stored::all;
 use sqlite::{Alter, Row, Transaction};
 
@@ -27,27 +27,27 @@ fn nothing(rows: Vec<Row>) -> Result<(), LoadError>
 fn no_presences<S: Alter>(tx: &mut Transaction<'_, S>) -> Result<(), LoadError>
     ensures same_reference { tx.new.conn.ghost_name ≡ tx.old.conn.ghost_name }
     ensures read { IsReading S.Store tx.old.conn.now tx.new.conn.now any_at_all result
-        (λ trees. guard (has_no_row contents.presences_one trees)) }
+        (λ trees. guard (has_no_row contents.presences_before_sessions trees)) }
 {
-    nothing(all::<PresencesOne, S>(tx)?)
+    nothing(all::<PresencesBeforeSessions, S>(tx)?)
 }
 
 /// Reads that the demands of version 1 are none. The fault is `NoOffice` only where there is one.
 fn no_demands<S: Alter>(tx: &mut Transaction<'_, S>) -> Result<(), LoadError>
     ensures same_reference { tx.new.conn.ghost_name ≡ tx.old.conn.ghost_name }
     ensures read { IsReading S.Store tx.old.conn.now tx.new.conn.now any_at_all result
-        (λ trees. guard (has_no_row contents.demands_one trees)) }
+        (λ trees. guard (has_no_row contents.demands_before_sessions trees)) }
 {
-    nothing(all::<DemandsOne, S>(tx)?)
+    nothing(all::<DemandsBeforeSessions, S>(tx)?)
 }
 
 /// Reads that the polls of version 1 are none. The fault is `NoOffice` only where there is one.
 fn no_polls<S: Alter>(tx: &mut Transaction<'_, S>) -> Result<(), LoadError>
     ensures same_reference { tx.new.conn.ghost_name ≡ tx.old.conn.ghost_name }
     ensures read { IsReading S.Store tx.old.conn.now tx.new.conn.now any_at_all result
-        (λ trees. guard (has_no_row contents.polls_one trees)) }
+        (λ trees. guard (has_no_row contents.polls_before_sessions trees)) }
 {
-    nothing(all::<PollsOne, S>(tx)?)
+    nothing(all::<PollsBeforeSessions, S>(tx)?)
 }
 
 /// Reads that the tables that version 2 leaves empty have no row. The fault is `NoOffice` only where

@@ -14,11 +14,11 @@ use Rattle.sqlite.specs.Listing.{understood}
 use Rattle.sqlite.specs.State.{State, ExecutesInside}
 use Rattle.desk_words.specs.declared.records.Poll.{Poll}
 use Rattle.sql_rows.specs.ColumnValues.{flag_in, flag_of, integer_of, moment_in, moment_of_number, natural_of, number_in, natural_value, some_moment_in, some_moment_of, parsed_in, parsed_of}
-use Rattle.sql_rows.specs.Marks.{declared_in, declared_of, poll_in, poll_one_in}
+use Rattle.sql_rows.specs.Marks.{declared_in, declared_of, poll_in, poll_before_sessions_in}
 use Rattle.vocabulary.specs.Names.{meeting_of}
-use Rattle.sql_schema.specs.Tables.{polls2_table as table, polls_table as first}
+use Rattle.sql_schema.specs.Tables.{polls_table as table, polls_before_sessions_table as first}
 use Rattle.sql_schema.specs.SqlTexts.{copying_text}
-use Rattle.sql_schema.specs.Contents.{polls, polls_one, is_poll_named, started_at, closed_at, declared_with}
+use Rattle.sql_schema.specs.Contents.{polls, polls_before_sessions, is_poll_named, started_at, closed_at, declared_with}
 use Rattle.sql_schema.specs.Statements.{IsDesk, Sets, columns_of, layout_two, HasTables}
 use Rattle.sql_lemmas.proofs.Deleting.{picked, passes}
 use Rattle.sql_meeting_tables.specs.Copying.{CopiesTyped}
@@ -250,18 +250,18 @@ module _ (name : PollName) (meeting : List ℕ) (n : ℤ) (is : meeting_of meeti
 
 -- ---- the rows of version 1
 
-copy_text : (s : Schema) → HasTables layout_two s → CopiesTable polls_one polls first table s
+copy_text : (s : Schema) → HasTables layout_two s → CopiesTable polls_before_sessions polls first table s
 unfolding understood everything
-copy_text = wide (CopiesTable polls_one polls first table) (λ others apart indexes views. record { place = 17; by = Binary ∷ Binary ∷ Binary ∷ Binary ∷ Binary ∷ Binary ∷ Binary ∷ Binary ∷ Binary ∷ Binary ∷ Binary ∷ Binary ∷ Binary ∷ []; is = refl; plain = (refl, refl); there = refl; numbered = refl; from_numbered = refl; none = refl; bare = refl })
+copy_text = wide (CopiesTable polls_before_sessions polls first table) (λ others apart indexes views. record { place = 17; by = Binary ∷ Binary ∷ Binary ∷ Binary ∷ Binary ∷ Binary ∷ Binary ∷ Binary ∷ Binary ∷ Binary ∷ Binary ∷ Binary ∷ Binary ∷ []; is = refl; plain = (refl, refl); there = refl; numbered = refl; from_numbered = refl; none = refl; bare = refl })
 
 -- a row as it is copied
 abbrev copied : Row → Row
 copied r = cast Integer (rowid r) ∷ cast Texts (column r 1) ∷ cast Integer (Int (pos 1)) ∷ cast Integer (column r 2) ∷ cast Integer (column r 3) ∷ cast Integer (column r 4) ∷ cast Integer (column r 5) ∷ cast Integer (column r 6) ∷ cast Integer (column r 7) ∷ cast Integer (column r 8) ∷ cast Integer (column r 9) ∷ cast Integer (column r 10) ∷ cast Integer (column r 11) ∷ []
 
-columns_copied : (r : Row) (x : InMeeting Poll) → polls_one.means (columns_of polls_one r) ≡ Some x → columns_of polls (copied r) ≡ in_first_session (columns_of polls_one r)
-unfolding poll_one_in parsed_in number_in moment_in flag_in some_moment_in declared_in
+columns_copied : (r : Row) (x : InMeeting Poll) → polls_before_sessions.means (columns_of polls_before_sessions r) ≡ Some x → columns_of polls (copied r) ≡ in_first_session (columns_of polls_before_sessions r)
+unfolding poll_before_sessions_in parsed_in number_in moment_in flag_in some_moment_in declared_in
 columns_copied r x h =
-    let cells = columns_of polls_one r in
+    let cells = columns_of polls_before_sessions r in
     let meeting = bound (parsed_in meeting_of cells 0) _ x h in
     let resolution = bound (number_in cells 1) _ x meeting.2 in
     let ordered = bound (moment_in cells 2) _ x resolution.2 in
@@ -274,15 +274,15 @@ columns_copied r x h =
     let figures = declared_stays (column r 8) (column r 9) (column r 10) (column r 11) declared.0 declared.1 in
     rw (text_stays meeting_of (column r 1) meeting.0 meeting.1, cast_int (pos 1), number_stays (column r 2) resolution.0 resolution.1, integer_stays moment_of_number (column r 3) ordered.0 ordered.1, integer_stays moment_of_number (column r 4) taken.0 taken.1, number_stays (column r 5) yes.0 yes.1, some_moment_stays (column r 6) started.0 started.1, some_moment_stays (column r 7) closed.0 closed.1, figures.0, figures.1, figures.2, figures.3) refl
 
-pub copies : (old new : State) (r : Result ℕ Error) → IsDesk old → IsTrue old.in_transaction → ExecutesInside 0 (copying_text first table) [] old new r → OnOk r (Copies polls_one polls old new)
+pub copies : (old new : State) (r : Result ℕ Error) → IsDesk old → IsTrue old.in_transaction → ExecutesInside 0 (copying_text first table) [] old new r → OnOk r (Copies polls_before_sessions polls old new)
 copies = table_copied copy_text copied (λ r. refl) (keeps_number [] []) columns_copied
 
 -- whatever they mean, rows that obey their declaration are copied
 kinds : AllByRecursion KeepsTyped first.columns
 kinds = (record { strict = refl; stays = texts_stay }, (record { strict = refl; stays = integers_stay }, (record { strict = refl; stays = integers_stay }, (record { strict = refl; stays = integers_stay }, (record { strict = refl; stays = integers_stay }, (record { strict = refl; stays = integers_stay }, (record { strict = refl; stays = integers_stay }, (record { strict = refl; stays = integers_stay }, (record { strict = refl; stays = integers_stay }, (record { strict = refl; stays = integers_stay }, (record { strict = refl; stays = integers_stay }, tt)))))))))))
 
-row_copied : (r : Row) → are_typed first.key 0 first.columns (drop 1 r) ≡ true → columns_of polls (copied r) ≡ in_first_session (columns_of polls_one r)
+row_copied : (r : Row) → are_typed first.key 0 first.columns (drop 1 r) ≡ true → columns_of polls (copied r) ≡ in_first_session (columns_of polls_before_sessions r)
 row_copied r h = let k = row_stays first kinds r h in rw (k.0 refl, cast_int (pos 1), k.1.0 refl, k.1.1.0 refl, k.1.1.1.0 refl, k.1.1.1.1.0 refl, k.1.1.1.1.1.0 refl, k.1.1.1.1.1.1.0 refl, k.1.1.1.1.1.1.1.0 refl, k.1.1.1.1.1.1.1.1.0 refl, k.1.1.1.1.1.1.1.1.1.0 refl, k.1.1.1.1.1.1.1.1.1.1.0 refl) refl
 
-pub copies_typed : (old new : State) (r : Result ℕ Error) → IsDesk old → IsTrue old.in_transaction → ExecutesInside 0 (copying_text first table) [] old new r → OnOk r (CopiesTyped first polls_one polls old new)
+pub copies_typed : (old new : State) (r : Result ℕ Error) → IsDesk old → IsTrue old.in_transaction → ExecutesInside 0 (copying_text first table) [] old new r → OnOk r (CopiesTyped first polls_before_sessions polls old new)
 copies_typed = typed_copied copy_text copied (λ r. refl) (keeps_number [] []) row_copied

@@ -6,11 +6,11 @@ use Rattle.sqlite_tied.specs.Compute.{everything}
 use Rattle.sqlite.specs.Listing.{understood}
 use Rattle.desk_words.specs.declared.records.PresenceMark.{PresenceMark}
 use Rattle.sql_rows.specs.ColumnValues.{moment_in, moment_of_number, parsed_in}
-use Rattle.sql_rows.specs.Marks.{presence_one_in}
+use Rattle.sql_rows.specs.Marks.{presence_before_sessions_in}
 use Rattle.vocabulary.specs.Names.{meeting_of, party_of}
-use Rattle.sql_schema.specs.Tables.{presences2_table as table, presences_table as first}
+use Rattle.sql_schema.specs.Tables.{presences_table as table, presences_before_sessions_table as first}
 use Rattle.sql_schema.specs.SqlTexts.{copying_text}
-use Rattle.sql_schema.specs.Contents.{presences, presences_one}
+use Rattle.sql_schema.specs.Contents.{presences, presences_before_sessions}
 use Rattle.sql_schema.specs.Statements.{IsDesk, columns_of, layout_two, HasTables}
 use Rattle.sql_lemmas.proofs.Values.{cast_int}
 use Rattle.sql_lemmas.proofs.Frames.{wide}
@@ -36,9 +36,9 @@ use Rattle.sqlite.specs.Schema.{Schema}
 
 -- ---- the rows of version 1
 
-copy_text : (s : Schema) → HasTables layout_two s → CopiesTable presences_one presences first table s
+copy_text : (s : Schema) → HasTables layout_two s → CopiesTable presences_before_sessions presences first table s
 unfolding understood everything
-copy_text = wide (CopiesTable presences_one presences first table) (λ others apart indexes views. record { place = 15; by = Binary ∷ Binary ∷ Binary ∷ Binary ∷ Binary ∷ Binary ∷ []; is = refl; plain = (refl, refl); there = refl; numbered = refl; from_numbered = refl; none = refl; bare = refl })
+copy_text = wide (CopiesTable presences_before_sessions presences first table) (λ others apart indexes views. record { place = 15; by = Binary ∷ Binary ∷ Binary ∷ Binary ∷ Binary ∷ Binary ∷ []; is = refl; plain = (refl, refl); there = refl; numbered = refl; from_numbered = refl; none = refl; bare = refl })
 
 -- a row as it is copied
 abbrev copied : Row → Row
@@ -47,24 +47,24 @@ copied r = cast Integer (rowid r) ∷ cast Integer Null ∷ cast Texts (column r
 keeps_number : (r : Row) → IsTrue (is_int (rowid r)) → rowid (copied r) ≡ rowid r
 keeps_number r keyed = subst (λ v. cast Integer v ≡ v) (sym (is_its_id r keyed)) (cast_int (id_in (rowid r)))
 
-columns_copied : (r : Row) (x : InMeeting PresenceMark) → presences_one.means (columns_of presences_one r) ≡ Some x → columns_of presences (copied r) ≡ in_first_session (columns_of presences_one r)
-unfolding presence_one_in parsed_in moment_in
+columns_copied : (r : Row) (x : InMeeting PresenceMark) → presences_before_sessions.means (columns_of presences_before_sessions r) ≡ Some x → columns_of presences (copied r) ≡ in_first_session (columns_of presences_before_sessions r)
+unfolding presence_before_sessions_in parsed_in moment_in
 columns_copied r x h =
-    let cells = columns_of presences_one r in
+    let cells = columns_of presences_before_sessions r in
     let meeting = bound (parsed_in meeting_of cells 0) _ x h in
     let party = bound (parsed_in party_of cells 1) _ x meeting.2 in
     let moment = bound (moment_in cells 2) _ x party.2 in
     rw (text_stays meeting_of (column r 2) meeting.0 meeting.1, cast_int (pos 1), text_stays party_of (column r 3) party.0 party.1, integer_stays moment_of_number (column r 4) moment.0 moment.1) refl
 
-pub copies : (old new : State) (r : Result ℕ Error) → IsDesk old → IsTrue old.in_transaction → ExecutesInside 0 (copying_text first table) [] old new r → OnOk r (Copies presences_one presences old new)
+pub copies : (old new : State) (r : Result ℕ Error) → IsDesk old → IsTrue old.in_transaction → ExecutesInside 0 (copying_text first table) [] old new r → OnOk r (Copies presences_before_sessions presences old new)
 copies = table_copied copy_text copied (λ r. refl) keeps_number columns_copied
 
 -- whatever they mean, rows that obey their declaration are copied
 kinds : AllByRecursion KeepsTyped first.columns
 kinds = (record { strict = refl; stays = integers_stay }, (record { strict = refl; stays = texts_stay }, (record { strict = refl; stays = texts_stay }, (record { strict = refl; stays = integers_stay }, tt))))
 
-row_copied : (r : Row) → are_typed first.key 0 first.columns (drop 1 r) ≡ true → columns_of presences (copied r) ≡ in_first_session (columns_of presences_one r)
+row_copied : (r : Row) → are_typed first.key 0 first.columns (drop 1 r) ≡ true → columns_of presences (copied r) ≡ in_first_session (columns_of presences_before_sessions r)
 row_copied r h = let k = row_stays first kinds r h in rw (k.1.0 refl, cast_int (pos 1), k.1.1.0 refl, k.1.1.1.0 refl) refl
 
-pub copies_typed : (old new : State) (r : Result ℕ Error) → IsDesk old → IsTrue old.in_transaction → ExecutesInside 0 (copying_text first table) [] old new r → OnOk r (CopiesTyped first presences_one presences old new)
+pub copies_typed : (old new : State) (r : Result ℕ Error) → IsDesk old → IsTrue old.in_transaction → ExecutesInside 0 (copying_text first table) [] old new r → OnOk r (CopiesTyped first presences_before_sessions presences old new)
 copies_typed = typed_copied copy_text copied (λ r. refl) keeps_number row_copied

@@ -5,7 +5,7 @@ use Rattle.sqlite_tied.specs.Compute.{everything}
 use Rattle.sql_schema.specs.Contents.{appointments, authorities, casts, endings}
 use Rattle.sql_schema.specs.SqlTexts.{filed_text}
 use Rattle.sql_schema.specs.Statements.{layout_two}
-use Rattle.sql_schema.specs.Tables.{appointments_table, authorities_table, casts_table, endings_table, up_to_appointments, up_to_endings, up_to_polls, up_to_register}
+use Rattle.sql_schema.specs.Tables.{appointments_table, authorities_table, casts_table, endings_table, up_to_appointments, up_to_endings, up_to_polls_before_sessions, up_to_register}
 use Rattle.sql_lemmas.proofs.Adding.{AddsGiven}
 use Rattle.sql_lemmas.proofs.Frames.{wide_one}
 use Rattle.sql_lemmas.proofs.Listing.{ListsAs, ListsTable}
@@ -88,7 +88,7 @@ casts_listed = record {
   numbered = refl;
 }
 
-pub casts_made : MakesTable up_to_polls (filed_text casts_table) casts_table
+pub casts_made : MakesTable up_to_polls_before_sessions (filed_text casts_table) casts_table
 unfolding understood everything Rattle.sqlite_schema.specs.Names.same_name
 casts_made = record { is = refl; alone = refl; plain = (refl, refl); defined = refl; full = refl }
 

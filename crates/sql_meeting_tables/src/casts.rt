@@ -2,7 +2,7 @@
 ghost use Rattle.std.specs.Prelude.{◌≡◌, refl};
 ghost use Rattle.sql_schema.specs.Contents.{casts};
 ghost use Rattle.sql_schema.specs.Statements.{Adds, CommitsNothing, Does};
-ghost use Rattle.sql_schema.specs.Tables.{casts_table, up_to_polls};
+ghost use Rattle.sql_schema.specs.Tables.{casts_table, up_to_polls_before_sessions};
 ghost use Rattle.sql_schema.specs.SqlTexts.{filed_text};
 ghost use Rattle.sql_meeting_tables.specs.HandedInTables.{casts_added, casts_listed, casts_made};
 
@@ -42,7 +42,7 @@ impl ReadTable for Casts {
 }
 
 impl MadeTable for Casts {
-    ghost before = { up_to_polls };
+    ghost before = { up_to_polls_before_sessions };
 
     ghost making = { filed_text casts_table };
 

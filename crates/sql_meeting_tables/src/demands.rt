@@ -1,10 +1,10 @@
 //! The table `demands2`: the demands of polls, in order of receipt (sections 321 and 329).
 ghost use Rattle.std.specs.Prelude.{◌≡◌, refl};
-ghost use Rattle.sql_schema.specs.Contents.{demands, demands_one};
+ghost use Rattle.sql_schema.specs.Contents.{demands, demands_before_sessions};
 ghost use Rattle.sql_schema.specs.CopiedRows.{Copies};
 ghost use Rattle.sql_meeting_tables.specs.Copying.{CopiesTyped};
 ghost use Rattle.sql_schema.specs.Statements.{Adds, CommitsNothing, Does};
-ghost use Rattle.sql_schema.specs.Tables.{demands2_table, demands_table, up_to_presences2};
+ghost use Rattle.sql_schema.specs.Tables.{demands_table, demands_before_sessions_table, up_to_presences};
 ghost use Rattle.sql_schema.specs.SqlTexts.{filed_text};
 ghost use Rattle.sql_meeting_tables.specs.SessionTables.{demands_added, demands_listed, demands_made};
 
@@ -28,7 +28,7 @@ pub struct Demands;
 impl ListedTable for Demands {
     type Record = InMeeting<DemandMark>;
 
-    ghost declared = { demands2_table };
+    ghost declared = { demands_table };
 
     ghost table = { demands };
 
@@ -44,9 +44,9 @@ impl ReadTable for Demands {
 }
 
 impl MadeTable for Demands {
-    ghost before = { up_to_presences2 };
+    ghost before = { up_to_presences };
 
-    ghost making = { filed_text demands2_table };
+    ghost making = { filed_text demands_table };
 
     fn making() -> &'static str {
         "CREATE TABLE demands2 (seq INTEGER PRIMARY KEY AUTOINCREMENT, meeting TEXT NOT NULL REFERENCES meetings (meeting), session INTEGER NOT NULL, resolution INTEGER NOT NULL, party TEXT NOT NULL, moment INTEGER NOT NULL, UNIQUE (meeting, session, resolution, party)) STRICT"
@@ -92,9 +92,9 @@ pub fn add<S: Alter>(
 /// of its meeting.
 pub fn copy<S: Alter>(tx: &mut Transaction<'_, S>) -> Result<usize, Error>
     ensures same_reference { tx.new.conn.ghost_name ≡ tx.old.conn.ghost_name }
-    ensures copied { Does S.Store tx.old.conn.now tx.new.conn.now result (Copies demands_one demands) }
+    ensures copied { Does S.Store tx.old.conn.now tx.new.conn.now result (Copies demands_before_sessions demands) }
     ensures typed { Does S.Store tx.old.conn.now tx.new.conn.now result
-        (CopiesTyped demands_table demands_one demands) }
+        (CopiesTyped demands_before_sessions_table demands_before_sessions demands) }
     ensures commits { CommitsNothing S.Store tx.old.conn.now tx.new.conn.now }
 {
     tx.execute(

@@ -1,7 +1,7 @@
 //! The indexes, by which a party's rows and the votes on a resolution are found where their columns
 //! are not the first of a key of the table.
-ghost use Rattle.sql_schema.specs.Tables.{appointments_by_proxy, appointments_table, authorities_by_person, authorities_table, casts_by_resolution, casts_by_voter, casts_table, demands2_by_party, demands2_table, demands_by_party, demands_table, presences2_by_party, presences2_table, up_to_appointments_by_proxy, up_to_authorities_by_person, up_to_casts, up_to_demands2_by_party, up_to_demands_by_party, up_to_polls2, up_to_presences2_by_party};
-ghost use Rattle.sql_meeting_tables.specs.TableIndexes.{appointments_by_proxy_made, authorities_by_person_made, casts_by_resolution_made, casts_by_voter_made, demands2_by_party_made, demands_by_party_made, presences2_by_party_made};
+ghost use Rattle.sql_schema.specs.Tables.{appointments_by_proxy, appointments_table, authorities_by_person, authorities_table, casts_by_resolution, casts_by_voter, casts_table, demands_by_party, demands_table, demands_before_sessions_by_party, demands_before_sessions_table, presences_by_party, presences_table, up_to_appointments_by_proxy, up_to_authorities_by_person, up_to_casts, up_to_demands_by_party, up_to_demands_before_sessions_by_party, up_to_polls, up_to_presences_by_party};
+ghost use Rattle.sql_meeting_tables.specs.TableIndexes.{appointments_by_proxy_made, authorities_by_person_made, casts_by_resolution_made, casts_by_voter_made, demands_by_party_made, demands_before_sessions_by_party_made, presences_by_party_made};
 
 use sql_stored::StoredIndex;
 
@@ -40,27 +40,27 @@ impl StoredIndex for AuthoritiesByPerson {
 }
 
 /// The index of demands by the party, after that of authorities.
-pub struct DemandsByParty;
+pub struct DemandsBeforeSessionsByParty;
 
-impl StoredIndex for DemandsByParty {
+impl StoredIndex for DemandsBeforeSessionsByParty {
     ghost before = { up_to_authorities_by_person };
 
-    ghost on = { record demands_table { tree = 20 } };
+    ghost on = { record demands_before_sessions_table { tree = 20 } };
 
-    ghost index = { demands_by_party };
+    ghost index = { demands_before_sessions_by_party };
 
     fn making() -> &'static str {
         "CREATE INDEX demands_by_party ON demands (meeting, party)"
     }
 
-    ghost makes = { demands_by_party_made };
+    ghost makes = { demands_before_sessions_by_party_made };
 }
 
 /// The index of votes by the voter, after that of demands.
 pub struct CastsByVoter;
 
 impl StoredIndex for CastsByVoter {
-    ghost before = { up_to_demands_by_party };
+    ghost before = { up_to_demands_before_sessions_by_party };
 
     ghost on = { record casts_table { tree = 24 } };
 
@@ -74,44 +74,44 @@ impl StoredIndex for CastsByVoter {
 }
 
 /// The index of the presences of version 2 by the party, after its tables.
-pub struct Presences2ByParty;
+pub struct PresencesByParty;
 
-impl StoredIndex for Presences2ByParty {
-    ghost before = { up_to_polls2 };
+impl StoredIndex for PresencesByParty {
+    ghost before = { up_to_polls };
 
-    ghost on = { record presences2_table { tree = 31 } };
+    ghost on = { record presences_table { tree = 31 } };
 
-    ghost index = { presences2_by_party };
+    ghost index = { presences_by_party };
 
     fn making() -> &'static str {
         "CREATE INDEX presences2_by_party ON presences2 (meeting, party)"
     }
 
-    ghost makes = { presences2_by_party_made };
+    ghost makes = { presences_by_party_made };
 }
 
 /// The index of the demands of version 2 by the party, after that of presences.
-pub struct Demands2ByParty;
+pub struct DemandsByParty;
 
-impl StoredIndex for Demands2ByParty {
-    ghost before = { up_to_presences2_by_party };
+impl StoredIndex for DemandsByParty {
+    ghost before = { up_to_presences_by_party };
 
-    ghost on = { record demands2_table { tree = 33 } };
+    ghost on = { record demands_table { tree = 33 } };
 
-    ghost index = { demands2_by_party };
+    ghost index = { demands_by_party };
 
     fn making() -> &'static str {
         "CREATE INDEX demands2_by_party ON demands2 (meeting, party)"
     }
 
-    ghost makes = { demands2_by_party_made };
+    ghost makes = { demands_by_party_made };
 }
 
 /// The index of votes by the resolution and the voter, the last of all.
 pub struct CastsByResolution;
 
 impl StoredIndex for CastsByResolution {
-    ghost before = { up_to_demands2_by_party };
+    ghost before = { up_to_demands_by_party };
 
     ghost on = { record casts_table { tree = 24 } };
 

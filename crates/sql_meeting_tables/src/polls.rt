@@ -1,10 +1,10 @@
 //! The table `polls2`: the polls (section 321).
 ghost use Rattle.std.specs.Prelude.{◌≡◌, refl};
-ghost use Rattle.sql_schema.specs.Contents.{closed_at, declared_with, polls, polls_one, started_at};
+ghost use Rattle.sql_schema.specs.Contents.{closed_at, declared_with, polls, polls_before_sessions, started_at};
 ghost use Rattle.sql_schema.specs.CopiedRows.{Copies};
 ghost use Rattle.sql_meeting_tables.specs.Copying.{CopiesTyped};
 ghost use Rattle.sql_schema.specs.Statements.{Adds, CommitsNothing, Does, Sets};
-ghost use Rattle.sql_schema.specs.Tables.{polls2_table, polls_table, up_to_demands2};
+ghost use Rattle.sql_schema.specs.Tables.{polls_table, polls_before_sessions_table, up_to_demands};
 ghost use Rattle.sql_schema.specs.SqlTexts.{once_text};
 ghost use Rattle.sql_meeting_tables.specs.SessionTables.{polls_added, polls_listed, polls_made};
 
@@ -29,7 +29,7 @@ pub struct Polls;
 impl ListedTable for Polls {
     type Record = InMeeting<Poll>;
 
-    ghost declared = { polls2_table };
+    ghost declared = { polls_table };
 
     ghost table = { polls };
 
@@ -45,9 +45,9 @@ impl ReadTable for Polls {
 }
 
 impl MadeTable for Polls {
-    ghost before = { up_to_demands2 };
+    ghost before = { up_to_demands };
 
-    ghost making = { once_text polls2_table };
+    ghost making = { once_text polls_table };
 
     fn making() -> &'static str {
         "CREATE TABLE polls2 (meeting TEXT NOT NULL REFERENCES meetings (meeting), session INTEGER NOT NULL, resolution INTEGER NOT NULL, ordered INTEGER NOT NULL, take INTEGER NOT NULL, chair INTEGER NOT NULL, started INTEGER, closed INTEGER, votes_for INTEGER, votes_against INTEGER, withheld INTEGER, eligible INTEGER, PRIMARY KEY (meeting, resolution)) STRICT"
@@ -174,9 +174,9 @@ pub fn declare<S: Alter>(
 /// of its meeting.
 pub fn copy<S: Alter>(tx: &mut Transaction<'_, S>) -> Result<usize, Error>
     ensures same_reference { tx.new.conn.ghost_name ≡ tx.old.conn.ghost_name }
-    ensures copied { Does S.Store tx.old.conn.now tx.new.conn.now result (Copies polls_one polls) }
+    ensures copied { Does S.Store tx.old.conn.now tx.new.conn.now result (Copies polls_before_sessions polls) }
     ensures typed { Does S.Store tx.old.conn.now tx.new.conn.now result
-        (CopiesTyped polls_table polls_one polls) }
+        (CopiesTyped polls_before_sessions_table polls_before_sessions polls) }
     ensures commits { CommitsNothing S.Store tx.old.conn.now tx.new.conn.now }
 {
     tx.execute(

@@ -1,10 +1,10 @@
 //! The table `presences2`: the parties that are present, in order of receipt (section 318).
 ghost use Rattle.std.specs.Prelude.{◌≡◌, refl};
-ghost use Rattle.sql_schema.specs.Contents.{presences, presences_one};
+ghost use Rattle.sql_schema.specs.Contents.{presences, presences_before_sessions};
 ghost use Rattle.sql_schema.specs.CopiedRows.{Copies};
 ghost use Rattle.sql_meeting_tables.specs.Copying.{CopiesTyped};
 ghost use Rattle.sql_schema.specs.Statements.{Adds, CommitsNothing, Does};
-ghost use Rattle.sql_schema.specs.Tables.{presences2_table, presences_table, up_to_sessions};
+ghost use Rattle.sql_schema.specs.Tables.{presences_table, presences_before_sessions_table, up_to_sessions};
 ghost use Rattle.sql_schema.specs.SqlTexts.{filed_text};
 ghost use Rattle.sql_meeting_tables.specs.SessionTables.{presences_added, presences_listed, presences_made};
 
@@ -28,7 +28,7 @@ pub struct Presences;
 impl ListedTable for Presences {
     type Record = InMeeting<PresenceMark>;
 
-    ghost declared = { presences2_table };
+    ghost declared = { presences_table };
 
     ghost table = { presences };
 
@@ -46,7 +46,7 @@ impl ReadTable for Presences {
 impl MadeTable for Presences {
     ghost before = { up_to_sessions };
 
-    ghost making = { filed_text presences2_table };
+    ghost making = { filed_text presences_table };
 
     fn making() -> &'static str {
         "CREATE TABLE presences2 (seq INTEGER PRIMARY KEY AUTOINCREMENT, meeting TEXT NOT NULL REFERENCES meetings (meeting), session INTEGER NOT NULL, party TEXT NOT NULL, moment INTEGER NOT NULL, UNIQUE (meeting, session, party)) STRICT"
@@ -90,9 +90,9 @@ pub fn add<S: Alter>(
 /// of its meeting.
 pub fn copy<S: Alter>(tx: &mut Transaction<'_, S>) -> Result<usize, Error>
     ensures same_reference { tx.new.conn.ghost_name ≡ tx.old.conn.ghost_name }
-    ensures copied { Does S.Store tx.old.conn.now tx.new.conn.now result (Copies presences_one presences) }
+    ensures copied { Does S.Store tx.old.conn.now tx.new.conn.now result (Copies presences_before_sessions presences) }
     ensures typed { Does S.Store tx.old.conn.now tx.new.conn.now result
-        (CopiesTyped presences_table presences_one presences) }
+        (CopiesTyped presences_before_sessions_table presences_before_sessions presences) }
     ensures commits { CommitsNothing S.Store tx.old.conn.now tx.new.conn.now }
 {
     tx.execute(

@@ -8,10 +8,10 @@ use Rattle.sqlite.proofs.StateLemmas.{survives_then}
 use Rattle.sqlite_trees.specs.declared.store.Store as store
 use Rattle.sql_rows.specs.Meanings.{all_meanings}
 use Rattle.sql_schema.specs.Contents as table
-use Rattle.sql_schema.specs.Contents.{demands_one, polls_one, presences_one}
+use Rattle.sql_schema.specs.Contents.{demands_before_sessions, polls_before_sessions, presences_before_sessions}
 use Rattle.sql_schema.specs.CopiedRows.{Copies}
 use Rattle.sql_schema.specs.Statements.{CommitsNothing, Does, Empties, ExtendsSchema, Sets, columns_of}
-use Rattle.sql_schema.specs.Tables.{demands_table, desk_schema, polls_table, presences_table, schema_one}
+use Rattle.sql_schema.specs.Tables.{demands_before_sessions_table, desk_schema, polls_before_sessions_table, presences_before_sessions_table, schema_one}
 use Rattle.sql_lemmas.proofs.Frames.{extended_desk}
 use Rattle.sql_model.specs.Standing.{IsVersionOf, one, two}
 use Rattle.sql_model.proofs.ModelMovingLemmas.{moved}
@@ -37,8 +37,8 @@ module _ {S : Type 0} (g : store.Ghosts S) where
   -- ---- tables that are copied, and emptied, one after another
 
   module _ (a b c d : Held S) (second : CommitsNothing g b c) (third : CommitsNothing g c d) where
-    pub copied : {T U V W : Type 0} (t : T) (u : U) (v : V) (w : W) → Does g a b (Ok t) (Copies presences_one table.presences) → Does g b c (Ok u) (Copies demands_one table.demands) → Does g c d (Ok v) (Copies polls_one table.polls)
-        → Does g a b (Ok t) (CopiesTyped presences_table presences_one table.presences) → Does g b c (Ok u) (CopiesTyped demands_table demands_one table.demands) → Does g c d (Ok v) (CopiesTyped polls_table polls_one table.polls)
+    pub copied : {T U V W : Type 0} (t : T) (u : U) (v : V) (w : W) → Does g a b (Ok t) (Copies presences_before_sessions table.presences) → Does g b c (Ok u) (Copies demands_before_sessions table.demands) → Does g c d (Ok v) (Copies polls_before_sessions table.polls)
+        → Does g a b (Ok t) (CopiesTyped presences_before_sessions_table presences_before_sessions table.presences) → Does g b c (Ok u) (CopiesTyped demands_before_sessions_table demands_before_sessions table.demands) → Does g c d (Ok v) (CopiesTyped polls_before_sessions_table polls_before_sessions table.polls)
         → DoesAll g a d (Ok w) (CopiesAll g a d)
     copied t u v w presences demands polls its_presences its_demands its_polls = λ clean inside desk.
         let early = clean_before c d third clean in
@@ -56,7 +56,7 @@ module _ {S : Type 0} (g : store.Ghosts S) where
           polls_typed = its_polls clean q.inside q.desk;
         }
 
-    pub emptied : {T U V W : Type 0} (t : T) (u : U) (v : V) (w : W) → Does g a b (Ok t) (Empties presences_one) → Does g b c (Ok u) (Empties demands_one) → Does g c d (Ok v) (Empties polls_one) → DoesAll g a d (Ok w) (EmptiesAll g a d)
+    pub emptied : {T U V W : Type 0} (t : T) (u : U) (v : V) (w : W) → Does g a b (Ok t) (Empties presences_before_sessions) → Does g b c (Ok u) (Empties demands_before_sessions) → Does g c d (Ok v) (Empties polls_before_sessions) → DoesAll g a d (Ok w) (EmptiesAll g a d)
     emptied t u v w presences demands polls = λ clean inside desk.
         let early = clean_before c d third clean in
         let p = presences (clean_before b c second early) inside desk in

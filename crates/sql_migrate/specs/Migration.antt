@@ -7,10 +7,10 @@ use Rattle.sqlite.specs.State.{State, HasCleanDisk}
 use Rattle.sqlite_trees.specs.declared.store.Store as store
 use Rattle.sql_schema.specs.Contents as table
 use Rattle.sql_schema.specs.Contents.{presences, demands, polls}
-use Rattle.sql_schema.specs.Contents.{presences_one, demands_one, polls_one}
+use Rattle.sql_schema.specs.Contents.{presences_before_sessions, demands_before_sessions, polls_before_sessions}
 use Rattle.sql_schema.specs.CopiedRows.{Copies}
 use Rattle.sql_schema.specs.Statements.{CommitsNothing, Empties, IsDesk, IsDeskOf, layout_one}
-use Rattle.sql_schema.specs.Tables.{desk_schema, demands_table, polls_table, presences_table, schema_one}
+use Rattle.sql_schema.specs.Tables.{desk_schema, demands_before_sessions_table, polls_before_sessions_table, presences_before_sessions_table, schema_one}
 use Rattle.sql_meeting_tables.specs.Copying.{CopiesTyped}
 use Rattle.sql_model.specs.MigratedRecords.{IsMoved}
 use Rattle.sql_model.specs.OfficeRecords.{FlatLists, flat_one, flat_two}
@@ -52,22 +52,22 @@ pub record MovesTables {S T : Type 0} (g : store.Ghosts S) (old new : Held S)
 pub record CopiesAll {S : Type 0} (g : store.Ghosts S) (old new : Held S) : Type 0 where
   pub first : Held S
   pub second : Held S
-  pub presences : Copies presences_one presences (state g old) (state g first)
-  pub demands : Copies demands_one demands (state g first) (state g second)
-  pub polls : Copies polls_one polls (state g second) (state g new)
-  pub presences_typed : CopiesTyped presences_table presences_one table.presences (state g old)
+  pub presences : Copies presences_before_sessions presences (state g old) (state g first)
+  pub demands : Copies demands_before_sessions demands (state g first) (state g second)
+  pub polls : Copies polls_before_sessions polls (state g second) (state g new)
+  pub presences_typed : CopiesTyped presences_before_sessions_table presences_before_sessions table.presences (state g old)
       (state g first)
-  pub demands_typed : CopiesTyped demands_table demands_one table.demands (state g first)
+  pub demands_typed : CopiesTyped demands_before_sessions_table demands_before_sessions table.demands (state g first)
       (state g second)
-  pub polls_typed : CopiesTyped polls_table polls_one table.polls (state g second) (state g new)
+  pub polls_typed : CopiesTyped polls_before_sessions_table polls_before_sessions table.polls (state g second) (state g new)
 
 -- no row of version 1 is left of them
 pub record EmptiesAll {S : Type 0} (g : store.Ghosts S) (old new : Held S) : Type 0 where
   pub first : Held S
   pub second : Held S
-  pub presences : Empties presences_one (state g old) (state g first)
-  pub demands : Empties demands_one (state g first) (state g second)
-  pub polls : Empties polls_one (state g second) (state g new)
+  pub presences : Empties presences_before_sessions (state g old) (state g first)
+  pub demands : Empties demands_before_sessions (state g first) (state g second)
+  pub polls : Empties polls_before_sessions (state g second) (state g new)
 
 -- where statements are answered in a transaction over the tables of a desk, and the disk returned
 -- what was written, this is what they did

@@ -5,9 +5,9 @@ ghost use Rattle.sql_schema.specs.Statements.{CommitsNothing};
 
 use crate::making::make_later;
 use sql_desk_tables::desk;
-use sql_meeting_tables::demands_one::DemandsOne;
-use sql_meeting_tables::polls_one::PollsOne;
-use sql_meeting_tables::presences_one::PresencesOne;
+use sql_meeting_tables::demands_before_sessions::DemandsBeforeSessions;
+use sql_meeting_tables::polls_before_sessions::PollsBeforeSessions;
+use sql_meeting_tables::presences_before_sessions::PresencesBeforeSessions;
 use sql_meeting_tables::{demands, polls, presences};
 use sql_stored::empty;
 use sqlite::{Alter, Error, Transaction};
@@ -32,9 +32,9 @@ fn empty_tables<S: Alter>(tx: &mut Transaction<'_, S>) -> Result<(), Error>
         (EmptiesAll S.Store tx.old.conn.now tx.new.conn.now) }
     ensures commits { CommitsNothing S.Store tx.old.conn.now tx.new.conn.now }
 {
-    empty::<PresencesOne, S>(tx)?;
-    empty::<DemandsOne, S>(tx)?;
-    empty::<PollsOne, S>(tx)?;
+    empty::<PresencesBeforeSessions, S>(tx)?;
+    empty::<DemandsBeforeSessions, S>(tx)?;
+    empty::<PollsBeforeSessions, S>(tx)?;
     Ok(())
 }
 

@@ -13,11 +13,11 @@ use Rattle.desk_words.specs.declared.records.Session.{Session}
 use Rattle.sql_rows.specs.declared.stored_records.InMeeting.{InMeeting}
 use Rattle.sql_rows.specs.declared.stored_records.Numbered.{Numbered}
 use Rattle.sql_rows.specs.ColumnValues.{flag_in, moment_in, number_in, some_moment_in, parsed_in}
-use Rattle.sql_rows.specs.Marks.{declared_in, demand_mark_in, demand_one_in, poll_in, poll_one_in, presence_in, presence_one_in}
+use Rattle.sql_rows.specs.Marks.{declared_in, demand_mark_in, demand_before_sessions_in, poll_in, poll_before_sessions_in, presence_in, presence_before_sessions_in}
 use Rattle.sql_rows.specs.Meanings.{all_meanings}
 use Rattle.sql_rows.proofs.RowMeaningLemmas.{bound}
 use Rattle.sql_schema.specs.Contents as table
-use Rattle.sql_schema.specs.Contents.{demands_one, polls_one, presences_one}
+use Rattle.sql_schema.specs.Contents.{demands_before_sessions, polls_before_sessions, presences_before_sessions}
 use Rattle.sql_schema.specs.CopiedRows.{Copied, Copies, in_first_session}
 use Rattle.sql_schema.specs.Statements.{Empties, ExtendsSchema, Sets, TableOf, columns_of, has_table, layout_one, layout_two, records_in, table_rows}
 use Rattle.sql_schema.specs.Tables.{desk_schema, schema_one}
@@ -28,18 +28,18 @@ use Rattle.sql_model.proofs.FlatChanges.{HoldAll, both_read, flat_held, some_is}
 
 -- ---- what a row means in the first session
 
-pub presence_moved : (cells : Row) (x : InMeeting PresenceMark) → presence_one_in cells ≡ Some x → presence_in (in_first_session cells) ≡ Some x
-unfolding presence_one_in presence_in parsed_in moment_in number_in
+pub presence_moved : (cells : Row) (x : InMeeting PresenceMark) → presence_before_sessions_in cells ≡ Some x → presence_in (in_first_session cells) ≡ Some x
+unfolding presence_before_sessions_in presence_in parsed_in moment_in number_in
 presence_moved [] x h = absurd cc
 presence_moved (meeting ∷ cells) x h = h
 
-pub demand_moved : (cells : Row) (x : InMeeting DemandMark) → demand_one_in cells ≡ Some x → demand_mark_in (in_first_session cells) ≡ Some x
-unfolding demand_one_in demand_mark_in parsed_in moment_in number_in
+pub demand_moved : (cells : Row) (x : InMeeting DemandMark) → demand_before_sessions_in cells ≡ Some x → demand_mark_in (in_first_session cells) ≡ Some x
+unfolding demand_before_sessions_in demand_mark_in parsed_in moment_in number_in
 demand_moved [] x h = absurd cc
 demand_moved (meeting ∷ cells) x h = h
 
-pub poll_moved : (cells : Row) (x : InMeeting Poll) → poll_one_in cells ≡ Some x → poll_in (in_first_session cells) ≡ Some x
-unfolding poll_one_in poll_in parsed_in moment_in number_in flag_in some_moment_in declared_in
+pub poll_moved : (cells : Row) (x : InMeeting Poll) → poll_before_sessions_in cells ≡ Some x → poll_in (in_first_session cells) ≡ Some x
+unfolding poll_before_sessions_in poll_in parsed_in moment_in number_in flag_in some_moment_in declared_in
 poll_moved [] x h = absurd cc
 poll_moved (meeting ∷ cells) x h = h
 
@@ -91,9 +91,9 @@ pub record HoldOne (trees : Trees) (flat : FlatLists) : Type 0 where
   pub appointments : records_in table.appointments trees ≡ Some flat.appointments
   pub endings : records_in table.endings trees ≡ Some flat.endings
   pub authorities : records_in table.authorities trees ≡ Some flat.authorities
-  pub presences : records_in presences_one trees ≡ Some flat.presences
-  pub demands : records_in demands_one trees ≡ Some flat.demands
-  pub polls : records_in polls_one trees ≡ Some flat.polls
+  pub presences : records_in presences_before_sessions trees ≡ Some flat.presences
+  pub demands : records_in demands_before_sessions trees ≡ Some flat.demands
+  pub polls : records_in polls_before_sessions trees ≡ Some flat.polls
   pub casts : records_in table.casts trees ≡ Some flat.casts
 
 pub held_one : (trees : Trees) (flat : FlatLists) → flat_one trees ≡ Some flat → HoldOne trees flat
@@ -107,9 +107,9 @@ held_one trees flat h =
     both_read (records_in table.appointments trees) _ flat h λ appointments its_appointments h.
     both_read (records_in table.endings trees) _ flat h λ endings its_endings h.
     both_read (records_in table.authorities trees) _ flat h λ authorities its_authorities h.
-    both_read (records_in presences_one trees) _ flat h λ presences its_presences h.
-    both_read (records_in demands_one trees) _ flat h λ demands its_demands h.
-    both_read (records_in polls_one trees) _ flat h λ polls its_polls h.
+    both_read (records_in presences_before_sessions trees) _ flat h λ presences its_presences h.
+    both_read (records_in demands_before_sessions trees) _ flat h λ demands its_demands h.
+    both_read (records_in polls_before_sessions trees) _ flat h λ polls its_polls h.
     both_read (records_in table.casts trees) _ flat h λ casts its_casts h.
     subst (HoldOne trees) (some_is h) (record {
       keys = its_keys;
@@ -155,8 +155,8 @@ stays number is a b c d = record { one = is; presences = differ number 18 a; dem
 
 -- ---- the statements, one after the other
 
-module _ (s0 s1 s2 s3 s4 s5 s6 s7 s8 : State) (version : IsVersionOf one s0) (made : ExtendsSchema schema_one desk_schema s0 s1) (presences : Copies presences_one table.presences s1 s2) (demands : Copies demands_one table.demands s2 s3)
-    (polls : Copies polls_one table.polls s3 s4) (no_presences : Empties presences_one s4 s5) (no_demands : Empties demands_one s5 s6) (no_polls : Empties polls_one s6 s7) (noted : Sets table.desk (λ _. two.version) s7 s8) where
+module _ (s0 s1 s2 s3 s4 s5 s6 s7 s8 : State) (version : IsVersionOf one s0) (made : ExtendsSchema schema_one desk_schema s0 s1) (presences : Copies presences_before_sessions table.presences s1 s2) (demands : Copies demands_before_sessions table.demands s2 s3)
+    (polls : Copies polls_before_sessions table.polls s3 s4) (no_presences : Empties presences_before_sessions s4 s5) (no_demands : Empties demands_before_sessions s5 s6) (no_polls : Empties polls_before_sessions s6 s7) (noted : Sets table.desk (λ _. two.version) s7 s8) where
   -- while the new tables are made, those of version 1 keep their rows
   first_kept : (number : ℕ) → IsTrue (has_table layout_one number) → s1.now.trees number ≡ s0.now.trees number
   first_kept = let k = made.kept in among (λ n. s1.now.trees n ≡ s0.now.trees n) layout_one.numbers (k.0, (k.1.0, (k.1.1.0, (k.1.1.1.0, (k.1.1.1.1.1.0, (k.1.1.1.1.1.1.0, (k.1.1.1.1.1.1.1.0, (k.1.1.1.1.1.1.1.1.0, (k.1.1.1.1.1.1.1.1.1.0, (k.1.1.1.1.1.1.1.1.1.1.0, (k.1.1.1.1.1.1.1.1.1.1.1.0, (k.1.1.1.1.1.1.1.1.1.1.1.1.0, (k.1.1.1.1.1.1.1.1.1.1.1.1.1.0, tt)))))))))))))
@@ -207,22 +207,22 @@ module _ (s0 s1 s2 s3 s4 s5 s6 s7 s8 : State) (version : IsVersionOf one s0) (ma
     held = held_one s0.now.trees flat known
 
     -- the new tables
-    presences_copied : Copied presences_one table.presences s0.now.trees s8.now.trees
-    presences_copied = copied_still presences_one table.presences presence_moved s1.now.trees s2.now.trees s0.now.trees s8.now.trees
-        (presences.copied flat.presences (same_records presences_one s0.now.trees s1.now.trees presences_were ∙ held.presences) made.empty.1.0)
+    presences_copied : Copied presences_before_sessions table.presences s0.now.trees s8.now.trees
+    presences_copied = copied_still presences_before_sessions table.presences presence_moved s1.now.trees s2.now.trees s0.now.trees s8.now.trees
+        (presences.copied flat.presences (same_records presences_before_sessions s0.now.trees s1.now.trees presences_were ∙ held.presences) made.empty.1.0)
         (sym presences_were)
         (noted.others 31 refl (differ 31 0 refl) ∙ no_polls.others 31 refl (differ 31 22 refl) ∙ no_demands.others 31 refl (differ 31 20 refl) ∙ no_presences.others 31 refl (differ 31 18 refl) ∙ polls.others 31 refl (differ 31 35 refl)
         ∙ demands.others 31 refl (differ 31 33 refl))
 
-    demands_copied : Copied demands_one table.demands s0.now.trees s8.now.trees
-    demands_copied = copied_still demands_one table.demands demand_moved s2.now.trees s3.now.trees s0.now.trees s8.now.trees
-        (demands.copied flat.demands (same_records demands_one s0.now.trees s2.now.trees demands_were ∙ held.demands) (presences.others 33 refl (differ 33 31 refl) ∙ made.empty.1.1.0))
+    demands_copied : Copied demands_before_sessions table.demands s0.now.trees s8.now.trees
+    demands_copied = copied_still demands_before_sessions table.demands demand_moved s2.now.trees s3.now.trees s0.now.trees s8.now.trees
+        (demands.copied flat.demands (same_records demands_before_sessions s0.now.trees s2.now.trees demands_were ∙ held.demands) (presences.others 33 refl (differ 33 31 refl) ∙ made.empty.1.1.0))
         (sym demands_were)
         (noted.others 33 refl (differ 33 0 refl) ∙ no_polls.others 33 refl (differ 33 22 refl) ∙ no_demands.others 33 refl (differ 33 20 refl) ∙ no_presences.others 33 refl (differ 33 18 refl) ∙ polls.others 33 refl (differ 33 35 refl))
 
-    polls_copied : Copied polls_one table.polls s0.now.trees s8.now.trees
-    polls_copied = copied_still polls_one table.polls poll_moved s3.now.trees s4.now.trees s0.now.trees s8.now.trees
-        (polls.copied flat.polls (same_records polls_one s0.now.trees s3.now.trees polls_were ∙ held.polls) (demands.others 35 refl (differ 35 33 refl) ∙ presences.others 35 refl (differ 35 31 refl) ∙ made.empty.1.1.1.0))
+    polls_copied : Copied polls_before_sessions table.polls s0.now.trees s8.now.trees
+    polls_copied = copied_still polls_before_sessions table.polls poll_moved s3.now.trees s4.now.trees s0.now.trees s8.now.trees
+        (polls.copied flat.polls (same_records polls_before_sessions s0.now.trees s3.now.trees polls_were ∙ held.polls) (demands.others 35 refl (differ 35 33 refl) ∙ presences.others 35 refl (differ 35 31 refl) ∙ made.empty.1.1.1.0))
         (sym polls_were)
         (noted.others 35 refl (differ 35 0 refl) ∙ no_polls.others 35 refl (differ 35 22 refl) ∙ no_demands.others 35 refl (differ 35 20 refl) ∙ no_presences.others 35 refl (differ 35 18 refl))
 
@@ -230,17 +230,17 @@ module _ (s0 s1 s2 s3 s4 s5 s6 s7 s8 : State) (version : IsVersionOf one s0) (ma
     presences_gone : s8.now.trees 18 ≡ []
     presences_gone =
         noted.others 18 refl (differ 18 0 refl) ∙ no_polls.others 18 refl (differ 18 22 refl) ∙ no_demands.others 18 refl (differ 18 20 refl)
-        ∙ no_row presences_one s5.now.trees (no_presences.records flat.presences (same_records presences_one s0.now.trees s4.now.trees presences_then ∙ held.presences))
+        ∙ no_row presences_before_sessions s5.now.trees (no_presences.records flat.presences (same_records presences_before_sessions s0.now.trees s4.now.trees presences_then ∙ held.presences))
 
     demands_gone : s8.now.trees 20 ≡ []
     demands_gone =
         noted.others 20 refl (differ 20 0 refl) ∙ no_polls.others 20 refl (differ 20 22 refl)
-        ∙ no_row demands_one s6.now.trees (no_demands.records flat.demands (same_records demands_one s0.now.trees s5.now.trees demands_then ∙ held.demands))
+        ∙ no_row demands_before_sessions s6.now.trees (no_demands.records flat.demands (same_records demands_before_sessions s0.now.trees s5.now.trees demands_then ∙ held.demands))
 
     polls_gone : s8.now.trees 22 ≡ []
     polls_gone =
         noted.others 22 refl (differ 22 0 refl)
-        ∙ no_row polls_one s7.now.trees (no_polls.records flat.polls (same_records polls_one s0.now.trees s6.now.trees polls_then ∙ held.polls))
+        ∙ no_row polls_before_sessions s7.now.trees (no_polls.records flat.polls (same_records polls_before_sessions s0.now.trees s6.now.trees polls_then ∙ held.polls))
 
     left : are_left_empty s8.now.trees ≡ true
     left = rw (presences_gone, demands_gone, polls_gone) refl
@@ -260,9 +260,9 @@ module _ (s0 s1 s2 s3 s4 s5 s6 s7 s8 : State) (version : IsVersionOf one s0) (ma
       appointments = as_before table.appointments flat.appointments held.appointments (stays 12 refl refl refl refl refl);
       endings = as_before table.endings flat.endings held.endings (stays 14 refl refl refl refl refl);
       authorities = as_before table.authorities flat.authorities held.authorities (stays 16 refl refl refl refl refl);
-      presences = records_moved presences_one table.presences presence_moved s0.now.trees s8.now.trees flat.presences presences_copied held.presences;
-      demands = records_moved demands_one table.demands demand_moved s0.now.trees s8.now.trees flat.demands demands_copied held.demands;
-      polls = records_moved polls_one table.polls poll_moved s0.now.trees s8.now.trees flat.polls polls_copied held.polls;
+      presences = records_moved presences_before_sessions table.presences presence_moved s0.now.trees s8.now.trees flat.presences presences_copied held.presences;
+      demands = records_moved demands_before_sessions table.demands demand_moved s0.now.trees s8.now.trees flat.demands demands_copied held.demands;
+      polls = records_moved polls_before_sessions table.polls poll_moved s0.now.trees s8.now.trees flat.polls polls_copied held.polls;
       casts = as_before table.casts flat.casts held.casts (stays 24 refl refl refl refl refl);
       left = left;
     }

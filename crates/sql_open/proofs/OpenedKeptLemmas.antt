@@ -11,7 +11,7 @@ use Rattle.sql_model.specs.MigratedRecords.{IsMoved}
 use Rattle.sql_model.specs.OfficeRecords.{are_left_empty, flat_one, flat_two, office_one}
 use Rattle.sql_model.specs.Standing.{HasNoVersion, IsVersion, IsVersionOf, one}
 use Rattle.sql_schema.specs.Contents as table
-use Rattle.sql_schema.specs.Contents.{demands_one, polls_one, presences_one}
+use Rattle.sql_schema.specs.Contents.{demands_before_sessions, polls_before_sessions, presences_before_sessions}
 use Rattle.sql_schema.specs.CopiedRows.{Copied}
 use Rattle.sql_schema.specs.Tables.{desk_schema}
 use Rattle.sql_desk_tables.specs.ColumnChecks.{HasColumnsOf}
@@ -40,9 +40,9 @@ moved_same a b c d p q h = record {
   schema = subst (λ (x : Database). x.schema ≡ desk_schema) q h.schema;
   version = subst (λ (x : Database). IsVersion (record b { now = x })) q h.version;
   sessions = subst (λ (x : Database). x.trees 29 ≡ []) q h.sessions;
-  presences = both (λ x y. Copied presences_one table.presences x.trees y.trees) h.presences;
-  demands = both (λ x y. Copied demands_one table.demands x.trees y.trees) h.demands;
-  polls = both (λ x y. Copied polls_one table.polls x.trees y.trees) h.polls;
+  presences = both (λ x y. Copied presences_before_sessions table.presences x.trees y.trees) h.presences;
+  demands = both (λ x y. Copied demands_before_sessions table.demands x.trees y.trees) h.demands;
+  polls = both (λ x y. Copied polls_before_sessions table.polls x.trees y.trees) h.polls;
   left = subst (λ (x : Database). are_left_empty x.trees ≡ true) q h.left;
   others = λ number stays. both (λ x y. y.trees number ≡ x.trees number) (h.others number stays);
   records = both (λ x y. flat_two y.trees ≡ flat_one x.trees) h.records;

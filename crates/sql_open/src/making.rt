@@ -3,7 +3,7 @@ ghost use Rattle.std.specs.Prelude.{◌≡◌};
 ghost use Rattle.sql_migrate.specs.NewTables.{IsMaking};
 ghost use Rattle.sql_open.specs.NewDesk.{LeavesEmptyDesk};
 ghost use Rattle.sql_schema.specs.Tables.{desk_schema, no_schema, schema_one, up_to_casts};
-ghost use Rattle.sql_schema.specs.Tables.{up_to_presences, up_to_register};
+ghost use Rattle.sql_schema.specs.Tables.{up_to_presences_before_sessions, up_to_register};
 
 use sql_desk_tables::closed::ClosedDays;
 use sql_desk_tables::keys::Keys;
@@ -13,13 +13,13 @@ use sql_desk_tables::{desk, meetings};
 use sql_meeting_tables::appointments::Appointments;
 use sql_meeting_tables::authorities::Authorities;
 use sql_meeting_tables::casts::Casts;
-use sql_meeting_tables::demands_one::DemandsOne;
+use sql_meeting_tables::demands_before_sessions::DemandsBeforeSessions;
 use sql_meeting_tables::endings::Endings;
 use sql_meeting_tables::indexes::{
-    AppointmentsByProxy, AuthoritiesByPerson, CastsByVoter, DemandsByParty,
+    AppointmentsByProxy, AuthoritiesByPerson, CastsByVoter, DemandsBeforeSessionsByParty,
 };
-use sql_meeting_tables::polls_one::PollsOne;
-use sql_meeting_tables::presences_one::PresencesOne;
+use sql_meeting_tables::polls_before_sessions::PollsBeforeSessions;
+use sql_meeting_tables::presences_before_sessions::PresencesBeforeSessions;
 use sql_migrate::make_later;
 use sql_stored::{make, make_index};
 use sqlite::{Alter, Error, Transaction};
@@ -43,12 +43,12 @@ fn make_meetings<S: Alter>(tx: &mut Transaction<'_, S>) -> Result<(), Error>
 fn make_proxy_tables<S: Alter>(tx: &mut Transaction<'_, S>) -> Result<(), Error>
     ensures same_reference { tx.new.conn.ghost_name ≡ tx.old.conn.ghost_name }
     ensures made { IsMaking S.Store tx.old.conn.now tx.new.conn.now result
-        up_to_register up_to_presences }
+        up_to_register up_to_presences_before_sessions }
 {
     make::<Appointments, S>(tx)?;
     make::<Endings, S>(tx)?;
     make::<Authorities, S>(tx)?;
-    make::<PresencesOne, S>(tx)?;
+    make::<PresencesBeforeSessions, S>(tx)?;
     Ok(())
 }
 
@@ -56,10 +56,10 @@ fn make_proxy_tables<S: Alter>(tx: &mut Transaction<'_, S>) -> Result<(), Error>
 fn make_polls<S: Alter>(tx: &mut Transaction<'_, S>) -> Result<(), Error>
     ensures same_reference { tx.new.conn.ghost_name ≡ tx.old.conn.ghost_name }
     ensures made { IsMaking S.Store tx.old.conn.now tx.new.conn.now result
-        up_to_presences up_to_casts }
+        up_to_presences_before_sessions up_to_casts }
 {
-    make::<DemandsOne, S>(tx)?;
-    make::<PollsOne, S>(tx)?;
+    make::<DemandsBeforeSessions, S>(tx)?;
+    make::<PollsBeforeSessions, S>(tx)?;
     make::<Casts, S>(tx)?;
     Ok(())
 }
@@ -72,7 +72,7 @@ fn make_indexes<S: Alter>(tx: &mut Transaction<'_, S>) -> Result<(), Error>
 {
     make_index::<AppointmentsByProxy, S>(tx)?;
     make_index::<AuthoritiesByPerson, S>(tx)?;
-    make_index::<DemandsByParty, S>(tx)?;
+    make_index::<DemandsBeforeSessionsByParty, S>(tx)?;
     make_index::<CastsByVoter, S>(tx)?;
     Ok(())
 }

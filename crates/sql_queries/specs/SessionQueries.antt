@@ -10,7 +10,7 @@ use Rattle.sql_rows.specs.ColumnValues.{flag_in, moment_in, number_in, parsed_in
 use Rattle.sql_rows.specs.Marks.{declared_in, demand_mark_in, poll_in, presence_in}
 use Rattle.sql_rows.specs.declared.stored_records.InMeeting.{InMeeting}
 use Rattle.sql_schema.specs.Contents.{demands, polls, presences}
-use Rattle.sql_schema.specs.Tables.{demands2_table, polls2_table, presences2_table}
+use Rattle.sql_schema.specs.Tables.{demands_table, polls_table, presences_table}
 use Rattle.sql_stored.specs.Keys.{FindsAs, FindsBy, HoldMeeting, HoldParty, both_tests, first_test}
 use Rattle.sqlite.specs.Listing.{understood}
 use Rattle.sqlite.specs.Order.{Row}
@@ -35,22 +35,22 @@ names_presence cells x h =
     )
 
 pub presence_of_party
-    : FindsBy presences presences2_table both_tests HoldParty (0 ∷ 2 ∷ [])
+    : FindsBy presences presences_table both_tests HoldParty (0 ∷ 2 ∷ [])
     (λ it. (it.meeting, it.item.party))
 unfolding understood everything
 presence_of_party = record {
-  asks = wide (FindsAs presences presences2_table both_tests (0 ∷ 2 ∷ []))
+  asks = wide (FindsAs presences presences_table both_tests (0 ∷ 2 ∷ []))
       (λ others apart indexes views. record { is = refl; plain = (refl, refl); unlisted = refl });
   alone = λ schema base. refl;
   holds = λ cells x h. names_presence cells x h;
 }
 
 pub presences_of_meeting
-    : FindsBy presences presences2_table first_test HoldMeeting (0 ∷ [])
+    : FindsBy presences presences_table first_test HoldMeeting (0 ∷ [])
     (λ it. it.meeting)
 unfolding understood everything
 presences_of_meeting = record {
-  asks = wide (FindsAs presences presences2_table first_test (0 ∷ []))
+  asks = wide (FindsAs presences presences_table first_test (0 ∷ []))
       (λ others apart indexes views. record { is = refl; plain = (refl, refl); unlisted = refl });
   alone = λ schema base. refl;
   holds = λ cells x h. (names_presence cells x h).0;
@@ -75,22 +75,22 @@ names_demand cells x h =
     )
 
 pub demand_made_by
-    : FindsBy demands demands2_table both_tests HoldParty (0 ∷ 3 ∷ [])
+    : FindsBy demands demands_table both_tests HoldParty (0 ∷ 3 ∷ [])
     (λ it. (it.meeting, it.item.party))
 unfolding understood everything
 demand_made_by = record {
-  asks = wide (FindsAs demands demands2_table both_tests (0 ∷ 3 ∷ []))
+  asks = wide (FindsAs demands demands_table both_tests (0 ∷ 3 ∷ []))
       (λ others apart indexes views. record { is = refl; plain = (refl, refl); unlisted = refl });
   alone = λ schema base. refl;
   holds = λ cells x h. names_demand cells x h;
 }
 
 pub demands_of_meeting
-    : FindsBy demands demands2_table first_test HoldMeeting (0 ∷ [])
+    : FindsBy demands demands_table first_test HoldMeeting (0 ∷ [])
     (λ it. it.meeting)
 unfolding understood everything
 demands_of_meeting = record {
-  asks = wide (FindsAs demands demands2_table first_test (0 ∷ []))
+  asks = wide (FindsAs demands demands_table first_test (0 ∷ []))
       (λ others apart indexes views. record { is = refl; plain = (refl, refl); unlisted = refl });
   alone = λ schema base. refl;
   holds = λ cells x h. (names_demand cells x h).0;
@@ -115,11 +115,11 @@ names_poll cells x h =
     meeting.1 ∙ option_ap (λ (y : InMeeting Poll). y.meeting) declared.2
 
 pub polls_of_meeting
-    : FindsBy polls polls2_table first_test HoldMeeting (0 ∷ [])
+    : FindsBy polls polls_table first_test HoldMeeting (0 ∷ [])
     (λ it. it.meeting)
 unfolding understood everything
 polls_of_meeting = record {
-  asks = wide (FindsAs polls polls2_table first_test (0 ∷ []))
+  asks = wide (FindsAs polls polls_table first_test (0 ∷ []))
       (λ others apart indexes views. record { is = refl; plain = (refl, refl); unlisted = refl });
   alone = λ schema base. refl;
   holds = λ cells x h. names_poll cells x h;

@@ -167,16 +167,16 @@ cast_in cells = do
 -- ---- rows of version 1, whose meetings have one session
 
 -- a party that is present: meeting, party, moment
-unfoldable pub presence_one_in : Row → Option (InMeeting PresenceMark)
-presence_one_in cells = do
+unfoldable pub presence_before_sessions_in : Row → Option (InMeeting PresenceMark)
+presence_before_sessions_in cells = do
   meeting ← parsed_in meeting_of cells 0
   party ← parsed_in party_of cells 1
   moment ← moment_in cells 2
   Some (record { meeting = meeting; item = record { session = 1; party = party; moment = moment } })
 
 -- a demand of a poll: meeting, resolution, party, moment
-unfoldable pub demand_one_in : Row → Option (InMeeting DemandMark)
-demand_one_in cells = do
+unfoldable pub demand_before_sessions_in : Row → Option (InMeeting DemandMark)
+demand_before_sessions_in cells = do
   meeting ← parsed_in meeting_of cells 0
   resolution ← number_in cells 1
   party ← parsed_in party_of cells 2
@@ -188,8 +188,8 @@ demand_one_in cells = do
       })
 
 -- a poll: meeting, resolution, and the others as above
-unfoldable pub poll_one_in : Row → Option (InMeeting Poll)
-poll_one_in cells = do
+unfoldable pub poll_before_sessions_in : Row → Option (InMeeting Poll)
+poll_before_sessions_in cells = do
   meeting ← parsed_in meeting_of cells 0
   resolution ← number_in cells 1
   ordered ← moment_in cells 2

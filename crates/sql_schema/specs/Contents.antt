@@ -19,7 +19,7 @@ use Rattle.sql_rows.specs.declared.stored_records.InMeeting.{InMeeting}
 use Rattle.sql_rows.specs.declared.stored_records.MeetingRow.{MeetingRow}
 use Rattle.sql_rows.specs.declared.stored_records.Numbered.{Numbered}
 use Rattle.sql_rows.specs.declared.stored_records.Version.{Version}
-use Rattle.sql_rows.specs.Marks.{presence_in, demand_mark_in, poll_in, cast_in, presence_one_in, demand_one_in, poll_one_in}
+use Rattle.sql_rows.specs.Marks.{presence_in, demand_mark_in, poll_in, cast_in, presence_before_sessions_in, demand_before_sessions_in, poll_before_sessions_in}
 use Rattle.sql_rows.specs.Meetings.{meeting_in, session_in, resolution_in, holding_in}
 use Rattle.sql_rows.specs.DeskRows.{version_in, key_row_in, closed_in}
 use Rattle.sql_rows.specs.AppointmentRows.{appointment_in, ending_in, authority_in}
@@ -92,19 +92,19 @@ casts = record { number = 24; columns = 2 ∷ 3 ∷ 4 ∷ 5 ∷ 6 ∷ 7 ∷ 8 �
 -- ---- the tables of version 1 that version 2 leaves empty
 
 -- the presences, in order of receipt
-abbrev pub presences_one : TableOf (InMeeting PresenceMark)
-presences_one = record { number = 18; columns = 2 ∷ 3 ∷ 4 ∷ []; means = presence_one_in }
+abbrev pub presences_before_sessions : TableOf (InMeeting PresenceMark)
+presences_before_sessions = record { number = 18; columns = 2 ∷ 3 ∷ 4 ∷ []; means = presence_before_sessions_in }
 
 -- the demands, in order of receipt
-abbrev pub demands_one : TableOf (InMeeting DemandMark)
-demands_one = record { number = 20; columns = 2 ∷ 3 ∷ 4 ∷ 5 ∷ []; means = demand_one_in }
+abbrev pub demands_before_sessions : TableOf (InMeeting DemandMark)
+demands_before_sessions = record { number = 20; columns = 2 ∷ 3 ∷ 4 ∷ 5 ∷ []; means = demand_before_sessions_in }
 
 -- the polls
-abbrev pub polls_one : TableOf (InMeeting Poll)
-polls_one = record {
+abbrev pub polls_before_sessions : TableOf (InMeeting Poll)
+polls_before_sessions = record {
   number = 22;
   columns = 1 ∷ 2 ∷ 3 ∷ 4 ∷ 5 ∷ 6 ∷ 7 ∷ 8 ∷ 9 ∷ 10 ∷ 11 ∷ [];
-  means = poll_one_in;
+  means = poll_before_sessions_in;
 }
 
 -- ---- changes of records

@@ -158,17 +158,17 @@ authorities_table =
     unique (2 ∷ 3 ∷ 4 ∷ [])
     (filed_table "authorities" (text "corporation" ∷ text "person" ∷ number "moment" ∷ []))
 
-abbrev pub presences_table : Table
-presences_table =
+abbrev pub presences_before_sessions_table : Table
+presences_before_sessions_table =
     unique (2 ∷ 3 ∷ []) (filed_table "presences" (text "party" ∷ number "moment" ∷ []))
 
-abbrev pub demands_table : Table
-demands_table =
+abbrev pub demands_before_sessions_table : Table
+demands_before_sessions_table =
     unique (2 ∷ 3 ∷ 4 ∷ [])
     (filed_table "demands" (number "resolution" ∷ text "party" ∷ number "moment" ∷ []))
 
-abbrev pub polls_table : Table
-polls_table =
+abbrev pub polls_before_sessions_table : Table
+polls_before_sessions_table =
     once_table "polls"
     (number "resolution" ∷ number "ordered" ∷ number "take" ∷ number "chair"
     ∷ number_if_any "started" ∷ number_if_any "closed" ∷ number_if_any "votes_for"
@@ -187,19 +187,19 @@ sessions_table =
     once_table "sessions"
     (number "number" ∷ number "appointed" ∷ number_if_any "opened" ∷ [])
 
-abbrev pub presences2_table : Table
-presences2_table =
+abbrev pub presences_table : Table
+presences_table =
     unique (2 ∷ 3 ∷ 4 ∷ [])
     (filed_table "presences2" (number "session" ∷ text "party" ∷ number "moment" ∷ []))
 
-abbrev pub demands2_table : Table
-demands2_table =
+abbrev pub demands_table : Table
+demands_table =
     unique (2 ∷ 3 ∷ 4 ∷ 5 ∷ [])
     (filed_table "demands2"
     (number "session" ∷ number "resolution" ∷ text "party" ∷ number "moment" ∷ []))
 
-abbrev pub polls2_table : Table
-polls2_table =
+abbrev pub polls_table : Table
+polls_table =
     known_table 3 "polls2"
     (number "session" ∷ number "resolution" ∷ number "ordered" ∷ number "take" ∷ number "chair"
     ∷ number_if_any "started" ∷ number_if_any "closed" ∷ number_if_any "votes_for"
@@ -237,17 +237,17 @@ up_to_endings = created up_to_appointments endings_table
 abbrev pub up_to_authorities : Schema
 up_to_authorities = created up_to_endings authorities_table
 
-abbrev pub up_to_presences : Schema
-up_to_presences = created up_to_authorities presences_table
+abbrev pub up_to_presences_before_sessions : Schema
+up_to_presences_before_sessions = created up_to_authorities presences_before_sessions_table
 
-abbrev pub up_to_demands : Schema
-up_to_demands = created up_to_presences demands_table
+abbrev pub up_to_demands_before_sessions : Schema
+up_to_demands_before_sessions = created up_to_presences_before_sessions demands_before_sessions_table
 
-abbrev pub up_to_polls : Schema
-up_to_polls = created up_to_demands polls_table
+abbrev pub up_to_polls_before_sessions : Schema
+up_to_polls_before_sessions = created up_to_demands_before_sessions polls_before_sessions_table
 
 abbrev pub up_to_casts : Schema
-up_to_casts = created up_to_polls casts_table
+up_to_casts = created up_to_polls_before_sessions casts_table
 
 -- ---- indexes, by which a party's rows are found
 
@@ -277,19 +277,19 @@ up_to_authorities_by_person =
     indexed up_to_appointments_by_proxy (record authorities_table { tree = 16 })
     authorities_by_person
 
-abbrev pub demands_by_party : Index
-demands_by_party = an_index "demands_by_party" 20 (2 ∷ 4 ∷ [])
+abbrev pub demands_before_sessions_by_party : Index
+demands_before_sessions_by_party = an_index "demands_by_party" 20 (2 ∷ 4 ∷ [])
 
-abbrev pub up_to_demands_by_party : Schema
-up_to_demands_by_party =
-    indexed up_to_authorities_by_person (record demands_table { tree = 20 }) demands_by_party
+abbrev pub up_to_demands_before_sessions_by_party : Schema
+up_to_demands_before_sessions_by_party =
+    indexed up_to_authorities_by_person (record demands_before_sessions_table { tree = 20 }) demands_before_sessions_by_party
 
 abbrev pub casts_by_voter : Index
 casts_by_voter = an_index "casts_by_voter" 24 (2 ∷ 4 ∷ [])
 
 abbrev pub up_to_casts_by_voter : Schema
 up_to_casts_by_voter =
-    indexed up_to_demands_by_party (record casts_table { tree = 24 }) casts_by_voter
+    indexed up_to_demands_before_sessions_by_party (record casts_table { tree = 24 }) casts_by_voter
 
 -- version 1
 abbrev pub schema_one : Schema
@@ -300,35 +300,35 @@ schema_one = up_to_casts_by_voter
 abbrev pub up_to_sessions : Schema
 up_to_sessions = created schema_one sessions_table
 
-abbrev pub up_to_presences2 : Schema
-up_to_presences2 = created up_to_sessions presences2_table
+abbrev pub up_to_presences : Schema
+up_to_presences = created up_to_sessions presences_table
 
-abbrev pub up_to_demands2 : Schema
-up_to_demands2 = created up_to_presences2 demands2_table
+abbrev pub up_to_demands : Schema
+up_to_demands = created up_to_presences demands_table
 
-abbrev pub up_to_polls2 : Schema
-up_to_polls2 = created up_to_demands2 polls2_table
+abbrev pub up_to_polls : Schema
+up_to_polls = created up_to_demands polls_table
 
-abbrev pub presences2_by_party : Index
-presences2_by_party = an_index "presences2_by_party" 31 (2 ∷ 4 ∷ [])
+abbrev pub presences_by_party : Index
+presences_by_party = an_index "presences2_by_party" 31 (2 ∷ 4 ∷ [])
 
-abbrev pub up_to_presences2_by_party : Schema
-up_to_presences2_by_party =
-    indexed up_to_polls2 (record presences2_table { tree = 31 }) presences2_by_party
+abbrev pub up_to_presences_by_party : Schema
+up_to_presences_by_party =
+    indexed up_to_polls (record presences_table { tree = 31 }) presences_by_party
 
-abbrev pub demands2_by_party : Index
-demands2_by_party = an_index "demands2_by_party" 33 (2 ∷ 5 ∷ [])
+abbrev pub demands_by_party : Index
+demands_by_party = an_index "demands2_by_party" 33 (2 ∷ 5 ∷ [])
 
-abbrev pub up_to_demands2_by_party : Schema
-up_to_demands2_by_party =
-    indexed up_to_presences2_by_party (record demands2_table { tree = 33 }) demands2_by_party
+abbrev pub up_to_demands_by_party : Schema
+up_to_demands_by_party =
+    indexed up_to_presences_by_party (record demands_table { tree = 33 }) demands_by_party
 
 abbrev pub casts_by_resolution : Index
 casts_by_resolution = an_index "casts_by_resolution" 24 (2 ∷ 3 ∷ 4 ∷ [])
 
 abbrev pub up_to_casts_by_resolution : Schema
 up_to_casts_by_resolution =
-    indexed up_to_demands2_by_party (record casts_table { tree = 24 }) casts_by_resolution
+    indexed up_to_demands_by_party (record casts_table { tree = 24 }) casts_by_resolution
 
 -- version 2, which the desk makes and reads
 abbrev pub desk_schema : Schema
@@ -339,9 +339,9 @@ desk_schema = up_to_casts_by_resolution
 abbrev pub asked_one : List Table
 asked_one =
     desk_table ∷ keys_table ∷ closed_table ∷ meetings_table ∷ resolutions_table ∷ register_table
-    ∷ appointments_table ∷ endings_table ∷ authorities_table ∷ presences_table ∷ demands_table
-    ∷ polls_table ∷ casts_table ∷ []
+    ∷ appointments_table ∷ endings_table ∷ authorities_table ∷ presences_before_sessions_table ∷ demands_before_sessions_table
+    ∷ polls_before_sessions_table ∷ casts_table ∷ []
 
 abbrev pub asked_two : List Table
 asked_two =
-    asked_one ++ sessions_table ∷ presences2_table ∷ demands2_table ∷ polls2_table ∷ []
+    asked_one ++ sessions_table ∷ presences_table ∷ demands_table ∷ polls_table ∷ []

@@ -3,7 +3,7 @@ use Rattle.sqlite.specs.Held.{Held}
 use Rattle.sqlite.specs.Tree.{Trees}
 use Rattle.sqlite_trees.specs.declared.store.Store as store
 use Rattle.sql_model.specs.OfficeRecords.{are_left_empty, has_no_row}
-use Rattle.sql_schema.specs.Contents.{demands_one, polls_one, presences_one}
+use Rattle.sql_schema.specs.Contents.{demands_before_sessions, polls_before_sessions, presences_before_sessions}
 use Rattle.vocabulary.specs.OptionSteps.{◌>>=◌, guard}
 use Rattle.sql_load_office.specs.WholeReading.{IsReading}
 use Rattle.sql_load_office.proofs.ReadingLemmas.{left_is, stop, then}
@@ -13,7 +13,7 @@ use Rattle.sql_assemble.specs.declared.fault.LoadError.{LoadError}
 
 -- what is read of one table after another is what is read of them all
 as_one : {S : Type 0} (g : store.Ghosts S) (a b : Held S) (r : Result (Unit {0}) LoadError)
-    → IsReading g a b any_at_all r (λ trees. guard (has_no_row presences_one trees) >>= λ _. guard (has_no_row demands_one trees) >>= λ _. guard (has_no_row polls_one trees))
+    → IsReading g a b any_at_all r (λ trees. guard (has_no_row presences_before_sessions trees) >>= λ _. guard (has_no_row demands_before_sessions trees) >>= λ _. guard (has_no_row polls_before_sessions trees))
     → IsReading g a b any_at_all r (λ trees. guard (are_left_empty trees))
 as_one g a b r h = subst (λ (said : Trees → Option (Unit {0})). IsReading g a b any_at_all r said) left_is h
 
