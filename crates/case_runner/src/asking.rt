@@ -36,8 +36,9 @@ fn open<S: Alter + Drop>(alloc: Global, conn: Connection<S>, asked: &Asked) -> (
     requires none { conn.in_transaction ≡ false }
     requires rising { HasCleanDisk (state S.Store conn) → RowsRise (state S.Store conn) }
 {
-    match Desk::open_risen(alloc, conn) {
-        Ok(mut desk) => {
+    match sql_open::open_risen(alloc, conn) {
+        Ok((opened, _)) => {
+            let mut desk = Desk::of_opened(alloc, opened);
             let answer = ask_office(alloc, &mut desk, asked);
             (answer, desk.close().into_store())
         }

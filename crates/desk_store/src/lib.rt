@@ -3,8 +3,8 @@
 
 mod deciding;
 mod desk;
+mod library;
 mod office;
-mod opening;
 mod perform;
 mod reading;
 mod reads;

@@ -2,14 +2,12 @@
 ghost use Rattle.std.specs.Prelude.{◌≡◌};
 ghost use Rattle.desk_words.specs.declared.office.OfficeLists.{OfficeLists};
 ghost use Rattle.desk_store.specs.StoreFailures.{failure_of_read, fault_of_book};
-ghost use Rattle.desk_store.specs.TableReads.{IsOwnView, IsCallerWith, IsPublic, HoldsOfTables, IsBookOf};
+ghost use Rattle.desk_store.specs.TableReads.{IsCallerWith, IsPublic, HoldsOfTables};
 
-use desk_words::{Caller, Failure, KeyRow, MeetingId, Moment, Party, SecretKey};
-use meeting_core::{Book, BookFault};
-use party_views::OwnView;
+use desk_words::{Caller, Failure, KeyRow, MeetingId, SecretKey};
+use meeting_core::BookFault;
 use sql_desk_tables::keys;
-use sql_load_office::{LoadError, read_office};
-use sql_load_party::read_own;
+use sql_load_office::LoadError;
 use sql_load_public::{OwnedRecord, read_public};
 use sql_rows::records;
 use sqlite::{Alter, Transaction};
@@ -33,18 +31,6 @@ pub(crate) fn failure_of(fault: LoadError) -> Failure
         LoadError::NoOffice | LoadError::Store => Failure::Store,
         LoadError::Memory => Failure::Memory,
     }
-}
-
-/// The office that the tables hold, in memory.
-pub(crate) fn read_book<S: Alter>(
-    tx: &mut Transaction<'_, S>,
-    alloc: Global,
-) -> Result<Book, LoadError>
-    ensures same_reference { tx.new.conn.ghost_name ≡ tx.old.conn.ghost_name }
-    ensures holds { HoldsOfTables S.Store tx.old.conn.now tx.new.conn.now result IsBookOf }
-{
-    let lists = read_office(tx, alloc)?;
-    Book::of_lists(alloc, lists).map_err(fault_of_book)
 }
 
 /// The caller whose key this is; none exactly where no key equals it.
@@ -74,21 +60,6 @@ pub(crate) fn read_record<S: Alter>(
     read_public(tx, alloc, meeting)
 }
 
-/// The own things of a party in a meeting at a moment.
-pub(crate) fn read_things<S: Alter>(
-    tx: &mut Transaction<'_, S>,
-    alloc: Global,
-    party: Party,
-    meeting: MeetingId,
-    now: Moment,
-) -> Result<OwnView, LoadError>
-    ensures same_reference { tx.new.conn.ghost_name ≡ tx.old.conn.ghost_name }
-    ensures holds { HoldsOfTables S.Store tx.old.conn.now tx.new.conn.now result
-        (IsOwnView party meeting now) }
-{
-    read_own(tx, alloc, party, meeting, now)
-}
-
 /// What is read of the tables, within a transaction.
 pub(crate) trait Reading {
     type Found: Drop;
@@ -105,26 +76,6 @@ pub(crate) trait Reading {
         ensures same_reference { tx.new.conn.ghost_name ≡ tx.old.conn.ghost_name }
         ensures holds { HoldsOfTables S.Store tx.old.conn.now tx.new.conn.now result
             (finds self.now) };
-}
-
-/// The office that the tables hold, in memory.
-#[derive(Clone, Copy)]
-pub(crate) struct WholeOffice;
-
-impl Reading for WholeOffice {
-    ghost use Rattle.desk_store.specs.TableReads.{IsBookOf};
-
-    type Found = Book;
-
-    ghost finds = { λ _. IsBookOf };
-
-    fn read<S: Alter>(
-        &self,
-        tx: &mut Transaction<'_, S>,
-        alloc: Global,
-    ) -> Result<Book, LoadError> {
-        read_book(tx, alloc)
-    }
 }
 
 /// The caller with a key.
@@ -168,29 +119,5 @@ impl Reading for PublicOf {
         alloc: Global,
     ) -> Result<OwnedRecord, LoadError> {
         read_record(tx, alloc, self.meeting)
-    }
-}
-
-/// The own things of a party in a meeting at a moment.
-#[derive(Clone, Copy)]
-pub(crate) struct ThingsOf {
-    pub(crate) party: Party,
-    pub(crate) meeting: MeetingId,
-    pub(crate) now: Moment,
-}
-
-impl Reading for ThingsOf {
-    ghost use Rattle.desk_store.specs.TableReads.{IsOwnView};
-
-    type Found = OwnView;
-
-    ghost finds = { λ it. IsOwnView it.party it.meeting it.now };
-
-    fn read<S: Alter>(
-        &self,
-        tx: &mut Transaction<'_, S>,
-        alloc: Global,
-    ) -> Result<OwnView, LoadError> {
-        read_things(tx, alloc, self.party, self.meeting, self.now)
     }
 }

@@ -6,23 +6,21 @@ ghost use Rattle.sql_open.specs.Crashes.{LeavesItself};
 ghost use Rattle.sql_open.specs.Opened.{OnDone};
 ghost use Rattle.sql_open.specs.WholeDesk.{LeavesWhole};
 ghost use Rattle.desk_store.specs.Joins.{IsDeskIfOpen, LeavesDesk};
-ghost use Rattle.party_views.specs.Views.{own_of, public_of};
+ghost use Rattle.party_views.specs.Views.{public_of};
 ghost use Rattle.desk_store.specs.TableReads.{HoldsOfDesk};
 ghost use Rattle.meeting_core.specs.KeyHolders.{caller_with};
 ghost use Rattle.sqlite.specs.Held.{state};
 ghost use Rattle.sqlite.specs.State.{Survives};
 
 use crate::desk::Desk;
-use crate::reading::{CallerOf, PublicOf, Reading, ThingsOf, WholeOffice, failure_of};
-use desk_words::{Caller, Failure, MeetingId, Moment, Party, SecretKey};
-use meeting_core::Book;
-use party_views::OwnView;
+use crate::reading::{CallerOf, PublicOf, Reading, failure_of};
+use desk_words::{Caller, Failure, MeetingId, SecretKey};
 use sql_load_public::OwnedRecord;
 use sqlite::Alter;
 
 impl<S: Alter> Desk<S> {
     /// Reads the tables, in one transaction.
-    fn read<R: Reading>(&mut self, what: &R) -> Result<R::Found, Failure>
+    pub(crate) fn read<R: Reading>(&mut self, what: &R) -> Result<R::Found, Failure>
         ensures found { HoldsOfDesk S.Store self.old self.new
             (λ office. IfOk result (R.finds what.now office)) }
         ensures leaves { LeavesDesk S.Store None self.old self.new }
@@ -60,23 +58,6 @@ impl<S: Alter> Desk<S> {
         self.read(&CallerOf { key: *key })
     }
 
-    /// The office that the tables hold, in memory.
-    pub fn book(&mut self) -> Result<Book, Failure>
-        ensures held { HoldsOfDesk S.Store self.old self.new
-            (λ office. IfOk result (λ book. book ≡ office)) }
-        ensures leaves { LeavesDesk S.Store None self.old self.new }
-        ensures ended { self.new.in_transaction ≡ false }
-        ensures stays_open { OnDone S.Store self.new result
-            (IsTrue (state S.Store self.new).is_open) }
-        ensures settled { OnDone S.Store self.new result (LeavesItself (state S.Store self.new)) }
-        ensures whole { HoldsOfDesk S.Store self.old self.new
-            (λ office. OnOk result (LeavesWhole (state S.Store self.new) office)) }
-        ensures crash { IsDeskIfOpen (state S.Store self.old)
-            → Survives (state S.Store self.old) (state S.Store self.new) (λ _. ⊥) }
-    {
-        self.read(&WholeOffice)
-    }
-
     /// The public record of a meeting; where there is none of that name, the closed days alone. No
     /// other meeting is read.
     pub fn read_public(&mut self, meeting: MeetingId) -> Result<OwnedRecord, Failure>
@@ -93,33 +74,5 @@ impl<S: Alter> Desk<S> {
             → Survives (state S.Store self.old) (state S.Store self.new) (λ _. ⊥) }
     {
         self.read(&PublicOf { meeting })
-    }
-
-    /// The own things of a party in a meeting at a moment; where there is none of that name, its
-    /// own name alone. Of what others gave, no more is read than what names the party, and the
-    /// appointments of those who named it.
-    pub fn read_own(
-        &mut self,
-        party: Party,
-        meeting: MeetingId,
-        now: Moment,
-    ) -> Result<OwnView, Failure>
-        ensures held { HoldsOfDesk S.Store self.old self.new
-            (λ office. IfOk result (λ own. own ≡ own_of office party meeting now)) }
-        ensures leaves { LeavesDesk S.Store None self.old self.new }
-        ensures ended { self.new.in_transaction ≡ false }
-        ensures stays_open { OnDone S.Store self.new result
-            (IsTrue (state S.Store self.new).is_open) }
-        ensures settled { OnDone S.Store self.new result (LeavesItself (state S.Store self.new)) }
-        ensures whole { HoldsOfDesk S.Store self.old self.new
-            (λ office. OnOk result (LeavesWhole (state S.Store self.new) office)) }
-        ensures crash { IsDeskIfOpen (state S.Store self.old)
-            → Survives (state S.Store self.old) (state S.Store self.new) (λ _. ⊥) }
-    {
-        self.read(&ThingsOf {
-            party,
-            meeting,
-            now,
-        })
     }
 }

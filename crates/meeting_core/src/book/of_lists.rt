@@ -1,4 +1,4 @@
-//! The book of lists that were kept elsewhere.
+//! The book of lists that were kept elsewhere, for callers of the library. The program makes none.
 ghost use Rattle.std.specs.Prelude.{◌≡◌, false, Err, IfErr, IfOk, IfSome, IsTrue, None, Some};
 ghost use Rattle.desk_words.specs.Office.{is_office};
 ghost use Rattle.office_validation.specs.Validation.{office_in_order};

@@ -1,12 +1,12 @@
-//! A new desk, and one that was kept.
-ghost use Rattle.std.specs.Prelude.{◌≡◌, ◌≢◌, ◌⊎◌, false, Err, IfErr, IfOk, IsErrAnd, IsTrue};
-ghost use Rattle.sql_open.specs.Crashes.{LeavesAtMostMoved};
+//! Calls of the library that the program does not make: a desk is made and opened over a connection
+//! of the caller's, and the whole book and a party's own things are read.
+ghost use Rattle.std.specs.Prelude.{◌≡◌, ◌≢◌, ◌⊎◌, false, Err, IfErr, IfOk, IsErrAnd, IsTrue, None, OnOk};
+ghost use Rattle.sql_open.specs.Crashes.{LeavesAtMostMoved, LeavesItself};
 ghost use Rattle.sql_open.specs.Opened.{HoldsNothing, IfMadeAs, IsSettled, IsWhyUnopened};
-ghost use Rattle.sql_open.specs.Opened.{KeepsOpenRows, KeepsOpenTables, StandsFor, StaysOpen};
-ghost use Rattle.sql_open.specs.Opened.{SurvivesMaking, SurvivesMoving, WereKnown};
+ghost use Rattle.sql_open.specs.Opened.{KeepsOpenTables, OnDone, StandsFor, StaysOpen};
+ghost use Rattle.sql_open.specs.Opened.{SurvivesMaking, WereKnown};
 ghost use Rattle.sql_open.specs.Opening.{HandsBack, IsInNone};
-ghost use Rattle.sql_open.specs.Rising.{RowsRise};
-ghost use Rattle.sql_open.specs.WholeDesk.{OpensWhole};
+ghost use Rattle.sql_open.specs.WholeDesk.{LeavesWhole, OpensWhole};
 ghost use Rattle.sql_open.specs.declared.fault.CreateError.TheVariants.{NotEmpty};
 ghost use Rattle.sql_open.specs.declared.fault.CreateError.TheVariants as creating;
 ghost use Rattle.sql_open.specs.declared.fault.OpenFault.TheVariants as opening;
@@ -14,11 +14,20 @@ ghost use Rattle.sql_open.specs.declared.opening.HandedBack.TheVariants as back;
 ghost use Rattle.sql_schema.specs.Tables.{no_schema};
 ghost use Rattle.desk_words.specs.declared.office.OfficeLists.{OfficeLists};
 ghost use Rattle.sqlite.specs.Held.{state};
-ghost use Rattle.sqlite.specs.State.{HasCleanDisk};
+ghost use Rattle.sqlite.specs.State.{Survives};
+ghost use Rattle.desk_store.specs.Joins.{IsDeskIfOpen, LeavesDesk};
+ghost use Rattle.desk_store.specs.TableReads.{HoldsOfDesk, HoldsOfTables, IsBookOf, IsOwnView};
+ghost use Rattle.party_views.specs.Views.{own_of};
 
 use crate::desk::Desk;
+use crate::reading::{Reading, fault_of_book};
+use desk_words::{Failure, MeetingId, Moment, Party};
+use meeting_core::Book;
+use party_views::OwnView;
+use sql_load_office::{LoadError, read_office};
+use sql_load_party::read_own;
 use sql_open::{CreateError, HandedBack, OpenFault};
-use sqlite::{Alter, Connection};
+use sqlite::{Alter, Connection, Transaction};
 use std::alloc::Global;
 
 impl<S: Alter + Drop> Desk<S> {
@@ -99,32 +108,122 @@ impl<S: Alter + Drop> Desk<S> {
             Err(refused) => Err(refused),
         }
     }
+}
 
-    /// Opens the desk that a database holds, as `open` does, where the numbers of the rows of each
-    /// table are known to rise, as they are of a file that was just opened: so they are not read
-    /// once more for that. A refusal hands back the connection, its tables as they were. A limit of
-    /// steps that was set on the connection is kept. A crash leaves what `open` says.
-    pub fn open_risen(
+/// The office that the tables hold, in memory.
+fn read_book<S: Alter>(
+    tx: &mut Transaction<'_, S>,
+    alloc: Global,
+) -> Result<Book, LoadError>
+    ensures same_reference { tx.new.conn.ghost_name ≡ tx.old.conn.ghost_name }
+    ensures holds { HoldsOfTables S.Store tx.old.conn.now tx.new.conn.now result IsBookOf }
+{
+    let lists = read_office(tx, alloc)?;
+    Book::of_lists(alloc, lists).map_err(fault_of_book)
+}
+
+/// The own things of a party in a meeting at a moment.
+fn read_things<S: Alter>(
+    tx: &mut Transaction<'_, S>,
+    alloc: Global,
+    party: Party,
+    meeting: MeetingId,
+    now: Moment,
+) -> Result<OwnView, LoadError>
+    ensures same_reference { tx.new.conn.ghost_name ≡ tx.old.conn.ghost_name }
+    ensures holds { HoldsOfTables S.Store tx.old.conn.now tx.new.conn.now result
+        (IsOwnView party meeting now) }
+{
+    read_own(tx, alloc, party, meeting, now)
+}
+
+/// The office that the tables hold, in memory.
+#[derive(Clone, Copy)]
+struct WholeOffice;
+
+impl Reading for WholeOffice {
+    ghost use Rattle.desk_store.specs.TableReads.{IsBookOf};
+
+    type Found = Book;
+
+    ghost finds = { λ _. IsBookOf };
+
+    fn read<S: Alter>(
+        &self,
+        tx: &mut Transaction<'_, S>,
         alloc: Global,
-        conn: Connection<S>,
-    ) -> Result<Desk<S>, (OpenFault, Connection<S>)>
-        requires none { conn.in_transaction ≡ false }
-        requires rising { HasCleanDisk (state S.Store conn) → RowsRise (state S.Store conn) }
-        ensures stands { IfOk result (λ desk. IfMadeAs S.Store conn desk (λ known.
-            (office : OfficeLists)
-            × StandsFor (state S.Store conn) (state S.Store desk) office known)) }
-        ensures whole { IfOk result (λ desk. OpensWhole S.Store conn desk) }
-        ensures known { IfOk result (λ desk. WereKnown S.Store conn desk) }
-        ensures is_open { IfOk result (λ desk. StaysOpen S.Store desk) }
-        ensures cause { IfErr result (λ e. IsWhyUnopened S.Store conn e.0 (back.Connection e.1)) }
-        ensures kept { IfErr result (λ e. KeepsOpenRows S.Store conn e.1) }
-        ensures back { IfErr result (λ e. e.1.in_transaction ≡ false) }
-        ensures settled { IfOk result (λ desk. IsSettled S.Store desk) }
-        ensures crash { IfErr result (λ e. SurvivesMoving S.Store conn e.1) }
+    ) -> Result<Book, LoadError> {
+        read_book(tx, alloc)
+    }
+}
+
+/// The own things of a party in a meeting at a moment.
+#[derive(Clone, Copy)]
+struct ThingsOf {
+    party: Party,
+    meeting: MeetingId,
+    now: Moment,
+}
+
+impl Reading for ThingsOf {
+    ghost use Rattle.desk_store.specs.TableReads.{IsOwnView};
+
+    type Found = OwnView;
+
+    ghost finds = { λ it. IsOwnView it.party it.meeting it.now };
+
+    fn read<S: Alter>(
+        &self,
+        tx: &mut Transaction<'_, S>,
+        alloc: Global,
+    ) -> Result<OwnView, LoadError> {
+        read_things(tx, alloc, self.party, self.meeting, self.now)
+    }
+}
+
+impl<S: Alter> Desk<S> {
+    /// The office that the tables hold, in memory.
+    pub fn book(&mut self) -> Result<Book, Failure>
+        ensures held { HoldsOfDesk S.Store self.old self.new
+            (λ office. IfOk result (λ book. book ≡ office)) }
+        ensures leaves { LeavesDesk S.Store None self.old self.new }
+        ensures ended { self.new.in_transaction ≡ false }
+        ensures stays_open { OnDone S.Store self.new result
+            (IsTrue (state S.Store self.new).is_open) }
+        ensures settled { OnDone S.Store self.new result (LeavesItself (state S.Store self.new)) }
+        ensures whole { HoldsOfDesk S.Store self.old self.new
+            (λ office. OnOk result (LeavesWhole (state S.Store self.new) office)) }
+        ensures crash { IsDeskIfOpen (state S.Store self.old)
+            → Survives (state S.Store self.old) (state S.Store self.new) (λ _. ⊥) }
     {
-        match sql_open::open_risen(alloc, conn) {
-            Ok((risen, _)) => Ok(Desk { conn: risen, alloc }),
-            Err(refused) => Err(refused),
-        }
+        self.read(&WholeOffice)
+    }
+
+    /// The own things of a party in a meeting at a moment; where there is none of that name, its
+    /// own name alone. Of what others gave, no more is read than what names the party, and the
+    /// appointments of those who named it.
+    pub fn read_own(
+        &mut self,
+        party: Party,
+        meeting: MeetingId,
+        now: Moment,
+    ) -> Result<OwnView, Failure>
+        ensures held { HoldsOfDesk S.Store self.old self.new
+            (λ office. IfOk result (λ own. own ≡ own_of office party meeting now)) }
+        ensures leaves { LeavesDesk S.Store None self.old self.new }
+        ensures ended { self.new.in_transaction ≡ false }
+        ensures stays_open { OnDone S.Store self.new result
+            (IsTrue (state S.Store self.new).is_open) }
+        ensures settled { OnDone S.Store self.new result (LeavesItself (state S.Store self.new)) }
+        ensures whole { HoldsOfDesk S.Store self.old self.new
+            (λ office. OnOk result (LeavesWhole (state S.Store self.new) office)) }
+        ensures crash { IsDeskIfOpen (state S.Store self.old)
+            → Survives (state S.Store self.old) (state S.Store self.new) (λ _. ⊥) }
+    {
+        self.read(&ThingsOf {
+            party,
+            meeting,
+            now,
+        })
     }
 }

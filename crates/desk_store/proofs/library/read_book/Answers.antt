@@ -1,5 +1,5 @@
 use Rattle.desk_store.proofs.DeskReadLemmas.{book_told}
-use Rattle.desk_store.proofs.reading.read_book.Goals as goal
+use Rattle.desk_store.proofs.library.read_book.Goals as goal
 
 pub returns-clause-holds : goal.returns-clause-holds
 returns-clause-holds g c =
