@@ -1,1 +1,2 @@
 pub mod DiskOffice
+pub mod FileEnds

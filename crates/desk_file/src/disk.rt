@@ -1,11 +1,14 @@
 //! A desk in a file, made, opened and closed.
 ghost use Rattle.std.specs.Prelude.{◌≡◌};
+ghost use Rattle.cli_exit.specs.Endings.{ended_view};
+ghost use Rattle.desk_file.specs.FileEnds.{ended_by_error};
 
 use crate::printing::results;
 use byte_io::Sink;
-use cli_exit::Ended;
+use cli_exit::{Ended, ExitError};
 use desk_store::Desk;
 use desk_words::MeetingId;
+use file_probe::DeskFileError;
 use host::OfficeFiles;
 use office_file::OfficeFile;
 use sql_file::{SystemFiles, TableFile};
@@ -39,6 +42,19 @@ impl<S: Alter + Drop> OfficeFile for DiskDesk<S> {
     }
 }
 
+/// How the program ends where the file of a desk is not made or opened: with status 3 and the error.
+fn by_error(error: DeskFileError) -> Ended
+    ensures { ended_view result ≡ ended_by_error error }
+{
+    Ended::by(match error {
+        DeskFileError::NotEmpty => ExitError::NotEmpty,
+        DeskFileError::NotADesk => ExitError::NotADesk,
+        DeskFileError::NewerVersion => ExitError::NewerVersion,
+        DeskFileError::Store => ExitError::Store,
+        DeskFileError::Memory => ExitError::Memory,
+    })
+}
+
 /// The desks in the files of a system, whose tables have stores `S`.
 #[derive(Drop)]
 pub struct DiskFiles<S> {
@@ -56,9 +72,13 @@ impl<S> DiskFiles<S> {
 
 // Tables of version 1 are moved to version 2 as they are opened.
 impl<S: TableFile> OfficeFiles for DiskFiles<S> {
-    ghost use Rattle.file_probe.specs.FileEndings.{EndsCreating, EndsOpening};
+    ghost use Rattle.cli_exit.specs.Endings.{Ending};
+    ghost use Rattle.desk_file.specs.FileEnds.{ended_by_error, made_if_zero, making_end};
+    ghost use Rattle.file_probe.specs.DeskFileErrors.{IsUnopened};
+    ghost use Rattle.file_probe.specs.declared.fault.DeskFileError.{DeskFileError};
+    ghost use Rattle.std.proofs.Common.{ap, sym, ◌∙◌};
     ghost use Rattle.sql_file.specs.ClosedFiles.{LetsGo};
-    ghost use Rattle.sql_file.specs.MadeFiles.{CreatesFile};
+    ghost use Rattle.sql_file.specs.MadeFiles.{CreatesFile, Making};
     ghost use Rattle.sql_file.specs.OpenedFiles.{OpensFile, RefusesFile};
     ghost use Rattle.sql_open.specs.WholeDesk.{IsWholeDesk};
     ghost use Rattle.sqlite.specs.Tree.{Trees};
@@ -77,24 +97,30 @@ impl<S: TableFile> OfficeFiles for DiskFiles<S> {
     ghost opens = { λ old name desk new.
         OpensFile S.finds S.Store old.files name desk.desk new.files };
 
-    ghost refuses = { λ old name end new. EndsOpening end
-        × RefusesFile S.finds S.refuses (LetsGo S.gives_up S.Store) S.Store old.files name new.files };
+    ghost refuses = { λ old name end new. (why : DeskFileError) × (end ≡ ended_by_error why)
+        × IsUnopened why × RefusesFile S.finds S.refuses (LetsGo S.gives_up S.Store) S.Store
+        old.files name why new.files };
 
     ghost closes = { λ old name desk new. LetsGo S.closes S.Store old.files name desk.desk new.files };
 
-    ghost creates = { λ old name end new. EndsCreating end
+    ghost creates = { λ old name end new. (result : Making) × (end ≡ making_end result)
         × CreatesFile S.finds S.refuses S.removes (LetsGo S.closes S.Store) S.makes S.Store
-        old.files name end new.files };
+        old.files name result new.files };
 
     fn create(&mut self, name: &str) -> Ended {
-        sql_file::create::<S>(&mut self.files, name)
+        match sql_file::create::<S>(&mut self.files, name) {
+            Ok(()) => Ended::with_word("created"),
+            Err(error) => by_error(error),
+        }
     }
 
     fn open(&mut self, alloc: Global, name: &str) -> Result<DiskDesk<S>, Ended> {
-        let conn = sql_file::open(alloc, &mut self.files, name)?;
-        Ok(DiskDesk {
-            desk: Desk::of_opened(alloc, conn),
-        })
+        match sql_file::open(alloc, &mut self.files, name) {
+            Ok(conn) => Ok(DiskDesk {
+                desk: Desk::of_opened(alloc, conn),
+            }),
+            Err(error) => Err(by_error(error)),
+        }
     }
 
     fn close(&mut self, name: &str, file: DiskDesk<S>)
@@ -110,7 +136,7 @@ impl<S: TableFile> OfficeFiles for DiskFiles<S> {
     ghost refuses_held = { λ old new name end db refuses.
         laws.refuses_held S.may_hold S.is_reliable S.Store.own S.finds S.finds_held
         S.refuses S.refuses_held S.gives_up S.gives_up_held
-        old.files new.files name db refuses.1 };
+        old.files new.files name refuses.0 db refuses.3 };
 
     ghost closes_held = { λ old new name desk db closes reliable may. (
       db,
@@ -123,7 +149,8 @@ impl<S: TableFile> OfficeFiles for DiskFiles<S> {
         (laws.let_go_held S.Store.own S.may_hold S.is_reliable S.closes S.closes_held
         old.files new.files name desk.desk closes reliable).0 };
 
-    ghost creates_held = { λ old new name end db creates.
+    ghost creates_held = { λ old new name end db creates reliable zero.
         laws.creates_held S.may_hold S.is_reliable S.Store.own S.closes S.closes_held
-        S.finds S.refuses S.removes S.makes old.files new.files name end db creates.1 };
+        S.finds S.refuses S.removes S.makes old.files new.files name creates.0 db creates.2 reliable
+        (made_if_zero creates.0 (sym (ap (λ (e : Ending). e.status) creates.1) ∙ zero)) };
 }

@@ -1,8 +1,8 @@
 -- What stands under the name of a desk's file, and what follows of it.
 use Rattle.std.specs.Prelude.{◌≡◌, ◌≤◌, ◌⊎◌, ℕ, ◌==◌, ◌||◌, nat_le, if◌then◌else◌, List, Option, Some}
 use Rattle.std.specs.Prelude.{None, slice_index}
-use Rattle.cli_exit.specs.declared.ended.ExitError.{ExitError}
-use Rattle.cli_exit.specs.declared.ended.ExitError.TheVariants as fault
+use Rattle.file_probe.specs.declared.fault.DeskFileError.{DeskFileError}
+use Rattle.file_probe.specs.declared.fault.DeskFileError.TheVariants as error
 use Rattle.file_probe.specs.declared.file.Log.{Log}
 use Rattle.file_probe.specs.declared.file.Log.TheVariants as log
 use Rattle.file_probe.specs.declared.file.FileState.{FileState}
@@ -26,17 +26,17 @@ file_state_at size first log.Begun =
 file_state_at size first log.Left = if nat_le size 1 then found.Emptied else found.Full
 
 -- why no desk is made there: the log of a desk is kept
-abbrev pub making_fault : FileState → Option ExitError
-making_fault found.Nothing = None
-making_fault found.LoneLog = Some fault.NotEmpty
-making_fault found.Blank = None
-making_fault found.Emptied = Some fault.NotEmpty
-making_fault found.Full = None
+abbrev pub making_error : FileState → Option DeskFileError
+making_error found.Nothing = None
+making_error found.LoneLog = Some error.NotEmpty
+making_error found.Blank = None
+making_error found.Emptied = Some error.NotEmpty
+making_error found.Full = None
 
 -- why no desk is opened there: no file is made, and none that holds no database is made one
-abbrev pub opening_fault : FileState → Option ExitError
-opening_fault found.Nothing = Some fault.Store
-opening_fault found.LoneLog = Some fault.Store
-opening_fault found.Blank = Some fault.NotADesk
-opening_fault found.Emptied = Some fault.Store
-opening_fault found.Full = None
+abbrev pub opening_error : FileState → Option DeskFileError
+opening_error found.Nothing = Some error.Store
+opening_error found.LoneLog = Some error.Store
+opening_error found.Blank = Some error.NotADesk
+opening_error found.Emptied = Some error.Store
+opening_error found.Full = None

@@ -1,2 +1,2 @@
-pub mod FileEndings
+pub mod DeskFileErrors
 pub mod FileStates

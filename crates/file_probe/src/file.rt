@@ -1,10 +1,9 @@
 //! What stands under the name of a desk's file, before it is opened as a database.
 ghost use Rattle.std.specs.Prelude.{◌≡◌, ◌↔◌, IfErr, IsTrue};
-ghost use Rattle.file_probe.specs.FileEndings.{EndsUnmade, FailsToConnect};
-ghost use Rattle.file_probe.specs.FileStates.{IsBegun, file_state_at, making_fault, opening_fault};
-ghost use Rattle.cli_exit.specs.Endings.{ended_view};
+ghost use Rattle.file_probe.specs.DeskFileErrors.{IsUnmade, IsUnreadable};
+ghost use Rattle.file_probe.specs.FileStates.{IsBegun, file_state_at, making_error, opening_error};
 
-use cli_exit::{Ended, ExitError};
+use crate::fault::DeskFileError;
 use std::fs::{self, OpenOptions};
 use std::io::{self, ErrorKind, Read};
 use std::os::unix::fs::OpenOptionsExt;
@@ -39,46 +38,46 @@ pub enum FileState {
 
 impl FileState {
     /// Why no desk is made there: a log would be lost.
-    fn making_fault(self) -> Option<ExitError>
-        ensures { result ≡ making_fault self }
+    fn making_error(self) -> Option<DeskFileError>
+        ensures { result ≡ making_error self }
     {
         match self {
-            FileState::LoneLog | FileState::Emptied => Some(ExitError::NotEmpty),
+            FileState::LoneLog | FileState::Emptied => Some(DeskFileError::NotEmpty),
             FileState::Nothing | FileState::Blank | FileState::Full => None,
         }
     }
 
     /// Why no desk is opened there. The library would make a database of such a file, and empty its
     /// log.
-    pub fn opening_fault(self) -> Option<ExitError>
-        ensures { result ≡ opening_fault self }
+    pub fn opening_error(self) -> Option<DeskFileError>
+        ensures { result ≡ opening_error self }
     {
         match self {
-            FileState::Nothing | FileState::LoneLog | FileState::Emptied => Some(ExitError::Store),
-            FileState::Blank => Some(ExitError::NotADesk),
+            FileState::Nothing | FileState::LoneLog | FileState::Emptied => Some(DeskFileError::Store),
+            FileState::Blank => Some(DeskFileError::NotADesk),
             FileState::Full => None,
         }
     }
 }
 
-/// How the program ends where the system refuses a file.
-fn by_system(error: io::Error) -> Ended
-    ensures { FailsToConnect (ended_view result) }
+/// Why the system refuses a file.
+fn by_system(error: io::Error) -> DeskFileError
+    ensures { IsUnreadable result }
 {
     if error.kind() == ErrorKind::OutOfMemory {
-        return Ended::by(ExitError::Memory);
+        return DeskFileError::Memory;
     }
-    Ended::by(ExitError::Store)
+    DeskFileError::Store
 }
 
 /// Makes an empty file that its owner alone can read and write, and tells whether it did. What
-/// stands under that name already is left as it is. It ends with `NotEmpty`, and makes no file,
+/// stands under that name already is left as it is. The error is `NotEmpty`, and no file is made,
 /// where a desk left a log and no file beside it, or one that is empty or a single byte.
-pub fn make_file(rt: &HostRuntime, file: &str) -> Result<bool, Ended>
-    ensures { IfErr result (λ ended. EndsUnmade (ended_view ended)) }
+pub fn make_file(rt: &HostRuntime, file: &str) -> Result<bool, DeskFileError>
+    ensures { IfErr result IsUnmade }
 {
-    if let Some(fault) = find(rt, file)?.making_fault() {
-        return Err(Ended::by(fault));
+    if let Some(error) = find(rt, file)?.making_error() {
+        return Err(error);
     }
     let made = OpenOptions::new()
         .write(true)
@@ -123,10 +122,10 @@ fn read_log(rt: &HostRuntime, log: &str) -> io::Result<Log> {
 }
 
 /// What stands in the log beside the file of this name, which leads over no link.
-fn log_beside(rt: &HostRuntime, file: &str) -> Result<Log, Ended>
-    ensures { IfErr result (λ ended. FailsToConnect (ended_view ended)) }
+fn log_beside(rt: &HostRuntime, file: &str) -> Result<Log, DeskFileError>
+    ensures { IfErr result IsUnreadable }
 {
-    let log = format!(in rt.alloc(); "{}-wal", file).map_err(|_| Ended::by(ExitError::Memory))?;
+    let log = format!(in rt.alloc(); "{}-wal", file).map_err(|_| DeskFileError::Memory)?;
     read_log(rt, &log).map_err(by_system)
 }
 
@@ -144,8 +143,8 @@ fn judge(size: u64, first: u8, log: Log) -> FileState
 }
 
 /// What stands in a file of so many bytes. Its log lies where a link leads.
-fn find_in(rt: &HostRuntime, file: &str, size: u64) -> Result<FileState, Ended>
-    ensures { IfErr result (λ ended. FailsToConnect (ended_view ended)) }
+fn find_in(rt: &HostRuntime, file: &str, size: u64) -> Result<FileState, DeskFileError>
+    ensures { IfErr result IsUnreadable }
 {
     let front = front(rt, file).map_err(by_system)?;
     let real = fs::canonicalize(rt, file).map_err(by_system)?;
@@ -154,8 +153,8 @@ fn find_in(rt: &HostRuntime, file: &str, size: u64) -> Result<FileState, Ended>
 }
 
 /// What stands under the name of a desk's file.
-pub fn find(rt: &HostRuntime, file: &str) -> Result<FileState, Ended>
-    ensures { IfErr result (λ ended. FailsToConnect (ended_view ended)) }
+pub fn find(rt: &HostRuntime, file: &str) -> Result<FileState, DeskFileError>
+    ensures { IfErr result IsUnreadable }
 {
     match fs::metadata(rt, file) {
         Ok(found) if found.is_file() => find_in(rt, file, found.len()),

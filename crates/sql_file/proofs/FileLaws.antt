@@ -1,33 +1,24 @@
 -- What the file of a desk stores before and after it is made, opened, refused or closed.
-use Rattle.std.proofs.Common.{◌≡◌, ◌≢◌, ◌⊎◌, inl, inr, ℕ, List, Option, Some, sym, subst, ◌∙◌, arith}
+use Rattle.std.proofs.Common.{◌≡◌, inl, inr, ℕ, List, Option, Some, Ok, Err, OnOk, sym, subst, ◌∙◌, arith}
 use Rattle.sqlite.specs.Held.{Held, state}
 use Rattle.sqlite.specs.State.{State, HasCleanDisk}
 use Rattle.sqlite.specs.Tree.{Trees}
 use Rattle.sqlite_trees.specs.declared.store.Store as store
-use Rattle.cli_exit.specs.Endings.{Ending, ended_by}
-use Rattle.cli_exit.specs.declared.ended.ExitError.TheVariants as fault
-use Rattle.cli_exit.proofs.EndingLemmas.{failed}
 use Rattle.desk_words.specs.Changes.{empty_office}
 use Rattle.desk_words.specs.declared.office.OfficeLists.{OfficeLists}
-use Rattle.file_probe.specs.FileEndings.{EndsUnmade}
+use Rattle.file_probe.specs.declared.fault.DeskFileError.{DeskFileError}
 use Rattle.sql_model.specs.Standing.{Stands}
 use Rattle.sql_open.specs.Crashes.{AreMoved}
-use Rattle.sql_open.specs.WholeDesk.{IsWhole, IsWholeDesk}
+use Rattle.sql_open.specs.WholeDesk.{IsWhole, IsWholeDesk, LeavesWhole}
 use Rattle.sql_open.specs.declared.version.KnownVersion.TheVariants.{One, Two}
 use Rattle.sql_open.proofs.WholeLemmas.{notes_so, same_version}
 use Rattle.sql_file.specs.ClosedFiles.{HoldsWhatIsLeft, LetsGo}
-use Rattle.sql_file.specs.MadeFiles.{CreatesFile}
+use Rattle.sql_file.specs.MadeFiles.{CreatesFile, Making}
 use Rattle.sql_file.specs.OpenedFiles.{OpensFile, RefusesFile}
 
--- a program that made no desk does not end with status 0
-unmade : (end : Ending) → EndsUnmade end → end.status ≢ 0
-unmade end (inl is) = failed fault.NotEmpty end is
-unmade end (inr (inl is)) = failed fault.Store end is
-unmade end (inr (inr is)) = failed fault.Memory end is
-
-unconnected : (end : Ending) → (end ≡ ended_by fault.Store) ⊎ (end ≡ ended_by fault.Memory) → end.status ≢ 0
-unconnected end (inl is) = failed fault.Store end is
-unconnected end (inr is) = failed fault.Memory end is
+-- an error is no desk that was made
+no_desk : (result : Making) (why : DeskFileError) → result ≡ Err why → result ≡ Ok tt → ⊥
+no_desk result why failed made = let both : ◌≡◌ {A = Making} (Err why) (Ok tt) = sym failed ∙ made in absurd (cc)
 
 -- tables of version 1 that were moved are whole of the office that they held
 moved_whole : {S : Type 0} (g : store.Ghosts S) (first : State) (db : Trees) (office : OfficeLists) → AreMoved g first db → IsWholeDesk first.now.trees office → IsWholeDesk db office
@@ -61,25 +52,27 @@ module _ {F S : Type 0} (MayHold : F → List ℕ → Trees → Type 0) (IsRelia
     pub refuses_held : (Refuses : F → List ℕ → F → Type 0) → ((old new : F) (name : List ℕ) (db : Trees) → Refuses old name new → IsReliable new → MayHold new name db → MayHold old name db)
         → (GivesUp : F → List ℕ → S → F → Type 0) → ((old between new : F) (name : List ℕ) (conn : Held S) (store : S) → Finds old name conn between → GivesUp between name store new → IsReliable new
         → HoldsWhatIsLeft g store (MayHold new name) × ((db : Trees) → (state g conn).may_leave db → MayHold old name db))
-        → (old new : F) (name : List ℕ) (db : Trees) → RefusesFile Finds Refuses (LetsGo GivesUp g) g old name new → IsReliable new → MayHold new name db
+        → (old new : F) (name : List ℕ) (why : DeskFileError) (db : Trees) → RefusesFile Finds Refuses (LetsGo GivesUp g) g old name why new → IsReliable new → MayHold new name db
         → (was : Trees) × MayHold old name was × ((office : OfficeLists) → IsWholeDesk was office → IsWholeDesk db office)
-    refuses_held Refuses refused GivesUp given_up old new name db (inl same) reliable may = (db, subst (λ (f : F). MayHold f name db) same may, λ office whole. whole)
-    refuses_held Refuses refused GivesUp given_up old new name db (inr (inl refuses)) reliable may = (db, refused old new name db refuses reliable may, λ office whole. whole)
-    refuses_held Refuses refused GivesUp given_up old new name db (inr (inr (between, first, finds, (back, survives, (store, quiet, gives_up))))) reliable may =
-        let it = given_up old between new name first store finds gives_up reliable in
-        let clean : HasCleanDisk (state g back) = omega (arith, quiet.clean, it.0.clean) in
-        let early : HasCleanDisk (state g first) = omega (arith, survives.clean, clean) in
-        elim (survives.crash clean db (quiet.outcomes db (it.0.left db may))) [
+    refuses_held Refuses refused GivesUp given_up old new name why db (inl same) reliable may = (db, subst (λ (f : F). MayHold f name db) same may, λ office whole. whole)
+    refuses_held Refuses refused GivesUp given_up old new name why db (inr (inl refuses)) reliable may = (db, refused old new name db refuses reliable may, λ office whole. whole)
+    refuses_held Refuses refused GivesUp given_up old new name why db (inr (inr (between, first, finds, tables))) reliable may =
+        let gone = tables.given_up in
+        let it = given_up old between new name first gone.0 finds gone.2 reliable in
+        let clean : HasCleanDisk (state g tables.back) = omega (arith, gone.1.clean, it.0.clean) in
+        let early : HasCleanDisk (state g first) = omega (arith, tables.survives.clean, clean) in
+        elim (tables.survives.crash clean db (gone.1.outcomes db (it.0.left db may))) [
           | inl was ↦ (db, it.1 db was, λ office whole. whole)
           | inr moved ↦ ((state g first).now.trees, finds_held old between name first finds early, λ office whole. moved_whole g (state g first) db office moved whole)
         ]
 
   module _ (Closes : F → List ℕ → S → F → Type 0) (closes_held : (old new : F) (name : List ℕ) (store : S) → Closes old name store new → IsReliable new → HoldsWhatIsLeft g store (MayHold new name)) where
     -- a file in which a desk was made is opened as the office that holds nothing
-    pub creates_held : (Finds : F → List ℕ → Held S → F → Type 0) (Refuses Removes Makes : F → List ℕ → F → Type 0) (old new : F) (name : List ℕ) (end : Ending) (db : Trees)
-        → CreatesFile Finds Refuses Removes (LetsGo Closes g) Makes g old name end new → IsReliable new → end.status ≡ 0 → MayHold new name db → IsWholeDesk db empty_office
-    creates_held Finds Refuses Removes Makes old new name end db (inl refused) reliable zero may = absurd (unmade end refused.0 zero)
-    creates_held Finds Refuses Removes Makes old new name end db (inr (made, makes, inl (between, first, finds, (conn, creates, leaves, survives, closes)))) reliable zero may =
-        let it = let_go_held g MayHold IsReliable Closes closes_held between new name conn closes reliable in
-        (Two, leaves zero it.0 db (it.1 db may))
-    creates_held Finds Refuses Removes Makes old new name end db (inr (made, makes, inr (between, refuses, removed, ends))) reliable zero may = absurd (unconnected end ends zero)
+    pub creates_held : (Finds : F → List ℕ → Held S → F → Type 0) (Refuses Removes Makes : F → List ℕ → F → Type 0) (old new : F) (name : List ℕ) (result : Making) (db : Trees)
+        → CreatesFile Finds Refuses Removes (LetsGo Closes g) Makes g old name result new → IsReliable new → result ≡ Ok tt → MayHold new name db → IsWholeDesk db empty_office
+    creates_held Finds Refuses Removes Makes old new name result db (inl refused) reliable made may = absurd (no_desk result refused.why refused.is made)
+    creates_held Finds Refuses Removes Makes old new name result db (inr (between, makes, inl (till, first, finds, tables))) reliable made may =
+        let it = let_go_held g MayHold IsReliable Closes closes_held till new name tables.made tables.closed reliable in
+        let leaves : HasCleanDisk (state g tables.made) → LeavesWhole (state g tables.made) empty_office = subst (λ (r : Making). OnOk r (HasCleanDisk (state g tables.made) → LeavesWhole (state g tables.made) empty_office)) made tables.leaves in
+        (Two, leaves it.0 db (it.1 db may))
+    creates_held Finds Refuses Removes Makes old new name result db (inr (between, makes, inr none)) reliable made may = absurd (no_desk result none.why none.is made)

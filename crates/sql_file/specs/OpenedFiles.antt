@@ -6,13 +6,16 @@ use Rattle.sqlite_trees.specs.declared.store.Store as store
 use Rattle.sqlite.specs.declared.error.Error.{Error}
 use Rattle.sqlite.specs.declared.error.Error.TheVariants.{SqliteFailure}
 use Rattle.sqlite.specs.declared.error.ErrorCode.TheVariants as code
-use Rattle.cli_exit.specs.declared.ended.ExitError.{ExitError}
-use Rattle.cli_exit.specs.declared.ended.ExitError.TheVariants as fault
+use Rattle.file_probe.specs.declared.fault.DeskFileError.{DeskFileError}
+use Rattle.file_probe.specs.declared.fault.DeskFileError.TheVariants as error
 use Rattle.desk_words.specs.declared.office.OfficeLists.{OfficeLists}
 use Rattle.sql_model.specs.Standing.{Stands, office_by}
 use Rattle.sql_open.specs.Known.{AreOpened, IsMadeAs, edition_of}
-use Rattle.sql_open.specs.Opened.{IsSettled, SurvivesMoving}
+use Rattle.sql_open.specs.Opened.{IsSettled, IsWhyUnopened, KeepsOpenRows, SurvivesMoving}
 use Rattle.sql_open.specs.WholeDesk.{OpensWhole}
+use Rattle.sql_open.specs.declared.fault.OpenFault.{OpenFault}
+use Rattle.sql_open.specs.declared.fault.OpenFault.TheVariants as opening
+use Rattle.sql_open.specs.declared.opening.HandedBack.TheVariants as handed
 use Rattle.sql_open.specs.declared.version.KnownVersion.{KnownVersion}
 use Rattle.sql_file.specs.declared.files.ConnectError.{ConnectError}
 use Rattle.sql_file.specs.declared.files.ConnectError.TheVariants as connecting
@@ -37,12 +40,25 @@ pub record OpensTables {S : Type 0} (g : store.Ghosts S) (first desk : Held S) :
   pub settled : IsSettled g desk
   pub survives : SurvivesMoving g first desk
 
--- tables were refused, and their file was given up: a crash leaves of them what it left before, or
--- those of version 1 moved
-abbrev pub RefusesTables : {F S : Type 0} → (F → List ℕ → Held S → F → Type 0) → store.Ghosts S
-    → F → List ℕ → Held S → F → Type 0
-RefusesTables {S = S} GivesUp g before name first after =
-    (back : Held S) × SurvivesMoving g first back × GivesUp before name back after
+-- the error for which a database is not opened as a desk
+abbrev pub open_error : OpenFault → DeskFileError
+open_error opening.NotADesk = error.NotADesk
+open_error opening.NewerVersion = error.NewerVersion
+open_error opening.Store = error.Store
+open_error opening.Memory = error.Memory
+
+-- tables were refused for a reason, which the error is, and their file was given up: the rows are as
+-- they were, and a crash leaves of them what it left before, or those of version 1 moved
+pub record RefusesTables {F S : Type 0} (GivesUp : F → List ℕ → Held S → F → Type 0)
+    (g : store.Ghosts S) (before : F) (name : List ℕ) (first : Held S) (why : DeskFileError)
+    (after : F) : Type 0 where
+  pub back : Held S
+  pub fault : OpenFault
+  pub is : why ≡ open_error fault
+  pub cause : IsWhyUnopened g first fault (handed.Connection back)
+  pub kept : KeepsOpenRows g first back
+  pub survives : SurvivesMoving g first back
+  pub given_up : GivesUp before name back after
 
 -- the file of that name was opened as a database, and its tables as those of a desk
 abbrev pub OpensFile : {F S : Type 0} → (F → List ℕ → Held S → F → Type 0) → store.Ghosts S
@@ -51,14 +67,14 @@ OpensFile {S = S} Finds g before name desk after =
     (first : Held S) × Finds before name first after × OpensTables g first desk
 
 -- the file of that name was not opened: nothing was touched, or no database was found there, or its
--- tables were refused
+-- tables were refused for a reason
 abbrev pub RefusesFile : {F S : Type 0} → (F → List ℕ → Held S → F → Type 0)
     → (F → List ℕ → F → Type 0) → (F → List ℕ → Held S → F → Type 0) → store.Ghosts S
-    → F → List ℕ → F → Type 0
-RefusesFile {F} {S} Finds Refuses GivesUp g before name after =
+    → F → List ℕ → DeskFileError → F → Type 0
+RefusesFile {F} {S} Finds Refuses GivesUp g before name why after =
     (after ≡ before) ⊎ (Refuses before name after
     ⊎ ((between : F) × (first : Held S)
-    × Finds before name first between × RefusesTables GivesUp g between name first after))
+    × Finds before name first between × RefusesTables GivesUp g between name first why after))
 
 -- why a file was not opened as a database
 abbrev pub connect_error : Error → ConnectError
@@ -67,13 +83,13 @@ connect_error (SqliteFailure code.NotADatabase) = connecting.NotADatabase
 connect_error (SqliteFailure code.OutOfMemory) = connecting.Memory
 connect_error other = connecting.Store
 
--- the fault for which no desk is made in it
-abbrev pub making_fault : ConnectError → ExitError
-making_fault connecting.Memory = fault.Memory
-making_fault other = fault.Store
+-- the error for which no desk is made in it
+abbrev pub making_error : ConnectError → DeskFileError
+making_error connecting.Memory = error.Memory
+making_error other = error.Store
 
--- the fault for which no desk is opened in it
-abbrev pub opening_fault : ConnectError → ExitError
-opening_fault connecting.NotADatabase = fault.NotADesk
-opening_fault connecting.Memory = fault.Memory
-opening_fault other = fault.Store
+-- the error for which no desk is opened in it
+abbrev pub opening_error : ConnectError → DeskFileError
+opening_error connecting.NotADatabase = error.NotADesk
+opening_error connecting.Memory = error.Memory
+opening_error other = error.Store

@@ -1,7 +1,6 @@
 //! Files that hold tables.
 ghost use Rattle.std.specs.Prelude.{◌≡◌, false, true, ℕ, List, [], IfErr, IfOk, OnErr};
-ghost use Rattle.cli_exit.specs.Endings.{ended_view};
-ghost use Rattle.file_probe.specs.FileEndings.{EndsUnmade, FailsToConnect};
+ghost use Rattle.file_probe.specs.DeskFileErrors.{IsUnmade, IsUnreadable};
 ghost use Rattle.sql_open.specs.Rising.{RowsRise};
 ghost use Rattle.sql_file.specs.ClosedFiles.{HoldsWhatIsLeft};
 ghost use Rattle.sqlite.specs.Held.{Held, state};
@@ -9,8 +8,7 @@ ghost use Rattle.sqlite.specs.State.{HasCleanDisk};
 ghost use Rattle.sqlite.specs.Tree.{Trees};
 ghost use Rattle.sql_file.specs.declared.files.SystemFiles.{SystemFiles};
 
-use cli_exit::Ended;
-use file_probe::FileState;
+use file_probe::{DeskFileError, FileState};
 use http_server::Log;
 use sqlite::{Alter, Connection};
 use std::rt::HostRuntime;
@@ -94,15 +92,14 @@ pub trait TableFile: Alter + Drop {
     ghost closes: { SystemFiles Self → List ℕ → Self → SystemFiles Self → Type 0 };
 
     /// What stands under a name, and in the log beside it.
-    fn probe(files: &SystemFiles<Self>, name: &str) -> Result<FileState, Ended>
-        ensures { IfErr result (λ ended. FailsToConnect (ended_view ended)) };
+    fn probe(files: &SystemFiles<Self>, name: &str) -> Result<FileState, DeskFileError>
+        ensures { IfErr result IsUnreadable };
 
     /// Makes an empty file that its owner alone can read and write, and tells whether it did. What
     /// stands under that name already is left as it is.
-    fn make_file(files: &mut SystemFiles<Self>, name: &str) -> Result<bool, Ended>
+    fn make_file(files: &mut SystemFiles<Self>, name: &str) -> Result<bool, DeskFileError>
         ensures made { IfOk result (λ _. makes files.old name.now files.new) }
-        ensures unmade { IfErr result
-            (λ ended. EndsUnmade (ended_view ended) × (files.new ≡ files.old)) };
+        ensures unmade { IfErr result (λ why. IsUnmade why × (files.new ≡ files.old)) };
 
     /// Removes a file that was just made.
     fn remove_file(files: &mut SystemFiles<Self>, name: &str)

@@ -4,8 +4,7 @@ ghost use Rattle.sql_file.specs.OpenedFiles.{connect_error};
 ghost use Rattle.sql_file.specs.declared.files.ConnectError.TheVariants.{Store};
 
 use crate::files::{ConnectError, SystemFiles, TableFile};
-use cli_exit::Ended;
-use file_probe::{FileState, find, make_file};
+use file_probe::{DeskFileError, FileState, find, make_file};
 use http_server::Log;
 use sql_open::laws::found_rows_rise;
 use sqlite::{Connection, Error, ErrorCode, FileFrom, FileStore, Leftover, Start, Wary};
@@ -73,11 +72,11 @@ impl<S: Begins> TableFile for FileStore<FileFrom<S>> {
 
     ghost closes = { λ old _ store new. ClosesIt Self.Store old store new };
 
-    fn probe(files: &SystemFiles<Self>, name: &str) -> Result<FileState, Ended> {
+    fn probe(files: &SystemFiles<Self>, name: &str) -> Result<FileState, DeskFileError> {
         find(&files.system, name)
     }
 
-    fn make_file(files: &mut SystemFiles<Self>, name: &str) -> Result<bool, Ended> {
+    fn make_file(files: &mut SystemFiles<Self>, name: &str) -> Result<bool, DeskFileError> {
         make_file(&files.system, name)
     }
 

@@ -15,6 +15,6 @@ returns-in-Ok-clause-opened g c =
 pub returns-in-Ok-clause-refused : goal.returns-in-Ok-clause-refused
 returns-in-Ok-clause-refused g c =
     IfErr-weaker c.opened.result _
-    (λ _. RefusesFile g.S.TableFile.finds g.S.TableFile.refuses (LetsGo g.S.TableFile.gives_up g.S.Store) g.S.Store c.args.files.now c.args.name.now c.opened.new.files)
+    (λ why. RefusesFile g.S.TableFile.finds g.S.TableFile.refuses (LetsGo g.S.TableFile.gives_up g.S.Store) g.S.Store c.args.files.now c.args.name.now why c.opened.new.files)
     (λ _ it. inr (inr (c.connect.new.files, c.in-Ok.conn, c.in-Ok.ensures.found, it)))
     c.opened.ensures.refused
