@@ -1,2 +1,3 @@
 pub mod PrintedResults
+pub mod ResultPrinting
 pub mod States
