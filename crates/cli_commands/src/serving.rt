@@ -5,10 +5,10 @@ ghost use Rattle.http_listener.specs.Connections.{standing};
 
 use any_office::Office;
 use cli_exit::{Ended, ExitError};
-use wall_clock::Clock;
 use http_listener::{LoopFault, serve_loop};
 use std::alloc::Global;
 use tcp_close::Listener;
+use wall_clock::Clock;
 
 /// Serves one connection of a listener after another, so many in all, as
 /// `http_listener::serve_loop` does, and ends with status 0. It ends before that with status 3 and

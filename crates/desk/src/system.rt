@@ -2,13 +2,12 @@
 //! gives or takes, so this file is read, and not proved.
 use byte_io::{DeviceError, ReadDevice, Sink};
 use cli_exit::Line;
-use wall_clock::WallClock;
 use host::{Console, Files, Ports, ZoneClocks, prints_nothing};
 use std::fs;
 use std::net::{Ipv4Addr, TcpListener};
 use std::rt::HostRuntime;
 use tcp_close::SocketError;
-use wall_clock::OfficeZone;
+use wall_clock::{OfficeZone, WallClock};
 
 /// The files, clocks and ports of the system.
 #[derive(Drop)]

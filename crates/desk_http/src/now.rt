@@ -4,10 +4,10 @@ ghost use Rattle.desk_http.specs.Served.{ServesRequest, as_served, only_at};
 use crate::serve::{ServeFault, reply_to};
 use any_office::Office;
 use byte_io::{Sink, Source};
-use wall_clock::{Clock, ClockError};
 use desk_words::Moment;
 use http_requests::read_request;
 use std::alloc::Global;
+use wall_clock::{Clock, ClockError};
 
 /// Why a request was not served to its end.
 #[derive(Clone, Copy, Debug, PartialEq, Eq)]

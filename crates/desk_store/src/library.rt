@@ -111,10 +111,7 @@ impl<S: Alter + Drop> Desk<S> {
 }
 
 /// The office that the tables hold, in memory.
-fn read_book<S: Alter>(
-    tx: &mut Transaction<'_, S>,
-    alloc: Global,
-) -> Result<Book, LoadError>
+fn read_book<S: Alter>(tx: &mut Transaction<'_, S>, alloc: Global) -> Result<Book, LoadError>
     ensures same_reference { tx.new.conn.ghost_name ≡ tx.old.conn.ghost_name }
     ensures holds { HoldsOfTables S.Store tx.old.conn.now tx.new.conn.now result IsBookOf }
 {

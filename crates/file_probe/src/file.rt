@@ -53,7 +53,9 @@ impl FileState {
         ensures { result ≡ opening_error self }
     {
         match self {
-            FileState::Nothing | FileState::LoneLog | FileState::Emptied => Some(DeskFileError::Store),
+            FileState::Nothing | FileState::LoneLog | FileState::Emptied => Some(
+                DeskFileError::Store,
+            ),
             FileState::Blank => Some(DeskFileError::NotADesk),
             FileState::Full => None,
         }

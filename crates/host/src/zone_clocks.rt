@@ -1,8 +1,7 @@
 //! The clocks of zones.
 ghost use Rattle.wall_clock.specs.Zones.{Zone};
 
-use wall_clock::Clock;
-use wall_clock::OfficeZone;
+use wall_clock::{Clock, OfficeZone};
 
 /// The clocks of zones, over the system's clock.
 pub trait ZoneClocks {

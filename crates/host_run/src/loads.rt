@@ -6,11 +6,10 @@ use crate::loading::Load;
 use any_office::Office;
 use byte_io::{DeviceError, Source};
 use cli_exit::{Ended, ExitError};
-use wall_clock::{Clock, ClockError};
 use desk_words::Moment;
 use host::{Files, OfficeFiles, ZoneClocks};
 use std::alloc::Global;
-use wall_clock::OfficeZone;
+use wall_clock::{Clock, ClockError, OfficeZone};
 
 /// Loads what a reader gives into a desk.
 fn load_into<D: Office, R: Source>(

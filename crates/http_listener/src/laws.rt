@@ -2,8 +2,8 @@
 ghost use Rattle.http_listener.specs.Turns.{LoopsAreRuns};
 
 use any_office::Office;
-use wall_clock::Clock;
 use tcp_close::Listener;
+use wall_clock::Clock;
 
 /// What serving one connection after another leaves of an office, as `serve_loop` promises it,
 /// whatever comes of peers and sockets. No failure is made good, only a device that fails shuts the

@@ -5,10 +5,10 @@ ghost use Rattle.http_listener.specs.Connections.{HasNoListener, HasNoMoment, Is
 ghost use Rattle.http_listener.specs.declared.listening.LoopFault.TheVariants.{Clock, Socket};
 
 use any_office::Office;
-use wall_clock::{Clock, ClockError};
 use desk_http::{NowError, serve_now};
 use std::alloc::Global;
 use tcp_close::{Accepted, Connection, Listener, SocketError, next_connection};
+use wall_clock::{Clock, ClockError};
 
 /// Why a loop ends before all its connections were served. Want of memory is told to the peer, so
 /// it ends no loop.

@@ -3,8 +3,8 @@ ghost use Rattle.laws_text.specs.Connections.{ConnectionsAnswerRuns, Connections
 
 use crate::texts::texts_show_no_more;
 use any_office::Office;
-use wall_clock::Clock;
 use tcp_close::Listener;
+use wall_clock::Clock;
 
 /// What `serve_loop` writes to one connection after another, whether it ends well or by a fault, are
 /// the texts of a run: each is the text of the reply to the call of the caller whose key came, at the

@@ -1,8 +1,7 @@
 //! Clocks whose moments are known.
-use wall_clock::SliceClock;
 use desk_words::Moment;
 use host::ZoneClocks;
-use wall_clock::OfficeZone;
+use wall_clock::{OfficeZone, SliceClock};
 
 /// Clocks that give these moments, in any zone.
 #[derive(Drop)]

@@ -2,12 +2,12 @@
 use crate::memory::NO_KEY;
 use crate::office::{Office, moment};
 use crate::serving::{MINE, NOTHING};
-use wall_clock::SliceClock;
 use http_listener::LoopFault;
 use std::alloc::Global;
 use std::io::ErrorKind;
 use std::test::Fail;
 use tcp_close::{Peer, SliceListener};
+use wall_clock::SliceClock;
 
 /// Serves three connections, at one moment each.
 fn serve(alloc: Global, listener: &mut SliceListener<'_>) -> Result<Result<(), LoopFault>, Fail> {

@@ -1,7 +1,6 @@
 //! An office in memory, in which one meeting is called, and which is asked over connections.
 use crate::book::call;
 use byte_io::{ReadDevice, WriteDevice};
-use wall_clock::Clock;
 use desk_http::{NowError, serve_now};
 use desk_words::{Moment, read_moment};
 use http_listener::{LoopFault, serve_loop};
@@ -10,6 +9,7 @@ use std::alloc::Global;
 use std::net::TcpStream;
 use std::test::Fail;
 use tcp_close::Listener;
+use wall_clock::Clock;
 
 /// The keys of two parties, and the call of a meeting.
 const LINES: &[&str] = &[

@@ -1,11 +1,11 @@
 //! That the clock is asked once a request was read.
 use crate::office::{Office, moment};
 use crate::peers::{is_told, listen, send};
-use wall_clock::{Clock, ClockError};
 use desk_words::Moment;
 use std::alloc::Global;
 use std::net::TcpStream;
 use std::test::Fail;
+use wall_clock::{Clock, ClockError};
 
 /// A clock that a cutoff passes while a request is on its way: it shows one moment as long as bytes
 /// of a connection are to be read, and another behind them.

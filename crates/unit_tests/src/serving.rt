@@ -1,10 +1,10 @@
 //! Connections that are served.
 use crate::office::{Office, moment};
 use crate::peers::{connect, is_told, listen, reply_to, send};
-use wall_clock::SliceClock;
 use std::alloc::{AllocError, Global};
 use std::net::{TcpListener, TcpStream};
 use std::test::Fail;
+use wall_clock::SliceClock;
 
 pub(crate) const MINE: &str = "GET /m/G1/mine HTTP/1.1\r\nDesk-Key: zzzzzzzzzzzzzzzz\r\n\r\n";
 

@@ -77,7 +77,6 @@ filter-both p q (x ∷ xs) =
 -- ---- values in the order of a key
 
 module _ {X K : Type 0} {cmp : K → K → Ordering} (total : IsTotalOrder cmp) (key : X → K) where
-
   abbrev pub is_from : K → X → Bool
   is_from wanted x = not (is_lt (cmp (key x) wanted))
 
