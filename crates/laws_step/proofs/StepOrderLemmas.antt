@@ -1,7 +1,7 @@
 -- Each ruling refuses in the one order, by the first condition that holds.
 use Rattle.std.proofs.Common.{◌≡◌, ℕ, true, List, refl}
 use Rattle.std.specs.Prelude.{None, Option, Some}
-use Rattle.desk_words.specs.Refusals.{are_in_order, ascend_from, first_refusal}
+use Rattle.desk_words.specs.Refusals.{first_refusal}
 use Rattle.desk_words.specs.Rulings.{refusal_in, Ruling, in_found, ruled_answer, refused_or}
 use Rattle.desk_words.specs.declared.caller.Caller.{Caller}
 use Rattle.desk_words.specs.declared.caller.Caller.TheVariants as caller
@@ -27,7 +27,7 @@ use Rattle.desk_words.specs.declared.answer.Answer.{Answer}
 use Rattle.vocabulary.specs.declared.refusal.Refusal.{Refusal}
 use Rattle.meeting_core.proofs.RulingLemmas.{IsSound}
 use Rattle.meeting_core.proofs.Rulings.{sound_ruling}
-use Rattle.laws_step.specs.RefusalLaws.{ConditionsStandInOrder, TheLowestRefusalIsAnswered}
+use Rattle.laws_step.specs.RefusalLaws.{ConditionsStandInOrder, TheLowestRefusalIsAnswered, are_in_order, ascend_from}
 
 lowest_by : {C : Type 0} (refusal : Option Refusal) (accepted : Answer C) → (refusal ≡ None → refusal_in accepted.reply ≡ None)
     → refusal_in (refused_or refusal accepted).reply ≡ refusal

@@ -1,6 +1,6 @@
 -- How calls are refused: by conditions in the one order, and without a change.
-use Rattle.std.specs.Prelude.{◌≡◌, true, List, None}
-use Rattle.desk_words.specs.Refusals.{Case, first_refusal, are_in_order}
+use Rattle.std.specs.Prelude.{◌≡◌, ℕ, nat_lt, Bool, true, ◌&&◌, List, [], ◌∷◌, None}
+use Rattle.desk_words.specs.Refusals.{Case, first_refusal, number_of}
 use Rattle.desk_words.specs.Rulings.{refusal_in}
 use Rattle.desk_words.specs.declared.office.OfficeLists.{OfficeLists}
 use Rattle.desk_words.specs.declared.reply.Reply.TheVariants as reply
@@ -12,6 +12,16 @@ use Rattle.meeting_core.specs.Step.{decided, ruling, stepped}
 -- is asked
 abbrev pub all_cases : OfficeLists → Call → List Case
 all_cases o call = (ruling o call.moment call.caller call.request).cases
+
+-- each condition has a higher number than the one before it, the first one than the number given
+abbrev pub ascend_from : ℕ → List Case → Bool
+ascend_from n [] = true
+ascend_from n (case ∷ cases) =
+    nat_lt n (number_of case.refusal) && ascend_from (number_of case.refusal) cases
+
+-- they stand in the one order, so that the first that holds has the lowest number
+abbrev pub are_in_order : List Case → Bool
+are_in_order cases = ascend_from 0 cases
 
 -- the conditions stand in the order of their numbers
 abbrev pub ConditionsStandInOrder : Type 0
