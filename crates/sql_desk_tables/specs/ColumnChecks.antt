@@ -27,7 +27,9 @@ proxy_columns =
 
 -- the columns of demands, polls and votes
 abbrev pub poll_columns : List (List ℕ)
-poll_columns = map asking_text (demands_before_sessions_table ∷ polls_before_sessions_table ∷ casts_table ∷ [])
+poll_columns =
+    map asking_text
+    (demands_before_sessions_table ∷ polls_before_sessions_table ∷ casts_table ∷ [])
 
 -- the columns of the tables that version 2 adds
 abbrev pub session_columns : List (List ℕ)

@@ -125,7 +125,8 @@ register_listed = record {
 
 pub register_made : MakesTable up_to_resolutions (once_text register_table) register_table
 unfolding understood everything Rattle.sqlite_schema.specs.Names.same_name
-register_made = record { is = refl; alone = refl; plain = (refl, refl); defined = refl; full = refl }
+register_made =
+    record { is = refl; alone = refl; plain = (refl, refl); defined = refl; full = refl }
 
 pub register_added : AddsRows register register_table
 unfolding understood everything
@@ -146,7 +147,8 @@ sessions_listed = record {
 
 pub sessions_made : MakesTable schema_one (once_text sessions_table) sessions_table
 unfolding understood everything Rattle.sqlite_schema.specs.Names.same_name
-sessions_made = record { is = refl; alone = refl; plain = (refl, refl); defined = refl; full = refl }
+sessions_made =
+    record { is = refl; alone = refl; plain = (refl, refl); defined = refl; full = refl }
 
 pub sessions_added : AddsRows sessions sessions_table
 unfolding understood everything

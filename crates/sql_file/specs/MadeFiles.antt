@@ -37,8 +37,8 @@ abbrev pub LeavesNewDesk : {S : Type 0} → store.Ghosts S → Held S → Making
 LeavesNewDesk g made result =
     OnOk result (HasCleanDisk (state g made) → LeavesWhole (state g made) empty_office)
 
--- the tables of a desk were made in a database, or its tables are as they were, and the file of that
--- name was closed
+-- the tables of a desk were made in a database, or its tables are as they were, and the file of
+-- that name was closed
 pub record MakesIn {F S : Type 0} (Closes : F → List ℕ → Held S → F → Type 0) (g : store.Ghosts S)
     (before : F) (name : List ℕ) (first : Held S) (result : Making) (after : F) : Type 0 where
   pub made : Held S

@@ -47,8 +47,8 @@ open_error opening.NewerVersion = error.NewerVersion
 open_error opening.Store = error.Store
 open_error opening.Memory = error.Memory
 
--- tables were refused for a reason, which the error is, and their file was given up: the rows are as
--- they were, and a crash leaves of them what it left before, or those of version 1 moved
+-- tables were refused for a reason, which the error is, and their file was given up: the rows are
+-- as they were, and a crash leaves of them what it left before, or those of version 1 moved
 pub record RefusesTables {F S : Type 0} (GivesUp : F → List ℕ → Held S → F → Type 0)
     (g : store.Ghosts S) (before : F) (name : List ℕ) (first : Held S) (why : DeskFileError)
     (after : F) : Type 0 where

@@ -13,7 +13,8 @@ use Rattle.sql_stored.specs.Stored.{EmptiesAt, EmptiesTable}
 
 -- ---- the presences
 
-pub presences_before_sessions_listed : ListsTable layout_two presences_before_sessions presences_before_sessions_table
+pub presences_before_sessions_listed
+    : ListsTable layout_two presences_before_sessions presences_before_sessions_table
 unfolding understood everything
 presences_before_sessions_listed = record {
   asks = wide_one (ListsAs presences_before_sessions presences_before_sessions_table)
@@ -22,12 +23,15 @@ presences_before_sessions_listed = record {
   numbered = refl;
 }
 
-pub presences_before_sessions_made : MakesTable up_to_authorities (filed_text presences_before_sessions_table) presences_before_sessions_table
+pub presences_before_sessions_made
+    : MakesTable up_to_authorities (filed_text presences_before_sessions_table)
+    presences_before_sessions_table
 unfolding understood everything Rattle.sqlite_schema.specs.Names.same_name
 presences_before_sessions_made =
     record { is = refl; alone = refl; plain = (refl, refl); defined = refl; full = refl }
 
-pub presences_before_sessions_emptied : EmptiesTable presences_before_sessions presences_before_sessions_table
+pub presences_before_sessions_emptied
+    : EmptiesTable presences_before_sessions presences_before_sessions_table
 unfolding understood everything
 presences_before_sessions_emptied = record {
   place = 10;
